@@ -1,0 +1,5 @@
+pub mod Id
+pub mod Ids
+pub mod IdLaws
+pub mod Numbers
+pub mod TextLaws

@@ -1,0 +1,91 @@
+ghost use Rattle.std.specs.Prelude.{◌≡◌, ◌<◌};
+ghost use Rattle.std.specs.Option.{SomeIff, ok_or};
+ghost use Rattle.page_ids.specs.declared.fault.IdFault.TheVariants.{BadFrame};
+ghost use Rattle.page_ids.specs.Ids.{frame_text, first_frame, following};
+ghost use Rattle.page_ids.specs.Numbers.{id_in};
+ghost use Rattle.page_ids.specs.TextLaws.{IdsAreTexts};
+
+use crate::fault::IdFault;
+use crate::letter::Letter;
+use crate::page::{PageNo, page_of};
+use arrayvec::ArrayString;
+use std::marker::Model;
+
+/// A frame's id: its page and its letter. Ids are ordered by page number, then by letter.
+///
+/// Contracts see a page number and the byte of a letter.
+#[derive(Debug, Clone, Copy, PartialEq, Eq, PartialOrd, Ord, Hash)]
+pub struct FrameId {
+    pub page: PageNo,
+    pub letter: Letter,
+}
+
+impl Model for FrameId {
+    ghost use Rattle.page_ids.specs.Id.{Id};
+
+    ghost Value = { Id };
+
+    ghost view = { λ f. record { page = f.page; letter = f.letter } };
+
+    ghost inverse = { λ id. record { page = id.page; letter = id.letter } };
+}
+
+impl FrameId {
+    /// The id whose text this is: a page number, then one letter `a` to `z`.
+    ///
+    /// Else I2, `BadFrame`.
+    pub fn read(text: &str) -> Result<FrameId, IdFault>
+        ensures { result ≡ ok_or (id_in text.now) BadFrame }
+    {
+        match FrameId::read_bytes(text.as_bytes()) {
+            Some(id) => Ok(id),
+            None => Err(IdFault::BadFrame),
+        }
+    }
+
+    /// The same from bytes, for readers that have no text; `None` where `read` refuses.
+    pub fn read_bytes(bytes: &[u8]) -> Option<FrameId>
+        ensures { result ≡ id_in bytes.now }
+    {
+        let (last, digits) = bytes.split_last()?;
+        let page = page_of(digits)?;
+        let letter = Letter::new(*last)?;
+        Some(FrameId { page, letter })
+    }
+
+    /// Its text, as `1231a`.
+    pub fn text(self) -> ArrayString<10>
+        ensures { result.bytes ≡ frame_text self }
+    {
+        let mut text = ArrayString::new();
+        text.push_str(self.page.text().as_str());
+        text.push(char::from(self.letter.get()));
+        text
+    }
+
+    /// The first frame of a page, that of the letter `a`.
+    pub fn first(page: PageNo) -> FrameId
+        ensures { result ≡ first_frame page }
+    {
+        FrameId {
+            page,
+            letter: Letter::FIRST,
+        }
+    }
+
+    /// The id of the frame that follows on the same page; `None` behind `z`.
+    pub fn following(self) -> Option<FrameId>
+        ensures { SomeIff result (self.letter < 122) (following self) }
+    {
+        let letter = Letter::new(self.letter.get() + 1)?;
+        Some(FrameId {
+            page: self.page,
+            letter,
+        })
+    }
+}
+
+/// Of every id and text: an id is read from its own text, and from no other.
+pub fn ids_are_texts()
+    ensures { IdsAreTexts }
+{}

@@ -1,0 +1,26 @@
+//! Page numbers, frame ids and keys of a viewdata service, with their texts.
+//!
+//! A page number is 0 to 999,999,999, written in decimal without leading zeros. A frame id is a page number and a
+//! letter `a` to `z`, as `1231a`. Each is read from just its own text, and back.
+//!
+//! - [`PageNo`], [`Letter`], [`Digit`], [`FrameId`]: small copied values; contracts see numbers, and a pair of numbers.
+//! - [`Key`], [`KeyList`], [`keys_read`], [`keys_text`]: the keys of a caller, as `1#*#*00*09`.
+//! - [`number_read`]: decimal numbers up to a limit, for readers of other texts.
+#![tactic(auto)]
+
+mod fault;
+mod id;
+
+
+mod letter;
+mod number;
+mod page;
+
+pub use fault::IdFault;
+pub use id::{FrameId, ids_are_texts};
+pub use letter::Letter;
+pub use number::{NumberFault, number_read, numbers_are_texts};
+pub use page::PageNo;
+
+
+

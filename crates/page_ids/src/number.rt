@@ -1,0 +1,77 @@
+ghost use Rattle.std.specs.Prelude.{◌≡◌, ◌≤◌, IfOk};
+ghost use Rattle.std.specs.List.{list_all};
+ghost use Rattle.std.specs.Char.{is_ascii_digit};
+ghost use Rattle.std.specs.Option.{SomeIff};
+ghost use Rattle.std.specs.Str.Parse.{AllDigits, digits_value};
+ghost use Rattle.page_ids.specs.Numbers.{is_numeral, number_in};
+ghost use Rattle.page_ids.specs.TextLaws.{NumbersAreTexts};
+
+use thiserror::Error;
+
+/// Why bytes are no number up to a limit.
+#[derive(Debug, Clone, Copy, PartialEq, Eq, Error)]
+pub enum NumberFault {
+    /// No digit at all, another byte than a digit, or a leading zero.
+    #[error("not a decimal number without leading zeros")]
+    NotNumeral,
+    /// A number, of any length, above the limit.
+    #[error("number above its limit")]
+    AboveLimit,
+}
+
+fn are_digits(bytes: &[u8]) -> bool
+    ensures { result ≡ list_all is_ascii_digit bytes.now }
+{
+    bytes.iter().all(|byte| byte.is_ascii_digit())
+}
+
+// Decimal digits, at least one, without a leading zero.
+fn is_numeral(bytes: &[u8]) -> bool
+    ensures { result ≡ is_numeral bytes.now }
+{
+    !bytes.is_empty() && are_digits(bytes) && (bytes[0] != b'0' || bytes.len() == 1)
+}
+
+// The value of the digits, up to the greatest page number.
+fn value_of(digits: &[u8]) -> Option<u32>
+    ensures { SomeIff result (AllDigits 10 digits.now × (digits_value 10 digits.now ≤ 999999999)) (digits_value 10 digits.now) }
+{
+    let mut number: u32 = 0;
+    for digit in digits {
+        if !digit.is_ascii_digit() {
+            return None;
+        }
+        let next = u64::from(number) * 10 + u64::from(*digit - b'0');
+        if next > 999_999_999 {
+            return None;
+        }
+        number = next as u32;
+    }
+    Some(number)
+}
+
+/// The number that the bytes spell in decimal, without leading zeros, up to a limit of at most 999,999,999.
+///
+/// `NotNumeral` is answered before `AboveLimit`: digits of any length are a number.
+#[tactic(auto, using(crate::proofs::Numerals::digits_of))]
+pub fn number_read(bytes: &[u8], most: u32) -> Result<u32, NumberFault>
+    requires { most ≤ 999999999 }
+    ensures value { result ≡ number_in most bytes.now }
+    ensures within { IfOk result (λ n. n ≤ most) }
+{
+    if !is_numeral(bytes) {
+        return Err(NumberFault::NotNumeral);
+    }
+    let Some(number) = value_of(bytes) else {
+        return Err(NumberFault::AboveLimit);
+    };
+    if number > most {
+        return Err(NumberFault::AboveLimit);
+    }
+    Ok(number)
+}
+
+/// Of every number and text: a number is read from its own text, and from no other.
+pub fn numbers_are_texts()
+    ensures { NumbersAreTexts }
+{}

@@ -1,0 +1,86 @@
+ghost use Rattle.std.specs.Prelude.{◌≡◌, ◌≤◌};
+ghost use Rattle.std.specs.Option.{SomeIff, ok_or};
+ghost use Rattle.page_ids.specs.declared.fault.IdFault.TheVariants.{BadPage};
+ghost use Rattle.page_ids.specs.Ids.{IsPageNumber, page_text};
+ghost use Rattle.page_ids.specs.Numbers.{page_in};
+
+use crate::fault::IdFault;
+use crate::number::number_read;
+use arrayvec::ArrayString;
+use itoa::Buffer;
+use std::marker::Model;
+
+/// A page number, 0 to 999,999,999. Contracts see the number.
+#[derive(Debug, Clone, Copy, PartialEq, Eq, PartialOrd, Ord, Hash)]
+pub struct PageNo {
+    number: u32,
+}
+
+impl Model for PageNo {
+    ghost use Rattle.std.specs.Prelude.{ℕ, ◌≤◌};
+
+    ghost Value = { ℕ };
+
+    ghost view = { λ p. p.number };
+
+    ghost invariant = { λ p. p.number ≤ 999999999 };
+
+    ghost inverse = { λ n. record { number = n } };
+}
+
+impl PageNo {
+    /// The greatest page number.
+    pub const MOST: u32 = 999_999_999;
+
+    /// The page of a number; `None` above 999,999,999.
+    pub fn new(number: u32) -> Option<PageNo>
+        ensures { SomeIff result (IsPageNumber number) number }
+    {
+        if number <= Self::MOST {
+            Some(PageNo { number })
+        } else {
+            None
+        }
+    }
+
+    /// The number.
+    pub fn get(self) -> u32
+        ensures value { result ≡ self }
+        ensures in_range { IsPageNumber self }
+    {
+        self.number
+    }
+
+    /// The page whose text this is: decimal digits without a leading zero, up to 999,999,999.
+    ///
+    /// Else I1, `BadPage`.
+    pub fn read(text: &str) -> Result<PageNo, IdFault>
+        ensures { result ≡ ok_or (page_in text.now) BadPage }
+    {
+        match page_of(text.as_bytes()) {
+            Some(page) => Ok(page),
+            None => Err(IdFault::BadPage),
+        }
+    }
+
+    /// Its text, in decimal.
+    pub fn text(self) -> ArrayString<9>
+        ensures { result.bytes ≡ page_text self }
+    {
+        let mut buffer = Buffer::new();
+        let mut text = ArrayString::new();
+        let digits = buffer.format(self.number);
+        text.push_str(digits);
+        text
+    }
+}
+
+// The page number that the bytes spell.
+pub fn page_of(bytes: &[u8]) -> Option<PageNo>
+    ensures { result ≡ page_in bytes.now }
+{
+    match number_read(bytes, PageNo::MOST) {
+        Ok(number) => PageNo::new(number),
+        Err(_) => None,
+    }
+}
