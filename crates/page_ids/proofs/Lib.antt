@@ -1,3 +1,4 @@
 pub mod Numerals
 pub mod Numbers
 pub mod IdTexts
+pub mod KeyTexts

@@ -3,3 +3,5 @@ pub mod Ids
 pub mod IdLaws
 pub mod Numbers
 pub mod TextLaws
+pub mod Keys
+pub mod KeyLaws

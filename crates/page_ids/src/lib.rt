@@ -10,17 +10,16 @@
 
 mod fault;
 mod id;
-
-
+mod key;
+mod key_text;
 mod letter;
 mod number;
 mod page;
 
 pub use fault::IdFault;
 pub use id::{FrameId, ids_are_texts};
+pub use key::{Digit, Key, KeyList};
+pub use key_text::{keys_are_texts, keys_read, keys_text};
 pub use letter::Letter;
 pub use number::{NumberFault, number_read, numbers_are_texts};
 pub use page::PageNo;
-
-
-

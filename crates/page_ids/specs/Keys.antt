@@ -1,0 +1,68 @@
+-- The words of keys, and what a text of keys is read as.
+use Rattle.std.specs.Prelude.{◌≡◌, ◌≢◌, ℕ, ◌+◌, ◌-◌, ◌<◌, ◌≤◌, ◌==◌, ◌&&◌, Bool, true, List, [], ◌∷◌, ◌++◌, length, take, Option, Some, None, Result, Ok, Err, if◌then◌else◌, nat_lt, get_or}
+use Rattle.std.specs.List.{AllByRecursion}
+use Rattle.page_ids.specs.declared.fault.IdFault.{IdFault}
+use Rattle.page_ids.specs.declared.fault.IdFault.TheVariants.{BadPage, BadFrame, BadKey, Memory}
+use Rattle.page_ids.specs.declared.key.Key.{Key}
+use Rattle.page_ids.specs.declared.key.Key.TheVariants.{Route, Next, Prev, Reprint, Update}
+
+-- `0` to `9`, `#`, `*#`, `*00`, `*09`: 48 is `0`, 57 is `9`, 35 is `#`, 42 is `*`
+abbrev pub key_word : Key → List ℕ
+key_word (Route digit) = (48 + digit) ∷ []
+key_word Next = 35 ∷ []
+key_word Prev = 42 ∷ 35 ∷ []
+key_word Reprint = 42 ∷ 48 ∷ 48 ∷ []
+key_word Update = 42 ∷ 48 ∷ 57 ∷ []
+
+-- the words, one behind the other
+abbrev pub keys_text : List Key → List ℕ
+keys_text [] = []
+keys_text (key ∷ keys) = key_word key ++ keys_text keys
+
+-- a digit is 0 to 9
+abbrev pub IsKey : Key → Type 0
+IsKey (Route digit) = digit < 10
+IsKey Next = Unit {0}
+IsKey Prev = Unit {0}
+IsKey Reprint = Unit {0}
+IsKey Update = Unit {0}
+
+abbrev pub AreKeys : List Key → Type 0
+AreKeys keys = AllByRecursion IsKey keys
+
+-- the key of the bytes behind `*0`, of those behind `*`, and of any
+abbrev pub key_behind_zero : List ℕ → Option Key
+key_behind_zero [] = None
+key_behind_zero (c ∷ cs) = if c == 48 then Some Reprint else if c == 57 then Some Update else None
+
+abbrev pub key_behind_star : List ℕ → Option Key
+key_behind_star [] = None
+key_behind_star (b ∷ bs) = if b == 35 then Some Prev else if b == 48 then key_behind_zero bs else None
+
+abbrev pub key_at : List ℕ → Option Key
+key_at [] = None
+key_at (a ∷ more) =
+    if a == 35 then Some Next
+    else if a == 42 then key_behind_star more
+    else if nat_lt 47 a && nat_lt a 58 then Some (Route (a - 48)) else None
+
+-- the beginning of n bytes is made of words
+abbrev pub IsReadable : List ℕ → ℕ → Type 0
+IsReadable text n = (keys : List Key) × AreKeys keys × (take n text ≡ keys_text keys)
+
+-- n is the length of the longest beginning that is made of words, and it isn't the whole text
+pub record IsUnreadableAt (text : List ℕ) (n : ℕ) : Type 0 where
+  pub within : n < length text
+  pub readable : IsReadable text n
+  pub longest : (m : ℕ) → m ≤ length text → IsReadable text m → m ≤ n
+
+-- the one list whose words the text is, or where it can't be read; memory may be refused
+abbrev pub IsReadFault : List ℕ → IdFault → Type 0
+IsReadFault text BadPage = ⊥
+IsReadFault text BadFrame = ⊥
+IsReadFault text (BadKey n) = IsUnreadableAt text n
+IsReadFault text Memory = Unit {0}
+
+abbrev pub IsRead : List ℕ → Result (List Key) IdFault → Type 0
+IsRead text (Ok keys) = AreKeys keys × (text ≡ keys_text keys)
+IsRead text (Err fault) = IsReadFault text fault

@@ -1,0 +1,85 @@
+ghost use Rattle.std.specs.Prelude.{◌≡◌, ◌≤◌, ◌+◌, ◌++◌, IfOk, OnOk, IfSome, length, drop, map};
+ghost use Rattle.page_ids.specs.declared.key.Key.{Key};
+ghost use Rattle.page_ids.specs.Keys.{key_word, key_at, keys_text, IsRead};
+ghost use Rattle.page_ids.specs.KeyLaws.{KeysAreTexts};
+
+use crate::fault::IdFault;
+use crate::key::{Digit, Key, KeyList};
+use std::alloc::{AllocError, Global};
+
+// The key with whose word the bytes begin.
+fn key_at(bytes: &[u8]) -> Option<Key>
+    ensures { result ≡ key_at bytes.now }
+{
+    match bytes {
+        [b'#', ..] => Some(Key::Next),
+        [b'*', b'#', ..] => Some(Key::Prev),
+        [b'*', b'0', b'0', ..] => Some(Key::Reprint),
+        [b'*', b'0', b'9', ..] => Some(Key::Update),
+        [first, ..] if first.is_ascii_digit() => match Digit::new(*first - b'0') {
+            Some(digit) => Some(Key::Route(digit)),
+            None => None,
+        },
+        _ => None,
+    }
+}
+
+// How many bytes the key's word has.
+fn word_len(key: &Key) -> usize
+    ensures { result ≡ length (key_word key.now) }
+{
+    match key {
+        Key::Route(_) | Key::Next => 1,
+        Key::Prev => 2,
+        Key::Reprint | Key::Update => 3,
+    }
+}
+
+/// The keys whose words, one behind the other, are the text; the empty text is the empty list.
+///
+/// I3, `BadKey`, carries the byte offset at which the first word that can't be read begins: the length of the longest
+/// beginning of the text that is made of words.
+pub fn keys_read(alloc: Global, text: &str) -> Result<KeyList, IdFault>
+    ensures { IsRead text.now result }
+{
+    let bytes = text.as_bytes();
+    let mut keys = Vec::new(alloc);
+    let mut at = 0;
+    while at < bytes.len() {
+        let Some(key) = key_at(&bytes[at..]) else {
+            return Err(IdFault::BadKey(at));
+        };
+        at += word_len(&key);
+        keys.push(key).map_err(|_| IdFault::Memory)?;
+    }
+    Ok(KeyList::of(keys))
+}
+
+fn push_word(text: &mut Vec<u8>, key: Key) -> Result<(), AllocError>
+    ensures { OnOk result (text.new.items ≡ text.old.items ++ key_word key) }
+{
+    match key {
+        Key::Route(digit) => text.push(b'0' + digit.get())?,
+        Key::Next => text.extend_from_slice(b"#")?,
+        Key::Prev => text.extend_from_slice(b"*#")?,
+        Key::Reprint => text.extend_from_slice(b"*00")?,
+        Key::Update => text.extend_from_slice(b"*09")?,
+    }
+    Ok(())
+}
+
+/// The words of the keys, one behind the other.
+pub fn keys_text(alloc: Global, keys: &KeyList) -> Result<Vec<u8>, AllocError>
+    ensures { IfOk result (λ text. text.items ≡ keys_text keys.now) }
+{
+    let mut text = Vec::new(alloc);
+    for key in keys.as_slice() {
+        push_word(&mut text, *key)?;
+    }
+    Ok(text)
+}
+
+/// Of every list of keys and every text: a list has one text, a text has one list, and no word begins another.
+pub fn keys_are_texts()
+    ensures { KeysAreTexts }
+{}
