@@ -1,0 +1,5 @@
+pub mod Limits
+pub mod BaseView
+pub mod Seek
+pub mod Build
+pub mod BaseLaws

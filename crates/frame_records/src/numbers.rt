@@ -1,0 +1,83 @@
+ghost use Rattle.std.specs.Prelude.{◌≡◌, ◌≤◌};
+ghost use Rattle.std.specs.Option.{SomeIff};
+ghost use Rattle.frame_records.specs.Limits.{IsPrice, IsGroup};
+
+use std::marker::Model;
+
+/// A price in whole pence, 0 to 9,999. Contracts see the number.
+#[derive(Debug, Clone, Copy, PartialEq, Eq, PartialOrd, Ord)]
+pub struct Pence {
+    number: u16,
+}
+
+impl Model for Pence {
+    ghost use Rattle.std.specs.Prelude.{ℕ, ◌≤◌};
+
+    ghost Value = { ℕ };
+
+    ghost view = { λ p. p.number };
+
+    ghost invariant = { λ p. p.number ≤ 9999 };
+
+    ghost inverse = { λ n. record { number = n } };
+}
+
+impl Pence {
+    /// The price of a number of pence; `None` above 9,999.
+    pub fn new(number: u16) -> Option<Pence>
+        ensures { SomeIff result (IsPrice number) number }
+    {
+        if number <= 9999 {
+            Some(Pence { number })
+        } else {
+            None
+        }
+    }
+
+    /// The number of pence.
+    pub fn get(self) -> u16
+        ensures value { result ≡ self }
+        ensures in_range { IsPrice self }
+    {
+        self.number
+    }
+}
+
+/// The number of a closed user group, 1 to 65,535. Contracts see the number.
+#[derive(Debug, Clone, Copy, PartialEq, Eq, PartialOrd, Ord)]
+pub struct GroupNo {
+    number: u16,
+}
+
+impl Model for GroupNo {
+    ghost use Rattle.std.specs.Prelude.{ℕ, ◌≤◌};
+
+    ghost Value = { ℕ };
+
+    ghost view = { λ g. g.number };
+
+    ghost invariant = { λ g. 1 ≤ g.number };
+
+    ghost inverse = { λ n. record { number = n } };
+}
+
+impl GroupNo {
+    /// The group of a number; `None` at 0.
+    pub fn new(number: u16) -> Option<GroupNo>
+        ensures { SomeIff result (IsGroup number) number }
+    {
+        if number >= 1 {
+            Some(GroupNo { number })
+        } else {
+            None
+        }
+    }
+
+    /// The number.
+    pub fn get(self) -> u16
+        ensures value { result ≡ self }
+        ensures in_range { IsGroup self }
+    {
+        self.number
+    }
+}
