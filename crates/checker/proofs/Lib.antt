@@ -1,0 +1,4 @@
+pub mod Steps
+pub mod RowsInTurn
+pub mod Clears
+pub mod IsCleared

@@ -1,0 +1,24 @@
+-- The laws of the check, of every caller, base, policy and certificate.
+use Rattle.std.specs.Prelude.{◌≡◌, ◌↔◌, ℕ, List}
+use Rattle.page_ids.specs.declared.key.Key.{Key}
+use Rattle.frame_records.specs.BaseView.{BaseView, AreApart}
+use Rattle.session_machine.specs.Open.{opening}
+use Rattle.session_machine.specs.Runs.{state_after}
+use Rattle.cert_table.specs.CertView.{CertView}
+use Rattle.checker.specs.declared.policy.Policy.{Policy}
+use Rattle.checker.specs.declared.verdict.Verdict.TheVariants.{Cleared}
+use Rattle.checker.specs.Good.{Good}
+use Rattle.checker.specs.Safe.{Safe, HasRows}
+use Rattle.checker.specs.Verdict.{verdict}
+
+-- a good certificate makes every session safe. The premise is what every base keeps: no frame stands on an outside page
+abbrev pub GoodIsSafe : Type 0
+GoodIsSafe = (caller : List ℕ) (base : BaseView) (policy : Policy) (cert : CertView) → AreApart base → Good caller base policy cert → Safe caller base cert.ceiling cert.keyings
+
+-- after every list of keys the present frame and each remembered one have rows
+abbrev pub GoodKeepsRows : Type 0
+GoodKeepsRows = (caller : List ℕ) (base : BaseView) (policy : Policy) (cert : CertView) → AreApart base → Good caller base policy cert → (keys : List Key) → HasRows cert.rows (state_after caller base (opening base) keys)
+
+-- cleared exactly where the certificate is good
+abbrev pub ClearedIsGood : Type 0
+ClearedIsGood = (caller : List ℕ) (base : BaseView) (policy : Policy) (cert : CertView) → (verdict caller base policy cert ≡ Cleared) ↔ Good caller base policy cert

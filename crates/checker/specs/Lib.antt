@@ -1,0 +1,4 @@
+pub mod Good
+pub mod Safe
+pub mod Verdict
+pub mod Laws

@@ -1,0 +1,24 @@
+//! The check of a certificate against a base.
+//!
+//! [`check`] reads each row of a certificate once. It runs no key and paints no cell; yet where it answers
+//! [`Verdict::Cleared`], no list of keys whatever leads a caller to a missing or closed frame, to a price above the
+//! certificate's ceiling, to a frame that paints over the service rows, or to a place from which the entry page can't be
+//! regained within the certificate's keyings. Who made the certificate doesn't matter.
+//!
+//! - [`Policy`]: what a centre asks of its bases.
+//! - [`Verdict`], [`Cause`]: the first condition that fails, in one order.
+//! - [`good_is_safe`], [`cleared_is_good`]: the laws, of every base, caller, policy and certificate.
+#![tactic(auto)]
+
+mod cover;
+mod judge;
+mod laws;
+mod policy;
+mod rank;
+mod verdict;
+mod ways;
+
+pub use judge::check;
+pub use laws::{cleared_is_good, good_is_safe};
+pub use policy::Policy;
+pub use verdict::{Cause, Verdict};
