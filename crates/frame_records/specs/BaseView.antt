@@ -1,5 +1,5 @@
 -- What contracts see of a base.
-use Rattle.std.specs.Prelude.{◌≡◌, ◌==◌, ◌≤◌, ◌<◌, ◌&&◌, ◌||◌, ℕ, Bool, true, false, List, Option, Some, None, find, length, nat_lt, All}
+use Rattle.std.specs.Prelude.{◌≡◌, ◌==◌, ◌&&◌, ◌||◌, ℕ, Bool, true, false, List, Option, None, find, length, nat_lt, All}
 use Rattle.std.specs.declared.cmp.Ordering.TheVariants.{Less}
 use Rattle.std.specs.List.{AllAdjacentBelow, list_any}
 use Rattle.std.specs.List.Sorted.{IsStrictlyIncreasing}

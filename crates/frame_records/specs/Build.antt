@@ -1,6 +1,7 @@
 -- Which base two lists make, or the first refusal. Each refusal but the first names the smallest id or page.
 use Rattle.std.specs.Prelude.{◌≡◌, ℕ, ◌≤◌, ◌↔◌, Bool, true, false, List, Contains, All, Any, IsPermutation, count_by, Result, Ok, Err}
 use Rattle.std.specs.Ordering.{is_lt}
+use Rattle.std.specs.List.Sorted.{IsSortedByKey, IsStrictlyIncreasing}
 use Rattle.page_ids.specs.Id.{Id}
 use Rattle.page_ids.specs.Ids.{id_eq, id_cmp}
 use Rattle.frame_records.specs.declared.frame.Frame.{Frame}
@@ -43,6 +44,15 @@ IsBuildFault outside frames (BodyTooLong id) = (are_too_many outside frames ≡ 
 IsBuildFault outside frames (NextAfterZ id) = (are_too_many outside frames ≡ false) × NoFrame is_body_long frames × IsLeastId is_next_after_z frames id
 IsBuildFault outside frames (Duplicate id) = (are_too_many outside frames ≡ false) × NoFrame is_body_long frames × NoFrame is_next_after_z frames × IsLeastTwice frames id
 IsBuildFault outside frames (OutsideInside page) = (are_too_many outside frames ≡ false) × NoFrame is_body_long frames × NoFrame is_next_after_z frames × NoneTwice frames × IsLeastInside outside frames page
+
+-- the lists sorted where they stand: the same frames, and the same pages, each once
+pub record AreSorted (outside pages : List ℕ) (frames sorted : List Frame) : Type 0 where
+  pub same_pages : (page : ℕ) → Contains pages page ↔ Contains outside page
+  pub pages_ascend : IsStrictlyIncreasing pages
+  pub same_frames : IsPermutation frames sorted
+  pub frames_sorted : IsSortedByKey (λ f. f.id) id_cmp sorted
+  pub few : are_too_many outside frames ≡ false
+  pub still_few : are_too_many pages sorted ≡ false
 
 -- frames in order, and none of the refusals but the first
 pub record IsUnrefused (outside : List ℕ) (frames : List Frame) : Type 0 where

@@ -5,7 +5,7 @@ ghost use Rattle.frame_records.specs.BaseView.{IsBase, frame_at, lists_outside};
 ghost use Rattle.frame_records.specs.Build.{IsBuilt};
 ghost use Rattle.frame_records.specs.Seek.{seek};
 
-use crate::build::{BuildFault, are_too_many, first_fault};
+use crate::build::{BuildFault, are_too_many, first_fault, sort};
 use crate::frame::Frame;
 use crate::numbers::Pence;
 use page_ids::{FrameId, PageNo};
@@ -54,9 +54,7 @@ impl Base {
         if are_too_many(outside.as_slice(), frames.as_slice()) {
             return Err(BuildFault::TooMany);
         }
-        frames.sort_unstable_by_key(|frame| frame.id);
-        outside.sort_unstable();
-        outside.dedup();
+        sort(&mut outside, &mut frames);
         match first_fault(outside.as_slice(), frames.as_slice()) {
             Some(fault) => Err(fault),
             None => Ok(Base {

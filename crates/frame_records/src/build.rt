@@ -2,7 +2,7 @@ ghost use Rattle.std.specs.Prelude.{◌≡◌, false, IfSome, IfNone, MatchOptio
 ghost use Rattle.std.specs.List.Sorted.{IsSortedByKey, IsStrictlyIncreasing};
 ghost use Rattle.page_ids.specs.Ids.{id_cmp};
 ghost use Rattle.frame_records.specs.BaseView.{IsAscending, has_page, are_too_many, is_body_long, is_next_after_z};
-ghost use Rattle.frame_records.specs.Build.{IsLeastTwice, IsBuildFault, IsUnrefused};
+ghost use Rattle.frame_records.specs.Build.{IsLeastTwice, IsBuildFault, IsUnrefused, AreSorted};
 
 use crate::frame::Frame;
 use page_ids::{FrameId, PageNo};
@@ -86,7 +86,10 @@ fn page_has_frame(frames: &[Frame], page: PageNo) -> bool
 {
     let at = frames.partition_point(|frame| frame.id.page < page);
     match frames.get(at) {
-        Some(frame) => frame.id.page == page,
+        Some(frame) => {
+            let id = frame.id;
+            id.page == page
+        }
         None => false,
     }
 }
@@ -100,6 +103,16 @@ fn outside_inside(outside: &[PageNo], frames: &[Frame]) -> Option<PageNo>
         .iter()
         .copied()
         .find(|page| page_has_frame(frames, *page))
+}
+
+// Sorts both lists where they stand, and keeps each page once.
+pub fn sort(outside: &mut Vec<PageNo>, frames: &mut Vec<Frame>)
+    requires { are_too_many outside.old.items frames.old.items ≡ false }
+    ensures { AreSorted outside.old.items outside.new.items frames.old.items frames.new.items }
+{
+    outside.sort_unstable();
+    outside.dedup();
+    frames.sort_unstable_by_key(|frame| frame.id);
 }
 
 // The first refusal of lists that are sorted and few enough.

@@ -1,12 +1,11 @@
 -- Texts of keys are read in one way.
-use Rattle.std.proofs.Common.{◌≡◌, ℕ, ◌+◌, ◌-◌, ◌<◌, ◌≤◌, ◌==◌, ◌&&◌, Bool, true, false, List, [], ◌∷◌, ◌++◌, length, take, drop, Option, Some, None, refl, sym, ap, ◌∙◌, arith, subst, cond, ltb, eqb, append_assoc, length-append, length-drop, ◌⊎◌, inl, inr}
+use Rattle.std.proofs.Common.{◌≡◌, ℕ, ◌+◌, ◌-◌, ◌<◌, ◌≤◌, ◌&&◌, Bool, true, false, List, [], ◌∷◌, ◌++◌, length, take, drop, Option, Some, None, refl, sym, ap, ◌∙◌, arith, subst, cond, ltb, eqb, append_assoc, length-append, length-drop, ◌⊎◌, inl, inr}
 use Rattle.std.proofs.lemmas.Bool.Decides.{nat_tests}
-use Rattle.std.proofs.lemmas.List.{append_cancel_left, take-append-drop, take_all, append-nil, length-take-le}
+use Rattle.std.proofs.lemmas.List.{append_cancel_left, take-append-drop, append-nil, length-take-le}
 use Rattle.std.proofs.Math.Seq.{take-add, take-append_seam}
-use Rattle.std.specs.List.{AllByRecursion}
 use Rattle.page_ids.specs.declared.key.Key.{Key}
 use Rattle.page_ids.specs.declared.key.Key.TheVariants.{Route, Next, Prev, Reprint, Update}
-use Rattle.page_ids.specs.Keys.{key_word, keys_text, key_at, key_behind_star, key_behind_zero, IsKey, AreKeys, IsReadable, IsUnreadableAt}
+use Rattle.page_ids.specs.Keys.{key_word, keys_text, key_at, key_behind_star, key_behind_zero, IsKey, AreKeys, IsUnreadableAt}
 
 digit_word : (d : ℕ) (rest : List ℕ) → d < 10 → key_at ((48 + d) ∷ rest) ≡ Some (Route d)
 digit_word d rest small =

@@ -1,5 +1,5 @@
 -- Numbers and ids are read from just their own texts.
-use Rattle.std.specs.Prelude.{◌≡◌, ◌≤◌, ℕ, List, decimal, Option, Some, Result, Ok}
+use Rattle.std.specs.Prelude.{◌≡◌, ◌≤◌, ℕ, List, decimal, Some, Ok}
 use Rattle.page_ids.specs.Id.{Id}
 use Rattle.page_ids.specs.Ids.{IsFrameId, frame_text}
 use Rattle.page_ids.specs.Numbers.{number_in, id_in}

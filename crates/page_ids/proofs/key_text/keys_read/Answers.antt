@@ -1,4 +1,4 @@
-use Rattle.std.proofs.Common.{◌≡◌, ◌-◌, ◌+◌, ◌++◌, ◌<◌, ◌≤◌, List, [], ◌∷◌, ℕ, length, drop, take, arith, Option, Some, None, refl, sym, ◌∙◌, ap, subst, length-drop}
+use Rattle.std.proofs.Common.{◌≡◌, ◌-◌, ◌+◌, ◌++◌, List, [], ◌∷◌, ℕ, length, drop, take, arith, Some, None, sym, ◌∙◌, ap, subst, length-drop}
 use Rattle.std.proofs.lemmas.List.{take_all}
 use Rattle.std.proofs.lemmas.Grind.{common_steps}
 use Rattle.page_ids.specs.declared.key.Key.{Key}
@@ -15,7 +15,7 @@ returns-in_default c =
     let bytes = c.as_bytes-bytes.result.now in
     let none : key_at (drop c.loop-at.at bytes) ≡ None = ap key_at (sym (rest bytes c.loop-at.at)) ∙ sym c.key_at.ensures ∙ c.in_default.is in
     subst (λ (text : List ℕ). IsUnreadableAt text c.loop-at.at) c.as_bytes-bytes.ensures.value
-      (unreadable bytes c.loop-at.at c.loop-at.keys.items c.loop-at-test.true c.loop-at.invariant none)
+    (unreadable bytes c.loop-at.at c.loop-at.keys.items c.loop-at-test.true c.loop-at.invariant none)
 
 pub loop-at-preserved : goal.loop-at-preserved
 loop-at-preserved c =
@@ -26,4 +26,4 @@ loop-at-preserved c =
     let len : c.word_len-at.result ≡ length (key_word key) = c.word_len-at.ensures in
     let pushed : c.push.new.self.items ≡ c.loop-at.keys.items ++ key ∷ [] = grind (arith, common_steps) in
     subst (λ (keys : List Key). HasRead bytes (c.loop-at.at + c.word_len-at.result) keys) (sym pushed)
-      (subst (λ (n : ℕ). HasRead bytes (c.loop-at.at + n) (c.loop-at.keys.items ++ key ∷ [])) (sym len) next)
+    (subst (λ (n : ℕ). HasRead bytes (c.loop-at.at + n) (c.loop-at.keys.items ++ key ∷ [])) (sym len) next)

@@ -1,4 +1,4 @@
-use Rattle.std.proofs.Common.{arith, ◌≡◌, ◌<◌, ◌≤◌, ◌^◌, length, ap, ◌∙◌}
+use Rattle.std.proofs.Common.{arith, ◌≤◌, length, ap}
 use Rattle.std.proofs.lemmas.Fmt.{length-decimal-le}
 use Rattle.page_ids.proofs.page.PageNo.text.Goals as goal
 

@@ -1,0 +1,9 @@
+pub mod Valid
+pub mod Moves
+pub mod StepLaw
+pub mod Fold
+pub mod Unique
+pub mod Judged
+pub mod Exact
+pub mod Codes
+pub mod Least

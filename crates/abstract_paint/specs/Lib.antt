@@ -1,0 +1,6 @@
+pub mod Cursor
+pub mod Step
+pub mod Paint
+pub mod Start
+pub mod Plain
+pub mod Codes

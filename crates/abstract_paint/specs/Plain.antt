@@ -1,0 +1,11 @@
+-- Plain bytes, and the run of them at the front of a list.
+use Rattle.std.specs.Prelude.{ℕ, ◌&&◌, Bool, List, nat_lt, nat_le}
+use Rattle.std.specs.List.{prefix_len}
+
+-- the bytes 20 to 7F
+abbrev pub is_plain : ℕ → Bool
+is_plain b = nat_le 32 b && nat_lt b 128
+
+-- how many of them the list begins with
+abbrev pub plain_len : List ℕ → ℕ
+plain_len bs = prefix_len is_plain bs

@@ -1,0 +1,36 @@
+-- The least start that shows why a frame isn't clean.
+use Rattle.std.specs.Prelude.{◌≡◌, ℕ, ◌<◌, ◌+◌, ◌*◌, Bool, true, false, List, Option, Some, None}
+use Rattle.frame_records.specs.declared.frame.Lead.{Lead}
+use Rattle.terminal_codes.specs.declared.caret.Caret.{Caret}
+use Rattle.terminal_codes.specs.Touch.{IsClean, IsFirstTouch}
+use Rattle.terminal_codes.specs.Starts.{StartTouches}
+use Rattle.abstract_paint.specs.declared.start.Start.{Start}
+
+-- the caret at a position with a pending flag
+abbrev pub caret_at : ℕ → Bool → Caret
+caret_at p q = record { at = p; pending = q }
+
+-- not pending comes before pending
+abbrev pub flag_number : Bool → ℕ
+flag_number false = 0
+flag_number true = 1
+
+-- the starts in order: by position, then not pending before pending
+abbrev pub start_number : Caret → ℕ
+start_number c = 2 * c.at + flag_number c.pending
+
+-- the least start that touches at the first offset at which some terminal does
+pub record IsLeastStart (lead : Lead) (body : List ℕ) (s : Start) : Type 0 where
+  pub offset : IsFirstTouch lead body s.offset
+  pub on_screen : s.at < 960
+  pub touch : StartTouches lead body s.offset (caret_at s.at s.pending)
+  pub least : (c : Caret) → start_number c < start_number (caret_at s.at s.pending) → StartTouches lead body s.offset c → ⊥
+
+-- none, of a clean frame; else the least start
+abbrev pub IsStart : Lead → List ℕ → Option Start → Type 0
+IsStart lead body None = IsClean lead body
+IsStart lead body (Some s) = IsLeastStart lead body s
+
+-- at most one answer is right
+abbrev pub StartsAreOne : Type 0
+StartsAreOne = (lead : Lead) (body : List ℕ) (r s : Option Start) → IsStart lead body r → IsStart lead body s → r ≡ s

@@ -1,0 +1,43 @@
+//! Laws of painting: facts about its definitions, which these functions carry and which need no code.
+
+ghost use Rattle.abstract_paint.specs.Codes.{CodesGoOn};
+ghost use Rattle.abstract_paint.specs.Cursor.{EndsAreOne, EndsAreOnScreen, StandsIsTest, ScreenIsStoodFor};
+ghost use Rattle.abstract_paint.specs.Paint.{PaintIsExact};
+ghost use Rattle.abstract_paint.specs.Start.{StartsAreOne};
+
+/// At most one cursor stands for the ends of a frame.
+pub fn ends_are_one()
+    ensures { EndsAreOne }
+{}
+
+/// A cursor that stands for the ends of a frame has its column or spot on the screen.
+pub fn ends_are_on_screen()
+    ensures { EndsAreOnScreen }
+{}
+
+/// What `AbsCursor::stands` answers is what it means.
+pub fn stands_is_test()
+    ensures { StandsIsTest }
+{}
+
+/// A cursor stands for some position and flag exactly where its place is on the screen: a column over 39 or a spot over
+/// 959 stands for none.
+pub fn screen_is_stood_for()
+    ensures { ScreenIsStoodFor }
+{}
+
+/// Of every frame: painting comes to a clean cursor exactly where the frame is clean and ends where the cursor stands,
+/// and to an offset exactly where that is the first that touches.
+pub fn paint_is_exact()
+    ensures { PaintIsExact }
+{}
+
+/// Codes 20 to 7F and 80 to 9F from a spot in rows 1 to 22, as many as fit there, only move the spot on.
+pub fn codes_go_on()
+    ensures { CodesGoOn }
+{}
+
+/// At most one answer to what the least start of a frame is, none included, is right.
+pub fn starts_are_one()
+    ensures { StartsAreOne }
+{}

@@ -1,0 +1,33 @@
+//! Painting judged without a screen.
+//!
+//! A frame is clean where no terminal, whatever it shows and wherever it stands, lets the frame's body write a service
+//! position. `paint` decides it by folding one small cursor over the body, exactly in both directions, and says where a
+//! clean frame may end. `start_for` finds the least start that shows why a frame isn't clean.
+//!
+//! ```
+//! paint(Lead::Keep, &[0x0d, 0x08]) // Clean, at column 39, no escape pending
+//! paint(Lead::Keep, &[0x0d, 0x0a, 0x41]) // Touches(2): from row 22 the letter goes to row 23
+//! start_for(Lead::Keep, &[0x0d, 0x0a, 0x41]) // the start at position 880, the first of row 22
+//! ```
+//!
+//! Positions go from 0 to 959, `40 * row + column`; rows 0 and 23 are the service rows.
+#![tactic(auto)]
+
+mod cursor;
+mod laws;
+mod painting;
+mod plain;
+mod start;
+mod step;
+
+pub use cursor::{AbsCursor, Pend, Place};
+pub use laws::{
+    codes_go_on, ends_are_on_screen, ends_are_one, paint_is_exact, screen_is_stood_for,
+    stands_is_test, starts_are_one,
+};
+pub use painting::{Painted, paint};
+pub use plain::plain_run;
+pub use start::{Start, start_for};
+
+#[cfg(test)]
+mod tests;

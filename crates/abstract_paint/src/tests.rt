@@ -1,0 +1,163 @@
+mod plain_program;
+
+use super::*;
+use frame_records::Lead;
+
+fn clean(place: Place, pend: Pend) -> Painted {
+    Painted::Clean(AbsCursor { place, pend })
+}
+
+fn spot(at: u16) -> Painted {
+    clean(Place::Spot(at), Pend::No)
+}
+
+#[test]
+fn paints_short_bodies(rt: HostRuntime) {
+    let rows: [(Lead, &[u8], Painted); 16] = [
+        (Lead::Keep, &[], clean(Place::Any, Pend::Maybe)),
+        (Lead::Clear, &[], spot(40)),
+        (Lead::Keep, &[0x41], Painted::Touches(0)),
+        (Lead::Keep, &[0x0d, 0x0a, 0x41], Painted::Touches(2)),
+        (Lead::Clear, &[0x1e, 0x0b, 0x41], Painted::Touches(2)),
+        (Lead::Keep, &[0x1b], clean(Place::Any, Pend::Yes)),
+        (Lead::Clear, &[0x41, 0x0c], Painted::Touches(1)),
+        (Lead::Keep, &[0x0d, 0x08], clean(Place::Col(39), Pend::No)),
+        // home, down and letters
+        (Lead::Keep, &[0x1e, 0x0a, 0x41], spot(41)),
+        (Lead::Clear, &[0x1b], clean(Place::Spot(40), Pend::Yes)),
+        // after an escape these are dropped, whatever the position
+        (Lead::Keep, &[0x1b, 0x20], clean(Place::Any, Pend::No)),
+        (Lead::Keep, &[0x1b, 0x3f], clean(Place::Any, Pend::No)),
+        (Lead::Keep, &[0x1b, 0x60], clean(Place::Any, Pend::No)),
+        (Lead::Keep, &[0x1b, 0x7f], clean(Place::Any, Pend::No)),
+        // and these are attributes
+        (Lead::Keep, &[0x1b, 0x40], Painted::Touches(1)),
+        (Lead::Clear, &[0x1b, 0x5f], spot(41)),
+    ];
+    for (lead, body, painted) in rows {
+        assert_eq!(rt; paint(lead, body), painted, "{lead:?} {body:?}");
+    }
+}
+
+// Home, one row down, and letters to the end of row 22 and one further.
+#[test]
+fn paints_full_pages(rt: HostRuntime) {
+    let mut body = [0x41; 883];
+    body[0] = 0x1e;
+    body[1] = 0x0a;
+    for lead in [Lead::Clear, Lead::Keep] {
+        assert_eq!(rt; paint(lead, &body[..881]), spot(919));
+        assert_eq!(rt; paint(lead, &body[..882]), spot(920));
+        assert_eq!(rt; paint(lead, &body), Painted::Touches(882));
+    }
+}
+
+// An attribute at the front of a row, so many rows down.
+#[test]
+fn paints_an_attribute_in_each_row(rt: HostRuntime) {
+    let mut body = [0x0a; 30];
+    body[0] = 0x1e;
+    for rows in 1..24 {
+        body[rows + 1] = 0x1b;
+        body[rows + 2] = 0x4d;
+        let painted = if rows == 23 {
+            Painted::Touches(25)
+        } else {
+            spot(rows as u16 * 40 + 1)
+        };
+        assert_eq!(rt; paint(Lead::Clear, &body[..rows + 3]), painted, "{rows}");
+        body[rows + 1] = 0x0a;
+        body[rows + 2] = 0x0a;
+    }
+}
+
+#[test]
+fn finds_the_least_start(rt: HostRuntime) {
+    let start = |at: u16, offset: usize| {
+        Some(Start {
+            at,
+            pending: false,
+            offset,
+        })
+    };
+    let rows: [(Lead, &[u8], Option<Start>); 6] = [
+        (Lead::Keep, &[0x41], start(0, 0)),
+        (Lead::Keep, &[0x0d, 0x0a, 0x41], start(880, 2)),
+        (Lead::Clear, &[0x1e, 0x0b, 0x41], start(0, 2)),
+        (Lead::Clear, &[0x41, 0x0c], start(0, 1)),
+        (Lead::Keep, &[0x0d], None),
+        (Lead::Clear, &[], None),
+    ];
+    for (lead, body, least) in rows {
+        assert_eq!(rt; start_for(lead, body), least, "{lead:?} {body:?}");
+    }
+}
+
+// A body as long as may be. Its 4,095 moves down are 15 rows modulo 24, so the starts that touch are in row 8, which
+// ends in row 23, and in row 9, which ends in row 0.
+#[test]
+fn finds_a_late_start(rt: HostRuntime) {
+    let mut body = [0x0a; 4096];
+    body[4095] = 0x41;
+    let late = Start {
+        at: 320,
+        pending: false,
+        offset: 4095,
+    };
+    assert_eq!(rt; start_for(Lead::Keep, &body), Some(late));
+}
+
+#[test]
+fn stands_for_positions_of_the_screen(rt: HostRuntime) {
+    let rows: [(Place, u16, bool); 14] = [
+        (Place::Any, 0, true),
+        (Place::Any, 959, true),
+        (Place::Any, 960, false),
+        (Place::Col(39), 39, true),
+        (Place::Col(39), 959, true),
+        (Place::Col(39), 958, false),
+        (Place::Col(39), 999, false),
+        (Place::Col(0), 920, true),
+        (Place::Col(40), 40, false),
+        (Place::Col(40), 0, false),
+        (Place::Spot(959), 959, true),
+        (Place::Spot(959), 919, false),
+        (Place::Spot(960), 960, false),
+        (Place::Spot(960), 0, false),
+    ];
+    for (place, at, is_stood_for) in rows {
+        let pends = [
+            (Pend::No, true, false),
+            (Pend::Yes, false, true),
+            (Pend::Maybe, true, true),
+        ];
+        for (pend, not_pending, pending) in pends {
+            let cursor = AbsCursor { place, pend };
+            assert_eq!(rt;
+                cursor.stands(at, false),
+                is_stood_for && not_pending,
+                "{cursor:?} {at}"
+            );
+            assert_eq!(rt;
+                cursor.stands(at, true),
+                is_stood_for && pending,
+                "{cursor:?} {at}"
+            );
+        }
+    }
+}
+
+#[test]
+fn counts_plain_bytes(rt: HostRuntime) {
+    assert_eq!(rt; plain_run(&[]), 0);
+    assert_eq!(rt; plain_run(&[0x20, 0x7f, 0x1f]), 2);
+    let mut bytes = [0x41; 100];
+    for length in 0..101 {
+        assert_eq!(rt; plain_run(&bytes[..length]), length);
+        for stop in 0..length {
+            bytes[stop] = if length % 2 == 0 { 0x1f } else { 0x80 };
+            assert_eq!(rt; plain_run(&bytes[..length]), stop);
+            bytes[stop] = 0x41;
+        }
+    }
+}

@@ -1,0 +1,128 @@
+//! The answers of a plain program that runs each of the 1,920 starts on a terminal.
+
+use super::super::*;
+use frame_records::Lead;
+use terminal_codes::{Terminal, lead_bytes};
+
+// A terminal that stands at a position, an escape pending or not.
+fn terminal_at(at: u16, pending: bool) -> Terminal {
+    let mut terminal = Terminal::new();
+    for _ in 0..at / 40 {
+        terminal.step(0x0a);
+    }
+    for _ in 0..at % 40 {
+        terminal.step(0x09);
+    }
+    if pending {
+        terminal.step(0x1b);
+    }
+    terminal
+}
+
+// Whether the byte writes a service position of the terminal. A code that is written moves the position on.
+fn writes_service(terminal: &mut Terminal, byte: u8) -> bool {
+    let at = terminal.at();
+    terminal.step(byte);
+    let is_written = byte >= 0x20 && terminal.at() != at;
+    byte == 0x0c || is_written && (at < 40 || at >= 920)
+}
+
+// Runs each start: the least that touches first, and where those that don't touch end.
+fn run_starts(lead: Lead, body: &[u8], ends: &mut [bool; 1920]) -> Option<Start> {
+    let mut least: Option<Start> = None;
+    for n in 0..1920u16 {
+        let (at, pending) = (n / 2, n % 2 == 1);
+        let mut terminal = terminal_at(at, pending);
+        terminal.run(lead_bytes(lead));
+        match body
+            .iter()
+            .position(|byte| writes_service(&mut terminal, *byte))
+        {
+            Some(offset) => {
+                if least.is_none_or(|start| offset < start.offset) {
+                    least = Some(Start {
+                        at,
+                        pending,
+                        offset,
+                    });
+                }
+            }
+            None => ends[terminal.at() as usize * 2 + terminal.is_pending() as usize] = true,
+        }
+    }
+    least
+}
+
+// Whether the cursor stands for just these ends.
+fn stands_for(cursor: AbsCursor, ends: &[bool; 1920]) -> bool {
+    (0..1920u16).all(|n| cursor.stands(n / 2, n % 2 == 1) == ends[n as usize])
+}
+
+// Whether `paint` and `start_for` answer as the plain program does.
+fn agrees(lead: Lead, body: &[u8]) -> bool {
+    let mut ends = [false; 1920];
+    let least = run_starts(lead, body, &mut ends);
+    let painted = match (paint(lead, body), least) {
+        (Painted::Touches(offset), Some(start)) => offset == start.offset,
+        (Painted::Clean(cursor), None) => stands_for(cursor, &ends),
+        _ => false,
+    };
+    painted && start_for(lead, body) == least
+}
+
+// Each control byte, first and between moves, letters, escapes and their leads.
+#[test]
+fn agrees_on_each_control_byte(rt: HostRuntime) {
+    for byte in 0..0x20u8 {
+        let bodies: [&[u8]; 9] = [
+            &[byte],
+            &[byte, 0x41],
+            &[0x1b, byte, 0x41],
+            &[0x0d, byte],
+            &[0x0d, byte, 0x0a, 0x1b],
+            &[0x0d, 0x08, byte],
+            &[0x1e, byte, 0x41],
+            &[0x1e, 0x0a, 0x41, byte, 0x42],
+            &[0x1e, 0x0b, 0x08, byte, 0x43],
+        ];
+        for body in bodies {
+            assert!(rt; agrees(Lead::Clear, body), "clear {body:?}");
+            assert!(rt; agrees(Lead::Keep, body), "keep {body:?}");
+        }
+    }
+}
+
+// Each two control bytes and a letter.
+#[test]
+fn agrees_on_each_two_control_bytes(rt: HostRuntime) {
+    for first in 0..0x20u8 {
+        for second in 0..0x20u8 {
+            let bodies: [&[u8]; 3] = [
+                &[first, second, 0x41],
+                &[0x0d, first, second, 0x1b, 0x41],
+                &[0x1e, 0x0a, first, second, 0x41],
+            ];
+            for body in bodies {
+                assert!(rt; agrees(Lead::Clear, body), "clear {body:?}");
+                assert!(rt; agrees(Lead::Keep, body), "keep {body:?}");
+            }
+        }
+    }
+}
+
+// Each byte alone, and after an escape, from any position, a column and a spot.
+#[test]
+fn agrees_on_each_byte_after_an_escape(rt: HostRuntime) {
+    for byte in 0..=255u8 {
+        let bodies: [&[u8]; 4] = [
+            &[byte],
+            &[0x1b, byte],
+            &[0x0d, 0x1b, byte],
+            &[0x1e, 0x0b, 0x08, 0x1b, byte],
+        ];
+        for body in bodies {
+            assert!(rt; agrees(Lead::Clear, body), "clear {body:?}");
+            assert!(rt; agrees(Lead::Keep, body), "keep {body:?}");
+        }
+    }
+}

@@ -1,0 +1,21 @@
+-- Rows, and the map that they stand for.
+use Rattle.std.specs.Prelude.{◌≡◌, ◌≤◌, List, Option, find, length, All}
+use Rattle.std.specs.List.{AllAdjacentBelow}
+use Rattle.std.specs.declared.cmp.Ordering.TheVariants.{Less}
+use Rattle.page_ids.specs.Id.{Id}
+use Rattle.page_ids.specs.Ids.{id_cmp, id_eq}
+use Rattle.abstract_paint.specs.Cursor.{OnScreen}
+use Rattle.cert_table.specs.declared.row.Row.{Row}
+
+-- ids ascend, and there are at most 65,535
+pub record AreRows (rows : List Row) : Type 0 where
+  pub few : length rows ≤ 65535
+  pub ascending : AllAdjacentBelow (λ r s. id_cmp r.id s.id ≡ Less) rows (length rows)
+
+-- each row's cursor has a place on the screen
+abbrev pub AreOnScreen : List Row → Type 0
+AreOnScreen rows = All (λ r. OnScreen r.cursor.place) rows
+
+-- the row of an id
+abbrev pub row_among : List Row → Id → Option Row
+row_among rows id = find (λ r. id_eq r.id id) rows

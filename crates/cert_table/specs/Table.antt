@@ -1,0 +1,56 @@
+-- Which rows make a table, or the first refusal.
+use Rattle.std.specs.Prelude.{◌≡◌, ◌↔◌, ℕ, ◌+◌, Bool, true, List, [], ◌∷◌, length, nat_lt, if◌then◌else◌, Option, Some, None, Result, Ok, Err}
+use Rattle.std.specs.Ordering.{is_lt}
+use Rattle.page_ids.specs.Id.{Id}
+use Rattle.page_ids.specs.Ids.{id_cmp}
+use Rattle.abstract_paint.specs.declared.cursor.Place.{Place}
+use Rattle.abstract_paint.specs.declared.cursor.Place.TheVariants.{Any, Col, Spot}
+use Rattle.cert_table.specs.declared.row.Row.{Row}
+use Rattle.cert_table.specs.declared.certificate.TableFault.{TableFault}
+use Rattle.cert_table.specs.declared.certificate.TableFault.TheVariants.{TooMany, Range, Order}
+use Rattle.cert_table.specs.Rows.{AreRows, AreOnScreen}
+use Rattle.cert_table.specs.CertView.{CertView}
+
+-- a column of at most 39, a spot of at most 959
+abbrev pub is_on_screen : Place → Bool
+is_on_screen Any = true
+is_on_screen (Col c) = nat_lt c 40
+is_on_screen (Spot s) = nat_lt s 960
+
+-- the id is greater than that of the row before, if there is one
+abbrev pub is_behind : Option Row → Id → Bool
+is_behind None id = true
+is_behind (Some r) id = is_lt (id_cmp r.id id)
+
+-- what is wrong with the row at i, behind another
+abbrev pub row_fault : ℕ → Option Row → Row → Option TableFault
+row_fault i before row =
+    if is_on_screen row.cursor.place
+    then (if is_behind before row.id then None else Some (Order i))
+    else Some (Range i)
+
+-- the first of two faults
+abbrev pub or_later : Option TableFault → Option TableFault → Option TableFault
+or_later None later = later
+or_later (Some fault) later = Some fault
+
+-- rows in turn, the first at i, behind another
+abbrev pub rows_fault : ℕ → Option Row → List Row → Option TableFault
+rows_fault i before [] = None
+rows_fault i before (row ∷ rows) = or_later (row_fault i before row) (rows_fault (i + 1) (Some row) rows)
+
+-- over 65,535 rows; then the first row at fault
+abbrev pub table_fault : List Row → Option TableFault
+table_fault rows = if nat_lt 65535 (length rows) then Some TooMany else rows_fault 0 None rows
+
+abbrev pub unless_fault : Option TableFault → CertView → Result CertView TableFault
+unless_fault None cert = Ok cert
+unless_fault (Some fault) cert = Err fault
+
+-- the certificate of these parts, or the refusal of its rows
+abbrev pub built : ℕ → ℕ → ℕ → List Row → Result CertView TableFault
+built entry ceiling keyings rows = unless_fault (table_fault rows) (record { entry = entry; ceiling = ceiling; keyings = keyings; rows = rows })
+
+-- no refusal applies exactly where the rows are a table on the screen
+abbrev pub FaultsAreExact : Type 0
+FaultsAreExact = (rows : List Row) → (table_fault rows ≡ None) ↔ (AreRows rows × AreOnScreen rows)

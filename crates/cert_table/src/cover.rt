@@ -1,0 +1,38 @@
+ghost use Rattle.std.specs.Prelude.{◌≡◌, ◌<◌, Some, length, slice_get, option_map};
+ghost use Rattle.std.specs.Option.{option_copied};
+ghost use Rattle.cert_table.specs.Rows.{AreRows, row_among};
+
+use crate::row::Row;
+use page_ids::FrameId;
+
+/// A finite map from ids to rows. Contracts see it as the list of its rows, in the order of their ids.
+pub trait Cover {
+    ghost use Rattle.std.specs.Prelude.{List};
+    ghost use Rattle.cert_table.specs.declared.row.Row.{Row};
+
+    /// The rows, in the order of their ids.
+    ghost rows: { Self → List Row };
+
+    /// The map of these rows. Takes no memory: the list is kept.
+    fn of(list: Vec<Row>) -> Self
+        requires { AreRows list.items }
+        ensures { rows result ≡ list.items };
+
+    /// How many rows there are.
+    fn len(&self) -> usize
+        ensures count { result ≡ length (rows self.now) }
+        ensures valid { AreRows (rows self.now) };
+
+    /// The row of the i-th id, from 0.
+    fn row_at(&self, i: usize) -> &Row
+        requires { i < length (rows self.now) }
+        ensures { slice_get (rows self.now) i ≡ Some result.now };
+
+    /// The row of an id.
+    fn row_of(&self, id: FrameId) -> Option<&Row>
+        ensures { option_copied result ≡ row_among (rows self.now) id };
+
+    /// The rank of an id's row.
+    fn rank_of(&self, id: FrameId) -> Option<u16>
+        ensures { result ≡ option_map (λ r. r.rank) (row_among (rows self.now) id) };
+}

@@ -1,0 +1,20 @@
+//! Tables of covered frames, and certificates over them.
+//!
+//! A [`Certificate`] names a base's entry page, a price ceiling and a number of keyings, and covers frames: each has a
+//! [`Row`] with its return rank and the cursor after its painting. Contracts see a certificate as those numbers and the
+//! list of its rows, in the order of their ids, whatever [`Cover`] holds them.
+//!
+//! - [`Row`]: a covered frame.
+//! - [`Cover`], [`RowList`]: a finite map from ids to rows, and one that is searched from the front.
+//! - [`Certificate`], [`TableFault`]: made by `build` alone, or refused by name.
+#![tactic(auto)]
+
+mod certificate;
+mod cover;
+mod row;
+mod row_list;
+
+pub use certificate::{Certificate, TableFault, faults_are_exact};
+pub use cover::Cover;
+pub use row::Row;
+pub use row_list::RowList;

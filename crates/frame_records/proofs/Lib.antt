@@ -1,0 +1,5 @@
+pub mod Finds
+pub mod SortedKeys
+pub mod SortedFrames
+pub mod Pages
+pub mod Built

@@ -1,0 +1,65 @@
+-- What a byte, and a list of bytes, writes: pairs of a position and a code, in order.
+use Rattle.std.specs.Prelude.{ℕ, ◌+◌, ◌%◌, ◌==◌, ◌||◌, map, Bool, List, [], ◌∷◌, ◌++◌, Option, Some, None, nat_lt, nat_le, if◌then◌else◌, set}
+use Rattle.std.specs.List.{range_with_len, list_any}
+use Rattle.terminal_codes.specs.Screen.{Screen}
+use Rattle.terminal_codes.specs.Carets.{caret_of}
+use Rattle.terminal_codes.specs.declared.caret.Caret.{Caret}
+use Rattle.terminal_codes.specs.ByteTable.{moved, code_of, byte_step}
+
+-- the first n cells, blank
+unfoldable pub blanks : ℕ → List (ℕ × ℕ)
+blanks n = map (λ p. (p, 32)) (range_with_len 0 n)
+
+abbrev pub one : ℕ → Option ℕ → List (ℕ × ℕ)
+one at None = []
+one at (Some code) = (at, code) ∷ []
+
+-- what one byte writes
+abbrev pub byte_writes : Caret → ℕ → List (ℕ × ℕ)
+byte_writes c b = if b == 12 then blanks 960 else one c.at (code_of c.pending b)
+
+abbrev pub past : ℕ → Option ℕ → ℕ
+past at None = at
+past at (Some code) = (at + 1) % 960
+
+abbrev pub control_at : ℕ → ℕ → ℕ
+control_at at b = if b == 12 then 0 else moved at b
+
+-- where one byte leaves the position, and whether an escape is pending
+abbrev pub caret_step : Caret → ℕ → Caret
+caret_step c b = record { at = if nat_lt b 32 then control_at c.at b else past c.at (code_of c.pending b); pending = b == 27 }
+
+abbrev pub caret_run : Caret → List ℕ → Caret
+caret_run c [] = c
+caret_run c (b ∷ bs) = caret_run (caret_step c b) bs
+
+-- what the bytes write, from a position and a flag
+abbrev pub caret_writes : Caret → List ℕ → List (ℕ × ℕ)
+caret_writes c [] = []
+caret_writes c (b ∷ bs) = byte_writes c b ++ caret_writes (caret_step c b) bs
+
+-- what the bytes write on a terminal
+abbrev pub writes : Screen → List ℕ → List (ℕ × ℕ)
+writes t [] = []
+writes t (b ∷ bs) = byte_writes (caret_of t) b ++ writes (byte_step t b) bs
+
+-- the pairs stored in order
+abbrev pub stored : List ℕ → List (ℕ × ℕ) → List ℕ
+stored cells [] = cells
+stored cells (w ∷ ws) = stored (set cells w.0 w.1) ws
+
+-- whether a pair of the list is at the position
+abbrev pub is_written : ℕ → List (ℕ × ℕ) → Bool
+is_written p ws = list_any (λ w. w.0 == p) ws
+
+-- rows 0 and 23 are the service rows; the code isn't looked at yet
+abbrev pub is_service : ℕ → ℕ → Bool
+is_service position code = nat_lt position 40 || nat_le 920 position
+
+-- one of the pairs is in a service row
+abbrev pub has_service : List (ℕ × ℕ) → Bool
+has_service ws = list_any (λ w. is_service w.0 w.1) ws
+
+-- the byte writes a service position
+abbrev pub touches : Caret → ℕ → Bool
+touches c b = has_service (byte_writes c b)

@@ -1,0 +1,110 @@
+use super::*;
+use frame_records::Lead;
+
+fn after(bytes: &[u8]) -> Terminal {
+    let mut terminal = Terminal::new();
+    terminal.run(bytes);
+    terminal
+}
+
+// Bytes, then cells 0, 1 and 959, the position, the pending escape and the visible cursor after them.
+const RUNS: [(&[u8], [u8; 3], u16, bool, bool); 24] = [
+    (&[], [0x20, 0x20, 0x20], 0, false, true),
+    // attributes and letters
+    (&[0x1b, 0x41, 0x48], [0x81, 0x48, 0x20], 2, false, true),
+    (
+        &[0x1b, 0x1b, 0x30, 0x41],
+        [0x41, 0x20, 0x20],
+        1,
+        false,
+        true,
+    ),
+    (&[0x1b, 0x0d, 0x41], [0x41, 0x20, 0x20], 1, false, true),
+    (&[0x1b, 0xc1], [0x41, 0x20, 0x20], 1, false, true),
+    (&[0x1b, 0x5f, 0x40], [0x9f, 0x40, 0x20], 2, false, true),
+    (&[0x1b, 0x60, 0x3f], [0x3f, 0x20, 0x20], 1, false, true),
+    (&[0x1b, 0x7f, 0x7f], [0x7f, 0x20, 0x20], 1, false, true),
+    (&[0x80, 0x9f], [0x80, 0x9f, 0x20], 2, false, true),
+    (&[0xa0, 0xff], [0x20, 0x7f, 0x20], 2, false, true),
+    (&[0x1b], [0x20, 0x20, 0x20], 0, true, true),
+    (&[0x1b, 0x18], [0x20, 0x20, 0x20], 0, false, true),
+    (&[0x1b, 0x0f, 0x41], [0x41, 0x20, 0x20], 1, false, true),
+    // moves, round the screen's ends
+    (&[0x1e, 0x08, 0x41], [0x20, 0x20, 0x41], 0, false, true),
+    (&[0x08, 0x09], [0x20, 0x20, 0x20], 0, false, true),
+    (&[0x0b], [0x20, 0x20, 0x20], 920, false, true),
+    (&[0x0b, 0x0a], [0x20, 0x20, 0x20], 0, false, true),
+    (&[0x0b, 0x09, 0x0d], [0x20, 0x20, 0x20], 920, false, true),
+    (&[0x08, 0x0d], [0x20, 0x20, 0x20], 920, false, true),
+    (&[0x0a, 0x09, 0x1e], [0x20, 0x20, 0x20], 0, false, true),
+    // clear, and the cursor's visibility, which 0C keeps
+    (&[0x41, 0x42, 0x0c], [0x20, 0x20, 0x20], 0, false, true),
+    (&[0x14], [0x20, 0x20, 0x20], 0, false, false),
+    (&[0x14, 0x0c], [0x20, 0x20, 0x20], 0, false, false),
+    (&[0x14, 0x1b, 0x11], [0x20, 0x20, 0x20], 0, false, true),
+];
+
+#[test]
+fn writes_moves_and_shows_by_the_byte_table(rt: HostRuntime) {
+    for (bytes, cells, at, pending, visible) in RUNS {
+        let terminal = after(bytes);
+        let seen = [terminal.cell(0), terminal.cell(1), terminal.cell(959)];
+        assert_eq!(rt; seen, cells, "{bytes:?}");
+        assert_eq!(rt; terminal.at(), at, "{bytes:?}");
+        assert_eq!(rt; terminal.is_pending(), pending, "{bytes:?}");
+        assert_eq!(rt; terminal.is_visible(), visible, "{bytes:?}");
+    }
+}
+
+#[test]
+fn a_caret_goes_where_the_terminal_goes(rt: HostRuntime) {
+    for (bytes, _, at, pending, _) in RUNS {
+        let home = Caret {
+            at: 0,
+            pending: false,
+        };
+        assert_eq!(rt; home.run(bytes), Caret { at, pending }, "{bytes:?}");
+    }
+    let last = Caret {
+        at: 959,
+        pending: true,
+    };
+    let row_1 = Caret {
+        at: 40,
+        pending: false,
+    };
+    assert_eq!(rt; last.step(0x41).at, 0);
+    assert_eq!(rt; last.run(lead_bytes(Lead::Clear)), row_1);
+    assert_eq!(rt; last.run(lead_bytes(Lead::Keep)), last);
+}
+
+#[test]
+fn the_service_rows_are_the_first_and_the_last(rt: HostRuntime) {
+    for (at, service) in [
+        (0, true),
+        (39, true),
+        (40, false),
+        (919, false),
+        (920, true),
+        (959, true),
+    ] {
+        let caret = Caret { at, pending: false };
+        assert_eq!(rt; is_service_position(at, 0x41), service, "{at}");
+        assert_eq!(rt; caret.touches(0x41), service, "{at}");
+        assert_eq!(rt; caret.touches(0x1b), false, "{at}");
+        assert_eq!(rt; caret.touches(0x0c), true, "{at}");
+    }
+}
+
+#[test]
+fn one_byte_has_one_code_and_one_move(rt: HostRuntime) {
+    assert_eq!(rt; code_written(false, 0x41), Some(0x41));
+    assert_eq!(rt; code_written(true, 0x41), Some(0x81));
+    assert_eq!(rt; code_written(true, 0x30), None);
+    assert_eq!(rt; code_written(false, 0x0c), None);
+    assert_eq!(rt; code_written(true, 0xc1), Some(0x41));
+    assert_eq!(rt; moved_by(41, 0x0b), 1);
+    assert_eq!(rt; moved_by(0, 0x08), 959);
+    assert_eq!(rt; moved_by(79, 0x0d), 40);
+    assert_eq!(rt; moved_by(79, 0x18), 79);
+}
