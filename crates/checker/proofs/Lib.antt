@@ -2,3 +2,4 @@ pub mod Steps
 pub mod RowsInTurn
 pub mod Clears
 pub mod IsCleared
+pub mod RowBodies

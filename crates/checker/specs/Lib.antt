@@ -2,3 +2,4 @@ pub mod Good
 pub mod Safe
 pub mod Verdict
 pub mod Laws
+pub mod RowsAreClean

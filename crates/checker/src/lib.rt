@@ -19,6 +19,6 @@ mod verdict;
 mod ways;
 
 pub use judge::check;
-pub use laws::{cleared_is_good, good_is_safe};
+pub use laws::{cleared_is_good, good_is_safe, rows_are_clean};
 pub use policy::Policy;
 pub use verdict::{Cause, Verdict};
