@@ -8,11 +8,13 @@ use Rattle.abstract_paint.specs.declared.cursor.Pend.{Pend}
 use Rattle.abstract_paint.specs.declared.cursor.Pend.TheVariants.{No, Yes, Maybe}
 use Rattle.abstract_paint.specs.declared.cursor.AbsCursor.{AbsCursor}
 
+-- the place has the position
 abbrev pub PlaceStands : Place → ℕ → Type 0
 PlaceStands Any p = Unit {0}
 PlaceStands (Col c) p = p % 40 ≡ c
 PlaceStands (Spot s) p = p ≡ s
 
+-- the pending flag can be this one
 abbrev pub PendStands : Pend → Bool → Type 0
 PendStands No q = q ≡ false
 PendStands Yes q = q ≡ true
@@ -24,23 +26,25 @@ pub record Stands (x : AbsCursor) (p : ℕ) (q : Bool) : Type 0 where
   pub place : PlaceStands x.place p
   pub pend : PendStands x.pend q
 
--- columns and spots on the screen
+-- a column is below 40, a spot below 960
 abbrev pub OnScreen : Place → Type 0
 OnScreen Any = Unit {0}
 OnScreen (Col c) = c < 40
 OnScreen (Spot s) = s < 960
 
--- the same, as a test
+-- the same as a test: the place has the position
 abbrev pub place_test : Place → ℕ → Bool
 place_test Any p = true
 place_test (Col c) p = p % 40 == c
 place_test (Spot s) p = p == s
 
+-- the pending flag can be this one
 abbrev pub pend_test : Pend → Bool → Bool
 pend_test No q = not q
 pend_test Yes q = q
 pend_test Maybe q = true
 
+-- the cursor stands for the position and the flag
 abbrev pub stands : AbsCursor → ℕ → Bool → Bool
 stands x p q = nat_lt p 960 && (place_test x.place p && pend_test x.pend q)
 

@@ -10,11 +10,11 @@ use Rattle.abstract_paint.specs.declared.cursor.Pend.{Pend}
 use Rattle.abstract_paint.specs.declared.cursor.Pend.TheVariants.{No, Yes, Maybe}
 use Rattle.abstract_paint.specs.declared.cursor.AbsCursor.{AbsCursor}
 
--- any position: only the row's start and home settle it
+-- any position: only the row's start (0D) and home (1E) settle it
 abbrev pub any_moved : ℕ → Place
 any_moved b = if b == 13 then Col 0 else if b == 30 then Spot 0 else Any
 
--- a column: back and on move it, up and down keep it
+-- a column: back (08) and on (09) move it, the row's start (0D) and home (1E) settle it, up and down keep it
 abbrev pub col_moved : ℕ → ℕ → Place
 col_moved c b =
     if b == 8 then Col ((c + 39) % 40)
@@ -23,15 +23,17 @@ col_moved c b =
     else if b == 30 then Spot 0
     else Col c
 
+-- a place after a byte that moves
 abbrev pub place_moved : Place → ℕ → Place
 place_moved Any b = any_moved b
 place_moved (Col c) b = col_moved c b
 place_moved (Spot p) b = Spot (moved p b)
 
+-- the place, no escape pending
 abbrev pub calm : Place → AbsCursor
 calm place = record { place = place; pend = No }
 
--- a control code
+-- a byte from 00 to 1F: escape (1B), clear (0C), which touches, or a move
 abbrev pub control_cursor : AbsCursor → ℕ → Option AbsCursor
 control_cursor x b =
     if b == 27 then Some (record { place = x.place; pend = Yes })
@@ -50,10 +52,12 @@ written_at Any code = None
 written_at (Col c) code = None
 written_at (Spot p) code = if is_service p code then None else Some (calm (Spot (p + 1)))
 
+-- a code at a place, if there is one
 abbrev pub written_of : Place → Option ℕ → Option AbsCursor
 written_of place None = Some (calm place)
 written_of place (Some code) = written_at place code
 
+-- the cursor after a byte, or none where the byte touches
 abbrev pub cursor_step : AbsCursor → ℕ → Option AbsCursor
 cursor_step x b = if nat_lt b 32 then control_cursor x b else written_of x.place (code_by x.pend b)
 

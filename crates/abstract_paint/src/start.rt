@@ -12,8 +12,11 @@ use terminal_codes::{Caret, lead_bytes};
 /// A start from which the body byte at the offset writes a service position: where a terminal stands before the lead.
 #[derive(Debug, Clone, Copy, PartialEq, Eq)]
 pub struct Start {
+    /// The position, 0 to 959.
     pub at: u16,
+    /// Whether an escape is pending.
     pub pending: bool,
+    /// The body byte that touches.
     pub offset: usize,
 }
 

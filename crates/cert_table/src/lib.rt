@@ -18,3 +18,6 @@ pub use certificate::{Certificate, TableFault, faults_are_exact};
 pub use cover::Cover;
 pub use row::Row;
 pub use row_list::RowList;
+
+#[cfg(test)]
+mod tests;

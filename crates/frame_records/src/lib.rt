@@ -17,3 +17,6 @@ pub use base::{Base, Sought};
 pub use build::BuildFault;
 pub use frame::{Body, Frame, Lead};
 pub use numbers::{GroupNo, Pence};
+
+#[cfg(test)]
+mod tests;

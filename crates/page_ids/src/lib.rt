@@ -23,3 +23,6 @@ pub use key_text::{keys_are_texts, keys_read, keys_text};
 pub use letter::Letter;
 pub use number::{NumberFault, number_read, numbers_are_texts};
 pub use page::PageNo;
+
+#[cfg(test)]
+mod tests;

@@ -6,29 +6,33 @@ use Rattle.terminal_codes.specs.Carets.{caret_of}
 use Rattle.terminal_codes.specs.declared.caret.Caret.{Caret}
 use Rattle.terminal_codes.specs.ByteTable.{moved, code_of, byte_step}
 
--- the first n cells, blank
+-- the first n cells, blank (32, a space)
 unfoldable pub blanks : ℕ → List (ℕ × ℕ)
 blanks n = map (λ p. (p, 32)) (range_with_len 0 n)
 
+-- what a code at a position writes, if there is one
 abbrev pub one : ℕ → Option ℕ → List (ℕ × ℕ)
 one at None = []
 one at (Some code) = (at, code) ∷ []
 
--- what one byte writes
+-- what one byte writes: 12 is 0C, which clears
 abbrev pub byte_writes : Caret → ℕ → List (ℕ × ℕ)
 byte_writes c b = if b == 12 then blanks 960 else one c.at (code_of c.pending b)
 
+-- where a code leaves the position, if there is one
 abbrev pub past : ℕ → Option ℕ → ℕ
 past at None = at
 past at (Some code) = (at + 1) % 960
 
+-- where a byte from 00 to 1F leaves the position: 12 is 0C, which goes home
 abbrev pub control_at : ℕ → ℕ → ℕ
 control_at at b = if b == 12 then 0 else moved at b
 
--- where one byte leaves the position, and whether an escape is pending
+-- where one byte leaves the position, and whether an escape (27, 1B) is pending
 abbrev pub caret_step : Caret → ℕ → Caret
 caret_step c b = record { at = if nat_lt b 32 then control_at c.at b else past c.at (code_of c.pending b); pending = b == 27 }
 
+-- where the bytes leave them, in order
 abbrev pub caret_run : Caret → List ℕ → Caret
 caret_run c [] = c
 caret_run c (b ∷ bs) = caret_run (caret_step c b) bs
@@ -52,7 +56,7 @@ stored cells (w ∷ ws) = stored (set cells w.0 w.1) ws
 abbrev pub is_written : ℕ → List (ℕ × ℕ) → Bool
 is_written p ws = list_any (λ w. w.0 == p) ws
 
--- rows 0 and 23 are the service rows; the code isn't looked at yet
+-- rows 0 and 23 are the service rows, whatever the code
 abbrev pub is_service : ℕ → ℕ → Bool
 is_service position code = nat_lt position 40 || nat_le 920 position
 

@@ -1,0 +1,6 @@
+mod DigitTurns
+mod CodePoints
+mod RowTurns
+mod Documents
+mod FrameTurns
+mod WholeFaults

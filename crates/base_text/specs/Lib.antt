@@ -1,0 +1,13 @@
+pub mod Outcome
+pub mod Seen
+pub mod Keys
+pub mod Fields
+pub mod Routes
+pub mod RowCodes
+pub mod Rows
+pub mod Bodies
+pub mod Frames
+pub mod FrameList
+pub mod Parts
+pub mod Text
+pub mod Whole

@@ -1,0 +1,132 @@
+ghost use Rattle.std.specs.Prelude.{◌≡◌};
+ghost use Rattle.toml.specs.View.{table_view, view, items_view};
+ghost use Rattle.base_text.specs.Outcome.{OrMemory, FaultOrMemory, at_index};
+ghost use Rattle.base_text.specs.Frames.{head_of, shown_of, known_frame, table_frame, frame_of};
+ghost use Rattle.base_text.specs.FrameList.{frames_from, frames_of};
+ghost use Rattle.base_text.specs.Seen.{seen, listed};
+
+use crate::bodies::read_body;
+use crate::fault::{BaseFault, Cause, Field, fault_at, top_fault};
+use crate::fields::{read_group, read_id, read_lead, read_next, read_price};
+use crate::keys::{Place, has_only_keys, member};
+use crate::routes::read_routes;
+use frame_records::{Body, Frame, GroupNo, Lead, Pence};
+use page_ids::{FrameId, PageNo};
+use std::alloc::Global;
+use toml::{Table, Value};
+
+// What orders, prices and guards a frame.
+#[derive(Debug, Clone, Copy)]
+pub struct Head {
+    pub id: FrameId,
+    pub price: Pence,
+    pub group: Option<GroupNo>,
+    pub next: bool,
+}
+
+// What a frame shows, and where its routes lead.
+#[derive(Debug, Drop)]
+pub struct Shown {
+    pub routes: [Option<PageNo>; 10],
+    pub lead: Lead,
+    pub body: Body,
+}
+
+fn read_head(table: &Table) -> Result<Head, Cause>
+    ensures { result ≡ head_of (table_view table.now) }
+{
+    let id = read_id(member(table, "id"))?;
+    let price = read_price(member(table, "price"))?;
+    let group = read_group(member(table, "group"))?;
+    let next = read_next(member(table, "next"))?;
+    Ok(Head {
+        id,
+        price,
+        group,
+        next,
+    })
+}
+
+fn read_shown(alloc: Global, table: &Table) -> Result<Shown, Cause>
+    ensures { OrMemory (shown_of (table_view table.now)) result }
+{
+    let routes = read_routes(member(table, "routes"))?;
+    let lead = read_lead(member(table, "lead"))?;
+    let body = read_body(alloc, member(table, "body"), member(table, "rows"))?;
+    Ok(Shown { routes, lead, body })
+}
+
+// The frame of a table whose keys are known.
+fn known_frame(alloc: Global, table: &Table) -> Result<Frame, Cause>
+    ensures { OrMemory (known_frame (table_view table.now)) result }
+{
+    let head = read_head(table)?;
+    let Shown { routes, lead, body } = read_shown(alloc, table)?;
+    Ok(Frame {
+        id: head.id,
+        price: head.price,
+        group: head.group,
+        next: head.next,
+        routes,
+        lead,
+        body,
+    })
+}
+
+fn table_frame(alloc: Global, table: &Table) -> Result<Frame, Cause>
+    ensures { OrMemory (table_frame (table_view table.now)) result }
+{
+    if has_only_keys(Place::Frame, table) {
+        known_frame(alloc, table)
+    } else {
+        Err(Cause::UnknownKey)
+    }
+}
+
+fn read_frame(alloc: Global, value: &Value) -> Result<Frame, Cause>
+    ensures { OrMemory (frame_of (view value.now)) result }
+{
+    match value {
+        Value::Table(table) => table_frame(alloc, table),
+        _ => Err(Cause::WrongKind(Field::Frame)),
+    }
+}
+
+fn frame_at_index(alloc: Global, index: usize, value: &Value) -> Result<Frame, BaseFault>
+    ensures { FaultOrMemory (at_index index (frame_of (view value.now))) result }
+{
+    let Ok(index) = u32::try_from(index) else {
+        return Err(top_fault(Cause::Memory));
+    };
+    match read_frame(alloc, value) {
+        Ok(frame) => Ok(frame),
+        Err(cause) => Err(fault_at(index, cause)),
+    }
+}
+
+// The frames of an array.
+fn frame_list(alloc: Global, values: &[Value]) -> Result<Vec<Frame>, BaseFault>
+    ensures { FaultOrMemory (frames_from 0 (items_view values.now)) (listed result) }
+{
+    let mut frames = Vec::new(alloc);
+    for value in values {
+        let frame = match frame_at_index(alloc, frames.len(), value) {
+            Ok(frame) => frame,
+            Err(fault) => return Err(fault),
+        };
+        if frames.push(frame).is_err() {
+            return Err(top_fault(Cause::Memory));
+        }
+    }
+    Ok(frames)
+}
+
+pub fn read_frames(alloc: Global, value: Option<&Value>) -> Result<Vec<Frame>, BaseFault>
+    ensures { FaultOrMemory (frames_of (seen value.entry)) (listed result) }
+{
+    match value {
+        Some(Value::Array(values)) => frame_list(alloc, values.as_slice()),
+        Some(_) => Err(top_fault(Cause::WrongKind(Field::Frame))),
+        None => Ok(Vec::new(alloc)),
+    }
+}

@@ -1,0 +1,124 @@
+//! Tables built by hand; which rows make none is this profile's own list of refusals.
+
+use crate::{Certificate, Cover, Row, RowList, TableFault};
+use abstract_paint::{AbsCursor, Pend, Place};
+use frame_records::Pence;
+use page_ids::{FrameId, PageNo};
+use std::alloc::{AllocError, Global};
+use std::test::Fail;
+
+fn row(id: FrameId, rank: u16, place: Place) -> Row {
+    Row {
+        id,
+        rank,
+        cursor: AbsCursor {
+            place,
+            pend: Pend::No,
+        },
+    }
+}
+
+fn rows(alloc: Global, list: &[(&str, u16, Place)]) -> Result<Vec<Row>, Fail> {
+    let mut rows = Vec::new(alloc);
+    for (id, rank, place) in list {
+        rows.push(row(FrameId::read(id)?, *rank, *place))?;
+    }
+    Ok(rows)
+}
+
+fn certificate(rows: Vec<Row>) -> Result<Certificate<RowList>, TableFault> {
+    let (Some(entry), Some(ceiling)) = (PageNo::new(123), Pence::new(5)) else {
+        unreachable!()
+    };
+    Certificate::build(entry, ceiling, 1, rows)
+}
+
+const DEMO: [(&str, u16, Place); 3] = [
+    ("123a", 0, Place::Spot(80)),
+    ("1231a", 1, Place::Spot(80)),
+    ("1231b", 1, Place::Spot(48)),
+];
+
+#[test]
+fn a_certificate_has_the_parts_that_it_was_made_of(rt: HostRuntime) -> Result<(), Fail> {
+    let Ok(cert) = certificate(rows(rt.alloc(), &DEMO)?) else {
+        return Err(Fail::from("refused"));
+    };
+    assert_eq!(rt; cert.entry().get(), 123);
+    assert_eq!(rt; cert.ceiling().get(), 5);
+    assert_eq!(rt; cert.keyings(), 1);
+    let cover = cert.cover();
+    assert_eq!(rt; cover.len(), 3);
+    assert_eq!(rt; cover.row_at(1).id, FrameId::read("1231a")?);
+    assert_eq!(rt; cover.rank_of(FrameId::read("1231b")?), Some(1));
+    assert_eq!(rt; cover.rank_of(FrameId::read("1231c")?), None);
+    assert_eq!(rt;
+        cover.row_of(FrameId::read("123a")?).map(|row| row.rank),
+        Some(0)
+    );
+    assert!(rt; cover.row_of(FrameId::read("124a")?).is_none());
+    Ok(())
+}
+
+#[test]
+fn rows_that_make_no_table_are_named(rt: HostRuntime) -> Result<(), Fail> {
+    let tables: [(&[(&str, u16, Place)], Option<TableFault>); 9] = [
+        (&[], None),
+        (&[("123a", 0, Place::Col(40))], Some(TableFault::Range(0))),
+        (&[("123a", 0, Place::Col(39))], None),
+        (
+            &[("123a", 0, Place::Any), ("123a", 0, Place::Any)],
+            Some(TableFault::Order(1)),
+        ),
+        (
+            &[("123b", 0, Place::Any), ("123a", 0, Place::Any)],
+            Some(TableFault::Order(1)),
+        ),
+        (
+            &[("124a", 0, Place::Any), ("123z", 0, Place::Any)],
+            Some(TableFault::Order(1)),
+        ),
+        (
+            &[("123b", 0, Place::Any), ("123a", 0, Place::Spot(960))],
+            Some(TableFault::Range(1)),
+        ),
+        (
+            &[
+                ("123a", 0, Place::Any),
+                ("123b", 0, Place::Spot(959)),
+                ("123b", 0, Place::Spot(960)),
+            ],
+            Some(TableFault::Range(2)),
+        ),
+        (&[("99z", 0, Place::Any), ("100a", 0, Place::Any)], None),
+    ];
+    for (i, (list, fault)) in tables.iter().enumerate() {
+        assert_eq!(rt;
+            certificate(rows(rt.alloc(), list)?).err(),
+            *fault,
+            "table {i}"
+        );
+    }
+    Ok(())
+}
+
+// So many rows of one id.
+fn many(alloc: Global, count: u32) -> Result<Vec<Row>, AllocError> {
+    let mut rows = Vec::new(alloc);
+    for number in 0..count {
+        if let Some(page) = PageNo::new(number) {
+            rows.push(row(FrameId::first(page), 0, Place::Any))?;
+        }
+    }
+    Ok(rows)
+}
+
+#[test]
+fn a_table_has_at_most_65_535_rows(rt: HostRuntime) -> Result<(), Fail> {
+    assert_eq!(rt; certificate(many(rt.alloc(), 65_535)?).err(), None);
+    assert_eq!(rt;
+        certificate(many(rt.alloc(), 65_536)?).err(),
+        Some(TableFault::TooMany)
+    );
+    Ok(())
+}

@@ -1,0 +1,27 @@
+-- Keys in turn.
+use Rattle.std.proofs.Common.{◌≡◌, ℕ, ◌≤◌, List, [], ◌∷◌, ◌++◌, length, refl, ap, arith}
+use Rattle.std.specs.List.{AllByRecursion}
+use Rattle.page_ids.specs.declared.key.Key.{Key}
+use Rattle.page_ids.specs.declared.key.Key.TheVariants.{Route, Next, Prev, Reprint, Update}
+use Rattle.frame_records.specs.BaseView.{BaseView}
+use Rattle.session_machine.specs.declared.reply.Reply.{Reply}
+use Rattle.session_machine.specs.declared.reply.Reply.TheVariants.{NotOffered}
+use Rattle.session_machine.specs.State.{SessionState, At, Left, remembered_of}
+use Rattle.session_machine.specs.Step.{key_step}
+use Rattle.session_machine.specs.Runs.{state_after, replies_to}
+
+pub state_in_turn : (caller : List ℕ) (base : BaseView) (from : SessionState) (keys more : List Key) → state_after caller base from (keys ++ more) ≡ state_after caller base (state_after caller base from keys) more
+state_in_turn caller base from [] more = refl
+state_in_turn caller base from (key ∷ keys) more = state_in_turn caller base (key_step caller base from key).0 keys more
+
+pub replies_in_turn : (caller : List ℕ) (base : BaseView) (from : SessionState) (keys more : List Key) → replies_to caller base from (keys ++ more) ≡ replies_to caller base from keys ++ replies_to caller base (state_after caller base from keys) more
+replies_in_turn caller base from [] more = refl
+replies_in_turn caller base from (key ∷ keys) more = ap (λ (rest : List Reply). (key_step caller base from key).1 ∷ rest) (replies_in_turn caller base (key_step caller base from key).0 keys more)
+
+pub away_state : (caller : List ℕ) (base : BaseView) (page : ℕ) (keys : List Key) → state_after caller base (Left page) keys ≡ Left page
+away_state caller base page [] = refl
+away_state caller base page (key ∷ keys) = away_state caller base page keys
+
+pub away_replies : (caller : List ℕ) (base : BaseView) (page : ℕ) (keys : List Key) → AllByRecursion (λ reply. reply ≡ NotOffered) (replies_to caller base (Left page) keys)
+away_replies caller base page [] = tt
+away_replies caller base page (key ∷ keys) = (refl, away_replies caller base page keys)

@@ -1,0 +1,7 @@
+pub mod State
+pub mod View
+pub mod Step
+pub mod Open
+pub mod Runs
+pub mod Safe
+pub mod SessionLaws

@@ -1,0 +1,17 @@
+//! A caller's session: what each key answers, and where it leads.
+//!
+//! A [`Session`] is at a frame, with at most three remembered ones, or has left for an outside page. Each key looks into
+//! the base that is handed in with it. `Session::key` is the table of keys, which stands in `specs/Step.antt`.
+//!
+//! - [`Session`], [`OpenFault`]: the session, and why none is opened.
+//! - [`Reply`]: what the centre answers to a key.
+//! - [`runs_in_turn`], [`remembers_few`], [`left_stays`], [`shows_what_is_found`]: laws over whole lists of keys.
+#![tactic(auto)]
+
+mod laws;
+mod reply;
+mod session;
+
+pub use laws::{left_stays, remembers_few, runs_in_turn, shows_what_is_found};
+pub use reply::Reply;
+pub use session::{OpenFault, Session};
