@@ -6,3 +6,4 @@ pub mod Found
 pub mod Only
 pub mod Outcomes
 pub mod Written
+pub mod Ended

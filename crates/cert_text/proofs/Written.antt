@@ -1,8 +1,9 @@
 -- What the writer has written.
-use Rattle.std.proofs.Common.{◌≡◌, ℕ, zero, suc, ◌+◌, List, [], ◌∷◌, ◌++◌, length, map, take, refl, sym, ap, ◌∙◌, append_assoc, arith, Some}
+use Rattle.std.proofs.Common.{◌≡◌, ℕ, zero, suc, ◌+◌, ◌<◌, List, [], ◌∷◌, ◌++◌, length, map, take, get_or, All, subst, refl, sym, ap, ◌∙◌, append_assoc, arith, Some}
 use Rattle.std.specs.Prelude.{codes, slice_get}
 use Rattle.std.specs.Fmt.{decimal}
 use Rattle.std.proofs.lemmas.List.{map_push}
+use Rattle.std.proofs.lemmas.List.Elements.{All-more}
 use Rattle.cert_table.specs.declared.row.Row.{Row}
 use Rattle.cert_table.specs.CertView.{CertView}
 use Rattle.cert_text.specs.Grammar.{text_of, head_lines, row_line, certificate_text}
@@ -31,6 +32,20 @@ certificate_joined c =
 
 pub is_certificate : (c : CertView) (a b d : List ℕ) → a ≡ text_of (head_lines c.entry c.ceiling c.keyings (length c.rows)) → b ≡ a ++ text_of (map row_line c.rows) → d ≡ b ++ codes "end\n" → d ≡ certificate_text c
 is_certificate c a b d p q r = r ∙ ap (λ (t : List ℕ). t ++ codes "end\n") (q ∙ ap (λ (t : List ℕ). t ++ text_of (map row_line c.rows)) p) ∙ certificate_joined c
+
+-- the row at a place
+got : (xs : List Row) (i : ℕ) (r : Row) → slice_get xs i ≡ Some r → (i < length xs) × (get_or xs i r ≡ r)
+got [] i r e = absurd cc
+got (x ∷ xs) zero r e = (omega arith, some_is x r e) where
+  some_is : (x r : Row) → slice_get (x ∷ []) 0 ≡ Some r → x ≡ r
+  some_is x r e = cc
+got (x ∷ xs) (suc i) r e = let t = got xs i r e in (omega (arith, t.0), t.1)
+
+pub all_at : (P : Row → Type 0) (xs : List Row) (i : ℕ) (r : Row) → All P xs → slice_get xs i ≡ Some r → P r
+all_at P xs i r all e = let g = got xs i r e in subst P g.1 (all i r g.0)
+
+pub each_more : (P : Row → Type 0) (xs : List Row) (i : ℕ) (r : Row) → All P (take i xs) → slice_get xs i ≡ Some r → P r → All P (take (i + 1) xs)
+each_more P xs i r all e p = let g = got xs i r e in All-more P xs i r g.0 all (subst P (sym g.1) p)
 
 take_more : (xs : List Row) (i : ℕ) (r : Row) → slice_get xs i ≡ Some r → take (suc i) xs ≡ take i xs ++ (r ∷ [])
 take_more [] i r e = absurd cc
