@@ -1,0 +1,5 @@
+pub mod Grammar
+pub mod Lines
+pub mod Reading
+pub mod Outcome
+pub mod Laws
