@@ -3,3 +3,4 @@ pub mod Safe
 pub mod Verdict
 pub mod Laws
 pub mod RowsAreClean
+pub mod Headline

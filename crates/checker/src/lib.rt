@@ -6,10 +6,12 @@
 //! regained within the certificate's keyings. Who made the certificate doesn't matter.
 //!
 //! - [`Policy`]: what a centre asks of its bases.
+//! - [`check_bytes`], [`InputFault`]: the same of two texts; the headline stands on this call.
 //! - [`Verdict`], [`Cause`]: the first condition that fails, in one order.
 //! - [`good_is_safe`], [`cleared_is_good`]: the laws, of every base, caller, policy and certificate.
 #![tactic(auto)]
 
+mod bytes;
 mod cover;
 mod judge;
 mod laws;
@@ -18,6 +20,7 @@ mod rank;
 mod verdict;
 mod ways;
 
+pub use bytes::{InputFault, check_bytes};
 pub use judge::check;
 pub use laws::{cleared_is_good, good_is_safe, rows_are_clean};
 pub use policy::Policy;

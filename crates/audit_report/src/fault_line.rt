@@ -1,0 +1,164 @@
+ghost use Rattle.std.specs.Prelude.{◌≡◌, ◌++◌, IfOk, OnOk};
+ghost use Rattle.audit_report.specs.FaultLines.{field_text, base_cause_text, base_place_text, line_cause_text, cert_fault_text, fault_words, fault_text};
+
+use crate::push::{push_id, push_number, push_page};
+use crate::run_fault::RunFault;
+use base_text::{BaseFault, Cause, Field};
+use cert_text::{LineCause, ReadFault};
+use std::alloc::{AllocError, Global};
+
+fn field_name(field: Field) -> &'static [u8]
+    ensures { result.now ≡ field_text field }
+{
+    match field {
+        Field::Entry => b"entry",
+        Field::Outside => b"outside",
+        Field::Frame => b"frame",
+        Field::Id => b"id",
+        Field::Price => b"price",
+        Field::Group => b"group",
+        Field::Next => b"next",
+        Field::Routes => b"routes",
+        Field::Lead => b"lead",
+        Field::Body => b"body",
+        Field::Rows => b"rows",
+    }
+}
+
+// Words and the name of a key.
+#[tactic(auto, using(std::proofs::Common::append_assoc))]
+fn push_field(out: &mut Vec<u8>, words: &[u8], field: Field) -> Result<(), AllocError>
+    ensures { OnOk result (out.new.items ≡ out.old.items ++ (words.now ++ field_text field)) }
+{
+    out.extend_from_slice(words)?;
+    out.extend_from_slice(field_name(field))?;
+    Ok(())
+}
+
+fn push_base_cause(out: &mut Vec<u8>, cause: Cause) -> Result<(), AllocError>
+    ensures { OnOk result (out.new.items ≡ out.old.items ++ base_cause_text cause) }
+{
+    match cause {
+        Cause::TooLong => out.extend_from_slice(b"X1 TooLong"),
+        Cause::NotToml => out.extend_from_slice(b"X2 NotToml"),
+        Cause::UnknownKey => out.extend_from_slice(b"X3 UnknownKey"),
+        Cause::Absent(field) => push_field(out, b"X4 Absent ", field),
+        Cause::WrongKind(field) => push_field(out, b"X5 WrongKind ", field),
+        Cause::Range(field) => push_field(out, b"X6 Range ", field),
+        Cause::BodyAndRows => out.extend_from_slice(b"X7 BodyAndRows"),
+        Cause::RowTooLong => out.extend_from_slice(b"X8 RowTooLong"),
+        Cause::RowCode => out.extend_from_slice(b"X9 RowCode"),
+        Cause::BadFrame => out.extend_from_slice(b"I2 BadFrame"),
+        Cause::TooMany => out.extend_from_slice(b"B4 TooMany"),
+        Cause::BodyTooLong(id) => push_id(out, b"B5 BodyTooLong ", id),
+        Cause::NextAfterZ(id) => push_id(out, b"B3 NextAfterZ ", id),
+        Cause::Duplicate(id) => push_id(out, b"B1 Duplicate ", id),
+        Cause::OutsideInside(page) => push_page(out, b"B2 OutsideInside ", page),
+        Cause::Memory => out.extend_from_slice(b"memory refused"),
+    }
+}
+
+#[tactic(auto, using(std::proofs::Common::append_assoc))]
+fn push_base_place(out: &mut Vec<u8>, frame: Option<u32>) -> Result<(), AllocError>
+    ensures { OnOk result (out.new.items ≡ out.old.items ++ base_place_text frame) }
+{
+    match frame {
+        None => out.extend_from_slice(b"base: ")?,
+        Some(index) => {
+            out.extend_from_slice(b"base: frame ")?;
+            push_number(out, u64::from(index))?;
+            out.extend_from_slice(b": ")?;
+        }
+    }
+    Ok(())
+}
+
+#[tactic(auto, using(std::proofs::Common::append_assoc))]
+fn push_base_fault(out: &mut Vec<u8>, fault: &BaseFault) -> Result<(), AllocError>
+    ensures { OnOk result (out.new.items ≡ out.old.items ++ (base_place_text fault.now.frame ++ base_cause_text fault.now.cause)) }
+{
+    push_base_place(out, fault.frame)?;
+    push_base_cause(out, fault.cause)?;
+    Ok(())
+}
+
+fn cause_name(cause: LineCause) -> &'static [u8]
+    ensures { result.now ≡ line_cause_text cause }
+{
+    match cause {
+        LineCause::Magic => b"Magic",
+        LineCause::Word => b"Word",
+        LineCause::Number => b"Number",
+        LineCause::Range => b"Range",
+        LineCause::Order => b"Order",
+        LineCause::Cursor => b"Cursor",
+        LineCause::Count => b"Count",
+        LineCause::Tail => b"Tail",
+        LineCause::Truncated => b"Truncated",
+    }
+}
+
+#[tactic(auto, using(std::proofs::Common::append_assoc))]
+fn push_line_fault(out: &mut Vec<u8>, number: u32, cause: LineCause) -> Result<(), AllocError>
+    ensures { OnOk result (out.new.items ≡ out.old.items ++ cert_fault_text (ReadFault.Line number cause)) }
+{
+    out.extend_from_slice(b"certificate: line ")?;
+    push_number(out, u64::from(number))?;
+    out.extend_from_slice(b": ")?;
+    out.extend_from_slice(cause_name(cause))?;
+    Ok(())
+}
+
+fn push_cert_fault(out: &mut Vec<u8>, fault: ReadFault) -> Result<(), AllocError>
+    ensures { OnOk result (out.new.items ≡ out.old.items ++ cert_fault_text fault) }
+{
+    match fault {
+        ReadFault::Line(number, cause) => push_line_fault(out, number, cause),
+        ReadFault::Failed => out.extend_from_slice(b"certificate: failed"),
+        ReadFault::Memory => out.extend_from_slice(b"memory refused"),
+    }
+}
+
+#[tactic(auto, using(std::proofs::Common::append_assoc))]
+fn push_write_fault(out: &mut Vec<u8>, wrote: u64) -> Result<(), AllocError>
+    ensures { OnOk result (out.new.items ≡ out.old.items ++ fault_words (RunFault.Write wrote)) }
+{
+    out.extend_from_slice(b"output: write failed after ")?;
+    push_number(out, wrote)?;
+    out.extend_from_slice(b" bytes")?;
+    Ok(())
+}
+
+#[tactic(auto, using(std::proofs::Common::append_assoc))]
+fn push_keys_fault(out: &mut Vec<u8>, offset: usize) -> Result<(), AllocError>
+    ensures { OnOk result (out.new.items ≡ out.old.items ++ fault_words (RunFault.Keys offset)) }
+{
+    out.extend_from_slice(b"keys: I3 BadKey ")?;
+    push_number(out, offset as u64)?;
+    Ok(())
+}
+
+fn push_fault(out: &mut Vec<u8>, fault: &RunFault) -> Result<(), AllocError>
+    ensures { OnOk result (out.new.items ≡ out.old.items ++ fault_words fault.now) }
+{
+    match fault {
+        RunFault::Base(fault) => push_base_fault(out, fault),
+        RunFault::Cert(fault) => push_cert_fault(out, *fault),
+        RunFault::Keys(offset) => push_keys_fault(out, *offset),
+        RunFault::ReadBase => out.extend_from_slice(b"base: read failed"),
+        RunFault::ReadCert => out.extend_from_slice(b"certificate: read failed"),
+        RunFault::Write(wrote) => push_write_fault(out, *wrote),
+        RunFault::Memory => out.extend_from_slice(b"memory refused"),
+    }
+}
+
+/// The one line that tells a fault on standard error.
+#[tactic(auto, using(std::proofs::Common::append_assoc))]
+pub fn fault_text(alloc: Global, fault: &RunFault) -> Result<Vec<u8>, AllocError>
+    ensures { IfOk result (λ text. text.items ≡ fault_text fault.now) }
+{
+    let mut text = Vec::new(alloc);
+    push_fault(&mut text, fault)?;
+    text.push(b'\n')?;
+    Ok(text)
+}

@@ -1,0 +1,52 @@
+ghost use Rattle.std.specs.Prelude.{◌≡◌, ◌++◌, OnOk, decimal};
+ghost use Rattle.page_ids.specs.Ids.{page_text, frame_text};
+ghost use Rattle.audit_report.specs.Lines.{with_id, with_id_number};
+
+use itoa::Buffer;
+use page_ids::{FrameId, PageNo};
+use std::alloc::AllocError;
+
+pub fn push_number(out: &mut Vec<u8>, number: u64) -> Result<(), AllocError>
+    ensures { OnOk result (out.new.items ≡ out.old.items ++ decimal number) }
+{
+    let mut buffer = Buffer::new();
+    let digits = buffer.format(number);
+    out.extend_from_slice(digits.as_bytes())?;
+    Ok(())
+}
+
+// Words and a page.
+#[tactic(auto, using(std::proofs::Common::append_assoc))]
+pub fn push_page(out: &mut Vec<u8>, words: &[u8], page: PageNo) -> Result<(), AllocError>
+    ensures { OnOk result (out.new.items ≡ out.old.items ++ (words.now ++ page_text page)) }
+{
+    out.extend_from_slice(words)?;
+    out.extend_from_slice(page.text().as_bytes())?;
+    Ok(())
+}
+
+// Words and an id.
+#[tactic(auto, using(std::proofs::Common::append_assoc))]
+pub fn push_id(out: &mut Vec<u8>, words: &[u8], id: FrameId) -> Result<(), AllocError>
+    ensures { OnOk result (out.new.items ≡ out.old.items ++ with_id words.now id) }
+{
+    out.extend_from_slice(words)?;
+    out.extend_from_slice(id.text().as_bytes())?;
+    Ok(())
+}
+
+// Words, an id, a space and a number.
+#[tactic(auto, using(std::proofs::Common::append_assoc))]
+pub fn push_id_number(
+    out: &mut Vec<u8>,
+    words: &[u8],
+    id: FrameId,
+    number: u64,
+) -> Result<(), AllocError>
+    ensures { OnOk result (out.new.items ≡ out.old.items ++ with_id_number words.now id number) }
+{
+    push_id(out, words, id)?;
+    out.extend_from_slice(b" ")?;
+    push_number(out, number)?;
+    Ok(())
+}

@@ -1,0 +1,58 @@
+ghost use Rattle.std.specs.Prelude.{◌≡◌, ◌++◌, IfOk, OnOk};
+ghost use Rattle.audit_report.specs.Lines.{line, reply_text, walk_text, entry_words, entry_text};
+
+use crate::push::{push_id, push_id_number, push_page};
+use page_ids::FrameId;
+use session_machine::Reply;
+use std::alloc::{AllocError, Global};
+
+fn push_reply(out: &mut Vec<u8>, reply: Reply) -> Result<(), AllocError>
+    ensures { OnOk result (out.new.items ≡ out.old.items ++ reply_text reply) }
+{
+    match reply {
+        Reply::Shown(id, price) => push_id_number(out, b"SHOWN ", id, u64::from(price.get())),
+        Reply::Again(id) => push_id(out, b"AGAIN ", id),
+        Reply::NotOffered => out.extend_from_slice(b"NOTOFFERED"),
+        Reply::Missing(id) => push_id(out, b"MISSING ", id),
+        Reply::Closed(id) => push_id(out, b"CLOSED ", id),
+        Reply::Gone(page) => push_page(out, b"GONE ", page),
+    }
+}
+
+#[tactic(auto, using(std::proofs::Common::append_assoc))]
+fn push_line(out: &mut Vec<u8>, reply: Reply) -> Result<(), AllocError>
+    ensures { OnOk result (out.new.items ≡ out.old.items ++ line (reply_text reply)) }
+{
+    push_reply(out, reply)?;
+    out.push(b'\n')?;
+    Ok(())
+}
+
+/// A line for each reply, in their order.
+pub fn walk_text(alloc: Global, replies: &[Reply]) -> Result<Vec<u8>, AllocError>
+    ensures { IfOk result (λ text. text.items ≡ walk_text replies.now) }
+{
+    let mut text = Vec::new(alloc);
+    for reply in replies {
+        push_line(&mut text, *reply)?;
+    }
+    Ok(text)
+}
+
+/// The line of a session that isn't opened: its entry frame is closed to the caller, or missing.
+#[tactic(auto, using(std::proofs::Common::append_assoc))]
+pub fn entry_text(alloc: Global, id: FrameId, closed: bool) -> Result<Vec<u8>, AllocError>
+    ensures { IfOk result (λ text. text.items ≡ entry_text id closed) }
+{
+    let mut text = Vec::new(alloc);
+    let words = entry_words(closed);
+    push_id(&mut text, words, id)?;
+    text.push(b'\n')?;
+    Ok(text)
+}
+
+fn entry_words(closed: bool) -> &'static [u8]
+    ensures { result.now ≡ entry_words closed }
+{
+    if closed { b"ENTRYCLOSED " } else { b"ENTRYMISSING " }
+}
