@@ -1,7 +1,7 @@
-ghost use Rattle.std.specs.Prelude.{◌≡◌, ◌++◌, IfOk, OnOk};
+ghost use Rattle.std.specs.Prelude.{◌≡◌, ◌++◌, IfOk, OnOk, decimal};
 ghost use Rattle.audit_report.specs.FaultLines.{field_text, base_cause_text, base_place_text, line_cause_text, cert_fault_text, fault_words, fault_text};
 
-use crate::push::{push_id, push_number, push_page};
+use crate::push::{push_id, push_number, push_page, push_words_number};
 use crate::run_fault::RunFault;
 use base_text::{BaseFault, Cause, Field};
 use cert_text::{LineCause, ReadFault};
@@ -119,22 +119,18 @@ fn push_cert_fault(out: &mut Vec<u8>, fault: ReadFault) -> Result<(), AllocError
     }
 }
 
+// Words, a number, and words behind it.
 #[tactic(auto, using(std::proofs::Common::append_assoc))]
-fn push_write_fault(out: &mut Vec<u8>, wrote: u64) -> Result<(), AllocError>
-    ensures { OnOk result (out.new.items ≡ out.old.items ++ fault_words (RunFault.Write wrote)) }
+fn push_count(
+    out: &mut Vec<u8>,
+    words: &[u8],
+    count: u64,
+    behind: &[u8],
+) -> Result<(), AllocError>
+    ensures { OnOk result (out.new.items ≡ out.old.items ++ ((words.now ++ decimal count) ++ behind.now)) }
 {
-    out.extend_from_slice(b"output: write failed after ")?;
-    push_number(out, wrote)?;
-    out.extend_from_slice(b" bytes")?;
-    Ok(())
-}
-
-#[tactic(auto, using(std::proofs::Common::append_assoc))]
-fn push_keys_fault(out: &mut Vec<u8>, offset: usize) -> Result<(), AllocError>
-    ensures { OnOk result (out.new.items ≡ out.old.items ++ fault_words (RunFault.Keys offset)) }
-{
-    out.extend_from_slice(b"keys: I3 BadKey ")?;
-    push_number(out, offset as u64)?;
+    push_words_number(out, words, count)?;
+    out.extend_from_slice(behind)?;
     Ok(())
 }
 
@@ -144,10 +140,12 @@ fn push_fault(out: &mut Vec<u8>, fault: &RunFault) -> Result<(), AllocError>
     match fault {
         RunFault::Base(fault) => push_base_fault(out, fault),
         RunFault::Cert(fault) => push_cert_fault(out, *fault),
-        RunFault::Keys(offset) => push_keys_fault(out, *offset),
+        RunFault::Keys(offset) => push_words_number(out, b"keys: I3 BadKey ", *offset as u64),
         RunFault::ReadBase => out.extend_from_slice(b"base: read failed"),
         RunFault::ReadCert => out.extend_from_slice(b"certificate: read failed"),
-        RunFault::Write(wrote) => push_write_fault(out, *wrote),
+        RunFault::Write(wrote) => {
+            push_count(out, b"output: write failed after ", *wrote, b" bytes")
+        }
         RunFault::Memory => out.extend_from_slice(b"memory refused"),
     }
 }

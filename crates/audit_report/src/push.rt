@@ -15,6 +15,16 @@ pub fn push_number(out: &mut Vec<u8>, number: u64) -> Result<(), AllocError>
     Ok(())
 }
 
+// Words and a number.
+#[tactic(auto, using(std::proofs::Common::append_assoc))]
+pub fn push_words_number(out: &mut Vec<u8>, words: &[u8], number: u64) -> Result<(), AllocError>
+    ensures { OnOk result (out.new.items ≡ out.old.items ++ (words.now ++ decimal number)) }
+{
+    out.extend_from_slice(words)?;
+    push_number(out, number)?;
+    Ok(())
+}
+
 // Words and a page.
 #[tactic(auto, using(std::proofs::Common::append_assoc))]
 pub fn push_page(out: &mut Vec<u8>, words: &[u8], page: PageNo) -> Result<(), AllocError>
