@@ -1,0 +1,4 @@
+pub mod Status
+pub mod Runs
+pub mod CheckRun
+pub mod WalkRun

@@ -1,0 +1,21 @@
+-- Exit statuses.
+use Rattle.std.specs.Prelude.{ℕ, Result, Ok, Err}
+use Rattle.audit_report.specs.declared.run_fault.RunFault.{RunFault}
+use Rattle.audit_report.specs.declared.run_fault.RunFault.TheVariants as run
+use Rattle.pageaudit.specs.declared.status.Status.{Status}
+use Rattle.pageaudit.specs.declared.status.Status.TheVariants.{Clear, Faulty}
+
+-- of a fault: bad keys, want of memory, or a file
+abbrev pub fault_number : RunFault → ℕ
+fault_number (run.Base fault) = 3
+fault_number (run.Cert fault) = 3
+fault_number (run.Keys offset) = 2
+fault_number run.ReadBase = 3
+fault_number run.ReadCert = 3
+fault_number (run.Write wrote) = 3
+fault_number run.Memory = 4
+
+abbrev pub status_number : Result Status RunFault → ℕ
+status_number (Ok Clear) = 0
+status_number (Ok Faulty) = 1
+status_number (Err fault) = fault_number fault

@@ -1,0 +1,95 @@
+//! The program's words, read by clap: one level of subcommands, required options.
+
+use clap::error::ErrorKind;
+use clap::{Arg, ArgAction, ArgMatches, Command, Error, value_parser};
+use std::alloc::{AllocError, Global};
+use std::env;
+use std::io;
+use std::rt::Env;
+
+// A word that stands by its place.
+fn place<'a>(alloc: Global, name: &'a str, help: &'a str) -> Arg<'a> {
+    Arg::new(alloc, name)
+        .required(true)
+        .action(ArgAction::Set)
+        .help(help)
+}
+
+// A required whole number from 0 to a limit.
+fn number<'a>(alloc: Global, name: &'a str, most: u16, help: &'a str) -> Arg<'a> {
+    Arg::new(alloc, name)
+        .long(name)
+        .required(true)
+        .action(ArgAction::Set)
+        .value_parser(value_parser!(u16).range(0..=i64::from(most)))
+        .help(help)
+}
+
+// What a policy asks, as options.
+fn with_policy<'a>(alloc: Global, command: Command<'a>) -> Result<Command<'a>, AllocError> {
+    command
+        .arg(number(
+            alloc,
+            "ceiling",
+            9_999,
+            "the most that a frame may cost, in pence",
+        ))?
+        .arg(number(
+            alloc,
+            "keyings",
+            65_535,
+            "the most keys back to the entry page",
+        ))
+}
+
+fn check_command<'a>(alloc: Global) -> Result<Command<'a>, AllocError> {
+    let command = Command::new(alloc, "check")
+        .about("Checks a certificate against a base, without any search")
+        .arg(place(alloc, "BASE", "the base, a TOML file"))?
+        .arg(place(alloc, "CERT", "the certificate"))?;
+    with_policy(alloc, command)
+}
+
+fn walk_command<'a>(alloc: Global) -> Result<Command<'a>, AllocError> {
+    Command::new(alloc, "walk")
+        .about("Shows what a caller sees who presses keys from the entry page")
+        .arg(place(alloc, "BASE", "the base, a TOML file"))?
+        .arg(place(alloc, "KEYS", "keys in one word, as 1#*#*00*09"))
+}
+
+fn whole_command<'a>(alloc: Global) -> Result<Command<'a>, AllocError> {
+    Command::new(alloc, "pageaudit")
+        .about("Audits the page base of a viewdata information provider")
+        .subcommand_required(true)
+        .subcommand(check_command(alloc)?)?
+        .subcommand(walk_command(alloc)?)
+}
+
+/// The program's words; in their place the status of what kept them away: 4 for memory, 2 for words that aren't UTF-8.
+pub fn words(rt: &(impl Env + AllocGlobal), alloc: Global) -> Result<Vec<String>, u8> {
+    match collected(rt, alloc) {
+        Ok(words) => Ok(words),
+        Err(error) if error.kind() == io::ErrorKind::OutOfMemory => Err(4),
+        Err(_) => Err(2),
+    }
+}
+
+fn collected(rt: &(impl Env + AllocGlobal), alloc: Global) -> io::Result<Vec<String>> {
+    Ok(env::args(rt)?.collect(alloc)?)
+}
+
+/// What the words say.
+pub fn matches<'a>(alloc: Global, words: &'a [String]) -> Result<ArgMatches<'a>, Error> {
+    whole_command(alloc)?.try_get_matches_from(words)
+}
+
+/// The status for words that clap refused, or for help: 2, 0, and 4 where memory was refused.
+pub fn refused_status(error: &Error) -> u8 {
+    if error.kind() == ErrorKind::OutOfMemory {
+        4
+    } else if error.use_stderr() {
+        2
+    } else {
+        0
+    }
+}

@@ -1,0 +1,102 @@
+//! pageaudit: audits the page base of a viewdata information provider.
+//!
+//! `check` and `walk` open their files in the order of the words and hand them to `run_check` and `run_walk`, which are
+//! proved over any reader and writer; what stands here only opens, prints and picks the exit status.
+#![tactic(auto)]
+
+mod check_run;
+mod command;
+mod input;
+mod output;
+mod status;
+mod walk_run;
+
+use audit_report::{FromRead, IntoWrite, RunFault, fault_text};
+use check_run::run_check;
+use checker::Policy;
+use clap::ArgMatches;
+use command::{matches, refused_status, words};
+use frame_records::Pence;
+use status::{Status, status_of};
+use std::fs;
+use std::io;
+use std::process::ExitCode;
+use std::rt::{Env, Files};
+use walk_run::run_walk;
+
+fn main(rt: HostRuntime) -> ExitCode {
+    ExitCode::from(run(&rt))
+}
+
+// Reads the words and does what they ask; the exit status.
+fn run<R: Files + Env + Print + Eprint + AllocGlobal>(rt: &R) -> u8 {
+    let words = match words(rt, rt.alloc()) {
+        Ok(words) => words,
+        Err(status) => return status,
+    };
+    match matches(rt.alloc(), words.as_slice()) {
+        Ok(matches) => dispatch(rt, &matches),
+        Err(error) => {
+            let _ = error.print(rt);
+            refused_status(&error)
+        }
+    }
+}
+
+fn dispatch<R: Files + Print + Eprint + AllocGlobal>(rt: &R, matches: &ArgMatches) -> u8 {
+    let run = match matches.subcommand() {
+        Some(("check", words)) => check_files(rt, words),
+        Some(("walk", words)) => walk_file(rt, words),
+        _ => return 2,
+    };
+    if let Err(fault) = &run {
+        tell(rt, fault);
+    }
+    status_of(&run)
+}
+
+// One line on standard error; nothing where there is no memory for it.
+fn tell<R: Eprint + AllocGlobal>(rt: &R, fault: &RunFault) {
+    if let Ok(text) = fault_text(rt.alloc(), fault) {
+        if let Ok(line) = str::from_utf8(text.as_slice()) {
+            let _ = eprint!(rt; "{line}");
+        }
+    }
+}
+
+// What the options ask of bases.
+fn policy_of(words: &ArgMatches) -> Option<Policy> {
+    let ceiling = Pence::new(words.get_one::<u16>("ceiling")?)?;
+    let keyings = words.get_one::<u16>("keyings")?;
+    Some(Policy { ceiling, keyings })
+}
+
+fn check_files<R: Files + Print + AllocGlobal>(
+    rt: &R,
+    words: &ArgMatches,
+) -> Result<Status, RunFault> {
+    let (Some(base), Some(cert), Some(policy)) =
+        (words.get_str("BASE"), words.get_str("CERT"), policy_of(words))
+    else {
+        return Err(RunFault::ReadBase);
+    };
+    let base = fs::open(rt, base).map_err(|_| RunFault::ReadBase)?;
+    let cert = fs::open(rt, cert).map_err(|_| RunFault::ReadCert)?;
+    let mut base = FromRead::new(base);
+    let mut cert = FromRead::new(cert);
+    let mut out = IntoWrite::new(io::writer(rt));
+    run_check(rt.alloc(), &mut base, &mut cert, &mut out, &policy)
+}
+
+fn walk_file<R: Files + Print + AllocGlobal>(
+    rt: &R,
+    words: &ArgMatches,
+) -> Result<Status, RunFault> {
+    let (Some(base), Some(keys)) = (words.get_str("BASE"), words.get_str("KEYS")) else {
+        return Err(RunFault::ReadBase);
+    };
+    let base = fs::open(rt, base).map_err(|_| RunFault::ReadBase)?;
+    let mut base = FromRead::new(base);
+    let mut out = IntoWrite::new(io::writer(rt));
+    run_walk(rt.alloc(), &mut base, keys, &mut out)
+}

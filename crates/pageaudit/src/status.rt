@@ -1,0 +1,39 @@
+ghost use Rattle.std.specs.Prelude.{◌≡◌};
+ghost use Rattle.checker.specs.declared.verdict.Verdict.{Verdict};
+ghost use Rattle.pageaudit.specs.Status.{status_number};
+ghost use Rattle.pageaudit.specs.Runs.{status_of_verdict};
+
+use audit_report::RunFault;
+use checker::Verdict;
+
+/// What a run that did its work came to.
+#[derive(Debug, Clone, Copy, PartialEq, Eq)]
+pub enum Status {
+    /// Cleared, or a walk.
+    Clear,
+    /// Refused, or an entry frame that is missing or closed.
+    Faulty,
+}
+
+// Clear exactly for Cleared.
+pub fn status_of_verdict(verdict: &Verdict) -> Status
+    ensures { result ≡ status_of_verdict verdict.now }
+{
+    match verdict {
+        Verdict::Cleared => Status::Clear,
+        Verdict::Refused(_) => Status::Faulty,
+    }
+}
+
+/// The program's exit status: 0 clear, 1 faulty, 2 bad keys, 3 a file, read, write or text fault, 4 want of memory.
+pub fn status_of(run: &Result<Status, RunFault>) -> u8
+    ensures { result ≡ status_number run.now }
+{
+    match run {
+        Ok(Status::Clear) => 0,
+        Ok(Status::Faulty) => 1,
+        Err(RunFault::Keys(_)) => 2,
+        Err(RunFault::Memory) => 4,
+        Err(_) => 3,
+    }
+}
