@@ -151,6 +151,12 @@ judge_lines bytes s t h e =
     let k = took s.stage (cleared s) s.line t refl (cleared_rows s.stage s h.rows) (record { entry = is.entry; ceiling = is.ceiling; keyings = is.keyings; count = is.count; few = is.few; ascending = is.ascending; each = is.each }) e in
     k.lines ∙ ap (λ (ls : List (List ℕ)). ls ++ (s.line ∷ [])) (cleared_before s.stage s)
 
+pub judge_rest : (bytes : List ℕ) (s t : Reading) → Holds bytes s → judge s ≡ Ok t → t.line ≡ []
+unfolding judge
+judge_rest bytes s t h e =
+    let is = h.sound in
+    (took s.stage (cleared s) s.line t refl (cleared_rows s.stage s h.rows) (record { entry = is.entry; ceiling = is.ceiling; keyings = is.keyings; count = is.count; few = is.few; ascending = is.ascending; each = is.each }) e).rest
+
 holds_judge : (bytes : List ℕ) (s t : Reading) → Holds bytes s → judge s ≡ Ok t → Holds (bytes ++ (10 ∷ [])) t
 unfolding judge
 holds_judge bytes s t h e =
@@ -208,7 +214,7 @@ holds_step bytes s t b h e =
       | inr k ↦ holds_longer bytes s t b h a.0 k.1
     ]
 
-holds_run : (bytes more : List ℕ) (s t : Reading) → Holds bytes s → run s more ≡ Ok t → Holds (bytes ++ more) t
+pub holds_run : (bytes more : List ℕ) (s t : Reading) → Holds bytes s → run s more ≡ Ok t → Holds (bytes ++ more) t
 holds_run bytes [] s t h e = rw (append-nil bytes) (subst (Holds bytes) (inner s t e) h) where
   inner : (s t : Reading) → run s [] ≡ Ok t → s ≡ t
   inner s t e = cc

@@ -8,3 +8,4 @@ pub mod Outcomes
 pub mod Written
 pub mod Ended
 pub mod Numbered
+pub mod Bounded

@@ -1,9 +1,8 @@
 -- Reading goes line by line, and the first line at fault is the fault of the text.
-use Rattle.std.specs.Prelude.{◌≡◌, ◌≤◌, ◌+◌, ◌==◌, ℕ, Bool, true, false, List, [], ◌∷◌, ◌++◌, length, All, if◌then◌else◌, Result, Ok, Err}
-use Rattle.cert_table.specs.CertView.{CertView}
+use Rattle.std.specs.Prelude.{◌≡◌, ◌≤◌, ◌+◌, ◌*◌, ◌<◌, ◌==◌, ℕ, Bool, true, false, List, [], ◌∷◌, ◌++◌, length, All, if◌then◌else◌, Result, Ok, Err}
 use Rattle.cert_text.specs.declared.fault.LineCause.TheVariants.{Word, Tail, Truncated}
 use Rattle.cert_text.specs.Lines.{◌>>=◌}
-use Rattle.cert_text.specs.Reading.{Reading, Fault, start, number_of, judge_at, is_over, at_line, run, run_on, ended}
+use Rattle.cert_text.specs.Reading.{Reading, Fault, start, number_of, judge_at, is_over, at_line, run, run_on, ended, reading}
 
 -- no byte is a line's end (10)
 abbrev pub HasNoEnd : List ℕ → Type 0
@@ -29,3 +28,7 @@ pub record LinesAreJudged : Type 0 where
   pub tail : (s : Reading) (b : ℕ) (rest : List ℕ) → is_over s.stage ≡ true → run s (b ∷ rest) ≡ Err (number_of s.stage (length s.rows), Tail)
   -- the line that is due has a number one greater than the line ends so far
   pub numbered : (bytes : List ℕ) (s : Reading) → run start bytes ≡ Ok s → number_of s.stage (length s.rows) ≡ line_ends bytes + 1
+
+-- a text of more than 65,541 lines' bytes is decided: what is read doesn't depend on what follows
+abbrev pub LongTextsAreDecided : Type 0
+LongTextsAreDecided = (bytes more : List ℕ) → 65541 * 129 < length bytes → reading (bytes ++ more) ≡ reading bytes

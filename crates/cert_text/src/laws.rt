@@ -1,7 +1,7 @@
 //! Laws of the grammar.
 
 ghost use Rattle.cert_text.specs.Laws.{TextsAreCertificates};
-ghost use Rattle.cert_text.specs.LineLaws.{LinesAreJudged};
+ghost use Rattle.cert_text.specs.LineLaws.{LinesAreJudged, LongTextsAreDecided};
 
 /// Of every text and certificate: one text for each certificate and one certificate for each text, no text begins
 /// another, and a text without a fault is a certificate's.
@@ -13,4 +13,10 @@ pub fn texts_are_certificates()
 /// from 1.
 pub fn lines_are_judged()
     ensures { LinesAreJudged }
+{}
+
+/// Of every text: after 8,454,789 bytes, 65,541 lines of 128 bytes with their ends, either the text has a fault or the
+/// next byte is one. So a reader need not take more.
+pub fn long_texts_are_decided()
+    ensures { LongTextsAreDecided }
 {}
