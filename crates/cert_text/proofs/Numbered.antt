@@ -1,23 +1,20 @@
 -- Lines are judged one by one, and counted from 1.
-use Rattle.std.proofs.Common.{◌≡◌, ℕ, ◌+◌, ◌<◌, ◌≤◌, true, false, ltb, eqb, cond, List, [], ◌∷◌, ◌++◌, length, map, Result, Ok, Err, refl, sym, ap, subst, inl, inr, ◌∙◌, arith, append_assoc, length-append}
-use Rattle.std.specs.List.{AllByRecursion}
+use Rattle.std.proofs.Common.{◌≡◌, ℕ, ◌+◌, ◌≤◌, true, false, ltb, eqb, cond, List, [], ◌∷◌, ◌++◌, length, map, Result, Ok, Err, refl, sym, ap, subst, inl, inr, ◌∙◌, arith, length-append}
 use Rattle.std.specs.Prelude.{codes}
 use Rattle.std.proofs.lemmas.Bool.{cases_lt}
 use Rattle.std.proofs.lemmas.Bool.Decides.{nat_tests}
-use Rattle.std.proofs.lemmas.List.{append-nil, length-map}
+use Rattle.std.proofs.lemmas.List.{length-map}
 use Rattle.std.proofs.lemmas.List.Elements.{recursion_from_All}
-use Rattle.cert_table.specs.declared.row.Row.{Row}
-use Rattle.cert_text.specs.declared.fault.LineCause.{LineCause}
 use Rattle.cert_text.specs.declared.fault.LineCause.TheVariants as causes
 use Rattle.cert_text.specs.declared.stage.Stage.{Stage}
 use Rattle.cert_text.specs.declared.stage.Stage.TheVariants.{Magic, Entry, Ceiling, Keyings, Count, Rows, After}
 use Rattle.cert_text.specs.Grammar.{head_lines, row_line}
 use Rattle.cert_text.specs.Lines.{◌>>=◌}
-use Rattle.cert_text.specs.Reading.{Reading, Fault, start, number_of, judge, judge_at, lengthen, is_over, take_byte, at_line, step, run, run_on, ended}
+use Rattle.cert_text.specs.Reading.{Reading, Fault, start, number_of, judge, lengthen, is_over, take_byte, step, run, run_on, ended}
 use Rattle.cert_text.specs.LineLaws.{HasNoEnd, line_ends, judged}
 use Rattle.cert_text.proofs.Spelled.{bind_ok, needs, lacks, chosen, ok_is}
 use Rattle.cert_text.proofs.Found.{lines_before, RowsAt, Holds, holds_step, holds_start, judge_lines, at_line_ok}
-use Rattle.cert_text.proofs.Only.{NoEnds, longer, run_append, step_longer, step_end, run_line}
+use Rattle.cert_text.proofs.Only.{NoEnds, longer, step_longer, run_line}
 
 step_long : (s : Reading) (b : ℕ) → is_over s.stage ≡ false → eqb b 10 ≡ false → 128 ≤ length s.line → step s b ≡ Err (number_of s.stage (length s.rows), causes.Word)
 unfolding step

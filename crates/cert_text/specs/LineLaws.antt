@@ -1,5 +1,5 @@
 -- Reading goes line by line, and the first line at fault is the fault of the text.
-use Rattle.std.specs.Prelude.{◌≡◌, ◌≤◌, ◌+◌, ◌*◌, ◌<◌, ◌==◌, ℕ, Bool, true, false, List, [], ◌∷◌, ◌++◌, length, All, if◌then◌else◌, Result, Ok, Err}
+use Rattle.std.specs.Prelude.{◌≡◌, ◌≤◌, ◌+◌, ◌*◌, ◌<◌, ◌==◌, ℕ, true, false, List, [], ◌∷◌, ◌++◌, length, All, if◌then◌else◌, Result, Ok, Err}
 use Rattle.cert_text.specs.declared.fault.LineCause.TheVariants.{Word, Tail, Truncated}
 use Rattle.cert_text.specs.Lines.{◌>>=◌}
 use Rattle.cert_text.specs.Reading.{Reading, Fault, start, number_of, judge_at, is_over, at_line, run, run_on, ended, reading}
