@@ -144,12 +144,25 @@ cleared_rows Count s h = h
 cleared_rows Rows s h = h
 cleared_rows After s h = h
 
+pub judge_lines : (bytes : List ℕ) (s t : Reading) → Holds bytes s → judge s ≡ Ok t → lines_before t.stage t ≡ lines_before s.stage s ++ (s.line ∷ [])
+unfolding judge
+judge_lines bytes s t h e =
+    let is = h.sound in
+    let k = took s.stage (cleared s) s.line t refl (cleared_rows s.stage s h.rows) (record { entry = is.entry; ceiling = is.ceiling; keyings = is.keyings; count = is.count; few = is.few; ascending = is.ascending; each = is.each }) e in
+    k.lines ∙ ap (λ (ls : List (List ℕ)). ls ++ (s.line ∷ [])) (cleared_before s.stage s)
+
+pub judge_rest : (bytes : List ℕ) (s t : Reading) → Holds bytes s → judge s ≡ Ok t → t.line ≡ []
+unfolding judge
+judge_rest bytes s t h e =
+    let is = h.sound in
+    (took s.stage (cleared s) s.line t refl (cleared_rows s.stage s h.rows) (record { entry = is.entry; ceiling = is.ceiling; keyings = is.keyings; count = is.count; few = is.few; ascending = is.ascending; each = is.each }) e).rest
+
 holds_judge : (bytes : List ℕ) (s t : Reading) → Holds bytes s → judge s ≡ Ok t → Holds (bytes ++ (10 ∷ [])) t
 unfolding judge
 holds_judge bytes s t h e =
     let is = h.sound in
     let k = took s.stage (cleared s) s.line t refl (cleared_rows s.stage s h.rows) (record { entry = is.entry; ceiling = is.ceiling; keyings = is.keyings; count = is.count; few = is.few; ascending = is.ascending; each = is.each }) e in
-    let lines : lines_before t.stage t ≡ lines_before s.stage s ++ (s.line ∷ []) = k.lines ∙ ap (λ (ls : List (List ℕ)). ls ++ (s.line ∷ [])) (cleared_before s.stage s) in
+    let lines = judge_lines bytes s t h e in
     let now : text_of (lines_before t.stage t) ++ t.line ≡ text_of (lines_before s.stage s) ++ (s.line ++ (10 ∷ [])) = ap (λ (l : List ℕ). text_of (lines_before t.stage t) ++ l) k.rest ∙ append-nil (text_of (lines_before t.stage t)) ∙ ap text_of lines ∙ text_push (lines_before s.stage s) s.line in
     record { text = ap (λ (x : List ℕ). x ++ (10 ∷ [])) h.text ∙ append_assoc (text_of (lines_before s.stage s)) s.line (10 ∷ []) ∙ sym now; rows = k.rows; sound = k.sound; over = λ _. k.rest }
 
@@ -185,13 +198,13 @@ holds_longer bytes s t b h going e =
     let text : bytes ++ (b ∷ []) ≡ text_of (lines_before s.stage (longer s b)) ++ (s.line ++ (b ∷ [])) = ap (λ (x : List ℕ). x ++ (b ∷ [])) h.text ∙ append_assoc (text_of (lines_before s.stage s)) s.line (b ∷ []) ∙ ap (λ (ls : List (List ℕ)). text_of ls ++ (s.line ++ (b ∷ []))) (sym (longer_before s.stage s b)) in
     subst (Holds (bytes ++ (b ∷ []))) (ok_is (longer s b) t a.1) (record { text = text; rows = longer_rows s.stage s b h.rows; sound = record { entry = is.entry; ceiling = is.ceiling; keyings = is.keyings; count = is.count; few = is.few; ascending = is.ascending; each = is.each }; over = λ o. absurd (both_ways (is_over s.stage) o going) })
 
-at_line_ok : (n : ℕ) (r : Result Reading LineCause) (t : Reading) → at_line n r ≡ Ok t → r ≡ Ok t
+pub at_line_ok : (n : ℕ) (r : Result Reading LineCause) (t : Reading) → at_line n r ≡ Ok t → r ≡ Ok t
 at_line_ok n (Ok s) t e = ap (λ (x : Reading). Ok x) (inner s t e) where
   inner : (s t : Reading) → at_line 0 (Ok s) ≡ Ok t → s ≡ t
   inner s t e = cc
 at_line_ok n (Err c) t e = absurd cc
 
-holds_step : (bytes : List ℕ) (s t : Reading) (b : ℕ) → Holds bytes s → step s b ≡ Ok t → Holds (bytes ++ (b ∷ [])) t
+pub holds_step : (bytes : List ℕ) (s t : Reading) (b : ℕ) → Holds bytes s → step s b ≡ Ok t → Holds (bytes ++ (b ∷ [])) t
 unfolding step
 holds_step bytes s t b h e =
     let r = at_line_ok (number_of s.stage (length s.rows)) (take_byte s b) t e in
@@ -201,7 +214,7 @@ holds_step bytes s t b h e =
       | inr k ↦ holds_longer bytes s t b h a.0 k.1
     ]
 
-holds_run : (bytes more : List ℕ) (s t : Reading) → Holds bytes s → run s more ≡ Ok t → Holds (bytes ++ more) t
+pub holds_run : (bytes more : List ℕ) (s t : Reading) → Holds bytes s → run s more ≡ Ok t → Holds (bytes ++ more) t
 holds_run bytes [] s t h e = rw (append-nil bytes) (subst (Holds bytes) (inner s t e) h) where
   inner : (s t : Reading) → run s [] ≡ Ok t → s ≡ t
   inner s t e = cc
@@ -209,7 +222,7 @@ holds_run bytes (b ∷ more) s t h e =
     let a = bind_ok (step s b) (λ u. run u more) t e in
     subst (λ (x : List ℕ). Holds x t) (append_assoc bytes (b ∷ []) more) (holds_run (bytes ++ (b ∷ [])) more a.0 t (holds_step bytes s a.0 b h a.1) a.2)
 
-holds_start : Holds [] start
+pub holds_start : Holds [] start
 holds_start = record { text = refl; rows = refl; sound = record { entry = omega arith; ceiling = omega arith; keyings = omega arith; count = omega arith; few = omega arith; ascending = λ k d lt. absurd (omega arith); each = tt }; over = λ o. refl }
 
 is_after_end : (g : Stage) → is_over g ≡ true → g ≡ After

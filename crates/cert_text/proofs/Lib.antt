@@ -7,3 +7,5 @@ pub mod Only
 pub mod Outcomes
 pub mod Written
 pub mod Ended
+pub mod Numbered
+pub mod Bounded

@@ -47,21 +47,30 @@ pub run_append : (s : Reading) (a b : List ℕ) → run s (a ++ b) ≡ (run s a 
 run_append s [] b = refl
 run_append s (x ∷ a) b = bind_same (step s x) (λ t. run t (a ++ b)) (λ t. run t a >>= λ u. run u b) (λ t. run_append t a b) ∙ sym (bind_assoc (step s x) (λ t. run t a) (λ u. run u b))
 
-abbrev longer : Reading → ℕ → Reading
+abbrev pub longer : Reading → ℕ → Reading
 longer s b = record s { line = s.line ++ (b ∷ []) }
 
-step_longer : (s : Reading) (b : ℕ) → is_over s.stage ≡ false → 11 ≤ b → length s.line < 128 → step s b ≡ Ok (longer s b)
+-- no byte is a line's end
+abbrev pub NoEnds : List ℕ → Type 0
+NoEnds bytes = AllByRecursion (λ b. eqb b 10 ≡ false) bytes
+
+no_ends : (bytes : List ℕ) → AllAbove 11 bytes → NoEnds bytes
+no_ends [] h = tt
+no_ends (b ∷ bytes) h = (other b h.0, no_ends bytes h.1) where
+  other : (b : ℕ) → 11 ≤ b → eqb b 10 ≡ false
+  other b h = grind (arith, nat_tests)
+
+pub step_longer : (s : Reading) (b : ℕ) → is_over s.stage ≡ false → eqb b 10 ≡ false → length s.line < 128 → step s b ≡ Ok (longer s b)
 unfolding step
-step_longer s b going above room =
-    let other : eqb b 10 ≡ false = grind (arith, nat_tests) in
+step_longer s b going other room =
     let fits : ltb (length s.line) 128 ≡ true = grind (arith, nat_tests) in
     rw (going, other, fits) refl
 
-step_end : (s : Reading) → is_over s.stage ≡ false → step s 10 ≡ at_line (number_of s.stage (length s.rows)) (judge s)
+pub step_end : (s : Reading) → is_over s.stage ≡ false → step s 10 ≡ at_line (number_of s.stage (length s.rows)) (judge s)
 unfolding step
 step_end s going = rw going refl
 
-run_line : (s : Reading) (line rest : List ℕ) → is_over s.stage ≡ false → AllAbove 11 line → length s.line + length line ≤ 128
+pub run_line : (s : Reading) (line rest : List ℕ) → is_over s.stage ≡ false → NoEnds line → length s.line + length line ≤ 128
     → run s (line ++ (10 ∷ rest)) ≡ (at_line (number_of s.stage (length s.rows)) (judge (record s { line = s.line ++ line })) >>= λ t. run t rest)
 run_line s [] rest going above room = ap (λ (r : Result Reading Fault). r >>= λ t. run t rest) (step_end s going) ∙ ap (λ (l : List ℕ). at_line (number_of s.stage (length s.rows)) (judge (record s { line = l })) >>= λ t. run t rest) (sym (append-nil s.line))
 run_line s (b ∷ line) rest going above room =
@@ -85,7 +94,7 @@ judge_is g e c k n rows line = refl
 
 pub line_read : (g : Stage) (e c k n : ℕ) (rows : List Row) (t : Reading) (line rest : List ℕ) → is_over g ≡ false → IsLine line → judge_at g (at g e c k n rows) line ≡ Ok t → run (at g e c k n rows) (line ++ (10 ∷ rest)) ≡ run t rest
 line_read g e c k n rows t line rest going is ok =
-    run_line (at g e c k n rows) line rest going is.above (omega (arith, is.short)) ∙ ap (λ (r : Result Reading LineCause). at_line (number_of g (length rows)) r >>= λ u. run u rest) (judge_is g e c k n rows line ∙ ok)
+    run_line (at g e c k n rows) line rest going (no_ends line is.above) (omega (arith, is.short)) ∙ ap (λ (r : Result Reading LineCause). at_line (number_of g (length rows)) r >>= λ u. run u rest) (judge_is g e c k n rows line ∙ ok)
 
 word_number : (word : List ℕ) (n : ℕ) → AllAbove 11 word → length word ≤ 10 → n ≤ 999999999 → IsLine (word ++ decimal n)
 word_number word n above short small =

@@ -1,5 +1,5 @@
 -- What is read from a line is spelled so.
-use Rattle.std.proofs.Common.{◌≡◌, ℕ, ◌+◌, ◌-◌, ◌<◌, ◌≤◌, Bool, true, false, cond, ltb, eqb, List, [], ◌∷◌, ◌++◌, length, get_or, take, drop, Option, Some, None, Result, Ok, Err, refl, sym, ap, inl, inr, ◌||◌, subst, ◌∙◌, arith, drop-cons, length-drop}
+use Rattle.std.proofs.Common.{◌≡◌, ℕ, ◌+◌, ◌-◌, ◌<◌, ◌≤◌, Bool, true, false, cond, eqb, List, [], ◌∷◌, ◌++◌, length, get_or, take, drop, Option, Some, None, Result, Ok, Err, refl, sym, ap, inl, inr, subst, ◌∙◌, arith, drop-cons, length-drop}
 use native.Mathlib.Numerals.{unary_clauses}
 use Rattle.std.specs.Fmt.{decimal}
 use Rattle.std.specs.Str.{bytes_eq}
@@ -16,7 +16,7 @@ use Rattle.page_ids.specs.Numbers.{number_in, id_in}
 use Rattle.page_ids.proofs.Numbers.{number_found}
 use Rattle.page_ids.proofs.IdTexts.{id_found}
 use Rattle.cert_table.specs.Table.{is_behind}
-use Rattle.page_ids.specs.Ids.{IsFrameId, frame_text}
+use Rattle.page_ids.specs.Ids.{frame_text}
 use Rattle.cert_table.specs.declared.row.Row.{Row}
 use Rattle.abstract_paint.specs.declared.cursor.AbsCursor.{AbsCursor}
 use Rattle.abstract_paint.specs.declared.cursor.Place.{Place}
@@ -25,7 +25,7 @@ use Rattle.abstract_paint.specs.declared.cursor.Pend.{Pend}
 use Rattle.abstract_paint.specs.declared.cursor.Pend.TheVariants.{No, Yes, Maybe}
 use Rattle.abstract_paint.specs.Cursor.{OnScreen}
 use Rattle.cert_text.specs.declared.fault.LineCause.{LineCause}
-use Rattle.cert_text.specs.declared.fault.LineCause.TheVariants.{Word, Number, Range, Order, Cursor}
+use Rattle.cert_text.specs.declared.fault.LineCause.TheVariants.{Word, Order, Cursor}
 use Rattle.cert_text.specs.Grammar.{place_text, pend_text, cursor_text, row_line, IsRow}
 use Rattle.cert_text.specs.Lines.{◌>>=◌, number_or_cause, line_number, number_after, in_place, place_in, pend_in, without_pend, cursor_of, cursor_in, parts_of, row_of, row_of_parts, in_order, row_in}
 

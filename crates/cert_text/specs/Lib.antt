@@ -3,3 +3,4 @@ pub mod Lines
 pub mod Reading
 pub mod Outcome
 pub mod Laws
+pub mod LineLaws

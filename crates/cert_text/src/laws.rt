@@ -1,9 +1,22 @@
 //! Laws of the grammar.
 
 ghost use Rattle.cert_text.specs.Laws.{TextsAreCertificates};
+ghost use Rattle.cert_text.specs.LineLaws.{LinesAreJudged, LongTextsAreDecided};
 
 /// Of every text and certificate: one text for each certificate and one certificate for each text, no text begins
 /// another, and a text without a fault is a certificate's.
 pub fn texts_are_certificates()
     ensures { TextsAreCertificates }
+{}
+
+/// Of every text: its lines are judged one by one by their places, the first fault is the text's, and lines are counted
+/// from 1.
+pub fn lines_are_judged()
+    ensures { LinesAreJudged }
+{}
+
+/// Of every text of more than 8,454,789 bytes (65,541 lines of 128 bytes, each with its end): what is read doesn't depend
+/// on what follows, since no right text is so long. So nobody need take more bytes than that.
+pub fn long_texts_are_decided()
+    ensures { LongTextsAreDecided }
 {}

@@ -18,7 +18,7 @@ mod stage;
 mod writer;
 
 pub use fault::{LineCause, ReadFault};
-pub use laws::texts_are_certificates;
+pub use laws::{lines_are_judged, long_texts_are_decided, texts_are_certificates};
 pub use reader::{CertReader, cert_read};
 pub use writer::cert_write;
 

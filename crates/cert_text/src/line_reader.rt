@@ -40,6 +40,7 @@ impl Model for LineReader {
 }
 
 impl LineReader {
+    // Before the first byte.
     pub fn new(alloc: Global) -> LineReader
         ensures { result ≡ start }
     {
@@ -69,6 +70,7 @@ impl LineReader {
         }
     }
 
+    // Each takes a whole line in its place.
     fn take_magic(&mut self, line: &[u8]) -> Result<(), LineFault>
         ensures { Turns result self.new (judge_at Magic self.old line.now) }
     {
@@ -137,6 +139,7 @@ impl LineReader {
         Ok(())
     }
 
+    // A row while one is awaited, then `end`.
     fn take_row_or_end(&mut self, line: &[u8]) -> Result<(), LineFault>
         ensures { Turns result self.new (judge_at Rows self.old line.now) }
     {
@@ -164,6 +167,7 @@ impl LineReader {
         }
     }
 
+    // A byte that ends no line.
     fn lengthen(&mut self, byte: u8) -> Result<(), LineFault>
         ensures { Turns result self.new (lengthen self.old byte) }
     {
@@ -175,6 +179,7 @@ impl LineReader {
         }
     }
 
+    // Whether `end` has come.
     fn is_over(&self) -> bool
         ensures { result ≡ is_over self.now.stage }
     {
@@ -194,6 +199,7 @@ impl LineReader {
         }
     }
 
+    // One byte; a fault is that of the line that was due.
     #[tactic(auto, unfolding(crate::specs::Reading::step))]
     fn step(&mut self, byte: u8) -> Result<(), ReadFault>
         ensures { Reads result self.new (step self.old byte) }
@@ -206,6 +212,7 @@ impl LineReader {
         }
     }
 
+    // Bytes one by one, to the first fault.
     pub fn feed(&mut self, piece: &[u8]) -> Result<(), ReadFault>
         ensures { Reads result self.new (run self.old piece.now) }
     {
@@ -214,9 +221,8 @@ impl LineReader {
         }
         Ok(())
     }
-}
 
-impl LineReader {
+    // At the end of the text.
     pub fn finish(self) -> Result<Certificate, ReadFault>
         ensures exact { Gives (λ c. c) result (ended self) }
         ensures no_memory { IfErr result (λ e. e ≡ Memory → ⊥) }
@@ -224,7 +230,8 @@ impl LineReader {
         if !self.is_over() {
             return Err(ReadFault::Line(self.number(), LineCause::Truncated));
         }
-        let (Some(entry), Some(ceiling)) = (PageNo::new(self.entry), Pence::new(self.ceiling)) else {
+        let (Some(entry), Some(ceiling)) = (PageNo::new(self.entry), Pence::new(self.ceiling))
+        else {
             unreachable!()
         };
         match Certificate::build(entry, ceiling, self.keyings, self.rows) {

@@ -14,6 +14,8 @@ use std::alloc::Global;
 use std::marker::Model;
 
 /// Reads a certificate's text as it comes, in any pieces.
+///
+/// Takes one step for each byte, and keeps the rows and at most 128 bytes of the line so far.
 #[derive(Drop)]
 pub struct CertReader {
     failed: bool,
@@ -29,7 +31,7 @@ impl Model for CertReader {
 }
 
 impl CertReader {
-    /// A reader that has read nothing.
+    /// A reader that has read nothing. Takes no memory: the allocator is kept.
     pub fn new(alloc: Global) -> CertReader
         ensures { HasRead result [] }
     {
@@ -39,7 +41,10 @@ impl CertReader {
         }
     }
 
-    /// Takes the next piece of the text.
+    /// Takes the next piece of the text, which may end anywhere in a line.
+    ///
+    /// L1 as soon as the bytes so far have it, whatever follows: so never for an early end. After L1 or `Memory` the
+    /// reader has failed, and each call answers L2.
     pub fn feed(&mut self, piece: &[u8]) -> Result<(), ReadFault>
         ensures failed { self.old.failed ≡ true → (result ≡ Err Failed) × (self.new.failed ≡ true) }
         ensures refused { OnErr result (self.new.failed ≡ true) }
@@ -52,6 +57,7 @@ impl CertReader {
         self.take_piece(piece)
     }
 
+    // Takes a piece, unless a call was refused before.
     fn take_piece(&mut self, piece: &[u8]) -> Result<(), ReadFault>
         ensures failed { self.old.failed ≡ true → (result ≡ Err Failed) × (self.new.failed ≡ true) }
         ensures refused { OnErr result (self.new.failed ≡ true) }
@@ -70,7 +76,9 @@ impl CertReader {
         }
     }
 
-    /// The certificate, at the end of the text.
+    /// The certificate, at the end of the text. Takes no memory.
+    ///
+    /// L1 with `Truncated` where the text ended before its last line did; L2 where a call was refused before.
     pub fn finish(self) -> Result<Certificate, ReadFault>
         ensures failed { self.failed ≡ true → result ≡ Err Failed }
         ensures exact { self.failed ≡ false → Gives (λ c. c) result (ended self.reading) }
@@ -84,6 +92,7 @@ impl CertReader {
     }
 }
 
+// The whole text as one piece, and its end.
 fn read(alloc: Global, bytes: &[u8]) -> Result<Certificate, ReadFault>
     ensures { Gives (λ c. c) result (reading bytes.now) }
 {
@@ -92,7 +101,9 @@ fn read(alloc: Global, bytes: &[u8]) -> Result<Certificate, ReadFault>
     reader.finish()
 }
 
-/// The certificate of a text.
+/// The certificate of a text, or the first line at fault.
+///
+/// Linear in the text; no more memory than the rows take.
 pub fn cert_read(alloc: Global, bytes: &[u8]) -> Result<Certificate, ReadFault>
     // What is read is spelled so.
     ensures found { IfOk result (λ c. IsCertificateText bytes.now c) }

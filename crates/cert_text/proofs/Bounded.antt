@@ -1,0 +1,107 @@
+-- How long a text can be before it has a fault or an end.
+use Rattle.std.proofs.Common.{◌≡◌, ℕ, ◌+◌, ◌*◌, ◌<◌, ◌≤◌, Bool, true, false, ltb, eqb, cond, List, [], ◌∷◌, ◌++◌, length, Result, Ok, Err, refl, sym, ap, subst, inl, inr, ◌∙◌, arith, length-append}
+use Rattle.std.proofs.lemmas.Bool.Decides.{nat_tests}
+use Rattle.cert_text.specs.declared.fault.LineCause.TheVariants as causes
+use Rattle.cert_text.specs.declared.stage.Stage.{Stage}
+use Rattle.cert_text.specs.declared.stage.Stage.TheVariants.{Magic, Entry, Ceiling, Keyings, Count, Rows, After}
+use Rattle.cert_text.specs.Lines.{◌>>=◌}
+use Rattle.cert_text.specs.Reading.{Reading, Fault, start, number_of, judge, lengthen, is_over, take_byte, step, run, ended, reading}
+use Rattle.cert_text.specs.LineLaws.{line_ends}
+use Rattle.cert_text.proofs.Spelled.{bind_ok, needs, lacks, chosen, ok_is}
+use Rattle.cert_text.proofs.Found.{Holds, holds_step, holds_start, holds_run, judge_rest, at_line_ok}
+use Rattle.cert_text.proofs.Only.{longer, run_append}
+use Rattle.cert_text.proofs.Numbered.{numbered}
+
+-- a line grows by a byte, or at most 129 bytes are one line with its end
+record Grows (s t : Reading) (b : ℕ) : Type 0 where
+  pub short : length t.line ≤ 128
+  pub more : length s.line + 1 ≤ cond (eqb b 10) 129 0 + length t.line
+
+grows_judge : (bytes : List ℕ) (s t : Reading) (b : ℕ) → Holds bytes s → length s.line ≤ 128 → eqb b 10 ≡ true → judge s ≡ Ok t → Grows s t b
+grows_judge bytes s t b h short is e =
+    let none : length t.line ≡ 0 = ap length (judge_rest bytes s t h e) in
+    record { short = omega (arith, none); more = rw is (omega (arith, none)) }
+
+grows_longer : (s t : Reading) (b : ℕ) → eqb b 10 ≡ false → lengthen s b ≡ Ok t → Grows s t b
+grows_longer s t b other e =
+    let a = needs (ltb (length s.line) 128) causes.Word (Ok (longer s b)) t e in
+    let room : length s.line < 128 = grind (arith, nat_tests, a.0) in
+    let one : length (s.line ++ (b ∷ [])) ≡ length s.line + 1 = length-append s.line (b ∷ []) in
+    subst (λ (u : Reading). Grows s u b) (ok_is (longer s b) t a.1) (record { short = omega (arith, one); more = rw other (omega (arith, one)) })
+
+grows : (bytes : List ℕ) (s t : Reading) (b : ℕ) → Holds bytes s → length s.line ≤ 128 → step s b ≡ Ok t → Grows s t b
+unfolding step
+grows bytes s t b h short e =
+    let r = at_line_ok (number_of s.stage (length s.rows)) (take_byte s b) t e in
+    let a = lacks (is_over s.stage) causes.Tail (cond (eqb b 10) (judge s) (lengthen s b)) t r in
+    elim (chosen (eqb b 10) (judge s) (lengthen s b) (Ok t) a.1) [
+      | inl j ↦ grows_judge bytes s t b h short j.0 j.1
+      | inr j ↦ grows_longer s t b j.0 j.1
+    ]
+
+ends_more : (q : Bool) (n : ℕ) → cond q 129 0 + 129 * n ≡ 129 * cond q (n + 1) n
+ends_more true n = omega arith
+ends_more false n = omega arith
+
+record Fits (s t : Reading) (more : List ℕ) : Type 0 where
+  pub short : length t.line ≤ 128
+  pub all : length more + length s.line ≤ 129 * line_ends more + length t.line
+
+fits : (bytes more : List ℕ) (s t : Reading) → Holds bytes s → length s.line ≤ 128 → run s more ≡ Ok t → Fits s t more
+fits bytes [] s t h short e = subst (λ (u : Reading). Fits s u []) (inner s t e) (record { short = short; all = omega arith }) where
+  inner : (s t : Reading) → run s [] ≡ Ok t → s ≡ t
+  inner s t e = cc
+fits bytes (b ∷ more) s t h short e =
+    let a = bind_ok (step s b) (λ u. run u more) t e in
+    let g = grows bytes s a.0 b h short a.1 in
+    let k = fits (bytes ++ (b ∷ [])) more a.0 t (holds_step bytes s a.0 b h a.1) g.short a.2 in
+    let sum = ends_more (eqb b 10) (line_ends more) in
+    let grown = g.more in
+    let all = k.all in
+    record { short = k.short; all = omega (arith, sum, grown, all) }
+
+number_going : (g : Stage) (n : ℕ) → n ≤ 65535 → is_over g ≡ false → number_of g n ≤ 65541
+number_going Magic n le e = omega arith
+number_going Entry n le e = omega arith
+number_going Ceiling n le e = omega arith
+number_going Keyings n le e = omega arith
+number_going Count n le e = omega arith
+number_going Rows n le e = omega arith
+number_going After n le e = absurd cc
+
+number_most : (g : Stage) (n : ℕ) → n ≤ 65535 → number_of g n ≤ 65542
+number_most Magic n le = omega arith
+number_most Entry n le = omega arith
+number_most Ceiling n le = omega arith
+number_most Keyings n le = omega arith
+number_most Count n le = omega arith
+number_most Rows n le = omega arith
+number_most After n le = omega arith
+
+bounded_of : (q : Bool) (bytes : List ℕ) (s : Reading) → is_over s.stage ≡ q → run start bytes ≡ Ok s → length bytes ≤ 65541 * 129
+bounded_of true bytes s over e =
+    let h = holds_run [] bytes start s holds_start e in
+    let f = fits [] bytes start s holds_start (omega arith) e in
+    let n = numbered bytes s e in
+    let most = number_most s.stage (length s.rows) h.sound.few in
+    let none : length s.line ≡ 0 = ap length (h.over over) in
+    let all = f.all in
+    omega (arith, n, most, none, all)
+bounded_of false bytes s going e =
+    let h = holds_run [] bytes start s holds_start e in
+    let f = fits [] bytes start s holds_start (omega arith) e in
+    let n = numbered bytes s e in
+    let most = number_going s.stage (length s.rows) h.sound.few going in
+    let short = f.short in
+    let all = f.all in
+    omega (arith, n, most, short, all)
+
+pub bounded : (bytes : List ℕ) (s : Reading) → run start bytes ≡ Ok s → length bytes ≤ 65541 * 129
+bounded bytes s e = bounded_of (is_over s.stage) bytes s refl e
+
+decided_of : (bytes more : List ℕ) (r : Result Reading Fault) → run start bytes ≡ r → 65541 * 129 < length bytes → reading (bytes ++ more) ≡ reading bytes
+decided_of bytes more (Ok s) e lt = absurd (omega (arith, bounded bytes s e))
+decided_of bytes more (Err f) e lt = ap (λ (r : Result Reading Fault). r >>= ended) (run_append start bytes more ∙ ap (λ (r : Result Reading Fault). r >>= λ t. run t more) e) ∙ sym (ap (λ (r : Result Reading Fault). r >>= ended) e)
+
+pub decided : (bytes more : List ℕ) → 65541 * 129 < length bytes → reading (bytes ++ more) ≡ reading bytes
+decided bytes more lt = decided_of bytes more (run start bytes) refl lt
