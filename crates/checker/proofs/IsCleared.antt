@@ -77,7 +77,7 @@ no_position p xs all = position_from-zero p xs ∙ no_position_from p xs 0 all
 true_or : (a b : Bool) → (a ≡ true) ⊎ (b ≡ true) → (a || b) ≡ true
 true_or true b h = refl
 true_or false true h = refl
-true_or false false h = elim h [ | inl e ↦ cc | inr e ↦ cc ]
+true_or false false h = elim h [ inl e ↦ cc | inr e ↦ cc ]
 
 or_true : (a b : Bool) → b ≡ true → (a || b) ≡ true
 or_true true b h = refl
@@ -91,7 +91,7 @@ module _ (caller : List ℕ) (base : BaseView) (cert : CertView) where
   no_route : (row : Row) (f : Frame) → ((digit page : ℕ) → route_of f digit ≡ Some page → (lists_outside base page ≡ true) ⊎ (is_covered cert.rows (first_frame page) ≡ true)) → route_fault row.id (position (λ r. not (route_covered base cert.rows r)) f.routes) ≡ None
   no_route row f all =
       let none : position (λ r. not (route_covered base cert.rows r)) f.routes ≡ None = no_position (λ r. not (route_covered base cert.rows r)) f.routes (λ k d lt.
-        ap (λ (o : Option ℕ). not (route_covered base cert.rows o)) (get_or_default f.routes k d None lt) ∙ ap not (covers f all (route_of f k) k refl)) in
+      ap (λ (o : Option ℕ). not (route_covered base cert.rows o)) (get_or_default f.routes k d None lt) ∙ ap not (covers f all (route_of f k) k refl)) in
       ap (route_fault row.id) none
 
   kept_next : (a b : Bool) → (a ≡ true → b ≡ true) → not (a && not b) ≡ true
@@ -141,13 +141,13 @@ module _ (caller : List ℕ) (base : BaseView) (cert : CertView) where
   row_kept row g =
       let f = g.frame in
       let frame = none_both (unless (is_open caller f) (cause.ClosedFrame row.id)) _ (no_fault (is_open caller f) (cause.ClosedFrame row.id) g.admitted)
-        (none_both (unless (not (nat_lt cert.ceiling f.price)) (cause.Price row.id)) _ (no_fault _ (cause.Price row.id) (not_less cert.ceiling f.price g.price))
-          (no_fault _ (cause.RankAbove row.id) (not_less cert.keyings row.rank g.most))) in
+      (none_both (unless (not (nat_lt cert.ceiling f.price)) (cause.Price row.id)) _ (no_fault _ (cause.Price row.id) (not_less cert.ceiling f.price g.price))
+      (no_fault _ (cause.RankAbove row.id) (not_less cert.keyings row.rank g.most))) in
       let clean = ((is_exact f.lead f.body).clean row.cursor).1 (g.clean, g.ends) in
       let paint : paint_fault row (paint_of f.lead f.body) ≡ None = ap (paint_fault row) clean ∙ no_fault (same_cursor row.cursor row.cursor) (cause.CursorDiffers row.id) (cursor_same row.cursor) in
       let ways = none_both (route_fault row.id (position (λ r. not (route_covered base cert.rows r)) f.routes)) _ (no_route row f g.routes)
-        (none_both (unless (not (next_lost cert.rows row f)) (cause.NextNotCovered row.id)) _ (no_fault _ (cause.NextNotCovered row.id) (kept_next (offers_next row.id (Some f)) (is_covered cert.rows (following row.id)) g.next))
-          (rank_kept row f (row.rank == 0) g.found refl g.zero g.down)) in
+      (none_both (unless (not (next_lost cert.rows row f)) (cause.NextNotCovered row.id)) _ (no_fault _ (cause.NextNotCovered row.id) (kept_next (offers_next row.id (Some f)) (is_covered cert.rows (following row.id)) g.next))
+      (rank_kept row f (row.rank == 0) g.found refl g.zero g.down)) in
       let whole : found_fault caller base cert row f ≡ None = none_both (frame_fault caller cert row f) _ frame (none_both (paint_fault row (paint_of f.lead f.body)) (ways_fault base cert.rows row f) paint ways) in
       ap (frame_or_none caller base cert row) g.found ∙ whole
 
@@ -159,9 +159,9 @@ module _ (caller : List ℕ) (base : BaseView) (cert : CertView) where
   good_cleared policy g =
       let same : (cert.entry == base.entry) ≡ true = ap (λ (n : ℕ). n == base.entry) g.entry ∙ same_number base.entry in
       let head : head_fault base policy cert ≡ None = none_both (unless (cert.entry == base.entry) cause.EntryDiffers) _ (no_fault _ cause.EntryDiffers same)
-        (none_both (unless (not (nat_lt policy.ceiling cert.ceiling)) cause.CeilingAbove) _ (no_fault _ cause.CeilingAbove (not_less policy.ceiling cert.ceiling g.ceiling))
-          (none_both (unless (not (nat_lt policy.keyings cert.keyings)) cause.KeyingsAbove) _ (no_fault _ cause.KeyingsAbove (not_less policy.keyings cert.keyings g.keyings))
-            (no_fault _ cause.EntryNotCovered g.covered))) in
+      (none_both (unless (not (nat_lt policy.ceiling cert.ceiling)) cause.CeilingAbove) _ (no_fault _ cause.CeilingAbove (not_less policy.ceiling cert.ceiling g.ceiling))
+      (none_both (unless (not (nat_lt policy.keyings cert.keyings)) cause.KeyingsAbove) _ (no_fault _ cause.KeyingsAbove (not_less policy.keyings cert.keyings g.keyings))
+      (no_fault _ cause.EntryNotCovered g.covered))) in
       ap verdict_of (none_both (head_fault base policy cert) (rows_fault caller base cert cert.rows) head (rows_kept cert.rows g.rows))
 
 -- an answer that is the verdict is Cleared exactly where the certificate is good

@@ -31,10 +31,12 @@ pub fn base_of(alloc: Global, text: &[u8]) -> Result<Base, InputFault>
 {
     match base_read(alloc, text) {
         Ok(base) => Ok(base),
-        Err(BaseFault {
-            cause: Cause::Memory,
-            ..
-        }) => Err(InputFault::Memory),
+        Err(
+            BaseFault {
+                cause: Cause::Memory,
+                ..
+            },
+        ) => Err(InputFault::Memory),
         Err(fault) => Err(InputFault::Base(fault)),
     }
 }

@@ -25,3 +25,6 @@ pub use judge::check;
 pub use laws::{cleared_is_good, good_is_safe, rows_are_clean};
 pub use policy::Policy;
 pub use verdict::{Cause, Verdict};
+
+#[cfg(test)]
+mod tests;

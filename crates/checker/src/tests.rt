@@ -1,0 +1,172 @@
+//! One base of three frames, its certificate, and one change at a time. Verdicts come from the list of conditions.
+
+use crate::{Cause, InputFault, Policy, Verdict, check, check_bytes};
+use base_text::base_read;
+use cert_text::{LineCause, ReadFault, cert_read};
+use frame_records::Pence;
+use page_ids::{Digit, FrameId};
+use std::alloc::Global;
+use std::test::Fail;
+
+const DEMO: &str =
+    "entry = 123\noutside = [0]\n[[frame]]\nid = \"123a\"\nrows = [\"WELCOME\"]\nroutes = { 0 = 0, 1 = 1231 }\n[[frame]]\nid = \"1231a\"\nprice = 5\nnext = true\nrows = [\"PART ONE\"]\nroutes = { 0 = 123 }\n[[frame]]\nid = \"1231b\"\nlead = \"keep\"\nbody = \"\\u001E\\u000APART TWO\"\nroutes = { 0 = 123 }\n";
+
+const CERT: &str =
+    "PBC1\nentry 123\nceiling 5\nkeyings 1\nrows 3\n123a 0 s80\n1231a 1 s80\n1231b 1 s48\nend\n";
+
+fn policy(ceiling: u16, keyings: u16) -> Result<Policy, Fail> {
+    let ceiling = Pence::new(ceiling).ok_or("ceiling")?;
+    Ok(Policy { ceiling, keyings })
+}
+
+// The text with its first part that reads so replaced.
+fn changed(alloc: Global, text: &str, old: &str, new: &str) -> Result<String, Fail> {
+    let at = text.find(old).ok_or("no such part")?;
+    let mut out = String::new(alloc);
+    for (i, byte) in text.bytes().enumerate() {
+        if i == at {
+            out.push_str(new)?;
+        }
+        if i < at || i - at >= old.len() {
+            out.push(char::from(byte))?;
+        }
+    }
+    Ok(out)
+}
+
+fn verdict(alloc: Global, base: &str, cert: &str, policy: &Policy) -> Result<Verdict, InputFault> {
+    check_bytes(alloc, base.as_bytes(), cert.as_bytes(), policy)
+}
+
+#[test]
+fn the_policy_bounds_what_is_certified(rt: HostRuntime) -> Result<(), Fail> {
+    let alloc = rt.alloc();
+    assert_eq!(rt;
+        verdict(alloc, DEMO, CERT, &policy(5, 1)?),
+        Ok(Verdict::Cleared)
+    );
+    assert_eq!(rt;
+        verdict(alloc, DEMO, CERT, &policy(4, 1)?),
+        Ok(Verdict::Refused(Cause::CeilingAbove))
+    );
+    assert_eq!(rt;
+        verdict(alloc, DEMO, CERT, &policy(5, 0)?),
+        Ok(Verdict::Refused(Cause::KeyingsAbove))
+    );
+    Ok(())
+}
+
+#[test]
+fn one_change_of_the_certificate_is_refused(rt: HostRuntime) -> Result<(), Fail> {
+    let alloc = rt.alloc();
+    let a = FrameId::read("1231a")?;
+    let c = FrameId::read("1231c")?;
+    let rows: [(&str, &str, Cause); 5] = [
+        ("entry 123", "entry 124", Cause::EntryDiffers),
+        ("ceiling 5", "ceiling 4", Cause::Price(a)),
+        ("keyings 1", "keyings 0", Cause::RankAbove(a)),
+        (
+            "123a 0 s80",
+            "123a 0 s81",
+            Cause::CursorDiffers(FrameId::read("123a")?),
+        ),
+        (
+            "rows 3\n123a 0 s80\n1231a 1 s80\n1231b 1 s48\n",
+            "rows 4\n123a 0 s80\n1231a 1 s80\n1231b 1 s48\n1231c 1 s80\n",
+            Cause::NoFrame(c),
+        ),
+    ];
+    for (old, new, cause) in rows {
+        let cert = changed(alloc, CERT, old, new)?;
+        assert_eq!(rt;
+            verdict(alloc, DEMO, cert.as_str(), &policy(5, 1)?),
+            Ok(Verdict::Refused(cause)),
+            "{new}"
+        );
+    }
+    Ok(())
+}
+
+#[test]
+fn one_change_of_the_base_is_refused(rt: HostRuntime) -> Result<(), Fail> {
+    let alloc = rt.alloc();
+    let b = FrameId::read("1231b")?;
+    let nine = Digit::new(9).ok_or("nine")?;
+    let last = "PART TWO\"\nroutes = { 0 = 123 }";
+    let rows: [(&str, &str, Cause); 5] = [
+        (
+            "lead = \"keep\"",
+            "lead = \"keep\"\ngroup = 7",
+            Cause::ClosedFrame(b),
+        ),
+        ("\\u001E\\u000APART TWO", "A", Cause::Touches(b, 0)),
+        (
+            last,
+            "PART TWO\"\nroutes = { 0 = 123, 9 = 555 }",
+            Cause::RouteNotCovered(b, nine),
+        ),
+        (last, "PART TWO\"\nroutes = { 0 = 0 }", Cause::NoWayDown(b)),
+        (
+            last,
+            "PART TWO\"\nroutes = { 0 = 1231 }",
+            Cause::NoWayDown(b),
+        ),
+    ];
+    for (old, new, cause) in rows {
+        let base = changed(alloc, DEMO, old, new)?;
+        assert_eq!(rt;
+            verdict(alloc, base.as_str(), CERT, &policy(5, 1)?),
+            Ok(Verdict::Refused(cause)),
+            "{new}"
+        );
+    }
+    Ok(())
+}
+
+#[test]
+fn what_is_not_covered_is_refused(rt: HostRuntime) -> Result<(), Fail> {
+    let alloc = rt.alloc();
+    let a = FrameId::read("1231a")?;
+    let empty = "PBC1\nentry 123\nceiling 0\nkeyings 0\nrows 0\nend\n";
+    assert_eq!(rt;
+        verdict(alloc, DEMO, empty, &policy(0, 0)?),
+        Ok(Verdict::Refused(Cause::EntryNotCovered))
+    );
+    let short = "PBC1\nentry 123\nceiling 5\nkeyings 1\nrows 2\n123a 0 s80\n1231a 1 s80\nend\n";
+    assert_eq!(rt;
+        verdict(alloc, DEMO, short, &policy(5, 1)?),
+        Ok(Verdict::Refused(Cause::NextNotCovered(a)))
+    );
+    let zero =
+        "PBC1\nentry 123\nceiling 5\nkeyings 0\nrows 3\n123a 0 s80\n1231a 0 s80\n1231b 0 s48\nend\n";
+    assert_eq!(rt;
+        verdict(alloc, DEMO, zero, &policy(5, 0)?),
+        Ok(Verdict::Refused(Cause::RankZero(a)))
+    );
+    Ok(())
+}
+
+#[test]
+fn the_base_text_is_read_first(rt: HostRuntime) -> Result<(), Fail> {
+    let alloc = rt.alloc();
+    let none = verdict(alloc, "", "PBC3\n", &policy(5, 1)?);
+    assert!(rt; matches!(none, Err(InputFault::Base(_))));
+    let line = ReadFault::Line(1, LineCause::Magic);
+    assert_eq!(rt;
+        verdict(alloc, DEMO, "PBC3\n", &policy(5, 1)?),
+        Err(InputFault::Cert(line))
+    );
+    Ok(())
+}
+
+#[test]
+fn a_base_and_a_certificate_are_checked_as_they_are(rt: HostRuntime) -> Result<(), Fail> {
+    let Ok(base) = base_read(rt.alloc(), DEMO.as_bytes()) else {
+        return Err(Fail::from("base"));
+    };
+    let Ok(cert) = cert_read(rt.alloc(), CERT.as_bytes()) else {
+        return Err(Fail::from("certificate"));
+    };
+    assert_eq!(rt; check(&base, &policy(5, 1)?, &cert), Verdict::Cleared);
+    Ok(())
+}
