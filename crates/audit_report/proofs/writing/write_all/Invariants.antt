@@ -1,0 +1,13 @@
+use Rattle.std.proofs.Common.{◌≡◌, ◌-◌, ◌≤◌, false, length, take}
+use Rattle.std.specs.Io.KnownBytes.{Appends}
+use Rattle.audit_report.proofs.writing.write_all.Given as goal
+
+abbrev pub invariant-loop-wrote : goal.invariant-loop-wrote
+invariant-loop-wrote g l = record {
+  unbroken : g.S.Sink.has_failed l.sink ≡ false;
+  within : l.wrote ≤ length l.bytes;
+  taken : Appends (g.S.Sink.written l.initial.sink) (g.S.Sink.written l.sink) (take l.wrote l.bytes);
+}
+
+abbrev pub decreases-loop-wrote : goal.decreases-loop-wrote
+decreases-loop-wrote g l = length l.bytes - l.wrote

@@ -1,0 +1,57 @@
+ghost use Rattle.std.specs.Prelude.{◌≡◌, false};
+
+use crate::device::{Broken, Sink};
+use std::io::Write;
+
+/// A writer of std as a sink. A write that takes none of some bytes is an error here.
+#[derive(Drop)]
+pub struct IntoWrite<W> {
+    inner: W,
+    failed: bool,
+}
+
+impl<W: Write> IntoWrite<W> {
+    /// The sink of what the writer takes.
+    pub fn new(inner: W) -> IntoWrite<W>
+        ensures written { ⟦<IntoWrite<W> as Sink>⟧.written result ≡ W.contents inner }
+        ensures flag { ⟦<IntoWrite<W> as Sink>⟧.has_failed result ≡ false }
+    {
+        IntoWrite {
+            inner,
+            failed: false,
+        }
+    }
+}
+
+impl<W: Write> Sink for IntoWrite<W> {
+    ghost written = { λ s. W.contents s.inner };
+
+    ghost has_failed = { λ s. s.failed };
+
+    fn write(&mut self, bytes: &[u8]) -> Result<usize, Broken> {
+        match self.inner.write(bytes) {
+            Ok(count) if count > 0 || bytes.is_empty() => Ok(count),
+            _ => {
+                self.failed = true;
+                Err(Broken)
+            }
+        }
+    }
+
+    fn flush(&mut self) -> Result<(), Broken> {
+        match self.inner.flush() {
+            Ok(()) => Ok(()),
+            Err(_) => {
+                self.failed = true;
+                Err(Broken)
+            }
+        }
+    }
+
+    fn failed(&self) -> bool {
+        self.failed
+    }
+}
+
+#[cfg(test)]
+mod tests;

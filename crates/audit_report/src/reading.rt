@@ -1,0 +1,72 @@
+ghost use Rattle.std.specs.Prelude.{◌≡◌, ◌<◌, false, IfOk, OnOk, IfErr, IfSome, take};
+ghost use Rattle.audit_report.specs.Devices.{IsPieceRead, IsWholeRead, IsSourceFault};
+
+use crate::device::Source;
+use std::alloc::Global;
+use thiserror::Error;
+
+/// Why a source wasn't read whole.
+#[derive(Debug, Clone, Copy, PartialEq, Eq, Error)]
+pub enum SourceFault {
+    /// A read answered an error.
+    #[error("read failed")]
+    Broken,
+    /// A growth was refused.
+    #[error("memory refused")]
+    Memory,
+}
+
+// How many bytes are asked for at once.
+const PIECE: usize = 4_096;
+
+// Reads once, at most `most` bytes, and appends them; their number, 0 at the end.
+fn read_piece<S: Source>(
+    source: &mut S,
+    bytes: &mut Vec<u8>,
+    most: usize,
+) -> Result<usize, SourceFault>
+    requires open { S.has_failed source.old ≡ false }
+    requires some { 0 < most }
+    ensures piece { IfOk result (IsPieceRead most (S.left source.old) (S.left source.new) bytes.old.items bytes.new.items) }
+    ensures fault { IfErr result (λ fault. IsSourceFault fault (S.has_failed source.new)) }
+    ensures unbroken { OnOk result (S.has_failed source.new ≡ false) }
+{
+    let mut piece = [0; PIECE];
+    let room = most.min(PIECE);
+    let count = source
+        .read(&mut piece[..room])
+        .map_err(|_| SourceFault::Broken)?;
+    bytes
+        .extend_from_slice(&piece[..count])
+        .map_err(|_| SourceFault::Memory)?;
+    Ok(count)
+}
+
+/// What a source has left, up to a limit: fewer bytes than the limit are all, and then the source answered its end.
+///
+/// Reads in pieces of at most 4,096 bytes and never asks for more than the limit; short reads are followed by further ones.
+/// After `Memory` the bytes that were read are lost.
+pub fn read_whole<S: Source>(
+    alloc: Global,
+    source: &mut S,
+    limit: usize,
+) -> Result<Vec<u8>, SourceFault>
+    requires { S.has_failed source.old ≡ false }
+    ensures whole { IfOk result (λ bytes. IsWholeRead limit (S.left source.old) (S.left source.new) bytes.items) }
+    ensures known { IfOk result (λ bytes. IfSome (S.left source.old) (λ xs. bytes.items ≡ take limit xs)) }
+    ensures unbroken { OnOk result (S.has_failed source.new ≡ false) }
+    ensures fault { IfErr result (λ fault. IsSourceFault fault (S.has_failed source.new)) }
+{
+    let mut bytes = Vec::new(alloc);
+    while bytes.len() < limit {
+        let most = limit - bytes.len();
+        let count = read_piece(source, &mut bytes, most)?;
+        if count == 0 {
+            break;
+        }
+    }
+    Ok(bytes)
+}
+
+#[cfg(test)]
+mod tests;

@@ -1,0 +1,52 @@
+ghost use Rattle.std.specs.Prelude.{◌≡◌, ◌≤◌, true, false, OnOk, IfErr, length, take};
+ghost use Rattle.std.specs.Io.KnownBytes.{Appends};
+ghost use Rattle.audit_report.specs.Devices.{WroteWhole, WrotePart};
+
+use crate::device::Sink;
+use thiserror::Error;
+
+/// A sink failed.
+#[derive(Debug, Clone, Copy, PartialEq, Eq, Error)]
+#[error("write failed after {wrote} bytes")]
+pub struct WriteFault {
+    /// How many of the bytes it had taken.
+    pub wrote: u64,
+}
+
+// Hands on all the bytes, without a flush.
+fn write_all<S: Sink>(sink: &mut S, bytes: &[u8]) -> Result<(), WriteFault>
+    requires { S.has_failed sink.old ≡ false }
+    ensures whole { OnOk result (WroteWhole (S.written sink.old) (S.written sink.new) (S.has_failed sink.new) bytes.now) }
+    ensures part { IfErr result (λ fault. WrotePart (S.written sink.old) (S.written sink.new) (S.has_failed sink.new) bytes.now fault.wrote) }
+{
+    let mut wrote = 0;
+    while wrote < bytes.len() {
+        match sink.write(&bytes[wrote..]) {
+            Ok(count) => wrote += count,
+            Err(_) => {
+                return Err(WriteFault {
+                    wrote: wrote as u64,
+                });
+            }
+        }
+    }
+    Ok(())
+}
+
+/// Writes all the bytes, then flushes once. It ends at the sink's first error and fails for no other cause.
+pub fn write_whole<S: Sink>(sink: &mut S, bytes: &[u8]) -> Result<(), WriteFault>
+    requires { S.has_failed sink.old ≡ false }
+    ensures whole { OnOk result (WroteWhole (S.written sink.old) (S.written sink.new) (S.has_failed sink.new) bytes.now) }
+    ensures part { IfErr result (λ fault. WrotePart (S.written sink.old) (S.written sink.new) (S.has_failed sink.new) bytes.now fault.wrote) }
+{
+    write_all(sink, bytes)?;
+    match sink.flush() {
+        Ok(()) => Ok(()),
+        Err(_) => Err(WriteFault {
+            wrote: bytes.len() as u64,
+        }),
+    }
+}
+
+#[cfg(test)]
+mod tests;
