@@ -1,4 +1,4 @@
-ghost use Rattle.std.specs.Prelude.{None};
+ghost use Rattle.std.specs.Prelude.{◌≡◌, false, None};
 
 use crate::{Broken, Source, SourceFault, read_whole};
 use std::test::Fail;
@@ -13,7 +13,9 @@ struct Fake<'a> {
     failed: bool,
 }
 
-fn source_of(bytes: &[u8], step: usize, breaks: bool) -> Fake<'_> {
+fn source_of(bytes: &[u8], step: usize, breaks: bool) -> Fake<'_>
+    ensures { result.failed ≡ false }
+{
     Fake {
         bytes,
         step,

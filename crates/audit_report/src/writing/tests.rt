@@ -1,4 +1,4 @@
-ghost use Rattle.std.specs.Prelude.{None};
+ghost use Rattle.std.specs.Prelude.{◌≡◌, false, None};
 
 use crate::{Broken, Sink, WriteFault, write_whole};
 use std::alloc::Global;
@@ -15,7 +15,9 @@ struct Fake {
 }
 
 impl Fake {
-    fn new(alloc: Global, step: usize, room: usize) -> Fake {
+    fn new(alloc: Global, step: usize, room: usize) -> Fake
+        ensures { result.failed ≡ false }
+    {
         Fake {
             step,
             room,

@@ -1,4 +1,4 @@
-use Rattle.std.proofs.Common.{arith, rules, length, length-take, length-drop, drop, take, ◌-◌}
+use Rattle.std.proofs.Common.{rules}
 use Rattle.std.proofs.KnownBytes.{Appends-trans}
 use Rattle.audit_report.proofs.Parts.{first_and_more}
 use Rattle.audit_report.proofs.writing.write_all.Goals as goal

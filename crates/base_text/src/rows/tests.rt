@@ -1,0 +1,49 @@
+use crate::{RowCells, body_of_rows};
+use std::test::Fail;
+
+#[test]
+fn a_row_has_at_most_40_codes_of_two_ranges(rt: HostRuntime) {
+    let rows: [&[u8]; 6] = [
+        b"",
+        b"WELCOME",
+        &[0x20],
+        &[0x7F, 0x80, 0x9F],
+        &[0x41; 39],
+        &[0x41; 40],
+    ];
+    for codes in rows {
+        match RowCells::new(codes) {
+            Some(row) => assert!(rt; row.as_slice() == codes, "codes {codes:?}"),
+            None => assert!(rt; false, "codes {codes:?}"),
+        }
+    }
+    let others: [&[u8]; 5] = [&[0x1F], &[0xA0], &[0xFF], &[0x41, 0x0A, 0x41], &[0x41; 41]];
+    for codes in others {
+        assert!(rt; RowCells::new(codes).is_none(), "codes {codes:?}");
+    }
+}
+
+#[test]
+fn rows_follow_one_another_with_an_end_where_they_are_not_full(
+    rt: HostRuntime,
+) -> Result<(), Fail> {
+    let none = body_of_rows(rt.alloc(), &[])?;
+    assert!(rt; none.as_slice() == [0x1E, 0x0A].as_slice());
+
+    let welcome = RowCells::new(b"WELCOME").ok_or("a row")?;
+    let body = body_of_rows(rt.alloc(), &[welcome])?;
+    assert!(rt; body.as_slice() == b"\x1E\x0AWELCOME\x0D\x0A".as_slice());
+    Ok(())
+}
+
+#[test]
+fn a_full_row_has_no_end(rt: HostRuntime) -> Result<(), Fail> {
+    let full = RowCells::new(&[0x42; 40]).ok_or("a row")?;
+    let empty = RowCells::new(b"").ok_or("a row")?;
+    let short = RowCells::new(b"C").ok_or("a row")?;
+    let body = body_of_rows(rt.alloc(), &[full, empty, short])?;
+    assert_eq!(rt; body.as_slice().len(), 2 + 40 + 2 + 3);
+    assert!(rt; body.as_slice()[2..42] == [0x42; 40]);
+    assert!(rt; body.as_slice()[42..] == b"\x0D\x0AC\x0D\x0A"[..]);
+    Ok(())
+}
