@@ -8,7 +8,7 @@ use Rattle.frame_records.specs.declared.base.Sought.{Sought}
 use Rattle.frame_records.specs.declared.base.Sought.TheVariants.{Found, Closed, Missing}
 use Rattle.frame_records.specs.BaseView.{BaseView, frame_at}
 use Rattle.frame_records.specs.Seek.{seek, sought_of}
-use Rattle.finder.specs.Discovery.{Origin, IsOrder, after_nodes, Path}
+use Rattle.finder.specs.Discovery.{Origin, IsOrder, after_node, after_nodes, Path}
 use Rattle.finder.specs.Walks.{Leads, Walk, lead, key_of_frame, open_only, found_only, sought_by, alone, listing}
 use Rattle.std.specs.Prelude.{find}
 use Rattle.std.specs.Map.{keys_of}
@@ -18,12 +18,12 @@ use Rattle.finder.proofs.Order.{order_nodes, some_eq, fst_eq, row_le}
 use Rattle.finder.proofs.Fits.{In, Apart, fits}
 use Rattle.finder.proofs.Reach.{reached_if_listed, listed_if_reached}
 
-in_place : {A X : Type 0} (es : List (A × X)) (x : A) → In x (keys_of es) → (j : ℕ) × (o : X) × (slice_get es j ≡ Some (x, o))
+pub in_place : {A X : Type 0} (es : List (A × X)) (x : A) → In x (keys_of es) → (j : ℕ) × (o : X) × (slice_get es j ≡ Some (x, o))
 in_place [] x i = absurd i
 in_place {A} {X} (e ∷ es) x (inl same) = (0, e.1, ap (λ (y : A). Some (y, e.1)) (sym same))
 in_place (e ∷ es) x (inr i) = let p = in_place es x i in (suc p.0, p.1, p.2)
 
-apart_of : {A X : Type 0} (es : List (A × X)) → ((i j : ℕ) (g : A) (o p : X) → slice_get es i ≡ Some (g, o) → slice_get es j ≡ Some (g, p) → i ≡ j) → Apart (keys_of es)
+pub apart_of : {A X : Type 0} (es : List (A × X)) → ((i j : ℕ) (g : A) (o p : X) → slice_get es i ≡ Some (g, o) → slice_get es j ≡ Some (g, p) → i ≡ j) → Apart (keys_of es)
 apart_of [] once = tt
 apart_of (e ∷ es) once =
     let alone : In e.0 (keys_of es) → ⊥ = λ i. let p = in_place es e.0 i in absurd (omega (arith, once 0 (suc p.0) e.0 e.1 p.1 refl p.2)) in
@@ -103,3 +103,21 @@ module _ (caller : List ℕ) (base : BaseView) where
       reached = λ g r. listed_if_reached 11 (lead caller base) (first_frame base.entry) (listing caller base) (length base.frames * 11) order (row_le 11 (length (listing caller base)) (length base.frames) few) r.steps g (path_of (first_frame base.entry) g r.steps r.walk);
       listed = λ g l. let p = reached_if_listed 11 (lead caller base) (first_frame base.entry) (listing caller base) (length base.frames * 11) order g l in record { price = price; steps = p.0; entry = found; walk = walk_of (first_frame base.entry) g p.0 p.1 };
     }
+
+after_none : (next : Id → ℕ → Option Id) (n : ℕ) → after_nodes id_eq 11 next [] n ≡ []
+after_none next zero = refl
+after_none next (suc n) = ap (λ (es : List (Id × Option Origin)). after_node id_eq 11 next es n (slice_get es n)) (after_none next n)
+
+module _ (caller : List ℕ) (base : BaseView) where
+  few_by : (r : Sought) → seek caller base (first_frame base.entry) ≡ r → length (listing caller base) ≤ length base.frames
+  few_by (Found price) e = (discovery caller base price e).few
+  few_by Closed e =
+      let none : listing caller base ≡ [] = ap (λ (r : Sought). after_nodes id_eq 11 (lead caller base) (alone (found_only (first_frame base.entry) r)) (length base.frames)) e ∙ after_none (lead caller base) (length base.frames) in
+      omega (arith, ap length none)
+  few_by Missing e =
+      let none : listing caller base ≡ [] = ap (λ (r : Sought). after_nodes id_eq 11 (lead caller base) (alone (found_only (first_frame base.entry) r)) (length base.frames)) e ∙ after_none (lead caller base) (length base.frames) in
+      omega (arith, ap length none)
+
+  -- no more frames are listed than there are
+  pub listing_few : length (listing caller base) ≤ length base.frames
+  listing_few = few_by (seek caller base (first_frame base.entry)) refl

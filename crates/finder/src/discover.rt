@@ -151,7 +151,8 @@ fn start(alloc: Global, base: &Base) -> Result<Listing, AllocError>
 
 // The frames that a caller can reach, in the order of discovery.
 pub fn discover(alloc: Global, base: &Base) -> Result<Listing, AllocError>
-    ensures { IfOk result (λ m. m.entries ≡ listing [] base.now) }
+    ensures listing { IfOk result (λ m. m.entries ≡ listing [] base.now) }
+    ensures few { IfOk result (λ m. length m.entries ≤ 65535) }
 {
     let mut found = start(alloc, base)?;
     for index in 0..frame_count(base) {

@@ -2,6 +2,9 @@
 #![tactic(auto)]
 
 mod discover;
+mod found;
 mod laws;
+mod ranks;
 
+pub use found::{Discovered, Found, find};
 pub use laws::listing_is_discovery;
