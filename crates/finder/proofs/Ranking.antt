@@ -53,7 +53,7 @@ module _ (next : ℕ → ℕ → Option ℕ) (n : ℕ) where
       omega (arith, fits (keys_of es) (down n) (apart_of es (ordered turns).once) inside, length-map es (λ (e : ℕ × Option Origin). e.0), down_length n)
 
 -- the depths of the first entries stay
-depths_length : (es : List (ℕ × Option Origin)) (i : ℕ) → length (depths_upto es i) ≡ i
+pub depths_length : (es : List (ℕ × Option Origin)) (i : ℕ) → length (depths_upto es i) ≡ i
 depths_length es zero = refl
 depths_length es (suc i) = omega (arith, depths_length es i, length-append (depths_upto es i) (depth_next (depths_upto es i) (slice_get es i) ∷ []))
 

@@ -7,4 +7,4 @@ mod laws;
 mod ranks;
 
 pub use found::{Discovered, Found, find};
-pub use laws::listing_is_discovery;
+pub use laws::{listing_is_discovery, ranks_are_distances};
