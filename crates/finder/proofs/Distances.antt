@@ -174,11 +174,11 @@ module _ (caller : List ℕ) (base : BaseView) (price : ℕ) (found : seek calle
   is_rank i f o at None e = λ m w.
       let order = ordered nx n n in
       let unlisted : IsListed R i → ⊥ = λ l.
-        let place = placed nat_eq same_of self_of R i l.0 l.1 l.2 in
-        let there = stands nat_eq same_of self_of R i place.0 place.1 in
-        let some = some_get (depths_upto R (length R)) place.0 (omega (arith, slice_get_within R place.0 (i, there.0) there.1, depths_length R (length R))) in
-        let both : None ≡ Some some.0 = sym e ∙ ap (option_and_then (slice_get (depths_upto R (length R)))) place.1 ∙ some.1 in
-        absurd cc
+      let place = placed nat_eq same_of self_of R i l.0 l.1 l.2 in
+      let there = stands nat_eq same_of self_of R i place.0 place.1 in
+      let some = some_get (depths_upto R (length R)) place.0 (omega (arith, slice_get_within R place.0 (i, there.0) there.1, depths_length R (length R))) in
+      let both : None ≡ Some some.0 = sym e ∙ ap (option_and_then (slice_get (depths_upto R (length R)))) place.1 ∙ some.1 in
+      absurd cc
       in
       rank_none 11 (length steps) nx (back steps) turned turned_back 0 R (n * length steps) order all i unlisted m (to_entry m i f o at w)
 

@@ -131,3 +131,6 @@ pub fn find(alloc: Global, base: &Base) -> Result<Found, AllocError>
     let frames = frames_of(alloc, &listed, &ranks)?;
     Ok(Found { frames })
 }
+
+#[cfg(test)]
+mod tests;
