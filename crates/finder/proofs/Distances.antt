@@ -26,6 +26,7 @@ use Rattle.finder.proofs.Order.{some_eq, fst_eq, below_row, row_le}
 use Rattle.finder.proofs.Listing.{discovery, lead_of}
 use Rattle.finder.proofs.Places.{stands, placed}
 use Rattle.finder.proofs.Edges.{same_of, self_of, nodes_there, nodes_in, edge_back, back_edge}
+use Rattle.finder.proofs.Chains.{get_there}
 use Rattle.finder.proofs.Ranking.{ordered, few, deep, depth_of, depths_length}
 use Rattle.finder.proofs.Back.{rank_walk, rank_least, rank_none}
 
@@ -65,6 +66,21 @@ step_by base es i key j (Some x) at e =
 
 step_in : (base : BaseView) (es : List Entry) (i key j : ℕ) → step base es i key ≡ Some j → (f : Id) × Stands es i f × (g : Id) × (sought_at base f key ≡ Some g) × (index_of es g ≡ Some j)
 step_in base es i key j e = step_by base es i key j (slice_get es i) refl e
+
+-- steps lead to listed indices
+pub edges_within : (base : BaseView) (es : List Entry) (e : ℕ) → e < length (edges_nodes (step base es) (length es)) → (get_or (edges_nodes (step base es) (length es)) e (0, 0)).1 < length es
+edges_within base es e lt =
+    let edges = edges_nodes (step base es) (length es) in
+    let edge = get_or edges e (0, 0) in
+    let way = (nodes_in (step base es) (length es) e edge (get_there edges e lt)).1 in
+    let s = step_in base es edge.0 way.0 edge.1 way.2 in
+    let at = stands id_eq id_eq_same id_eq_refl es s.2 edge.1 s.4 in
+    slice_get_within es edge.1 (s.2, at.0) at.1
+
+pub within_same : (edges same : List (ℕ × ℕ)) (n m : ℕ) → same ≡ edges → m ≡ n → ((e : ℕ) → e < length edges → (get_or edges e (0, 0)).1 < n) → (e : ℕ) → e < length same → (get_or same e (0, 0)).1 < m
+within_same edges same n m is turns inside e lt =
+    let there : e < length edges = omega (arith, lt, ap length is) in
+    omega (arith, inside e there, turns, ap (λ (x : List (ℕ × ℕ)). (get_or x e (0, 0)).1) is)
 
 module _ (caller : List ℕ) (base : BaseView) (price : ℕ) (found : seek caller base (first_frame base.entry) ≡ Found price) where
   abbrev entry : Id

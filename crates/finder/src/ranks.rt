@@ -1,9 +1,10 @@
 ghost use Rattle.std.specs.Prelude.{◌≡◌, ℕ, ◌+◌, get_or, ◌^◌, ◌<◌, ◌≤◌, ◌*◌, [], ◌∷◌, ◌++◌, Some, None, OnOk, IfOk, IfSome, slice_get, length, nat_eq, option_map};
 ghost use Rattle.frame_records.specs.BaseView.{frame_at};
 ghost use Rattle.finder.specs.Discovery.{try_lead, add_new, after_keys, after_node};
-ghost use Rattle.finder.specs.Edges.{step, edges_keys, edges_nodes, add_edge, sought_at, index_of, back, ranking, depths_upto, rank_in, depth_from, AreRanks};
+ghost use Rattle.finder.specs.Edges.{step, edges_keys, edges_nodes, add_edge, sought_at, index_of, back, ranking, depths_upto, rank_in, depth_from, AreRanks, AreLinks};
 
 use crate::discover::{Listing, id_at, sought_of};
+use crate::links::Links;
 use frame_records::{Base, Frame};
 use indexmap::IndexMap;
 use page_ids::FrameId;
@@ -98,18 +99,33 @@ fn try_edge(
     }
 }
 
-// Goes back along each step that leads to the index.
+// The link at an index; none past the end.
+fn link_at(links: &[Option<u32>], index: u32) -> Option<u32>
+    ensures { result ≡ get_or links.now index None }
+{
+    match links.get(index as usize) {
+        Some(link) => *link,
+        None => None,
+    }
+}
+
+// Goes back along each step that leads to the index, from the last to the first.
 fn try_edges(
     edges: &[(u32, u32)],
+    links: &Links,
     ranking: &mut Ranking,
     place: u32,
     node: u32,
 ) -> Result<(), AllocError>
-    requires { length edges.now < 2 ^ 32 }
+    requires few { length edges.now < 2 ^ 32 }
+    requires links { AreLinks edges.now (length edges.now) links.now.last.items links.now.before.items }
     ensures { OnOk result (ranking.new.entries ≡ after_keys nat_eq (back edges.now) ranking.old.entries place node (length edges.now)) }
 {
-    for nth in 0..edges.len() as u32 {
+    let mut at = link_at(links.last.as_slice(), node);
+    'chain: while let Some(e) = at {
+        let nth = (edges.len() - 1) as u32 - e;
         try_edge(edges, ranking, place, node, nth)?;
+        at = link_at(links.before.as_slice(), e);
     }
     Ok(())
 }
@@ -124,14 +140,21 @@ fn node_at(ranking: &Ranking, place: u32) -> Option<u32>
     }
 }
 
-fn try_place(edges: &[(u32, u32)], ranking: &mut Ranking, place: u32) -> Result<(), AllocError>
-    requires { length edges.now < 2 ^ 32 }
+// Goes back along each step that leads to the index at a place; past the end nothing is left to try.
+fn try_place(
+    edges: &[(u32, u32)],
+    links: &Links,
+    ranking: &mut Ranking,
+    place: u32,
+) -> Result<(), AllocError>
+    requires few { length edges.now < 2 ^ 32 }
+    requires links { AreLinks edges.now (length edges.now) links.now.last.items links.now.before.items }
     ensures { OnOk result (ranking.new.entries ≡ after_node nat_eq (length edges.now) (back edges.now) ranking.old.entries place (slice_get ranking.old.entries place)) }
 {
     let Some(node) = node_at(ranking, place) else {
         return Ok(());
     };
-    try_edges(edges, ranking, place, node)
+    try_edges(edges, links, ranking, place, node)
 }
 
 fn first_node(alloc: Global) -> Result<Ranking, AllocError>
@@ -146,12 +169,14 @@ fn first_node(alloc: Global) -> Result<Ranking, AllocError>
 
 // The search along the steps turned round, in as many turns as there are frames.
 fn ranking_of(alloc: Global, edges: &[(u32, u32)], turns: u32) -> Result<Ranking, AllocError>
-    requires { length edges.now < 2 ^ 32 }
+    requires few { length edges.now < 2 ^ 32 }
+    requires within { (e : ℕ) → e < length edges.now → (get_or edges.now e (0, 0)).1 < turns }
     ensures { IfOk result (λ m. m.entries ≡ ranking edges.now turns) }
 {
+    let links = Links::of(alloc, edges, turns)?;
     let mut ranking = first_node(alloc)?;
     for place in 0..turns {
-        try_place(edges, &mut ranking, place)?;
+        try_place(edges, &links, &mut ranking, place)?;
     }
     Ok(ranking)
 }
