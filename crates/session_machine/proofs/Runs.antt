@@ -1,12 +1,11 @@
 -- Keys in turn.
-use Rattle.std.proofs.Common.{◌≡◌, ℕ, ◌≤◌, List, [], ◌∷◌, ◌++◌, length, refl, ap, arith}
+use Rattle.std.proofs.Common.{◌≡◌, ℕ, List, [], ◌∷◌, ◌++◌, refl, ap}
 use Rattle.std.specs.List.{AllByRecursion}
 use Rattle.page_ids.specs.declared.key.Key.{Key}
-use Rattle.page_ids.specs.declared.key.Key.TheVariants.{Route, Next, Prev, Reprint, Update}
 use Rattle.frame_records.specs.BaseView.{BaseView}
 use Rattle.session_machine.specs.declared.reply.Reply.{Reply}
 use Rattle.session_machine.specs.declared.reply.Reply.TheVariants.{NotOffered}
-use Rattle.session_machine.specs.State.{SessionState, At, Left, remembered_of}
+use Rattle.session_machine.specs.State.{SessionState, Left}
 use Rattle.session_machine.specs.Step.{key_step}
 use Rattle.session_machine.specs.Runs.{state_after, replies_to}
 

@@ -1,5 +1,5 @@
 -- What one key remembers and shows.
-use Rattle.std.proofs.Common.{◌≡◌, ℕ, ◌≤◌, Bool, true, false, cond, List, [], ◌∷◌, Option, Some, None, length, take, refl, ap, arith}
+use Rattle.std.proofs.Common.{ℕ, ◌≤◌, Bool, true, false, cond, List, [], ◌∷◌, Option, Some, None, length, arith}
 use Rattle.page_ids.specs.Id.{Id}
 use Rattle.page_ids.specs.Ids.{first_frame, following}
 use Rattle.page_ids.specs.declared.key.Key.{Key}
@@ -8,10 +8,9 @@ use Rattle.frame_records.specs.declared.base.Sought.{Sought}
 use Rattle.frame_records.specs.declared.base.Sought.TheVariants as sought
 use Rattle.frame_records.specs.BaseView.{BaseView, frame_at, lists_outside}
 use Rattle.frame_records.specs.Seek.{seek}
-use Rattle.session_machine.specs.declared.reply.Reply.{Reply}
-use Rattle.session_machine.specs.declared.reply.Reply.TheVariants.{Shown, Again, NotOffered, Missing, Closed, Gone}
+use Rattle.session_machine.specs.declared.reply.Reply.TheVariants.{Missing, Gone}
 use Rattle.session_machine.specs.State.{SessionState, At, Left, remembered_of}
-use Rattle.session_machine.specs.Step.{Outcome, key_step, key_at, route_at, offers_next, route_step, next_step, prev_step, update_step, by_route, by_next, by_prev, by_update, page_missing, not_offered, remember}
+use Rattle.session_machine.specs.Step.{Outcome, key_step, route_at, offers_next, route_step, prev_step, by_route, by_next, by_prev, by_update, not_offered, remember}
 use Rattle.session_machine.specs.Runs.{state_after}
 
 -- what one key keeps of what it finds

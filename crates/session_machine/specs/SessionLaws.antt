@@ -6,7 +6,6 @@ use Rattle.page_ids.specs.declared.key.Key.{Key}
 use Rattle.frame_records.specs.declared.base.Sought.TheVariants.{Found}
 use Rattle.frame_records.specs.BaseView.{BaseView}
 use Rattle.frame_records.specs.Seek.{seek}
-use Rattle.session_machine.specs.declared.reply.Reply.{Reply}
 use Rattle.session_machine.specs.declared.reply.Reply.TheVariants.{Shown, Again, NotOffered}
 use Rattle.session_machine.specs.State.{SessionState, Left, present, remembered_of}
 use Rattle.session_machine.specs.Step.{key_step}

@@ -1,5 +1,5 @@
 -- What the fields of a session stand for.
-use Rattle.std.specs.Prelude.{◌≡◌, ◌≤◌, ℕ, List, [], length}
+use Rattle.std.specs.Prelude.{◌≡◌, ◌≤◌, List, [], length}
 use Rattle.page_ids.specs.Id.{Id}
 use Rattle.session_machine.specs.declared.session.Session.TheInside.{Inside}
 use Rattle.session_machine.specs.declared.session.Place.{Place}

@@ -1,0 +1,162 @@
+ghost use Rattle.std.specs.Prelude.{◌≡◌, ◌<◌, ◌≤◌, [], Some, None, if◌then◌else◌, option_map, OnOk, IfOk, slice_get, length};
+ghost use Rattle.page_ids.specs.Ids.{id_eq};
+ghost use Rattle.frame_records.specs.BaseView.{frame_at};
+ghost use Rattle.finder.specs.Walks.{opening, listing, lead, sought_by, next_sought, open_only};
+ghost use Rattle.finder.specs.Discovery.{try_lead, add_new, after_keys, after_node};
+
+use frame_records::{Base, Frame, Sought};
+use indexmap::IndexMap;
+use page_ids::FrameId;
+use std::alloc::{AllocError, Global};
+
+// The listed frames in order, each but the entry frame with its parent's index and the key that led to it. The keys
+// are numbered in the order in which they are tried: 0 to 9, and 10 for `#`.
+pub type Listing = IndexMap<FrameId, Option<(u32, u8)>>;
+
+// The frame that follows, where `next` is offered.
+fn following_of(frame: &Frame) -> Option<FrameId>
+    ensures { result ≡ next_sought frame.now }
+{
+    let id = frame.id;
+    if frame.next { id.following() } else { None }
+}
+
+// The frame that a key of the frame seeks.
+pub fn sought_of(frame: &Frame, key: u8) -> Option<FrameId>
+    requires { key < 11 }
+    ensures { result ≡ sought_by frame.now key }
+{
+    if key == 10 {
+        following_of(frame)
+    } else {
+        match frame.routes[key as usize] {
+            Some(page) => Some(FrameId::first(page)),
+            None => None,
+        }
+    }
+}
+
+// Whether the frame is found, by a caller outside every group.
+fn is_found(base: &Base, id: FrameId) -> bool
+    ensures { open_only [] base.now (Some id) ≡ (if result then Some id else None) }
+{
+    match base.seek(id) {
+        Sought::Found(_) => true,
+        Sought::Closed => false,
+        Sought::Missing => false,
+    }
+}
+
+// Lists a frame that is found and isn't listed yet; the base is asked only of frames that aren't listed.
+fn add_new(
+    base: &Base,
+    found: &mut Listing,
+    sought: FrameId,
+    origin: (u32, u8),
+) -> Result<(), AllocError>
+    ensures { OnOk result (found.new.entries ≡ try_lead id_eq found.old.entries origin (open_only [] base.now (Some sought))) }
+{
+    if found.contains_key(&sought) {
+        return Ok(());
+    }
+    if is_found(base, sought) {
+        return match found.insert(sought, Some(origin)) {
+            Ok(_) => Ok(()),
+            Err(_) => Err(AllocError),
+        };
+    }
+    Ok(())
+}
+
+// Tries a key of a listed frame.
+fn try_key(
+    base: &Base,
+    found: &mut Listing,
+    index: u32,
+    from: FrameId,
+    frame: &Frame,
+    key: u8,
+) -> Result<(), AllocError>
+    requires is_key { key < 11 }
+    requires is_frame { frame_at base.now from ≡ Some frame.now }
+    ensures { OnOk result (found.new.entries ≡ try_lead id_eq found.old.entries (index, key) (lead [] base.now from key)) }
+{
+    match sought_of(frame, key) {
+        Some(sought) => add_new(base, found, sought, (index, key)),
+        None => Ok(()),
+    }
+}
+
+// Tries each key of a listed frame.
+fn try_keys(
+    base: &Base,
+    found: &mut Listing,
+    index: u32,
+    from: FrameId,
+    frame: &Frame,
+) -> Result<(), AllocError>
+    requires { frame_at base.now from ≡ Some frame.now }
+    ensures { OnOk result (found.new.entries ≡ after_keys id_eq (lead [] base.now) found.old.entries index from 11) }
+{
+    for key in 0..11u8 {
+        try_key(base, found, index, from, frame, key)?;
+    }
+    Ok(())
+}
+
+// How many frames the base has.
+fn frame_count(base: &Base) -> u32
+    ensures count { result ≡ length base.now.frames }
+    ensures few { result ≤ 65535 }
+{
+    base.frames().len() as u32
+}
+
+// Tries each key of the listed frame at an index; past the end of the list nothing is left to try.
+fn try_frame(base: &Base, found: &mut Listing, index: u32) -> Result<(), AllocError>
+    ensures { OnOk result (found.new.entries ≡ after_node id_eq 11 (lead [] base.now) found.old.entries index (slice_get found.old.entries index)) }
+{
+    let Some(id) = id_at(found, index) else {
+        return Ok(());
+    };
+    match base.find(id) {
+        Some(frame) => try_keys(base, found, index, id, frame),
+        None => Ok(()),
+    }
+}
+
+// The frame at an index of the list.
+pub fn id_at(found: &Listing, index: u32) -> Option<FrameId>
+    ensures { result ≡ option_map (λ e. e.0) (slice_get found.now.entries index) }
+{
+    match found.get_index(index as usize) {
+        Some((id, _)) => Some(*id),
+        None => None,
+    }
+}
+
+fn start(alloc: Global, base: &Base) -> Result<Listing, AllocError>
+    ensures { IfOk result (λ m. m.entries ≡ opening [] base.now) }
+{
+    let entry = base.entry_frame();
+    let mut found: Listing = IndexMap::new(alloc);
+    if is_found(base, entry) {
+        return match found.insert(entry, None) {
+            Ok(_) => Ok(found),
+            Err(_) => Err(AllocError),
+        };
+    }
+    Ok(found)
+}
+
+// The frames that a caller can reach, in the order of discovery.
+pub fn discover(alloc: Global, base: &Base) -> Result<Listing, AllocError>
+    ensures listing { IfOk result (λ m. m.entries ≡ listing [] base.now) }
+    ensures few { IfOk result (λ m. length m.entries ≤ 65535) }
+{
+    let mut found = start(alloc, base)?;
+    for index in 0..frame_count(base) {
+        try_frame(base, &mut found, index)?;
+    }
+    Ok(found)
+}

@@ -1,0 +1,136 @@
+ghost use Rattle.std.specs.Prelude.{◌≡◌, ◌≤◌, [], ◌∷◌, ◌++◌, IfOk, OnOk, length, option_map, slice_get};
+ghost use Rattle.finder.specs.Edges.{rank_in};
+ghost use Rattle.finder.specs.Found.{key_of, found_of, with_rank, found_upto};
+
+use crate::discover::{Listing, discover};
+use crate::ranks::Ranks;
+use frame_records::Base;
+use page_ids::{Digit, FrameId, Key};
+use std::alloc::{AllocError, Global};
+use std::marker::Model;
+
+/// A frame that a caller can reach.
+#[derive(Debug, Clone, Copy, PartialEq, Eq)]
+pub struct Discovered {
+    pub id: FrameId,
+    /// The least number of route and next keys that leads from the frame to the entry frame through open frames; `None`
+    /// where there is no such walk.
+    pub rank: Option<u16>,
+    /// The index of the frame from which it was discovered; `None` for the entry frame.
+    pub parent: Option<u32>,
+    /// The key that led to it from there.
+    pub key: Option<Key>,
+}
+
+/// The discovered frames, in order. Contracts see the list.
+#[derive(Debug, Drop)]
+pub struct Found {
+    frames: Vec<Discovered>,
+}
+
+impl Model for Found {
+    ghost use Rattle.std.specs.Prelude.{List};
+    ghost use Rattle.finder.specs.declared.found.Discovered.{Discovered};
+
+    ghost Value = { List Discovered };
+
+    ghost view = { λ f. f.frames.items };
+}
+
+impl Found {
+    /// The frames, in the order of discovery.
+    pub fn as_slice(&self) -> &[Discovered]
+        ensures { result.now ≡ self.now }
+    {
+        self.frames.as_slice()
+    }
+}
+
+// The key of a number: 0 to 9, and any other for `#`.
+fn key_of(number: u8) -> Key
+    ensures { result ≡ key_of number }
+{
+    match Digit::new(number) {
+        Some(digit) => Key::Route(digit),
+        None => Key::Next,
+    }
+}
+
+// A listed frame with its rank.
+fn with_rank(id: FrameId, origin: Option<(u32, u8)>, rank: Option<u16>) -> Discovered
+    ensures { result ≡ with_rank (id, origin) rank }
+{
+    match origin {
+        None => Discovered {
+            id,
+            rank,
+            parent: None,
+            key: None,
+        },
+        Some((parent, number)) => Discovered {
+            id,
+            rank,
+            parent: Some(parent),
+            key: Some(key_of(number)),
+        },
+    }
+}
+
+// The frame at an index of the listing, with its rank.
+fn frame_at(listed: &Listing, ranks: &Ranks, index: u32) -> Option<Discovered>
+    ensures { result ≡ option_map (λ e. with_rank e (rank_in ranks.now.ranking.entries ranks.now.depths.items index)) (slice_get listed.now.entries index) }
+{
+    match listed.get_index(index as usize) {
+        Some((id, origin)) => Some(with_rank(*id, *origin, ranks.rank(index))),
+        None => None,
+    }
+}
+
+// Adds a frame, its parts one by one.
+fn push_parts(
+    frames: &mut Vec<Discovered>,
+    id: FrameId,
+    rank: Option<u16>,
+    parent: Option<u32>,
+    key: Option<Key>,
+) -> Result<(), AllocError>
+    ensures { OnOk result (frames.new.items ≡ frames.old.items ++ record { id = id; rank = rank; parent = parent; key = key } ∷ []) }
+{
+    frames.push(Discovered {
+        id,
+        rank,
+        parent,
+        key,
+    })?;
+    Ok(())
+}
+
+// The listed frames, each with its rank.
+fn frames_of(alloc: Global, listed: &Listing, ranks: &Ranks) -> Result<Vec<Discovered>, AllocError>
+    requires { length listed.now.entries ≤ 65535 }
+    ensures { IfOk result (λ frames. frames.items ≡ found_upto listed.now.entries (rank_in ranks.now.ranking.entries ranks.now.depths.items) (length listed.now.entries)) }
+{
+    let mut frames = Vec::new(alloc);
+    for index in 0..listed.len() as u32 {
+        if let Some(frame) = frame_at(listed, ranks, index) {
+            push_parts(&mut frames, frame.id, frame.rank, frame.parent, frame.key)?;
+        }
+    }
+    Ok(frames)
+}
+
+/// The frames that a caller outside every group can reach, in the order of discovery: the entry frame first; then for each
+/// listed frame in turn the keys `0` to `9` and `#` are tried, and each open frame found that isn't yet listed goes last.
+///
+/// The list is empty where the entry frame is missing or closed.
+pub fn find(alloc: Global, base: &Base) -> Result<Found, AllocError>
+    ensures { IfOk result (λ found. found ≡ found_of [] base.now) }
+{
+    let listed = discover(alloc, base)?;
+    let ranks = Ranks::of(alloc, base, &listed)?;
+    let frames = frames_of(alloc, &listed, &ranks)?;
+    Ok(Found { frames })
+}
+
+#[cfg(test)]
+mod tests;

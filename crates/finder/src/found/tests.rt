@@ -1,0 +1,122 @@
+use super::*;
+use crate::script::script_to;
+use frame_records::{Body, Frame, GroupNo, Lead, Pence};
+use page_ids::{PageNo, keys_text};
+use std::process::Abort;
+use std::test::Fail;
+
+fn page(rt: &impl Abort, number: u32) -> PageNo {
+    PageNo::new(number).expect(rt, "a page number")
+}
+
+// A free frame with up to two routes, each a digit and a page.
+fn frame(rt: &impl Abort, alloc: Global, text: &str, next: bool, ways: &[(usize, u32)]) -> Frame {
+    let mut routes = [None; 10];
+    for (digit, number) in ways {
+        if let Some(route) = routes.get_mut(*digit) {
+            *route = PageNo::new(*number);
+        }
+    }
+    Frame {
+        id: FrameId::read(text).expect(rt, "a frame id"),
+        price: Pence::new(0).expect(rt, "a price"),
+        group: None,
+        next,
+        routes,
+        lead: Lead::Clear,
+        body: Body::of(Vec::new(alloc)),
+    }
+}
+
+// These frames, entered at page 123; page 0 is outside.
+fn base_of(rt: &impl Abort, alloc: Global, frames: Vec<Frame>) -> Base {
+    let outside = vec![in alloc; page(rt, 0)].expect(rt, "memory");
+    Base::build(page(rt, 123), outside, frames).expect(rt, "a base")
+}
+
+// An entry page and a page of two frames, whose second leads back by these routes.
+fn demo(rt: &impl Abort, alloc: Global, group: u16, back: &[(usize, u32)]) -> Base {
+    let entry = frame(rt, alloc, "123a", false, &[(0, 0), (1, 1231)]);
+    let first = frame(rt, alloc, "1231a", true, &[(0, 123)]);
+    let mut second = frame(rt, alloc, "1231b", false, back);
+    second.group = GroupNo::new(group);
+    let frames = vec![in alloc; entry, first, second].expect(rt, "memory");
+    base_of(rt, alloc, frames)
+}
+
+fn digit(rt: &impl Abort, number: u8) -> Key {
+    Key::Route(Digit::new(number).expect(rt, "a digit"))
+}
+
+// The id, rank, parent and key of each discovered frame, in order.
+fn lists(rt: &impl Abort, found: &Found, wanted: &[(&str, Option<u16>, Option<u32>, Option<Key>)]) {
+    assert_eq!(rt; found.as_slice().len(), wanted.len());
+    for (frame, (id, rank, parent, key)) in found.as_slice().iter().zip(wanted) {
+        assert_eq!(rt; frame.id.text().as_str(), *id);
+        assert_eq!(rt; frame.rank, *rank, "of {id}");
+        assert_eq!(rt; frame.parent, *parent, "of {id}");
+        assert_eq!(rt; frame.key, *key, "of {id}");
+    }
+}
+
+#[test]
+fn lists_each_reached_frame_with_its_rank(rt: HostRuntime) -> Result<(), Fail> {
+    let base = demo(&rt, rt.alloc(), 0, &[(0, 123)]);
+    let found = find(rt.alloc(), &base)?;
+    let wanted = [
+        ("123a", Some(0), None, None),
+        ("1231a", Some(1), Some(0), Some(digit(&rt, 1))),
+        ("1231b", Some(1), Some(1), Some(Key::Next)),
+    ];
+    lists(&rt, &found, &wanted);
+    Ok(())
+}
+
+// The second frame's only route leaves for the outside page.
+#[test]
+fn a_frame_without_a_way_back_has_no_rank(rt: HostRuntime) -> Result<(), Fail> {
+    let base = demo(&rt, rt.alloc(), 0, &[(0, 0)]);
+    let found = find(rt.alloc(), &base)?;
+    let wanted = [
+        ("123a", Some(0), None, None),
+        ("1231a", Some(1), Some(0), Some(digit(&rt, 1))),
+        ("1231b", None, Some(1), Some(Key::Next)),
+    ];
+    lists(&rt, &found, &wanted);
+    Ok(())
+}
+
+#[test]
+fn closed_frames_are_not_listed(rt: HostRuntime) -> Result<(), Fail> {
+    let base = demo(&rt, rt.alloc(), 7, &[(0, 123)]);
+    let found = find(rt.alloc(), &base)?;
+    let wanted = [
+        ("123a", Some(0), None, None),
+        ("1231a", Some(1), Some(0), Some(digit(&rt, 1))),
+    ];
+    lists(&rt, &found, &wanted);
+    Ok(())
+}
+
+#[test]
+fn nothing_is_listed_without_an_entry_frame(rt: HostRuntime) -> Result<(), Fail> {
+    let base = base_of(&rt, rt.alloc(), Vec::new(rt.alloc()));
+    let found = find(rt.alloc(), &base)?;
+    lists(&rt, &found, &[]);
+    Ok(())
+}
+
+// Scripts to the three frames: none, the key `1`, and `1#`.
+#[test]
+fn scripts_go_along_the_parents(rt: HostRuntime) -> Result<(), Fail> {
+    let base = demo(&rt, rt.alloc(), 0, &[(0, 123)]);
+    let found = find(rt.alloc(), &base)?;
+    assert_eq!(rt; found.as_slice().len(), 3);
+    let texts: [&[u8]; 3] = [b"", b"1", b"1#"];
+    for index in 0..3u32 {
+        let script = script_to(rt.alloc(), &found, index)?;
+        let text = keys_text(rt.alloc(), &script)?;
+        assert_eq!(rt; text.as_slice(), texts[index as usize]);
+    }
+    Ok(())
+}

@@ -1,0 +1,12 @@
+ghost use Rattle.finder.specs.Listing.{ListingIsDiscovery};
+ghost use Rattle.finder.specs.RankLaws.{RanksAreDistances};
+
+/// What is discovered from an entry that is found is just the reached frames, in order.
+pub fn listing_is_discovery()
+    ensures { ListingIsDiscovery }
+{}
+
+/// The rank of a listed frame is the length of the shortest walk from it to the entry frame; without a rank there is none.
+pub fn ranks_are_distances()
+    ensures { RanksAreDistances }
+{}
