@@ -3,9 +3,8 @@
 use clap::error::ErrorKind;
 use clap::{Arg, ArgAction, ArgMatches, Command, Error, value_parser};
 use std::alloc::{AllocError, Global};
-use std::env;
-use std::io;
 use std::rt::Env;
+use std::{env, io};
 
 // A word that stands by its place.
 fn place<'a>(alloc: Global, name: &'a str, help: &'a str) -> Arg<'a> {

@@ -15,10 +15,12 @@ fn base_of(alloc: Global, text: &[u8]) -> Result<Base, RunFault>
 {
     match base_read(alloc, text) {
         Ok(base) => Ok(base),
-        Err(BaseFault {
-            cause: Cause::Memory,
-            ..
-        }) => Err(RunFault::Memory),
+        Err(
+            BaseFault {
+                cause: Cause::Memory,
+                ..
+            },
+        ) => Err(RunFault::Memory),
         Err(fault) => Err(RunFault::Base(fault)),
     }
 }

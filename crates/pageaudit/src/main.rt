@@ -9,6 +9,8 @@ mod command;
 mod input;
 mod output;
 mod status;
+#[cfg(test)]
+mod tests;
 mod walk_run;
 
 use audit_report::{FromRead, IntoWrite, RunFault, fault_text};
@@ -18,10 +20,9 @@ use clap::ArgMatches;
 use command::{matches, refused_status, words};
 use frame_records::Pence;
 use status::{Status, status_of};
-use std::fs;
-use std::io;
 use std::process::ExitCode;
 use std::rt::{Env, Files};
+use std::{fs, io};
 use walk_run::run_walk;
 
 fn main(rt: HostRuntime) -> ExitCode {
@@ -75,9 +76,11 @@ fn check_files<R: Files + Print + AllocGlobal>(
     rt: &R,
     words: &ArgMatches,
 ) -> Result<Status, RunFault> {
-    let (Some(base), Some(cert), Some(policy)) =
-        (words.get_str("BASE"), words.get_str("CERT"), policy_of(words))
-    else {
+    let (Some(base), Some(cert), Some(policy)) = (
+        words.get_str("BASE"),
+        words.get_str("CERT"),
+        policy_of(words),
+    ) else {
         return Err(RunFault::ReadBase);
     };
     let base = fs::open(rt, base).map_err(|_| RunFault::ReadBase)?;
