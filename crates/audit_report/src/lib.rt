@@ -29,3 +29,6 @@ pub use run_fault::RunFault;
 pub use verdict_line::verdict_text;
 pub use walk_lines::{entry_text, walk_text};
 pub use writing::{WriteFault, write_whole};
+
+#[cfg(test)]
+mod tests;

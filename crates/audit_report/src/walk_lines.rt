@@ -54,5 +54,9 @@ pub fn entry_text(alloc: Global, id: FrameId, closed: bool) -> Result<Vec<u8>, A
 fn entry_words(closed: bool) -> &'static [u8]
     ensures { result.now ≡ entry_words closed }
 {
-    if closed { b"ENTRYCLOSED " } else { b"ENTRYMISSING " }
+    if closed {
+        b"ENTRYCLOSED "
+    } else {
+        b"ENTRYMISSING "
+    }
 }

@@ -1,0 +1,130 @@
+//! Each printed line, beside the words that the program's formats give.
+
+use crate::{RunFault, entry_text, fault_text, verdict_text, walk_text};
+use base_text::{BaseFault, Cause as BaseCause, Field};
+use cert_text::{LineCause, ReadFault};
+use checker::{Cause, Verdict};
+use frame_records::Pence;
+use page_ids::{Digit, FrameId, PageNo};
+use session_machine::Reply;
+use std::test::Fail;
+
+#[test]
+fn a_verdict_is_one_line(rt: HostRuntime) -> Result<(), Fail> {
+    let id = FrameId::read("1231b")?;
+    let nine = Digit::new(9).ok_or("nine")?;
+    let rows: [(Verdict, &str); 8] = [
+        (Verdict::Cleared, "CLEARED\n"),
+        (
+            Verdict::Refused(Cause::CeilingAbove),
+            "REFUSED K2 CeilingAbove\n",
+        ),
+        (
+            Verdict::Refused(Cause::EntryNotCovered),
+            "REFUSED K4 EntryNotCovered\n",
+        ),
+        (
+            Verdict::Refused(Cause::NoFrame(id)),
+            "REFUSED K5 NoFrame 1231b\n",
+        ),
+        (
+            Verdict::Refused(Cause::Touches(id, 882)),
+            "REFUSED K9 Touches 1231b 882\n",
+        ),
+        (
+            Verdict::Refused(Cause::CursorDiffers(id)),
+            "REFUSED K10 CursorDiffers 1231b\n",
+        ),
+        (
+            Verdict::Refused(Cause::RouteNotCovered(id, nine)),
+            "REFUSED K11 RouteNotCovered 1231b 9\n",
+        ),
+        (
+            Verdict::Refused(Cause::NoWayDown(id)),
+            "REFUSED K14 NoWayDown 1231b\n",
+        ),
+    ];
+    for (verdict, line) in rows {
+        assert_eq!(rt;
+            verdict_text(rt.alloc(), &verdict)?.as_slice(),
+            line.as_bytes(),
+            "{line}"
+        );
+    }
+    Ok(())
+}
+
+#[test]
+fn a_walk_is_a_line_for_each_reply(rt: HostRuntime) -> Result<(), Fail> {
+    let id = FrameId::read("1231a")?;
+    let price = Pence::new(5).ok_or("price")?;
+    let page = PageNo::read("0")?;
+    let replies = [
+        Reply::Shown(id, price),
+        Reply::Again(id),
+        Reply::NotOffered,
+        Reply::Missing(id),
+        Reply::Closed(id),
+        Reply::Gone(page),
+    ];
+    let text = "SHOWN 1231a 5\nAGAIN 1231a\nNOTOFFERED\nMISSING 1231a\nCLOSED 1231a\nGONE 0\n";
+    assert_eq!(rt;
+        walk_text(rt.alloc(), replies.as_slice())?.as_slice(),
+        text.as_bytes()
+    );
+    assert_eq!(rt; walk_text(rt.alloc(), &[])?.len(), 0);
+    Ok(())
+}
+
+#[test]
+fn an_entry_that_is_not_found_is_one_line(rt: HostRuntime) -> Result<(), Fail> {
+    let id = FrameId::read("0a")?;
+    assert_eq!(rt;
+        entry_text(rt.alloc(), id, false)?.as_slice(),
+        b"ENTRYMISSING 0a\n".as_slice()
+    );
+    assert_eq!(rt;
+        entry_text(rt.alloc(), id, true)?.as_slice(),
+        b"ENTRYCLOSED 0a\n".as_slice()
+    );
+    Ok(())
+}
+
+#[test]
+fn a_fault_is_one_line(rt: HostRuntime) -> Result<(), Fail> {
+    let range = BaseFault {
+        frame: Some(2),
+        cause: BaseCause::Range(Field::Body),
+    };
+    let unknown = BaseFault {
+        frame: None,
+        cause: BaseCause::UnknownKey,
+    };
+    let twice = BaseFault {
+        frame: None,
+        cause: BaseCause::Duplicate(FrameId::read("123a")?),
+    };
+    let rows: [(RunFault, &str); 10] = [
+        (RunFault::Base(range), "base: frame 2: X6 Range body\n"),
+        (RunFault::Base(unknown), "base: X3 UnknownKey\n"),
+        (RunFault::Base(twice), "base: B1 Duplicate 123a\n"),
+        (
+            RunFault::Cert(ReadFault::Line(10, LineCause::Tail)),
+            "certificate: line 10: Tail\n",
+        ),
+        (RunFault::Cert(ReadFault::Failed), "certificate: failed\n"),
+        (RunFault::Keys(1), "keys: I3 BadKey 1\n"),
+        (RunFault::ReadBase, "base: read failed\n"),
+        (RunFault::ReadCert, "certificate: read failed\n"),
+        (RunFault::Write(3), "output: write failed after 3 bytes\n"),
+        (RunFault::Memory, "memory refused\n"),
+    ];
+    for (fault, line) in rows {
+        assert_eq!(rt;
+            fault_text(rt.alloc(), &fault)?.as_slice(),
+            line.as_bytes(),
+            "{line}"
+        );
+    }
+    Ok(())
+}
