@@ -1,5 +1,5 @@
 -- What the ranks say.
-use Rattle.std.proofs.Common.{◌≡◌, ◌<◌, ◌≤◌, ◌+◌, ◌-◌, ◌*◌, ℕ, zero, suc, Bool, true, false, nat_eq, List, [], ◌∷◌, Option, Some, None, slice_get, get_or, length, refl, sym, ◌∙◌, ap, subst, arith}
+use Rattle.std.proofs.Common.{◌≡◌, ◌<◌, ◌≤◌, ◌+◌, ◌-◌, ◌*◌, ℕ, zero, suc, nat_eq, List, [], ◌∷◌, Option, Some, None, slice_get, get_or, length, refl, sym, ◌∙◌, ap, subst, arith}
 use Rattle.std.specs.Prelude.{option_map}
 use Rattle.page_ids.specs.Id.{Id}
 use Rattle.frame_records.specs.BaseView.{BaseView}
@@ -18,7 +18,7 @@ use Rattle.std.specs.Prelude.{option_and_then, position}
 use Rattle.std.specs.Map.{keys_of}
 use Rattle.std.proofs.lemmas.Option.{slice_get_within}
 use Rattle.finder.specs.Discovery.{Path, IsListed, LeadsFrom}
-use Rattle.finder.specs.Walks.{Walk, Leads, IsReached, lead, sought_by}
+use Rattle.finder.specs.Walks.{Walk, Leads, lead, sought_by}
 use Rattle.finder.specs.Listing.{IsDiscovery}
 use Rattle.finder.specs.Edges.{step, sought_at, index_of, edges_nodes, back, ranking}
 use Rattle.finder.specs.RankLaws.{IsRank}

@@ -1,14 +1,9 @@
 -- The steps between listed frames, and the search along them turned round.
-use Rattle.std.proofs.Common.{◌≡◌, ◌<◌, ◌≤◌, ◌+◌, ◌-◌, ◌*◌, ◌⊎◌, inl, inr, ℕ, zero, suc, Bool, true, false, cond, eqb, nat_eq, List, [], ◌∷◌, ◌++◌, Option, Some, None, slice_get, get_or, length, refl, sym, ◌∙◌, ap, subst, arith, length-append}
-use Rattle.std.specs.Map.{keys_of}
+use Rattle.std.proofs.Common.{◌≡◌, ◌<◌, ◌≤◌, ◌+◌, ◌-◌, ◌*◌, ◌⊎◌, inl, inr, ℕ, zero, suc, Bool, true, false, cond, eqb, nat_eq, List, [], ◌∷◌, Option, Some, None, slice_get, length, refl, sym, ◌∙◌, ap, subst, arith, length-append}
 use Rattle.std.proofs.lemmas.Bool.Decides.{nat_tests}
 use Rattle.std.proofs.lemmas.Option.{slice_get_within}
-use Rattle.std.proofs.Math.ListN.{length-map}
-use Rattle.finder.specs.Discovery.{Origin, IsOrder, after_nodes}
-use Rattle.finder.specs.Edges.{Edge, add_edge, edges_keys, edges_nodes, from_of, back, ranking}
-use Rattle.finder.proofs.Order.{order_nodes, at_push, push_at, push_end, some_eq, fst_eq, split, row_le}
-use Rattle.finder.proofs.Fits.{In, Apart, fits}
-use Rattle.finder.proofs.Listing.{apart_of, in_place}
+use Rattle.finder.specs.Edges.{Edge, add_edge, edges_keys, edges_nodes, from_of, back}
+use Rattle.finder.proofs.Order.{at_push, push_at, push_end, some_eq, split}
 
 pub edges_turn : (next : ℕ → ℕ → Option ℕ) (i : ℕ) → edges_keys next (edges_nodes next i) i 11 ≡ edges_nodes next (i + 1)
 edges_turn next i = let turn : suc i ≡ i + 1 = omega arith in ap (edges_nodes next) turn

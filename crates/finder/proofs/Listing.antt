@@ -109,14 +109,16 @@ after_none next zero = refl
 after_none next (suc n) = ap (λ (es : List (Id × Option Origin)). after_node id_eq 11 next es n (slice_get es n)) (after_none next n)
 
 module _ (caller : List ℕ) (base : BaseView) where
+  pub listing_closed : seek caller base (first_frame base.entry) ≡ Closed → listing caller base ≡ []
+  listing_closed e = ap (λ (r : Sought). after_nodes id_eq 11 (lead caller base) (alone (found_only (first_frame base.entry) r)) (length base.frames)) e ∙ after_none (lead caller base) (length base.frames)
+
+  pub listing_missing : seek caller base (first_frame base.entry) ≡ Missing → listing caller base ≡ []
+  listing_missing e = ap (λ (r : Sought). after_nodes id_eq 11 (lead caller base) (alone (found_only (first_frame base.entry) r)) (length base.frames)) e ∙ after_none (lead caller base) (length base.frames)
+
   few_by : (r : Sought) → seek caller base (first_frame base.entry) ≡ r → length (listing caller base) ≤ length base.frames
   few_by (Found price) e = (discovery caller base price e).few
-  few_by Closed e =
-      let none : listing caller base ≡ [] = ap (λ (r : Sought). after_nodes id_eq 11 (lead caller base) (alone (found_only (first_frame base.entry) r)) (length base.frames)) e ∙ after_none (lead caller base) (length base.frames) in
-      omega (arith, ap length none)
-  few_by Missing e =
-      let none : listing caller base ≡ [] = ap (λ (r : Sought). after_nodes id_eq 11 (lead caller base) (alone (found_only (first_frame base.entry) r)) (length base.frames)) e ∙ after_none (lead caller base) (length base.frames) in
-      omega (arith, ap length none)
+  few_by Closed e = omega (arith, ap length (listing_closed e))
+  few_by Missing e = omega (arith, ap length (listing_missing e))
 
   -- no more frames are listed than there are
   pub listing_few : length (listing caller base) ≤ length base.frames

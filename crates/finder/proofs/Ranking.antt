@@ -1,17 +1,15 @@
 -- The search along the steps turned round gives distances.
-use Rattle.std.proofs.Common.{◌≡◌, ◌<◌, ◌≤◌, ◌+◌, ◌-◌, ◌*◌, ◌⊎◌, inl, inr, ℕ, zero, suc, Bool, true, false, nat_eq, List, [], ◌∷◌, ◌++◌, Option, Some, None, slice_get, get_or, length, refl, sym, ◌∙◌, ap, subst, arith, length-append}
+use Rattle.std.proofs.Common.{◌≡◌, ◌<◌, ◌≤◌, ◌+◌, ◌-◌, ◌*◌, inl, inr, ℕ, zero, suc, nat_eq, List, [], ◌∷◌, ◌++◌, Option, Some, None, slice_get, get_or, length, refl, sym, ◌∙◌, ap, arith, length-append}
 use Rattle.std.specs.Map.{keys_of}
-use Rattle.std.specs.Prelude.{position}
 use Rattle.std.proofs.lemmas.Option.{slice_get_within}
 use Rattle.std.proofs.Math.ListN.{length-map}
-use Rattle.finder.specs.Discovery.{Origin, IsOrder, IsListed, Path, after_nodes}
-use Rattle.finder.specs.Edges.{Edge, edges_nodes, back, ranking, depths_upto, depth_next, depth_from, rank_in}
-use Rattle.finder.proofs.Order.{order_nodes, some_eq, fst_eq, split, row_le, push_at, push_end}
-use Rattle.finder.proofs.Fits.{In, Apart, fits}
+use Rattle.finder.specs.Discovery.{Origin, IsOrder}
+use Rattle.finder.specs.Edges.{edges_nodes, back, ranking, depths_upto, depth_next}
+use Rattle.finder.proofs.Order.{order_nodes, fst_eq, split}
+use Rattle.finder.proofs.Fits.{In, fits}
 use Rattle.finder.proofs.Listing.{apart_of, in_place}
-use Rattle.finder.proofs.Edges.{same_of, self_of, nodes_there, nodes_in, edge_back, back_edge}
+use Rattle.finder.proofs.Edges.{same_of, self_of, nodes_in, back_edge}
 use Rattle.finder.proofs.Reach.{IsDepth}
-use Rattle.finder.proofs.Back.{rank_walk, rank_least, rank_none}
 
 -- the numbers below n
 abbrev down : ℕ → List ℕ

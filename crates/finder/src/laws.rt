@@ -1,4 +1,5 @@
 ghost use Rattle.finder.specs.Listing.{ListingIsDiscovery};
+ghost use Rattle.finder.specs.FoundLaws.{FoundIsListing};
 ghost use Rattle.finder.specs.RankLaws.{RanksAreDistances};
 
 /// What is discovered from an entry that is found is just the reached frames, in order.
@@ -9,4 +10,10 @@ pub fn listing_is_discovery()
 /// The rank of a listed frame is the length of the shortest walk from it to the entry frame; without a rank there is none.
 pub fn ranks_are_distances()
     ensures { RanksAreDistances }
+{}
+
+/// The list that `find` gives is the listing, each entry with its rank; it is empty exactly where the entry frame isn't
+/// found.
+pub fn found_is_listing()
+    ensures { FoundIsListing }
 {}

@@ -5,7 +5,8 @@
 //!
 //! - [`find`], [`Found`], [`Discovered`]: the list.
 //! - [`script_to`]: the keys that lead to a listed frame.
-//! - [`listing_is_discovery`], [`ranks_are_distances`]: what the list and its ranks say, in terms of walks.
+//! - [`found_is_listing`], [`listing_is_discovery`], [`ranks_are_distances`]: what the list and its ranks say, in terms
+//!   of walks.
 #![tactic(auto)]
 
 mod discover;
@@ -16,5 +17,5 @@ mod ranks;
 mod script;
 
 pub use found::{Discovered, Found, find};
-pub use laws::{listing_is_discovery, ranks_are_distances};
+pub use laws::{found_is_listing, listing_is_discovery, ranks_are_distances};
 pub use script::script_to;

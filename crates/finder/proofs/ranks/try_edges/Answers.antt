@@ -1,4 +1,4 @@
-use Rattle.std.proofs.Common.{◌≡◌, ◌<◌, ◌-◌, ◌+◌, ◌∙◌, Some, None, ap, sym, subst, get_or, length, arith}
+use Rattle.std.proofs.Common.{◌≡◌, ◌<◌, ◌-◌, ◌+◌, ◌∙◌, None, ap, sym, subst, get_or, length, arith}
 use Rattle.finder.specs.Edges.{last_before}
 use Rattle.finder.proofs.Chains.{InChain, chain_start, chain_more, size, size_less}
 use Rattle.finder.proofs.ranks.try_edges.Goals as goal

@@ -1,4 +1,4 @@
-use Rattle.std.proofs.Common.{◌≡◌, ◌≤◌, ◌∙◌, ap, length, arith}
+use Rattle.std.proofs.Common.{◌≡◌, ◌∙◌, ap, length, arith}
 use Rattle.finder.specs.Edges.{step, edges_nodes, ranking}
 use Rattle.finder.proofs.Edges.{edges_few}
 use Rattle.finder.proofs.Distances.{edges_within, within_same}
