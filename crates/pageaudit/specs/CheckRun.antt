@@ -1,5 +1,5 @@
 -- What a run of the check does.
-use Rattle.std.specs.Prelude.{◌≡◌, ℕ, Bool, true, List, [], Option, Result, Ok, Err}
+use Rattle.std.specs.Prelude.{◌≡◌, ℕ, Bool, List, [], Option, Result, Ok, Err}
 use Rattle.std.specs.Io.KnownBytes.{Keeps}
 use Rattle.frame_records.specs.BaseView.{BaseView}
 use Rattle.cert_table.specs.CertView.{CertView}

@@ -1,26 +1,16 @@
 -- What a run of the program reads, answers and writes. A device that doesn't tell its bytes is left open.
-use Rattle.std.specs.Prelude.{◌≡◌, ◌≤◌, ◌<◌, ℕ, Bool, true, false, List, [], Option, length, take, Result, Ok, Err}
-use Rattle.std.specs.Io.KnownBytes.{Appends, Keeps}
-use Rattle.page_ids.specs.declared.key.Key.{Key}
-use Rattle.page_ids.specs.Keys.{keys_text, AreKeys, IsUnreadableAt}
+use Rattle.std.specs.Prelude.{◌≡◌, ◌≤◌, ℕ, Bool, true, List, Option, length, take, Result, Ok, Err}
+use Rattle.std.specs.Io.KnownBytes.{Appends, IsAtEnd}
 use Rattle.frame_records.specs.BaseView.{BaseView}
 use Rattle.base_text.specs.Whole.{IsTextBase}
-use Rattle.session_machine.specs.declared.reply.Reply.{Reply}
-use Rattle.session_machine.specs.declared.session.OpenFault.{OpenFault}
-use Rattle.session_machine.specs.declared.session.OpenFault.TheVariants.{EntryMissing, EntryClosed, Memory}
-use Rattle.session_machine.specs.Open.{entry_of}
-use Rattle.session_machine.specs.Runs.{session_of}
 use Rattle.cert_table.specs.CertView.{CertView}
 use Rattle.cert_text.specs.Grammar.{IsCertificateText}
-use Rattle.checker.specs.declared.policy.Policy.{Policy}
 use Rattle.checker.specs.declared.verdict.Verdict.{Verdict}
 use Rattle.checker.specs.declared.verdict.Verdict.TheVariants.{Cleared, Refused}
-use Rattle.checker.specs.Verdict.{verdict}
 use Rattle.checker.specs.Headline.{IsBaseRefused, IsCertRefused}
 use Rattle.audit_report.specs.declared.run_fault.RunFault.{RunFault}
 use Rattle.audit_report.specs.declared.run_fault.RunFault.TheVariants as run
 use Rattle.audit_report.specs.Devices.{IsWholeRead}
-use Rattle.audit_report.specs.Lines.{verdict_text, walk_text, entry_text}
 use Rattle.pageaudit.specs.declared.status.Status.{Status}
 use Rattle.pageaudit.specs.declared.status.Status.TheVariants.{Clear, Faulty}
 
@@ -31,16 +21,18 @@ base_limit = 16777217
 abbrev pub cert_limit : ℕ
 cert_limit = 16777216
 
--- the base of the bytes that the source gave
+-- the base of the bytes that the source gave, which are all that it had
 pub record IsBaseOfSource (old new : Option (List ℕ)) (base : BaseView) : Type 0 where
   pub text : List ℕ
   pub read : IsWholeRead base_limit old new text
+  pub whole : IsAtEnd new
   pub is : IsTextBase text base
 
--- the certificate of the bytes that the source gave
+-- the certificate of the bytes that the source gave, which are all that it had
 pub record IsCertOfSource (old new : Option (List ℕ)) (cert : CertView) : Type 0 where
   pub text : List ℕ
   pub read : IsWholeRead cert_limit old new text
+  pub whole : IsAtEnd new
   pub is : IsCertificateText text cert
 
 -- why no base was read: its text's first fault, or its reader's failure
