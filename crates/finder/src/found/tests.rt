@@ -1,7 +1,7 @@
 use super::*;
 use crate::script::script_to;
 use frame_records::{Body, Frame, GroupNo, Lead, Pence};
-use page_ids::{PageNo, keys_text};
+use page_ids::{Letter, PageNo, keys_text};
 use std::process::Abort;
 use std::test::Fail;
 
@@ -118,5 +118,30 @@ fn scripts_go_along_the_parents(rt: HostRuntime) -> Result<(), Fail> {
         let text = keys_text(rt.alloc(), &script)?;
         assert_eq!(rt; text.as_slice(), texts[index as usize]);
     }
+    Ok(())
+}
+
+// A page of all 26 frames, each the next of the one before.
+fn whole_page(rt: &impl Abort, alloc: Global) -> Base {
+    let mut frames = Vec::new(alloc);
+    frames
+        .push(frame(rt, alloc, "123a", false, &[(1, 5)]))
+        .expect(rt, "memory");
+    for letter in b'a'..=b'z' {
+        let mut follower = frame(rt, alloc, "5a", letter != b'z', &[(0, 123)]);
+        follower.id.letter = Letter::new(letter).expect(rt, "a letter");
+        frames.push(follower).expect(rt, "memory");
+    }
+    base_of(rt, alloc, frames)
+}
+
+#[test]
+fn a_script_along_a_page_has_a_key_for_each_frame(rt: HostRuntime) -> Result<(), Fail> {
+    let base = whole_page(&rt, rt.alloc());
+    let found = find(rt.alloc(), &base)?;
+    assert_eq!(rt; found.as_slice().len(), 27);
+    let script = script_to(rt.alloc(), &found, 26)?;
+    let text = keys_text(rt.alloc(), &script)?;
+    assert_eq!(rt; text.as_slice(), b"1#########################".as_slice());
     Ok(())
 }
