@@ -1,6 +1,7 @@
 //! Reads a base text of the greatest length and number of frames, and measures it against its TOML alone.
 //!
-//! It prints the processor times and the greatest memory so far to standard error, and `ok` where the base was read.
+//! It prints the processor times, the greatest memory so far and both ratios to standard error, and `ok` where the base was
+//! read.
 #![tactic(auto)]
 
 use anyhow::{Result, bail};
@@ -33,15 +34,28 @@ fn large_text(alloc: Global) -> Result<Vec<u8>, AllocError> {
     Ok(text)
 }
 
-// The greatest memory of the process so far, as Linux tells it.
-fn peak_memory(rt: &HostRuntime) -> Result<String> {
+// The kilobytes of a line as `VmHWM:  1024 kB`.
+fn kilobytes(line: &str) -> Result<u64> {
+    match line.split_ascii_whitespace().nth(1) {
+        Some(number) => Ok(number.parse::<u64>()?),
+        None => bail!("a line without a number"),
+    }
+}
+
+// The greatest memory of the process so far in kilobytes, as Linux tells it.
+fn peak_memory(rt: &HostRuntime) -> Result<u64> {
     let status = std::fs::read_to_string(rt, "/proc/self/status")?;
     for line in status.as_str().lines() {
         if line.starts_with("VmHWM:") {
-            return Ok(String::from_str(rt.alloc(), line)?);
+            return kilobytes(line);
         }
     }
     bail!("no peak of memory is told")
+}
+
+// How many hundredths of the whole a part is.
+fn percent(part: u128, whole: u128) -> u128 {
+    part.saturating_mul(100) / whole.max(1)
 }
 
 fn tree_time(rt: &HostRuntime, text: &[u8]) -> Result<Duration> {
@@ -70,8 +84,13 @@ fn main(rt: HostRuntime) -> Result<()> {
     let tree_peak = peak_memory(&rt)?;
     let base = base_time(&rt, text.as_slice())?.as_millis();
     let base_peak = peak_memory(&rt)?;
-    eprintln!(rt; "TOML alone {tree} ms, {tree_peak}")?;
-    eprintln!(rt; "base_read {base} ms, {base_peak}")?;
+    eprintln!(rt; "TOML alone {tree} ms, {tree_peak} kB")?;
+    eprintln!(rt; "base_read {base} ms, {base_peak} kB")?;
+    eprintln!(rt;
+        "{} percent of the time, {} percent of the memory",
+        percent(base, tree),
+        percent(base_peak.into(), tree_peak.into())
+    )?;
     println!(rt; "ok")?;
     Ok(())
 }

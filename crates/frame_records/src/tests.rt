@@ -44,10 +44,7 @@ fn refusal(
     for (id, next, body) in frames {
         list.push(frame(alloc, FrameId::read(id)?, *next, *body)?)?;
     }
-    match Base::build(page(123)?, pages, list) {
-        Ok(_) => Ok(None),
-        Err(fault) => Ok(Some(fault)),
-    }
+    Ok(Base::build(page(123)?, pages, list).err())
 }
 
 #[test]
@@ -107,10 +104,7 @@ fn outside_pages_count_as_listed(rt: HostRuntime) -> Result<(), Fail> {
         pages.push(page(7)?)?;
     }
     let built = Base::build(page(0)?, pages, Vec::new(rt.alloc()));
-    match built {
-        Ok(_) => assert!(rt; false),
-        Err(fault) => assert_eq!(rt; fault, BuildFault::TooMany),
-    }
+    assert_eq!(rt; built.err(), Some(BuildFault::TooMany));
     Ok(())
 }
 
