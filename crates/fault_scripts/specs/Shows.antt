@@ -1,0 +1,78 @@
+-- What bears a fault out: what its script, run as a session, comes to. The caller is the list of the caller's groups.
+use Rattle.std.specs.Prelude.{◌≡◌, ◌≤◌, ◌<◌, ◌++◌, ◌∷◌, [], ℕ, List, Option, Some}
+use Rattle.page_ids.specs.Id.{Id}
+use Rattle.page_ids.specs.declared.key.Key.{Key}
+use Rattle.frame_records.specs.declared.frame.Frame.{Frame}
+use Rattle.frame_records.specs.declared.base.Sought.{Sought}
+use Rattle.frame_records.specs.declared.base.Sought.TheVariants as sought
+use Rattle.frame_records.specs.BaseView.{BaseView, frame_at}
+use Rattle.abstract_paint.specs.declared.start.Start.{Start}
+use Rattle.abstract_paint.specs.Start.{IsLeastStart}
+use Rattle.session_machine.specs.declared.reply.Reply.{Reply}
+use Rattle.session_machine.specs.declared.reply.Reply.TheVariants.{Shown, Missing, Closed}
+use Rattle.session_machine.specs.State.{present}
+use Rattle.session_machine.specs.Open.{entry_of, seek_entry}
+use Rattle.checker.specs.declared.policy.Policy.{Policy}
+use Rattle.finder.specs.Walks.{Walk}
+use Rattle.fault_scripts.specs.declared.fault.Fault.{Fault}
+use Rattle.fault_scripts.specs.declared.fault.FaultKind.{FaultKind}
+use Rattle.fault_scripts.specs.declared.fault.FaultKind.TheVariants as kind
+use Rattle.fault_scripts.specs.Replays.{last_reply, last_state}
+
+-- no session is opened: seeking the entry frame comes to this
+pub record ShowsEntry (caller : List ℕ) (base : BaseView) (fault : Fault) (what : Sought) : Type 0 where
+  pub frame : fault.frame ≡ entry_of base
+  pub script : fault.script ≡ []
+  pub sought : seek_entry caller base ≡ what
+
+-- the session of the script is opened, and ends at the frame
+pub record EndsAtFrame (caller : List ℕ) (base : BaseView) (fault : Fault) : Type 0 where
+  pub price : ℕ
+  pub opened : seek_entry caller base ≡ sought.Found price
+  pub at : present (last_state caller base fault.script) ≡ Some fault.frame
+
+-- its last reply shows the frame at its price, which is above the policy's ceiling
+pub record ShowsPrice (caller : List ℕ) (base : BaseView) (policy : Policy) (fault : Fault) : Type 0 where
+  pub price : ℕ
+  pub opened : seek_entry caller base ≡ sought.Found price
+  pub last : last_reply caller base fault.script price ≡ Shown fault.frame fault.price
+  pub above : policy.ceiling < fault.price
+
+-- it ends at the frame, which from the start writes a service position at the first offset at which any does; no lesser
+-- start does
+pub record ShowsTouch (caller : List ℕ) (base : BaseView) (fault : Fault) : Type 0 where
+  pub there : EndsAtFrame caller base fault
+  pub frame : Frame
+  pub start : Start
+  pub of_frame : frame_at base fault.frame ≡ Some frame
+  pub is_start : fault.start ≡ Some start
+  pub least : IsLeastStart frame.lead frame.body start
+
+-- the script ends with the key, its last reply names the frame sought, and the caller is still at the frame
+pub record ShowsKey (caller : List ℕ) (base : BaseView) (fault : Fault) (reply : Id → Reply) : Type 0 where
+  pub there : EndsAtFrame caller base fault
+  pub before : List Key
+  pub key : Key
+  pub to : Id
+  pub is_key : fault.key ≡ Some key
+  pub is_sought : fault.sought ≡ Some to
+  pub ends : fault.script ≡ before ++ key ∷ []
+  pub last : last_reply caller base fault.script there.price ≡ reply to
+
+-- it ends at the frame, from which no walk of so few steps leads to the entry frame
+pub record ShowsNoReturn (caller : List ℕ) (base : BaseView) (policy : Policy) (fault : Fault) : Type 0 where
+  pub there : EndsAtFrame caller base fault
+  pub far : (n : ℕ) → n ≤ policy.keyings → Walk caller base fault.frame (entry_of base) n → ⊥
+
+-- each kind in turn
+abbrev pub ShowsAs : FaultKind → List ℕ → BaseView → Policy → Fault → Type 0
+ShowsAs kind.EntryMissing caller base policy fault = ShowsEntry caller base fault sought.Missing
+ShowsAs kind.EntryClosed caller base policy fault = ShowsEntry caller base fault sought.Closed
+ShowsAs kind.Price caller base policy fault = ShowsPrice caller base policy fault
+ShowsAs kind.Touches caller base policy fault = ShowsTouch caller base fault
+ShowsAs kind.Missing caller base policy fault = ShowsKey caller base fault Missing
+ShowsAs kind.Closed caller base policy fault = ShowsKey caller base fault Closed
+ShowsAs kind.NoReturn caller base policy fault = ShowsNoReturn caller base policy fault
+
+abbrev pub Shows : List ℕ → BaseView → Policy → Fault → Type 0
+Shows caller base policy fault = ShowsAs fault.kind caller base policy fault

@@ -1,0 +1,12 @@
+//! The audit of a base.
+#![tactic(auto)]
+
+mod fault;
+mod laws;
+mod outcome;
+mod replaying;
+
+pub use fault::{Fault, FaultKind, FaultList};
+pub use laws::{faults_are_due, faults_are_shown, none_is_safe};
+pub use outcome::Outcome;
+pub use replaying::{Replayed, replay};

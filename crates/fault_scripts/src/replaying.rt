@@ -1,0 +1,33 @@
+ghost use Rattle.std.specs.Prelude.{[]};
+ghost use Rattle.fault_scripts.specs.Replays.{IsReplayed};
+
+use frame_records::Base;
+use page_ids::{FrameId, KeyList};
+use session_machine::{OpenFault, Reply, Session};
+use std::alloc::Global;
+
+/// What a session of some keys came to.
+#[derive(Debug, Clone, Copy, PartialEq, Eq)]
+pub struct Replayed {
+    /// The reply to the last key; without keys the opening one.
+    pub last: Reply,
+    /// The present frame; `None` where the caller left.
+    pub at: Option<FrameId>,
+}
+
+/// Runs keys from the entry frame, by a caller outside every group.
+///
+/// `EntryMissing` and `EntryClosed` where no session can be opened.
+pub fn replay(alloc: Global, base: &Base, keys: &KeyList) -> Result<Replayed, OpenFault>
+    ensures { IsReplayed [] base.now keys.now result }
+{
+    let (mut session, opened) = Session::open(alloc, base)?;
+    let mut last = opened;
+    for key in keys.as_slice() {
+        last = session.key(base, *key);
+    }
+    Ok(Replayed {
+        last,
+        at: session.at(),
+    })
+}
