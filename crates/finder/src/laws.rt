@@ -1,6 +1,7 @@
 ghost use Rattle.finder.specs.Listing.{ListingIsDiscovery};
 ghost use Rattle.finder.specs.FoundLaws.{FoundIsListing};
 ghost use Rattle.finder.specs.RankLaws.{RanksAreDistances};
+ghost use Rattle.finder.specs.ScriptLaws.{ScriptsLead};
 
 /// What is discovered from an entry that is found is just the reached frames, in order.
 pub fn listing_is_discovery()
@@ -16,4 +17,9 @@ pub fn ranks_are_distances()
 /// found.
 pub fn found_is_listing()
     ensures { FoundIsListing }
+{}
+
+/// The script of a listed frame leads from the entry frame to it; it is the parent's script and one key more.
+pub fn scripts_lead()
+    ensures { ScriptsLead }
 {}

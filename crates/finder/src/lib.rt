@@ -5,8 +5,8 @@
 //!
 //! - [`find`], [`Found`], [`Discovered`]: the list.
 //! - [`script_to`]: the keys that lead to a listed frame.
-//! - [`found_is_listing`], [`listing_is_discovery`], [`ranks_are_distances`]: what the list and its ranks say, in terms
-//!   of walks.
+//! - [`found_is_listing`], [`listing_is_discovery`], [`ranks_are_distances`], [`scripts_lead`]: what the list, its ranks and
+//!   its scripts say, in terms of walks.
 #![tactic(auto)]
 
 mod discover;
@@ -17,5 +17,5 @@ mod ranks;
 mod script;
 
 pub use found::{Discovered, Found, find};
-pub use laws::{found_is_listing, listing_is_discovery, ranks_are_distances};
+pub use laws::{found_is_listing, listing_is_discovery, ranks_are_distances, scripts_lead};
 pub use script::script_to;

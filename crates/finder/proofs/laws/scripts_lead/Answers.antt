@@ -1,0 +1,5 @@
+use Rattle.finder.proofs.ScriptLaw.{scripts_lead}
+use Rattle.finder.proofs.laws.scripts_lead.Goals as goal
+
+pub returns : goal.returns
+returns c = scripts_lead
