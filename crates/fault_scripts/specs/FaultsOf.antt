@@ -67,12 +67,15 @@ abbrev pub return_faults : ℕ → Id → List Key → Option ℕ → List Fault
 return_faults keyings id keys rank = if is_far keyings rank then plain_fault kind.NoReturn id keys ∷ [] else []
 
 -- the faults of a discovered frame, whose script the keys are: Price, Touches, Missing and Closed by key, NoReturn
+abbrev pub faults_at : List ℕ → BaseView → Policy → Id → List Key → Option ℕ → Frame → List Fault
+faults_at caller base policy id keys rank frame =
+    price_faults policy.ceiling id keys frame.price
+    ++ (touch_faults id keys (start_of frame.lead frame.body (paint_of frame.lead frame.body))
+    ++ (keys_faults caller base id keys frame 11
+    ++ return_faults policy.keyings id keys rank))
+
 abbrev pub frame_faults : List ℕ → BaseView → Policy → List Key → Discovered → Frame → List Fault
-frame_faults caller base policy keys d frame =
-    price_faults policy.ceiling d.id keys frame.price
-    ++ (touch_faults d.id keys (start_of frame.lead frame.body (paint_of frame.lead frame.body))
-    ++ (keys_faults caller base d.id keys frame 11
-    ++ return_faults policy.keyings d.id keys d.rank))
+frame_faults caller base policy keys d frame = faults_at caller base policy d.id keys d.rank frame
 
 abbrev pub record_faults : List ℕ → BaseView → Policy → List Key → Discovered → Option Frame → List Fault
 record_faults caller base policy keys d None = []

@@ -5,3 +5,6 @@ pub mod Shows
 pub mod Due
 pub mod FaultLaws
 pub mod Outcomes
+pub mod Table
+pub mod Telling
+pub mod TableView

@@ -2,9 +2,12 @@
 #![tactic(auto)]
 
 mod fault;
+mod judging;
 mod laws;
 mod outcome;
 mod replaying;
+mod table;
+mod teller;
 
 pub use fault::{Fault, FaultKind, FaultList};
 pub use laws::{faults_are_due, faults_are_shown, none_is_safe};

@@ -1,0 +1,83 @@
+ghost use Rattle.std.specs.Prelude.{◌≡◌, ◌++◌, OnOk, IfOk};
+ghost use Rattle.abstract_paint.specs.Paint.{paint_of};
+ghost use Rattle.fault_scripts.specs.Table.{Parts, greater, row_of, rank_or_zero, no_parts, with_parts};
+ghost use Rattle.fault_scripts.specs.TableView.{parts_of};
+
+use crate::judging::no_price;
+use abstract_paint::Painted;
+use cert_table::Row;
+use frame_records::Pence;
+use page_ids::FrameId;
+use std::alloc::{AllocError, Global};
+
+// The rows of a certificate as they are gathered, with the greatest price and the greatest rank so far.
+#[derive(Drop)]
+pub struct Table {
+    pub rows: Vec<Row>,
+    pub ceiling: Pence,
+    pub keyings: u16,
+}
+
+// The greater of two prices.
+fn dearer(a: Pence, b: Pence) -> Pence
+    ensures { result ≡ greater a b }
+{
+    if a < b { b } else { a }
+}
+
+// The greater of the rank so far and another, if there is one.
+fn farther(keyings: u16, rank: Option<u16>) -> u16
+    ensures { result ≡ greater keyings (rank_or_zero rank) }
+{
+    match rank {
+        Some(rank) if keyings < rank => rank,
+        _ => keyings,
+    }
+}
+
+// Adds the row of a frame that has a rank and is clean.
+fn push_row(
+    rows: &mut Vec<Row>,
+    id: FrameId,
+    rank: Option<u16>,
+    painted: Painted,
+) -> Result<(), AllocError>
+    ensures { OnOk result (rows.new.items ≡ rows.old.items ++ row_of id rank painted) }
+{
+    match (rank, painted) {
+        (Some(rank), Painted::Clean(cursor)) => {
+            rows.push(Row { id, rank, cursor })?;
+            Ok(())
+        }
+        _ => Ok(()),
+    }
+}
+
+impl Table {
+    // No frame yet.
+    pub fn new(alloc: Global) -> Table
+        ensures { parts_of result ≡ no_parts }
+    {
+        Table {
+            rows: Vec::new(alloc),
+            ceiling: no_price(),
+            keyings: 0,
+        }
+    }
+
+    // With one frame more.
+    pub fn add(
+        &mut self,
+        id: FrameId,
+        rank: Option<u16>,
+        price: Pence,
+        painted: Painted,
+    ) -> Result<(), AllocError>
+        ensures { OnOk result (parts_of self.new ≡ with_parts (parts_of self.old) id rank price painted) }
+    {
+        push_row(&mut self.rows, id, rank, painted)?;
+        self.ceiling = dearer(self.ceiling, price);
+        self.keyings = farther(self.keyings, rank);
+        Ok(())
+    }
+}
