@@ -8,3 +8,4 @@ pub mod Outcomes
 pub mod Table
 pub mod Telling
 pub mod TableView
+pub mod Judged

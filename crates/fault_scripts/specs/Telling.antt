@@ -39,3 +39,10 @@ pressed keys (Some key) = keys ++ key ∷ []
 -- a fault of these parts
 abbrev pub fault_of : FaultKind → Id → List Key → Option Key → Option Id → Option Start → ℕ → Fault
 fault_of kind id keys key to start price = record { kind = kind; frame = id; key = key; sought = to; script = pressed keys key; start = start; price = price }
+
+-- where the teller stands: the discovered frames, the keys at hand and their place, and what has been told
+pub record IsTold (t : Teller) (found : List Discovered) (at : Option ℕ) (keys : List Key) (faults : List Fault) : Type 0 where
+  pub same_found : t.found ≡ found
+  pub same_at : t.at ≡ at
+  pub same_keys : t.keys.items ≡ keys
+  pub same_faults : t.faults.items ≡ faults

@@ -2,6 +2,7 @@
 #![tactic(auto)]
 
 mod fault;
+mod judge_frames;
 mod judging;
 mod laws;
 mod outcome;
