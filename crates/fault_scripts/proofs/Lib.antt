@@ -1,2 +1,4 @@
 pub mod Starts
 pub mod Listed
+pub mod Elements
+pub mod Due
