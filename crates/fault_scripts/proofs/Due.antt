@@ -1,5 +1,5 @@
 -- The list of faults has just those that are due.
-use Rattle.std.proofs.Common.{◌≡◌, ◌↔◌, ◌⊎◌, ◌<◌, ◌≤◌, ◌+◌, ◌++◌, ℕ, zero, suc, nat_lt, List, [], ◌∷◌, Bool, true, false, Option, Some, None, slice_get, length, inl, inr, refl, sym, ◌∙◌, ap, subst, arith}
+use Rattle.std.proofs.Common.{◌≡◌, ◌↔◌, ◌⊎◌, ◌<◌, ◌≤◌, ◌+◌, ◌++◌, ℕ, zero, suc, nat_lt, List, Bool, true, false, Option, Some, None, slice_get, length, inl, inr, refl, sym, ◌∙◌, ap, subst, arith}
 use Rattle.std.specs.Prelude.{Contains}
 use Rattle.std.proofs.lemmas.Bool.{cases_lt}
 use Rattle.std.proofs.lemmas.Bool.Decides.{nat_tests}
@@ -8,7 +8,6 @@ use Rattle.std.proofs.lemmas.Option.{slice_get_within}
 use Rattle.page_ids.specs.Id.{Id}
 use Rattle.page_ids.specs.declared.key.Key.{Key}
 use Rattle.frame_records.specs.declared.frame.Frame.{Frame}
-use Rattle.frame_records.specs.declared.frame.Lead.{Lead}
 use Rattle.frame_records.specs.declared.base.Sought.{Sought}
 use Rattle.frame_records.specs.declared.base.Sought.TheVariants as sought
 use Rattle.frame_records.specs.BaseView.{BaseView, frame_at, lists_outside}
@@ -26,11 +25,11 @@ use Rattle.fault_scripts.specs.declared.fault.Fault.{Fault}
 use Rattle.fault_scripts.specs.declared.fault.FaultKind.{FaultKind}
 use Rattle.fault_scripts.specs.declared.fault.FaultKind.TheVariants as kind
 use Rattle.fault_scripts.specs.StartOf.{start_of}
-use Rattle.fault_scripts.specs.Due.{IsPlace, PriceIsDue, TouchIsDue, KeyIsDue, MissingIsDue, NoReturnIsDue, IsDueAs, IsDue}
+use Rattle.fault_scripts.specs.Due.{PriceIsDue, TouchIsDue, KeyIsDue, MissingIsDue, NoReturnIsDue, IsDueAs, IsDue}
 use Rattle.fault_scripts.proofs.Elements.{none_in, in_one, one_in, in_if, if_in, in_unless, unless_in}
 use Rattle.fault_scripts.proofs.Starts.{start_is, start_same}
 use Rattle.fault_scripts.proofs.Listed.{listed_frame}
-use Rattle.fault_scripts.specs.FaultsOf.{plain_fault, price_fault, touch_fault, key_fault, price_faults, touch_faults, sought_faults, offered_faults, keys_faults, is_far, return_faults, frame_faults, record_faults, place_faults, faults_upto, faults_along, faults_by, faults_of}
+use Rattle.fault_scripts.specs.FaultsOf.{plain_fault, price_fault, touch_fault, key_fault, price_faults, touch_faults, sought_faults, offered_faults, keys_faults, is_far, return_faults, frame_faults, record_faults, place_faults, faults_upto, faults_by, faults_of}
 
 split : (i n : ℕ) → i < n + 1 → (i < n) ⊎ (i ≡ n)
 split i n lt =

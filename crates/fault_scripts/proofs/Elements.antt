@@ -1,5 +1,5 @@
 -- What a list of one element, or of none, contains.
-use Rattle.std.proofs.Common.{◌≡◌, ◌<◌, ℕ, zero, suc, List, [], ◌∷◌, Bool, true, false, if◌then◌else◌, refl, sym, arith}
+use Rattle.std.proofs.Common.{◌≡◌, ◌<◌, ℕ, zero, suc, [], ◌∷◌, Bool, true, false, if◌then◌else◌, refl, sym, arith}
 use Rattle.std.specs.Prelude.{Contains, slice_index_or}
 
 pub none_in : {X : Type 0} (x : X) → Contains [] x → ⊥

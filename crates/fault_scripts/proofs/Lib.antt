@@ -2,3 +2,4 @@ pub mod Starts
 pub mod Listed
 pub mod Elements
 pub mod Due
+pub mod Ordered

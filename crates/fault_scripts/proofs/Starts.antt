@@ -1,5 +1,5 @@
 -- The first of the 1,920 starts from which a body writes a service position is the least one.
-use Rattle.std.proofs.Common.{◌≡◌, ℕ, zero, suc, ◌+◌, ◌*◌, ◌/◌, ◌%◌, ◌==◌, ◌&&◌, ◌<◌, nat_lt, arith, inl, inr, refl, ap, sym, ◌∙◌, subst, cond, List, length, Bool, true, false, Option, Some, None}
+use Rattle.std.proofs.Common.{◌≡◌, ℕ, zero, suc, ◌+◌, ◌*◌, ◌/◌, ◌%◌, ◌==◌, ◌<◌, arith, inl, inr, refl, ap, ◌∙◌, subst, cond, List, Bool, true, false, Option, Some}
 use Rattle.std.proofs.lemmas.Bool.{cases_lt}
 use Rattle.std.proofs.lemmas.Bool.Decides.{nat_tests}
 use Rattle.frame_records.specs.declared.frame.Lead.{Lead}
