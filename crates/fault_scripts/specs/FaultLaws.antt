@@ -1,7 +1,9 @@
 -- What the list of faults says, of every caller, base and policy.
-use Rattle.std.specs.Prelude.{◌≡◌, ◌≢◌, ◌↔◌, ◌<◌, ℕ, List, [], Some, Contains, slice_get}
+use Rattle.std.specs.Prelude.{◌≡◌, ◌≢◌, ◌↔◌, ◌<◌, ◌≤◌, ℕ, List, [], Some, Contains, slice_get, length}
 use Rattle.frame_records.specs.declared.base.Sought.TheVariants as sought
-use Rattle.frame_records.specs.BaseView.{BaseView, AreApart}
+use Rattle.frame_records.specs.BaseView.{BaseView, AreApart, frame_at}
+use Rattle.frame_records.specs.declared.frame.Frame.{Frame}
+use Rattle.page_ids.specs.Id.{Id}
 use Rattle.session_machine.specs.Open.{seek_entry}
 use Rattle.checker.specs.declared.policy.Policy.{Policy}
 use Rattle.checker.specs.Safe.{Safe}
@@ -20,6 +22,10 @@ pub record FaultsAreDue : Type 0 where
 abbrev pub FaultsAreShown : Type 0
 FaultsAreShown = (caller : List ℕ) (base : BaseView) (policy : Policy) (fault : Fault) → AreApart base → Contains (faults_of caller base policy) fault → Shows caller base policy fault
 
--- there is none exactly where the base is safe within the policy
+-- a frame has no more routes than there are digits
+abbrev pub HasDigitRoutes : BaseView → Type 0
+HasDigitRoutes base = (id : Id) (frame : Frame) → frame_at base id ≡ Some frame → length frame.routes ≤ 10
+
+-- there is none exactly where the base is safe within the policy. The premises are what every base keeps
 abbrev pub NoneIsSafe : Type 0
-NoneIsSafe = (caller : List ℕ) (base : BaseView) (policy : Policy) → AreApart base → (faults_of caller base policy ≡ []) ↔ Safe caller base policy.ceiling policy.keyings
+NoneIsSafe = (caller : List ℕ) (base : BaseView) (policy : Policy) → AreApart base → HasDigitRoutes base → (faults_of caller base policy ≡ []) ↔ Safe caller base policy.ceiling policy.keyings

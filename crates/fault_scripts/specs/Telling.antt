@@ -46,3 +46,10 @@ pub record IsTold (t : Teller) (found : List Discovered) (at : Option ℕ) (keys
   pub same_at : t.at ≡ at
   pub same_keys : t.keys.items ≡ keys
   pub same_faults : t.faults.items ≡ faults
+
+-- the discovered frame at an index has this id and rank
+pub record IsPlaceAt (found : List Discovered) (index : ℕ) (id : Id) (rank : Option ℕ) : Type 0 where
+  pub frame : Discovered
+  pub at : slice_get found index ≡ Some frame
+  pub same_id : frame.id ≡ id
+  pub same_rank : frame.rank ≡ rank

@@ -61,7 +61,12 @@ impl Judge {
 }
 
 // Judges all discovered frames, in order.
-pub fn judge_all(alloc: Global, base: &Base, policy: &Policy, found: Found) -> Result<Judge, AllocError>
+pub fn judge_all(
+    alloc: Global,
+    base: &Base,
+    policy: &Policy,
+    found: Found,
+) -> Result<Judge, AllocError>
     requires few { length found ≤ 65535 }
     requires extends { ScriptsExtend found }
     ensures { IfOk result (IsJudged base.now policy.now found (length found)) }

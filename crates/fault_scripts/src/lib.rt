@@ -5,6 +5,7 @@ mod fault;
 mod judge_frames;
 mod judging;
 mod laws;
+mod limits;
 mod outcome;
 mod replaying;
 mod table;

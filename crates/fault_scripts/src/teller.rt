@@ -1,10 +1,10 @@
-ghost use Rattle.std.specs.Prelude.{◌≡◌, ◌<◌, ◌∷◌, ◌++◌, [], Some, None, OnOk, IfOk, if◌then◌else◌, length, slice_get, option_map, map};
+ghost use Rattle.std.specs.Prelude.{◌≡◌, ◌<◌, ◌∷◌, ◌++◌, [], Some, None, OnOk, IfOk, if◌then◌else◌, length, slice_get, option_map};
 ghost use Rattle.frame_records.specs.Seek.{seek};
 ghost use Rattle.session_machine.specs.Runs.{target};
 ghost use Rattle.finder.specs.Found.{key_of, script, parent_of};
 ghost use Rattle.finder.specs.Walks.{sought_by, next_sought};
 ghost use Rattle.fault_scripts.specs.FaultsOf.{price_faults, touch_faults, sought_faults, offered_faults, keys_faults, is_far, return_faults};
-ghost use Rattle.fault_scripts.specs.Telling.{ScriptsExtend, HasScript, IsReady, IsTold, Tells, fault_of, pressed};
+ghost use Rattle.fault_scripts.specs.Telling.{ScriptsExtend, HasScript, IsReady, IsTold, IsPlaceAt, Tells, fault_of, pressed};
 
 use crate::fault::{Fault, FaultKind};
 use abstract_paint::Start;
@@ -104,7 +104,7 @@ impl Teller {
         requires script { HasScript self.old.found self.old.at self.old.keys.items }
         ensures told { IsTold self.new self.old.found self.old.at self.old.keys.items self.old.faults.items }
         ensures index { self.new.index ≡ index }
-        ensures place { slice_get (map (λ d. (d.id, d.rank)) self.old.found) index ≡ Some (self.new.id, result) }
+        ensures place { IsPlaceAt self.old.found index self.new.id result }
     {
         let place = &self.found.as_slice()[index as usize];
         let rank = place.rank;
