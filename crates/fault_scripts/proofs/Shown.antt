@@ -1,5 +1,5 @@
 -- A fault that is due is borne out by its script.
-use Rattle.std.proofs.Common.{◌≡◌, ◌<◌, ◌≤◌, ℕ, zero, suc, arith, Bool, true, false, cond, List, [], ◌∷◌, ◌++◌, Option, Some, None, slice_get, length, refl, sym, ◌∙◌, ap, subst}
+use Rattle.std.proofs.Common.{◌≡◌, ◌<◌, ℕ, zero, suc, arith, Bool, true, false, cond, List, [], ◌∷◌, Some, length, refl, sym, ◌∙◌, ap, subst}
 use Rattle.std.specs.Prelude.{Contains, slice_index_or}
 use Rattle.page_ids.specs.Id.{Id}
 use Rattle.page_ids.specs.declared.key.Key.{Key}
@@ -13,17 +13,16 @@ use Rattle.session_machine.specs.declared.reply.Reply.TheVariants.{Shown, Missin
 use Rattle.session_machine.specs.State.{SessionState, At, present}
 use Rattle.session_machine.specs.Step.{Outcome, key_step}
 use Rattle.session_machine.specs.Open.{entry_of, seek_entry, opening, opening_reply}
-use Rattle.session_machine.specs.Runs.{state_after, replies_to}
 use Rattle.checker.specs.declared.policy.Policy.{Policy}
-use Rattle.finder.specs.Found.{key_of, found_of}
+use Rattle.finder.specs.Found.{key_of}
 use Rattle.finder.specs.ScriptLaws.{KeysLead}
 use Rattle.finder.proofs.ScriptLaw.{scripts_lead}
 use Rattle.fault_scripts.specs.declared.fault.Fault.{Fault}
 use Rattle.fault_scripts.specs.declared.fault.FaultKind.{FaultKind}
 use Rattle.fault_scripts.specs.declared.fault.FaultKind.TheVariants as kind
 use Rattle.fault_scripts.specs.FaultsOf.{plain_fault, price_fault, touch_fault, key_fault, faults_by, faults_of}
-use Rattle.fault_scripts.specs.Replays.{last_of, last_reply, last_state}
-use Rattle.fault_scripts.specs.Shows.{ShowsEntry, EndsAtFrame, ShowsPrice, ShowsTouch, ShowsKey, ShowsNoReturn, ShowsAs, Shows}
+use Rattle.fault_scripts.specs.Replays.{last_state}
+use Rattle.fault_scripts.specs.Shows.{ShowsPrice, ShowsTouch, ShowsKey, ShowsNoReturn, ShowsAs, Shows}
 use Rattle.fault_scripts.specs.Due.{PriceIsDue, TouchIsDue, KeyIsDue, MissingIsDue, NoReturnIsDue, IsDueAs, IsDue}
 use Rattle.fault_scripts.specs.FaultLaws.{FaultsAreDue, FaultsAreShown}
 use Rattle.fault_scripts.proofs.Sessions.{RunsTo, keys_lead_run, closed_step, missing_step, state_and_key, last_and_key}

@@ -1,21 +1,21 @@
 -- A base with a fault that is shown isn't safe.
 use Rattle.std.proofs.Common.{◌≡◌, ◌<◌, ◌≤◌, ◌⊎◌, inl, inr, ℕ, zero, suc, Bool, true, false, cond, nat_lt, ◌&&◌, List, [], ◌∷◌, ◌++◌, Option, Some, None, option_map, length, refl, sym, ◌∙◌, ap, subst, arith}
-use Rattle.std.specs.Prelude.{◌==◌, option_and_then, if◌then◌else◌}
+use Rattle.std.specs.Prelude.{◌==◌, All, option_and_then}
 use Rattle.std.specs.List.{AllByRecursion}
 use Rattle.std.proofs.lemmas.Bool.Decides.{nat_tests}
 use Rattle.page_ids.specs.Id.{Id}
-use Rattle.page_ids.specs.Ids.{first_frame, following}
+use Rattle.page_ids.specs.Ids.{id_eq, first_frame, following}
 use Rattle.page_ids.specs.declared.key.Key.{Key}
 use Rattle.page_ids.specs.declared.key.Key.TheVariants.{Route, Next, Prev, Reprint, Update}
 use Rattle.frame_records.specs.declared.frame.Frame.{Frame}
 use Rattle.frame_records.specs.declared.base.Sought.{Sought}
 use Rattle.frame_records.specs.declared.base.Sought.TheVariants as sought
-use Rattle.frame_records.specs.BaseView.{BaseView, frame_at, lists_outside}
+use Rattle.frame_records.specs.BaseView.{BaseView, frame_among, frame_at, lists_outside}
 use Rattle.frame_records.specs.Seek.{seek, route_of}
 use Rattle.session_machine.specs.declared.reply.Reply.{Reply}
-use Rattle.session_machine.specs.declared.reply.Reply.TheVariants.{Shown, Again, NotOffered, Missing, Closed, Gone}
+use Rattle.session_machine.specs.declared.reply.Reply.TheVariants.{Again, Missing, Closed, Gone}
 use Rattle.session_machine.specs.State.{SessionState, At, Left, present}
-use Rattle.session_machine.specs.Step.{Outcome, key_step, route_at, offers_next, remember, not_offered, by_route, by_next, route_step, next_step, page_missing}
+use Rattle.session_machine.specs.Step.{Outcome, key_step, offers_next, remember, not_offered, by_route, by_next, route_step}
 use Rattle.session_machine.specs.Open.{entry_of, seek_entry, opening, opening_reply}
 use Rattle.session_machine.specs.Runs.{state_after, replies_to}
 use Rattle.session_machine.specs.Safe.{IsForward, Regains, LeftOrRegains, IsFairReply}
@@ -24,13 +24,13 @@ use Rattle.terminal_codes.specs.Touch.{IsClean}
 use Rattle.checker.specs.declared.policy.Policy.{Policy}
 use Rattle.checker.specs.Safe.{Safe, IsCleanAt, IsCleanReply}
 use Rattle.checker.proofs.Clears.{within}
-use Rattle.finder.specs.Walks.{Leads, Walk, sought_by, next_sought}
+use Rattle.finder.specs.Walks.{Leads, Walk, next_sought}
 use Rattle.fault_scripts.specs.declared.fault.Fault.{Fault}
 use Rattle.fault_scripts.specs.declared.fault.FaultKind.{FaultKind}
 use Rattle.fault_scripts.specs.declared.fault.FaultKind.TheVariants as kind
 use Rattle.fault_scripts.specs.Replays.{last_of, last_reply, last_state}
-use Rattle.fault_scripts.specs.Shows.{ShowsEntry, EndsAtFrame, ShowsPrice, ShowsTouch, ShowsKey, ShowsNoReturn, ShowsAs, Shows}
-use Rattle.fault_scripts.proofs.Sessions.{id_of_frame, state_and_key, last_and_key}
+use Rattle.fault_scripts.specs.Shows.{ShowsEntry, ShowsPrice, ShowsTouch, ShowsKey, ShowsNoReturn, ShowsAs, Shows}
+use Rattle.fault_scripts.proofs.Sessions.{id_of_frame, last_and_key}
 
 -- what holds of each reply, and of the one before, holds of the last
 last_holds : (P : Reply → Type 0) (before : Reply) (replies : List Reply) → P before → AllByRecursion P replies → P (last_of before replies)
@@ -204,3 +204,15 @@ module _ (caller : List ℕ) (base : BaseView) where
 -- a shown fault and safety exclude one another
 pub shown_is_unsafe : (caller : List ℕ) (base : BaseView) (policy : Policy) (fault : Fault) → ((f : Id) (frame : Frame) → frame_at base f ≡ Some frame → length frame.routes ≤ 10) → Shows caller base policy fault → Safe caller base policy.ceiling policy.keyings → ⊥
 shown_is_unsafe caller base policy fault few shown safe = unsafe_as caller base policy safe fault few fault.kind shown
+
+-- what a look-up finds is one of the frames
+found_holds : (P : Frame → Type 0) (id : Id) (frames : List Frame) (frame : Frame) → All P frames → frame_among frames id ≡ Some frame → P frame
+found_holds P id [] frame all at = absurd cc
+found_holds P id (first ∷ frames) frame all at = by (id_eq first.id id) at (found_holds P id frames frame (λ k d lt. all (suc k) d (omega (arith, lt)))) where
+  by : (b : Bool) → cond b (Some first) (frame_among frames id) ≡ Some frame → (frame_among frames id ≡ Some frame → P frame) → P frame
+  by true is later = let same : first ≡ frame = cc in subst P same (all 0 first (omega arith))
+  by false is later = later is
+
+-- where each frame has ten routes, none has more than there are digits
+pub few_routes : (base : BaseView) → All (λ f. length f.routes ≡ 10) base.frames → (id : Id) (frame : Frame) → frame_at base id ≡ Some frame → length frame.routes ≤ 10
+few_routes base ten id frame at = omega (arith, found_holds (λ f. length f.routes ≡ 10) id base.frames frame ten at)
