@@ -1,6 +1,7 @@
 //! The audit of a base.
 #![tactic(auto)]
 
+mod auditing;
 mod fault;
 mod judge_frames;
 mod judging;
@@ -11,6 +12,7 @@ mod replaying;
 mod table;
 mod teller;
 
+pub use auditing::faults;
 pub use fault::{Fault, FaultKind, FaultList};
 pub use laws::{faults_are_due, faults_are_shown, none_is_safe};
 pub use outcome::Outcome;
