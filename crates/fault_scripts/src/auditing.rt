@@ -9,7 +9,7 @@ ghost use Rattle.fault_scripts.specs.declared.fault.FaultKind.{FaultKind};
 ghost use Rattle.fault_scripts.specs.FaultsOf.{faults_of, faults_along, plain_fault};
 ghost use Rattle.fault_scripts.specs.Judged.{IsJudged};
 ghost use Rattle.fault_scripts.specs.Outcomes.{IsOutcome, IsCertificateOf, DecidesSafety, AreShown};
-ghost use Rattle.fault_scripts.specs.Table.{parts_along};
+ghost use Rattle.fault_scripts.specs.SortedTable.{IsTableInOrder, IsSortedTable};
 ghost use Rattle.fault_scripts.specs.TableView.{parts_of};
 
 use crate::fault::{Fault, FaultKind, FaultList};
@@ -66,4 +66,56 @@ pub fn faults(alloc: Global, base: &Base, policy: &Policy) -> Result<FaultList, 
             Ok(FaultList::of(judge.teller.faults))
         }
     }
+}
+
+// The certificate of a table's rows, in the order of their ids.
+fn certificate_of(base: &Base, table: Table) -> Certificate
+    requires { IsTableInOrder (parts_of table).rows }
+    ensures { IsSortedTable base.now (parts_of table) result }
+{
+    let mut rows = table.rows;
+    rows.sort_unstable_by_key(|row| row.id);
+    match Certificate::build(base.entry(), table.ceiling, table.keyings, rows) {
+        Ok(cert) => cert,
+        Err(_) => unreachable!(),
+    }
+}
+
+// The outcome of a base whose entry frame is found.
+fn audit_found(alloc: Global, base: &Base, policy: &Policy) -> Result<Outcome, AllocError>
+    requires { (price : ℕ) × (seek_entry [] base.now ≡ sought.Found price) }
+    ensures { IfOk result (IsOutcome [] base.now policy.now) }
+{
+    keeps_limits(base);
+    let judge = judged(alloc, base, policy)?;
+    if judge.teller.faults.as_slice().is_empty() {
+        Ok(Outcome::Certified(certificate_of(base, judge.table)))
+    } else {
+        Ok(Outcome::Faulty(FaultList::of(judge.teller.faults)))
+    }
+}
+
+// The outcome: a certificate, or the faults.
+fn outcome_of(alloc: Global, base: &Base, policy: &Policy) -> Result<Outcome, AllocError>
+    ensures { IfOk result (IsOutcome [] base.now policy.now) }
+{
+    match base.seek(base.entry_frame()) {
+        Sought::Missing => Ok(Outcome::Faulty(entry_fault(alloc, base, FaultKind::EntryMissing)?)),
+        Sought::Closed => Ok(Outcome::Faulty(entry_fault(alloc, base, FaultKind::EntryClosed)?)),
+        Sought::Found(_) => audit_found(alloc, base, policy),
+    }
+}
+
+/// Audits a base for a caller outside every group: a certificate exactly where every session is safe within the policy, else
+/// every fault.
+///
+/// The certificate covers just the frames that can be reached, with least ranks, the greatest price of a covered frame as its
+/// ceiling and the greatest rank as its keyings; `check` clears it. Each frame is painted once.
+pub fn audit(alloc: Global, base: &Base, policy: &Policy) -> Result<Outcome, AllocError>
+    ensures outcome { IfOk result (IsOutcome [] base.now policy.now) }
+    ensures safety { IfOk result (DecidesSafety [] base.now policy.now) }
+    ensures shown { IfOk result (AreShown [] base.now policy.now) }
+{
+    keeps_limits(base);
+    outcome_of(alloc, base, policy)
 }

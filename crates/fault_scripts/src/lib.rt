@@ -12,7 +12,7 @@ mod replaying;
 mod table;
 mod teller;
 
-pub use auditing::faults;
+pub use auditing::{audit, faults};
 pub use fault::{Fault, FaultKind, FaultList};
 pub use laws::{faults_are_due, faults_are_shown, none_is_safe};
 pub use outcome::Outcome;
