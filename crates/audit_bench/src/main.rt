@@ -34,9 +34,15 @@ fn push_frame(text: &mut Vec<u8>, number: u32) -> Result<(), AllocError> {
     text.extend_from_slice(b"[[frame]]\nid = \"")?;
     push_number(text, FIRST_PAGE.wrapping_add(number))?;
     text.extend_from_slice(b"a\"\nprice = 5\nroutes = { 0 = 100000, 1 = ")?;
-    push_number(text, FIRST_PAGE.wrapping_add(number.wrapping_add(1) % FRAMES))?;
+    push_number(
+        text,
+        FIRST_PAGE.wrapping_add(number.wrapping_add(1) % FRAMES),
+    )?;
     text.extend_from_slice(b", 9 = ")?;
-    push_number(text, FIRST_PAGE.wrapping_add(number.wrapping_mul(7) % FRAMES))?;
+    push_number(
+        text,
+        FIRST_PAGE.wrapping_add(number.wrapping_mul(7) % FRAMES),
+    )?;
     text.extend_from_slice(b" }\nbody = \"")?;
     text.extend_from_slice(&[b'x'; 160])?;
     text.extend_from_slice(b"\"\n")

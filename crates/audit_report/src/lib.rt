@@ -5,7 +5,8 @@
 //!   and writers.
 //! - [`read_whole`], [`write_whole`]: a source up to a limit, and a whole text into a sink with the number of bytes taken.
 //!   Neither tries a call again that answered an error.
-//! - [`verdict_text`], [`walk_text`], [`entry_text`], [`fault_text`]: each printed line, byte for byte as it is defined.
+//! - [`report`], [`verdict_text`], [`walk_text`], [`entry_text`], [`fault_text`]: each printed text, byte for byte as it is
+//!   defined.
 //! - [`RunFault`]: why a run ends without its work done.
 #![tactic(auto)]
 
@@ -15,6 +16,7 @@ mod from_read;
 mod into_write;
 mod push;
 mod reading;
+mod report_lines;
 mod run_fault;
 mod verdict_line;
 mod walk_lines;
@@ -25,6 +27,7 @@ pub use fault_line::fault_text;
 pub use from_read::FromRead;
 pub use into_write::IntoWrite;
 pub use reading::{SourceFault, read_whole};
+pub use report_lines::report;
 pub use run_fault::RunFault;
 pub use verdict_line::verdict_text;
 pub use walk_lines::{entry_text, walk_text};
