@@ -1,15 +1,14 @@
 -- Where there is no fault, the rows of the discovered frames, sorted, make the certificate.
-use Rattle.std.proofs.Common.{◌≡◌, ◌<◌, ◌≤◌, ◌+◌, ℕ, zero, suc, Bool, true, false, List, [], ◌∷◌, length, get_or, Option, Some, None, slice_get, refl, sym, ◌∙◌, ap, subst, cond, arith}
+use Rattle.std.proofs.Common.{◌≡◌, ◌<◌, ◌≤◌, ◌+◌, ℕ, Bool, true, false, List, [], length, get_or, Some, None, slice_get, refl, sym, ◌∙◌, ap, subst, cond, arith}
 use Rattle.std.specs.Prelude.{◌↔◌, Contains, IsPermutation, count_by}
 use Rattle.std.specs.Ordering.{is_lt}
 use Rattle.std.specs.List.Sorted.{IsSortedByKey}
-use Rattle.std.specs.declared.cmp.Ordering.TheVariants.{Less}
 use Rattle.std.proofs.lemmas.List.{get_or_default}
 use Rattle.std.proofs.lemmas.List.Sorted.{ranks_by, sorted_far, Contains-permutation, IsPermutation-sym, length_permutation, sum_by-IsPermutation}
 use Rattle.std.proofs.lemmas.List.Elements.{Contains-get_or}
 use Rattle.std.proofs.lemmas.Option.{slice_get_within}
 use Rattle.page_ids.specs.Id.{Id}
-use Rattle.page_ids.specs.Ids.{id_cmp, id_eq, first_frame}
+use Rattle.page_ids.specs.Ids.{id_cmp, id_eq}
 use Rattle.page_ids.specs.IdLaws.{id_cmp_total, id_eq_refl, before_of}
 use Rattle.frame_records.specs.declared.frame.Frame.{Frame}
 use Rattle.frame_records.specs.declared.base.Sought.TheVariants as sought
@@ -18,13 +17,13 @@ use Rattle.frame_records.proofs.Finds.{count_two}
 use Rattle.abstract_paint.specs.Cursor.{Ends, OnScreen}
 use Rattle.abstract_paint.proofs.Exact.{is_exact}
 use Rattle.abstract_paint.proofs.Unique.{ends_are_on_screen}
-use Rattle.session_machine.specs.Open.{entry_of, seek_entry}
+use Rattle.session_machine.specs.Open.{seek_entry}
 use Rattle.cert_table.specs.declared.row.Row.{Row}
 use Rattle.cert_table.specs.Rows.{AreRows, AreOnScreen}
 use Rattle.cert_table.specs.Table.{table_fault}
 use Rattle.cert_table.proofs.Tables.{no_fault}
 use Rattle.checker.specs.declared.policy.Policy.{Policy}
-use Rattle.checker.specs.Good.{Good, is_covered}
+use Rattle.checker.specs.Good.{is_covered}
 use Rattle.checker.proofs.IsCleared.{good_cleared}
 use Rattle.finder.specs.declared.found.Discovered.{Discovered}
 use Rattle.finder.specs.Walks.{IsDistance, IsReached}
@@ -33,13 +32,14 @@ use Rattle.finder.proofs.FoundList.{found_count}
 use Rattle.finder.proofs.Listing.{listing_few}
 use Rattle.fault_scripts.specs.FaultsOf.{faults_of}
 use Rattle.fault_scripts.specs.FaultLaws.{HasDigitRoutes}
-use Rattle.fault_scripts.specs.Outcomes.{IsGreatestPrice, IsGreatestRank, IsCertificateOf}
+use Rattle.fault_scripts.specs.Outcomes.{IsCertificateOf}
 use Rattle.fault_scripts.specs.Table.{parts_along}
 use Rattle.fault_scripts.proofs.Listed.{listed_once}
 use Rattle.fault_scripts.proofs.Sound.{IsSound}
-use Rattle.fault_scripts.proofs.Rows.{row_with, IsRowOf, Place, row_count, none_twice, price_most, rank_most}
+use Rattle.fault_scripts.proofs.Rows.{row_with, IsRowOf, row_count, none_twice, price_most, rank_most}
 use Rattle.fault_scripts.proofs.GoodRows.{certificate, covered_row, contained_covered, sound_at, row_is, row_there, reached_covered, price_top, rank_top, good}
 
+-- the ids don't fall
 abbrev pub SortedById : List Row → Type 0
 SortedById rows = IsSortedByKey (λ r. r.id) id_cmp rows
 

@@ -1,14 +1,12 @@
 -- Where there is no fault, the rows of the discovered frames make a good certificate.
-use Rattle.std.proofs.Common.{◌≡◌, ◌<◌, ◌≤◌, ◌⊎◌, inl, inr, ℕ, zero, suc, nat_lt, ◌&&◌, Bool, true, false, cond, if◌then◌else◌, List, [], ◌∷◌, length, get_or, Option, Some, None, option_map, is_some, slice_get, refl, sym, ◌∙◌, ap, subst, arith}
+use Rattle.std.proofs.Common.{◌≡◌, ◌<◌, ◌≤◌, ◌⊎◌, inl, inr, ℕ, zero, suc, nat_lt, ◌&&◌, Bool, true, false, cond, List, [], length, get_or, Option, Some, None, option_map, is_some, slice_get, refl, sym, ◌∙◌, ap, subst, arith}
 use Rattle.std.specs.Prelude.{◌==◌, ◌↔◌, Contains, option_and_then}
-use Rattle.std.specs.List.{AllByRecursion}
 use Rattle.std.proofs.lemmas.Bool.Decides.{nat_tests}
 use Rattle.std.proofs.lemmas.List.Elements.{Contains-get_or, recursion_from_All}
 use Rattle.std.proofs.lemmas.Option.{slice_get_within}
 use Rattle.page_ids.specs.Id.{Id}
 use Rattle.page_ids.specs.Ids.{id_eq, first_frame, following}
 use Rattle.page_ids.specs.IdLaws.{id_eq_same, id_eq_refl}
-use Rattle.page_ids.specs.declared.key.Key.{Key}
 use Rattle.page_ids.specs.declared.key.Key.TheVariants.{Route, Next}
 use Rattle.frame_records.specs.declared.frame.Frame.{Frame}
 use Rattle.frame_records.specs.declared.base.Sought.TheVariants as sought
@@ -16,7 +14,7 @@ use Rattle.frame_records.specs.BaseView.{BaseView, frame_at, lists_outside, AreA
 use Rattle.frame_records.specs.Seek.{route_of}
 use Rattle.frame_records.proofs.Finds.{first_found, none_found}
 use Rattle.abstract_paint.proofs.Exact.{is_exact}
-use Rattle.session_machine.specs.Step.{offers_next, route_at}
+use Rattle.session_machine.specs.Step.{offers_next}
 use Rattle.session_machine.specs.Open.{entry_of, seek_entry}
 use Rattle.session_machine.specs.Runs.{target}
 use Rattle.cert_table.specs.declared.row.Row.{Row}
@@ -31,9 +29,9 @@ use Rattle.finder.specs.Found.{found_of, key_of}
 use Rattle.fault_scripts.specs.FaultsOf.{faults_of}
 use Rattle.fault_scripts.specs.FaultLaws.{HasDigitRoutes}
 use Rattle.fault_scripts.specs.Table.{Parts, parts_along}
-use Rattle.fault_scripts.proofs.Listed.{reached_listed, listed_once}
+use Rattle.fault_scripts.proofs.Listed.{reached_listed}
 use Rattle.fault_scripts.proofs.Sessions.{id_of_frame}
-use Rattle.fault_scripts.proofs.Sound.{LeadsOn, IsSound, sound}
+use Rattle.fault_scripts.proofs.Sound.{IsSound, sound}
 use Rattle.fault_scripts.proofs.Rows.{row_with, IsRowOf, row_in, row_from, price_most, rank_most, Place, price_some, rank_some}
 
 -- the certificate of these rows

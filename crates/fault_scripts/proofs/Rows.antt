@@ -1,5 +1,5 @@
 -- The parts of a certificate, gathered from discovered frames without a fault: a row each, the greatest price and the greatest rank.
-use Rattle.std.proofs.Common.{◌≡◌, ◌<◌, ◌≤◌, ◌+◌, ◌⊎◌, inl, inr, ℕ, zero, suc, nat_lt, Bool, true, false, cond, if◌then◌else◌, List, [], ◌∷◌, ◌++◌, length, get_or, Option, Some, None, slice_get, refl, sym, ◌∙◌, ap, subst, arith}
+use Rattle.std.proofs.Common.{◌≡◌, ◌<◌, ◌≤◌, ◌+◌, ◌⊎◌, inl, inr, ℕ, zero, suc, nat_lt, Bool, true, false, cond, List, [], ◌∷◌, ◌++◌, length, get_or, Option, Some, None, slice_get, refl, sym, ◌∙◌, ap, subst, arith}
 use Rattle.std.specs.Prelude.{Contains, count_by}
 use Rattle.std.proofs.lemmas.Bool.Decides.{nat_tests}
 use Rattle.std.proofs.lemmas.Bool.{cases_lt}
@@ -18,7 +18,7 @@ use Rattle.abstract_paint.specs.Paint.{paint_of}
 use Rattle.cert_table.specs.declared.row.Row.{Row}
 use Rattle.checker.specs.declared.policy.Policy.{Policy}
 use Rattle.finder.specs.declared.found.Discovered.{Discovered}
-use Rattle.fault_scripts.specs.Table.{greater, row_of, rank_or_zero, Parts, with_parts, with_record, with_place, parts_upto}
+use Rattle.fault_scripts.specs.Table.{greater, row_of, rank_or_zero, Parts, with_record, with_place, parts_upto}
 use Rattle.fault_scripts.proofs.Elements.{none_in, in_one, one_in}
 use Rattle.fault_scripts.proofs.Sound.{IsSound}
 
