@@ -25,7 +25,8 @@ use Rattle.fault_scripts.proofs.Due.{just}
 use Rattle.fault_scripts.proofs.Ordered.{in_order}
 use Rattle.fault_scripts.proofs.Shown.{faults_shown}
 use Rattle.fault_scripts.proofs.Discoveries.{frames_few}
-use Rattle.fault_scripts.proofs.Certified.{certified, none_safe}
+use Rattle.fault_scripts.proofs.Certified.{certified}
+use Rattle.fault_scripts.proofs.NoneSafe.{none_safe}
 
 abbrev certificate : ℕ → ℕ → ℕ → List Row → CertView
 certificate entry ceiling keyings rows = record { entry = entry; ceiling = ceiling; keyings = keyings; rows = rows }
