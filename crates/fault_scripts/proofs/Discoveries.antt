@@ -1,13 +1,12 @@
 -- The list of discovered frames of a base whose entry frame is found.
-use Rattle.std.proofs.Common.{◌≡◌, ◌≤◌, ◌+◌, ℕ, nat_lt, Bool, true, false, List, [], ◌∷◌, ◌++◌, length, Option, Some, None, slice_get, refl, sym, ◌∙◌, ap, subst, ◌||◌, arith}
+use Rattle.std.proofs.Common.{◌≡◌, ◌≤◌, ℕ, nat_lt, Bool, true, false, List, [], ◌∷◌, ◌++◌, length, Option, Some, None, slice_get, refl, subst, ◌||◌, arith}
 use Rattle.std.proofs.lemmas.Bool.Decides.{nat_tests}
 use Rattle.page_ids.specs.declared.key.Key.{Key}
 use Rattle.frame_records.specs.declared.base.Sought.TheVariants.{Found}
-use Rattle.frame_records.specs.BaseView.{BaseView, IsBase, are_too_many}
+use Rattle.frame_records.specs.BaseView.{BaseView, IsBase}
 use Rattle.session_machine.specs.Open.{seek_entry}
 use Rattle.finder.specs.declared.found.Discovered.{Discovered}
 use Rattle.finder.specs.Found.{found_of, script, parent_of, parent_by}
-use Rattle.finder.specs.Walks.{listing}
 use Rattle.finder.proofs.Listing.{discovery}
 use Rattle.finder.proofs.ScriptLaw.{scripts_lead}
 use Rattle.finder.proofs.FoundList as found_list

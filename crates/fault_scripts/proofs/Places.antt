@@ -1,5 +1,5 @@
 -- The discovered frames, judged one after another.
-use Rattle.std.proofs.Common.{◌≡◌, ◌<◌, ◌+◌, ℕ, suc, List, [], ◌∷◌, ◌++◌, Option, Some, None, slice_get, refl, sym, ◌∙◌, ap, subst, arith}
+use Rattle.std.proofs.Common.{◌≡◌, ℕ, suc, List, [], ◌++◌, Option, Some, slice_get, sym, ◌∙◌, ap, subst}
 use Rattle.std.specs.Prelude.{Result, Ok, Err, OnOk}
 use Rattle.page_ids.specs.Id.{Id}
 use Rattle.page_ids.specs.declared.key.Key.{Key}
@@ -14,7 +14,6 @@ use Rattle.fault_scripts.specs.declared.teller.Teller.{Teller}
 use Rattle.fault_scripts.specs.declared.judge_frames.Judge.{Judge}
 use Rattle.fault_scripts.specs.FaultsOf.{faults_at, place_faults, record_faults, faults_upto}
 use Rattle.fault_scripts.specs.Table.{Parts, with_parts, with_record, with_place, parts_upto}
-use Rattle.fault_scripts.specs.TableView.{parts_of}
 use Rattle.fault_scripts.specs.Telling.{HasScript, IsTold, IsPlaceAt}
 use Rattle.fault_scripts.specs.Judged.{IsJudged, Judges}
 

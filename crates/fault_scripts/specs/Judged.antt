@@ -1,5 +1,5 @@
 -- How far the discovered frames have been judged.
-use Rattle.std.specs.Prelude.{◌≡◌, ◌<◌, ◌≤◌, ℕ, List, [], Option, length}
+use Rattle.std.specs.Prelude.{◌≡◌, ℕ, List, [], Option}
 use Rattle.frame_records.specs.BaseView.{BaseView}
 use Rattle.frame_records.specs.declared.frame.Frame.{Frame}
 use Rattle.abstract_paint.specs.Paint.{paint_of}

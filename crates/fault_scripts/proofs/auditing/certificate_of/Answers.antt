@@ -1,4 +1,4 @@
-use Rattle.std.proofs.Common.{◌≡◌, rules, sym, ◌∙◌, ap}
+use Rattle.std.proofs.Common.{rules, sym, ◌∙◌, ap}
 use Rattle.std.specs.List.Sorted.{IsSortedByKey}
 use Rattle.page_ids.specs.Ids.{id_cmp}
 use Rattle.frame_records.proofs.SortedKeys.{by_key}

@@ -1,4 +1,4 @@
-use Rattle.std.proofs.Common.{◌≡◌, ℕ, [], ◌≤◌, List, arith, subst}
+use Rattle.std.proofs.Common.{◌≡◌, ℕ, [], List, arith, subst}
 use Rattle.page_ids.specs.Id.{Id}
 use Rattle.page_ids.specs.declared.key.Key.{Key}
 use Rattle.page_ids.specs.declared.key.Key.TheVariants.{Next}

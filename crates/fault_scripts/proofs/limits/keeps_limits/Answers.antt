@@ -1,4 +1,4 @@
-use Rattle.std.proofs.Common.{◌≡◌, ◌≤◌, ℕ, List, length, get_or, Some, sym, subst}
+use Rattle.std.proofs.Common.{◌≤◌, List, length, subst}
 use Rattle.std.specs.Prelude.{All}
 use Rattle.page_ids.specs.Ids.{id_eq}
 use Rattle.frame_records.specs.declared.frame.Frame.{Frame}
