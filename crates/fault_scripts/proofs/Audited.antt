@@ -10,7 +10,7 @@ use Rattle.cert_table.specs.CertView.{CertView}
 use Rattle.cert_table.specs.Table.{table_fault}
 use Rattle.checker.specs.declared.policy.Policy.{Policy}
 use Rattle.finder.specs.Found.{found_of}
-use Rattle.fault_scripts.specs.declared.judge_frames.Judge.{Judge}
+use Rattle.fault_scripts.specs.declared.frames.Judge.{Judge}
 use Rattle.fault_scripts.specs.declared.outcome.Outcome.{Outcome}
 use Rattle.fault_scripts.specs.declared.outcome.Outcome.TheVariants.{Certified, Faulty}
 use Rattle.fault_scripts.specs.declared.fault.Fault.{Fault}

@@ -11,7 +11,7 @@ use Rattle.finder.specs.declared.found.Discovered.{Discovered}
 use Rattle.finder.specs.Found.{script}
 use Rattle.fault_scripts.specs.declared.fault.Fault.{Fault}
 use Rattle.fault_scripts.specs.declared.teller.Teller.{Teller}
-use Rattle.fault_scripts.specs.declared.judge_frames.Judge.{Judge}
+use Rattle.fault_scripts.specs.declared.frames.Judge.{Judge}
 use Rattle.fault_scripts.specs.FaultsOf.{faults_at, place_faults, record_faults, faults_upto}
 use Rattle.fault_scripts.specs.Table.{Parts, with_parts, with_record, with_place, parts_upto}
 use Rattle.fault_scripts.specs.Telling.{HasScript, IsTold, IsPlaceAt}

@@ -13,8 +13,8 @@ ghost use Rattle.fault_scripts.specs.SortedTable.{IsTableInOrder, IsSortedTable}
 ghost use Rattle.fault_scripts.specs.TableView.{parts_of};
 
 use crate::fault::{Fault, FaultKind, FaultList};
-use crate::judge_frames::{Judge, judge_all};
-use crate::judging::no_price;
+use crate::frames::{Judge, judge_all};
+use crate::kinds::no_price;
 use crate::limits::keeps_limits;
 use crate::outcome::Outcome;
 use crate::table::Table;

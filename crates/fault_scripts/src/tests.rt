@@ -6,7 +6,7 @@ use base_text::base_read;
 use cert_table::{Certificate, Cover, Row};
 use checker::Policy;
 use frame_records::{Base, Pence};
-use page_ids::{Digit, FrameId, Key, keys_read, keys_text};
+use page_ids::{FrameId, Key, KeyList, keys_read, keys_text};
 use session_machine::{OpenFault, Reply};
 use std::alloc::Global;
 use std::process::Abort;
@@ -52,33 +52,31 @@ fn demo(alloc: Global, old: &str, new: &str) -> Result<Base, Fail> {
     base_of(alloc, text.as_str())
 }
 
-fn digit(number: u8) -> Result<Key, Fail> {
-    Ok(Key::Route(Digit::new(number).ok_or("digit")?))
+// The text of a key; empty where there is none.
+fn key_text(alloc: Global, key: Option<Key>) -> Result<Vec<u8>, Fail> {
+    let mut keys = Vec::new(alloc);
+    if let Some(key) = key {
+        keys.push(key)?;
+    }
+    Ok(keys_text(alloc, &KeyList::of(keys))?)
 }
 
-// The fault has this kind, frame, key, frame sought and script.
+// The fault has this kind, frame, key, frame sought and script; a key or a frame sought that isn't there is the empty text.
 fn assert_fault(
     rt: &(impl Abort + AllocGlobal),
     fault: &Fault,
     kind: FaultKind,
     frame: &str,
-    sought: Option<(Key, &str)>,
+    key: &str,
+    sought: &str,
     script: &str,
 ) -> Result<(), Fail> {
-    let keys = keys_text(rt.alloc(), &fault.script)?;
     assert_eq!(rt; fault.kind, kind, "{script}");
     assert_eq!(rt; fault.frame, FrameId::read(frame)?, "{script}");
+    assert_eq!(rt; key_text(rt.alloc(), fault.key)?.as_slice(), key.as_bytes());
+    assert_eq!(rt; fault.sought, FrameId::read(sought).ok(), "{script}");
+    let keys = keys_text(rt.alloc(), &fault.script)?;
     assert_eq!(rt; keys.as_slice(), script.as_bytes());
-    match sought {
-        Some((key, to)) => {
-            assert_eq!(rt; fault.key, Some(key), "{script}");
-            assert_eq!(rt; fault.sought, Some(FrameId::read(to)?), "{script}");
-        }
-        None => {
-            assert!(rt; fault.key.is_none());
-            assert!(rt; fault.sought.is_none());
-        }
-    }
     Ok(())
 }
 
@@ -138,14 +136,7 @@ fn a_closed_frame_is_told_where_its_key_is_pressed(rt: HostRuntime) -> Result<()
     let list = faulty(&rt, &base, &policy(50, 3)?)?;
     assert_eq!(rt; list.as_slice().len(), 1);
     let fault = &list.as_slice()[0];
-    assert_fault(
-        &rt,
-        fault,
-        FaultKind::Closed,
-        "1231a",
-        Some((Key::Next, "1231b")),
-        "1#",
-    )?;
+    assert_fault(&rt, fault, FaultKind::Closed, "1231a", "#", "1231b", "1#")?;
     let end = replay(rt.alloc(), &base, &fault.script)?;
     assert_eq!(rt; end.last, Reply::Closed(FrameId::read("1231b")?));
     assert_eq!(rt; end.at, Some(FrameId::read("1231a")?));
@@ -158,10 +149,9 @@ fn each_key_to_a_missing_page_is_told(rt: HostRuntime) -> Result<(), Fail> {
     let base = demo(rt.alloc(), LAST, routes)?;
     let list = faulty(&rt, &base, &policy(50, 3)?)?;
     assert_eq!(rt; list.as_slice().len(), 2);
-    let wanted: [(u8, &str); 2] = [(8, "1#8"), (9, "1#9")];
-    for (fault, (number, script)) in list.as_slice().iter().zip(wanted) {
-        let sought = Some((digit(number)?, "555a"));
-        assert_fault(&rt, fault, FaultKind::Missing, "1231b", sought, script)?;
+    let wanted: [(&str, &str); 2] = [("8", "1#8"), ("9", "1#9")];
+    for (fault, (key, script)) in list.as_slice().iter().zip(wanted) {
+        assert_fault(&rt, fault, FaultKind::Missing, "1231b", key, "555a", script)?;
     }
     Ok(())
 }
@@ -172,7 +162,7 @@ fn a_frame_without_a_way_back_is_told(rt: HostRuntime) -> Result<(), Fail> {
     let list = faulty(&rt, &base, &policy(50, 3)?)?;
     assert_eq!(rt; list.as_slice().len(), 1);
     let fault = &list.as_slice()[0];
-    assert_fault(&rt, fault, FaultKind::NoReturn, "1231b", None, "1#")
+    assert_fault(&rt, fault, FaultKind::NoReturn, "1231b", "", "", "1#")
 }
 
 #[test]
@@ -186,7 +176,7 @@ fn faults_come_in_the_order_of_discovery(rt: HostRuntime) -> Result<(), Fail> {
         (FaultKind::NoReturn, "1231b", "1#"),
     ];
     for (fault, (kind, frame, script)) in list.as_slice().iter().zip(wanted) {
-        assert_fault(&rt, fault, kind, frame, None, script)?;
+        assert_fault(&rt, fault, kind, frame, "", "", script)?;
     }
     assert_eq!(rt; list.as_slice()[0].price.get(), 5);
     assert_eq!(rt; list.as_slice()[1].price.get(), 0);
@@ -199,7 +189,7 @@ fn a_touch_is_told_with_its_least_start(rt: HostRuntime) -> Result<(), Fail> {
     let list = faulty(&rt, &base, &policy(50, 3)?)?;
     assert_eq!(rt; list.as_slice().len(), 1);
     let fault = &list.as_slice()[0];
-    assert_fault(&rt, fault, FaultKind::Touches, "1231b", None, "1#")?;
+    assert_fault(&rt, fault, FaultKind::Touches, "1231b", "", "", "1#")?;
     assert_eq!(rt;
         fault.start,
         Some(Start {
@@ -215,17 +205,17 @@ fn a_touch_is_told_with_its_least_start(rt: HostRuntime) -> Result<(), Fail> {
 fn one_frame_has_a_fault_of_each_kind(rt: HostRuntime) -> Result<(), Fail> {
     let base = base_of(rt.alloc(), ALL_KINDS)?;
     let list = faulty(&rt, &base, &policy(50, 3)?)?;
-    let wanted: [(FaultKind, Option<(Key, &str)>, &str); 6] = [
-        (FaultKind::Price, None, "4"),
-        (FaultKind::Touches, None, "4"),
-        (FaultKind::Missing, Some((digit(3)?, "7a")), "43"),
-        (FaultKind::Closed, Some((digit(6)?, "8a")), "46"),
-        (FaultKind::Missing, Some((Key::Next, "2b")), "4#"),
-        (FaultKind::NoReturn, None, "4"),
+    let wanted: [(FaultKind, &str, &str, &str); 6] = [
+        (FaultKind::Price, "", "", "4"),
+        (FaultKind::Touches, "", "", "4"),
+        (FaultKind::Missing, "3", "7a", "43"),
+        (FaultKind::Closed, "6", "8a", "46"),
+        (FaultKind::Missing, "#", "2b", "4#"),
+        (FaultKind::NoReturn, "", "", "4"),
     ];
     assert_eq!(rt; list.as_slice().len(), wanted.len());
-    for (fault, (kind, sought, script)) in list.as_slice().iter().zip(wanted) {
-        assert_fault(&rt, fault, kind, "2a", sought, script)?;
+    for (fault, (kind, key, sought, script)) in list.as_slice().iter().zip(wanted) {
+        assert_fault(&rt, fault, kind, "2a", key, sought, script)?;
     }
     assert_eq!(rt; list.as_slice()[0].price.get(), 60);
     Ok(())
@@ -237,7 +227,7 @@ fn an_entry_that_is_not_found_is_the_one_fault(rt: HostRuntime) -> Result<(), Fa
     let list = faulty(&rt, &base, &policy(0, 0)?)?;
     assert_eq!(rt; list.as_slice().len(), 1);
     let fault = &list.as_slice()[0];
-    assert_fault(&rt, fault, FaultKind::EntryMissing, "0a", None, "")?;
+    assert_fault(&rt, fault, FaultKind::EntryMissing, "0a", "", "", "")?;
     assert_eq!(rt;
         replay(rt.alloc(), &base, &fault.script),
         Err(OpenFault::EntryMissing)
@@ -246,7 +236,7 @@ fn an_entry_that_is_not_found_is_the_one_fault(rt: HostRuntime) -> Result<(), Fa
     let list = faulty(&rt, &base, &policy(50, 3)?)?;
     assert_eq!(rt; list.as_slice().len(), 1);
     let fault = &list.as_slice()[0];
-    assert_fault(&rt, fault, FaultKind::EntryClosed, "123a", None, "")
+    assert_fault(&rt, fault, FaultKind::EntryClosed, "123a", "", "", "")
 }
 
 #[test]
@@ -255,7 +245,7 @@ fn the_entry_frame_may_be_too_dear(rt: HostRuntime) -> Result<(), Fail> {
     let list = faulty(&rt, &base, &policy(50, 3)?)?;
     assert_eq!(rt; list.as_slice().len(), 1);
     let fault = &list.as_slice()[0];
-    assert_fault(&rt, fault, FaultKind::Price, "123a", None, "")?;
+    assert_fault(&rt, fault, FaultKind::Price, "123a", "", "", "")?;
     assert_eq!(rt; fault.price.get(), 51);
     Ok(())
 }

@@ -3,7 +3,7 @@ use Rattle.std.specs.Prelude.{OnOk}
 use Rattle.std.specs.Option.{option_copied}
 use Rattle.fault_scripts.specs.Judged.{IsJudged}
 use Rattle.fault_scripts.proofs.Places.{judged_then}
-use Rattle.fault_scripts.proofs.judge_frames.Judge.place.Goals as goal
+use Rattle.fault_scripts.proofs.frames.Judge.place.Goals as goal
 
 pub returns-in-Some : goal.returns-in-Some
 returns-in-Some c =
