@@ -93,28 +93,35 @@ fn policy(ceiling: u16) -> Result<Policy> {
     }
 }
 
+// The tree is made and let go.
 fn tree_time(rt: &HostRuntime, text: &[u8]) -> Result<Duration> {
     let start = rt.thread_cpu_time()?;
-    let tree = toml::table_from_slice(rt.alloc(), text);
+    let is_toml = toml::table_from_slice(rt.alloc(), text).is_ok();
     let time = rt.thread_cpu_time()?.saturating_sub(start);
-    if tree.is_err() {
+    if !is_toml {
         bail!("the text is no TOML");
     }
     Ok(time)
 }
 
-// Reading, auditing and writing the certificate.
-fn safe_time(rt: &HostRuntime, text: &[u8]) -> Result<Duration> {
+// Reading the base, and then auditing it and writing the certificate.
+fn safe_times(rt: &HostRuntime, text: &[u8]) -> Result<(Duration, Duration)> {
     let policy = policy(5)?;
     let start = rt.thread_cpu_time()?;
     let Ok(base) = base_read(rt.alloc(), text) else {
         bail!("the text is not read");
     };
+    let read = rt.thread_cpu_time()?;
+    let found = finder::find(rt.alloc(), &base)?;
+    let mid = rt.thread_cpu_time()?;
+    eprintln!(rt; "find {} us", mid.saturating_sub(read).as_micros())?;
     let outcome = audit(rt.alloc(), &base, &policy)?;
     let printed = report(rt.alloc(), &outcome)?;
-    let time = rt.thread_cpu_time()?.saturating_sub(start);
+    let end = rt.thread_cpu_time()?;
     match outcome {
-        Outcome::Certified(_) if printed.as_slice().starts_with(b"PBC1\n") => Ok(time),
+        Outcome::Certified(_) if printed.as_slice().starts_with(b"PBC1\n") => {
+            Ok((read.saturating_sub(start), end.saturating_sub(read)))
+        }
         _ => bail!("the base is not certified"),
     }
 }
@@ -171,10 +178,11 @@ fn faults_time(rt: &HostRuntime, base: &Base) -> Result<(Duration, usize)> {
 fn main(rt: HostRuntime) -> Result<()> {
     let text = large_text(rt.alloc())?;
     let tree = tree_time(&rt, text.as_slice())?.as_millis();
-    let safe = safe_time(&rt, text.as_slice())?.as_millis();
+    let (read, audited) = safe_times(&rt, text.as_slice())?;
+    let (read, audited) = (read.as_millis(), audited.as_millis());
     eprintln!(rt;
-        "TOML alone {tree} ms, audit of a safe base {safe} ms, {} percent",
-        percent(safe, tree)
+        "TOML alone {tree} ms, base_read {read} ms, audit and report {audited} ms, together {} percent",
+        percent(read.saturating_add(audited), tree)
     )?;
     let base = chain(rt.alloc())?;
     let (time, length) = faults_time(&rt, &base)?;
