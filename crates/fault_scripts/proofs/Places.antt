@@ -1,5 +1,6 @@
 -- The discovered frames, judged one after another.
-use Rattle.std.proofs.Common.{◌≡◌, ◌<◌, ◌+◌, ℕ, suc, List, [], ◌∷◌, ◌++◌, Option, Some, None, slice_get, refl, sym, ◌∙◌, ap, subst, arith}
+use Rattle.std.proofs.Common.{◌≡◌, ℕ, suc, List, [], ◌++◌, Option, Some, slice_get, sym, ◌∙◌, ap, subst}
+use Rattle.std.specs.Prelude.{Result, Ok, Err, OnOk}
 use Rattle.page_ids.specs.Id.{Id}
 use Rattle.page_ids.specs.declared.key.Key.{Key}
 use Rattle.frame_records.specs.declared.frame.Frame.{Frame}
@@ -10,10 +11,9 @@ use Rattle.finder.specs.declared.found.Discovered.{Discovered}
 use Rattle.finder.specs.Found.{script}
 use Rattle.fault_scripts.specs.declared.fault.Fault.{Fault}
 use Rattle.fault_scripts.specs.declared.teller.Teller.{Teller}
-use Rattle.fault_scripts.specs.declared.judge_frames.Judge.{Judge}
+use Rattle.fault_scripts.specs.declared.frames.Judge.{Judge}
 use Rattle.fault_scripts.specs.FaultsOf.{faults_at, place_faults, record_faults, faults_upto}
 use Rattle.fault_scripts.specs.Table.{Parts, with_parts, with_record, with_place, parts_upto}
-use Rattle.fault_scripts.specs.TableView.{parts_of}
 use Rattle.fault_scripts.specs.Telling.{HasScript, IsTold, IsPlaceAt}
 use Rattle.fault_scripts.specs.Judged.{IsJudged, Judges}
 
@@ -47,6 +47,7 @@ judged_more base policy found index old new t rank frame j told at p is more =
       parts = more.parts ∙ ap (λ (q : Parts). with_parts q t.id rank frame.price (paint_of frame.lead frame.body)) j.parts ∙ sym (parts_are base found index t.id rank frame (parts_upto base found index) p is);
     }
 
--- a place without a record, of which nothing is told
-pub judged_none : (base : BaseView) (policy : Policy) (found : List Discovered) (index : ℕ) (old new : Judge) (t : Teller) (rank : Option ℕ) → IsJudged base policy found index old → IsTold t found old.teller.at old.teller.keys.items old.teller.faults.items → IsPlaceAt found index t.id rank → frame_at base t.id ≡ None → new ≡ record { teller = t; table = old.table } → IsJudged base policy found (suc index) new
-judged_none base policy found index old new t rank j told p none is = ?
+-- the same with what the call answered
+pub judged_then : {X E : Type 0} (base : BaseView) (policy : Policy) (found : List Discovered) (index : ℕ) (old new : Judge) (t : Teller) (rank : Option ℕ) (frame : Frame) (r : Result X E) → IsJudged base policy found index old → IsTold t found old.teller.at old.teller.keys.items old.teller.faults.items → t.index ≡ index → IsPlaceAt found index t.id rank → frame_at base t.id ≡ Some frame → OnOk r (Judges [] base policy frame rank (record { teller = t; table = old.table }) new) → OnOk r (IsJudged base policy found (suc index) new)
+judged_then base policy found index old new t rank frame (Ok u) j told at p is more = judged_more base policy found index old new t rank frame j told at p is more
+judged_then base policy found index old new t rank frame (Err e) j told at p is more = more

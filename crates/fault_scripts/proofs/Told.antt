@@ -1,5 +1,5 @@
 -- Faults that are told one after another.
-use Rattle.std.proofs.Common.{◌≡◌, ◌<◌, ℕ, List, [], ◌∷◌, ◌++◌, Option, Some, None, slice_get, refl, sym, ◌∙◌, ap, subst, append_assoc}
+use Rattle.std.proofs.Common.{◌≡◌, ℕ, List, [], ◌∷◌, ◌++◌, Option, Some, slice_get, sym, ◌∙◌, ap, subst, append_assoc}
 use Rattle.std.specs.Prelude.{Result, Ok, Err, OnOk}
 use Rattle.page_ids.specs.Id.{Id}
 use Rattle.page_ids.specs.declared.key.Key.{Key}
@@ -7,7 +7,7 @@ use Rattle.finder.specs.declared.found.Discovered.{Discovered}
 use Rattle.finder.specs.Found.{script, parent_of}
 use Rattle.fault_scripts.specs.declared.fault.Fault.{Fault}
 use Rattle.fault_scripts.specs.declared.teller.Teller.{Teller}
-use Rattle.fault_scripts.specs.Telling.{ScriptsExtend, HasScript, IsReady, Tells}
+use Rattle.fault_scripts.specs.Telling.{ScriptsExtend, HasScript, Tells}
 
 -- the parent's script and the key that led from it are the script
 pub led : (found : List Discovered) (at : Option ℕ) (keys more : List Key) (index : ℕ) (p : ℕ × Key) → ScriptsExtend found → HasScript found at keys → parent_of (slice_get found index) ≡ Some p → at ≡ Some p.0 → more ≡ keys ++ p.1 ∷ [] → more ≡ script found index

@@ -1,5 +1,5 @@
 -- What the list of faults says, of every caller, base and policy.
-use Rattle.std.specs.Prelude.{◌≡◌, ◌≢◌, ◌↔◌, ◌<◌, ◌≤◌, ℕ, List, [], Some, Contains, slice_get, length}
+use Rattle.std.specs.Prelude.{◌≡◌, ◌↔◌, ◌<◌, ◌≤◌, ℕ, List, [], Some, Contains, slice_get, length}
 use Rattle.frame_records.specs.declared.base.Sought.TheVariants as sought
 use Rattle.frame_records.specs.BaseView.{BaseView, AreApart, frame_at}
 use Rattle.frame_records.specs.declared.frame.Frame.{Frame}

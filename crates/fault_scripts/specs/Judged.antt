@@ -1,12 +1,12 @@
 -- How far the discovered frames have been judged.
-use Rattle.std.specs.Prelude.{◌≡◌, ◌<◌, ◌≤◌, ℕ, List, [], Option, length}
+use Rattle.std.specs.Prelude.{◌≡◌, ℕ, List, [], Option}
 use Rattle.frame_records.specs.BaseView.{BaseView}
 use Rattle.frame_records.specs.declared.frame.Frame.{Frame}
 use Rattle.abstract_paint.specs.Paint.{paint_of}
 use Rattle.checker.specs.declared.policy.Policy.{Policy}
 use Rattle.finder.specs.declared.found.Discovered.{Discovered}
 use Rattle.finder.specs.Found.{script}
-use Rattle.fault_scripts.specs.declared.judge_frames.Judge.{Judge}
+use Rattle.fault_scripts.specs.declared.frames.Judge.{Judge}
 use Rattle.fault_scripts.specs.FaultsOf.{faults_upto, faults_at}
 use Rattle.fault_scripts.specs.Table.{parts_upto, with_parts}
 use Rattle.fault_scripts.specs.TableView.{parts_of}

@@ -9,3 +9,4 @@ pub mod Table
 pub mod Telling
 pub mod TableView
 pub mod Judged
+pub mod SortedTable

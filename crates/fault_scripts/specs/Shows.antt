@@ -1,5 +1,5 @@
 -- What bears a fault out: what its script, run as a session, comes to. The caller is the list of the caller's groups.
-use Rattle.std.specs.Prelude.{◌≡◌, ◌≤◌, ◌<◌, ◌++◌, ◌∷◌, [], ℕ, List, Option, Some}
+use Rattle.std.specs.Prelude.{◌≡◌, ◌≤◌, ◌<◌, ◌++◌, ◌∷◌, [], ℕ, List, Some}
 use Rattle.page_ids.specs.Id.{Id}
 use Rattle.page_ids.specs.declared.key.Key.{Key}
 use Rattle.frame_records.specs.declared.frame.Frame.{Frame}

@@ -1,9 +1,17 @@
-//! The audit of a base.
+//! The audit of a base: a certificate exactly where every session is safe within a policy, else every fault with the keys that
+//! show it.
+//!
+//! - [`audit`], [`Outcome`]: the certificate of the frames that can be reached, or the faults.
+//! - [`faults`], [`FaultList`], [`Fault`], [`FaultKind`]: what is wrong with a base, frame by frame in the order of discovery.
+//! - [`replay`], [`Replayed`]: what a session of a fault's keys comes to.
+//! - [`faults_are_due`], [`faults_are_shown`], [`none_is_safe`]: the list is complete, each fault is borne out by its script,
+//!   and there is none exactly where the base is safe.
 #![tactic(auto)]
 
+mod auditing;
 mod fault;
-mod judge_frames;
-mod judging;
+mod frames;
+mod kinds;
 mod laws;
 mod limits;
 mod outcome;
@@ -11,7 +19,11 @@ mod replaying;
 mod table;
 mod teller;
 
+pub use auditing::{audit, faults};
 pub use fault::{Fault, FaultKind, FaultList};
 pub use laws::{faults_are_due, faults_are_shown, none_is_safe};
 pub use outcome::Outcome;
 pub use replaying::{Replayed, replay};
+
+#[cfg(test)]
+mod tests;

@@ -1,4 +1,5 @@
 ghost use Rattle.std.specs.Prelude.{◌≤◌, length, All};
+ghost use Rattle.frame_records.specs.BaseView.{IsBase};
 ghost use Rattle.fault_scripts.specs.FaultLaws.{HasDigitRoutes};
 
 use frame_records::{Base, Frame};
@@ -26,9 +27,10 @@ fn are_counted(frames: &[Frame])
     }
 }
 
-// No frame has more routes than there are digits.
-pub fn has_digit_routes(base: &Base)
-    ensures { HasDigitRoutes base.now }
+// What every base keeps.
+pub fn keeps_limits(base: &Base)
+    ensures valid { IsBase base.now }
+    ensures routes { HasDigitRoutes base.now }
 {
     are_counted(base.frames());
 }

@@ -3,7 +3,7 @@ ghost use Rattle.abstract_paint.specs.Paint.{paint_of};
 ghost use Rattle.fault_scripts.specs.Table.{Parts, greater, row_of, rank_or_zero, no_parts, with_parts};
 ghost use Rattle.fault_scripts.specs.TableView.{parts_of};
 
-use crate::judging::no_price;
+use crate::kinds::no_price;
 use abstract_paint::Painted;
 use cert_table::Row;
 use frame_records::Pence;

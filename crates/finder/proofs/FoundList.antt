@@ -11,7 +11,7 @@ use Rattle.finder.specs.declared.found.Discovered.{Discovered}
 use Rattle.finder.specs.Discovery.{Origin}
 use Rattle.finder.specs.Walks.{listing}
 use Rattle.finder.specs.Found.{with_rank, rank_of, push_found, found_upto, found_by, found_of}
-use Rattle.finder.proofs.Order.{push_end, split, lt_or_le}
+use Rattle.finder.proofs.Order.{push_end, split, lt_or_le, some_eq}
 use Rattle.finder.proofs.Listing.{discovery, listing_closed, listing_missing}
 
 slice_push : {X : Type 0} (xs : List X) (y : X) (i : ℕ) → i < length xs → slice_get (xs ++ y ∷ []) i ≡ slice_get xs i
@@ -72,3 +72,12 @@ pub found_some : (caller : List ℕ) (base : BaseView) (price : ℕ) → seek ca
 found_some caller base price e none =
     let first = (discovery caller base price e).order.first in
     absurd (omega (arith, slice_get_within (listing caller base) 0 (first_frame base.entry, None) first, found_count caller base, ap length none))
+
+-- what stands in a list where each item goes through a function
+mapped : {A B : Type 0} (f : A → B) (r : Option A) (y : B) → option_map f r ≡ Some y → (x : A) × (r ≡ Some x) × (f x ≡ y)
+mapped f None y e = absurd cc
+mapped f (Some x) y e = (x, refl, some_eq (f x) y e)
+
+-- the entry of the listing that a discovered frame stands for
+pub entry_of : (caller : List ℕ) (base : BaseView) (i : ℕ) (d : Discovered) → slice_get (found_of caller base) i ≡ Some d → (e : Id × Option Origin) × (slice_get (listing caller base) i ≡ Some e) × (with_rank e (rank_of base (listing caller base) i) ≡ d)
+entry_of caller base i d at = mapped (λ e. with_rank e (rank_of base (listing caller base) i)) (slice_get (listing caller base) i) d (sym (found_frames caller base i) ∙ at)

@@ -17,12 +17,7 @@ use Rattle.finder.specs.Found.{key_of, with_rank, rank_of, found_of, parent_by, 
 use Rattle.finder.specs.ScriptLaws.{KeysLead, ScriptsLead}
 use Rattle.finder.proofs.Order.{some_eq}
 use Rattle.finder.proofs.Listing.{discovery, leads_of}
-use Rattle.finder.proofs.FoundList.{found_frames}
-
--- what stands in a list where each item goes through a function
-mapped : {A B : Type 0} (f : A → B) (r : Option A) (y : B) → option_map f r ≡ Some y → (x : A) × (r ≡ Some x) × (f x ≡ y)
-mapped f None y e = absurd cc
-mapped f (Some x) y e = (x, refl, some_eq (f x) y e)
+use Rattle.finder.proofs.FoundList.{found_frames, entry_of}
 
 -- parents stand before their children
 abbrev ParentsBefore : List Discovered → Type 0
@@ -74,10 +69,6 @@ module _ (caller : List ℕ) (base : BaseView) (price : ℕ) (found : seek calle
   is : IsDiscovery caller base es
   is = discovery caller base price found
 
-  -- the entry of the listing that a discovered frame stands for
-  entry_of : (i : ℕ) (d : Discovered) → slice_get ds i ≡ Some d → (e : Id × Option Origin) × (slice_get es i ≡ Some e) × (with_rank e (rank_of base es i) ≡ d)
-  entry_of i d at = mapped (λ e. with_rank e (rank_of base es i)) (slice_get es i) d (sym (found_frames caller base i) ∙ at)
-
   -- what a discovered frame's parent and key say
   pub record IsChild (i : ℕ) (id : Id) (p : ℕ × Key) : Type 0 where
     pub before : p.0 < i
@@ -106,7 +97,7 @@ module _ (caller : List ℕ) (base : BaseView) (price : ℕ) (found : seek calle
 
   child_of : (i : ℕ) (d : Discovered) (p : ℕ × Key) → slice_get ds i ≡ Some d → parent_of (Some d) ≡ Some p → IsChild i d.id p
   child_of i d p at e =
-      let x = entry_of i d at in
+      let x = entry_of caller base i d at in
       let id : x.0.0 ≡ d.id = ap (λ (y : Discovered). y.id) x.2 in
       subst (λ (y : Id). IsChild i y p) id (child_by i x.0.0 x.0.1 p x.1 (ap (λ (y : Discovered). parent_of (Some y)) x.2 ∙ e))
 
@@ -119,7 +110,7 @@ module _ (caller : List ℕ) (base : BaseView) (price : ℕ) (found : seek calle
 
   first_of_all : (i : ℕ) (d : Discovered) → slice_get ds i ≡ Some d → parent_of (Some d) ≡ None → (i ≡ 0) × (entry ≡ d.id)
   first_of_all i d at e =
-      let x = entry_of i d at in
+      let x = entry_of caller base i d at in
       let id : x.0.0 ≡ d.id = ap (λ (y : Discovered). y.id) x.2 in
       let f = first_by i x.0.0 x.0.1 x.1 (ap (λ (y : Discovered). parent_of (Some y)) x.2 ∙ e) in
       (f.0, f.1 ∙ id)

@@ -1,5 +1,6 @@
-ghost use Rattle.std.specs.Prelude.{◌≡◌, ◌≤◌, [], ◌∷◌, ◌++◌, IfOk, OnOk, length, option_map, slice_get};
+ghost use Rattle.std.specs.Prelude.{◌≡◌, ◌≤◌, ◌↔◌, [], ◌∷◌, ◌++◌, IfOk, OnOk, length, option_map, slice_get};
 ghost use Rattle.finder.specs.Edges.{rank_in};
+ghost use Rattle.finder.specs.Finds.{FindsReached, RanksAreLeast, UnrankedAreCutOff, EntryIsFound};
 ghost use Rattle.finder.specs.Found.{key_of, found_of, with_rank, found_upto};
 
 use crate::discover::{Listing, discover};
@@ -124,7 +125,11 @@ fn frames_of(alloc: Global, listed: &Listing, ranks: &Ranks) -> Result<Vec<Disco
 ///
 /// The list is empty where the entry frame is missing or closed.
 pub fn find(alloc: Global, base: &Base) -> Result<Found, AllocError>
-    ensures { IfOk result (λ found. found ≡ found_of [] base.now) }
+    ensures computed { IfOk result (λ found. found ≡ found_of [] base.now) }
+    ensures reached { IfOk result (λ found. FindsReached [] base.now found) }
+    ensures rank { IfOk result (λ found. RanksAreLeast [] base.now found) }
+    ensures no_rank { IfOk result (λ found. UnrankedAreCutOff [] base.now found) }
+    ensures empty { IfOk result (λ found. found ≡ [] ↔ (EntryIsFound [] base.now → ⊥)) }
 {
     let listed = discover(alloc, base)?;
     let ranks = Ranks::of(alloc, base, &listed)?;

@@ -10,7 +10,7 @@ use Rattle.fault_scripts.specs.StartOf.{start_of}
 use Rattle.fault_scripts.specs.FaultsOf.{price_faults, touch_faults, keys_faults, return_faults}
 use Rattle.fault_scripts.specs.Telling.{Tells}
 use Rattle.fault_scripts.proofs.Told.{told_then}
-use Rattle.fault_scripts.proofs.judging.judge_frame.Goals as goal
+use Rattle.fault_scripts.proofs.kinds.judge_frame.Goals as goal
 
 pub returns : goal.returns
 returns c =

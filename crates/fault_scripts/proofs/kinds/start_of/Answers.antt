@@ -1,9 +1,8 @@
-use Rattle.std.proofs.Common.{◌≡◌, ℕ, List, sym, ◌∙◌, ap, subst}
+use Rattle.std.proofs.Common.{ℕ, List, sym, ◌∙◌, ap, subst}
 use Rattle.abstract_paint.specs.Start.{IsStart}
-use Rattle.abstract_paint.specs.Paint.{paint_of}
 use Rattle.fault_scripts.specs.StartOf.{start_of}
 use Rattle.fault_scripts.proofs.Starts.{start_same}
-use Rattle.fault_scripts.proofs.judging.start_of.Goals as goal
+use Rattle.fault_scripts.proofs.kinds.start_of.Goals as goal
 
 pub returns-in-Touches : goal.returns-in-Touches
 returns-in-Touches c =

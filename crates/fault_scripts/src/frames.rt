@@ -5,7 +5,7 @@ ghost use Rattle.fault_scripts.specs.TableView.{parts_of};
 ghost use Rattle.fault_scripts.specs.Telling.{ScriptsExtend, IsReady, Tells};
 ghost use Rattle.fault_scripts.specs.Judged.{IsJudged, Judges};
 
-use crate::judging::judge_frame;
+use crate::kinds::judge_frame;
 use crate::table::Table;
 use crate::teller::Teller;
 use abstract_paint::paint;

@@ -1,4 +1,4 @@
-use Rattle.std.proofs.Common.{◌≡◌, ℕ, [], ◌≤◌, List, arith, subst}
+use Rattle.std.proofs.Common.{◌≡◌, ℕ, [], List, arith, subst}
 use Rattle.page_ids.specs.Id.{Id}
 use Rattle.page_ids.specs.declared.key.Key.{Key}
 use Rattle.page_ids.specs.declared.key.Key.TheVariants.{Next}
@@ -7,7 +7,7 @@ use Rattle.finder.specs.Walks.{next_sought}
 use Rattle.fault_scripts.specs.FaultsOf.{keys_faults, offered_faults}
 use Rattle.fault_scripts.specs.Telling.{Tells}
 use Rattle.fault_scripts.proofs.Told.{told_then}
-use Rattle.fault_scripts.proofs.judging.judge_keys.Goals as goal
+use Rattle.fault_scripts.proofs.kinds.judge_keys.Goals as goal
 
 pub returns : goal.returns
 returns c =

@@ -1,0 +1,265 @@
+//! One base of three frames and one change at a time. What is wrong with it comes from the rules of the base.
+
+use crate::{Fault, FaultKind, FaultList, Outcome, audit, faults, replay};
+use abstract_paint::{AbsCursor, Pend, Place, Start};
+use base_text::base_read;
+use cert_table::{Certificate, Cover, Row};
+use checker::Policy;
+use frame_records::{Base, Pence};
+use page_ids::{FrameId, Key, KeyList, keys_read, keys_text};
+use session_machine::{OpenFault, Reply};
+use std::alloc::Global;
+use std::process::Abort;
+use std::test::Fail;
+
+const DEMO: &str =
+    "entry = 123\noutside = [0]\n[[frame]]\nid = \"123a\"\nrows = [\"WELCOME\"]\nroutes = { 0 = 0, 1 = 1231 }\n[[frame]]\nid = \"1231a\"\nprice = 5\nnext = true\nrows = [\"PART ONE\"]\nroutes = { 0 = 123 }\n[[frame]]\nid = \"1231b\"\nlead = \"keep\"\nbody = \"\\u001E\\u000APART TWO\"\nroutes = { 0 = 123 }\n";
+
+const LAST: &str = "PART TWO\"\nroutes = { 0 = 123 }";
+
+// The entry frame has a route to each of three frames: one is dear, touches, seeks a missing and a closed frame, and leads
+// nowhere; one is closed.
+const ALL_KINDS: &str =
+    "entry = 1\noutside = [9]\n[[frame]]\nid = \"1a\"\nrows = []\nroutes = { 4 = 2 }\n[[frame]]\nid = \"2a\"\nprice = 60\nnext = true\nlead = \"keep\"\nbody = \"\\u0009X\"\nroutes = { 3 = 7, 5 = 9, 6 = 8 }\n[[frame]]\nid = \"8a\"\ngroup = 7\nrows = []\n";
+
+fn policy(ceiling: u16, keyings: u16) -> Result<Policy, Fail> {
+    let ceiling = Pence::new(ceiling).ok_or("ceiling")?;
+    Ok(Policy { ceiling, keyings })
+}
+
+// The text with its first part that reads so replaced.
+fn changed(alloc: Global, text: &str, old: &str, new: &str) -> Result<String, Fail> {
+    let at = text.find(old).ok_or("no such part")?;
+    let mut out = String::new(alloc);
+    for (i, byte) in text.bytes().enumerate() {
+        if i == at {
+            out.push_str(new)?;
+        }
+        if i < at || i - at >= old.len() {
+            out.push(char::from(byte))?;
+        }
+    }
+    Ok(out)
+}
+
+fn base_of(alloc: Global, text: &str) -> Result<Base, Fail> {
+    Ok(base_read(alloc, text.as_bytes()).ok().ok_or("a base")?)
+}
+
+// The base with one change.
+fn demo(alloc: Global, old: &str, new: &str) -> Result<Base, Fail> {
+    let text = changed(alloc, DEMO, old, new)?;
+    base_of(alloc, text.as_str())
+}
+
+// The text of a key; empty where there is none.
+fn key_text(alloc: Global, key: Option<Key>) -> Result<Vec<u8>, Fail> {
+    let mut keys = Vec::new(alloc);
+    if let Some(key) = key {
+        keys.push(key)?;
+    }
+    Ok(keys_text(alloc, &KeyList::of(keys))?)
+}
+
+// The fault has this kind, frame, key, frame sought and script; a key or a frame sought that isn't there is the empty text.
+fn assert_fault(
+    rt: &(impl Abort + AllocGlobal),
+    fault: &Fault,
+    kind: FaultKind,
+    frame: &str,
+    key: &str,
+    sought: &str,
+    script: &str,
+) -> Result<(), Fail> {
+    assert_eq!(rt; fault.kind, kind, "{script}");
+    assert_eq!(rt; fault.frame, FrameId::read(frame)?, "{script}");
+    assert_eq!(rt; key_text(rt.alloc(), fault.key)?.as_slice(), key.as_bytes());
+    assert_eq!(rt; fault.sought, FrameId::read(sought).ok(), "{script}");
+    let keys = keys_text(rt.alloc(), &fault.script)?;
+    assert_eq!(rt; keys.as_slice(), script.as_bytes());
+    Ok(())
+}
+
+fn certified(rt: &HostRuntime, base: &Base, policy: &Policy) -> Result<Certificate, Fail> {
+    match audit(rt.alloc(), base, policy)? {
+        Outcome::Certified(cert) => Ok(cert),
+        Outcome::Faulty(_) => Err("faults".into()),
+    }
+}
+
+fn faulty(rt: &HostRuntime, base: &Base, policy: &Policy) -> Result<FaultList, Fail> {
+    match audit(rt.alloc(), base, policy)? {
+        Outcome::Certified(_) => Err("no faults".into()),
+        Outcome::Faulty(list) => Ok(list),
+    }
+}
+
+fn spot(position: u16) -> AbsCursor {
+    AbsCursor {
+        place: Place::Spot(position),
+        pend: Pend::No,
+    }
+}
+
+#[test]
+fn a_safe_base_is_certified(rt: HostRuntime) -> Result<(), Fail> {
+    let base = base_of(rt.alloc(), DEMO)?;
+    let cert = certified(&rt, &base, &policy(50, 3)?)?;
+    assert_eq!(rt; cert.entry().get(), 123);
+    assert_eq!(rt; cert.ceiling().get(), 5);
+    assert_eq!(rt; cert.keyings(), 1);
+    assert_eq!(rt; cert.cover().len(), 3);
+    let wanted: [(&str, u16, u16); 3] = [("123a", 0, 80), ("1231a", 1, 80), ("1231b", 1, 48)];
+    for (id, rank, at) in wanted {
+        let id = FrameId::read(id)?;
+        let row = cert.cover().row_of(id).ok_or("row")?;
+        assert_eq!(rt;
+            *row,
+            Row {
+                id,
+                rank,
+                cursor: spot(at)
+            }
+        );
+    }
+    assert!(rt;
+        faults(rt.alloc(), &base, &policy(50, 3)?)?
+            .as_slice()
+            .is_empty()
+    );
+    Ok(())
+}
+
+#[test]
+fn a_closed_frame_is_told_where_its_key_is_pressed(rt: HostRuntime) -> Result<(), Fail> {
+    let base = demo(rt.alloc(), "lead = \"keep\"", "lead = \"keep\"\ngroup = 7")?;
+    let list = faulty(&rt, &base, &policy(50, 3)?)?;
+    assert_eq!(rt; list.as_slice().len(), 1);
+    let fault = &list.as_slice()[0];
+    assert_fault(&rt, fault, FaultKind::Closed, "1231a", "#", "1231b", "1#")?;
+    let end = replay(rt.alloc(), &base, &fault.script)?;
+    assert_eq!(rt; end.last, Reply::Closed(FrameId::read("1231b")?));
+    assert_eq!(rt; end.at, Some(FrameId::read("1231a")?));
+    Ok(())
+}
+
+#[test]
+fn each_key_to_a_missing_page_is_told(rt: HostRuntime) -> Result<(), Fail> {
+    let routes = "PART TWO\"\nroutes = { 0 = 123, 8 = 555, 9 = 555 }";
+    let base = demo(rt.alloc(), LAST, routes)?;
+    let list = faulty(&rt, &base, &policy(50, 3)?)?;
+    assert_eq!(rt; list.as_slice().len(), 2);
+    let wanted: [(&str, &str); 2] = [("8", "1#8"), ("9", "1#9")];
+    for (fault, (key, script)) in list.as_slice().iter().zip(wanted) {
+        assert_fault(&rt, fault, FaultKind::Missing, "1231b", key, "555a", script)?;
+    }
+    Ok(())
+}
+
+#[test]
+fn a_frame_without_a_way_back_is_told(rt: HostRuntime) -> Result<(), Fail> {
+    let base = demo(rt.alloc(), LAST, "PART TWO\"\nroutes = { 0 = 0 }")?;
+    let list = faulty(&rt, &base, &policy(50, 3)?)?;
+    assert_eq!(rt; list.as_slice().len(), 1);
+    let fault = &list.as_slice()[0];
+    assert_fault(&rt, fault, FaultKind::NoReturn, "1231b", "", "", "1#")
+}
+
+#[test]
+fn faults_come_in_the_order_of_discovery(rt: HostRuntime) -> Result<(), Fail> {
+    let base = base_of(rt.alloc(), DEMO)?;
+    let list = faults(rt.alloc(), &base, &policy(4, 0)?)?;
+    assert_eq!(rt; list.as_slice().len(), 3);
+    let wanted: [(FaultKind, &str, &str); 3] = [
+        (FaultKind::Price, "1231a", "1"),
+        (FaultKind::NoReturn, "1231a", "1"),
+        (FaultKind::NoReturn, "1231b", "1#"),
+    ];
+    for (fault, (kind, frame, script)) in list.as_slice().iter().zip(wanted) {
+        assert_fault(&rt, fault, kind, frame, "", "", script)?;
+    }
+    assert_eq!(rt; list.as_slice()[0].price.get(), 5);
+    assert_eq!(rt; list.as_slice()[1].price.get(), 0);
+    Ok(())
+}
+
+#[test]
+fn a_touch_is_told_with_its_least_start(rt: HostRuntime) -> Result<(), Fail> {
+    let base = demo(rt.alloc(), "\\u001E\\u000APART TWO", "A")?;
+    let list = faulty(&rt, &base, &policy(50, 3)?)?;
+    assert_eq!(rt; list.as_slice().len(), 1);
+    let fault = &list.as_slice()[0];
+    assert_fault(&rt, fault, FaultKind::Touches, "1231b", "", "", "1#")?;
+    assert_eq!(rt;
+        fault.start,
+        Some(Start {
+            at: 0,
+            pending: false,
+            offset: 0
+        })
+    );
+    Ok(())
+}
+
+#[test]
+fn one_frame_has_a_fault_of_each_kind(rt: HostRuntime) -> Result<(), Fail> {
+    let base = base_of(rt.alloc(), ALL_KINDS)?;
+    let list = faulty(&rt, &base, &policy(50, 3)?)?;
+    let wanted: [(FaultKind, &str, &str, &str); 6] = [
+        (FaultKind::Price, "", "", "4"),
+        (FaultKind::Touches, "", "", "4"),
+        (FaultKind::Missing, "3", "7a", "43"),
+        (FaultKind::Closed, "6", "8a", "46"),
+        (FaultKind::Missing, "#", "2b", "4#"),
+        (FaultKind::NoReturn, "", "", "4"),
+    ];
+    assert_eq!(rt; list.as_slice().len(), wanted.len());
+    for (fault, (kind, key, sought, script)) in list.as_slice().iter().zip(wanted) {
+        assert_fault(&rt, fault, kind, "2a", key, sought, script)?;
+    }
+    assert_eq!(rt; list.as_slice()[0].price.get(), 60);
+    Ok(())
+}
+
+#[test]
+fn an_entry_that_is_not_found_is_the_one_fault(rt: HostRuntime) -> Result<(), Fail> {
+    let base = base_of(rt.alloc(), "entry = 0\n")?;
+    let list = faulty(&rt, &base, &policy(0, 0)?)?;
+    assert_eq!(rt; list.as_slice().len(), 1);
+    let fault = &list.as_slice()[0];
+    assert_fault(&rt, fault, FaultKind::EntryMissing, "0a", "", "", "")?;
+    assert_eq!(rt;
+        replay(rt.alloc(), &base, &fault.script),
+        Err(OpenFault::EntryMissing)
+    );
+    let base = demo(rt.alloc(), "id = \"123a\"", "id = \"123a\"\ngroup = 7")?;
+    let list = faulty(&rt, &base, &policy(50, 3)?)?;
+    assert_eq!(rt; list.as_slice().len(), 1);
+    let fault = &list.as_slice()[0];
+    assert_fault(&rt, fault, FaultKind::EntryClosed, "123a", "", "", "")
+}
+
+#[test]
+fn the_entry_frame_may_be_too_dear(rt: HostRuntime) -> Result<(), Fail> {
+    let base = demo(rt.alloc(), "id = \"123a\"", "id = \"123a\"\nprice = 51")?;
+    let list = faulty(&rt, &base, &policy(50, 3)?)?;
+    assert_eq!(rt; list.as_slice().len(), 1);
+    let fault = &list.as_slice()[0];
+    assert_fault(&rt, fault, FaultKind::Price, "123a", "", "", "")?;
+    assert_eq!(rt; fault.price.get(), 51);
+    Ok(())
+}
+
+#[test]
+fn replay_tells_the_last_reply_and_the_place(rt: HostRuntime) -> Result<(), Fail> {
+    let base = base_of(rt.alloc(), DEMO)?;
+    let id = FrameId::read("123a")?;
+    let opened = replay(rt.alloc(), &base, &keys_read(rt.alloc(), "")?)?;
+    let free = Pence::new(0).ok_or("price")?;
+    assert_eq!(rt; opened.last, Reply::Shown(id, free));
+    assert_eq!(rt; opened.at, Some(id));
+    let left = replay(rt.alloc(), &base, &keys_read(rt.alloc(), "01")?)?;
+    assert_eq!(rt; left.last, Reply::NotOffered);
+    assert!(rt; left.at.is_none());
+    Ok(())
+}
