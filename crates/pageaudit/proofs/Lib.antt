@@ -1,1 +1,2 @@
 mod WholeTexts
+mod AuditRuns

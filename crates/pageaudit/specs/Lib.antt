@@ -2,3 +2,4 @@ pub mod Status
 pub mod Runs
 pub mod CheckRun
 pub mod WalkRun
+pub mod AuditRun

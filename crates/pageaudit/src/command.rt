@@ -41,6 +41,13 @@ fn with_policy<'a>(alloc: Global, command: Command<'a>) -> Result<Command<'a>, A
         ))
 }
 
+fn audit_command<'a>(alloc: Global) -> Result<Command<'a>, AllocError> {
+    let command = Command::new(alloc, "audit")
+        .about("Finds a base's certificate, or lists its faults with the keys that show them")
+        .arg(place(alloc, "BASE", "the base, a TOML file"))?;
+    with_policy(alloc, command)
+}
+
 fn check_command<'a>(alloc: Global) -> Result<Command<'a>, AllocError> {
     let command = Command::new(alloc, "check")
         .about("Checks a certificate against a base, without any search")
@@ -60,6 +67,7 @@ fn whole_command<'a>(alloc: Global) -> Result<Command<'a>, AllocError> {
     Command::new(alloc, "pageaudit")
         .about("Audits the page base of a viewdata information provider")
         .subcommand_required(true)
+        .subcommand(audit_command(alloc)?)?
         .subcommand(check_command(alloc)?)?
         .subcommand(walk_command(alloc)?)
 }

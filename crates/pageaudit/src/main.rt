@@ -1,9 +1,10 @@
 //! pageaudit: audits the page base of a viewdata information provider.
 //!
-//! `check` and `walk` open their files in the order of the words and hand them to `run_check` and `run_walk`, which are
-//! proved over any reader and writer; what stands here only opens, prints and picks the exit status.
+//! `audit`, `check` and `walk` open their files in the order of the words and hand them to `run_audit`, `run_check` and
+//! `run_walk`, which are proved over any reader and writer; what stands here only opens, prints and picks the exit status.
 #![tactic(auto)]
 
+mod audit_run;
 mod check_run;
 mod command;
 mod input;
@@ -14,6 +15,7 @@ mod tests;
 mod walk_run;
 
 use audit_report::{FromRead, IntoWrite, RunFault, fault_text};
+use audit_run::run_audit;
 use check_run::run_check;
 use checker::Policy;
 use clap::ArgMatches;
@@ -46,6 +48,7 @@ fn run<R: Files + Env + Print + Eprint + AllocGlobal>(rt: &R) -> u8 {
 
 fn dispatch<R: Files + Print + Eprint + AllocGlobal>(rt: &R, matches: &ArgMatches) -> u8 {
     let run = match matches.subcommand() {
+        Some(("audit", words)) => audit_file(rt, words),
         Some(("check", words)) => check_files(rt, words),
         Some(("walk", words)) => walk_file(rt, words),
         _ => return 2,
@@ -70,6 +73,19 @@ fn policy_of(words: &ArgMatches) -> Option<Policy> {
     let ceiling = Pence::new(words.get_one::<u16>("ceiling")?)?;
     let keyings = words.get_one::<u16>("keyings")?;
     Some(Policy { ceiling, keyings })
+}
+
+fn audit_file<R: Files + Print + AllocGlobal>(
+    rt: &R,
+    words: &ArgMatches,
+) -> Result<Status, RunFault> {
+    let (Some(base), Some(policy)) = (words.get_str("BASE"), policy_of(words)) else {
+        return Err(RunFault::ReadBase);
+    };
+    let base = fs::open(rt, base).map_err(|_| RunFault::ReadBase)?;
+    let mut base = FromRead::new(base);
+    let mut out = IntoWrite::new(io::writer(rt));
+    run_audit(rt.alloc(), &mut base, &mut out, &policy)
 }
 
 fn check_files<R: Files + Print + AllocGlobal>(

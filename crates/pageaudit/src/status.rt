@@ -9,9 +9,9 @@ use checker::Verdict;
 /// What a run that did its work came to.
 #[derive(Debug, Clone, Copy, PartialEq, Eq)]
 pub enum Status {
-    /// Cleared, or a walk.
+    /// Certified, cleared, or a walk.
     Clear,
-    /// Refused, or an entry frame that is missing or closed.
+    /// Faults, a refusal, or an entry frame that is missing or closed.
     Faulty,
 }
 
