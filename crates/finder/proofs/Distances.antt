@@ -3,11 +3,10 @@ use Rattle.std.proofs.Common.{◌≡◌, ◌<◌, ◌≤◌, ◌+◌, ◌-◌, �
 use Rattle.std.specs.Prelude.{option_map}
 use Rattle.page_ids.specs.Id.{Id}
 use Rattle.frame_records.specs.BaseView.{BaseView}
-use Rattle.finder.specs.declared.found.Discovered.{Discovered}
 use Rattle.finder.specs.Discovery.{Origin}
 use Rattle.finder.specs.Walks.{listing}
-use Rattle.finder.specs.Edges.{AreRanks, rank_in, depths_upto}
-use Rattle.finder.specs.Found.{found_upto, found_by, found_of, rank_of}
+use Rattle.finder.specs.Edges.{depths_upto}
+use Rattle.finder.specs.Found.{rank_of}
 use Rattle.frame_records.specs.declared.frame.Frame.{Frame}
 use Rattle.frame_records.specs.declared.base.Sought.TheVariants.{Found}
 use Rattle.frame_records.specs.BaseView.{frame_at}
@@ -26,15 +25,11 @@ use Rattle.finder.proofs.Order.{some_eq, fst_eq, below_row, row_le}
 use Rattle.finder.proofs.Listing.{discovery, lead_of}
 use Rattle.finder.proofs.Places.{stands, placed}
 use Rattle.finder.proofs.Edges.{same_of, self_of, nodes_there, nodes_in, edge_back, back_edge}
-use Rattle.finder.proofs.Chains.{get_there}
+use Rattle.finder.proofs.Edges.{get_there}
 use Rattle.finder.proofs.Ranking.{ordered, few, deep, depth_of, depths_length}
 use Rattle.finder.proofs.Back.{rank_walk, rank_least, rank_none}
 
-pub found_is : (base : BaseView) (es : List (Id × Option Origin)) (r : List (ℕ × Option Origin)) (ds : List ℕ) (frames : List Discovered) → es ≡ listing [] base → AreRanks base es r ds → frames ≡ found_upto es (rank_in r ds) (length es) → frames ≡ found_of [] base
-found_is base es r ds frames e a f =
-    f ∙ ap (λ (d : List ℕ). found_upto es (rank_in r d) (length es)) a.depths_are ∙ ap (λ (x : List (ℕ × Option Origin)). found_upto es (rank_in x (depths_upto x (length x))) (length es)) a.search ∙ ap (found_by base) e
-
-and_then_in : {A B : Type 0} (f : A → Option B) (r : Option A) (y : B) → option_and_then f r ≡ Some y → (x : A) × (r ≡ Some x) × (f x ≡ Some y)
+pub and_then_in : {A B : Type 0} (f : A → Option B) (r : Option A) (y : B) → option_and_then f r ≡ Some y → (x : A) × (r ≡ Some x) × (f x ≡ Some y)
 and_then_in f None y e = absurd cc
 and_then_in f (Some x) y e = (x, refl, e)
 
@@ -77,11 +72,6 @@ edges_within base es e lt =
     let at = stands id_eq id_eq_same id_eq_refl es s.2 edge.1 s.4 in
     slice_get_within es edge.1 (s.2, at.0) at.1
 
-pub within_same : (edges same : List (ℕ × ℕ)) (n m : ℕ) → same ≡ edges → m ≡ n → ((e : ℕ) → e < length edges → (get_or edges e (0, 0)).1 < n) → (e : ℕ) → e < length same → (get_or same e (0, 0)).1 < m
-within_same edges same n m is turns inside e lt =
-    let there : e < length edges = omega (arith, lt, ap length is) in
-    omega (arith, inside e there, turns, ap (λ (x : List (ℕ × ℕ)). (get_or x e (0, 0)).1) is)
-
 module _ (caller : List ℕ) (base : BaseView) (price : ℕ) (found : seek caller base (first_frame base.entry) ≡ Found price) where
   abbrev entry : Id
   entry = first_frame base.entry
@@ -98,7 +88,7 @@ module _ (caller : List ℕ) (base : BaseView) (price : ℕ) (found : seek calle
   is : IsDiscovery caller base es
   is = discovery caller base price found
 
-  walk_found : (m : ℕ) (g : Id) → Walk caller base entry g m → (p : ℕ) × (seek caller base g ≡ Found p)
+  pub walk_found : (m : ℕ) (g : Id) → Walk caller base entry g m → (p : ℕ) × (seek caller base g ≡ Found p)
   walk_found zero g w = (price, subst (λ (x : Id). seek caller base x ≡ Found price) w found)
   walk_found (suc m) g w = (w.3.price, w.3.found)
 

@@ -1,12 +1,10 @@
 -- The steps between listed frames, and the search along them turned round.
-use Rattle.std.proofs.Common.{◌≡◌, ◌<◌, ◌≤◌, ◌+◌, ◌-◌, ◌*◌, ◌⊎◌, inl, inr, ℕ, zero, suc, Bool, true, false, cond, eqb, nat_eq, List, [], ◌∷◌, Option, Some, None, slice_get, length, refl, sym, ◌∙◌, ap, subst, arith, length-append}
+use Rattle.std.proofs.Common.{◌≡◌, ◌<◌, ◌≤◌, ◌+◌, ◌-◌, ◌*◌, ◌⊎◌, inl, inr, ℕ, zero, suc, Bool, true, false, cond, eqb, nat_eq, List, [], ◌∷◌, Option, Some, None, slice_get, get_or, length, refl, sym, ◌∙◌, ap, subst, arith, length-append}
 use Rattle.std.proofs.lemmas.Bool.Decides.{nat_tests}
 use Rattle.std.proofs.lemmas.Option.{slice_get_within}
 use Rattle.finder.specs.Edges.{Edge, add_edge, edges_keys, edges_nodes, from_of, back}
-use Rattle.finder.proofs.Order.{at_push, push_at, push_end, some_eq, split}
-
-pub edges_turn : (next : ℕ → ℕ → Option ℕ) (i : ℕ) → edges_keys next (edges_nodes next i) i 11 ≡ edges_nodes next (i + 1)
-edges_turn next i = let turn : suc i ≡ i + 1 = omega arith in ap (edges_nodes next) turn
+use Rattle.finder.proofs.Order.{some_eq, split}
+use Rattle.finder.proofs.Lists.{at_push, push_at, push_end}
 
 added : (edges : List Edge) (i : ℕ) (r : Option ℕ) → length (add_edge edges i r) ≤ length edges + 1
 added edges i None = omega arith
@@ -119,3 +117,8 @@ edge_back edges g f p at =
     let place : length edges - (length edges - (p + 1) + 1) ≡ p = omega (arith, lt) in
     let test : eqb g g ≡ true = self_of g in
     ap (from_of g) (ap (slice_get edges) place ∙ at) ∙ ap (λ (b : Bool). cond b (Some f) None) test
+
+pub get_there : (edges : List Edge) (e : ℕ) → e < length edges → slice_get edges e ≡ Some (get_or edges e (0, 0))
+get_there [] e lt = absurd (omega (arith, lt))
+get_there (x ∷ xs) zero lt = refl
+get_there (x ∷ xs) (suc e) lt = get_there xs e (omega (arith, lt))

@@ -11,18 +11,10 @@ use Rattle.finder.specs.declared.found.Discovered.{Discovered}
 use Rattle.finder.specs.Discovery.{Origin}
 use Rattle.finder.specs.Walks.{listing}
 use Rattle.finder.specs.Found.{with_rank, rank_of, push_found, found_upto, found_by, found_of}
-use Rattle.finder.proofs.Order.{push_end, split, lt_or_le, some_eq}
+use Rattle.finder.proofs.Order.{split, lt_or_le, some_eq}
+use Rattle.finder.proofs.Lists.{push_end}
 use Rattle.finder.proofs.Listing.{discovery, listing_closed, listing_missing}
-
-slice_push : {X : Type 0} (xs : List X) (y : X) (i : ℕ) → i < length xs → slice_get (xs ++ y ∷ []) i ≡ slice_get xs i
-slice_push [] y i lt = absurd (omega (arith, lt))
-slice_push (x ∷ xs) y zero lt = refl
-slice_push (x ∷ xs) y (suc i) lt = slice_push xs y i (omega (arith, lt))
-
-some_at : {X : Type 0} (xs : List X) (i : ℕ) → i < length xs → (x : X) × (slice_get xs i ≡ Some x)
-some_at [] i lt = absurd (omega (arith, lt))
-some_at (x ∷ xs) zero lt = (x, refl)
-some_at (x ∷ xs) (suc i) lt = some_at xs i (omega (arith, lt))
+use Rattle.finder.proofs.Lists.{slice_push, some_at}
 
 module _ (es : List (Id × Option Origin)) (ranks : ℕ → Option ℕ) where
   abbrev ranked : ℕ → Option (Id × Option Origin) → Option Discovered

@@ -104,7 +104,7 @@ module _ (caller : List ℕ) (base : BaseView) where
       listed = λ g l. let p = reached_if_listed 11 (lead caller base) (first_frame base.entry) (listing caller base) (length base.frames * 11) order g l in record { price = price; steps = p.0; entry = found; walk = walk_of (first_frame base.entry) g p.0 p.1 };
     }
 
-after_none : (next : Id → ℕ → Option Id) (n : ℕ) → after_nodes id_eq 11 next [] n ≡ []
+pub after_none : (next : Id → ℕ → Option Id) (n : ℕ) → after_nodes id_eq 11 next [] n ≡ []
 after_none next zero = refl
 after_none next (suc n) = ap (λ (es : List (Id × Option Origin)). after_node id_eq 11 next es n (slice_get es n)) (after_none next n)
 

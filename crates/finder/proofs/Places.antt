@@ -1,11 +1,12 @@
 -- Where a key stands among entries.
-use Rattle.std.proofs.Common.{◌≡◌, ℕ, ◌<◌, ◌+◌, zero, suc, Bool, true, false, cond, List, [], ◌∷◌, Some, slice_get, get_or, length, refl, sym, ◌∙◌, ap, arith}
+use Rattle.std.proofs.Common.{◌≡◌, ℕ, ◌<◌, ◌+◌, inl, inr, zero, suc, Bool, true, false, cond, List, [], ◌∷◌, ◌++◌, None, Some, slice_get, get_or, length, refl, sym, ◌∙◌, ap, arith}
 use Rattle.std.specs.Prelude.{position}
 use Rattle.std.specs.List.{position_from}
 use Rattle.std.specs.Map.{keys_of}
 use Rattle.std.proofs.lemmas.Iterator.Adapters.{position_from-zero}
 use Rattle.std.proofs.lemmas.List.Quantifiers.{position-Some}
 use Rattle.finder.proofs.Order.{some_eq}
+use Rattle.finder.proofs.Lists.{at_push, push_end}
 
 entry_at : {A X : Type 0} (es : List (A × X)) (i : ℕ) (d : A) → i < length (keys_of es) → (o : X) × (slice_get es i ≡ Some (get_or (keys_of es) i d, o))
 entry_at [] i d lt = absurd (omega (arith, lt))
@@ -37,3 +38,17 @@ module _ {A X : Type 0} (eq : A → A → Bool) (same : (x y : A) → eq x y ≡
   placed es x j o at =
       let there = from_there es x 0 j o at in
       (there.0, position_from-zero (eq x) (keys_of es) ∙ there.1)
+
+  -- what goes last and isn't listed before is found there
+  pub placed_last : (es : List (A × X)) (x : A) (o : X) → position (eq x) (keys_of es) ≡ None → position (eq x) (keys_of (es ++ (x, o) ∷ [])) ≡ Some (length es)
+  placed_last es x o none =
+      let place = placed (es ++ (x, o) ∷ []) x (length es) o (push_end es (x, o)) in
+      let there = stands (es ++ (x, o) ∷ []) x place.0 place.1 in
+      let last : place.0 ≡ length es = elim (at_push es (x, o) place.0 (x, there.0) there.1) [
+        | inl old ↦
+            let before = placed es x place.0 there.0 old in
+            let both : None ≡ Some before.0 = sym none ∙ before.1 in
+            absurd cc
+        | inr new ↦ new.0
+      ] in
+      place.1 ∙ ap Some last

@@ -1,5 +1,5 @@
 -- The search along the steps turned round gives distances.
-use Rattle.std.proofs.Common.{◌≡◌, ◌<◌, ◌≤◌, ◌+◌, ◌-◌, ◌*◌, inl, inr, ℕ, zero, suc, nat_eq, List, [], ◌∷◌, ◌++◌, Option, Some, None, slice_get, get_or, length, refl, sym, ◌∙◌, ap, arith, length-append}
+use Rattle.std.proofs.Common.{◌≡◌, ◌<◌, ◌≤◌, ◌+◌, ◌-◌, ◌*◌, inl, inr, ℕ, zero, suc, nat_eq, List, [], ◌∷◌, Option, Some, None, slice_get, get_or, length, refl, sym, ◌∙◌, ap, arith, length-append}
 use Rattle.std.specs.Map.{keys_of}
 use Rattle.std.proofs.lemmas.Option.{slice_get_within}
 use Rattle.std.proofs.Math.ListN.{length-map}
@@ -10,6 +10,7 @@ use Rattle.finder.proofs.Fits.{In, fits}
 use Rattle.finder.proofs.Listing.{apart_of, in_place}
 use Rattle.finder.proofs.Edges.{same_of, self_of, nodes_in, back_edge}
 use Rattle.finder.proofs.Reach.{IsDepth}
+use Rattle.finder.proofs.Lists.{get_push, get_end}
 
 -- the numbers below n
 abbrev down : ℕ → List ℕ
@@ -55,23 +56,13 @@ pub depths_length : (es : List (ℕ × Option Origin)) (i : ℕ) → length (dep
 depths_length es zero = refl
 depths_length es (suc i) = omega (arith, depths_length es i, length-append (depths_upto es i) (depth_next (depths_upto es i) (slice_get es i) ∷ []))
 
-get_push : (xs : List ℕ) (y j : ℕ) → j < length xs → get_or (xs ++ y ∷ []) j 0 ≡ get_or xs j 0
-get_push [] y j lt = absurd (omega (arith, lt))
-get_push (x ∷ xs) y zero lt = refl
-get_push (x ∷ xs) y (suc j) lt = get_push xs y j (omega (arith, lt))
-
-get_end : (xs : List ℕ) (y : ℕ) → get_or (xs ++ y ∷ []) (length xs) 0 ≡ y
-get_end [] y = refl
-get_end (x ∷ xs) y = get_end xs y
-
-depths_at : (es : List (ℕ × Option Origin)) (m j : ℕ) → j < m → get_or (depths_upto es m) j 0 ≡ depth_next (depths_upto es j) (slice_get es j)
+pub depths_at : (es : List (ℕ × Option Origin)) (m j : ℕ) → j < m → get_or (depths_upto es m) j 0 ≡ depth_next (depths_upto es j) (slice_get es j)
 depths_at es zero j lt = absurd (omega (arith, lt))
 depths_at es (suc m) j lt =
     elim (split j m (omega (arith, lt))) [
-      | inl less ↦ get_push (depths_upto es m) (depth_next (depths_upto es m) (slice_get es m)) j (omega (arith, less, depths_length es m)) ∙ depths_at es m j less
+      | inl less ↦ get_push (depths_upto es m) (depth_next (depths_upto es m) (slice_get es m)) j 0 (omega (arith, less, depths_length es m)) ∙ depths_at es m j less
       | inr same ↦
-          let place : j ≡ length (depths_upto es m) = omega (arith, same, depths_length es m) in
-          ap (λ (x : ℕ). get_or (depths_upto es (suc m)) x 0) place ∙ get_end (depths_upto es m) (depth_next (depths_upto es m) (slice_get es m)) ∙ ap (λ (x : ℕ). depth_next (depths_upto es x) (slice_get es x)) (sym same)
+          get_end (depths_upto es m) (depth_next (depths_upto es m) (slice_get es m)) j 0 (omega (arith, same, depths_length es m)) ∙ ap (λ (x : ℕ). depth_next (depths_upto es x) (slice_get es x)) (sym same)
     ]
 
 depths_same : (es : List (ℕ × Option Origin)) (m i j : ℕ) → j < i → j < m → get_or (depths_upto es i) j 0 ≡ get_or (depths_upto es m) j 0
@@ -92,8 +83,3 @@ deep w next entry es done is = record {
       let parent : get_or (depths_upto es j) o.0 0 ≡ depth_of es o.0 = depths_same es (length es) j o.0 before (omega (arith, before, inside)) in
       depths_at es (length es) j inside ∙ ap (depth_next (depths_upto es j)) at ∙ ap (λ (x : ℕ). x + 1) parent;
 }
-
--- so few that a rank fits its type
-pub ranking_few : (next : ℕ → ℕ → Option ℕ) (n : ℕ) → n ≤ 65535 → length (ranking (edges_nodes next n) n) ≤ 65535
-ranking_few next zero le = omega arith
-ranking_few next (suc n) le = omega (arith, le, few next (suc n) (suc n) (omega arith))

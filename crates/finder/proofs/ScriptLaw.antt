@@ -17,6 +17,7 @@ use Rattle.finder.specs.Found.{key_of, with_rank, rank_of, found_of, parent_by, 
 use Rattle.finder.specs.ScriptLaws.{KeysLead, ScriptsLead}
 use Rattle.finder.proofs.Order.{some_eq}
 use Rattle.finder.proofs.Listing.{discovery, leads_of}
+use Rattle.finder.proofs.Scripts.{back_none}
 use Rattle.finder.proofs.FoundList.{found_frames, entry_of}
 
 -- parents stand before their children
@@ -39,12 +40,7 @@ settled found before (suc turns) (suc more) i a b = by (parent_of (slice_get fou
   by None e same = refl
   by (Some p) e same = ap (λ (keys : List Key). p.1 ∷ keys) (same p.0 (omega (arith, a, before i p e)) (omega (arith, b, before i p e)))
 
--- without a parent there is no key
-back_none : (found : List Discovered) (turns i : ℕ) → parent_of (slice_get found i) ≡ None → keys_back found turns i ≡ []
-back_none found zero i e = refl
-back_none found (suc turns) i e = ap (keys_along (keys_back found turns)) e
-
--- and with one it is the first
+-- with a parent its key is the first
 back_some : (found : List Discovered) → ParentsBefore found → (turns i : ℕ) (p : ℕ × Key) → i < turns → parent_of (slice_get found i) ≡ Some p → keys_back found turns i ≡ p.1 ∷ keys_back found turns p.0
 back_some found before zero i p lt e = absurd (omega (arith, lt))
 back_some found before (suc turns) i p lt e =

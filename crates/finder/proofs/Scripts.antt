@@ -1,27 +1,23 @@
 -- Keys back along the parents.
-use Rattle.std.proofs.Common.{◌≡◌, ◌<◌, ◌+◌, ◌-◌, ℕ, suc, List, [], ◌∷◌, ◌++◌, Option, Some, None, refl, sym, ◌∙◌, ap, append_assoc, arith}
-use Rattle.std.specs.Prelude.{option_map}
+use Rattle.std.proofs.Common.{◌≡◌, ◌<◌, ◌+◌, ◌-◌, ℕ, zero, suc, List, [], ◌∷◌, ◌++◌, Option, Some, None, refl, sym, ◌∙◌, ap, append_assoc, arith}
+use Rattle.std.proofs.lemmas.List.{append-nil}
+use Rattle.std.specs.Prelude.{slice_get}
 use Rattle.page_ids.specs.declared.key.Key.{Key}
 use Rattle.finder.specs.declared.found.Discovered.{Discovered}
-use Rattle.finder.specs.Found.{keys_along, keys_back, keys_from, parent_from, with_key}
+use Rattle.finder.specs.Found.{parent_of, keys_along, keys_back}
 
-one_turn : (found : List Discovered) (turns : ℕ) (at : Option ℕ) → keys_from found (suc turns) at ≡ keys_along (keys_back found turns) (parent_from found at)
-one_turn found turns None = refl
-one_turn found turns (Some at) = refl
-
-with_more : (found : List Discovered) (turns : ℕ) (keys : List Key) (p : Option (ℕ × Key)) → keys ++ keys_along (keys_back found turns) p ≡ with_key keys p ++ keys_from found turns (option_map (λ q. q.0) p)
-with_more found turns keys None = refl
-with_more found turns keys (Some q) = sym (append_assoc keys (q.1 ∷ []) (keys_back found turns q.0))
+-- without a parent there is no key
+pub back_none : (found : List Discovered) (turns at : ℕ) → parent_of (slice_get found at) ≡ None → keys_back found turns at ≡ []
+back_none found zero at e = refl
+back_none found (suc turns) at e = ap (keys_along (keys_back found turns)) e
 
 -- one turn of going back
-pub back_turn : (found : List Discovered) (turn most : ℕ) (all keys : List Key) (at : Option ℕ) → turn < most → all ≡ keys ++ keys_from found (most - turn) at → all ≡ with_key keys (parent_from found at) ++ keys_from found (most - (turn + 1)) (option_map (λ q. q.0) (parent_from found at))
-back_turn found turn most all keys at lt is =
+pub back_turn : (found : List Discovered) (turn most : ℕ) (all keys more : List Key) (at : ℕ) (p : ℕ × Key) → turn < most → all ≡ keys ++ keys_back found (most - turn) at → parent_of (slice_get found at) ≡ Some p → more ≡ keys ++ p.1 ∷ [] → all ≡ more ++ keys_back found (most - (turn + 1)) p.0
+back_turn found turn most all keys more at p lt is parent more_is =
     let left : most - turn ≡ suc (most - (turn + 1)) = omega (arith, lt) in
-    is ∙ ap (λ (t : ℕ). keys ++ keys_from found t at) left ∙ ap (λ (k : List Key). keys ++ k) (one_turn found (most - (turn + 1)) at) ∙ with_more found (most - (turn + 1)) keys (parent_from found at)
+    let rest = keys_back found (most - (turn + 1)) p.0 in
+    is ∙ ap (λ (t : ℕ). keys ++ keys_back found t at) left ∙ ap (λ (q : Option (ℕ × Key)). keys ++ keys_along (keys_back found (most - (turn + 1))) q) parent ∙ sym (append_assoc keys (p.1 ∷ []) rest) ∙ ap (λ (k : List Key). k ++ rest) (sym more_is)
 
--- the same with the keys and the parent that a turn leaves
-pub turn_kept : (found : List Discovered) (turn most : ℕ) (all keys more : List Key) (at next : Option ℕ) → turn < most → all ≡ keys ++ keys_from found (most - turn) at → more ≡ with_key keys (parent_from found at) → next ≡ option_map (λ q. q.0) (parent_from found at) → all ≡ more ++ keys_from found (most - (turn + 1)) next
-turn_kept found turn most all keys more at next lt is keys_is next_is =
-    back_turn found turn most all keys at lt is
-    ∙ ap (λ (k : List Key). k ++ keys_from found (most - (turn + 1)) (option_map (λ q. q.0) (parent_from found at))) (sym keys_is)
-    ∙ ap (λ (a : Option ℕ). more ++ keys_from found (most - (turn + 1)) a) (sym next_is)
+-- the end of the way
+pub back_end : (found : List Discovered) (turns at : ℕ) (all keys : List Key) → all ≡ keys ++ keys_back found turns at → parent_of (slice_get found at) ≡ None → keys ≡ all
+back_end found turns at all keys is none = sym (is ∙ ap (λ (k : List Key). keys ++ k) (back_none found turns at none) ∙ append-nil keys)

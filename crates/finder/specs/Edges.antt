@@ -1,5 +1,5 @@
 -- The steps between listed frames, by their indices, and the search along the steps turned round, from the entry.
-use Rattle.std.specs.Prelude.{◌≡◌, ◌<◌, ℕ, zero, suc, ◌+◌, ◌-◌, ◌==◌, List, [], ◌∷◌, ◌++◌, length, Option, Some, None, option_and_then, option_map, slice_get, get_or, position, nat_eq, if◌then◌else◌}
+use Rattle.std.specs.Prelude.{ℕ, zero, suc, ◌+◌, ◌-◌, ◌==◌, List, [], ◌∷◌, ◌++◌, length, Option, Some, None, option_and_then, option_map, slice_get, get_or, position, nat_eq, if◌then◌else◌}
 use Rattle.std.specs.Map.{keys_of}
 use Rattle.page_ids.specs.Id.{Id}
 use Rattle.page_ids.specs.Ids.{id_eq}
@@ -67,25 +67,3 @@ depths_upto es (suc i) = depths_upto es i ++ depth_next (depths_upto es i) (slic
 -- the depth of an index, where the search lists it
 abbrev pub rank_in : List (ℕ × Option Origin) → List ℕ → ℕ → Option ℕ
 rank_in es depths node = option_and_then (slice_get depths) (position (nat_eq node) (keys_of es))
-
--- the search back over a listing, and its depths
-pub record AreRanks (base : BaseView) (es : List (Id × Option Origin)) (back_entries : List (ℕ × Option Origin)) (depths : List ℕ) : Type 0 where
-  pub search : back_entries ≡ ranking (edges_nodes (step base es) (length es)) (length es)
-  pub depths_are : depths ≡ depths_upto back_entries (length back_entries)
-
--- the last of the first steps that leads to the index
-abbrev pub last_before : List Edge → ℕ → ℕ → Option ℕ
-last_before edges to zero = None
-last_before edges to (suc e) = if (get_or edges e (0, 0)).1 == to then Some e else last_before edges to e
-
--- over the first steps: for each index the last step that leads to it, and for each step the one before it that leads to
--- the same index
-pub record AreLinks (edges : List Edge) (done : ℕ) (last before : List (Option ℕ)) : Type 0 where
-  pub lasts : (to : ℕ) → get_or last to None ≡ last_before edges to done
-  pub befores : (e : ℕ) → e < done → get_or before e None ≡ last_before edges (get_or edges e (0, 0)).1 e
-  pub count : length before ≡ done
-
--- how many steps, from the last on, stand behind a link; all where the chain has ended
-abbrev pub passed : ℕ → Option ℕ → ℕ
-passed count None = count
-passed count (Some e) = count - (e + 1)

@@ -59,20 +59,6 @@ abbrev pub keys_back : List Discovered → ℕ → ℕ → List Key
 keys_back found zero at = []
 keys_back found (suc turns) at = keys_along (keys_back found turns) (parent_of (slice_get found at))
 
--- the same from an index or from nowhere
-abbrev pub keys_from : List Discovered → ℕ → Option ℕ → List Key
-keys_from found turns None = []
-keys_from found turns (Some at) = keys_back found turns at
-
-abbrev pub parent_from : List Discovered → Option ℕ → Option (ℕ × Key)
-parent_from found None = None
-parent_from found (Some at) = parent_of (slice_get found at)
-
--- one more key, where there is a parent
-abbrev pub with_key : List Key → Option (ℕ × Key) → List Key
-with_key keys None = keys
-with_key keys (Some p) = keys ++ p.1 ∷ []
-
 -- the keys along the parents from the entry frame to the frame at an index; parents stand before their children
 abbrev pub script : List Discovered → ℕ → List Key
 script found at = reverse (keys_back found (length found) at)

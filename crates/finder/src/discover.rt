@@ -2,7 +2,9 @@ ghost use Rattle.std.specs.Prelude.{◌≡◌, ◌<◌, ◌≤◌, [], Some, Non
 ghost use Rattle.page_ids.specs.Ids.{id_eq};
 ghost use Rattle.frame_records.specs.BaseView.{frame_at};
 ghost use Rattle.finder.specs.Walks.{opening, listing, lead, sought_by, next_sought, open_only};
-ghost use Rattle.finder.specs.Discovery.{try_lead, add_new, after_keys, after_node};
+ghost use Rattle.finder.specs.Discovery.{try_lead, after_keys, after_node};
+ghost use Rattle.finder.specs.Edges.{index_of, add_edge, step, edges_nodes};
+ghost use Rattle.finder.specs.Seen.{step_now, seen_keys, seen_node};
 
 use frame_records::{Base, Frame, Sought};
 use indexmap::IndexMap;
@@ -47,31 +49,36 @@ fn is_found(base: &Base, id: FrameId) -> bool
     }
 }
 
-// Lists a frame that is found and isn't listed yet; the base is asked only of frames that aren't listed.
-fn add_new(
+// The index of a frame that a key seeks: as it is listed, or, where it is found, as it is listed now. The base is asked only
+// of frames that aren't listed.
+fn index_of_sought(
     base: &Base,
     found: &mut Listing,
     sought: FrameId,
     origin: (u32, u8),
-) -> Result<(), AllocError>
-    ensures { OnOk result (found.new.entries ≡ try_lead id_eq found.old.entries origin (open_only [] base.now (Some sought))) }
+) -> Result<Option<u32>, AllocError>
+    requires { length found.now.entries ≤ 65535 }
+    ensures entries { OnOk result (found.new.entries ≡ try_lead id_eq found.old.entries origin (open_only [] base.now (Some sought))) }
+    ensures index { IfOk result (λ index. index ≡ index_of found.new.entries sought) }
 {
-    if found.contains_key(&sought) {
-        return Ok(());
+    if let Some(index) = found.get_index_of(&sought) {
+        return Ok(Some(index as u32));
     }
-    if is_found(base, sought) {
-        return match found.insert(sought, Some(origin)) {
-            Ok(_) => Ok(()),
-            Err(_) => Err(AllocError),
-        };
+    if !is_found(base, sought) {
+        return Ok(None);
     }
-    Ok(())
+    let index = found.len() as u32;
+    match found.insert(sought, Some(origin)) {
+        Ok(_) => Ok(Some(index)),
+        Err(_) => Err(AllocError),
+    }
 }
 
-// Tries a key of a listed frame.
+// Tries a key of a listed frame, and adds its step.
 fn try_key(
     base: &Base,
     found: &mut Listing,
+    steps: &mut Vec<(u32, u32)>,
     index: u32,
     from: FrameId,
     frame: &Frame,
@@ -79,27 +86,35 @@ fn try_key(
 ) -> Result<(), AllocError>
     requires is_key { key < 11 }
     requires is_frame { frame_at base.now from ≡ Some frame.now }
-    ensures { OnOk result (found.new.entries ≡ try_lead id_eq found.old.entries (index, key) (lead [] base.now from key)) }
+    requires few { length found.now.entries ≤ 65535 }
+    ensures entries { OnOk result (found.new.entries ≡ try_lead id_eq found.old.entries (index, key) (lead [] base.now from key)) }
+    ensures steps { OnOk result (steps.new.items ≡ add_edge steps.old.items index (step_now base.now found.new.entries from key)) }
 {
-    match sought_of(frame, key) {
-        Some(sought) => add_new(base, found, sought, (index, key)),
-        None => Ok(()),
+    let Some(sought) = sought_of(frame, key) else {
+        return Ok(());
+    };
+    if let Some(to) = index_of_sought(base, found, sought, (index, key))? {
+        steps.push((index, to))?;
     }
+    Ok(())
 }
 
 // Tries each key of a listed frame.
 fn try_keys(
     base: &Base,
     found: &mut Listing,
+    steps: &mut Vec<(u32, u32)>,
     index: u32,
     from: FrameId,
     frame: &Frame,
 ) -> Result<(), AllocError>
-    requires { frame_at base.now from ≡ Some frame.now }
-    ensures { OnOk result (found.new.entries ≡ after_keys id_eq (lead [] base.now) found.old.entries index from 11) }
+    requires is_frame { frame_at base.now from ≡ Some frame.now }
+    requires few { length (after_keys id_eq (lead [] base.now) found.now.entries index from 11) ≤ 65535 }
+    ensures entries { OnOk result (found.new.entries ≡ after_keys id_eq (lead [] base.now) found.old.entries index from 11) }
+    ensures steps { OnOk result (steps.new.items ≡ seen_keys [] base.now found.old.entries steps.old.items index from 11) }
 {
     for key in 0..11u8 {
-        try_key(base, found, index, from, frame, key)?;
+        try_key(base, found, steps, index, from, frame, key)?;
     }
     Ok(())
 }
@@ -113,14 +128,21 @@ fn frame_count(base: &Base) -> u32
 }
 
 // Tries each key of the listed frame at an index; past the end of the list nothing is left to try.
-fn try_frame(base: &Base, found: &mut Listing, index: u32) -> Result<(), AllocError>
-    ensures { OnOk result (found.new.entries ≡ after_node id_eq 11 (lead [] base.now) found.old.entries index (slice_get found.old.entries index)) }
+fn try_frame(
+    base: &Base,
+    found: &mut Listing,
+    steps: &mut Vec<(u32, u32)>,
+    index: u32,
+) -> Result<(), AllocError>
+    requires { length (after_node id_eq 11 (lead [] base.now) found.now.entries index (slice_get found.now.entries index)) ≤ 65535 }
+    ensures entries { OnOk result (found.new.entries ≡ after_node id_eq 11 (lead [] base.now) found.old.entries index (slice_get found.old.entries index)) }
+    ensures steps { OnOk result (steps.new.items ≡ seen_node [] base.now found.old.entries steps.old.items index (slice_get found.old.entries index)) }
 {
     let Some(id) = id_at(found, index) else {
         return Ok(());
     };
     match base.find(id) {
-        Some(frame) => try_keys(base, found, index, id, frame),
+        Some(frame) => try_keys(base, found, steps, index, id, frame),
         None => Ok(()),
     }
 }
@@ -149,14 +171,23 @@ fn start(alloc: Global, base: &Base) -> Result<Listing, AllocError>
     Ok(found)
 }
 
-// The frames that a caller can reach, in the order of discovery.
-pub fn discover(alloc: Global, base: &Base) -> Result<Listing, AllocError>
-    ensures listing { IfOk result (λ m. m.entries ≡ listing [] base.now) }
-    ensures few { IfOk result (λ m. length m.entries ≤ 65535) }
+// The frames that a caller can reach, in the order of discovery, and the steps between them by their indices.
+#[derive(Drop)]
+pub struct Discovery {
+    pub found: Listing,
+    pub steps: Vec<(u32, u32)>,
+}
+
+// Discovers the frames of a base.
+pub fn discover(alloc: Global, base: &Base) -> Result<Discovery, AllocError>
+    ensures listing { IfOk result (λ d. d.found.entries ≡ listing [] base.now) }
+    ensures steps { IfOk result (λ d. d.steps.items ≡ edges_nodes (step base.now (listing [] base.now)) (length (listing [] base.now))) }
+    ensures few { IfOk result (λ d. length d.found.entries ≤ 65535) }
 {
     let mut found = start(alloc, base)?;
+    let mut steps = Vec::new(alloc);
     for index in 0..frame_count(base) {
-        try_frame(base, &mut found, index)?;
+        try_frame(base, &mut found, &mut steps, index)?;
     }
-    Ok(found)
+    Ok(Discovery { found, steps })
 }

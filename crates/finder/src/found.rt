@@ -1,10 +1,10 @@
-ghost use Rattle.std.specs.Prelude.{◌≡◌, ◌≤◌, ◌↔◌, [], ◌∷◌, ◌++◌, IfOk, OnOk, length, option_map, slice_get};
-ghost use Rattle.finder.specs.Edges.{rank_in};
+ghost use Rattle.std.specs.Prelude.{◌≡◌, ◌≤◌, ◌↔◌, [], ◌∷◌, ◌++◌, None, IfOk, OnOk, length, get_or, option_map, slice_get};
 ghost use Rattle.finder.specs.Finds.{FindsReached, RanksAreLeast, UnrankedAreCutOff, EntryIsFound};
 ghost use Rattle.finder.specs.Found.{key_of, found_of, with_rank, found_upto};
 
 use crate::discover::{Listing, discover};
-use crate::ranks::Ranks;
+use crate::ranks::{rank_at, ranks_of};
+use crate::turned::Turned;
 use frame_records::Base;
 use page_ids::{Digit, FrameId, Key};
 use std::alloc::{AllocError, Global};
@@ -78,11 +78,11 @@ fn with_rank(id: FrameId, origin: Option<(u32, u8)>, rank: Option<u16>) -> Disco
 }
 
 // The frame at an index of the listing, with its rank.
-fn frame_at(listed: &Listing, ranks: &Ranks, index: u32) -> Option<Discovered>
-    ensures { result ≡ option_map (λ e. with_rank e (rank_in ranks.now.ranking.entries ranks.now.depths.items index)) (slice_get listed.now.entries index) }
+fn frame_at(listed: &Listing, ranks: &[Option<u16>], index: u32) -> Option<Discovered>
+    ensures { result ≡ option_map (λ e. with_rank e (get_or ranks.now index None)) (slice_get listed.now.entries index) }
 {
     match listed.get_index(index as usize) {
-        Some((id, origin)) => Some(with_rank(*id, *origin, ranks.rank(index))),
+        Some((id, origin)) => Some(with_rank(*id, *origin, rank_at(ranks, index))),
         None => None,
     }
 }
@@ -107,11 +107,15 @@ fn push_parts(
 }
 
 // The listed frames, each with its rank.
-fn frames_of(alloc: Global, listed: &Listing, ranks: &Ranks) -> Result<Vec<Discovered>, AllocError>
+fn frames_of(
+    alloc: Global,
+    listed: &Listing,
+    ranks: &[Option<u16>],
+) -> Result<Vec<Discovered>, AllocError>
     requires { length listed.now.entries ≤ 65535 }
-    ensures { IfOk result (λ frames. frames.items ≡ found_upto listed.now.entries (rank_in ranks.now.ranking.entries ranks.now.depths.items) (length listed.now.entries)) }
+    ensures { IfOk result (λ frames. frames.items ≡ found_upto listed.now.entries (λ index. get_or ranks.now index None) (length listed.now.entries)) }
 {
-    let mut frames = Vec::new(alloc);
+    let mut frames = Vec::with_capacity(alloc, listed.len())?;
     for index in 0..listed.len() as u32 {
         if let Some(frame) = frame_at(listed, ranks, index) {
             push_parts(&mut frames, frame.id, frame.rank, frame.parent, frame.key)?;
@@ -131,9 +135,11 @@ pub fn find(alloc: Global, base: &Base) -> Result<Found, AllocError>
     ensures no_rank { IfOk result (λ found. UnrankedAreCutOff [] base.now found) }
     ensures empty { IfOk result (λ found. found ≡ [] ↔ (EntryIsFound [] base.now → ⊥)) }
 {
-    let listed = discover(alloc, base)?;
-    let ranks = Ranks::of(alloc, base, &listed)?;
-    let frames = frames_of(alloc, &listed, &ranks)?;
+    let discovery = discover(alloc, base)?;
+    let count = discovery.found.len() as u32;
+    let turned = Turned::of(alloc, discovery.steps.as_slice(), count)?;
+    let ranks = ranks_of(alloc, &turned, count)?;
+    let frames = frames_of(alloc, &discovery.found, ranks.as_slice())?;
     Ok(Found { frames })
 }
 

@@ -12,9 +12,9 @@
 mod discover;
 mod found;
 mod laws;
-mod links;
 mod ranks;
 mod script;
+mod turned;
 
 pub use found::{Discovered, Found, find};
 pub use laws::{found_is_listing, listing_is_discovery, ranks_are_distances, scripts_lead};

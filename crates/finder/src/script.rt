@@ -1,5 +1,5 @@
-ghost use Rattle.std.specs.Prelude.{◌≡◌, ◌<◌, ◌++◌, ◌∷◌, [], IfOk, option_map, length, slice_get};
-ghost use Rattle.finder.specs.Found.{parent_of, parent_from, with_key, keys_back, script};
+ghost use Rattle.std.specs.Prelude.{◌≡◌, ◌<◌, IfOk, length, slice_get};
+ghost use Rattle.finder.specs.Found.{parent_of, keys_back, script};
 
 use crate::found::{Discovered, Found};
 use page_ids::{Key, KeyList};
@@ -15,32 +15,18 @@ fn parent_of(frames: &[Discovered], at: u32) -> Option<(u32, Key)>
     Some((parent, key))
 }
 
-// Goes back to the parent, and adds the key that led from it.
-fn go_back(
-    frames: &[Discovered],
-    keys: &mut Vec<Key>,
-    at: Option<u32>,
-) -> Result<Option<u32>, AllocError>
-    ensures { IfOk result (λ parent. (keys.new.items ≡ with_key keys.old.items (parent_from frames.now at)) × (parent ≡ option_map (λ p. p.0) (parent_from frames.now at))) }
-{
-    let Some(index) = at else {
-        return Ok(None);
-    };
-    let Some((parent, key)) = parent_of(frames, index) else {
-        return Ok(None);
-    };
-    keys.push(key)?;
-    Ok(Some(parent))
-}
-
 // The keys back along the parents, from the last to the first.
 fn keys_back(alloc: Global, frames: &[Discovered], from: u32) -> Result<Vec<Key>, AllocError>
     ensures { IfOk result (λ keys. keys.items ≡ keys_back frames.now (length frames.now) from) }
 {
     let mut keys = Vec::new(alloc);
-    let mut at = Some(from);
+    let mut at = from;
     for turn in 0..frames.len() {
-        at = go_back(frames, &mut keys, at)?;
+        let Some((parent, key)) = parent_of(frames, at) else {
+            return Ok(keys);
+        };
+        keys.push(key)?;
+        at = parent;
     }
     Ok(keys)
 }

@@ -1,20 +1,29 @@
-use Rattle.std.proofs.Common.{◌≡◌, ◌∙◌, ap, [], slice_get, length, arith}
-use Rattle.page_ids.specs.Ids.{id_eq}
-use Rattle.finder.specs.Walks.{lead, opening}
-use Rattle.finder.specs.Discovery.{after_node, after_nodes}
-use Rattle.finder.proofs.Order.{next_turn}
+use Rattle.std.proofs.Common.{◌≡◌, ap, [], length, arith}
 use Rattle.finder.proofs.Listing.{listing_few}
+use Rattle.finder.proofs.Grown.{node_few}
+use Rattle.finder.proofs.Seen.{frames_more, frames_done}
 use Rattle.finder.proofs.discover.discover.Goals as goal
 
-pub loop-index-preserved : goal.loop-index-preserved
-loop-index-preserved c =
-    let next = lead [] c.args.base.now in
-    let i = c.loop-index.index in
-    c.in_ok-try_frame.ensures ∙ ap (λ es. after_node id_eq 11 next es i (slice_get es i)) c.loop-index.invariant ∙ next_turn id_eq 11 next (opening [] c.args.base.now) i
+pub loop-index-init : goal.loop-index-init
+loop-index-init c = record { entries = c.in_ok-found.ensures; steps_are = c.new-steps.ensures.items }
 
--- no more frames are listed than the base has
-pub returns-clause-few : goal.returns-clause-few
-returns-clause-few c =
+pub loop-index-preserved : goal.loop-index-preserved
+loop-index-preserved c = frames_more c.args.base.now c.loop-index.index c.loop-index.found.entries c.try_frame.new.found.entries c.loop-index.steps.items c.try_frame.new.steps.items c.loop-index.invariant c.in_ok-try_frame.ensures.entries c.in_ok-try_frame.ensures.steps
+
+-- at most as many frames are listed as the base has
+pub try_frame-requires : goal.try_frame-requires
+try_frame-requires c =
+    let base = c.args.base.now in
+    let i = c.loop-index.index in
+    omega (arith, node_few [] base c.loop-index.found.entries i c.loop-index.invariant.entries (omega (arith, c.loop-index-test.true, c.frame_count-index-end.ensures.count)), c.frame_count-index-end.ensures.count, c.frame_count-index-end.ensures.few)
+
+pub returns : goal.returns
+returns c =
     let base = c.args.base.now in
     let all : c.loop-index.index ≡ length base.frames = omega (arith, c.loop-index-test.false, c.frame_count-index-end.ensures.count, c.loop-index.auto.index-end) in
-    omega (arith, ap length (c.loop-index.invariant ∙ ap (after_nodes id_eq 11 (lead [] base) (opening [] base)) all), listing_few [] base, c.frame_count-index-end.ensures.count, c.frame_count-index-end.ensures.few)
+    let done = frames_done base c.loop-index.index c.loop-index.found.entries c.loop-index.steps.items c.loop-index.invariant all in
+    record {
+      listing = done.0;
+      steps = done.1;
+      few = omega (arith, ap length done.0, listing_few [] base, c.frame_count-index-end.ensures.count, c.frame_count-index-end.ensures.few);
+    }

@@ -1,9 +1,15 @@
-use Rattle.std.proofs.Common.{length}
+use Rattle.std.proofs.Common.{◌-◌, ◌∙◌, sym, length}
 use Rattle.finder.specs.Found.{keys_back}
-use Rattle.finder.proofs.Scripts.{turn_kept}
+use Rattle.finder.proofs.Scripts.{back_turn, back_end}
 use Rattle.finder.proofs.script.keys_back.Goals as goal
+
+-- without a parent nothing is left
+pub returns-in_default : goal.returns-in_default
+returns-in_default c =
+    let found = c.args.frames.now in
+    back_end found (length found - c.loop-turn.turn) c.loop-turn.at (keys_back found (length found) c.args.from) c.loop-turn.keys.items c.loop-turn.invariant (sym c.parent_of.ensures ∙ c.in_default.is)
 
 pub loop-turn-preserved : goal.loop-turn-preserved
 loop-turn-preserved c =
     let found = c.args.frames.now in
-    turn_kept found c.loop-turn.turn (length found) (keys_back found (length found) c.args.from) c.loop-turn.keys.items c.go_back.new.keys.items c.loop-turn.at c.in_ok-at.at c.loop-turn-test.true c.loop-turn.invariant c.in_ok-at.ensures.0 c.in_ok-at.ensures.1
+    back_turn found c.loop-turn.turn (length found) (keys_back found (length found) c.args.from) c.loop-turn.keys.items c.push.new.self.items c.loop-turn.at (c.in-Some.parent, c.in-Some.key) c.loop-turn-test.true c.loop-turn.invariant (sym c.parent_of.ensures ∙ c.in-Some.is) c.in_ok-push.ensures.items

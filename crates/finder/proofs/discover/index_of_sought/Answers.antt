@@ -1,0 +1,29 @@
+use Rattle.std.proofs.Common.{◌≡◌, Some, None, ◌∙◌, sym, ap, ◌++◌, ◌∷◌, [], if◌then◌else◌, is_some, false}
+use Rattle.std.specs.Map.{lookup}
+use Rattle.page_ids.specs.Ids.{id_eq}
+use Rattle.page_ids.specs.IdLaws.{id_eq_same, id_eq_refl}
+use Rattle.indexmap.proofs.CallerLemmas.{insert_entry-new}
+use Rattle.finder.specs.Discovery.{try_lead}
+use Rattle.finder.specs.Edges.{index_of}
+use Rattle.finder.proofs.Order.{none_of}
+use Rattle.finder.proofs.Places.{placed_last}
+use Rattle.finder.proofs.discover.index_of_sought.Goals as goal
+
+-- a frame that isn't listed and is found goes last
+pub returns-in-Ok-clause-entries : goal.returns-in-Ok-clause-entries
+returns-in-Ok-clause-entries c =
+    let es = c.args.found.now.entries in
+    let sought = c.args.sought in
+    let none : is_some (lookup (id_eq sought) es) ≡ false = sym c.get_index_of.ensures.found ∙ ap is_some c.in_default.is in
+    let found = c.is_found.ensures ∙ ap (λ b. if b then Some sought else None) c.if-not-is_found.false in
+    c.in-Ok.ensures.entries ∙ insert_entry-new id_eq c.args.found.now sought (Some c.args.origin) (none_of (lookup (id_eq sought) es) none) ∙ sym (ap (λ b. if b then es else es ++ (sought, Some c.args.origin) ∷ []) none) ∙ sym (ap (try_lead id_eq es c.args.origin) found)
+
+-- its index is how many were listed before
+pub returns-in-Ok-clause-index : goal.returns-in-Ok-clause-index
+returns-in-Ok-clause-index c =
+    let es = c.args.found.now.entries in
+    let sought = c.args.sought in
+    let none : is_some (lookup (id_eq sought) es) ≡ false = sym c.get_index_of.ensures.found ∙ ap is_some c.in_default.is in
+    let entries = c.in-Ok.ensures.entries ∙ insert_entry-new id_eq c.args.found.now sought (Some c.args.origin) (none_of (lookup (id_eq sought) es) none) in
+    let unlisted : index_of es sought ≡ None = sym c.get_index_of.ensures.index ∙ c.in_default.is in
+    ap Some c.len-index.ensures.len ∙ sym (ap (λ x. index_of x sought) entries ∙ placed_last id_eq id_eq_same id_eq_refl es sought (Some c.args.origin) unlisted)
