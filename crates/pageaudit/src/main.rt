@@ -35,15 +35,26 @@ fn main(rt: HostRuntime) -> ExitCode {
 fn run<R: Files + Env + Print + Eprint + AllocGlobal>(rt: &R) -> u8 {
     let words = match words(rt, rt.alloc()) {
         Ok(words) => words,
-        Err(status) => return status,
+        Err(status) => return told(rt, status),
     };
     match matches(rt.alloc(), words.as_slice()) {
         Ok(matches) => dispatch(rt, &matches),
-        Err(error) => {
-            let _ = error.print(rt);
-            refused_status(&error)
-        }
+        Err(error) => match refused_status(&error) {
+            4 => told(rt, 4),
+            status => {
+                let _ = error.print(rt);
+                status
+            }
+        },
     }
+}
+
+// The status, with the line for want of memory where it is that one.
+fn told<R: Eprint + AllocGlobal>(rt: &R, status: u8) -> u8 {
+    if status == 4 {
+        tell(rt, &RunFault::Memory);
+    }
+    status
 }
 
 fn dispatch<R: Files + Print + Eprint + AllocGlobal>(rt: &R, matches: &ArgMatches) -> u8 {
