@@ -161,7 +161,7 @@ fn start(alloc: Global, base: &Base) -> Result<Listing, AllocError>
     ensures { IfOk result (λ m. m.entries ≡ opening [] base.now) }
 {
     let entry = base.entry_frame();
-    let mut found: Listing = IndexMap::new(alloc);
+    let mut found: Listing = IndexMap::with_capacity(alloc, base.frames().len())?;
     if is_found(base, entry) {
         return match found.insert(entry, None) {
             Ok(_) => Ok(found),
@@ -185,8 +185,9 @@ pub fn discover(alloc: Global, base: &Base) -> Result<Discovery, AllocError>
     ensures few { IfOk result (λ d. length d.found.entries ≤ 65535) }
 {
     let mut found = start(alloc, base)?;
-    let mut steps = Vec::new(alloc);
-    for index in 0..frame_count(base) {
+    let count = frame_count(base);
+    let mut steps = Vec::with_capacity(alloc, count as usize * 11)?;
+    for index in 0..count {
         try_frame(base, &mut found, &mut steps, index)?;
     }
     Ok(Discovery { found, steps })
