@@ -64,19 +64,21 @@ fn dispatch<R: Files + Print + Eprint + AllocGlobal>(rt: &R, matches: &ArgMatche
         Some(("walk", words)) => walk_file(rt, words),
         _ => return 2,
     };
-    if let Err(fault) = &run {
-        tell(rt, fault);
+    match &run {
+        Err(fault) if !tell(rt, fault) => 4,
+        _ => status_of(&run),
     }
-    status_of(&run)
 }
 
-// One line on standard error; nothing where there is no memory for it.
-fn tell<R: Eprint + AllocGlobal>(rt: &R, fault: &RunFault) {
-    if let Ok(text) = fault_text(rt.alloc(), fault) {
-        if let Ok(line) = str::from_utf8(text.as_slice()) {
-            let _ = eprint!(rt; "{line}");
-        }
+// One line on standard error; false where there is no memory for it, and nothing is printed.
+fn tell<R: Eprint + AllocGlobal>(rt: &R, fault: &RunFault) -> bool {
+    let Ok(text) = fault_text(rt.alloc(), fault) else {
+        return false;
+    };
+    if let Ok(line) = str::from_utf8(text.as_slice()) {
+        let _ = eprint!(rt; "{line}");
     }
+    true
 }
 
 // What the options ask of bases.
