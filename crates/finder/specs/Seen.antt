@@ -1,8 +1,9 @@
 -- The steps between listed frames, as they are seen while the frames are discovered.
-use Rattle.std.specs.Prelude.{ℕ, zero, suc, List, [], Option, Some, None, option_and_then, slice_get}
+use Rattle.std.specs.Prelude.{◌≡◌, length, ℕ, zero, suc, List, [], Option, Some, None, option_and_then, slice_get}
 use Rattle.page_ids.specs.Id.{Id}
 use Rattle.page_ids.specs.Ids.{id_eq}
-use Rattle.frame_records.specs.BaseView.{BaseView}
+use Rattle.frame_records.specs.declared.frame.Frame.{Frame}
+use Rattle.frame_records.specs.BaseView.{BaseView, frame_at}
 use Rattle.finder.specs.Discovery.{Origin, after_keys, after_nodes}
 use Rattle.finder.specs.Walks.{lead, opening}
 use Rattle.finder.specs.Edges.{Edge, index_of, sought_at, add_edge}
@@ -28,3 +29,8 @@ seen_node caller base es edges i (Some e) = seen_keys caller base es edges i e.0
 abbrev pub seen_nodes : List ℕ → BaseView → ℕ → List Edge
 seen_nodes caller base zero = []
 seen_nodes caller base (suc i) = seen_node caller base (listing_upto caller base i) (seen_nodes caller base i) i (slice_get (listing_upto caller base i) i)
+
+-- the frames of a listing, one for each of its entries
+pub record AreFrames (base : BaseView) (es : List (Id × Option Origin)) (frames : List Frame) : Type 0 where
+  pub count : length frames ≡ length es
+  pub each : (i : ℕ) (id : Id) (o : Option Origin) (f : Frame) → slice_get es i ≡ Some (id, o) → slice_get frames i ≡ Some f → frame_at base id ≡ Some f

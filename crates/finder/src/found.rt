@@ -82,7 +82,7 @@ fn frame_at(listed: &Listing, ranks: &[Option<u16>], index: u32) -> Option<Disco
     ensures { result ≡ option_map (λ e. with_rank e (get_or ranks.now index None)) (slice_get listed.now.entries index) }
 {
     match listed.get_index(index as usize) {
-        Some((id, origin)) => Some(with_rank(*id, *origin, rank_at(ranks, index))),
+        Some((id, origin)) => Some(with_rank(*id, *origin, rank_at(ranks, index as usize))),
         None => None,
     }
 }
@@ -136,7 +136,7 @@ pub fn find(alloc: Global, base: &Base) -> Result<Found, AllocError>
     ensures empty { IfOk result (λ found. found ≡ [] ↔ (EntryIsFound [] base.now → ⊥)) }
 {
     let discovery = discover(alloc, base)?;
-    let count = discovery.found.len() as u32;
+    let count = discovery.found.len() as u16;
     let turned = Turned::of(alloc, discovery.steps.as_slice(), count)?;
     let ranks = ranks_of(alloc, &turned, count)?;
     let frames = frames_of(alloc, &discovery.found, ranks.as_slice())?;

@@ -6,10 +6,10 @@ use crate::turned::Turned;
 use std::alloc::{AllocError, Global};
 
 // The rank of an index, where it has one.
-pub fn rank_at(ranks: &[Option<u16>], index: u32) -> Option<u16>
+pub fn rank_at(ranks: &[Option<u16>], index: usize) -> Option<u16>
     ensures { result ≡ get_or ranks.now index None }
 {
-    match ranks.get(index as usize) {
+    match ranks.get(index) {
         Some(rank) => *rank,
         None => None,
     }
@@ -17,10 +17,10 @@ pub fn rank_at(ranks: &[Option<u16>], index: u32) -> Option<u16>
 
 // An index that has no rank yet gets one and goes last.
 fn mark(
-    queue: &mut Vec<u32>,
+    queue: &mut Vec<u16>,
     ranks: &mut Vec<Option<u16>>,
     rank: u16,
-    index: u32,
+    index: u16,
 ) -> Result<(), AllocError>
     ensures { OnOk result ((queue.new.items, ranks.new.items) ≡ mark (queue.old.items, ranks.old.items) rank index) }
 {
@@ -35,10 +35,10 @@ fn mark(
 
 // So does each of these indices.
 fn mark_all(
-    queue: &mut Vec<u32>,
+    queue: &mut Vec<u16>,
     ranks: &mut Vec<Option<u16>>,
     rank: u16,
-    froms: &[u32],
+    froms: &[u16],
 ) -> Result<(), AllocError>
     ensures { OnOk result ((queue.new.items, ranks.new.items) ≡ mark_upto (queue.old.items, ranks.old.items) rank froms.now (length froms.now)) }
 {
@@ -51,9 +51,9 @@ fn mark_all(
 // Goes back along each step that leads to the index at a place of the queue; past the end nothing is left.
 fn search_at(
     turned: &Turned,
-    queue: &mut Vec<u32>,
+    queue: &mut Vec<u16>,
     ranks: &mut Vec<Option<u16>>,
-    place: u32,
+    place: u16,
 ) -> Result<(), AllocError>
     requires sections { AreSections turned.now.starts.items turned.now.froms.items }
     requires small { (index rank : ℕ) → get_or ranks.now.items index None ≡ Some rank → rank < 65535 }
@@ -63,14 +63,14 @@ fn search_at(
         return Ok(());
     };
     let index = *index;
-    match rank_at(ranks.as_slice(), index) {
+    match rank_at(ranks.as_slice(), index as usize) {
         Some(rank) => mark_all(queue, ranks, rank + 1, turned.section(index)),
         None => Ok(()),
     }
 }
 
 // The rank of each of so many indices, by a search back from the first.
-pub fn ranks_of(alloc: Global, turned: &Turned, count: u32) -> Result<Vec<Option<u16>>, AllocError>
+pub fn ranks_of(alloc: Global, turned: &Turned, count: u16) -> Result<Vec<Option<u16>>, AllocError>
     requires sections { AreSections turned.now.starts.items turned.now.froms.items }
     requires small { (turn index rank : ℕ) → turn < count → get_or (search_upto (section_of turned.now.starts.items turned.now.froms.items) count turn).1 index None ≡ Some rank → rank < 65535 }
     ensures { IfOk result (λ ranks. ranks.items ≡ (search_upto (section_of turned.now.starts.items turned.now.froms.items) count count).1) }

@@ -8,11 +8,11 @@ use std::alloc::{AllocError, Global};
 #[derive(Drop)]
 pub struct Turned {
     pub starts: Vec<u32>,
-    pub froms: Vec<u32>,
+    pub froms: Vec<u16>,
 }
 
 // How many steps lead to each index.
-fn counts_of(alloc: Global, steps: &[(u32, u32)], count: u32) -> Result<Vec<u32>, AllocError>
+fn counts_of(alloc: Global, steps: &[(u16, u16)], count: u16) -> Result<Vec<u32>, AllocError>
     requires few { length steps.now < 2 ^ 32 }
     requires within { (e : ℕ) → e < length steps.now → (get_or steps.now e (0, 0)).1 < count }
     ensures { IfOk result (λ counts. AreCounts steps.now count (length steps.now) counts.items) }
@@ -42,14 +42,14 @@ fn ends_of(alloc: Global, counts: &[u32]) -> Result<Vec<u32>, AllocError>
 
 impl Turned {
     // Turns the steps between so many indices round: each section is filled from its end.
-    pub fn of(alloc: Global, steps: &[(u32, u32)], count: u32) -> Result<Turned, AllocError>
+    pub fn of(alloc: Global, steps: &[(u16, u16)], count: u16) -> Result<Turned, AllocError>
         requires few { length steps.now < 2 ^ 32 }
         requires within { (e : ℕ) → e < length steps.now → (get_or steps.now e (0, 0)).1 < count }
         ensures { IfOk result (λ t. AreTurned steps.now count t.starts.items t.froms.items) }
     {
         let counts = counts_of(alloc, steps, count)?;
         let mut starts = ends_of(alloc, counts.as_slice())?;
-        let mut froms: Vec<u32> = vec![in alloc; 0; steps.len()]?;
+        let mut froms: Vec<u16> = vec![in alloc; 0; steps.len()]?;
         for e in 0..steps.len() {
             let (from, to) = steps[e];
             let at = starts[to as usize] - 1;
@@ -60,7 +60,7 @@ impl Turned {
     }
 
     // Where the steps to an index come from.
-    pub fn section(&self, index: u32) -> &[u32]
+    pub fn section(&self, index: u16) -> &[u16]
         requires { AreSections self.now.starts.items self.now.froms.items }
         ensures { result.now ≡ section_of self.now.starts.items self.now.froms.items index }
     {
