@@ -112,9 +112,6 @@ fn safe_times(rt: &HostRuntime, text: &[u8]) -> Result<(Duration, Duration)> {
         bail!("the text is not read");
     };
     let read = rt.thread_cpu_time()?;
-    let found = finder::find(rt.alloc(), &base)?;
-    let mid = rt.thread_cpu_time()?;
-    eprintln!(rt; "find {} us", mid.saturating_sub(read).as_micros())?;
     let outcome = audit(rt.alloc(), &base, &policy)?;
     let printed = report(rt.alloc(), &outcome)?;
     let end = rt.thread_cpu_time()?;
