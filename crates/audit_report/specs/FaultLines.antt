@@ -1,11 +1,10 @@
 -- The lines on standard error.
-use Rattle.std.specs.Prelude.{ℕ, List, [], ◌∷◌, ◌++◌, Option, Some, None, codes, decimal}
+use Rattle.std.specs.Prelude.{ℕ, List, ◌++◌, Option, Some, None, codes, decimal}
 use Rattle.page_ids.specs.Ids.{page_text}
 use Rattle.base_text.specs.declared.fault.Field.{Field}
 use Rattle.base_text.specs.declared.fault.Field.TheVariants as field
 use Rattle.base_text.specs.declared.fault.Cause.{Cause}
 use Rattle.base_text.specs.declared.fault.Cause.TheVariants as cause
-use Rattle.base_text.specs.declared.fault.BaseFault.{BaseFault}
 use Rattle.cert_text.specs.declared.fault.LineCause.{LineCause}
 use Rattle.cert_text.specs.declared.fault.LineCause.TheVariants as line_cause
 use Rattle.cert_text.specs.declared.fault.ReadFault.{ReadFault}
