@@ -1,6 +1,7 @@
 //! Finds the frames of a base of the greatest size, beside one pass of look-ups of its routes in an `IndexMap`.
 //!
-//! It prints both processor times and their ratio to standard error, and `ok` where each frame was found.
+//! It does so where the routes lead to frames in a row, and where they are scattered. It prints the processor times and their
+//! ratios to standard error, and `ok` where each frame was found.
 #![tactic(auto)]
 
 use anyhow::{Result, bail};
@@ -25,30 +26,46 @@ fn page_of(number: u32) -> Result<PageNo> {
     }
 }
 
-// A frame with ten routes, so that five keys lead from any frame to any other.
-fn frame_of(alloc: Global, number: u32) -> Result<Frame> {
+// How the routes lie: to ten frames in a row, or to ten scattered ones. Either way five keys lead from any frame to any other.
+#[derive(Clone, Copy)]
+enum Routes {
+    InARow,
+    Scattered,
+}
+
+// The frame to which a frame's route of this digit leads.
+fn target(routes: Routes, number: u32, digit: u32) -> u32 {
+    let next = number.wrapping_mul(10).wrapping_add(digit.wrapping_add(1)) % FRAMES;
+    match routes {
+        Routes::InARow => next,
+        Routes::Scattered => next.wrapping_mul(40_507) % FRAMES,
+    }
+}
+
+// A frame with ten routes.
+fn frame_of(alloc: Global, routes: Routes, number: u32) -> Result<Frame> {
     let Some(price) = Pence::new(5) else {
         bail!("no such price");
     };
-    let mut routes = [None; 10];
+    let mut ways = [None; 10];
     for digit in 0..10u32 {
-        routes[digit as usize] = Some(page_of(number.wrapping_mul(10).wrapping_add(digit + 1))?);
+        ways[digit as usize] = Some(page_of(target(routes, number, digit))?);
     }
     Ok(Frame {
         id: FrameId::first(page_of(number)?),
         price,
         group: None,
         next: false,
-        routes,
+        routes: ways,
         lead: Lead::Clear,
         body: Body::of(Vec::new(alloc)),
     })
 }
 
-fn large_base(alloc: Global) -> Result<Base> {
+fn large_base(alloc: Global, routes: Routes) -> Result<Base> {
     let mut frames = Vec::new(alloc);
     for number in 0..FRAMES {
-        frames.push(frame_of(alloc, number)?)?;
+        frames.push(frame_of(alloc, routes, number)?)?;
     }
     match Base::build(page_of(0)?, Vec::new(alloc), frames) {
         Ok(base) => Ok(base),
@@ -101,14 +118,20 @@ fn find_time(rt: &HostRuntime, base: &Base) -> Result<Duration> {
     Ok(time)
 }
 
-fn main(rt: HostRuntime) -> Result<()> {
-    let base = large_base(rt.alloc())?;
-    let lookups = lookup_time(&rt, &base)?.as_micros().max(1);
-    let finding = find_time(&rt, &base)?.as_micros();
+fn measure(rt: &HostRuntime, name: &str, routes: Routes) -> Result<()> {
+    let base = large_base(rt.alloc(), routes)?;
+    let lookups = lookup_time(rt, &base)?.as_micros().max(1);
+    let finding = find_time(rt, &base)?.as_micros();
     eprintln!(rt;
-        "look-ups {lookups} us, find {finding} us, {} percent",
+        "routes {name}: look-ups {lookups} us, find {finding} us, {} percent",
         finding * 100 / lookups
     )?;
+    Ok(())
+}
+
+fn main(rt: HostRuntime) -> Result<()> {
+    measure(&rt, "in a row", Routes::InARow)?;
+    measure(&rt, "scattered", Routes::Scattered)?;
     println!(rt; "ok")?;
     Ok(())
 }
