@@ -1,9 +1,8 @@
-use Rattle.std.proofs.Common.{◌≡◌, Some, None, ◌∙◌, sym, ap, subst, List, ◌++◌, ◌∷◌, [], if◌then◌else◌, is_some, false, map}
+use Rattle.std.proofs.Common.{◌≡◌, Some, None, ◌∙◌, sym, ap, subst, ◌++◌, ◌∷◌, [], if◌then◌else◌, is_some, false, map}
 use Rattle.std.specs.Map.{lookup}
 use Rattle.std.proofs.lemmas.List.{map-append}
 use Rattle.page_ids.specs.Ids.{id_eq}
 use Rattle.page_ids.specs.IdLaws.{id_eq_same, id_eq_refl}
-use Rattle.frame_records.specs.declared.frame.Frame.{Frame}
 use Rattle.indexmap.proofs.CallerLemmas.{insert_entry-new}
 use Rattle.finder.specs.Discovery.{try_lead}
 use Rattle.finder.specs.Edges.{index_of}
