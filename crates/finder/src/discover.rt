@@ -16,6 +16,15 @@ use std::alloc::{AllocError, Global};
 // are numbered in the order in which they are tried: 0 to 9, and 10 for `#`.
 pub type Listing = IndexMap<FrameId, Option<(u32, u8)>>;
 
+// What is discovered: the listed frames, in order, each with its frame of the base, and the steps between them by their
+// indices.
+#[derive(Drop)]
+pub struct Discovery<'a> {
+    pub found: Listing,
+    frames: Vec<&'a Frame>,
+    pub steps: Vec<(u16, u16)>,
+}
+
 // The frame that follows, where `next` is offered.
 fn following_of(frame: &Frame) -> Option<FrameId>
     ensures { result ≡ next_sought frame.now }
@@ -55,26 +64,26 @@ fn open_frame(base: &Base, id: FrameId) -> Option<&Frame>
 // of frames that aren't listed.
 fn index_of_sought<'a>(
     base: &'a Base,
-    found: &mut Listing,
-    frames: &mut Vec<&'a Frame>,
+    seen: &mut Discovery<'a>,
     sought: FrameId,
     origin: (u32, u8),
 ) -> Result<Option<u16>, AllocError>
-    requires few { length found.now.entries ≤ 65535 }
-    requires frames { AreFrames base.now found.now.entries (map (λ f. f.now) frames.now.items) }
-    ensures entries { OnOk result (found.new.entries ≡ try_lead id_eq found.old.entries origin (open_only [] base.now (Some sought))) }
-    ensures index { IfOk result (λ index. index ≡ index_of found.new.entries sought) }
-    ensures frames { OnOk result (AreFrames base.now found.new.entries (map (λ f. f.now) frames.new.items)) }
+    requires few { length seen.now.found.entries ≤ 65535 }
+    requires frames { AreFrames base.now seen.now.found.entries (map (λ f. f.now) seen.now.frames.items) }
+    ensures entries { OnOk result (seen.new.found.entries ≡ try_lead id_eq seen.old.found.entries origin (open_only [] base.now (Some sought))) }
+    ensures index { IfOk result (λ index. index ≡ index_of seen.new.found.entries sought) }
+    ensures steps { OnOk result (seen.new.steps.items ≡ seen.old.steps.items) }
+    ensures frames { OnOk result (AreFrames base.now seen.new.found.entries (map (λ f. f.now) seen.new.frames.items)) }
 {
-    if let Some(index) = found.get_index_of(&sought) {
+    if let Some(index) = seen.found.get_index_of(&sought) {
         return Ok(Some(index as u16));
     }
     let Some(frame) = open_frame(base, sought) else {
         return Ok(None);
     };
-    let index = found.len() as u16;
-    frames.push(frame)?;
-    match found.insert(sought, Some(origin)) {
+    let index = seen.found.len() as u16;
+    seen.frames.push(frame)?;
+    match seen.found.insert(sought, Some(origin)) {
         Ok(_) => Ok(Some(index)),
         Err(_) => Err(AllocError),
     }
@@ -83,9 +92,7 @@ fn index_of_sought<'a>(
 // Tries a key of a listed frame, and adds its step.
 fn try_key<'a>(
     base: &'a Base,
-    found: &mut Listing,
-    frames: &mut Vec<&'a Frame>,
-    steps: &mut Vec<(u16, u16)>,
+    seen: &mut Discovery<'a>,
     index: u16,
     from: FrameId,
     frame: &Frame,
@@ -93,17 +100,17 @@ fn try_key<'a>(
 ) -> Result<(), AllocError>
     requires is_key { key < 11 }
     requires is_frame { frame_at base.now from ≡ Some frame.now }
-    requires few { length found.now.entries ≤ 65535 }
-    requires frames { AreFrames base.now found.now.entries (map (λ f. f.now) frames.now.items) }
-    ensures entries { OnOk result (found.new.entries ≡ try_lead id_eq found.old.entries (index, key) (lead [] base.now from key)) }
-    ensures steps { OnOk result (steps.new.items ≡ add_edge steps.old.items index (step_now base.now found.new.entries from key)) }
-    ensures frames { OnOk result (AreFrames base.now found.new.entries (map (λ f. f.now) frames.new.items)) }
+    requires few { length seen.now.found.entries ≤ 65535 }
+    requires frames { AreFrames base.now seen.now.found.entries (map (λ f. f.now) seen.now.frames.items) }
+    ensures entries { OnOk result (seen.new.found.entries ≡ try_lead id_eq seen.old.found.entries (index, key) (lead [] base.now from key)) }
+    ensures steps { OnOk result (seen.new.steps.items ≡ add_edge seen.old.steps.items index (step_now base.now seen.new.found.entries from key)) }
+    ensures frames { OnOk result (AreFrames base.now seen.new.found.entries (map (λ f. f.now) seen.new.frames.items)) }
 {
     let Some(sought) = sought_of(frame, key) else {
         return Ok(());
     };
-    if let Some(to) = index_of_sought(base, found, frames, sought, (index as u32, key))? {
-        steps.push((index, to))?;
+    if let Some(to) = index_of_sought(base, seen, sought, (index as u32, key))? {
+        seen.steps.push((index, to))?;
     }
     Ok(())
 }
@@ -111,22 +118,20 @@ fn try_key<'a>(
 // Tries each key of a listed frame.
 fn try_keys<'a>(
     base: &'a Base,
-    found: &mut Listing,
-    frames: &mut Vec<&'a Frame>,
-    steps: &mut Vec<(u16, u16)>,
+    seen: &mut Discovery<'a>,
     index: u16,
     from: FrameId,
     frame: &Frame,
 ) -> Result<(), AllocError>
     requires is_frame { frame_at base.now from ≡ Some frame.now }
-    requires few { length (after_keys id_eq (lead [] base.now) found.now.entries index from 11) ≤ 65535 }
-    requires frames { AreFrames base.now found.now.entries (map (λ f. f.now) frames.now.items) }
-    ensures entries { OnOk result (found.new.entries ≡ after_keys id_eq (lead [] base.now) found.old.entries index from 11) }
-    ensures steps { OnOk result (steps.new.items ≡ seen_keys [] base.now found.old.entries steps.old.items index from 11) }
-    ensures frames { OnOk result (AreFrames base.now found.new.entries (map (λ f. f.now) frames.new.items)) }
+    requires few { length (after_keys id_eq (lead [] base.now) seen.now.found.entries index from 11) ≤ 65535 }
+    requires frames { AreFrames base.now seen.now.found.entries (map (λ f. f.now) seen.now.frames.items) }
+    ensures entries { OnOk result (seen.new.found.entries ≡ after_keys id_eq (lead [] base.now) seen.old.found.entries index from 11) }
+    ensures steps { OnOk result (seen.new.steps.items ≡ seen_keys [] base.now seen.old.found.entries seen.old.steps.items index from 11) }
+    ensures frames { OnOk result (AreFrames base.now seen.new.found.entries (map (λ f. f.now) seen.new.frames.items)) }
 {
     for key in 0..11u8 {
-        try_key(base, found, frames, steps, index, from, frame, key)?;
+        try_key(base, seen, index, from, frame, key)?;
     }
     Ok(())
 }
@@ -140,24 +145,18 @@ fn frame_count(base: &Base) -> u16
 }
 
 // Tries each key of the listed frame at an index; past the end of the list nothing is left to try.
-fn try_frame<'a>(
-    base: &'a Base,
-    found: &mut Listing,
-    frames: &mut Vec<&'a Frame>,
-    steps: &mut Vec<(u16, u16)>,
-    index: u16,
-) -> Result<(), AllocError>
-    requires few { length (after_node id_eq 11 (lead [] base.now) found.now.entries index (slice_get found.now.entries index)) ≤ 65535 }
-    requires frames { AreFrames base.now found.now.entries (map (λ f. f.now) frames.now.items) }
-    ensures entries { OnOk result (found.new.entries ≡ after_node id_eq 11 (lead [] base.now) found.old.entries index (slice_get found.old.entries index)) }
-    ensures steps { OnOk result (steps.new.items ≡ seen_node [] base.now found.old.entries steps.old.items index (slice_get found.old.entries index)) }
-    ensures frames { OnOk result (AreFrames base.now found.new.entries (map (λ f. f.now) frames.new.items)) }
+fn try_frame<'a>(base: &'a Base, seen: &mut Discovery<'a>, index: u16) -> Result<(), AllocError>
+    requires few { length (after_node id_eq 11 (lead [] base.now) seen.now.found.entries index (slice_get seen.now.found.entries index)) ≤ 65535 }
+    requires frames { AreFrames base.now seen.now.found.entries (map (λ f. f.now) seen.now.frames.items) }
+    ensures entries { OnOk result (seen.new.found.entries ≡ after_node id_eq 11 (lead [] base.now) seen.old.found.entries index (slice_get seen.old.found.entries index)) }
+    ensures steps { OnOk result (seen.new.steps.items ≡ seen_node [] base.now seen.old.found.entries seen.old.steps.items index (slice_get seen.old.found.entries index)) }
+    ensures frames { OnOk result (AreFrames base.now seen.new.found.entries (map (λ f. f.now) seen.new.frames.items)) }
 {
-    let Some(id) = id_at(found, index) else {
+    let Some(id) = id_at(&seen.found, index) else {
         return Ok(());
     };
-    match frame_at(frames, index) {
-        Some(frame) => try_keys(base, found, frames, steps, index, id, frame),
+    match frame_at(&seen.frames, index) {
+        Some(frame) => try_keys(base, seen, index, id, frame),
         None => Ok(()),
     }
 }
@@ -183,46 +182,38 @@ fn frame_at<'a>(frames: &Vec<&'a Frame>, index: u16) -> Option<&'a Frame>
 }
 
 // The entry frame alone, where it is found.
-fn start<'a>(
-    alloc: Global,
-    base: &'a Base,
-    frames: &mut Vec<&'a Frame>,
-) -> Result<Listing, AllocError>
-    requires { frames.now.items ≡ [] }
-    ensures entries { IfOk result (λ m. m.entries ≡ opening [] base.now) }
-    ensures frames { IfOk result (λ m. AreFrames base.now m.entries (map (λ f. f.now) frames.new.items)) }
+fn start(alloc: Global, base: &Base, count: u16) -> Result<Discovery<'_>, AllocError>
+    ensures entries { IfOk result (λ d. d.found.entries ≡ opening [] base.now) }
+    ensures frames { IfOk result (λ d. AreFrames base.now d.found.entries (map (λ f. f.now) d.frames.items)) }
+    ensures steps { IfOk result (λ d. d.steps.items ≡ []) }
 {
+    let mut found: Listing = IndexMap::with_capacity(alloc, count as usize)?;
+    let mut frames = Vec::with_capacity(alloc, count as usize)?;
+    let steps = Vec::with_capacity(alloc, count as usize * 11)?;
     let entry = base.entry_frame();
-    let mut found: Listing = IndexMap::with_capacity(alloc, base.frames().len())?;
-    let Some(frame) = open_frame(base, entry) else {
-        return Ok(found);
-    };
-    frames.push(frame)?;
-    match found.insert(entry, None) {
-        Ok(_) => Ok(found),
-        Err(_) => Err(AllocError),
+    if let Some(frame) = open_frame(base, entry) {
+        frames.push(frame)?;
+        if found.insert(entry, None).is_err() {
+            return Err(AllocError);
+        }
     }
-}
-
-// The frames that a caller can reach, in the order of discovery, and the steps between them by their indices.
-#[derive(Drop)]
-pub struct Discovery {
-    pub found: Listing,
-    pub steps: Vec<(u16, u16)>,
+    Ok(Discovery {
+        found,
+        frames,
+        steps,
+    })
 }
 
 // Discovers the frames of a base.
-pub fn discover(alloc: Global, base: &Base) -> Result<Discovery, AllocError>
+pub fn discover(alloc: Global, base: &Base) -> Result<Discovery<'_>, AllocError>
     ensures listing { IfOk result (λ d. d.found.entries ≡ listing [] base.now) }
     ensures steps { IfOk result (λ d. d.steps.items ≡ edges_nodes (step base.now (listing [] base.now)) (length (listing [] base.now))) }
     ensures few { IfOk result (λ d. length d.found.entries ≤ 65535) }
 {
     let count = frame_count(base);
-    let mut frames: Vec<&Frame> = Vec::with_capacity(alloc, count as usize)?;
-    let mut found = start(alloc, base, &mut frames)?;
-    let mut steps = Vec::with_capacity(alloc, count as usize * 11)?;
+    let mut seen = start(alloc, base, count)?;
     for index in 0..count {
-        try_frame(base, &mut found, &mut frames, &mut steps, index)?;
+        try_frame(base, &mut seen, index)?;
     }
-    Ok(Discovery { found, steps })
+    Ok(seen)
 }

@@ -4,4 +4,4 @@ use Rattle.finder.proofs.Seen.{FramesTried}
 use Rattle.finder.proofs.discover.discover.Given as goal
 
 abbrev pub invariant-loop-index : goal.invariant-loop-index
-invariant-loop-index l = FramesTried l.base l.index l.found.entries l.steps.items × AreFrames l.base l.found.entries (map (λ f. f.now) l.frames.items)
+invariant-loop-index l = FramesTried l.base l.index l.seen.found.entries l.seen.steps.items × AreFrames l.base l.seen.found.entries (map (λ f. f.now) l.seen.frames.items)
