@@ -1,7 +1,7 @@
 -- The steps seen while the frames are discovered are the steps between the frames of the whole listing.
-use Rattle.std.proofs.Common.{◌≡◌, ◌<◌, ◌≤◌, ◌+◌, ◌*◌, inl, inr, ℕ, zero, suc, List, [], ◌∷◌, ◌++◌, Option, Some, None, slice_get, length, refl, sym, ◌∙◌, ap, subst, arith, length-append}
+use Rattle.std.proofs.Common.{◌≡◌, ◌<◌, ◌≤◌, ◌+◌, ◌*◌, inl, inr, ℕ, zero, suc, List, [], Option, Some, None, slice_get, length, refl, sym, ◌∙◌, ap, subst, arith}
 use Rattle.std.specs.Prelude.{option_and_then, option_map}
-use Rattle.std.proofs.lemmas.Option.{slice_get_past, slice_get_within}
+use Rattle.std.proofs.lemmas.Option.{slice_get_past}
 use Rattle.page_ids.specs.Id.{Id}
 use Rattle.page_ids.specs.Ids.{first_frame, id_eq}
 use Rattle.page_ids.specs.IdLaws.{id_eq_same, id_eq_refl}
@@ -14,8 +14,8 @@ use Rattle.finder.specs.Discovery.{Origin, IsOrder, LeadsFrom, try_lead, after_k
 use Rattle.finder.specs.Walks.{Leads, lead, sought_by, found_only, alone, opening, listing}
 use Rattle.finder.specs.Listing.{IsDiscovery}
 use Rattle.finder.specs.Edges.{Edge, index_of, sought_at, step, add_edge, edges_keys, edges_nodes}
-use Rattle.finder.specs.Seen.{AreFrames, step_now, listing_upto, seen_keys, seen_node, seen_nodes}
-use Rattle.finder.proofs.Lists.{at_push, push_end, slice_push, some_at}
+use Rattle.finder.specs.Seen.{step_now, listing_upto, seen_keys, seen_node, seen_nodes}
+use Rattle.finder.proofs.Lists.{some_at}
 use Rattle.finder.proofs.Order.{some_eq, split, order_nodes, order_keys}
 use Rattle.finder.proofs.Listing.{discovery, lead_of, after_none, listing_closed, listing_missing}
 use Rattle.finder.proofs.Places.{stands, placed}
@@ -216,36 +216,3 @@ frames_more base i now next steps more tried next_is more_is =
 -- all of them
 pub frames_done : (base : BaseView) (i : ℕ) (now : List Entry) (steps : List Edge) → FramesTried base i now steps → i ≡ length base.frames → (now ≡ listing [] base) × (steps ≡ edges_nodes (step base (listing [] base)) (length (listing [] base)))
 frames_done base i now steps tried all = (tried.entries ∙ ap (listing_upto [] base) all, tried.steps_are ∙ ap (seen_nodes [] base) all ∙ seen_are_steps [] base)
-
--- one more frame
-pub frames_push : (base : BaseView) (es : List Entry) (frames : List Frame) (id : Id) (o : Option Origin) (f : Frame) → AreFrames base es frames → frame_at base id ≡ Some f → AreFrames base (es ++ (id, o) ∷ []) (frames ++ f ∷ [])
-frames_push base es frames id o f are is = record {
-  count = omega (arith, length-append es ((id, o) ∷ []), length-append frames (f ∷ []), are.count);
-  each = λ i x p g at there. elim (at_push es (id, o) i (x, p) at) [
-    | inl old ↦
-        let inside = slice_get_within es i (x, p) old in
-        are.each i x p g old (sym (slice_push frames f i (omega (arith, inside, are.count))) ∙ there)
-    | inr new ↦
-        let place : i ≡ length frames = omega (arith, new.0, are.count) in
-        let key : id ≡ x = ap (λ (e : Entry). e.0) new.1 in
-        let frame : f ≡ g = some_eq f g (sym (push_end frames f) ∙ sym (ap (slice_get (frames ++ f ∷ [])) place) ∙ there) in
-        ap (frame_at base) (sym key) ∙ is ∙ ap Some frame
-  ];
-}
-
--- the frame of an entry
-pub frame_listed : (base : BaseView) (es : List Entry) (frames : List Frame) (i : ℕ) (id : Id) (f : Frame) → AreFrames base es frames → option_map (λ e. e.0) (slice_get es i) ≡ Some id → slice_get frames i ≡ Some f → frame_at base id ≡ Some f
-frame_listed base es frames i id f are e there = by (slice_get es i) refl e where
-  by : (r : Option Entry) → slice_get es i ≡ r → option_map (λ e. e.0) r ≡ Some id → frame_at base id ≡ Some f
-  by None at h = absurd cc
-  by (Some x) at h = ap (frame_at base) (sym (some_eq x.0 id h)) ∙ are.each i x.0 x.1 f at there
-
--- each entry has one
-pub frame_there : (base : BaseView) (es : List Entry) (frames : List Frame) (i : ℕ) (id : Id) → AreFrames base es frames → option_map (λ e. e.0) (slice_get es i) ≡ Some id → slice_get frames i ≡ None → ⊥
-frame_there base es frames i id are e none = by (slice_get es i) refl e where
-  by : (r : Option Entry) → slice_get es i ≡ r → option_map (λ e. e.0) r ≡ Some id → ⊥
-  by None at h = cc
-  by (Some x) at h =
-      let f = some_at frames i (omega (arith, slice_get_within es i x at, are.count)) in
-      let both : None ≡ Some f.0 = sym none ∙ f.1 in
-      cc

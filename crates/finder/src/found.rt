@@ -1,8 +1,9 @@
 ghost use Rattle.std.specs.Prelude.{◌≡◌, ◌≤◌, ◌↔◌, [], ◌∷◌, ◌++◌, None, IfOk, OnOk, length, get_or, option_map, slice_get};
 ghost use Rattle.finder.specs.Finds.{FindsReached, RanksAreLeast, UnrankedAreCutOff, EntryIsFound};
+ghost use Rattle.finder.specs.Seen.{listed_of};
 ghost use Rattle.finder.specs.Found.{key_of, found_of, with_rank, found_upto};
 
-use crate::discover::{Listing, discover};
+use crate::discover::{Discovery, Origin, discover};
 use crate::ranks::{rank_at, ranks_of};
 use crate::turned::Turned;
 use frame_records::Base;
@@ -58,7 +59,7 @@ fn key_of(number: u8) -> Key
 }
 
 // A listed frame with its rank.
-fn with_rank(id: FrameId, origin: Option<(u32, u8)>, rank: Option<u16>) -> Discovered
+fn with_rank(id: FrameId, origin: Origin, rank: Option<u16>) -> Discovered
     ensures { result ≡ with_rank (id, origin) rank }
 {
     match origin {
@@ -77,14 +78,13 @@ fn with_rank(id: FrameId, origin: Option<(u32, u8)>, rank: Option<u16>) -> Disco
     }
 }
 
-// The frame at an index of the listing, with its rank.
-fn frame_at(listed: &Listing, ranks: &[Option<u16>], index: u32) -> Option<Discovered>
-    ensures { result ≡ option_map (λ e. with_rank e (get_or ranks.now index None)) (slice_get listed.now.entries index) }
+// The listed frame at an index, with its rank.
+fn frame_at(listed: &Discovery<'_>, ranks: &[Option<u16>], index: u32) -> Option<Discovered>
+    ensures { result ≡ option_map (λ e. with_rank e (get_or ranks.now index None)) (slice_get (listed_of listed.now.frames.entries listed.now.origins.items) index) }
 {
-    match listed.get_index(index as usize) {
-        Some((id, origin)) => Some(with_rank(*id, *origin, rank_at(ranks, index as usize))),
-        None => None,
-    }
+    let (id, _) = listed.frames.get_index(index as usize)?;
+    let origin = listed.origins.get(index as usize)?;
+    Some(with_rank(*id, *origin, rank_at(ranks, index as usize)))
 }
 
 // Adds a frame, its parts one by one.
@@ -109,14 +109,14 @@ fn push_parts(
 // The listed frames, each with its rank.
 fn frames_of(
     alloc: Global,
-    listed: &Listing,
+    listed: &Discovery<'_>,
     ranks: &[Option<u16>],
 ) -> Result<Vec<Discovered>, AllocError>
-    requires { length listed.now.entries ≤ 65535 }
-    ensures { IfOk result (λ frames. frames.items ≡ found_upto listed.now.entries (λ index. get_or ranks.now index None) (length listed.now.entries)) }
+    requires { length listed.now.origins.items ≤ 65535 }
+    ensures { IfOk result (λ frames. frames.items ≡ found_upto (listed_of listed.now.frames.entries listed.now.origins.items) (λ index. get_or ranks.now index None) (length listed.now.origins.items)) }
 {
-    let mut frames = Vec::with_capacity(alloc, listed.len())?;
-    for index in 0..listed.len() as u32 {
+    let mut frames = Vec::with_capacity(alloc, listed.origins.len())?;
+    for index in 0..listed.origins.len() as u32 {
         if let Some(frame) = frame_at(listed, ranks, index) {
             push_parts(&mut frames, frame.id, frame.rank, frame.parent, frame.key)?;
         }
@@ -136,10 +136,10 @@ pub fn find(alloc: Global, base: &Base) -> Result<Found, AllocError>
     ensures empty { IfOk result (λ found. found ≡ [] ↔ (EntryIsFound [] base.now → ⊥)) }
 {
     let discovery = discover(alloc, base)?;
-    let count = discovery.found.len() as u16;
+    let count = discovery.origins.len() as u16;
     let turned = Turned::of(alloc, discovery.steps.as_slice(), count)?;
     let ranks = ranks_of(alloc, &turned, count)?;
-    let frames = frames_of(alloc, &discovery.found, ranks.as_slice())?;
+    let frames = frames_of(alloc, &discovery, ranks.as_slice())?;
     Ok(Found { frames })
 }
 

@@ -79,6 +79,10 @@ pub fn ranks_of(alloc: Global, turned: &Turned, count: u16) -> Result<Vec<Option
     let mut queue = Vec::with_capacity(alloc, count as usize)?;
     mark(&mut queue, &mut ranks, 0, 0)?;
     for place in 0..count {
+        // Each index has a rank by now.
+        if queue.len() == count as usize {
+            return Ok(ranks);
+        }
         search_at(turned, &mut queue, &mut ranks, place)?;
     }
     Ok(ranks)

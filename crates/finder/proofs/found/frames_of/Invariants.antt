@@ -1,6 +1,7 @@
 use Rattle.std.proofs.Common.{◌≡◌, get_or, None}
 use Rattle.finder.specs.Found.{found_upto}
+use Rattle.finder.specs.Seen.{listed_of}
 use Rattle.finder.proofs.found.frames_of.Given as goal
 
 abbrev pub invariant-loop-index : goal.invariant-loop-index
-invariant-loop-index l = l.frames.items ≡ found_upto l.listed.entries (λ index. get_or l.ranks index None) l.index
+invariant-loop-index l = l.frames.items ≡ found_upto (listed_of l.listed.frames.entries l.listed.origins.items) (λ index. get_or l.ranks index None) l.index
