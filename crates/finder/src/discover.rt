@@ -17,7 +17,7 @@ pub type OpenFrames<'a> = IndexMap<FrameId, &'a Frame>;
 
 // Of a listed frame its parent's index and the key that led to it; none of the entry frame. The keys are numbered in the
 // order in which they are tried: 0 to 9, and 10 for `#`.
-pub type Origin = Option<(u32, u8)>;
+pub type Origin = Option<(u16, u8)>;
 
 // What is discovered: as many of the open frames are listed as there are origins; and the steps between the listed ones, by
 // their indices.
@@ -93,7 +93,7 @@ fn list(seen: &mut Discovery<'_>, at: usize, origin: Origin) -> Result<(), Alloc
 fn index_of_sought(
     seen: &mut Discovery<'_>,
     sought: FrameId,
-    origin: (u32, u8),
+    origin: (u16, u8),
 ) -> Result<Option<u16>, AllocError>
     requires few { length seen.now.origins.items ≤ 65535 }
     requires within { length seen.now.origins.items ≤ length seen.now.frames.entries }
@@ -133,7 +133,7 @@ fn try_key(
     let Some(sought) = sought_of(frame, key) else {
         return Ok(());
     };
-    if let Some(to) = index_of_sought(seen, sought, (index as u32, key))? {
+    if let Some(to) = index_of_sought(seen, sought, (index, key))? {
         seen.steps.push((index, to))?;
     }
     Ok(())

@@ -3,7 +3,7 @@ ghost use Rattle.finder.specs.Finds.{FindsReached, RanksAreLeast, UnrankedAreCut
 ghost use Rattle.finder.specs.Seen.{listed_of};
 ghost use Rattle.finder.specs.Found.{key_of, found_of, with_rank, found_upto};
 
-use crate::discover::{Discovery, Origin, discover};
+use crate::discover::{Discovery, OpenFrames, Origin, discover};
 use crate::ranks::{rank_at, ranks_of};
 use crate::turned::Turned;
 use frame_records::Base;
@@ -72,18 +72,23 @@ fn with_rank(id: FrameId, origin: Origin, rank: Option<u16>) -> Discovered
         Some((parent, number)) => Discovered {
             id,
             rank,
-            parent: Some(parent),
+            parent: Some(parent as u32),
             key: Some(key_of(number)),
         },
     }
 }
 
 // The listed frame at an index, with its rank.
-fn frame_at(listed: &Discovery<'_>, ranks: &[Option<u16>], index: u32) -> Option<Discovered>
-    ensures { result ≡ option_map (λ e. with_rank e (get_or ranks.now index None)) (slice_get (listed_of listed.now.frames.entries listed.now.origins.items) index) }
+fn frame_at(
+    frames: &OpenFrames<'_>,
+    origins: &Vec<Origin>,
+    ranks: &[Option<u16>],
+    index: u32,
+) -> Option<Discovered>
+    ensures { result ≡ option_map (λ e. with_rank e (get_or ranks.now index None)) (slice_get (listed_of frames.now.entries origins.now.items) index) }
 {
-    let (id, _) = listed.frames.get_index(index as usize)?;
-    let origin = listed.origins.get(index as usize)?;
+    let (id, _) = frames.get_index(index as usize)?;
+    let origin = origins.get(index as usize)?;
     Some(with_rank(*id, *origin, rank_at(ranks, index as usize)))
 }
 
@@ -109,19 +114,20 @@ fn push_parts(
 // The listed frames, each with its rank.
 fn frames_of(
     alloc: Global,
-    listed: &Discovery<'_>,
+    frames: &OpenFrames<'_>,
+    origins: &Vec<Origin>,
     ranks: &[Option<u16>],
 ) -> Result<Vec<Discovered>, AllocError>
-    requires { length listed.now.origins.items ≤ 65535 }
-    ensures { IfOk result (λ frames. frames.items ≡ found_upto (listed_of listed.now.frames.entries listed.now.origins.items) (λ index. get_or ranks.now index None) (length listed.now.origins.items)) }
+    requires { length origins.now.items ≤ 65535 }
+    ensures { IfOk result (λ found. found.items ≡ found_upto (listed_of frames.now.entries origins.now.items) (λ index. get_or ranks.now index None) (length origins.now.items)) }
 {
-    let mut frames = Vec::with_capacity(alloc, listed.origins.len())?;
-    for index in 0..listed.origins.len() as u32 {
-        if let Some(frame) = frame_at(listed, ranks, index) {
-            push_parts(&mut frames, frame.id, frame.rank, frame.parent, frame.key)?;
+    let mut found = Vec::with_capacity(alloc, origins.len())?;
+    for index in 0..origins.len() as u32 {
+        if let Some(frame) = frame_at(frames, origins, ranks, index) {
+            push_parts(&mut found, frame.id, frame.rank, frame.parent, frame.key)?;
         }
     }
-    Ok(frames)
+    Ok(found)
 }
 
 /// The frames that a caller outside every group can reach, in the order of discovery: the entry frame first; then for each
@@ -135,12 +141,17 @@ pub fn find(alloc: Global, base: &Base) -> Result<Found, AllocError>
     ensures no_rank { IfOk result (λ found. UnrankedAreCutOff [] base.now found) }
     ensures empty { IfOk result (λ found. found ≡ [] ↔ (EntryIsFound [] base.now → ⊥)) }
 {
-    let discovery = discover(alloc, base)?;
-    let count = discovery.origins.len() as u16;
-    let turned = Turned::of(alloc, discovery.steps.as_slice(), count)?;
+    let Discovery {
+        frames,
+        origins,
+        steps,
+    } = discover(alloc, base)?;
+    let count = origins.len() as u16;
+    let turned = Turned::of(alloc, steps.as_slice(), count)?;
+    drop(steps);
     let ranks = ranks_of(alloc, &turned, count)?;
-    let frames = frames_of(alloc, &discovery, ranks.as_slice())?;
-    Ok(Found { frames })
+    let found = frames_of(alloc, &frames, &origins, ranks.as_slice())?;
+    Ok(Found { frames: found })
 }
 
 #[cfg(test)]

@@ -16,8 +16,8 @@ use Rattle.finder.proofs.found.find.Goals as goal
 pub of-requires-clause-few : goal.of-requires-clause-few
 of-requires-clause-few c =
     let base = c.args.base.now in
-    let all = c.in_ok-discovery.ensures in
-    let seen = c.in_ok-discovery.discovery in
+    let all = c.in_ok-frames.ensures in
+    let seen = c.in_ok-frames.field-0 in
     let listed = listed_length seen.frames.entries seen.origins.items all.within in
     let count = c.len-count.ensures ∙ seen.origins.ok.0 ∙ sym listed ∙ ap length all.listing in
     omega (arith, all.few, c.len-count.ensures, seen.origins.ok.0, steps_few base (listing [] base) c.as_slice.result.now c.len-count.result (c.as_slice.ensures.value ∙ all.steps) count)
@@ -25,8 +25,8 @@ of-requires-clause-few c =
 pub of-requires-clause-within : goal.of-requires-clause-within
 of-requires-clause-within c =
     let base = c.args.base.now in
-    let all = c.in_ok-discovery.ensures in
-    let seen = c.in_ok-discovery.discovery in
+    let all = c.in_ok-frames.ensures in
+    let seen = c.in_ok-frames.field-0 in
     let listed = listed_length seen.frames.entries seen.origins.items all.within in
     let count = c.len-count.ensures ∙ seen.origins.ok.0 ∙ sym listed ∙ ap length all.listing in
     steps_within base (listing [] base) c.as_slice.result.now c.len-count.result (c.as_slice.ensures.value ∙ all.steps) count
@@ -34,8 +34,8 @@ of-requires-clause-within c =
 pub ranks_of-requires-clause-small : goal.ranks_of-requires-clause-small
 ranks_of-requires-clause-small c = λ turn index rank lt e.
     let base = c.args.base.now in
-    let all = c.in_ok-discovery.ensures in
-    let seen = c.in_ok-discovery.discovery in
+    let all = c.in_ok-frames.ensures in
+    let seen = c.in_ok-frames.field-0 in
     let listed = listed_length seen.frames.entries seen.origins.items all.within in
     let count = c.len-count.ensures ∙ seen.origins.ok.0 ∙ sym listed ∙ ap length all.listing in
     omega (arith, all.few, c.len-count.ensures, seen.origins.ok.0, ranks_small base (listing [] base) c.as_slice.result.now c.len-count.result (c.as_slice.ensures.value ∙ all.steps) count c.in_ok-turned.turned.starts.items c.in_ok-turned.turned.froms.items c.in_ok-turned.ensures turn index rank lt e)
@@ -43,17 +43,17 @@ ranks_of-requires-clause-small c = λ turn index rank lt e.
 pub returns-clause-computed : goal.returns-clause-computed
 returns-clause-computed c =
     let base = c.args.base.now in
-    let all = c.in_ok-discovery.ensures in
+    let all = c.in_ok-frames.ensures in
     let es = listing [] base in
     let ranks = c.in_ok-ranks.ranks.items in
-    let seen = c.in_ok-discovery.discovery in
+    let seen = c.in_ok-frames.field-0 in
     let listed = listed_length seen.frames.entries seen.origins.items all.within in
     let count = c.len-count.ensures ∙ seen.origins.ok.0 ∙ sym listed ∙ ap length all.listing in
     let right = ranks_right base es c.as_slice.result.now c.len-count.result (c.as_slice.ensures.value ∙ all.steps) count c.in_ok-turned.turned.starts.items c.in_ok-turned.turned.froms.items c.in_ok-turned.ensures ranks c.in_ok-ranks.ensures in
     let rank_of = λ (r : List (Option ℕ)) (index : ℕ). get_or r index None in
     let now = listed_of seen.frames.entries seen.origins.items in
-    let frames = c.in_ok-frames.ensures ∙ ap (λ (r : List (Option ℕ)). found_upto now (rank_of r) (length seen.origins.items)) c.as_slice-2.ensures.value ∙ ap (found_upto now (rank_of ranks)) (sym listed) ∙ ap (λ (x : List (Id × Option Origin)). found_upto x (rank_of ranks) (length x)) all.listing in
-    found_is base es ranks c.in_ok-frames.frames.items refl right frames
+    let frames = c.in_ok-found.ensures ∙ ap (λ (r : List (Option ℕ)). found_upto now (rank_of r) (length seen.origins.items)) c.as_slice-2.ensures.value ∙ ap (found_upto now (rank_of ranks)) (sym listed) ∙ ap (λ (x : List (Id × Option Origin)). found_upto x (rank_of ranks) (length x)) all.listing in
+    found_is base es ranks c.in_ok-found.found.items refl right frames
 
 pub returns-clause-reached : goal.returns-clause-reached
 returns-clause-reached c = subst (FindsReached [] c.args.base.now) (sym (returns-clause-computed c)) (finds_reached [] c.args.base.now)

@@ -4,4 +4,4 @@ use Rattle.finder.specs.Seen.{listed_of}
 use Rattle.finder.proofs.found.frames_of.Given as goal
 
 abbrev pub invariant-loop-index : goal.invariant-loop-index
-invariant-loop-index l = l.frames.items ≡ found_upto (listed_of l.listed.frames.entries l.listed.origins.items) (λ index. get_or l.ranks index None) l.index
+invariant-loop-index l = l.found.items ≡ found_upto (listed_of l.frames.entries l.origins.items) (λ index. get_or l.ranks index None) l.index
