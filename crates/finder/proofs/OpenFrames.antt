@@ -190,9 +190,11 @@ module _ {F : Type 0} where
           let both : None ≡ Some pl.0 = sym un ∙ pl.1 in
           absurd cc
       closed g (Some n) at is un = rw at (rw is refl)
+
       missing : (r : Option Frame) → frame_at base id ≡ r → position (id_eq id) (keys_of es) ≡ None → open_only [] base (Some id) ≡ None
       missing None at un = rw at refl
       missing (Some g) at un = closed g g.group at refl un
+
       by : (r : Option ℕ) → position (id_eq id) (keys_of es) ≡ r → option_map (λ (i : ℕ). id) r ≡ open_only [] base (Some id)
       by None h = sym (missing (frame_at base id) refl h)
       by (Some p) h =
@@ -218,6 +220,7 @@ insert_keeps [] k v j id f at = absurd cc
 insert_keeps {F} (e ∷ es) k v zero id f at = by (id_eq k e.0) where
   key : e.0 ≡ id
   key = ap (λ (p : Id × F). p.0) (some_eq e (id, f) at)
+
   by : (b : Bool) → (g : F) × (slice_get (cond b ((e.0, v) ∷ es) (e ∷ insert_entry id_eq es k v)) zero ≡ Some (id, g))
   by true = (v, ap (λ (x : Id). Some (x, v)) key)
   by false = (f, at)
@@ -293,6 +296,7 @@ frame_listed {F} es os i f h = by_test (nat_lt i (length os)) refl h where
       let here : slice_get es i ≡ Some (x.0, f) = at ∙ ap (λ (y : F). Some (x.0, y)) (some_eq x.1 f e) in
       let o = some_at os i lt in
       (x.0, o.0, here, listed_there es os i (x.0, f) o.0 here o.1)
+
   by_test : (b : Bool) → nat_lt i (length os) ≡ b → (if b then option_map (λ e. e.1) (slice_get es i) else None) ≡ Some f → (id : Id) × (o : Option Origin) × (slice_get es i ≡ Some (id, f)) × (slice_get (listed_of es os) i ≡ Some (id, o))
   by_test true t e =
       let lt : i < length os = grind (arith, nat_tests) in
@@ -308,6 +312,7 @@ none_stands {F} es os i le h = by_test (nat_lt i (length os)) refl h where
       let x = some_at es i (omega (arith, le, lt)) in
       let both : None ≡ Some x.0 = sym at ∙ x.1 in
       absurd cc
+
   by_test : (b : Bool) → nat_lt i (length os) ≡ b → (if b then option_map (λ e. e.1) (slice_get es i) else None) ≡ None → slice_get (listed_of es os) i ≡ None
   by_test true t e =
       let lt : i < length os = grind (arith, nat_tests) in
