@@ -1,0 +1,132 @@
+//! The audits.
+
+use super::device::{paper_of, tape_of};
+use super::{CERT, DEMO, changed, front, policy};
+use crate::audit_run::run_audit;
+use crate::status::{Status, status_of};
+use audit_report::RunFault;
+use base_text::{BaseFault, Cause};
+use checker::Policy;
+use std::alloc::Global;
+use std::test::Fail;
+
+// What an audit answers, and what it writes.
+fn audited(
+    alloc: Global,
+    base: &str,
+    step: usize,
+    policy: &Policy,
+) -> (Result<Status, RunFault>, Vec<u8>) {
+    let mut base = tape_of(base.as_bytes(), step, false);
+    let mut out = paper_of(alloc, 1_000, true);
+    let answer = run_audit(alloc, &mut base, &mut out, policy);
+    (answer, out.taken)
+}
+
+#[test]
+fn a_safe_base_gets_its_certificate_whatever_the_reads_give(rt: HostRuntime) -> Result<(), Fail> {
+    for step in [1, 3, 4_096] {
+        let (answer, text) = audited(rt.alloc(), DEMO, step, &policy(50, 3)?);
+        assert_eq!(rt; answer, Ok(Status::Clear), "{step}");
+        assert_eq!(rt; text.as_slice(), CERT.as_bytes(), "{step}");
+    }
+    Ok(())
+}
+
+#[test]
+fn a_base_with_faults_gets_their_list(rt: HostRuntime) -> Result<(), Fail> {
+    let rows: [(&str, &str, &str); 6] = [
+        (
+            "lead = \"keep\"",
+            "lead = \"keep\"\ngroup = 7",
+            "FAULTS 1\nCLOSED 1231b AT 1231a KEY # SCRIPT 1#\n",
+        ),
+        (
+            "PART TWO\"\nroutes = { 0 = 123 }",
+            "PART TWO\"\nroutes = { 0 = 123, 9 = 555 }",
+            "FAULTS 1\nMISSING 555a AT 1231b KEY 9 SCRIPT 1#9\n",
+        ),
+        (
+            "PART TWO\"\nroutes = { 0 = 123 }",
+            "PART TWO\"\nroutes = { 0 = 123, 8 = 555, 9 = 555 }",
+            "FAULTS 2\nMISSING 555a AT 1231b KEY 8 SCRIPT 1#8\nMISSING 555a AT 1231b KEY 9 SCRIPT 1#9\n",
+        ),
+        (
+            "PART TWO\"\nroutes = { 0 = 123 }",
+            "PART TWO\"\nroutes = { 0 = 0 }",
+            "FAULTS 1\nNORETURN 1231b SCRIPT 1#\n",
+        ),
+        (
+            "\\u001E\\u000APART TWO",
+            "A",
+            "FAULTS 1\nTOUCHES 1231b BYTE 0 START 0 SCRIPT 1#\n",
+        ),
+        (
+            "id = \"123a\"",
+            "id = \"123a\"\nprice = 51",
+            "FAULTS 1\nPRICE 123a 51 SCRIPT -\n",
+        ),
+    ];
+    for (old, new, wanted) in rows {
+        let base = changed(rt.alloc(), DEMO, old, new)?;
+        let (answer, text) = audited(rt.alloc(), base.as_str(), 7, &policy(50, 3)?);
+        assert_eq!(rt; answer, Ok(Status::Faulty), "{wanted}");
+        assert_eq!(rt; text.as_slice(), wanted.as_bytes(), "{wanted}");
+    }
+    Ok(())
+}
+
+#[test]
+fn the_policy_decides_what_is_a_fault(rt: HostRuntime) -> Result<(), Fail> {
+    let (answer, text) = audited(rt.alloc(), DEMO, 7, &policy(4, 0)?);
+    assert_eq!(rt; answer, Ok(Status::Faulty));
+    assert_eq!(rt;
+        text.as_slice(),
+        b"FAULTS 3\nPRICE 1231a 5 SCRIPT 1\nNORETURN 1231a SCRIPT 1\nNORETURN 1231b SCRIPT 1#\n".as_slice()
+    );
+    Ok(())
+}
+
+#[test]
+fn an_entry_frame_that_is_missing_is_the_one_fault(rt: HostRuntime) -> Result<(), Fail> {
+    let (answer, text) = audited(rt.alloc(), "entry = 0\n", 7, &policy(0, 0)?);
+    assert_eq!(rt; answer, Ok(Status::Faulty));
+    assert_eq!(rt; text.as_slice(), b"FAULTS 1\nENTRYMISSING 0a\n".as_slice());
+    Ok(())
+}
+
+#[test]
+fn an_audit_that_fails_writes_nothing(rt: HostRuntime) -> Result<(), Fail> {
+    let unknown = BaseFault {
+        frame: None,
+        cause: Cause::UnknownKey,
+    };
+    let (answer, text) = audited(rt.alloc(), "entry = 1\nname = 2\n", 5, &policy(0, 0)?);
+    assert_eq!(rt; answer, Err(RunFault::Base(unknown)));
+    assert_eq!(rt; text.len(), 0);
+    for kept in [0, 1, 100] {
+        let mut base = tape_of(front(DEMO, kept), 7, true);
+        let mut out = paper_of(rt.alloc(), 1_000, true);
+        let answer = run_audit(rt.alloc(), &mut base, &mut out, &policy(50, 3)?);
+        assert_eq!(rt; answer, Err(RunFault::ReadBase), "{kept}");
+        assert_eq!(rt; out.taken.len(), 0, "{kept}");
+    }
+    Ok(())
+}
+
+#[test]
+fn a_report_that_is_not_taken_whole_is_told_with_what_was(rt: HostRuntime) -> Result<(), Fail> {
+    for room in 0..81usize {
+        let mut base = tape_of(DEMO.as_bytes(), 4_096, false);
+        let mut out = paper_of(rt.alloc(), room, true);
+        let answer = run_audit(rt.alloc(), &mut base, &mut out, &policy(50, 3)?);
+        assert_eq!(rt; answer, Err(RunFault::Write(room as u64)), "{room}");
+        assert_eq!(rt; status_of(&answer), 3, "{room}");
+        assert_eq!(rt; out.taken.as_slice(), front(CERT, room), "{room}");
+    }
+    let mut base = tape_of(DEMO.as_bytes(), 4_096, false);
+    let mut out = paper_of(rt.alloc(), 1_000, false);
+    let answer = run_audit(rt.alloc(), &mut base, &mut out, &policy(50, 3)?);
+    assert_eq!(rt; answer, Err(RunFault::Write(81)));
+    Ok(())
+}

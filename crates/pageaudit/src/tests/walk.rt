@@ -1,0 +1,64 @@
+//! The walks.
+
+use super::DEMO;
+use super::device::{paper_of, tape_of};
+use crate::status::{Status, status_of};
+use crate::walk_run::run_walk;
+use audit_report::RunFault;
+use std::alloc::Global;
+
+// What a walk answers, and what it writes.
+fn walked(alloc: Global, base: &str, keys: &str) -> (Result<Status, RunFault>, Vec<u8>) {
+    let mut base = tape_of(base.as_bytes(), 5, false);
+    let mut out = paper_of(alloc, 1_000, true);
+    let answer = run_walk(alloc, &mut base, keys, &mut out);
+    (answer, out.taken)
+}
+
+#[test]
+fn a_walk_shows_each_reply(rt: HostRuntime) {
+    let rows: [(&str, &str, Status, &str); 6] = [
+        (
+            DEMO,
+            "1010*#*#*#*#",
+            Status::Clear,
+            "SHOWN 123a 0\nSHOWN 1231a 5\nSHOWN 123a 0\nSHOWN 1231a 5\nSHOWN 123a 0\nSHOWN 1231a 5\nSHOWN 123a 0\nSHOWN 1231a 5\nNOTOFFERED\n",
+        ),
+        (
+            DEMO,
+            "1*09*00",
+            Status::Clear,
+            "SHOWN 123a 0\nSHOWN 1231a 5\nSHOWN 1231a 5\nAGAIN 1231a\n",
+        ),
+        (
+            DEMO,
+            "01",
+            Status::Clear,
+            "SHOWN 123a 0\nGONE 0\nNOTOFFERED\n",
+        ),
+        (DEMO, "", Status::Clear, "SHOWN 123a 0\n"),
+        ("entry = 0\n", "1#", Status::Faulty, "ENTRYMISSING 0a\n"),
+        (
+            "entry = 1\n[[frame]]\nid = \"1a\"\ngroup = 7\nrows = []\n",
+            "1",
+            Status::Faulty,
+            "ENTRYCLOSED 1a\n",
+        ),
+    ];
+    for (base, keys, status, text) in rows {
+        let (answer, written) = walked(rt.alloc(), base, keys);
+        assert_eq!(rt; answer, Ok(status), "{keys}");
+        assert_eq!(rt; written.as_slice(), text.as_bytes(), "{keys}");
+    }
+}
+
+#[test]
+fn bad_keys_come_before_the_base(rt: HostRuntime) {
+    let mut base = tape_of(b"", 5, true);
+    let mut out = paper_of(rt.alloc(), 1_000, true);
+    let answer = run_walk(rt.alloc(), &mut base, "1*5#", &mut out);
+    assert_eq!(rt; answer, Err(RunFault::Keys(1)));
+    assert_eq!(rt; status_of(&answer), 2);
+    assert!(rt; !base.failed);
+    assert_eq!(rt; out.taken.len(), 0);
+}
