@@ -1,0 +1,243 @@
+"""Random bases, certificates and keys: mostly right, some of them with a few things wrong."""
+
+from .audit import discover, outcome, ranks_of
+from .base import id_in, id_text
+from .screen import paint
+from .session import unopened
+
+PAGES = [0, 1, 5, 12, 123, 1231, 555, 999_999_999]
+ODD_VALUES = [0, -1, 1, True, False, 1.5, -(2**63), "", "a", "123a", [], {}, [1], {"1": 1}, [{}]]
+ODD_FIELDS = {
+    "entry": [-1, 1_000_000_000, "1", True],
+    "outside": [[0, -1, "a"], ["a", -1], [1_000_000_000], [1.5]],
+    "frame": [{}, [{}, 1], ["a"]],
+    "name": [1],
+    "id": ["0123a", "1000000000a", "999999999z", "123A", "123", 7, 7],
+    "price": [-1, 10_000, 9_999, True],
+    "group": [0, 65_536, 65_535, "7"],
+    "next": [0, "true"],
+    "routes": [[1], {"10": 1}, {"1": -1, "0": "x"}, {"9": 1_000_000_000, "1": "x"}, {"0": -1, "x": 1}],
+    "lead": ["KEEP", "Clear", 1, True],
+    "body": ["\u0100", "A\U0001f600", "x" * 4_096, "x" * 4_097, ["A"]],
+    "rows": [["A" * 41, 1], ["\x1b", "A" * 41], ["A", "\xa0"], ["A"] * 23, [1] * 23, ["A", 1], "A", ["A" * 40] * 22],
+}
+FRAME_FIELDS = ["id", "price", "group", "next", "routes", "lead", "body", "rows", "rows", "name"]
+CODES = ["A", "0", "\x1b", "\r", "\n", "\x1e", "\x08", "\t", "\x0b", "\x0c", "\x91", "\xc1", "\x1bM", "\x11", "\x18"]
+INSIDE = ["A" * 40, "\r\n", "\x1bA", "\x8dX", "\x1b", "\x1b0", "\t\x08", "\n\x0b", "\xe9", "\r"]
+ROWS = ["", "A", "WELCOME", " \x7f\x80\x9f", "B" * 39, "C" * 40, '"\\']
+KEYS = ["0", "1", "2", "3", "5", "9", "#", "#", "*#", "*#", "*00", "*09"]
+PARTS = [
+    ["0a", "1a", "123a", "1231b", "999999999z", "1000000000a", "", "12A"],
+    ["0", "1", "2", "65535", "65536", "99999999999999999999", "", "01"],
+    ["s80", "any", "any?", "any+", "c0", "c39", "c40", "s959", "s960", "s00", "c", "", "?", "s48+", "C1"],
+]
+HEAD = ["PBC2", "entr", "ceil", "keyi", "rows"]
+HEAD_LINES = [
+    *("PBC2", "entry 123", "entry 0123", "entry 1000000000", "entry", "entry ", "ceiling 0", "ceiling 9999"),
+    *("ceiling 10000", "keyings 0", "keyings 65535", "keyings 65536", "rows 0", "rows 1", "rows 65536"),
+]
+
+
+class Inputs:
+    """Each call draws from the one source of chance, so that a seed gives the same inputs again."""
+
+    def __init__(self, random):
+        self.random = random
+        self.chance = lambda share: random.random() < share
+        self.pick = random.choice
+
+    def body(self, wild):
+        """A body that writes from row 1 on, or a wild one."""
+        if not wild:
+            return "\x1e\n" + "".join(self.pick(INSIDE) for _ in range(self.random.randrange(4)))
+        if self.chance(0.3):
+            return "".join(self.pick(CODES) for _ in range(self.random.randrange(12)))
+        if self.chance(0.4):
+            return "\x1e\n" + "A" * self.pick([839, 840, 879, 880, 881]) + self.pick(["", "\x1b", "\r", "\x8d", "\x08\x08B"])
+        if self.chance(0.6):
+            return "\x1e" + "\n" * self.random.randrange(25) + self.pick(["A", "\x1b", "\x1b0A", "\t" * 39 + "BC", "\x08A"])
+        return self.pick(["\r", "\r\n", "\n", "\x1b", "\r\x08"]) * self.random.randrange(3) + self.pick(["", "\x1b", "A", "\x1b0"])
+
+    def ids(self, pages):
+        """A few frames of each page, which need not begin with `a`."""
+        for page in pages:
+            first = ord("a") if self.chance(0.9) else ord(self.pick("bxy"))
+            for letter in range(first, min(first + self.pick([1, 1, 2, 3, 4]), ord("z") + 1)):
+                yield page, chr(letter)
+
+    def frame(self, id, ids, targets, wild):
+        """A frame whose routes and `next` lead somewhere, but for a share of wild ones."""
+        page, letter = id
+        following = (page, chr(ord(letter) + 1)) in ids
+        table = {"id": id_text(id)}
+        if self.chance(0.5):
+            table["price"] = self.pick([0, 1, 5, 5, 50, 9_999])
+        if self.chance(wild):
+            table["group"] = self.pick([1, 7, 65_535])
+        if following or self.chance(0.2):
+            table["next"] = following != (letter < "y" and self.chance(wild))
+        digits = self.random.sample("0123456789", self.pick([0, 10] if self.chance(wild) else [1, 2, 3, 4]))
+        table["routes"] = {digit: self.pick(PAGES if self.chance(wild) or not targets else targets) for digit in digits}
+        if self.chance(0.3):
+            table["lead"] = self.pick(["keep", "keep", "clear"])
+        if self.chance(0.4):
+            table["rows"] = [self.pick(ROWS) for _ in range(self.pick([0, 1, 2, 5, 22]))]
+        else:
+            table["body"] = self.body(self.chance(2 * wild))
+        return table
+
+    def tree(self):
+        wild = self.pick([0, 0, 0.05, 0.2, 0.5])
+        pages = self.random.sample(PAGES, self.random.randrange(1, 6))
+        outside = [page for page in PAGES if page not in pages and self.chance(0.4)]
+        ids = list(self.ids(pages))
+        self.random.shuffle(ids)
+        targets = [page for page in pages if (page, "a") in ids] + outside
+        tree = {"entry": self.pick(pages if self.chance(0.95) else PAGES)}
+        tree["outside"] = outside + outside[:1] * self.chance(0.1)
+        tree["frame"] = [self.frame(id, ids, targets, wild) for id in ids]
+        return tree
+
+    def odd(self, field):
+        """A value that is wrong for the field, or at its limits."""
+        return self.pick(ODD_VALUES if self.chance(0.3) else ODD_FIELDS[field])
+
+    def break_frame(self, frames):
+        index = self.random.randrange(len(frames))
+        table, share = frames[index], self.random.random()
+        if share < 0.6:
+            field = self.pick(FRAME_FIELDS)
+            table[field] = self.odd(field)
+            if field in ("body", "rows") and self.chance(0.8):
+                table.pop("rows" if field == "body" else "body", None)
+        elif share < 0.7:
+            del table[self.pick(list(table))]
+        elif share < 0.8:
+            frames.append(dict(table))
+        elif share < 0.9:
+            table["routes"] = {**table.get("routes", {}), self.pick(["0", "9", "10", "x", ""]): self.pick(ODD_VALUES)}
+        else:
+            table["id"], table["next"] = f"{self.pick(PAGES)}z", True
+
+    def break_tree(self, tree):
+        if self.chance(0.7):
+            self.break_frame(tree["frame"])
+        elif self.chance(0.3):
+            tree["outside"] = tree["outside"] + [int(tree["frame"][0]["id"][:-1])]
+        elif self.chance(0.7):
+            field = self.pick(["entry", "outside", "frame", "name"])
+            tree[field] = self.odd(field)
+        else:
+            del tree[self.pick(list(tree))]
+
+    def string(self, text):
+        return '"' + "".join(self.character(c) for c in text) + '"'
+
+    def character(self, c):
+        is_plain = " " <= c <= "~" and c not in '"\\'
+        return c if is_plain or (c > "\x7f" and self.chance(0.5)) else f"\\U{ord(c):08X}"
+
+    def value(self, value):
+        if isinstance(value, bool):
+            return str(value).lower()
+        if isinstance(value, str):
+            return self.string(value)
+        if isinstance(value, list):
+            return "[" + ", ".join(self.value(part) for part in value) + "]"
+        if isinstance(value, dict):
+            return "{ " + ", ".join(self.member(key, part) for key, part in value.items()) + " }"
+        return str(value)
+
+    def member(self, key, value):
+        return f"{self.string(key)} = {self.value(value)}"
+
+    def text(self, tree):
+        """The TOML text of the tree; now and then with a byte that spoils it."""
+        tables = tree.get("frame")
+        is_listed = isinstance(tables, list) and all(isinstance(table, dict) for table in tables) and self.chance(0.8)
+        lines = [self.member(key, value) for key, value in tree.items() if not (is_listed and key == "frame")]
+        for table in tables if is_listed else []:
+            lines.append("[[frame]]")
+            lines += [self.member(key, value) for key, value in table.items()]
+        text = bytearray("\n".join([*lines, ""]).encode())
+        if self.chance(0.03):
+            text[self.random.randrange(len(text))] = self.pick(b"\x00\xff\xc3\"'=.")
+        return bytes(text)
+
+    def base_text(self):
+        tree = self.tree()
+        if self.chance(0.4):
+            self.break_tree(tree)
+        return self.text(tree)
+
+    def keys(self):
+        words = [self.pick(KEYS) for _ in range(self.random.randrange(40))]
+        if self.chance(0.1):
+            words.insert(self.random.randrange(len(words) + 1), self.pick(["*", "x", "*0", "*1", "\xe9", " "]))
+        return "".join(words)
+
+    def policy(self, ceilings, keyings):
+        return self.pick(ceilings), self.pick(keyings)
+
+    def row(self, base, id, rank):
+        """The row of a frame; where it has none of its own, one that comes near."""
+        frame = base.frames[id]
+        return f"{id_text(id)} {self.pick([1, 9]) if rank is None else rank} {paint(frame.keep, frame.body)[0] or 's80'}"
+
+    def certificate_lines(self, base):
+        """A certificate of the frames that can be reached: the audit's own, or what comes nearest to one."""
+        if unopened(base):
+            return ["PBC1", f"entry {base.entry}", "ceiling 50", "keyings 9", "rows 0", "end"]
+        printed, status = outcome(base, (9_999, 65_535))
+        if status == 0:
+            return printed.splitlines()
+        ids = discover(base)
+        ranks = ranks_of(base, ids)
+        rows = [self.row(base, id, ranks.get(id)) for id in sorted(ids)]
+        head = [f"entry {base.entry}", f"ceiling {self.pick([9_999, 50])}", "keyings 9", f"rows {len(rows)}"]
+        return ["PBC1", *head, *rows, "end"]
+
+    def change_row(self, lines, index):
+        parts = lines[index].split(" ")
+        if len(parts) != 3:
+            return
+        place = self.random.randrange(3)
+        if place == 1 and parts[1].isdigit() and self.chance(0.5):
+            parts[1] = str(self.pick([0, max(0, int(parts[1]) - 1), int(parts[1]) + 1]))
+        else:
+            parts[place] = self.pick(PARTS[place])
+        lines[index] = " ".join(parts)
+
+    def change_lines(self, lines, names):
+        """One thing wrong with the lines of a certificate, as their number, order, words or rows."""
+        index, share = self.random.randrange(len(lines)), self.random.random()
+        is_long, row = len(lines) > 6, self.random.randrange(5, max(6, len(lines) - 1))
+        if share < 0.4 and is_long:
+            self.change_row(lines, row)
+        elif share < 0.5 and is_long:
+            del lines[row]
+            lines[4] = f"rows {len(lines) - 6}"
+        elif share < 0.6 and is_long:
+            rows = [*lines[5:-1], f"{self.pick(names)} 1 s80"]
+            lines[5:-1] = sorted(rows, key=lambda line: id_in(line.split(" ")[0]) or (0, ""))
+            lines[4] = f"rows {len(lines) - 6}"
+        elif share < 0.7:
+            line = self.pick(HEAD_LINES)
+            lines[HEAD.index(line.split(" ")[0][:4])] = line
+        elif share < 0.8:
+            lines.insert(index, self.pick([lines[index], "A" * 128, "A" * 129, "end"]))
+        elif share < 0.9:
+            at = self.random.randrange(len(lines[index]) + 1)
+            lines[index] = lines[index][:at] + self.pick(" 019acs+?\r\xe9") + lines[index][at:]
+        else:
+            other = self.random.randrange(len(lines))
+            lines[index], lines[other] = lines[other], lines[index]
+
+    def certificate_text(self, base):
+        lines = self.certificate_lines(base)
+        for _ in range(self.pick([0, 1, 1, 1, 2])):
+            self.change_lines(lines, [*map(id_text, base.frames), "0z", "999999999z"])
+        text = "".join(f"{line}\n" for line in lines).encode("latin-1")
+        if self.chance(0.03):
+            return text[: self.random.randrange(len(text) + 1)]
+        return text + b"X" * self.chance(0.03)

@@ -1,0 +1,75 @@
+"""A caller's session, by the table of keys."""
+
+from .base import Refused, base_of, id_text, keys_in
+
+
+class Session:
+    def __init__(self, base):
+        self.base = base
+        self.at = base.entry_frame()
+        self.remembered = []
+
+    def shown(self, id):
+        return f"SHOWN {id_text(id)} {self.base.frames[id].price}"
+
+    def forward(self, id):
+        sought = self.base.seek(id)
+        if sought != "FOUND":
+            return f"{sought} {id_text(id)}"
+        self.remembered = [self.at, *self.remembered][:3]
+        self.at = id
+        return self.shown(id)
+
+    def route(self, digit):
+        page = self.base.frames[self.at].routes.get(digit)
+        if page is None:
+            return "NOTOFFERED"
+        if page in self.base.outside and self.base.seek((page, "a")) == "MISSING":
+            self.at = None
+            return f"GONE {page}"
+        return self.forward((page, "a"))
+
+    def next(self):
+        page, letter = self.at
+        if not self.base.frames[self.at].next:
+            return "NOTOFFERED"
+        return self.forward((page, chr(ord(letter) + 1)))
+
+    def previous(self):
+        if not self.remembered:
+            return "NOTOFFERED"
+        self.at = self.remembered.pop(0)
+        return self.shown(self.at)
+
+    def key(self, word):
+        if self.at is None:
+            return "NOTOFFERED"
+        if word == "*00":
+            return f"AGAIN {id_text(self.at)}"
+        if word == "*09":
+            return self.shown(self.at)
+        if word == "*#":
+            return self.previous()
+        return self.next() if word == "#" else self.route(word)
+
+
+def unopened(base):
+    """The line of a session that can't be opened, or None."""
+    sought = base.seek(base.entry_frame())
+    return None if sought == "FOUND" else f"ENTRY{sought} {id_text(base.entry_frame())}\n"
+
+
+def walk(text, keys):
+    """Standard output, standard error and status of `walk`."""
+    words, offset = keys_in(keys)
+    if words is None:
+        return "", f"keys: I3 BadKey {offset}\n", 2
+    try:
+        base = base_of(text)
+    except Refused as fault:
+        return "", f"base: {fault}\n", 3
+    if line := unopened(base):
+        return line, "", 1
+    session = Session(base)
+    replies = [session.shown(base.entry_frame()), *(session.key(word) for word in words)]
+    return "".join(f"{reply}\n" for reply in replies), "", 0
