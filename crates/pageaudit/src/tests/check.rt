@@ -148,23 +148,24 @@ fn the_bases_fault_comes_first_and_the_certificate_is_not_read(
 }
 
 // What a check of DEMO and a certificate answers, which is read in pieces of so many bytes.
-fn judged(alloc: Global, cert: &[u8], step: usize) -> Result<Result<Status, RunFault>, Fail> {
+fn judged(alloc: Global, cert: &[u8], step: usize, policy: &Policy) -> Result<Status, RunFault> {
     let mut base = tape_of(DEMO.as_bytes(), 4_096);
     let mut cert = tape_of(cert, step);
     let mut out = paper_of(alloc);
-    Ok(run_check(alloc, &mut base, &mut cert, &mut out, &policy(5, 1)?))
+    run_check(alloc, &mut base, &mut cert, &mut out, policy)
 }
 
 const PIECES: [usize; 5] = [1, 2, 3, 7, 4_096];
 
 #[test]
 fn a_certificate_that_is_cut_is_truncated_in_its_last_line(rt: HostRuntime) -> Result<(), Fail> {
+    let policy = policy(5, 1)?;
     for kept in 0..81usize {
         let text = front(CERT, kept);
         let ends = text.iter().filter(|byte| **byte == b'\n').count();
-        let wanted = RunFault::Cert(ReadFault::Line(ends as u32 + 1, LineCause::Truncated));
         for step in PIECES {
-            let answer = judged(rt.alloc(), text, step)?;
+            let answer = judged(rt.alloc(), text, step, &policy);
+            let wanted = RunFault::Cert(ReadFault::Line(ends as u32 + 1, LineCause::Truncated));
             assert_eq!(rt; answer, Err(wanted), "{kept} {step}");
         }
     }
@@ -187,10 +188,11 @@ fn a_line_at_fault_is_named_whatever_the_pieces(rt: HostRuntime) -> Result<(), F
         ("end\n", "end\nPBC1\nentry 123\n", 10, LineCause::Tail),
         ("keyings 1\n", "", 4, LineCause::Word),
     ];
+    let policy = policy(5, 1)?;
     for (old, new, line, cause) in rows {
         let cert = changed(rt.alloc(), CERT, old, new)?;
         for step in PIECES {
-            let answer = judged(rt.alloc(), cert.as_bytes(), step)?;
+            let answer = judged(rt.alloc(), cert.as_bytes(), step, &policy);
             let wanted = RunFault::Cert(ReadFault::Line(line, cause));
             assert_eq!(rt; answer, Err(wanted), "{new} {step}");
         }

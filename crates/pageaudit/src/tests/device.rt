@@ -1,6 +1,6 @@
 //! A reader and a writer of bytes in memory, which fail where they are told to, and count their calls.
 
-ghost use Rattle.std.specs.Prelude.{◌≡◌, false, None};
+ghost use Rattle.std.specs.Prelude.{◌≡◌, true, false, None};
 
 use audit_report::{Broken, Sink, Source};
 use std::alloc::Global;

@@ -72,7 +72,7 @@ fn a_device_that_fails_once_is_not_asked_again(rt: HostRuntime) {
         assert_eq!(rt; answer, Err(RunFault::ReadBase), "{kept}");
         assert_eq!(rt; out.taken.len(), 0, "{kept}");
     }
-    for room in [0, 12, 27] {
+    for room in [0, 12, 26] {
         let mut base = tape_of(DEMO.as_bytes(), 7);
         let mut out = full_paper(rt.alloc(), room, true);
         let answer = run_walk(rt.alloc(), &mut base, "1", &mut out);
@@ -82,6 +82,6 @@ fn a_device_that_fails_once_is_not_asked_again(rt: HostRuntime) {
     let mut base = tape_of(DEMO.as_bytes(), 7);
     let mut out = full_paper(rt.alloc(), 1_000, false);
     let answer = run_walk(rt.alloc(), &mut base, "1", &mut out);
-    assert_eq!(rt; answer, Err(RunFault::Write(28)));
+    assert_eq!(rt; answer, Err(RunFault::Write(27)));
     assert_eq!(rt; out.flushes, 1);
 }
