@@ -163,9 +163,13 @@ fn a_certificate_that_is_cut_is_truncated_in_its_last_line(rt: HostRuntime) -> R
     for kept in 0..81usize {
         let text = front(CERT, kept);
         let ends = text.iter().filter(|byte| **byte == b'\n').count();
+        let ends = u32::try_from(ends).ok().ok_or("ends")?;
         for step in PIECES {
             let answer = judged(rt.alloc(), text, step, &policy);
-            let wanted = RunFault::Cert(ReadFault::Line(ends as u32 + 1, LineCause::Truncated));
+            let wanted = RunFault::Cert(ReadFault::Line(
+                ends.saturating_add(1),
+                LineCause::Truncated,
+            ));
             assert_eq!(rt; answer, Err(wanted), "{kept} {step}");
         }
     }
