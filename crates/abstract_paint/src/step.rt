@@ -9,7 +9,7 @@ use frame_records::Lead;
 use terminal_codes::{Caret, code_written, is_service_position};
 
 // The place, no escape pending.
-fn calm(place: Place) -> AbsCursor
+pub fn calm(place: Place) -> AbsCursor
     ensures { result ≡ calm place }
 {
     AbsCursor {
