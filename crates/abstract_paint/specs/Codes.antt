@@ -1,7 +1,8 @@
--- Codes written one after another from a spot of the provider's rows.
-use Rattle.std.specs.Prelude.{◌≡◌, ℕ, ◌+◌, ◌≤◌, ◌&&◌, Bool, true, List, ◌++◌, length, nat_lt, nat_le}
-use Rattle.std.specs.List.{list_all}
+-- Codes written one after another from a spot.
+use Rattle.std.specs.Prelude.{◌≡◌, ℕ, ◌+◌, ◌&&◌, not, Bool, true, List, [], ◌∷◌, ◌++◌, length, nat_lt, nat_le}
+use Rattle.terminal_codes.specs.Writes.{is_service}
 use Rattle.abstract_paint.specs.declared.cursor.Place.TheVariants.{Spot}
+use Rattle.abstract_paint.specs.declared.painting.Painted.TheVariants.{Touches}
 use Rattle.abstract_paint.specs.Step.{calm}
 use Rattle.abstract_paint.specs.Paint.{paint_from}
 
@@ -9,11 +10,22 @@ use Rattle.abstract_paint.specs.Paint.{paint_from}
 abbrev pub is_cell_code : ℕ → Bool
 is_cell_code b = nat_le 32 b && nat_lt b 160
 
--- such codes, from a spot in rows 1 to 22 and as many as fit there, only move the spot on
+-- the codes are such codes, and none of them, written in its turn from the position on, is in a service row
+abbrev pub codes_fit : ℕ → List ℕ → Bool
+codes_fit p [] = true
+codes_fit p (c ∷ cs) = (is_cell_code c && not (is_service p c)) && codes_fit (p + 1) cs
+
+-- codes that fit only move the spot on
 abbrev pub CodesGoOn : Type 0
 CodesGoOn =
     (codes rest : List ℕ) (p i : ℕ) →
-    list_all is_cell_code codes ≡ true →
-    40 ≤ p →
-    p + length codes ≤ 920 →
+    codes_fit p codes ≡ true →
     paint_from (calm (Spot p)) i (codes ++ rest) ≡ paint_from (calm (Spot (p + length codes))) (i + length codes) rest
+
+-- a code that counts as written in a service row touches
+abbrev pub CodeTouches : Type 0
+CodeTouches =
+    (code : ℕ) (rest : List ℕ) (p i : ℕ) →
+    is_cell_code code ≡ true →
+    is_service p code ≡ true →
+    paint_from (calm (Spot p)) i (code ∷ rest) ≡ Touches i

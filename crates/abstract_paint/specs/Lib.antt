@@ -4,3 +4,5 @@ pub mod Paint
 pub mod Start
 pub mod Plain
 pub mod Codes
+pub mod Runs
+pub mod Advance

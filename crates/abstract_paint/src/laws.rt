@@ -1,8 +1,9 @@
 //! Laws of painting: facts about its definitions, which these functions carry and which need no code.
 
-ghost use Rattle.abstract_paint.specs.Codes.{CodesGoOn};
+ghost use Rattle.abstract_paint.specs.Codes.{CodesGoOn, CodeTouches};
 ghost use Rattle.abstract_paint.specs.Cursor.{EndsAreOne, EndsAreOnScreen, StandsIsTest, ScreenIsStoodFor};
 ghost use Rattle.abstract_paint.specs.Paint.{PaintIsExact};
+ghost use Rattle.abstract_paint.specs.Runs.{PlainGoesOn, PlainReaches};
 ghost use Rattle.abstract_paint.specs.Start.{StartsAreOne};
 
 /// At most one cursor stands for the ends of a frame.
@@ -32,9 +33,24 @@ pub fn paint_is_exact()
     ensures { PaintIsExact }
 {}
 
-/// Codes 20 to 7F and 80 to 9F from a spot in rows 1 to 22, as many as fit there, only move the spot on.
+/// Codes 20 to 7F and 80 to 9F from a spot, none of which counts as written in a service row, only move the spot on.
 pub fn codes_go_on()
     ensures { CodesGoOn }
+{}
+
+/// Such a code, where it counts as written in a service row, touches.
+pub fn code_touches()
+    ensures { CodeTouches }
+{}
+
+/// Plain bytes from a spot, as many as fit up to the end of row 22, only move the spot on.
+pub fn plain_goes_on()
+    ensures { PlainGoesOn }
+{}
+
+/// Of more plain bytes than fit, the first that doesn't touches.
+pub fn plain_reaches()
+    ensures { PlainReaches }
 {}
 
 /// At most one answer to what the least start of a frame is, none included, is right.

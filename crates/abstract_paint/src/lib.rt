@@ -13,6 +13,7 @@
 //! Positions go from 0 to 959, `40 * row + column`; rows 0 and 23 are the service rows.
 #![tactic(auto)]
 
+mod advance;
 mod cursor;
 mod laws;
 mod painting;
@@ -22,11 +23,11 @@ mod step;
 
 pub use cursor::{AbsCursor, Pend, Place};
 pub use laws::{
-    codes_go_on, ends_are_on_screen, ends_are_one, paint_is_exact, screen_is_stood_for,
-    stands_is_test, starts_are_one,
+    code_touches, codes_go_on, ends_are_on_screen, ends_are_one, paint_is_exact, plain_goes_on,
+    plain_reaches, screen_is_stood_for, stands_is_test, starts_are_one,
 };
 pub use painting::{Painted, paint};
-pub use plain::plain_run;
+pub use plain::{plain_mask, plain_run};
 pub use start::{Start, start_for};
 
 #[cfg(test)]

@@ -4,8 +4,9 @@ ghost use Rattle.std.specs.Prelude.{◌≡◌, ◌<◌, length};
 ghost use Rattle.abstract_paint.specs.Cursor.{OnScreen};
 ghost use Rattle.abstract_paint.specs.Paint.{paint_of, IsPainted, IfClean, IfTouches};
 
+use crate::advance::{Advance, advance_over};
 use crate::cursor::AbsCursor;
-use crate::step::{after_byte, after_lead};
+use crate::step::after_lead;
 use frame_records::Lead;
 
 /// What painting a frame comes to.
@@ -19,7 +20,7 @@ pub enum Painted {
 
 /// Whether the frame is clean, with where it may end, or the first byte that touches.
 ///
-/// Takes each byte of the body at most once, and none after the one that touches.
+/// Takes each byte of the body at most once, runs of plain bytes 32 at a time, and none after the one that touches.
 pub fn paint(lead: Lead, body: &[u8]) -> Painted
     ensures computed { result ≡ paint_of lead body.now }
     // Exactly: clean with just the ends, or the least offset.
@@ -29,10 +30,14 @@ pub fn paint(lead: Lead, body: &[u8]) -> Painted
     ensures inside { IfTouches result (λ offset. offset < length body.now) }
 {
     let mut cursor = after_lead(lead);
-    for (i, byte) in body.iter().enumerate() {
-        match after_byte(cursor, *byte) {
-            None => return Painted::Touches(i),
-            Some(next) => cursor = next,
+    let mut done = 0;
+    while done < body.len() {
+        match advance_over(cursor, &body[done..]) {
+            Advance::Touches(more) => return Painted::Touches(done + more),
+            Advance::Goes(next, more) => {
+                cursor = next;
+                done += more;
+            }
         }
     }
     Painted::Clean(cursor)

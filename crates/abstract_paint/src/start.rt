@@ -22,8 +22,7 @@ pub struct Start {
 
 // Whether the body byte at the offset writes a service position from the start.
 fn touches_from(lead: Lead, body: &[u8], offset: usize, start: Caret) -> bool
-    requires inside { offset < length body.now }
-    requires on_screen { start.at < 960 }
+    requires { offset < length body.now }
     ensures { IsTrue result ↔ StartTouches lead body.now offset start }
 {
     let caret = start.run(lead_bytes(lead)).run(&body[..offset]);

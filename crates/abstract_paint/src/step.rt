@@ -6,10 +6,10 @@ ghost use Rattle.abstract_paint.specs.Step.{calm, any_moved, col_moved, place_mo
 
 use crate::cursor::{AbsCursor, Pend, Place};
 use frame_records::Lead;
-use terminal_codes::{code_written, is_service_position, moved_by};
+use terminal_codes::{Caret, code_written, is_service_position};
 
 // The place, no escape pending.
-fn calm(place: Place) -> AbsCursor
+pub fn calm(place: Place) -> AbsCursor
     ensures { result ≡ calm place }
 {
     AbsCursor {
@@ -54,7 +54,10 @@ fn place_after(place: Place, byte: u8) -> Place
     match place {
         Place::Any => any_place_moved(byte),
         Place::Col(column) => column_moved(column, byte),
-        Place::Spot(at) => Place::Spot(moved_by(at, byte)),
+        Place::Spot(at) => {
+            let caret = Caret { at, pending: false };
+            Place::Spot(caret.moved_by(byte))
+        }
     }
 }
 

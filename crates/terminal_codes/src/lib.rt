@@ -22,7 +22,7 @@ mod terminal;
 pub use caret::Caret;
 pub use laws::{caret_decides, cells_are_writes, starts_decide};
 pub use lead::lead_bytes;
-pub use table::{code_written, is_service_position, moved_by};
+pub use table::{code_written, is_service_position};
 pub use terminal::Terminal;
 
 #[cfg(test)]

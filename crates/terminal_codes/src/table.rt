@@ -4,10 +4,7 @@ ghost use Rattle.std.specs.Prelude.{◌≡◌, ◌<◌};
 ghost use Rattle.terminal_codes.specs.ByteTable.{moved, attribute_of, code_of};
 ghost use Rattle.terminal_codes.specs.Writes.{is_service};
 
-/// Where a byte from 00 to 1F leaves the position, 0C aside: back (08), on (09), down (0A), up (0B), to the start of
-/// its row (0D), home (1E), or where it was.
-///
-/// Nothing scrolls: a move past an end of the screen comes in at the other.
+// Where a byte from 00 to 1F leaves the position, 0C aside.
 pub fn moved_by(at: u16, byte: u8) -> u16
     requires { at < 960 }
     ensures moved { result ≡ moved at byte }

@@ -1,6 +1,6 @@
 //! The terminal with its cells.
 
-ghost use Rattle.std.specs.Prelude.{◌≡◌, ◌<◌, false, true, replicate, slice_index};
+ghost use Rattle.std.specs.Prelude.{◌≡◌, ◌<◌, false, true, replicate};
 ghost use Rattle.terminal_codes.specs.Screen.{Screen, IsScreen};
 ghost use Rattle.terminal_codes.specs.ByteTable.{control_step, with_code, byte_step, run};
 ghost use Rattle.terminal_codes.specs.WriteLaws.{StoresWrites};
@@ -63,12 +63,11 @@ impl Terminal {
         self.visible
     }
 
-    /// The code in a cell. A blank cell holds 20.
-    pub fn cell(&self, position: u16) -> u8
-        requires { position < 960 }
-        ensures { result ≡ slice_index self.now.cells position }
+    /// The codes in the cells, from position 0 to 959. A blank cell holds 20.
+    pub fn cells(&self) -> &[u8; 960]
+        ensures { result.now ≡ self.now.cells }
     {
-        self.cells[position as usize]
+        &self.cells
     }
 
     // A byte from 00 to 1F.

@@ -48,7 +48,8 @@ const RUNS: [(&[u8], [u8; 3], u16, bool, bool); 24] = [
 fn writes_moves_and_shows_by_the_byte_table(rt: HostRuntime) {
     for (bytes, cells, at, pending, visible) in RUNS {
         let terminal = after(bytes);
-        let seen = [terminal.cell(0), terminal.cell(1), terminal.cell(959)];
+        let seen = terminal.cells();
+        let seen = [seen[0], seen[1], seen[959]];
         assert_eq!(rt; seen, cells, "{bytes:?}");
         assert_eq!(rt; terminal.at(), at, "{bytes:?}");
         assert_eq!(rt; terminal.is_pending(), pending, "{bytes:?}");
@@ -103,8 +104,14 @@ fn one_byte_has_one_code_and_one_move(rt: HostRuntime) {
     assert_eq!(rt; code_written(true, 0x30), None);
     assert_eq!(rt; code_written(false, 0x0c), None);
     assert_eq!(rt; code_written(true, 0xc1), Some(0x41));
-    assert_eq!(rt; moved_by(41, 0x0b), 1);
-    assert_eq!(rt; moved_by(0, 0x08), 959);
-    assert_eq!(rt; moved_by(79, 0x0d), 40);
-    assert_eq!(rt; moved_by(79, 0x18), 79);
+    let moves = [
+        (41, 0x0b, 1),
+        (0, 0x08, 959),
+        (79, 0x0d, 40),
+        (79, 0x18, 79),
+    ];
+    for (at, byte, to) in moves {
+        let caret = Caret { at, pending: true };
+        assert_eq!(rt; caret.moved_by(byte), to, "{at} {byte}");
+    }
 }

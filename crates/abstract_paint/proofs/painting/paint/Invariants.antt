@@ -1,10 +1,14 @@
-use Rattle.std.proofs.Common.{◌≡◌, drop}
+use Rattle.std.proofs.Common.{◌≡◌, ◌-◌, ◌≤◌, length, drop}
 use Rattle.abstract_paint.specs.Cursor.{OnScreen}
 use Rattle.abstract_paint.specs.Paint.{paint_from, paint_of}
 use Rattle.abstract_paint.proofs.painting.paint.Given as goal
 
-abbrev pub invariant-loop-i : goal.invariant-loop-i
-invariant-loop-i l = record {
+abbrev pub invariant-loop-done : goal.invariant-loop-done
+invariant-loop-done l = record {
+  within : l.done ≤ length l.body;
   on_screen : OnScreen l.cursor.place;
-  same : paint_from l.cursor l.i (drop l.i l.body) ≡ paint_of l.fn.lead l.body;
+  same : paint_from l.cursor l.done (drop l.done l.body) ≡ paint_of l.fn.lead l.body;
 }
+
+abbrev pub decreases-loop-done : goal.decreases-loop-done
+decreases-loop-done l = length l.body - l.done

@@ -41,6 +41,5 @@ small p false lt = omega arith
 pub returns : goal.returns
 returns c =
     let w = touch_to_start c.args.lead c.args.body.now c.args.offset c.requires.touch in
-    let met : 1920 ≤ c.loop-n.n = c.loop-n-test.false in
     let lt : start_number w.0 < 1920 = small w.0.at w.0.pending w.1 in
     absurd (c.loop-n.invariant w.0 (omega arith) w.2)
