@@ -5,7 +5,7 @@ ghost use Rattle.cert_table.specs.Table.{is_on_screen, is_behind, row_fault, tab
 
 use crate::cover::Cover;
 use crate::row::Row;
-use crate::row_list::RowList;
+use crate::row_table::RowTable;
 use abstract_paint::Place;
 use frame_records::Pence;
 use page_ids::{FrameId, PageNo};
@@ -28,7 +28,7 @@ pub enum TableFault {
 
 /// A certificate over a table of covered frames. Contracts see its parts, and its cover as the list of its rows.
 #[derive(Drop)]
-pub struct Certificate<C: Cover + Drop = RowList> {
+pub struct Certificate<C: Cover + Drop = RowTable> {
     entry: PageNo,
     ceiling: Pence,
     keyings: u16,

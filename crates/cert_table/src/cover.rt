@@ -1,4 +1,4 @@
-ghost use Rattle.std.specs.Prelude.{◌≡◌, ◌<◌, Some, length, slice_get, option_map};
+ghost use Rattle.std.specs.Prelude.{◌≡◌, ◌<◌, ◌≤◌, ℕ, Some, length, slice_get, option_map};
 ghost use Rattle.std.specs.Option.{option_copied};
 ghost use Rattle.cert_table.specs.Rows.{AreRows, row_among};
 
@@ -12,6 +12,9 @@ pub trait Cover {
 
     /// The rows, in the order of their ids.
     ghost rows: { Self → List Row };
+
+    /// The most rows that one look-up compares.
+    ghost most_asked: { Self → ℕ };
 
     /// The map of these rows. Takes no memory: the list is kept.
     fn of(list: Vec<Row>) -> Self
@@ -35,4 +38,14 @@ pub trait Cover {
     /// The rank of an id's row.
     fn rank_of(&self, id: FrameId) -> Option<u16>
         ensures { result ≡ option_map (λ r. r.rank) (row_among (rows self.now) id) };
+
+    /// The row of an id, and how many rows were compared with it: at least one where there is one, and at most `most`.
+    fn row_counted(&self, id: FrameId) -> (Option<&Row>, u32)
+        ensures value { option_copied result.0 ≡ row_among (rows self.now) id }
+        ensures most { result.1 ≤ most_asked self.now }
+        ensures least { 0 < length (rows self.now) → 1 ≤ result.1 };
+
+    /// The most rows that one look-up compares.
+    fn most(&self) -> u32
+        ensures { result ≡ most_asked self.now };
 }

@@ -5,7 +5,7 @@
 //! list of its rows, in the order of their ids, whatever [`Cover`] holds them.
 //!
 //! - [`Row`]: a covered frame.
-//! - [`Cover`], [`RowList`]: a finite map from ids to rows, and one that is searched from the front.
+//! - [`Cover`], [`RowTable`], [`RowList`]: a finite map from ids to rows, one that is searched by halves, and one from the front.
 //! - [`Certificate`], [`TableFault`]: made by `build` alone, or refused by name.
 #![tactic(auto)]
 
@@ -13,11 +13,13 @@ mod certificate;
 mod cover;
 mod row;
 mod row_list;
+mod row_table;
 
 pub use certificate::{Certificate, TableFault, faults_are_exact};
 pub use cover::Cover;
 pub use row::Row;
 pub use row_list::RowList;
+pub use row_table::RowTable;
 
 #[cfg(test)]
 mod tests;

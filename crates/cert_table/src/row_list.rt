@@ -1,3 +1,7 @@
+ghost use Rattle.std.specs.Prelude.{◌≡◌, ◌<◌, ◌≤◌, length};
+ghost use Rattle.std.specs.Option.{option_copied};
+ghost use Rattle.cert_table.specs.Rows.{row_among};
+
 use crate::cover::Cover;
 use crate::row::Row;
 use page_ids::FrameId;
@@ -22,8 +26,23 @@ impl Model for RowList {
     ghost invariant = { λ l. AreRows l.rows.items };
 }
 
+// The first row of an id, and how many rows were compared with it: those up to it, or all.
+fn first_of(rows: &[Row], id: FrameId) -> (Option<&Row>, u32)
+    requires { length rows.now ≤ 65535 }
+    ensures value { option_copied result.0 ≡ row_among rows.now id }
+    ensures most { result.1 ≤ length rows.now }
+    ensures least { 0 < length rows.now → 1 ≤ result.1 }
+{
+    match rows.iter().position(|row| row.id == id) {
+        Some(at) => (Some(&rows[at]), at as u32 + 1),
+        None => (None, rows.len() as u32),
+    }
+}
+
 impl Cover for RowList {
     ghost rows = { λ l. l };
+
+    ghost most_asked = { λ l. length l };
 
     fn of(list: Vec<Row>) -> Self {
         RowList { rows: list }
@@ -43,5 +62,13 @@ impl Cover for RowList {
 
     fn rank_of(&self, id: FrameId) -> Option<u16> {
         self.row_of(id).map(|row| row.rank)
+    }
+
+    fn row_counted(&self, id: FrameId) -> (Option<&Row>, u32) {
+        first_of(self.rows.as_slice(), id)
+    }
+
+    fn most(&self) -> u32 {
+        self.rows.len() as u32
     }
 }

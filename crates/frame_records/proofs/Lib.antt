@@ -4,3 +4,5 @@ pub mod SortedFrames
 pub mod Pages
 pub mod Built
 pub mod OneBase
+pub mod Halves
+pub mod Searchable

@@ -21,26 +21,6 @@ rise pages up = IsNonDecreasingBy-from_all_adjacent (λ p. p) pages (λ k d lt.
     let next : get_or pages (k + 1) d ≡ get_or pages (k + 1) 0 = get_or_default pages (k + 1) d 0 lt in
     omega (arith, up k lt, here, next))
 
-other : (a b : ℕ) → (a ≡ b → ⊥) → eqb a b ≡ false
-other a b ne = grind (arith, nat_tests)
-
-same : (a b : ℕ) → a ≡ b → eqb a b ≡ true
-same a b e = grind (arith, nat_tests)
-
-abbrev IsFoundIn : List ℕ → ℕ → Result ℕ ℕ → Type 0
-IsFoundIn pages page r = MatchResult r (λ i. (i < length pages) × (get_or pages i 0 ≡ page)) (λ i. (i ≤ length pages) × ((k : ℕ) → k < i → get_or pages k 0 < page) × ((k : ℕ) → i ≤ k → k < length pages → page < get_or pages k 0))
-
-by_result : (pages : List ℕ) (page : ℕ) (r : Result ℕ ℕ) → IsFoundIn pages page r → is_ok r ≡ lists_page pages page
-by_result pages page (Ok i) h = sym (list_any_at (λ p. eqb p page) pages i 0 h.0 (same (get_or pages i 0) page h.1))
-by_result pages page (Err i) h = sym (list_any_none (λ p. eqb p page) pages (λ k d lt. other (get_or pages k d) page (λ e. elim (cases_lt k i) [
-  | inl before ↦ absurd (omega (arith, e, get_or_default pages k d 0 lt, h.1 k before))
-  | inr from ↦ absurd (omega (arith, e, get_or_default pages k d 0 lt, h.2 k from lt))
-])))
-
--- a binary search tells whether a page is listed
-pub listed : (pages : List ℕ) (page : ℕ) (r : Result ℕ ℕ) → IsStrictlyIncreasing pages → IsBinarySearchResult (λ y. nat_cmp y page) pages r → is_ok r ≡ lists_page pages page
-listed pages page r up h = by_result pages page r (searched pages page r h (λ i j le lt. rise pages up i j 0 le lt))
-
 contains_at : (pages : List ℕ) (page : ℕ) → Contains pages page → (k : ℕ) × (k < length pages) × ((d : ℕ) → get_or pages k d ≡ page)
 contains_at pages page h = (h.0, h.1, λ d. get_or_default pages h.0 d page h.1 ∙ h.2)
 

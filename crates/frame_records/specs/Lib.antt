@@ -1,4 +1,5 @@
 pub mod Limits
+pub mod Orderings
 pub mod BaseView
 pub mod Seek
 pub mod Build

@@ -1,4 +1,4 @@
-ghost use Rattle.std.specs.Prelude.{◌≡◌, ◌≤◌, [], length};
+ghost use Rattle.std.specs.Prelude.{◌≡◌, ◌<◌, ◌≤◌, [], length};
 ghost use Rattle.std.specs.Option.{option_copied};
 ghost use Rattle.page_ids.specs.Ids.{first_frame, IsPageNumber};
 ghost use Rattle.frame_records.specs.BaseView.{IsBase, frame_at, lists_outside};
@@ -8,6 +8,7 @@ ghost use Rattle.frame_records.specs.Seek.{seek};
 use crate::build::{BuildFault, are_too_many, first_fault, sort};
 use crate::frame::Frame;
 use crate::numbers::Pence;
+use crate::sorted::{find_among, is_among};
 use page_ids::{FrameId, PageNo};
 use std::marker::Model;
 
@@ -69,10 +70,16 @@ impl Base {
     pub fn find(&self, id: FrameId) -> Option<&Frame>
         ensures { option_copied result ≡ frame_at self.now id }
     {
-        match self.frames.binary_search_by_key(&id, |frame| frame.id) {
-            Ok(at) => Some(&self.frames[at]),
-            Err(_) => None,
-        }
+        self.find_counted(id).0
+    }
+
+    /// The frame of an id, and how many frames were compared with it: at most 16. Takes no memory.
+    pub fn find_counted(&self, id: FrameId) -> (Option<&Frame>, u32)
+        ensures value { option_copied result.0 ≡ frame_at self.now id }
+        ensures most { result.1 ≤ 16 }
+        ensures least { 0 < length self.now.frames → 1 ≤ result.1 }
+    {
+        find_among(self.frames.as_slice(), id)
     }
 
     /// Seeks a frame for a caller outside every group.
@@ -92,7 +99,16 @@ impl Base {
     pub fn is_outside(&self, page: PageNo) -> bool
         ensures { result ≡ lists_outside self.now page }
     {
-        self.outside.binary_search(&page).is_ok()
+        self.is_outside_counted(page).0
+    }
+
+    /// Whether a page is listed as outside, and how many pages were compared with it: at most 16. Takes no memory.
+    pub fn is_outside_counted(&self, page: PageNo) -> (bool, u32)
+        ensures value { result.0 ≡ lists_outside self.now page }
+        ensures most { result.1 ≤ 16 }
+        ensures least { 0 < length self.now.outside → 1 ≤ result.1 }
+    {
+        is_among(self.outside.as_slice(), page)
     }
 
     /// The frames, in the order of their ids.

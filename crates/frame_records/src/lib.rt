@@ -12,11 +12,14 @@ mod base;
 mod build;
 mod frame;
 mod numbers;
+mod probe;
+mod sorted;
 
 pub use base::{Base, Sought, bases_are_one};
 pub use build::BuildFault;
 pub use frame::{Body, Frame, Lead};
 pub use numbers::{GroupNo, Pence};
+pub use probe::{Probe, search};
 
 #[cfg(test)]
 mod tests;

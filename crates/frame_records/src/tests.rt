@@ -152,3 +152,42 @@ fn a_body_keeps_its_bytes(rt: HostRuntime) -> Result<(), Fail> {
     assert_eq!(rt; Body::of(bytes).as_slice(), b"\x1e\nWELCOME".as_slice());
     Ok(())
 }
+
+// A base without frames and with so many outside pages: the odd numbers from 1.
+fn odd_pages(alloc: Global, count: u32) -> Result<Base, Fail> {
+    let mut pages = Vec::new(alloc);
+    for i in 0..count {
+        pages.push(page(i.saturating_mul(2).saturating_add(1))?)?;
+    }
+    Ok(
+        Base::build(page(0)?, pages, Vec::new(alloc))
+            .ok()
+            .ok_or("base")?,
+    )
+}
+
+#[test]
+fn each_place_is_found_by_halves_and_no_other(rt: HostRuntime) -> Result<(), Fail> {
+    for count in 0..101u32 {
+        let base = odd_pages(rt.alloc(), count)?;
+        for wanted in 0..count.saturating_mul(2).saturating_add(2) {
+            let (found, asked) = base.is_outside_counted(page(wanted)?);
+            let listed = wanted % 2 == 1 && wanted < count.saturating_mul(2);
+            assert_eq!(rt; found, listed, "{wanted} of {count}");
+            assert!(rt; asked <= 7, "{wanted} of {count}: {asked}");
+            assert_eq!(rt; asked > 0, count > 0, "{wanted} of {count}");
+        }
+    }
+    Ok(())
+}
+
+#[test]
+fn the_longest_list_is_searched_in_16_comparisons(rt: HostRuntime) -> Result<(), Fail> {
+    let base = odd_pages(rt.alloc(), 65_535)?;
+    for wanted in [0, 1, 2, 65_535, 65_536, 131_067, 131_069, 131_070] {
+        let (found, asked) = base.is_outside_counted(page(wanted)?);
+        assert_eq!(rt; found, wanted % 2 == 1, "{wanted}");
+        assert!(rt; asked <= 16, "{wanted}: {asked}");
+    }
+    Ok(())
+}

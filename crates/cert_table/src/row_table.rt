@@ -1,0 +1,127 @@
+ghost use Rattle.std.specs.Prelude.{◌≡◌, ◌<◌, ◌≤◌, length, map};
+ghost use Rattle.std.specs.Option.{option_copied};
+ghost use Rattle.page_ids.specs.Ids.{id_cmp};
+ghost use Rattle.cert_table.specs.Rows.{AreRows, row_among};
+
+use crate::cover::Cover;
+use crate::row::Row;
+use frame_records::{Probe, search};
+use page_ids::FrameId;
+use std::cmp::Ordering;
+use std::marker::Model;
+
+/// Rows that are searched by halves.
+#[derive(Debug, Drop)]
+pub struct RowTable {
+    rows: Vec<Row>,
+}
+
+impl Model for RowTable {
+    ghost use Rattle.std.specs.Prelude.{List};
+    ghost use Rattle.cert_table.specs.declared.row.Row.{Row};
+
+    ghost Value = { List Row };
+
+    ghost use Rattle.cert_table.specs.Rows.{AreRows};
+
+    ghost view = { λ t. t.rows.items };
+
+    ghost invariant = { λ t. AreRows t.rows.items };
+}
+
+// Rows that are compared with an id.
+#[derive(Drop)]
+struct RowProbe<'a> {
+    rows: &'a [Row],
+    wanted: &'a FrameId,
+    asked: u32,
+}
+
+impl<'a> Model for RowProbe<'a> {
+    ghost use Rattle.std.specs.Prelude.{map};
+    ghost use Rattle.page_ids.specs.Ids.{id_cmp};
+    ghost use Rattle.frame_records.specs.Orderings.{ProbeView};
+
+    ghost Value = { ProbeView };
+
+    ghost view = { λ p. record { orderings = map (λ r. id_cmp r.id p.wanted.now) p.rows.now; count = p.asked } };
+}
+
+impl Probe for RowProbe<'_> {
+    ghost orderings = { λ p. p.orderings };
+
+    ghost count = { λ p. p.count };
+
+    fn len(&self) -> usize {
+        self.rows.len()
+    }
+
+    fn asked(&self) -> u32 {
+        self.asked
+    }
+
+    fn ask(&mut self, i: usize) -> Ordering {
+        self.asked += 1;
+        self.rows[i].id.cmp(self.wanted)
+    }
+}
+
+// The rows beside the id that is wanted of them.
+fn rows_beside<'a>(rows: &'a [Row], wanted: &'a FrameId) -> RowProbe<'a>
+    ensures orderings { result.orderings ≡ map (λ r. id_cmp r.id wanted.now) rows.now }
+    ensures fresh { result.count ≡ 0 }
+{
+    RowProbe {
+        rows,
+        wanted,
+        asked: 0,
+    }
+}
+
+// The row of an id, and how many rows were compared with it.
+fn row_in(rows: &[Row], id: FrameId) -> (Option<&Row>, u32)
+    requires { AreRows rows.now }
+    ensures value { option_copied result.0 ≡ row_among rows.now id }
+    ensures most { result.1 ≤ 16 }
+    ensures least { 0 < length rows.now → 1 ≤ result.1 }
+{
+    let mut probe = rows_beside(rows, &id);
+    match search(&mut probe) {
+        Some(at) => (Some(&rows[at]), probe.asked()),
+        None => (None, probe.asked()),
+    }
+}
+
+impl Cover for RowTable {
+    ghost rows = { λ t. t };
+
+    ghost most_asked = { λ _. 16 };
+
+    fn of(list: Vec<Row>) -> Self {
+        RowTable { rows: list }
+    }
+
+    fn len(&self) -> usize {
+        self.rows.len()
+    }
+
+    fn row_at(&self, i: usize) -> &Row {
+        &self.rows[i]
+    }
+
+    fn row_of(&self, id: FrameId) -> Option<&Row> {
+        row_in(self.rows.as_slice(), id).0
+    }
+
+    fn rank_of(&self, id: FrameId) -> Option<u16> {
+        self.row_of(id).map(|row| row.rank)
+    }
+
+    fn row_counted(&self, id: FrameId) -> (Option<&Row>, u32) {
+        row_in(self.rows.as_slice(), id)
+    }
+
+    fn most(&self) -> u32 {
+        16
+    }
+}

@@ -1,0 +1,57 @@
+-- A search by halves.
+use Rattle.std.proofs.Common.{refl, ◌≡◌, ◌≢◌, ℕ, zero, suc, ◌+◌, ◌*◌, ◌/◌, ◌-◌, ◌^◌, ◌<◌, ◌≤◌, List, length, get_or, arith, subst, sym, ◌∙◌, inl, inr, ◌⊎◌}
+use Rattle.std.proofs.Math.Nat.{mul-le-mul_left, pow-le-pow_right, pow-suc}
+use Rattle.std.proofs.lemmas.Bool.{cases_lt}
+use Rattle.std.proofs.lemmas.Option.{slice_get_within, get_or_from_slice_get}
+use Rattle.std.specs.Prelude.{slice_get, Some}
+use Rattle.std.proofs.lemmas.Nat.{mul-le, pow_pos, pow-add}
+use Rattle.std.specs.declared.cmp.Ordering.{Ordering}
+use Rattle.std.specs.declared.cmp.Ordering.TheVariants.{Less, Equal, Greater}
+use Rattle.frame_records.specs.Orderings.{MayFollow, IsSearchable}
+
+pub halved : (g h c : ℕ) → 2 * h ≤ g → g * 2 ^ c ≤ 65535 → h * 2 ^ (c + 1) ≤ 65535
+halved g h c le small =
+    let e : 2 ^ (c + 1) ≡ 2 ^ c * 2 ^ 1 = pow-add 2 c 1 in
+    rw e (by_power (2 ^ c) small) where
+      by_power : (k : ℕ) → g * k ≤ 65535 → h * (k * 2 ^ 1) ≤ 65535
+      by_power k small = omega (arith, mul-le (2 * h) k g k le (omega arith))
+
+pub few_asked : (g c : ℕ) → 0 < g → g * 2 ^ c ≤ 65535 → c < 16
+few_asked g c some small = elim (cases_lt c 16) [ inl lt ↦ lt | inr ge ↦ absurd (omega (arith, big ge)) ] where
+  big : 16 ≤ c → 1 * 2 ^ 16 ≤ g * 2 ^ c
+  big ge = mul-le 1 (2 ^ 16) g (2 ^ c) (omega arith) (pow-le-pow_right (omega arith) ge)
+
+-- what stands before a Less is Less, and what stands behind a Greater is Greater
+pub before_less : (a : Ordering) → MayFollow a Less → a ≡ Less
+before_less Less h = refl
+before_less Equal h = absurd h
+before_less Greater h = absurd h
+
+pub behind_greater : (b : Ordering) → MayFollow Greater b → b ≡ Greater
+behind_greater Less h = absurd h
+behind_greater Equal h = absurd h
+behind_greater Greater h = refl
+
+pub less_to : (xs : List Ordering) (m i : ℕ) → IsSearchable xs → slice_get xs m ≡ Some Less → i < m + 1 → get_or xs i Less ≡ Less
+less_to xs m i up e lt =
+    let at : get_or xs m Less ≡ Less = get_or_from_slice_get xs m Less Less e in
+    elim (cases_lt i m) [
+      | inl before ↦ before_less (get_or xs i Less) (subst (λ (o : Ordering). MayFollow (get_or xs i Less) o) at (up i m before (slice_get_within xs m Less e)))
+      | inr ge ↦ let same : i ≡ m = omega arith in rw same at
+    ]
+
+pub greater_from : (xs : List Ordering) (m i : ℕ) → IsSearchable xs → slice_get xs m ≡ Some Greater → m ≤ i → i < length xs → get_or xs i Less ≡ Greater
+greater_from xs m i up e le lt =
+    let at : get_or xs m Less ≡ Greater = get_or_from_slice_get xs m Greater Less e in
+    elim (cases_lt m i) [
+      | inl before ↦ behind_greater (get_or xs i Less) (subst (λ (o : Ordering). MayFollow o (get_or xs i Less)) at (up m i before lt))
+      | inr ge ↦ let same : i ≡ m = omega arith in rw same at
+    ]
+
+pub no_equal : (xs : List Ordering) (n : ℕ) → ((i : ℕ) → i < n → get_or xs i Less ≡ Less) → ((i : ℕ) → n ≤ i → i < length xs → get_or xs i Less ≡ Greater) → (i : ℕ) → slice_get xs i ≡ Some Equal → ⊥
+no_equal xs n below above i e =
+    let at : get_or xs i Less ≡ Equal = get_or_from_slice_get xs i Equal Less e in
+    elim (cases_lt i n) [
+      | inl lt ↦ let l = below i lt in cc
+      | inr ge ↦ let g = above i ge (slice_get_within xs i Equal e) in cc
+    ]
