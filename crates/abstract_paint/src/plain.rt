@@ -51,3 +51,17 @@ pub fn plain_run(bytes: &[u8]) -> usize
     }
     run + short_run(&bytes[run..])
 }
+
+// The same. A run of fewer than 8 bytes is counted byte by byte: lanes pay for longer ones.
+pub fn front_run(bytes: &[u8]) -> usize
+    ensures { result ≡ plain_len bytes.now }
+{
+    if bytes.len() < 8 {
+        return short_run(bytes);
+    }
+    let short = short_run(&bytes[..8]);
+    if short < 8 {
+        return short;
+    }
+    8 + plain_run(&bytes[8..])
+}
