@@ -1,5 +1,5 @@
 ghost use Rattle.std.specs.Prelude.{◌≡◌, ◌++◌, OnOk, decimal};
-ghost use Rattle.page_ids.specs.Ids.{page_text, frame_text};
+ghost use Rattle.page_ids.specs.Ids.{page_text};
 ghost use Rattle.audit_report.specs.Lines.{with_id, with_id_number};
 
 use itoa::Buffer;

@@ -9,6 +9,8 @@ use page_ids::{Digit, FrameId, PageNo};
 use session_machine::Reply;
 use std::test::Fail;
 
+pub mod fakes;
+
 #[test]
 fn a_verdict_is_one_line(rt: HostRuntime) -> Result<(), Fail> {
     let id = FrameId::read("1231b")?;
@@ -77,6 +79,18 @@ fn a_walk_is_a_line_for_each_reply(rt: HostRuntime) -> Result<(), Fail> {
 }
 
 #[test]
+fn a_walk_of_100_000_replies_is_printed(rt: HostRuntime) -> Result<(), Fail> {
+    let id = FrameId::read("1231a")?;
+    let price = Pence::new(5).ok_or("price")?;
+    let mut replies = Vec::new(rt.alloc());
+    replies.resize(100_000, Reply::Shown(id, price))?;
+    let lines = "SHOWN 1231a 5\n".repeat(rt.alloc(), 100_000)?;
+    let text = walk_text(rt.alloc(), replies.as_slice())?;
+    assert!(rt; text.as_slice() == lines.as_str().as_bytes());
+    Ok(())
+}
+
+#[test]
 fn an_entry_that_is_not_found_is_one_line(rt: HostRuntime) -> Result<(), Fail> {
     let id = FrameId::read("0a")?;
     assert_eq!(rt;
@@ -104,13 +118,22 @@ fn a_fault_is_one_line(rt: HostRuntime) -> Result<(), Fail> {
         frame: None,
         cause: BaseCause::Duplicate(FrameId::read("123a")?),
     };
-    let rows: [(RunFault, &str); 10] = [
+    let last = BaseFault {
+        frame: Some(65_534),
+        cause: BaseCause::Range(Field::Price),
+    };
+    let rows: [(RunFault, &str); 12] = [
         (RunFault::Base(range), "base: frame 2: X6 Range body\n"),
+        (RunFault::Base(last), "base: frame 65534: X6 Range price\n"),
         (RunFault::Base(unknown), "base: X3 UnknownKey\n"),
         (RunFault::Base(twice), "base: B1 Duplicate 123a\n"),
         (
             RunFault::Cert(ReadFault::Line(10, LineCause::Tail)),
             "certificate: line 10: Tail\n",
+        ),
+        (
+            RunFault::Cert(ReadFault::Line(65_540, LineCause::Order)),
+            "certificate: line 65540: Order\n",
         ),
         (RunFault::Cert(ReadFault::Failed), "certificate: failed\n"),
         (RunFault::Keys(1), "keys: I3 BadKey 1\n"),

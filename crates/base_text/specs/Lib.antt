@@ -11,3 +11,4 @@ pub mod FrameList
 pub mod Parts
 pub mod Text
 pub mod Whole
+pub mod TextLaws

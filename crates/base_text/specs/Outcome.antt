@@ -1,5 +1,5 @@
 -- A value, or the first cause.
-use Rattle.std.specs.Prelude.{◌≡◌, Result, Ok, Err, Some, None, ℕ}
+use Rattle.std.specs.Prelude.{◌≡◌, nat_lt, if◌then◌else◌, Option, Result, Ok, Err, Some, None, ℕ}
 use Rattle.base_text.specs.declared.fault.Cause.{Cause}
 use Rattle.base_text.specs.declared.fault.Cause.TheVariants.{Memory}
 use Rattle.base_text.specs.declared.fault.BaseFault.{BaseFault}
@@ -16,10 +16,14 @@ OrMemory o (Ok a) = o ≡ Ok a
 OrMemory o (Err Memory) = Unit {0}
 OrMemory o (Err c) = o ≡ Err c
 
+-- an index as far as 32 bits hold it; no text is so long that one is greater
+abbrev pub told_index : ℕ → Option ℕ
+told_index i = if nat_lt i 4294967296 then Some i else None
+
 -- a fault within the frame of an index; want of memory has no index
 abbrev pub fault_at : ℕ → Cause → BaseFault
 fault_at i Memory = record { frame = None; cause = Memory }
-fault_at i c = record { frame = Some i; cause = c }
+fault_at i c = record { frame = told_index i; cause = c }
 
 -- a fault outside the frames
 abbrev pub top_fault : Cause → BaseFault

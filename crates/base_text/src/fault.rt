@@ -1,5 +1,5 @@
 ghost use Rattle.std.specs.Prelude.{◌≡◌};
-ghost use Rattle.base_text.specs.Outcome.{fault_at, top_fault};
+ghost use Rattle.base_text.specs.Outcome.{told_index, fault_at, top_fault};
 ghost use Rattle.base_text.specs.Whole.{build_cause};
 
 use frame_records::BuildFault;
@@ -85,14 +85,21 @@ pub struct BaseFault {
     pub cause: Cause,
 }
 
+// An index as far as its type holds it.
+fn told_index(index: usize) -> Option<u32>
+    ensures { result ≡ told_index index }
+{
+    u32::try_from(index).ok()
+}
+
 // A fault within the frame of an index.
-pub fn fault_at(index: u32, cause: Cause) -> BaseFault
+pub fn fault_at(index: usize, cause: Cause) -> BaseFault
     ensures { result ≡ fault_at index cause }
 {
     match cause {
         Cause::Memory => BaseFault { frame: None, cause },
         _ => BaseFault {
-            frame: Some(index),
+            frame: told_index(index),
             cause,
         },
     }

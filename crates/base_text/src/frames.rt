@@ -95,9 +95,6 @@ fn read_frame(alloc: Global, value: &Value) -> Result<Frame, Cause>
 fn frame_at_index(alloc: Global, index: usize, value: &Value) -> Result<Frame, BaseFault>
     ensures { FaultOrMemory (at_index index (frame_of (view value.now))) result }
 {
-    let Ok(index) = u32::try_from(index) else {
-        return Err(top_fault(Cause::Memory));
-    };
     match read_frame(alloc, value) {
         Ok(frame) => Ok(frame),
         Err(cause) => Err(fault_at(index, cause)),

@@ -33,11 +33,13 @@ mod fault;
 mod fields;
 mod frames;
 mod keys;
+mod laws;
 mod routes;
 mod rows;
 mod text;
 
 pub use cells::RowCells;
 pub use fault::{BaseFault, Cause, Field};
+pub use laws::texts_mean_one_base;
 pub use rows::body_of_rows;
 pub use text::base_read;

@@ -30,13 +30,13 @@ use Rattle.cert_table.specs.Table.{is_behind}
 
 -- ---- numbers
 
-pub line_number_again : (most n : ℕ) → most ≤ 999999999 → n ≤ most → line_number most (decimal n) ≡ Ok n
+pub line_number_again : (most n : ℕ) → most ≤ 4294967295 → n ≤ most → line_number most (decimal n) ≡ Ok n
 line_number_again most n small le = ap number_or_cause (number_again most n small le)
 
 bytes_same : (xs : List ℕ) → bytes_eq xs xs ≡ true
 bytes_same xs = grind (arith, bytes_eq-Decides xs xs)
 
-pub number_after_again : (word : List ℕ) (most n : ℕ) → most ≤ 999999999 → n ≤ most → number_after word most (word ++ decimal n) ≡ Ok n
+pub number_after_again : (word : List ℕ) (most n : ℕ) → most ≤ 4294967295 → n ≤ most → number_after word most (word ++ decimal n) ≡ Ok n
 number_after_again word most n small le = rw (take-append_seam word (decimal n), drop-append_seam word (decimal n), bytes_same word) (line_number_again most n small le)
 
 -- ---- the last byte of a text
@@ -71,7 +71,7 @@ number_no_pend c n small =
     let some = decimal_nonempty n (omega arith) in
     let place : length (c ∷ decimal n) - 1 ≡ suc (length (decimal n) - 1) = omega (arith, some) in
     let last : get_or (c ∷ decimal n) (length (c ∷ decimal n) - 1) 0 ≡ get_or (c ∷ decimal n) (suc (length (decimal n) - 1)) 0 = ap (λ (k : ℕ). get_or (c ∷ decimal n) k 0) place in
-    let digit = ends_number c (decimal n) (length (decimal n) - 1) (decimal_digits n small) (omega (arith, some)) in
+    let digit = ends_number c (decimal n) (length (decimal n) - 1) (decimal_digits n (omega arith)) (omega (arith, some)) in
     let no = no_pend (get_or (c ∷ decimal n) (suc (length (decimal n) - 1)) 0) digit in
     rw (last, no.0, no.1) refl
 
@@ -110,7 +110,7 @@ above_digits (d ∷ ds) h = let b = both (is_ascii_digit d) (list_all is_ascii_d
   digit_above d h = grind (arith, nat_tests)
 
 pub above_decimal : (n : ℕ) → n ≤ 999999999 → AllAbove 33 (decimal n)
-above_decimal n small = above_digits (decimal n) (decimal_digits n small)
+above_decimal n small = above_digits (decimal n) (decimal_digits n (omega arith))
 
 pub above_id : (i : Id) → IsFrameId i → AllAbove 33 (frame_text i)
 above_id i is = let letter : 33 ≤ i.letter = omega (arith, is.letter.0) in above_append 33 (decimal i.page) (i.letter ∷ []) (above_decimal i.page is.page) (letter, tt)

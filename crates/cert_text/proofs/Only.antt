@@ -135,7 +135,7 @@ not_end (d ∷ ds) x y some all = let no : eqb d 101 ≡ false = digit_no d (bot
   digit_no d h = grind (arith, nat_tests)
 
 row_not_end : (r : Row) → IsRow r → bytes_eq (row_line r) (codes "end") ≡ false
-row_not_end r is = not_end (decimal r.id.page) (r.id.letter ∷ []) (32 ∷ (decimal r.rank ++ (32 ∷ cursor_text r.cursor))) (decimal_nonempty r.id.page (omega (arith, is.id.page))) (decimal_digits r.id.page is.id.page)
+row_not_end r is = not_end (decimal r.id.page) (r.id.letter ∷ []) (32 ∷ (decimal r.rank ++ (32 ∷ cursor_text r.cursor))) (decimal_nonempty r.id.page (omega (arith, is.id.page))) (decimal_digits r.id.page (omega (arith, is.id.page)))
 
 abbrev Ascend : List Row → Type 0
 Ascend rows = AllAdjacentBelow (λ r t. id_cmp r.id t.id ≡ Less) rows (length rows)

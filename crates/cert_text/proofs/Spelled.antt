@@ -53,10 +53,10 @@ number_ok : (r : Result ℕ NumberFault) (n : ℕ) → number_or_cause r ≡ Ok 
 number_ok (Ok m) n e = let same : m ≡ n = ok_is m n e in ap Ok same
 number_ok (Err d) n e = absurd cc
 
-pub line_number_found : (most : ℕ) (text : List ℕ) (n : ℕ) → most ≤ 999999999 → line_number most text ≡ Ok n → (n ≤ most) × (text ≡ decimal n)
+pub line_number_found : (most : ℕ) (text : List ℕ) (n : ℕ) → most ≤ 4294967295 → line_number most text ≡ Ok n → (n ≤ most) × (text ≡ decimal n)
 line_number_found most text n small e = number_found most text n small (number_ok (number_in most text) n e)
 
-pub number_after_found : (word : List ℕ) (most : ℕ) (line : List ℕ) (n : ℕ) → most ≤ 999999999 → number_after word most line ≡ Ok n → (n ≤ most) × (line ≡ word ++ decimal n)
+pub number_after_found : (word : List ℕ) (most : ℕ) (line : List ℕ) (n : ℕ) → most ≤ 4294967295 → number_after word most line ≡ Ok n → (n ≤ most) × (line ≡ word ++ decimal n)
 number_after_found word most line n small e =
     let a = needs (bytes_eq (take (length word) line) word) Word (line_number most (drop (length word) line)) n e in
     let same : take (length word) line ≡ word = grind (arith, bytes_eq-Decides (take (length word) line) word, a.0) in
@@ -93,7 +93,7 @@ chosen false x y z e = inr (refl, e)
 abbrev IsSpelled : List ℕ → Place → Type 0
 IsSpelled text p = (text ≡ place_text p) × OnScreen p
 
-numbered : (c d : ℕ) (cs : List ℕ) (place : ℕ → Place) (most : ℕ) (p : Place) → most ≤ 999999999 → eqb c d ≡ true → in_place place (number_in most cs) ≡ Ok p
+numbered : (c d : ℕ) (cs : List ℕ) (place : ℕ → Place) (most : ℕ) (p : Place) → most ≤ 4294967295 → eqb c d ≡ true → in_place place (number_in most cs) ≡ Ok p
     → ((n : ℕ) → place_text (place n) ≡ d ∷ decimal n) → ((n : ℕ) → n ≤ most → OnScreen (place n)) → IsSpelled (c ∷ cs) p
 numbered c d cs place most p small same e text is =
     let a = in_place_found place (number_in most cs) p e in

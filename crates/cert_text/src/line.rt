@@ -10,7 +10,6 @@ use page_ids::{FrameId, NumberFault, number_read};
 
 // The number of a part of a line, up to the limit.
 fn line_number(text: &[u8], most: u32) -> Result<u32, LineCause>
-    requires { most ≤ 999999999 }
     ensures value { result ≡ line_number most text.now }
     ensures within { IfOk result (λ n. n ≤ most) }
 {
@@ -23,7 +22,6 @@ fn line_number(text: &[u8], most: u32) -> Result<u32, LineCause>
 
 // A word with its space, and then a number.
 pub fn number_after(word: &[u8], most: u32, line: &[u8]) -> Result<u32, LineCause>
-    requires { most ≤ 999999999 }
     ensures value { result ≡ number_after word.now most line.now }
     ensures within { IfOk result (λ n. n ≤ most) }
 {

@@ -36,18 +36,19 @@ use Rattle.checker.specs.declared.policy.Policy.{Policy}
 use Rattle.checker.specs.declared.verdict.Cause.{Cause}
 use Rattle.checker.specs.declared.verdict.Cause.TheVariants as cause
 use Rattle.checker.specs.declared.verdict.Verdict.TheVariants.{Cleared, Refused}
+use Rattle.checker.specs.Refusal.{IsFair, IsPaintedAs, IsGoodHead}
 use Rattle.checker.specs.Good.{Good, IsGoodRow, LeadsDown, is_covered}
 use Rattle.checker.specs.Verdict.{◌otherwise◌, unless, route_covered, route_fault, rank_below, route_down, way_down, next_lost, rank_fault, frame_fault, ways_fault, paint_fault, same_place, same_pend, same_cursor, found_fault, frame_or_none, row_fault, rows_fault, head_fault, verdict_of, verdict}
 
-both_none : (a b : Option Cause) → (a otherwise b) ≡ None → (a ≡ None) × (b ≡ None)
+pub both_none : (a b : Option Cause) → (a otherwise b) ≡ None → (a ≡ None) × (b ≡ None)
 both_none None b h = (refl, h)
 both_none (Some c) b h = cc
 
-holds : (b : Bool) (c : Cause) → unless b c ≡ None → b ≡ true
+pub holds : (b : Bool) (c : Cause) → unless b c ≡ None → b ≡ true
 holds true c h = refl
 holds false c h = cc
 
-no_digit : (id : Id) (o : Option ℕ) → route_fault id o ≡ None → o ≡ None
+pub no_digit : (id : Id) (o : Option ℕ) → route_fault id o ≡ None → o ≡ None
 no_digit id None h = refl
 no_digit id (Some d) h = cc
 
@@ -55,11 +56,11 @@ cleared_none : (o : Option Cause) → verdict_of o ≡ Cleared → o ≡ None
 cleared_none None h = refl
 cleared_none (Some c) h = cc
 
-not_true : (b : Bool) → not b ≡ true → b ≡ false
+pub not_true : (b : Bool) → not b ≡ true → b ≡ false
 not_true true h = cc
 not_true false h = refl
 
-at_least : (m n : ℕ) → not (nat_lt m n) ≡ true → n ≤ m
+pub at_least : (m n : ℕ) → not (nat_lt m n) ≡ true → n ≤ m
 at_least m n h = grind (arith, nat_tests)
 
 none_by_test : {A : Type 0} (p : A → Bool) (x : A) (xs : List A) (i : ℕ) (d : A) → ((j : ℕ) → position_from p (i + 1) xs ≡ None → j < length xs → p (get_or xs j d) ≡ false) → (b : Bool) → p x ≡ b → cond b (Some i) (position_from p (i + 1) xs) ≡ None → (k : ℕ) → k < length (x ∷ xs) → p (get_or (x ∷ xs) k d) ≡ false
@@ -72,7 +73,7 @@ none_from : {A : Type 0} (p : A → Bool) (xs : List A) (i k : ℕ) (d : A) → 
 none_from p [] i k d h lt = absurd (omega arith)
 none_from p (x ∷ xs) i k d h lt = none_by_test p x xs i d (λ j e l. none_from p xs (i + 1) j d e l) (p x) refl h k lt
 
-none_passes : {A : Type 0} (p : A → Bool) (xs : List A) (k : ℕ) (d : A) → position p xs ≡ None → k < length xs → p (get_or xs k d) ≡ false
+pub none_passes : {A : Type 0} (p : A → Bool) (xs : List A) (k : ℕ) (d : A) → position p xs ≡ None → k < length xs → p (get_or xs k d) ≡ false
 none_passes p xs k d h lt = none_from p xs 0 k d (sym (position_from-zero p xs) ∙ h) lt
 
 -- what is read behind the end is None
@@ -114,12 +115,12 @@ same_parts : (p q : Place) (d e : Pend) → p ≡ q → d ≡ e → cursor_with 
 same_parts p q d e h k = cc
 
 -- the test says which cursors are one
-cursor_is : (x y : AbsCursor) → same_cursor x y ≡ true → x ≡ y
+pub cursor_is : (x y : AbsCursor) → same_cursor x y ≡ true → x ≡ y
 cursor_is x y h =
     let b = both_true (same_place x.place y.place) (same_pend x.pend y.pend) h in
     same_parts x.place y.place x.pend y.pend (place_is x.place y.place b.0) (pend_is x.pend y.pend b.1)
 
-painted : (row : Row) (p : Painted) → paint_fault row p ≡ None → p ≡ Clean row.cursor
+pub painted : (row : Row) (p : Painted) → paint_fault row p ≡ None → p ≡ Clean row.cursor
 painted row (Touches i) h = cc
 painted row (Clean x) h = ap Clean (cursor_is x row.cursor (holds (same_cursor x row.cursor) (cause.CursorDiffers row.id) h))
 
@@ -144,7 +145,7 @@ module _ (caller : List ℕ) (base : BaseView) (cert : CertView) where
       let r = some_below rank (row_among cert.rows (following id)) h in
       record { key = Next; to = following id; row = r.0; sought = rw (is, e) refl; covered = r.1; lower = r.2 }
 
-  leads_down : (row : Row) (f : Frame) → frame_at base row.id ≡ Some f → way_down cert.rows row f ≡ true → LeadsDown base cert.rows row.id row.rank
+  pub leads_down : (row : Row) (f : Frame) → frame_at base row.id ≡ Some f → way_down cert.rows row f ≡ true → LeadsDown base cert.rows row.id row.rank
   leads_down row f is h =
       elim (or_cases (list_any (route_down cert.rows row.rank) f.routes) (offers_next row.id (Some f) && rank_below row.rank (row_among cert.rows (following row.id))) h) [
         | inl w ↦
@@ -157,7 +158,7 @@ module _ (caller : List ℕ) (base : BaseView) (cert : CertView) where
   rank_rules row f true is e h = (λ z. id_eq_same row.id (entry_of base) (holds (id_eq row.id (entry_of base)) (cause.RankZero row.id) h), λ lt. absurd (grind (arith, nat_tests)))
   rank_rules row f false is e h = (λ z. absurd (grind (arith, nat_tests)), λ lt. leads_down row f is (holds (way_down cert.rows row f) (cause.NoWayDown row.id) h))
 
-  routes_rule : (f : Frame) → position (λ r. not (route_covered base cert.rows r)) f.routes ≡ None → (digit page : ℕ) → route_of f digit ≡ Some page → (lists_outside base page ≡ true) ⊎ (is_covered cert.rows (first_frame page) ≡ true)
+  pub routes_rule : (f : Frame) → position (λ r. not (route_covered base cert.rows r)) f.routes ≡ None → (digit page : ℕ) → route_of f digit ≡ Some page → (lists_outside base page ≡ true) ⊎ (is_covered cert.rows (first_frame page) ≡ true)
   routes_rule f h digit page e =
       let p = none_passes (λ r. not (route_covered base cert.rows r)) f.routes digit None h (within f.routes digit page e) in
       let q : not (route_covered base cert.rows (Some page)) ≡ false = subst (λ (o : Option ℕ). not (route_covered base cert.rows o) ≡ false) e p in
@@ -166,33 +167,47 @@ module _ (caller : List ℕ) (base : BaseView) (cert : CertView) where
         true_not true h = refl
         true_not false h = cc
 
-  next_rule : (row : Row) (f : Frame) → not (next_lost cert.rows row f) ≡ true → offers_next row.id (Some f) ≡ true → is_covered cert.rows (following row.id) ≡ true
+  pub next_rule : (row : Row) (f : Frame) → not (next_lost cert.rows row f) ≡ true → offers_next row.id (Some f) ≡ true → is_covered cert.rows (following row.id) ≡ true
   next_rule row f h e = by_tests (offers_next row.id (Some f)) (is_covered cert.rows (following row.id)) h e where
     by_tests : (a b : Bool) → not (a && not b) ≡ true → a ≡ true → b ≡ true
     by_tests true true h e = refl
     by_tests true false h e = cc
     by_tests false b h e = cc
 
-  good_row : (row : Row) → row_fault caller base cert row ≡ None → IsGoodRow caller base cert row.id row.rank row.cursor
+  pub fair : (row : Row) (f : Frame) → frame_fault caller cert row f ≡ None → IsFair caller cert row f
+  fair row f h =
+      let a = both_none (unless (is_open caller f) (cause.ClosedFrame row.id)) _ h in
+      let b = both_none (unless (not (nat_lt cert.ceiling f.price)) (cause.Price row.id)) _ a.1 in
+      record {
+        admitted = holds (is_open caller f) (cause.ClosedFrame row.id) a.0;
+        price = at_least cert.ceiling f.price (holds _ (cause.Price row.id) b.0);
+        most = at_least cert.keyings row.rank (holds _ (cause.RankAbove row.id) b.1);
+      }
+
+  pub painted_as : (row : Row) (f : Frame) → paint_fault row (paint_of f.lead f.body) ≡ None → IsPaintedAs row f
+  painted_as row f h =
+      let p = ((is_exact f.lead f.body).clean row.cursor).0 (painted row (paint_of f.lead f.body) h) in
+      record { clean = p.0; ends = p.1 }
+
+  pub good_row : (row : Row) → row_fault caller base cert row ≡ None → IsGoodRow caller base cert row.id row.rank row.cursor
   good_row row h =
       let w = found_frame row (frame_at base row.id) h in
       let f = w.0 in
       let n = both_none (frame_fault caller cert row f) _ w.2 in
       let m = both_none (paint_fault row (paint_of f.lead f.body)) (ways_fault base cert.rows row f) n.1 in
-      let a = both_none (unless (is_open caller f) (cause.ClosedFrame row.id)) _ n.0 in
-      let b = both_none (unless (not (nat_lt cert.ceiling f.price)) (cause.Price row.id)) _ a.1 in
-      let p = ((is_exact f.lead f.body).clean row.cursor).0 (painted row (paint_of f.lead f.body) m.0) in
+      let g = fair row f n.0 in
+      let p = painted_as row f m.0 in
       let d = both_none (route_fault row.id (position (λ r. not (route_covered base cert.rows r)) f.routes)) _ m.1 in
       let e = both_none (unless (not (next_lost cert.rows row f)) (cause.NextNotCovered row.id)) _ d.1 in
       let rank = rank_rules row f (row.rank == 0) w.1 refl e.1 in
       record {
         frame = f;
         found = w.1;
-        admitted = holds (is_open caller f) (cause.ClosedFrame row.id) a.0;
-        price = at_least cert.ceiling f.price (holds _ (cause.Price row.id) b.0);
-        most = at_least cert.keyings row.rank (holds _ (cause.RankAbove row.id) b.1);
-        clean = p.0;
-        ends = p.1;
+        admitted = g.admitted;
+        price = g.price;
+        most = g.most;
+        clean = p.clean;
+        ends = p.ends;
         routes = routes_rule f (no_digit row.id _ d.0);
         next = next_rule row f (holds _ (cause.NextNotCovered row.id) e.0);
         zero = rank.0;
@@ -205,18 +220,28 @@ module _ (caller : List ℕ) (base : BaseView) (cert : CertView) where
       let b = both_none (row_fault caller base cert row) (rows_fault caller base cert rows) h in
       (good_row row b.0, good_rows rows b.1)
 
-  pub cleared_good : (policy : Policy) → verdict caller base policy cert ≡ Cleared → Good caller base policy cert
-  cleared_good policy h =
-      let n = cleared_none (head_fault base policy cert otherwise rows_fault caller base cert cert.rows) h in
-      let both = both_none (head_fault base policy cert) (rows_fault caller base cert cert.rows) n in
-      let a = both_none (unless (cert.entry == base.entry) cause.EntryDiffers) _ both.0 in
+  pub head_right : (policy : Policy) → head_fault base policy cert ≡ None → IsGoodHead base policy cert
+  head_right policy h =
+      let a = both_none (unless (cert.entry == base.entry) cause.EntryDiffers) _ h in
       let b = both_none (unless (not (nat_lt policy.ceiling cert.ceiling)) cause.CeilingAbove) _ a.1 in
       let d = both_none (unless (not (nat_lt policy.keyings cert.keyings)) cause.KeyingsAbove) _ b.1 in
-      let same = holds (cert.entry == base.entry) cause.EntryDiffers a.0 in
+      let test = holds (cert.entry == base.entry) cause.EntryDiffers a.0 in
       record {
         entry = grind (arith, nat_tests);
         ceiling = at_least policy.ceiling cert.ceiling (holds _ cause.CeilingAbove b.0);
         keyings = at_least policy.keyings cert.keyings (holds _ cause.KeyingsAbove d.0);
         covered = holds (is_covered cert.rows (entry_of base)) cause.EntryNotCovered d.1;
+      }
+
+  pub cleared_good : (policy : Policy) → verdict caller base policy cert ≡ Cleared → Good caller base policy cert
+  cleared_good policy h =
+      let n = cleared_none (head_fault base policy cert otherwise rows_fault caller base cert cert.rows) h in
+      let both = both_none (head_fault base policy cert) (rows_fault caller base cert cert.rows) n in
+      let head = head_right policy both.0 in
+      record {
+        entry = head.entry;
+        ceiling = head.ceiling;
+        keyings = head.keyings;
+        covered = head.covered;
         rows = good_rows cert.rows both.1;
       }

@@ -33,22 +33,23 @@ use Rattle.checker.specs.declared.verdict.Cause.{Cause}
 use Rattle.checker.specs.declared.verdict.Cause.TheVariants as cause
 use Rattle.checker.specs.declared.verdict.Verdict.{Verdict}
 use Rattle.checker.specs.declared.verdict.Verdict.TheVariants.{Cleared}
+use Rattle.checker.specs.Refusal.{IsFair, IsPaintedAs, IsGoodHead}
 use Rattle.checker.specs.Good.{Good, IsGoodRow, LeadsDown, is_covered}
 use Rattle.checker.specs.Verdict.{◌otherwise◌, unless, route_covered, route_fault, rank_below, route_down, way_down, next_lost, rank_fault, frame_fault, paint_fault, same_place, same_pend, same_cursor, ways_fault, found_fault, frame_or_none, row_fault, rows_fault, head_fault, verdict_of, verdict}
 use Rattle.checker.proofs.Clears.{within, cleared_good}
 
-none_both : (a b : Option Cause) → a ≡ None → b ≡ None → (a otherwise b) ≡ None
+pub none_both : (a b : Option Cause) → a ≡ None → b ≡ None → (a otherwise b) ≡ None
 none_both None b h k = k
 none_both (Some c) b h k = cc
 
-no_fault : (b : Bool) (c : Cause) → b ≡ true → unless b c ≡ None
+pub no_fault : (b : Bool) (c : Cause) → b ≡ true → unless b c ≡ None
 no_fault true c h = refl
 no_fault false c h = cc
 
-not_less : (m n : ℕ) → n ≤ m → not (nat_lt m n) ≡ true
+pub not_less : (m n : ℕ) → n ≤ m → not (nat_lt m n) ≡ true
 not_less m n le = grind (arith, nat_tests)
 
-same_number : (n : ℕ) → (n == n) ≡ true
+pub same_number : (n : ℕ) → (n == n) ≡ true
 same_number n = grind (arith, nat_tests)
 
 place_same : (x : Place) → same_place x x ≡ true
@@ -61,7 +62,7 @@ pend_same No = refl
 pend_same Yes = refl
 pend_same Maybe = refl
 
-cursor_same : (x : AbsCursor) → same_cursor x x ≡ true
+pub cursor_same : (x : AbsCursor) → same_cursor x x ≡ true
 cursor_same x = rw (place_same x.place, pend_same x.pend) refl
 
 position_by : {A : Type 0} (p : A → Bool) (x : A) (xs : List A) (i : ℕ) → p x ≡ false → position_from p (i + 1) xs ≡ None → position_from p i (x ∷ xs) ≡ None
@@ -74,7 +75,7 @@ no_position_from p (x ∷ xs) i all = position_by p x xs i (all 0 x (omega arith
 no_position : {A : Type 0} (p : A → Bool) (xs : List A) → ((k : ℕ) (d : A) → k < length xs → p (get_or xs k d) ≡ false) → position p xs ≡ None
 no_position p xs all = position_from-zero p xs ∙ no_position_from p xs 0 all
 
-true_or : (a b : Bool) → (a ≡ true) ⊎ (b ≡ true) → (a || b) ≡ true
+pub true_or : (a b : Bool) → (a ≡ true) ⊎ (b ≡ true) → (a || b) ≡ true
 true_or true b h = refl
 true_or false true h = refl
 true_or false false h = elim h [ inl e ↦ cc | inr e ↦ cc ]
@@ -88,13 +89,13 @@ module _ (caller : List ℕ) (base : BaseView) (cert : CertView) where
   covers f all None digit e = refl
   covers f all (Some page) digit e = true_or (lists_outside base page) (is_covered cert.rows (first_frame page)) (all digit page e)
 
-  no_route : (row : Row) (f : Frame) → ((digit page : ℕ) → route_of f digit ≡ Some page → (lists_outside base page ≡ true) ⊎ (is_covered cert.rows (first_frame page) ≡ true)) → route_fault row.id (position (λ r. not (route_covered base cert.rows r)) f.routes) ≡ None
+  pub no_route : (row : Row) (f : Frame) → ((digit page : ℕ) → route_of f digit ≡ Some page → (lists_outside base page ≡ true) ⊎ (is_covered cert.rows (first_frame page) ≡ true)) → route_fault row.id (position (λ r. not (route_covered base cert.rows r)) f.routes) ≡ None
   no_route row f all =
       let none : position (λ r. not (route_covered base cert.rows r)) f.routes ≡ None = no_position (λ r. not (route_covered base cert.rows r)) f.routes (λ k d lt.
       ap (λ (o : Option ℕ). not (route_covered base cert.rows o)) (get_or_default f.routes k d None lt) ∙ ap not (covers f all (route_of f k) k refl)) in
       ap (route_fault row.id) none
 
-  kept_next : (a b : Bool) → (a ≡ true → b ≡ true) → not (a && not b) ≡ true
+  pub kept_next : (a b : Bool) → (a ≡ true → b ≡ true) → not (a && not b) ≡ true
   kept_next true true h = refl
   kept_next true false h = let no = h refl in cc
   kept_next false b h = refl
@@ -111,7 +112,7 @@ module _ (caller : List ℕ) (base : BaseView) (cert : CertView) where
   next_is true id to e = (refl, cc)
   next_is false id to e = cc
 
-  down_by : (row : Row) (f : Frame) (key : Key) (to : Id) (r : Row) → frame_at base row.id ≡ Some f → target base row.id key ≡ Some to → row_among cert.rows to ≡ Some r → r.rank < row.rank → way_down cert.rows row f ≡ true
+  pub down_by : (row : Row) (f : Frame) (key : Key) (to : Id) (r : Row) → frame_at base row.id ≡ Some f → target base row.id key ≡ Some to → row_among cert.rows to ≡ Some r → r.rank < row.rank → way_down cert.rows row f ≡ true
   down_by row f (Route digit) to r is e cov lt =
       let s = some_page (route_at base row.id digit) to e in
       let route : route_of f digit ≡ Some s.0 = ap (option_and_then (λ frame. route_of frame digit)) (sym is) ∙ s.1 in
@@ -137,14 +138,22 @@ module _ (caller : List ℕ) (base : BaseView) (cert : CertView) where
       let d = down some in
       no_fault (way_down cert.rows row f) (cause.NoWayDown row.id) (down_by row f d.key d.to d.row is d.sought d.covered d.lower)
 
-  row_kept : (row : Row) → IsGoodRow caller base cert row.id row.rank row.cursor → row_fault caller base cert row ≡ None
+  pub fair_none : (row : Row) (f : Frame) → IsFair caller cert row f → frame_fault caller cert row f ≡ None
+  fair_none row f g =
+      none_both (unless (is_open caller f) (cause.ClosedFrame row.id)) _ (no_fault (is_open caller f) (cause.ClosedFrame row.id) g.admitted)
+      (none_both (unless (not (nat_lt cert.ceiling f.price)) (cause.Price row.id)) _ (no_fault _ (cause.Price row.id) (not_less cert.ceiling f.price g.price))
+      (no_fault _ (cause.RankAbove row.id) (not_less cert.keyings row.rank g.most)))
+
+  pub painted_none : (row : Row) (f : Frame) → IsPaintedAs row f → paint_fault row (paint_of f.lead f.body) ≡ None
+  painted_none row f g =
+      let clean = ((is_exact f.lead f.body).clean row.cursor).1 (g.clean, g.ends) in
+      ap (paint_fault row) clean ∙ no_fault (same_cursor row.cursor row.cursor) (cause.CursorDiffers row.id) (cursor_same row.cursor)
+
+  pub row_kept : (row : Row) → IsGoodRow caller base cert row.id row.rank row.cursor → row_fault caller base cert row ≡ None
   row_kept row g =
       let f = g.frame in
-      let frame = none_both (unless (is_open caller f) (cause.ClosedFrame row.id)) _ (no_fault (is_open caller f) (cause.ClosedFrame row.id) g.admitted)
-      (none_both (unless (not (nat_lt cert.ceiling f.price)) (cause.Price row.id)) _ (no_fault _ (cause.Price row.id) (not_less cert.ceiling f.price g.price))
-      (no_fault _ (cause.RankAbove row.id) (not_less cert.keyings row.rank g.most))) in
-      let clean = ((is_exact f.lead f.body).clean row.cursor).1 (g.clean, g.ends) in
-      let paint : paint_fault row (paint_of f.lead f.body) ≡ None = ap (paint_fault row) clean ∙ no_fault (same_cursor row.cursor row.cursor) (cause.CursorDiffers row.id) (cursor_same row.cursor) in
+      let frame = fair_none row f (record { admitted = g.admitted; price = g.price; most = g.most }) in
+      let paint = painted_none row f (record { clean = g.clean; ends = g.ends }) in
       let ways = none_both (route_fault row.id (position (λ r. not (route_covered base cert.rows r)) f.routes)) _ (no_route row f g.routes)
       (none_both (unless (not (next_lost cert.rows row f)) (cause.NextNotCovered row.id)) _ (no_fault _ (cause.NextNotCovered row.id) (kept_next (offers_next row.id (Some f)) (is_covered cert.rows (following row.id)) g.next))
       (rank_kept row f (row.rank == 0) g.found refl g.zero g.down)) in
@@ -155,13 +164,19 @@ module _ (caller : List ℕ) (base : BaseView) (cert : CertView) where
   rows_kept [] all = refl
   rows_kept (row ∷ rows) all = none_both (row_fault caller base cert row) (rows_fault caller base cert rows) (row_kept row all.0) (rows_kept rows all.1)
 
-  pub good_cleared : (policy : Policy) → Good caller base policy cert → verdict caller base policy cert ≡ Cleared
-  good_cleared policy g =
-      let same : (cert.entry == base.entry) ≡ true = ap (λ (n : ℕ). n == base.entry) g.entry ∙ same_number base.entry in
-      let head : head_fault base policy cert ≡ None = none_both (unless (cert.entry == base.entry) cause.EntryDiffers) _ (no_fault _ cause.EntryDiffers same)
+  pub entry_is : cert.entry ≡ base.entry → unless (cert.entry == base.entry) cause.EntryDiffers ≡ None
+  entry_is e = no_fault _ cause.EntryDiffers (ap (λ (n : ℕ). n == base.entry) e ∙ same_number base.entry)
+
+  pub head_none : (policy : Policy) → IsGoodHead base policy cert → head_fault base policy cert ≡ None
+  head_none policy g =
+      none_both (unless (cert.entry == base.entry) cause.EntryDiffers) _ (entry_is g.entry)
       (none_both (unless (not (nat_lt policy.ceiling cert.ceiling)) cause.CeilingAbove) _ (no_fault _ cause.CeilingAbove (not_less policy.ceiling cert.ceiling g.ceiling))
       (none_both (unless (not (nat_lt policy.keyings cert.keyings)) cause.KeyingsAbove) _ (no_fault _ cause.KeyingsAbove (not_less policy.keyings cert.keyings g.keyings))
-      (no_fault _ cause.EntryNotCovered g.covered))) in
+      (no_fault _ cause.EntryNotCovered g.covered)))
+
+  pub good_cleared : (policy : Policy) → Good caller base policy cert → verdict caller base policy cert ≡ Cleared
+  good_cleared policy g =
+      let head = head_none policy (record { entry = g.entry; ceiling = g.ceiling; keyings = g.keyings; covered = g.covered }) in
       ap verdict_of (none_both (head_fault base policy cert) (rows_fault caller base cert cert.rows) head (rows_kept cert.rows g.rows))
 
 -- an answer that is the verdict is Cleared exactly where the certificate is good

@@ -3,3 +3,4 @@ pub mod RowsInTurn
 pub mod Clears
 pub mod IsCleared
 pub mod RowBodies
+pub mod Refusals

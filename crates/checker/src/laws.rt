@@ -1,4 +1,5 @@
 ghost use Rattle.checker.specs.Laws.{GoodIsSafe, GoodKeepsRows, ClearedIsGood};
+ghost use Rattle.checker.specs.Refusal.{RefusedIsFirst};
 ghost use Rattle.checker.specs.RowsAreClean.{RowsAreClean};
 
 /// A good certificate makes every session safe, and keeps the present and each remembered frame among its rows.
@@ -15,4 +16,10 @@ pub fn cleared_is_good()
 /// A frame that is given as at most 22 rows paints over no service row, under either lead.
 pub fn rows_are_clean()
     ensures { RowsAreClean }
+{}
+
+/// A certificate is refused for a cause exactly where that cause's condition is the first that fails: K9 with the offset of
+/// the first byte that some state of the terminal lets write a service cell, K10 by the ends that occur.
+pub fn refused_is_first()
+    ensures { RefusedIsFirst }
 {}

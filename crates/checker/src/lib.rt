@@ -8,7 +8,8 @@
 //! - [`Policy`]: what a centre asks of its bases.
 //! - [`check_bytes`], [`InputFault`]: the same of two texts; the headline stands on this call.
 //! - [`Verdict`], [`Cause`]: the first condition that fails, in one order.
-//! - [`good_is_safe`], [`cleared_is_good`]: the laws, of every base, caller, policy and certificate.
+//! - [`good_is_safe`], [`cleared_is_good`], [`refused_is_first`]: the laws, of every base, caller, policy and certificate.
+//! - [`rows_are_clean`]: a frame that is given as rows paints over no service row.
 #![tactic(auto)]
 
 mod bytes;
@@ -22,7 +23,7 @@ mod ways;
 
 pub use bytes::{InputFault, check_bytes};
 pub use judge::check;
-pub use laws::{cleared_is_good, good_is_safe, rows_are_clean};
+pub use laws::{cleared_is_good, good_is_safe, refused_is_first, rows_are_clean};
 pub use policy::Policy;
 pub use verdict::{Cause, Verdict};
 

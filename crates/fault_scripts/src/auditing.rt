@@ -1,14 +1,10 @@
-ghost use Rattle.std.specs.Prelude.{◌≡◌, ℕ, ◌≤◌, ◌∷◌, [], Some, None, Ok, IfOk, length, IsPermutation};
-ghost use Rattle.std.specs.List.Sorted.{IsSortedByKey};
-ghost use Rattle.page_ids.specs.Ids.{id_cmp};
+ghost use Rattle.std.specs.Prelude.{◌≡◌, ℕ, ◌∷◌, [], IfOk, length};
 ghost use Rattle.frame_records.specs.declared.base.Sought.TheVariants as sought;
-ghost use Rattle.cert_table.specs.Table.{table_fault};
 ghost use Rattle.session_machine.specs.Open.{seek_entry, entry_of};
 ghost use Rattle.finder.specs.Found.{found_of};
-ghost use Rattle.fault_scripts.specs.declared.fault.FaultKind.{FaultKind};
-ghost use Rattle.fault_scripts.specs.FaultsOf.{faults_of, faults_along, plain_fault};
+ghost use Rattle.fault_scripts.specs.FaultsOf.{faults_of, plain_fault};
 ghost use Rattle.fault_scripts.specs.Judged.{IsJudged};
-ghost use Rattle.fault_scripts.specs.Outcomes.{IsOutcome, IsCertificateOf, DecidesSafety, AreShown};
+ghost use Rattle.fault_scripts.specs.Outcomes.{IsOutcome, DecidesSafety, AreShown};
 ghost use Rattle.fault_scripts.specs.SortedTable.{IsTableInOrder, IsSortedTable};
 ghost use Rattle.fault_scripts.specs.TableView.{parts_of};
 
@@ -18,7 +14,7 @@ use crate::kinds::no_price;
 use crate::limits::keeps_limits;
 use crate::outcome::Outcome;
 use crate::table::Table;
-use cert_table::{Certificate, Row};
+use cert_table::Certificate;
 use checker::Policy;
 use finder::find;
 use frame_records::{Base, Sought};

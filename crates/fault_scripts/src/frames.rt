@@ -1,8 +1,5 @@
-ghost use Rattle.std.specs.Prelude.{◌≡◌, ◌<◌, ◌≤◌, ◌+◌, [], Some, IfOk, OnOk, length};
-ghost use Rattle.frame_records.specs.BaseView.{frame_at};
-ghost use Rattle.fault_scripts.specs.Table.{with_parts};
-ghost use Rattle.fault_scripts.specs.TableView.{parts_of};
-ghost use Rattle.fault_scripts.specs.Telling.{ScriptsExtend, IsReady, Tells};
+ghost use Rattle.std.specs.Prelude.{◌<◌, ◌≤◌, ◌+◌, [], IfOk, OnOk, length};
+ghost use Rattle.fault_scripts.specs.Telling.{ScriptsExtend, IsReady};
 ghost use Rattle.fault_scripts.specs.Judged.{IsJudged, Judges};
 
 use crate::kinds::judge_frame;

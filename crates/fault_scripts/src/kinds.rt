@@ -1,6 +1,5 @@
-ghost use Rattle.std.specs.Prelude.{◌≡◌, ◌<◌, ◌∷◌, ◌++◌, [], Some, None, OnOk, IfOk, length, slice_get};
+ghost use Rattle.std.specs.Prelude.{◌≡◌, ◌<◌, ◌∷◌, [], Some, OnOk};
 ghost use Rattle.page_ids.specs.declared.key.Key.TheVariants.{Next};
-ghost use Rattle.frame_records.specs.BaseView.{frame_at};
 ghost use Rattle.abstract_paint.specs.Paint.{paint_of};
 ghost use Rattle.finder.specs.Found.{key_of, script};
 ghost use Rattle.finder.specs.Walks.{sought_by, next_sought};

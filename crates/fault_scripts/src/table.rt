@@ -1,6 +1,5 @@
-ghost use Rattle.std.specs.Prelude.{◌≡◌, ◌++◌, OnOk, IfOk};
-ghost use Rattle.abstract_paint.specs.Paint.{paint_of};
-ghost use Rattle.fault_scripts.specs.Table.{Parts, greater, row_of, rank_or_zero, no_parts, with_parts};
+ghost use Rattle.std.specs.Prelude.{◌≡◌, ◌++◌, OnOk};
+ghost use Rattle.fault_scripts.specs.Table.{greater, row_of, rank_or_zero, no_parts, with_parts};
 ghost use Rattle.fault_scripts.specs.TableView.{parts_of};
 
 use crate::kinds::no_price;

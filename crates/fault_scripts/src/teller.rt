@@ -1,16 +1,12 @@
-ghost use Rattle.std.specs.Prelude.{◌≡◌, ◌<◌, ◌∷◌, ◌++◌, [], Some, None, OnOk, IfOk, if◌then◌else◌, length, slice_get, option_map};
-ghost use Rattle.frame_records.specs.Seek.{seek};
-ghost use Rattle.session_machine.specs.Runs.{target};
-ghost use Rattle.finder.specs.Found.{key_of, script, parent_of};
-ghost use Rattle.finder.specs.Walks.{sought_by, next_sought};
-ghost use Rattle.fault_scripts.specs.FaultsOf.{price_faults, touch_faults, sought_faults, offered_faults, keys_faults, is_far, return_faults};
+ghost use Rattle.std.specs.Prelude.{◌≡◌, ◌<◌, ◌∷◌, [], None, OnOk, IfOk, length, slice_get};
+ghost use Rattle.finder.specs.Found.{script, parent_of};
 ghost use Rattle.fault_scripts.specs.Telling.{ScriptsExtend, HasScript, IsReady, IsTold, IsPlaceAt, Tells, fault_of, pressed};
 
 use crate::fault::{Fault, FaultKind};
 use abstract_paint::Start;
-use finder::{Discovered, Found, script_to};
-use frame_records::{Base, Frame, Pence, Sought};
-use page_ids::{Digit, FrameId, Key, KeyList};
+use finder::{Found, script_to};
+use frame_records::Pence;
+use page_ids::{FrameId, Key, KeyList};
 use std::alloc::{AllocError, Global};
 
 // Tells the faults of the discovered frames, one frame after another. The keys that lead to a frame are looked for when its

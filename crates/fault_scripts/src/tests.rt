@@ -5,8 +5,8 @@ use abstract_paint::{AbsCursor, Pend, Place, Start};
 use base_text::base_read;
 use cert_table::{Certificate, Cover, Row};
 use checker::Policy;
-use frame_records::{Base, Pence};
-use page_ids::{FrameId, Key, KeyList, keys_read, keys_text};
+use frame_records::{Base, Body, Frame, Lead, Pence};
+use page_ids::{FrameId, Key, KeyList, PageNo, keys_read, keys_text};
 use session_machine::{OpenFault, Reply};
 use std::alloc::Global;
 use std::process::Abort;
@@ -261,5 +261,82 @@ fn replay_tells_the_last_reply_and_the_place(rt: HostRuntime) -> Result<(), Fail
     let left = replay(rt.alloc(), &base, &keys_read(rt.alloc(), "01")?)?;
     assert_eq!(rt; left.last, Reply::NotOffered);
     assert!(rt; left.at.is_none());
+    Ok(())
+}
+
+#[test]
+fn replay_presses_20_000_keys(rt: HostRuntime) -> Result<(), Fail> {
+    let base = base_of(rt.alloc(), DEMO)?;
+    let keys = "10".repeat(rt.alloc(), 10_000)?;
+    let end = replay(rt.alloc(), &base, &keys_read(rt.alloc(), keys.as_str())?)?;
+    let entry = FrameId::read("123a")?;
+    let free = Pence::new(0).ok_or("price")?;
+    assert_eq!(rt; end.last, Reply::Shown(entry, free));
+    assert_eq!(rt; end.at, Some(entry));
+    Ok(())
+}
+
+// A frame `a` on each page from 0 on: route 0 leads to the entry page 0, and route 1 to the following page. Route 5 of the last
+// leads to a page of its own.
+fn chain(alloc: Global, count: u32, last: u32) -> Result<Base, Fail> {
+    let mut frames = Vec::new(alloc);
+    for number in 0..count {
+        let mut routes = [None; 10];
+        routes[0] = PageNo::new(0);
+        if number + 1 < count {
+            routes[1] = PageNo::new(number + 1);
+        } else {
+            routes[5] = PageNo::new(last);
+        }
+        frames.push(Frame {
+            id: FrameId::first(PageNo::new(number).ok_or("page")?),
+            price: Pence::new(0).ok_or("price")?,
+            group: None,
+            next: false,
+            routes,
+            lead: Lead::Clear,
+            body: Body::of(Vec::new(alloc)),
+        })?;
+    }
+    let entry = PageNo::new(0).ok_or("page")?;
+    Ok(Base::build(entry, Vec::new(alloc), frames)?)
+}
+
+#[test]
+fn a_script_has_a_key_for_each_frame_of_a_long_chain(rt: HostRuntime) -> Result<(), Fail> {
+    let base = chain(rt.alloc(), 20_000, 999_999)?;
+    let way = "1".repeat(rt.alloc(), 19_999)?;
+    let script = format!(in rt.alloc(); "{}5", way.as_str())?;
+    let policy = policy(0, 1)?;
+    let lists = [
+        faulty(&rt, &base, &policy)?,
+        faults(rt.alloc(), &base, &policy)?,
+    ];
+    for list in &lists {
+        assert_eq!(rt; list.as_slice().len(), 1);
+        let fault = &list.as_slice()[0];
+        assert_fault(
+            &rt,
+            fault,
+            FaultKind::Missing,
+            "19999a",
+            "5",
+            "999999a",
+            script.as_str(),
+        )?;
+        let end = replay(rt.alloc(), &base, &fault.script)?;
+        assert_eq!(rt; end.last, Reply::Missing(FrameId::read("999999a")?));
+        assert_eq!(rt; end.at, Some(FrameId::read("19999a")?));
+    }
+    Ok(())
+}
+
+#[test]
+fn a_safe_base_of_65_535_frames_is_certified(rt: HostRuntime) -> Result<(), Fail> {
+    let base = chain(rt.alloc(), 65_535, 0)?;
+    let cert = certified(&rt, &base, &policy(0, 1)?)?;
+    assert_eq!(rt; cert.cover().len(), 65_535);
+    assert_eq!(rt; cert.ceiling().get(), 0);
+    assert_eq!(rt; cert.keyings(), 1);
     Ok(())
 }

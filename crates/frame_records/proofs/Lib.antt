@@ -3,3 +3,4 @@ pub mod SortedKeys
 pub mod SortedFrames
 pub mod Pages
 pub mod Built
+pub mod OneBase

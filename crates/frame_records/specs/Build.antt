@@ -77,3 +77,7 @@ pub record IsBaseOf (entry : ℕ) (outside : List ℕ) (frames : List Frame) (ba
 abbrev pub IsBuilt : ℕ → List ℕ → List Frame → Result BaseView BuildFault → Type 0
 IsBuilt entry outside frames (Ok base) = IsBaseOf entry outside frames base
 IsBuilt entry outside frames (Err fault) = IsBuildFault outside frames fault
+
+-- two lists and an entry make one base
+abbrev pub BasesAreOne : Type 0
+BasesAreOne = (entry : ℕ) (outside : List ℕ) (frames : List Frame) (a b : BaseView) → IsBaseOf entry outside frames a → IsBaseOf entry outside frames b → a ≡ b

@@ -2,7 +2,7 @@ ghost use Rattle.std.specs.Prelude.{◌≡◌, ◌≤◌, [], length};
 ghost use Rattle.std.specs.Option.{option_copied};
 ghost use Rattle.page_ids.specs.Ids.{first_frame, IsPageNumber};
 ghost use Rattle.frame_records.specs.BaseView.{IsBase, frame_at, lists_outside};
-ghost use Rattle.frame_records.specs.Build.{IsBuilt};
+ghost use Rattle.frame_records.specs.Build.{IsBuilt, BasesAreOne};
 ghost use Rattle.frame_records.specs.Seek.{seek};
 
 use crate::build::{BuildFault, are_too_many, first_fault, sort};
@@ -117,3 +117,8 @@ impl Base {
         FrameId::first(self.entry)
     }
 }
+
+/// Of every entry and two lists: they make one base.
+pub fn bases_are_one()
+    ensures { BasesAreOne }
+{}

@@ -13,7 +13,7 @@ mod build;
 mod frame;
 mod numbers;
 
-pub use base::{Base, Sought};
+pub use base::{Base, Sought, bases_are_one};
 pub use build::BuildFault;
 pub use frame::{Body, Frame, Lead};
 pub use numbers::{GroupNo, Pence};

@@ -56,7 +56,7 @@ impl Model for GroupNo {
 
     ghost view = { λ g. g.number };
 
-    ghost invariant = { λ g. 1 ≤ g.number };
+    ghost invariant = { λ g. (1 ≤ g.number) × (g.number ≤ 65535) };
 
     ghost inverse = { λ n. record { number = n } };
 }

@@ -1,11 +1,13 @@
 -- Texts of keys are read in one way.
-use Rattle.std.proofs.Common.{◌≡◌, ℕ, ◌+◌, ◌-◌, ◌<◌, ◌≤◌, ◌&&◌, Bool, true, false, List, [], ◌∷◌, ◌++◌, length, take, drop, Option, Some, None, refl, sym, ap, ◌∙◌, arith, subst, cond, ltb, eqb, append_assoc, length-append, length-drop, ◌⊎◌, inl, inr}
+use Rattle.std.proofs.Common.{◌≡◌, ℕ, ◌+◌, ◌-◌, ◌<◌, ◌≤◌, ◌&&◌, Bool, true, false, List, [], ◌∷◌, ◌++◌, length, take, drop, Option, Some, None, Result, Ok, Err, refl, sym, ap, ◌∙◌, arith, subst, cond, ltb, eqb, append_assoc, length-append, length-drop, ◌⊎◌, inl, inr}
 use Rattle.std.proofs.lemmas.Bool.Decides.{nat_tests}
-use Rattle.std.proofs.lemmas.List.{append_cancel_left, take-append-drop, append-nil, length-take-le}
+use Rattle.std.proofs.lemmas.List.{take_all, append_cancel_left, take-append-drop, append-nil, length-take-le}
 use Rattle.std.proofs.Math.Seq.{take-add, take-append_seam}
+use Rattle.page_ids.specs.declared.fault.IdFault.{IdFault}
+use Rattle.page_ids.specs.declared.fault.IdFault.TheVariants.{BadPage, BadFrame, BadKey, Memory}
 use Rattle.page_ids.specs.declared.key.Key.{Key}
 use Rattle.page_ids.specs.declared.key.Key.TheVariants.{Route, Next, Prev, Reprint, Update}
-use Rattle.page_ids.specs.Keys.{key_word, keys_text, key_at, key_behind_star, key_behind_zero, IsKey, AreKeys, IsUnreadableAt}
+use Rattle.page_ids.specs.Keys.{key_word, keys_text, key_at, key_behind_star, key_behind_zero, IsKey, AreKeys, IsUnreadableAt, IsRead}
 
 digit_word : (d : ℕ) (rest : List ℕ) → d < 10 → key_at ((48 + d) ∷ rest) ≡ Some (Route d)
 digit_word d rest small =
@@ -175,3 +177,15 @@ unreadable text at keys lt h none = record {
   readable = (keys, h.are, h.spelled);
   longest = λ m le r. let no : at < m → ⊥ = λ large. longer text at m keys r.0 large le h none r.1 r.2 in omega arith;
 }
+
+-- the text of keys is read as these, want of memory aside
+pub read_again : (keys : List Key) (read : Result (List Key) IdFault) → AreKeys keys → IsRead (keys_text keys) read → (read ≡ Ok keys) ⊎ (read ≡ Err Memory)
+read_again keys (Ok others) are h = let same = one_list others keys h.0 are (sym h.1) in inl (ap (λ (k : List Key). Ok k) same)
+read_again keys (Err BadPage) are h = absurd h
+read_again keys (Err BadFrame) are h = absurd h
+read_again keys (Err (BadKey n)) are h =
+    let all : take (length (keys_text keys)) (keys_text keys) ≡ keys_text keys = take_all (length (keys_text keys)) (keys_text keys) (omega arith) in
+    let most = h.longest (length (keys_text keys)) (omega arith) (keys, are, all) in
+    let within = h.within in
+    absurd (omega arith)
+read_again keys (Err Memory) are h = inr refl

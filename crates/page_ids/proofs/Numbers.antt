@@ -24,7 +24,7 @@ lacks : (b : Bool) (d : NumberFault) (m n : ℕ) → cond b (Err d) (Ok m) ≡ O
 lacks true d m n e = absurd cc
 lacks false d m n e = (refl, cc)
 
-pub number_found : (most : ℕ) (text : List ℕ) (n : ℕ) → most ≤ 999999999 → number_in most text ≡ Ok n → (n ≤ most) × (text ≡ decimal n)
+pub number_found : (most : ℕ) (text : List ℕ) (n : ℕ) → most ≤ 4294967295 → number_in most text ≡ Ok n → (n ≤ most) × (text ≡ decimal n)
 number_found most text n small e =
     let a = needs (is_numeral text) NotNumeral (cond (ltb most (digits_value 10 text)) (Err AboveLimit) (Ok (digits_value 10 text))) n e in
     let b = lacks (ltb most (digits_value 10 text)) AboveLimit (digits_value 10 text) n a.1 in
@@ -40,7 +40,7 @@ all_of [] h = refl
 all_of (d ∷ ds) h = rw (digit_of d h.0, all_of ds h.1) refl
 
 -- a number's text has digits alone
-pub decimal_digits : (n : ℕ) → n ≤ 999999999 → list_all is_ascii_digit (decimal n) ≡ true
+pub decimal_digits : (n : ℕ) → n ≤ 4294967295 → list_all is_ascii_digit (decimal n) ≡ true
 decimal_digits n small = all_of (decimal n) (digits_decimal own n (omega arith))
 
 zero_only : (n : ℕ) → n < 2 ^ 64 → get_or (decimal n) 0 0 ≡ 48 → length (decimal n) ≡ 1
@@ -50,12 +50,12 @@ zero_only (suc n) big h = absurd (omega (arith, first_decimal (suc n) (omega ari
 lead_is : (c n : ℕ) → (c ≡ 48 → n ≡ 1) → cond (eqb c 48) (eqb n 1) true ≡ true
 lead_is c n h = grind (arith, nat_tests)
 
-numeral_again : (n : ℕ) → n ≤ 999999999 → is_numeral (decimal n) ≡ true
+numeral_again : (n : ℕ) → n ≤ 4294967295 → is_numeral (decimal n) ≡ true
 numeral_again n small =
     let some : ltb 0 (length (decimal n)) ≡ true = grind (arith, nat_tests, decimal_nonempty n (omega arith)) in
     rw (some, decimal_digits n small, lead_is (get_or (decimal n) 0 0) (length (decimal n)) (zero_only n (omega arith))) refl
 
-pub number_again : (most n : ℕ) → most ≤ 999999999 → n ≤ most → number_in most (decimal n) ≡ Ok n
+pub number_again : (most n : ℕ) → most ≤ 4294967295 → n ≤ most → number_in most (decimal n) ≡ Ok n
 number_again most n small le =
     let v : digits_value 10 (decimal n) ≡ n = digits_value-decimal own n (omega arith) in
     let no : ltb most n ≡ false = grind (arith, nat_tests) in

@@ -1,7 +1,8 @@
 ghost use Rattle.std.specs.Prelude.{◌≡◌, ◌<◌};
 ghost use Rattle.std.specs.Option.{SomeIff, ok_or};
 ghost use Rattle.page_ids.specs.declared.fault.IdFault.TheVariants.{BadFrame};
-ghost use Rattle.page_ids.specs.Ids.{frame_text, first_frame, following};
+ghost use Rattle.page_ids.specs.Id.{Id};
+ghost use Rattle.page_ids.specs.Ids.{frame_text, first_frame, following, id_cmp};
 ghost use Rattle.page_ids.specs.Numbers.{id_in};
 ghost use Rattle.page_ids.specs.TextLaws.{IdsAreTexts};
 
@@ -88,4 +89,9 @@ impl FrameId {
 /// Of every id and text: an id is read from its own text, and from no other.
 pub fn ids_are_texts()
     ensures { IdsAreTexts }
+{}
+
+/// Of every two ids: they compare by page number, then by letter, in `<` and wherever ids are sorted or sought.
+pub fn ids_are_ordered()
+    ensures { (a b : Id) → ⟦<FrameId as Ord>⟧.cmp a b ≡ id_cmp a b }
 {}

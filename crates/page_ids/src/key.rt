@@ -1,5 +1,6 @@
 ghost use Rattle.std.specs.Prelude.{◌≡◌, ◌<◌};
 ghost use Rattle.std.specs.Option.{SomeIff};
+ghost use Rattle.page_ids.specs.Keys.{IsKey, AreKeys};
 
 use std::marker::Model;
 
@@ -66,10 +67,31 @@ pub struct KeyList {
 impl Model for KeyList {
     ghost use Rattle.std.specs.Prelude.{List};
     ghost use Rattle.page_ids.specs.declared.key.Key.{Key};
+    ghost use Rattle.page_ids.specs.Keys.{AreKeys};
 
     ghost Value = { List Key };
 
     ghost view = { λ l. l.keys.items };
+
+    ghost invariant = { λ l. AreKeys l.keys.items };
+}
+
+// What a key's type says of its digit.
+fn has_digit(key: &Key)
+    ensures { IsKey key.now }
+{
+    if let Key::Route(digit) = key {
+        digit.get();
+    }
+}
+
+// The same of each key: nothing is computed, so that the compiler leaves the loop out.
+fn have_digits(keys: &[Key])
+    ensures { AreKeys keys.now }
+{
+    for key in keys {
+        has_digit(key);
+    }
 }
 
 impl KeyList {
@@ -77,12 +99,14 @@ impl KeyList {
     pub fn of(keys: Vec<Key>) -> KeyList
         ensures { result ≡ keys.items }
     {
+        have_digits(keys.as_slice());
         KeyList { keys }
     }
 
-    /// The keys, in order.
+    /// The keys, in order. Each route's digit is 0 to 9.
     pub fn as_slice(&self) -> &[Key]
-        ensures { result.now ≡ self.now }
+        ensures value { result.now ≡ self.now }
+        ensures in_range { AreKeys self.now }
     {
         self.keys.as_slice()
     }

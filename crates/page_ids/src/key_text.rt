@@ -68,9 +68,10 @@ fn push_word(text: &mut Vec<u8>, key: Key) -> Result<(), AllocError>
     Ok(())
 }
 
-/// The words of the keys, one behind the other.
+/// The words of the keys, one behind the other. `keys_read` gives the keys back.
 pub fn keys_text(alloc: Global, keys: &KeyList) -> Result<Vec<u8>, AllocError>
-    ensures { IfOk result (λ text. text.items ≡ keys_text keys.now) }
+    ensures text { IfOk result (λ text. text.items ≡ keys_text keys.now) }
+    ensures read_again { IfOk result (λ text. IsRead text.items (Ok keys.now)) }
 {
     let mut text = Vec::new(alloc);
     for key in keys.as_slice() {

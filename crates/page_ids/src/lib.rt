@@ -17,7 +17,7 @@ mod number;
 mod page;
 
 pub use fault::IdFault;
-pub use id::{FrameId, ids_are_texts};
+pub use id::{FrameId, ids_are_ordered, ids_are_texts};
 pub use key::{Digit, Key, KeyList};
 pub use key_text::{keys_are_texts, keys_read, keys_text};
 pub use letter::Letter;

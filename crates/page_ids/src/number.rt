@@ -32,9 +32,9 @@ fn is_numeral(bytes: &[u8]) -> bool
     !bytes.is_empty() && are_digits(bytes) && (bytes[0] != b'0' || bytes.len() == 1)
 }
 
-// The value of the digits, up to the greatest page number.
+// The value of the digits, as far as it fits 32 bits.
 fn value_of(digits: &[u8]) -> Option<u32>
-    ensures { SomeIff result (AllDigits 10 digits.now × (digits_value 10 digits.now ≤ 999999999)) (digits_value 10 digits.now) }
+    ensures { SomeIff result (AllDigits 10 digits.now × (digits_value 10 digits.now ≤ 4294967295)) (digits_value 10 digits.now) }
 {
     let mut number: u32 = 0;
     for digit in digits {
@@ -42,7 +42,7 @@ fn value_of(digits: &[u8]) -> Option<u32>
             return None;
         }
         let next = u64::from(number) * 10 + u64::from(*digit - b'0');
-        if next > 999_999_999 {
+        if next > 4_294_967_295 {
             return None;
         }
         number = next as u32;
@@ -50,12 +50,11 @@ fn value_of(digits: &[u8]) -> Option<u32>
     Some(number)
 }
 
-/// The number that the bytes spell in decimal, without leading zeros, up to a limit of at most 999,999,999.
+/// The number that the bytes spell in decimal, without leading zeros, up to a limit.
 ///
 /// `NotNumeral` is answered before `AboveLimit`: digits of any length are a number.
 #[tactic(auto, using(crate::proofs::Numerals::digits_of))]
 pub fn number_read(bytes: &[u8], most: u32) -> Result<u32, NumberFault>
-    requires { most ≤ 999999999 }
     ensures value { result ≡ number_in most bytes.now }
     ensures within { IfOk result (λ n. n ≤ most) }
 {

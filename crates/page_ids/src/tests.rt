@@ -103,6 +103,11 @@ fn digits_of_any_length_are_a_number(rt: HostRuntime) {
         Err(NumberFault::AboveLimit)
     );
     assert_eq!(rt; number_read(b"0", 0), Ok(0));
+    assert_eq!(rt; number_read(b"4294967295", u32::MAX), Ok(u32::MAX));
+    assert_eq!(rt;
+        number_read(b"4294967296", u32::MAX),
+        Err(NumberFault::AboveLimit)
+    );
     assert_eq!(rt; number_read(b"00", 9), Err(NumberFault::NotNumeral));
     assert_eq!(rt; number_read(b"", 9), Err(NumberFault::NotNumeral));
     assert_eq!(rt; number_read(b"1x", 9), Err(NumberFault::NotNumeral));
@@ -185,6 +190,25 @@ fn the_first_word_that_cannot_be_read_is_named(rt: HostRuntime) {
     ] {
         expect_fault(&rt, keys_read(rt.alloc(), text), IdFault::BadKey(at), text);
     }
+}
+
+// Five keys in ten bytes.
+const FIVE_KEYS: &str = "7#*#*00*09";
+
+#[test]
+fn a_hundred_thousand_keys_are_read_and_written_back(rt: HostRuntime) -> Result<(), Fail> {
+    let mut text = String::new(rt.alloc());
+    for _ in 0..20_000u32 {
+        text.push_str(FIVE_KEYS)?;
+    }
+    let keys = keys_read(rt.alloc(), text.as_str())?;
+    assert_eq!(rt; keys.as_slice().len(), 100_000);
+    let written = keys_text(rt.alloc(), &keys)?;
+    assert!(rt; written.as_slice() == text.as_str().as_bytes());
+    text.push_str("*5")?;
+    let read = keys_read(rt.alloc(), text.as_str());
+    expect_fault(&rt, read, IdFault::BadKey(200_000), "*5");
+    Ok(())
 }
 
 #[test]

@@ -1,2 +1,1 @@
-mod WholeTexts
-mod AuditRuns
+mod Runs

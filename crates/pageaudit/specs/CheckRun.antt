@@ -1,65 +1,57 @@
 -- What a run of the check does.
-use Rattle.std.specs.Prelude.{◌≡◌, ℕ, Bool, List, [], Option, Result, Ok, Err}
-use Rattle.std.specs.Io.KnownBytes.{Keeps}
+use Rattle.std.specs.Prelude.{◌≡◌, ℕ, true, false, List, [], Result, Ok, Err}
 use Rattle.frame_records.specs.BaseView.{BaseView}
 use Rattle.cert_table.specs.CertView.{CertView}
 use Rattle.checker.specs.declared.policy.Policy.{Policy}
 use Rattle.checker.specs.declared.verdict.Verdict.{Verdict}
+use Rattle.checker.specs.declared.verdict.Verdict.TheVariants.{Cleared, Refused}
 use Rattle.checker.specs.Verdict.{verdict}
+use Rattle.checker.specs.Headline.{Headline}
 use Rattle.audit_report.specs.declared.run_fault.RunFault.{RunFault}
 use Rattle.audit_report.specs.declared.run_fault.RunFault.TheVariants as run
 use Rattle.audit_report.specs.Lines.{verdict_text}
+use Rattle.pageaudit.specs.declared.file_fault.FileFault.TheVariants as file
 use Rattle.pageaudit.specs.declared.status.Status.{Status}
-use Rattle.pageaudit.specs.Runs.{IsBaseOfSource, IsBaseFault, IsCertOfSource, IsCertFault, IsWritten, status_of_verdict}
+use Rattle.pageaudit.specs.declared.status.Status.TheVariants.{Clear, Faulty}
+use Rattle.pageaudit.specs.Device.{Device, IsUntouched, IsTextWritten}
+use Rattle.pageaudit.specs.Files.{base_limit, cert_limit, WasRead, IsBaseOfFile, IsCertOfFile, IsBaseTextFault, IsCertTextFault}
 
--- what the devices gave and took over a run: the bytes that they have left or hold, before and after, and their flags
-pub record Devices : Type 0 where
-  pub base_before : Option (List ℕ)
-  pub base_after : Option (List ℕ)
-  pub base_failed : Bool
-  pub cert_before : Option (List ℕ)
-  pub cert_after : Option (List ℕ)
-  pub cert_failed : Bool
-  pub out_before : Option (List ℕ)
-  pub out_after : Option (List ℕ)
-  pub out_failed : Bool
+-- the status of a verdict: clear exactly for Cleared
+abbrev pub status_of_verdict : Verdict → Status
+status_of_verdict Cleared = Clear
+status_of_verdict (Refused cause) = Faulty
 
--- both files were read and are right, and the line of their verdict went to the sink, or as much of it as the answer says
-pub record IsVerdictRun (d : Devices) (policy : Policy) (answer : Result Status RunFault) : Type 0 where
+-- both files were read to their ends and are right; the line of their verdict was written, with its status, or as much of
+-- it as the answer says
+pub record IsVerdictRun (base_file cert_file out : Device) (policy : Policy) (answer : Result Status RunFault) : Type 0 where
   pub base : BaseView
   pub cert : CertView
-  pub base_read : IsBaseOfSource d.base_before d.base_after base
-  pub cert_read : IsCertOfSource d.cert_before d.cert_after cert
-  pub written : IsWritten d.out_before d.out_after d.out_failed (verdict_text (verdict [] base policy cert)) answer
-  pub status : (s : Status) → answer ≡ Ok s → s ≡ status_of_verdict (verdict [] base policy cert)
+  pub base_read : IsBaseOfFile base_file base
+  pub cert_read : IsCertOfFile cert_file cert
+  pub written : IsTextWritten out (verdict_text (verdict [] base policy cert)) (status_of_verdict (verdict [] base policy cert)) answer
 
--- a certificate's fault comes only behind a whole base, and nothing was written
-pub record IsCertFaultRun (d : Devices) (fault : RunFault) : Type 0 where
+-- the headline holds of the bytes that were read, which are all that both files had
+pub record HoldsOfFiles (base_file cert_file : Device) (policy : Policy) : Type 0 where
+  pub base_text : List ℕ
+  pub cert_text : List ℕ
+  pub base_read : WasRead base_limit base_file base_text
+  pub cert_read : WasRead cert_limit cert_file cert_text
+  pub holds : Headline base_text cert_text policy
+
+-- a fault of the certificate's file comes only behind a whole base, and nothing was written
+pub record IsBehindBase (base_file out : Device) (Why : Type 0) : Type 0 where
   pub base : BaseView
-  pub base_read : IsBaseOfSource d.base_before d.base_after base
-  pub why : IsCertFault d.cert_before d.cert_after d.cert_failed fault
-  pub nothing : Keeps d.out_before d.out_after
+  pub base_read : IsBaseOfFile base_file base
+  pub why : Why
+  pub nothing : IsUntouched out
 
--- a base's fault comes first, and nothing was written
-abbrev pub IsBaseFaultRun : Devices → RunFault → Type 0
-IsBaseFaultRun d fault = IsBaseFault d.base_before d.base_after d.base_failed fault × Keeps d.out_before d.out_after
-
--- the run by what it answers
-abbrev pub IsCheckFault : Devices → Policy → RunFault → Type 0
-IsCheckFault d policy (run.Base fault) = IsBaseFaultRun d (run.Base fault)
-IsCheckFault d policy run.ReadBase = IsBaseFaultRun d run.ReadBase
-IsCheckFault d policy (run.Cert fault) = IsCertFaultRun d (run.Cert fault)
-IsCheckFault d policy run.ReadCert = IsCertFaultRun d run.ReadCert
-IsCheckFault d policy (run.Keys offset) = ⊥
-IsCheckFault d policy (run.Write wrote) = IsVerdictRun d policy (Err (run.Write wrote))
-IsCheckFault d policy run.Memory = Keeps d.out_before d.out_after
-
-abbrev pub IsCheckRun : Devices → Policy → Result Status RunFault → Type 0
-IsCheckRun d policy (Ok status) = IsVerdictRun d policy (Ok status)
-IsCheckRun d policy (Err fault) = IsCheckFault d policy fault
-
--- the line of a verdict went to the sink, or as much of it as the answer says; memory may be refused before
-abbrev pub IsVerdictWritten : Option (List ℕ) → Option (List ℕ) → Bool → Verdict → Result Status RunFault → Type 0
-IsVerdictWritten old new failed v (Ok status) = IsWritten old new failed (verdict_text v) (Ok status) × (status ≡ status_of_verdict v)
-IsVerdictWritten old new failed v (Err run.Memory) = Keeps old new
-IsVerdictWritten old new failed v (Err fault) = IsWritten old new failed (verdict_text v) (Err fault)
+-- why there is no status. A base's fault comes first: nothing was read of the certificate. Nothing was written but where
+-- the output failed
+abbrev pub IsCheckFault : Device → Device → Device → Policy → RunFault → Type 0
+IsCheckFault base_file cert_file out policy (run.Base fault) = IsBaseTextFault base_file fault × IsUntouched cert_file × IsUntouched out
+IsCheckFault base_file cert_file out policy run.ReadBase = (base_file.failed ≡ true) × IsUntouched cert_file × IsUntouched out
+IsCheckFault base_file cert_file out policy (run.Cert fault) = IsBehindBase base_file out (IsCertTextFault cert_file fault)
+IsCheckFault base_file cert_file out policy run.ReadCert = IsBehindBase base_file out (cert_file.failed ≡ true)
+IsCheckFault base_file cert_file out policy (run.Write wrote) = IsVerdictRun base_file cert_file out policy (Err (run.Write wrote))
+IsCheckFault base_file cert_file out policy run.Memory = (base_file.failed ≡ false) × (cert_file.failed ≡ false) × IsUntouched out
+IsCheckFault base_file cert_file out policy _ = ⊥

@@ -1,5 +1,7 @@
 pub mod Status
-pub mod Runs
+pub mod Device
+pub mod Files
+pub mod FileFaults
 pub mod CheckRun
 pub mod WalkRun
 pub mod AuditRun

@@ -1,6 +1,9 @@
-ghost use Rattle.std.specs.Prelude.{◌≡◌, false};
-ghost use Rattle.pageaudit.specs.AuditRun.{IsAuditRun, IsReportWritten, status_of_outcome};
+ghost use Rattle.std.specs.Prelude.{◌≡◌, Ok, IfOk, IfErr, false};
+ghost use Rattle.audit_report.specs.ReportLines.{report_text};
+ghost use Rattle.pageaudit.specs.Device.{device, IsTextWritten};
+ghost use Rattle.pageaudit.specs.AuditRun.{IsReportRun, IsAuditFault, status_of_outcome};
 
+use crate::file_fault::base_fault;
 use crate::input::read_base;
 use crate::output::write_text;
 use crate::status::Status;
@@ -22,7 +25,7 @@ fn status_of_outcome(outcome: &Outcome) -> Status
 // The report of an outcome, written.
 fn write_report<O: Sink>(alloc: Global, out: &mut O, outcome: &Outcome) -> Result<Status, RunFault>
     requires { O.has_failed out.old ≡ false }
-    ensures { IsReportWritten (O.written out.old) (O.written out.new) (O.has_failed out.new) outcome.now result }
+    ensures { IsTextWritten (device (O.written out.old) (O.written out.new) (O.has_failed out.new)) (report_text outcome.now) (status_of_outcome outcome.now) result }
 {
     match report(alloc, outcome) {
         Ok(text) => write_text(out, text.as_slice(), status_of_outcome(outcome)),
@@ -32,7 +35,8 @@ fn write_report<O: Sink>(alloc: Global, out: &mut O, outcome: &Outcome) -> Resul
 
 /// Audits a base and writes the certificate, or every fault with the keys that show it.
 ///
-/// The base is read whole and judged first. On every fault but `Write` nothing was written.
+/// The base is read whole and judged first. On every fault but `Write` nothing was written. A device that answered an error
+/// isn't asked again.
 pub fn run_audit<B: Source, O: Sink>(
     alloc: Global,
     base: &mut B,
@@ -41,11 +45,16 @@ pub fn run_audit<B: Source, O: Sink>(
 ) -> Result<Status, RunFault>
     requires base_open { B.has_failed base.old ≡ false }
     requires out_open { O.has_failed out.old ≡ false }
-    ensures { IsAuditRun (record { base_before = B.left base.old; base_after = B.left base.new; base_failed = B.has_failed base.new; out_before = O.written out.old; out_after = O.written out.new; out_failed = O.has_failed out.new }) policy.now result }
+
+    // The base's file was read to its end, no device failed, and the report and status are those of what was read.
+    ensures report { IfOk result (λ status. IsReportRun (device (B.left base.old) (B.left base.new) (B.has_failed base.new)) (device (O.written out.old) (O.written out.new) (O.has_failed out.new)) policy.now (Ok status)) }
+
+    // Each fault at its place in the order: the base's file, the output.
+    ensures faults { IfErr result (IsAuditFault (device (B.left base.old) (B.left base.new) (B.has_failed base.new)) (device (O.written out.old) (O.written out.new) (O.has_failed out.new)) policy.now) }
 {
     let base = match read_base(alloc, base) {
         Ok(base) => base,
-        Err(fault) => return Err(fault),
+        Err(fault) => return Err(base_fault(fault)),
     };
     match audit(alloc, &base, policy) {
         Ok(outcome) => write_report(alloc, out, &outcome),

@@ -1,7 +1,9 @@
 //! The program's words, read by clap: one level of subcommands, required options.
 
+use checker::Policy;
 use clap::error::ErrorKind;
 use clap::{Arg, ArgAction, ArgMatches, Command, Error, value_parser};
+use frame_records::Pence;
 use std::alloc::{AllocError, Global};
 use std::rt::Env;
 use std::{env, io};
@@ -83,6 +85,53 @@ pub fn words(rt: &(impl Env + AllocGlobal), alloc: Global) -> Result<Vec<String>
 
 fn collected(rt: &(impl Env + AllocGlobal), alloc: Global) -> io::Result<Vec<String>> {
     Ok(env::args(rt)?.collect(alloc)?)
+}
+
+/// What the words ask for. Files are named by their paths.
+pub enum Request<'a> {
+    /// The certificate of a base, or its faults.
+    Audit {
+        base: &'a str,
+        policy: Policy,
+    },
+    /// The verdict on a certificate.
+    Check {
+        base: &'a str,
+        cert: &'a str,
+        policy: Policy,
+    },
+    /// What a caller sees who presses these keys.
+    Walk {
+        base: &'a str,
+        keys: &'a str,
+    },
+}
+
+// What the options ask of bases.
+fn policy_of(words: &ArgMatches) -> Option<Policy> {
+    let ceiling = Pence::new(words.get_one::<u16>("ceiling")?)?;
+    let keyings = words.get_one::<u16>("keyings")?;
+    Some(Policy { ceiling, keyings })
+}
+
+/// What words ask for that clap has taken: each word that a command requires is there, so that there always is a request.
+pub fn asked_for<'a>(matches: &'a ArgMatches) -> Option<Request<'a>> {
+    match matches.subcommand()? {
+        ("audit", words) => Some(Request::Audit {
+            base: words.get_str("BASE")?,
+            policy: policy_of(words)?,
+        }),
+        ("check", words) => Some(Request::Check {
+            base: words.get_str("BASE")?,
+            cert: words.get_str("CERT")?,
+            policy: policy_of(words)?,
+        }),
+        ("walk", words) => Some(Request::Walk {
+            base: words.get_str("BASE")?,
+            keys: words.get_str("KEYS")?,
+        }),
+        _ => None,
+    }
 }
 
 /// What the words say.

@@ -1,16 +1,23 @@
-ghost use Rattle.std.specs.Prelude.{◌≡◌, false};
-ghost use Rattle.base_text.specs.Whole.{IsTextBase};
-ghost use Rattle.pageaudit.specs.Runs.{IsBaseRead, IsCertRead, IsBaseAnswer, IsCertAnswer};
+//! Files read to a base or a certificate.
 
-use audit_report::{RunFault, Source, SourceFault, read_whole};
+ghost use Rattle.std.specs.Prelude.{◌≡◌, ◌<◌, false, Ok, Err, List, [], ℕ};
+ghost use Rattle.cert_text.specs.Outcome.{HasRead};
+ghost use Rattle.pageaudit.specs.Device.{device};
+ghost use Rattle.pageaudit.specs.Files.{IsBaseRead, IsCertRead, IsBaseAnswer, IsPieceTaken, IsFed};
+
+use crate::file_fault::FileFault;
+use audit_report::{Source, SourceFault, read_whole};
 use base_text::{BaseFault, Cause, base_read};
 use cert_table::Certificate;
-use cert_text::{ReadFault, cert_read};
+use cert_text::{CertReader, ReadFault};
 use frame_records::Base;
 use std::alloc::Global;
 
+// How many bytes of a certificate are asked for at once.
+const PIECE: usize = 4_096;
+
 // The base of a text.
-fn base_of(alloc: Global, text: &[u8]) -> Result<Base, RunFault>
+fn base_of(alloc: Global, text: &[u8]) -> Result<Base, FileFault<BaseFault>>
     ensures { IsBaseAnswer text.now result }
 {
     match base_read(alloc, text) {
@@ -20,42 +27,79 @@ fn base_of(alloc: Global, text: &[u8]) -> Result<Base, RunFault>
                 cause: Cause::Memory,
                 ..
             },
-        ) => Err(RunFault::Memory),
-        Err(fault) => Err(RunFault::Base(fault)),
-    }
-}
-
-// The certificate of a text.
-fn cert_of(alloc: Global, text: &[u8]) -> Result<Certificate, RunFault>
-    ensures { IsCertAnswer text.now result }
-{
-    match cert_read(alloc, text) {
-        Ok(cert) => Ok(cert),
-        Err(ReadFault::Memory) => Err(RunFault::Memory),
-        Err(fault) => Err(RunFault::Cert(fault)),
+        ) => Err(FileFault::Memory),
+        Err(fault) => Err(FileFault::Text(fault)),
     }
 }
 
 // Reads a base whole: one byte more than a base may have is enough to refuse it.
-pub fn read_base<S: Source>(alloc: Global, source: &mut S) -> Result<Base, RunFault>
+pub fn read_base<S: Source>(alloc: Global, source: &mut S) -> Result<Base, FileFault<BaseFault>>
     requires { S.has_failed source.old ≡ false }
-    ensures { IsBaseRead (S.left source.old) (S.left source.new) (S.has_failed source.new) result }
+    ensures { IsBaseRead (device (S.left source.old) (S.left source.new) (S.has_failed source.new)) result }
 {
     match read_whole(alloc, source, 16_777_217) {
         Ok(text) => base_of(alloc, text.as_slice()),
-        Err(SourceFault::Broken) => Err(RunFault::ReadBase),
-        Err(SourceFault::Memory) => Err(RunFault::Memory),
+        Err(SourceFault::Broken) => Err(FileFault::Broken),
+        Err(SourceFault::Memory) => Err(FileFault::Memory),
     }
 }
 
-// Reads a certificate, as far as settles it.
-pub fn read_cert<S: Source>(alloc: Global, source: &mut S) -> Result<Certificate, RunFault>
-    requires { S.has_failed source.old ≡ false }
-    ensures { IsCertRead (S.left source.old) (S.left source.new) (S.has_failed source.new) result }
+// Reads once, at most `most` bytes, and hands them to the certificate's reader as one piece; their number, 0 at the end.
+fn take_piece<S: Source>(
+    source: &mut S,
+    reader: &mut CertReader,
+    most: usize,
+) -> Result<usize, FileFault<ReadFault>>
+    requires open { S.has_failed source.old ≡ false }
+    requires some { 0 < most }
+    ensures { (stream : List ℕ) → HasRead reader.old stream → IsPieceTaken most (device (S.left source.old) (S.left source.new) (S.has_failed source.new)) stream reader.new result }
 {
-    match read_whole(alloc, source, 16_777_216) {
-        Ok(text) => cert_of(alloc, text.as_slice()),
-        Err(SourceFault::Broken) => Err(RunFault::ReadCert),
-        Err(SourceFault::Memory) => Err(RunFault::Memory),
+    let mut piece = [0; PIECE];
+    let room = most.min(PIECE);
+    match source.read(&mut piece[..room]) {
+        Ok(count) => match reader.feed(&piece[..count]) {
+            Ok(()) => Ok(count),
+            Err(ReadFault::Memory) => Err(FileFault::Memory),
+            Err(fault) => Err(FileFault::Text(fault)),
+        },
+        Err(_) => Err(FileFault::Broken),
+    }
+}
+
+// Hands all of a certificate's file to its reader, piece by piece, up to the first line at fault.
+fn feed_whole<S: Source>(
+    source: &mut S,
+    reader: &mut CertReader,
+) -> Result<(), FileFault<ReadFault>>
+    requires open { S.has_failed source.old ≡ false }
+    requires fresh { HasRead reader.old [] }
+    ensures { IsFed (device (S.left source.old) (S.left source.new) (S.has_failed source.new)) reader.new result }
+{
+    let mut room: usize = 16_777_216;
+    while room > 0 {
+        match take_piece(source, reader, room) {
+            Ok(0) => return Ok(()),
+            Ok(count) => room -= count,
+            Err(fault) => return Err(fault),
+        }
+    }
+    Ok(())
+}
+
+// Reads a certificate as far as settles it: nothing is asked for behind a line at fault.
+pub fn read_cert<S: Source>(
+    alloc: Global,
+    source: &mut S,
+) -> Result<Certificate, FileFault<ReadFault>>
+    requires { S.has_failed source.old ≡ false }
+    ensures { IsCertRead (device (S.left source.old) (S.left source.new) (S.has_failed source.new)) result }
+{
+    let mut reader = CertReader::new(alloc);
+    match feed_whole(source, &mut reader) {
+        Ok(()) => match reader.finish() {
+            Ok(cert) => Ok(cert),
+            Err(fault) => Err(FileFault::Text(fault)),
+        },
+        Err(fault) => Err(fault),
     }
 }

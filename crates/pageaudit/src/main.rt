@@ -7,6 +7,7 @@
 mod audit_run;
 mod check_run;
 mod command;
+mod file_fault;
 mod input;
 mod output;
 mod status;
@@ -19,8 +20,7 @@ use audit_run::run_audit;
 use check_run::run_check;
 use checker::Policy;
 use clap::ArgMatches;
-use command::{matches, refused_status, words};
-use frame_records::Pence;
+use command::{Request, asked_for, matches, refused_status, words};
 use status::{Status, status_of};
 use std::process::ExitCode;
 use std::rt::{Env, Files};
@@ -57,12 +57,13 @@ fn told<R: Eprint + AllocGlobal>(rt: &R, status: u8) -> u8 {
     status
 }
 
+// Does what was asked for. Files are opened in the order of the words.
 fn dispatch<R: Files + Print + Eprint + AllocGlobal>(rt: &R, matches: &ArgMatches) -> u8 {
-    let run = match matches.subcommand() {
-        Some(("audit", words)) => audit_file(rt, words),
-        Some(("check", words)) => check_files(rt, words),
-        Some(("walk", words)) => walk_file(rt, words),
-        _ => return 2,
+    let run = match asked_for(matches) {
+        Some(Request::Audit { base, policy }) => audit_file(rt, base, &policy),
+        Some(Request::Check { base, cert, policy }) => check_files(rt, base, cert, &policy),
+        Some(Request::Walk { base, keys }) => walk_file(rt, base, keys),
+        None => return 2,
     };
     match &run {
         Err(fault) if !tell(rt, fault) => 4,
@@ -81,52 +82,36 @@ fn tell<R: Eprint + AllocGlobal>(rt: &R, fault: &RunFault) -> bool {
     true
 }
 
-// What the options ask of bases.
-fn policy_of(words: &ArgMatches) -> Option<Policy> {
-    let ceiling = Pence::new(words.get_one::<u16>("ceiling")?)?;
-    let keyings = words.get_one::<u16>("keyings")?;
-    Some(Policy { ceiling, keyings })
-}
-
 fn audit_file<R: Files + Print + AllocGlobal>(
     rt: &R,
-    words: &ArgMatches,
+    base: &str,
+    policy: &Policy,
 ) -> Result<Status, RunFault> {
-    let (Some(base), Some(policy)) = (words.get_str("BASE"), policy_of(words)) else {
-        return Err(RunFault::ReadBase);
-    };
     let base = fs::open(rt, base).map_err(|_| RunFault::ReadBase)?;
     let mut base = FromRead::new(base);
     let mut out = IntoWrite::new(io::writer(rt));
-    run_audit(rt.alloc(), &mut base, &mut out, &policy)
+    run_audit(rt.alloc(), &mut base, &mut out, policy)
 }
 
 fn check_files<R: Files + Print + AllocGlobal>(
     rt: &R,
-    words: &ArgMatches,
+    base: &str,
+    cert: &str,
+    policy: &Policy,
 ) -> Result<Status, RunFault> {
-    let (Some(base), Some(cert), Some(policy)) = (
-        words.get_str("BASE"),
-        words.get_str("CERT"),
-        policy_of(words),
-    ) else {
-        return Err(RunFault::ReadBase);
-    };
     let base = fs::open(rt, base).map_err(|_| RunFault::ReadBase)?;
     let cert = fs::open(rt, cert).map_err(|_| RunFault::ReadCert)?;
     let mut base = FromRead::new(base);
     let mut cert = FromRead::new(cert);
     let mut out = IntoWrite::new(io::writer(rt));
-    run_check(rt.alloc(), &mut base, &mut cert, &mut out, &policy)
+    run_check(rt.alloc(), &mut base, &mut cert, &mut out, policy)
 }
 
 fn walk_file<R: Files + Print + AllocGlobal>(
     rt: &R,
-    words: &ArgMatches,
+    base: &str,
+    keys: &str,
 ) -> Result<Status, RunFault> {
-    let (Some(base), Some(keys)) = (words.get_str("BASE"), words.get_str("KEYS")) else {
-        return Err(RunFault::ReadBase);
-    };
     let base = fs::open(rt, base).map_err(|_| RunFault::ReadBase)?;
     let mut base = FromRead::new(base);
     let mut out = IntoWrite::new(io::writer(rt));

@@ -1,7 +1,7 @@
 ghost use Rattle.std.specs.Prelude.{◌≡◌};
 ghost use Rattle.checker.specs.declared.verdict.Verdict.{Verdict};
 ghost use Rattle.pageaudit.specs.Status.{status_number};
-ghost use Rattle.pageaudit.specs.Runs.{status_of_verdict};
+ghost use Rattle.pageaudit.specs.CheckRun.{status_of_verdict};
 
 use audit_report::RunFault;
 use checker::Verdict;

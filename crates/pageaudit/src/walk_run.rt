@@ -1,8 +1,10 @@
-ghost use Rattle.std.specs.Prelude.{◌≡◌, ◌∷◌, ◌++◌, [], Ok, Err, IfOk, List, false, MatchResult};
+ghost use Rattle.std.specs.Prelude.{◌≡◌, ◌∷◌, ◌++◌, [], Ok, Err, IfOk, IfErr, List, false, MatchResult};
 ghost use Rattle.frame_records.specs.BaseView.{BaseView};
 ghost use Rattle.session_machine.specs.Runs.{replies_to, session_of};
-ghost use Rattle.pageaudit.specs.WalkRun.{IsWalkRun, IsKeysAnswer, IsSessionAnswer, IsWalkWritten};
+ghost use Rattle.pageaudit.specs.Device.{device, IsTextWritten};
+ghost use Rattle.pageaudit.specs.WalkRun.{IsSessionRun, IsWalkFault, IsKeysAnswer, IsSessionAnswer, session_text, session_status};
 
+use crate::file_fault::base_fault;
 use crate::input::read_base;
 use crate::output::write_text;
 use crate::status::Status;
@@ -70,7 +72,7 @@ fn write_session<O: Sink>(
     keys: &KeyList,
 ) -> Result<Status, RunFault>
     requires { O.has_failed out.old ≡ false }
-    ensures { IsWalkWritten (O.written out.old) (O.written out.new) (O.has_failed out.new) base.now keys.now result }
+    ensures { IsTextWritten (device (O.written out.old) (O.written out.new) (O.has_failed out.new)) (session_text base.now (session_of [] base.now keys.now)) (session_status (session_of [] base.now keys.now)) result }
 {
     match session_text(alloc, base, keys) {
         Ok((text, status)) => write_text(out, text.as_slice(), status),
@@ -80,7 +82,8 @@ fn write_session<O: Sink>(
 
 /// Runs keys from the entry page and writes a line for each reply, the opening one first.
 ///
-/// The keys are read before the base. On every fault but `Write` nothing was written.
+/// The keys are read before anything is asked of the base's reader. On every fault but `Write` nothing was written. A device
+/// that answered an error isn't asked again.
 pub fn run_walk<B: Source, O: Sink>(
     alloc: Global,
     base: &mut B,
@@ -89,7 +92,12 @@ pub fn run_walk<B: Source, O: Sink>(
 ) -> Result<Status, RunFault>
     requires base_open { B.has_failed base.old ≡ false }
     requires out_open { O.has_failed out.old ≡ false }
-    ensures { IsWalkRun (record { base_before = B.left base.old; base_after = B.left base.new; base_failed = B.has_failed base.new; out_before = O.written out.old; out_after = O.written out.new; out_failed = O.has_failed out.new }) keys.now result }
+
+    // The base's file was read to its end, no device failed, and the session's text and status are those of what was read.
+    ensures session { IfOk result (λ status. IsSessionRun (device (B.left base.old) (B.left base.new) (B.has_failed base.new)) (device (O.written out.old) (O.written out.new) (O.has_failed out.new)) keys.now (Ok status)) }
+
+    // Each fault at its place in the order: the keys, the base's file, the output.
+    ensures faults { IfErr result (IsWalkFault (device (B.left base.old) (B.left base.new) (B.has_failed base.new)) (device (O.written out.old) (O.written out.new) (O.has_failed out.new)) keys.now) }
 {
     let keys = match read_keys(alloc, keys) {
         Ok(keys) => keys,
@@ -97,6 +105,6 @@ pub fn run_walk<B: Source, O: Sink>(
     };
     match read_base(alloc, base) {
         Ok(base) => write_session(alloc, out, &base, &keys),
-        Err(fault) => Err(fault),
+        Err(fault) => Err(base_fault(fault)),
     }
 }

@@ -1,61 +1,17 @@
-ghost use Rattle.std.specs.Prelude.{◌≡◌, false, None};
-
-use crate::{Broken, Source, SourceFault, read_whole};
+use crate::tests::fakes::FakeSource;
+use crate::{Source, SourceFault, read_whole};
 use std::test::Fail;
-
-// Gives its bytes, so many a call; then it is at its end, or fails. It counts its calls.
-#[derive(Drop)]
-struct Fake<'a> {
-    bytes: &'a [u8],
-    step: usize,
-    breaks: bool,
-    calls: u32,
-    failed: bool,
-}
-
-fn source_of(bytes: &[u8], step: usize, breaks: bool) -> Fake<'_>
-    ensures { result.failed ≡ false }
-{
-    Fake {
-        bytes,
-        step,
-        breaks,
-        calls: 0,
-        failed: false,
-    }
-}
-
-impl Source for Fake<'_> {
-    ghost left = { λ _. None };
-
-    ghost has_failed = { λ s. s.failed };
-
-    fn read(&mut self, into: &mut [u8]) -> Result<usize, Broken> {
-        self.calls = self.calls.wrapping_add(1);
-        if self.bytes.is_empty() && self.breaks {
-            self.failed = true;
-            return Err(Broken);
-        }
-        let count = into.len().min(self.step).min(self.bytes.len());
-        into[..count].copy_from_slice(&self.bytes[..count]);
-        self.bytes = &self.bytes[count..];
-        Ok(count)
-    }
-
-    fn failed(&self) -> bool {
-        self.failed
-    }
-}
 
 const TEXT: &[u8] = b"entry = 123\n";
 
 #[test]
 fn all_is_read_however_little_a_call_gives(rt: HostRuntime) -> Result<(), Fail> {
-    for step in [1usize, 3, 12, 5_000] {
-        let mut source = source_of(TEXT, step, false);
+    for (step, calls) in [(1usize, 13), (3, 5), (12, 2), (5_000, 2)] {
+        let mut source = FakeSource::of(TEXT, step);
         let bytes = read_whole(rt.alloc(), &mut source, 100)?;
         assert!(rt; bytes.as_slice() == TEXT, "step {step}");
         assert!(rt; !source.failed(), "step {step}");
+        assert_eq!(rt; source.calls, calls, "step {step}");
     }
     Ok(())
 }
@@ -64,31 +20,35 @@ fn all_is_read_however_little_a_call_gives(rt: HostRuntime) -> Result<(), Fail> 
 fn reading_stops_at_the_limit(rt: HostRuntime) -> Result<(), Fail> {
     for limit in 0..13usize {
         for step in [1usize, 5, 100] {
-            let mut source = source_of(TEXT, step, false);
+            let mut source = FakeSource::of(TEXT, step);
             let bytes = read_whole(rt.alloc(), &mut source, limit)?;
             assert!(rt; bytes.as_slice() == &TEXT[..limit], "{limit}, {step}");
             assert_eq!(rt; source.bytes.len(), 12 - limit, "{limit}, {step}");
         }
     }
-    let mut untouched = source_of(TEXT, 1, false);
+    let mut untouched = FakeSource::of(TEXT, 1);
     read_whole(rt.alloc(), &mut untouched, 0)?;
     assert_eq!(rt; untouched.calls, 0);
     Ok(())
 }
 
+// The source would go on behind the call that fails. The 13th would tell the end.
 #[test]
 fn a_source_that_fails_is_broken_wherever_it_fails(rt: HostRuntime) {
-    for length in 0..13usize {
-        let mut source = source_of(&TEXT[..length], 5, true);
+    for call in 1..14u32 {
+        let mut source = FakeSource::of(TEXT, 1);
+        source.fails_at = call;
         let fault = read_whole(rt.alloc(), &mut source, 100).err();
-        assert!(rt; fault == Some(SourceFault::Broken), "length {length}");
-        assert!(rt; source.failed(), "length {length}");
+        assert!(rt; fault == Some(SourceFault::Broken), "call {call}");
+        assert!(rt; source.failed(), "call {call}");
+        assert_eq!(rt; source.calls, call, "asked once more");
     }
 }
 
 #[test]
 fn what_lies_behind_the_limit_is_not_asked_for(rt: HostRuntime) -> Result<(), Fail> {
-    let mut source = source_of(TEXT, 5, true);
+    let mut source = FakeSource::of(TEXT, 5);
+    source.fails_at = 4;
     let bytes = read_whole(rt.alloc(), &mut source, 12)?;
     assert!(rt; bytes.as_slice() == TEXT);
     assert!(rt; !source.failed());
@@ -96,11 +56,33 @@ fn what_lies_behind_the_limit_is_not_asked_for(rt: HostRuntime) -> Result<(), Fa
 }
 
 #[test]
+fn what_lies_behind_the_end_is_not_asked_for(rt: HostRuntime) -> Result<(), Fail> {
+    let mut source = FakeSource::of(TEXT, 5);
+    source.behind = b"more";
+    let bytes = read_whole(rt.alloc(), &mut source, 100)?;
+    assert!(rt; bytes.as_slice() == TEXT);
+    assert_eq!(rt; source.calls, 4);
+    Ok(())
+}
+
+#[test]
 fn long_sources_are_read_in_pieces(rt: HostRuntime) -> Result<(), Fail> {
     let text = "0123456789".repeat(rt.alloc(), 1_000)?;
-    let mut source = source_of(text.as_str().as_bytes(), 100_000, false);
+    let mut source = FakeSource::of(text.as_str().as_bytes(), 100_000);
     let bytes = read_whole(rt.alloc(), &mut source, 9_999)?;
     assert!(rt; bytes.as_slice() == &text.as_str().as_bytes()[..9_999]);
     assert_eq!(rt; source.calls, 3);
+    Ok(())
+}
+
+// As many bytes as a base's text may have, in pieces of 4,096, and then the end.
+#[test]
+fn sixteen_megabytes_are_read_whole(rt: HostRuntime) -> Result<(), Fail> {
+    let text = "0123456789abcdef".repeat(rt.alloc(), 1_048_576)?;
+    let mut source = FakeSource::of(text.as_str().as_bytes(), 100_000);
+    let bytes = read_whole(rt.alloc(), &mut source, 16_777_217)?;
+    assert_eq!(rt; bytes.len(), 16_777_216);
+    assert!(rt; bytes.as_slice() == text.as_str().as_bytes());
+    assert_eq!(rt; source.calls, 4_097);
     Ok(())
 }

@@ -3,9 +3,10 @@
 use super::{fault_list_text, report};
 use abstract_paint::Start;
 use cert_text::cert_read;
-use fault_scripts::{Fault, FaultKind, Outcome};
-use frame_records::Pence;
-use page_ids::{FrameId, keys_read};
+use checker::Policy;
+use fault_scripts::{Fault, FaultKind, Outcome, audit};
+use frame_records::{Base, Body, Frame, Lead, Pence};
+use page_ids::{FrameId, PageNo, keys_read};
 use std::alloc::Global;
 use std::test::Fail;
 
@@ -117,5 +118,73 @@ const CERT: &str =
 fn a_certificate_is_reported_as_its_text(rt: HostRuntime) -> Result<(), Fail> {
     let outcome = Outcome::Certified(cert_read(rt.alloc(), CERT.as_bytes())?);
     assert_eq!(rt; report(rt.alloc(), &outcome)?.as_slice(), CERT.as_bytes());
+    Ok(())
+}
+
+#[test]
+fn a_script_of_20_000_keys_is_printed(rt: HostRuntime) -> Result<(), Fail> {
+    let keys = "12".repeat(rt.alloc(), 10_000)?;
+    let fault = plain(rt.alloc(), FaultKind::NoReturn, "1a", keys.as_str())?;
+    let text = format!(in rt.alloc(); "FAULTS 1\nNORETURN 1a SCRIPT {}\n", keys.as_str())?;
+    let list = fault_list_text(rt.alloc(), &[fault])?;
+    assert!(rt; list.as_slice() == text.as_str().as_bytes());
+    Ok(())
+}
+
+// A certificate of the greatest number of rows, 17 bytes each.
+#[test]
+fn a_certificate_of_a_megabyte_is_reported(rt: HostRuntime) -> Result<(), Fail> {
+    let mut text = Vec::new(rt.alloc());
+    text.extend_from_slice(b"PBC1\nentry 0\nceiling 0\nkeyings 0\nrows 65535\n")?;
+    for number in 0..65_535u32 {
+        let row = format!(in rt.alloc(); "{}a 0 s80\n", 999_000_000 + number)?;
+        text.extend_from_slice(row.as_str().as_bytes())?;
+    }
+    text.extend_from_slice(b"end\n")?;
+    assert!(rt; text.len() > 1_000_000);
+    let outcome = Outcome::Certified(cert_read(rt.alloc(), text.as_slice())?);
+    assert!(rt; report(rt.alloc(), &outcome)?.as_slice() == text.as_slice());
+    Ok(())
+}
+
+// A frame `a` on each page from 0 on, of which each leads by route 1 to the following one alone.
+fn chain(alloc: Global, count: u32) -> Result<Base, Fail> {
+    let mut frames = Vec::new(alloc);
+    for number in 0..count {
+        let mut routes = [None; 10];
+        if number + 1 < count {
+            routes[1] = PageNo::new(number + 1);
+        }
+        frames.push(Frame {
+            id: FrameId::first(PageNo::new(number).ok_or("page")?),
+            price: Pence::new(0).ok_or("price")?,
+            group: None,
+            next: false,
+            routes,
+            lead: Lead::Clear,
+            body: Body::of(Vec::new(alloc)),
+        })?;
+    }
+    let entry = PageNo::new(0).ok_or("page")?;
+    Ok(Base::build(entry, Vec::new(alloc), frames)?)
+}
+
+// From no frame but the entry frame does a way lead back to it; the script of page n is n times `1`.
+#[test]
+fn faults_of_a_megabyte_are_reported(rt: HostRuntime) -> Result<(), Fail> {
+    let policy = Policy {
+        ceiling: Pence::new(0).ok_or("price")?,
+        keyings: 65_535,
+    };
+    let outcome = audit(rt.alloc(), &chain(rt.alloc(), 1_500)?, &policy)?;
+    let mut text = Vec::new(rt.alloc());
+    text.extend_from_slice(b"FAULTS 1499\n")?;
+    for number in 1..1_500usize {
+        let script = "1".repeat(rt.alloc(), number)?;
+        let line = format!(in rt.alloc(); "NORETURN {number}a SCRIPT {}\n", script.as_str())?;
+        text.extend_from_slice(line.as_str().as_bytes())?;
+    }
+    assert!(rt; text.len() > 1_000_000);
+    assert!(rt; report(rt.alloc(), &outcome)?.as_slice() == text.as_slice());
     Ok(())
 }

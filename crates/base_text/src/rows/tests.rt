@@ -47,3 +47,17 @@ fn a_full_row_has_no_end(rt: HostRuntime) -> Result<(), Fail> {
     assert!(rt; body.as_slice()[42..] == b"\x0D\x0AC\x0D\x0A"[..]);
     Ok(())
 }
+
+#[test]
+fn a_full_page_has_22_rows_without_an_end(rt: HostRuntime) -> Result<(), Fail> {
+    let mut rows = Vec::new(rt.alloc());
+    for _ in 0..22u8 {
+        rows.push(RowCells::new(&[0x42; 40]).ok_or("a row")?)?;
+    }
+    assert_eq!(rt; rows.len(), 22);
+    let body = body_of_rows(rt.alloc(), rows.as_slice())?;
+    assert_eq!(rt; body.as_slice().len(), 2 + 22 * 40);
+    assert!(rt; body.as_slice()[..2] == [0x1E, 0x0A]);
+    assert!(rt; body.as_slice()[2..].iter().all(|code| *code == 0x42));
+    Ok(())
+}

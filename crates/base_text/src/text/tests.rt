@@ -471,6 +471,18 @@ fn what_the_crate_of_toml_takes_is_read(rt: HostRuntime) -> Result<(), Fail> {
 }
 
 #[test]
+fn one_byte_order_mark_in_front_is_passed_over(rt: HostRuntime) -> Result<(), Fail> {
+    let base = base_of(rt.alloc(), &["\u{FEFF}", TOP, FIRST])?;
+    assert_eq!(rt; base.entry().get(), 123);
+    assert_eq!(rt; base.frames().len(), 1);
+    let twice = fault_of(rt.alloc(), &["\u{FEFF}\u{FEFF}", TOP, FIRST])?;
+    assert!(rt; twice == at(None, Cause::NotToml));
+    let behind = fault_of(rt.alloc(), &[TOP, "\u{FEFF}", FIRST])?;
+    assert!(rt; behind == at(None, Cause::NotToml));
+    Ok(())
+}
+
+#[test]
 fn what_is_no_utf8_or_too_deep_is_no_toml(rt: HostRuntime) -> Result<(), Fail> {
     let fault = base_read(rt.alloc(), b"entry = 1 # \xFF").err();
     assert!(rt; fault == at(None, Cause::NotToml));
@@ -501,6 +513,17 @@ fn at_most_65535_outside_pages_are_listed(rt: HostRuntime) -> Result<(), Fail> {
         &["entry = 7\noutside = [", pages.as_str(), "7]"],
     )?;
     assert!(rt; fault == at(None, Cause::TooMany));
+    Ok(())
+}
+
+#[test]
+fn a_fault_in_the_last_of_65535_frames_has_its_index(rt: HostRuntime) -> Result<(), Fail> {
+    let frames = "{id='1a',body=''},".repeat(rt.alloc(), 65_534)?;
+    let bad = fault_of(
+        rt.alloc(),
+        &["entry = 7\nframe = [", frames.as_str(), "{id='1b'}]"],
+    )?;
+    assert!(rt; bad == at(Some(65_534), Cause::Absent(Field::Body)));
     Ok(())
 }
 

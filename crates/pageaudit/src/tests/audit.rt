@@ -1,6 +1,6 @@
 //! The audits.
 
-use super::device::{paper_of, tape_of};
+use super::device::{broken_tape, full_paper, paper_of, tape_of};
 use super::{CERT, DEMO, changed, front, policy};
 use crate::audit_run::run_audit;
 use crate::status::{Status, status_of};
@@ -17,8 +17,8 @@ fn audited(
     step: usize,
     policy: &Policy,
 ) -> (Result<Status, RunFault>, Vec<u8>) {
-    let mut base = tape_of(base.as_bytes(), step, false);
-    let mut out = paper_of(alloc, 1_000, true);
+    let mut base = tape_of(base.as_bytes(), step);
+    let mut out = paper_of(alloc);
     let answer = run_audit(alloc, &mut base, &mut out, policy);
     (answer, out.taken)
 }
@@ -104,9 +104,16 @@ fn an_audit_that_fails_writes_nothing(rt: HostRuntime) -> Result<(), Fail> {
     let (answer, text) = audited(rt.alloc(), "entry = 1\nname = 2\n", 5, &policy(0, 0)?);
     assert_eq!(rt; answer, Err(RunFault::Base(unknown)));
     assert_eq!(rt; text.len(), 0);
-    for kept in [0, 1, 100] {
-        let mut base = tape_of(front(DEMO, kept), 7, true);
-        let mut out = paper_of(rt.alloc(), 1_000, true);
+    Ok(())
+}
+
+#[test]
+fn a_base_that_cannot_be_read_writes_nothing_wherever_it_fails(
+    rt: HostRuntime,
+) -> Result<(), Fail> {
+    for kept in 0..DEMO.len() + 1 {
+        let mut base = broken_tape(DEMO.as_bytes(), kept, 4_096);
+        let mut out = paper_of(rt.alloc());
         let answer = run_audit(rt.alloc(), &mut base, &mut out, &policy(50, 3)?);
         assert_eq!(rt; answer, Err(RunFault::ReadBase), "{kept}");
         assert_eq!(rt; out.taken.len(), 0, "{kept}");
@@ -117,16 +124,18 @@ fn an_audit_that_fails_writes_nothing(rt: HostRuntime) -> Result<(), Fail> {
 #[test]
 fn a_report_that_is_not_taken_whole_is_told_with_what_was(rt: HostRuntime) -> Result<(), Fail> {
     for room in 0..81usize {
-        let mut base = tape_of(DEMO.as_bytes(), 4_096, false);
-        let mut out = paper_of(rt.alloc(), room, true);
+        let mut base = tape_of(DEMO.as_bytes(), 4_096);
+        let mut out = full_paper(rt.alloc(), room, true);
         let answer = run_audit(rt.alloc(), &mut base, &mut out, &policy(50, 3)?);
         assert_eq!(rt; answer, Err(RunFault::Write(room as u64)), "{room}");
         assert_eq!(rt; status_of(&answer), 3, "{room}");
         assert_eq!(rt; out.taken.as_slice(), front(CERT, room), "{room}");
+        assert_eq!(rt; out.flushes, 0, "{room}");
     }
-    let mut base = tape_of(DEMO.as_bytes(), 4_096, false);
-    let mut out = paper_of(rt.alloc(), 1_000, false);
+    let mut base = tape_of(DEMO.as_bytes(), 4_096);
+    let mut out = full_paper(rt.alloc(), 1_000, false);
     let answer = run_audit(rt.alloc(), &mut base, &mut out, &policy(50, 3)?);
     assert_eq!(rt; answer, Err(RunFault::Write(81)));
+    assert_eq!(rt; out.flushes, 1);
     Ok(())
 }

@@ -1,6 +1,6 @@
 //! The checks.
 
-use super::device::{paper_of, tape_of};
+use super::device::{Then, broken_tape, full_paper, paper_of, tape_of, tape_with};
 use super::{CERT, DEMO, changed, front, policy};
 use crate::check_run::run_check;
 use crate::status::{Status, status_of};
@@ -19,9 +19,9 @@ fn checked(
     step: usize,
     policy: &Policy,
 ) -> (Result<Status, RunFault>, Vec<u8>) {
-    let mut base = tape_of(base.as_bytes(), step, false);
-    let mut cert = tape_of(cert.as_bytes(), step, false);
-    let mut out = paper_of(alloc, 1_000, true);
+    let mut base = tape_of(base.as_bytes(), step);
+    let mut cert = tape_of(cert.as_bytes(), step);
+    let mut out = paper_of(alloc);
     let answer = run_check(alloc, &mut base, &mut cert, &mut out, policy);
     (answer, out.taken)
 }
@@ -130,41 +130,126 @@ fn a_changed_base_is_refused(rt: HostRuntime) -> Result<(), Fail> {
 }
 
 #[test]
-fn faults_of_the_texts_write_nothing(rt: HostRuntime) -> Result<(), Fail> {
+fn the_bases_fault_comes_first_and_the_certificate_is_not_read(
+    rt: HostRuntime,
+) -> Result<(), Fail> {
     let absent = BaseFault {
         frame: None,
         cause: Cause::Absent(Field::Entry),
     };
-    let (answer, text) = checked(rt.alloc(), "", "PBC3\n", 7, &policy(5, 1)?);
+    let mut base = tape_of(b"", 7);
+    let mut cert = tape_of(b"PBC3\n", 7);
+    let mut out = paper_of(rt.alloc());
+    let answer = run_check(rt.alloc(), &mut base, &mut cert, &mut out, &policy(5, 1)?);
     assert_eq!(rt; answer, Err(RunFault::Base(absent)));
-    assert_eq!(rt; text.len(), 0);
-    let (answer, text) = checked(rt.alloc(), DEMO, "PBC3\n", 7, &policy(5, 1)?);
-    assert_eq!(rt;
-        answer,
-        Err(RunFault::Cert(ReadFault::Line(1, LineCause::Magic)))
-    );
-    assert_eq!(rt; text.len(), 0);
+    assert_eq!(rt; cert.calls, 0);
+    assert_eq!(rt; out.taken.len(), 0);
+    Ok(())
+}
+
+// What a check of DEMO and a certificate answers, which is read in pieces of so many bytes.
+fn judged(alloc: Global, cert: &[u8], step: usize, policy: &Policy) -> Result<Status, RunFault> {
+    let mut base = tape_of(DEMO.as_bytes(), 4_096);
+    let mut cert = tape_of(cert, step);
+    let mut out = paper_of(alloc);
+    run_check(alloc, &mut base, &mut cert, &mut out, policy)
+}
+
+const PIECES: [usize; 5] = [1, 2, 3, 7, 4_096];
+
+#[test]
+fn a_certificate_that_is_cut_is_truncated_in_its_last_line(rt: HostRuntime) -> Result<(), Fail> {
+    let policy = policy(5, 1)?;
+    for kept in 0..81usize {
+        let text = front(CERT, kept);
+        let ends = text.iter().filter(|byte| **byte == b'\n').count();
+        let ends = u32::try_from(ends).ok().ok_or("ends")?;
+        for step in PIECES {
+            let answer = judged(rt.alloc(), text, step, &policy);
+            let wanted = RunFault::Cert(ReadFault::Line(
+                ends.saturating_add(1),
+                LineCause::Truncated,
+            ));
+            assert_eq!(rt; answer, Err(wanted), "{kept} {step}");
+        }
+    }
     Ok(())
 }
 
 #[test]
-fn a_reader_that_fails_is_its_read_fault(rt: HostRuntime) -> Result<(), Fail> {
+fn a_line_at_fault_is_named_whatever_the_pieces(rt: HostRuntime) -> Result<(), Fail> {
+    let rows: [(&str, &str, u32, LineCause); 12] = [
+        ("PBC1", "PBC3", 1, LineCause::Magic),
+        ("entry 123", "Entry 123", 2, LineCause::Word),
+        ("entry 123", "entry 0123", 2, LineCause::Number),
+        ("rows 3", "rows 65536", 5, LineCause::Range),
+        ("1231a 1 s80", "1231a 01 s80", 7, LineCause::Number),
+        ("1231a 1 s80", "1231a 1 s960", 7, LineCause::Cursor),
+        ("1231b 1 s48", "1231a 1 s80", 8, LineCause::Order),
+        ("rows 3", "rows 4", 9, LineCause::Count),
+        ("rows 3", "rows 2", 8, LineCause::Count),
+        ("end\n", "end\nX", 10, LineCause::Tail),
+        ("end\n", "end\nPBC1\nentry 123\n", 10, LineCause::Tail),
+        ("keyings 1\n", "", 4, LineCause::Word),
+    ];
+    let policy = policy(5, 1)?;
+    for (old, new, line, cause) in rows {
+        let cert = changed(rt.alloc(), CERT, old, new)?;
+        for step in PIECES {
+            let answer = judged(rt.alloc(), cert.as_bytes(), step, &policy);
+            let wanted = RunFault::Cert(ReadFault::Line(line, cause));
+            assert_eq!(rt; answer, Err(wanted), "{new} {step}");
+        }
+    }
+    Ok(())
+}
+
+#[test]
+fn nothing_is_asked_behind_a_refused_line(rt: HostRuntime) -> Result<(), Fail> {
+    let mut base = tape_of(DEMO.as_bytes(), 4_096);
+    let mut cert = broken_tape(b"PBC3\n", 5, 4_096);
+    let mut out = paper_of(rt.alloc());
+    let answer = run_check(rt.alloc(), &mut base, &mut cert, &mut out, &policy(5, 1)?);
+    let magic = RunFault::Cert(ReadFault::Line(1, LineCause::Magic));
+    assert_eq!(rt; answer, Err(magic));
+    assert_eq!(rt; cert.calls, 1);
+    assert!(rt; !cert.failed);
+    assert_eq!(rt; out.taken.len(), 0);
+    Ok(())
+}
+
+#[test]
+fn nothing_is_asked_behind_an_end(rt: HostRuntime) -> Result<(), Fail> {
+    let mut base = tape_with(DEMO.as_bytes(), 4_096, Then::Ends, b"x");
+    let mut cert = tape_with(CERT.as_bytes(), 4_096, Then::Ends, b"x");
+    let mut out = paper_of(rt.alloc());
+    let answer = run_check(rt.alloc(), &mut base, &mut cert, &mut out, &policy(5, 1)?);
+    assert_eq!(rt; answer, Ok(Status::Clear));
+    assert_eq!(rt; base.calls, 2);
+    assert_eq!(rt; cert.calls, 2);
+    assert_eq!(rt; out.flushes, 1);
+    Ok(())
+}
+
+#[test]
+fn a_reader_that_fails_once_is_its_read_fault(rt: HostRuntime) -> Result<(), Fail> {
     for kept in [0, 1, 100] {
-        let mut base = tape_of(front(DEMO, kept), 7, true);
-        let mut cert = tape_of(CERT.as_bytes(), 7, false);
-        let mut out = paper_of(rt.alloc(), 1_000, true);
+        let mut base = broken_tape(DEMO.as_bytes(), kept, 7);
+        let mut cert = tape_of(CERT.as_bytes(), 7);
+        let mut out = paper_of(rt.alloc());
         let answer = run_check(rt.alloc(), &mut base, &mut cert, &mut out, &policy(5, 1)?);
         assert_eq!(rt; answer, Err(RunFault::ReadBase), "{kept}");
         assert_eq!(rt; status_of(&answer), 3);
+        assert_eq!(rt; cert.calls, 0);
         assert_eq!(rt; out.taken.len(), 0);
     }
-    for kept in [0, 4, 81] {
-        let mut base = tape_of(DEMO.as_bytes(), 7, false);
-        let mut cert = tape_of(front(CERT, kept), 7, true);
-        let mut out = paper_of(rt.alloc(), 1_000, true);
+    for kept in 0..82usize {
+        let mut base = tape_of(DEMO.as_bytes(), 4_096);
+        let mut cert = broken_tape(CERT.as_bytes(), kept, 4_096);
+        let mut out = paper_of(rt.alloc());
         let answer = run_check(rt.alloc(), &mut base, &mut cert, &mut out, &policy(5, 1)?);
         assert_eq!(rt; answer, Err(RunFault::ReadCert), "{kept}");
-        assert_eq!(rt; out.taken.len(), 0);
+        assert_eq!(rt; out.taken.len(), 0, "{kept}");
     }
     Ok(())
 }
@@ -172,18 +257,19 @@ fn a_reader_that_fails_is_its_read_fault(rt: HostRuntime) -> Result<(), Fail> {
 #[test]
 fn a_writer_that_fails_is_told_with_what_it_took(rt: HostRuntime) -> Result<(), Fail> {
     for room in [0, 3, 7] {
-        let mut base = tape_of(DEMO.as_bytes(), 7, false);
-        let mut cert = tape_of(CERT.as_bytes(), 7, false);
-        let mut out = paper_of(rt.alloc(), room, true);
+        let mut base = tape_of(DEMO.as_bytes(), 7);
+        let mut cert = tape_of(CERT.as_bytes(), 7);
+        let mut out = full_paper(rt.alloc(), room, true);
         let answer = run_check(rt.alloc(), &mut base, &mut cert, &mut out, &policy(5, 1)?);
         assert_eq!(rt; answer, Err(RunFault::Write(room as u64)), "{room}");
         assert_eq!(rt; status_of(&answer), 3);
         assert_eq!(rt; out.taken.len(), room);
     }
-    let mut base = tape_of(DEMO.as_bytes(), 7, false);
-    let mut cert = tape_of(CERT.as_bytes(), 7, false);
-    let mut out = paper_of(rt.alloc(), 1_000, false);
+    let mut base = tape_of(DEMO.as_bytes(), 7);
+    let mut cert = tape_of(CERT.as_bytes(), 7);
+    let mut out = full_paper(rt.alloc(), 1_000, false);
     let answer = run_check(rt.alloc(), &mut base, &mut cert, &mut out, &policy(5, 1)?);
     assert_eq!(rt; answer, Err(RunFault::Write(8)));
+    assert_eq!(rt; out.flushes, 1);
     Ok(())
 }

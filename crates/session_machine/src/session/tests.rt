@@ -203,3 +203,37 @@ fn keys_look_into_the_base_of_the_moment(rt: HostRuntime) -> Result<(), Fail> {
     presses(&rt, rt.alloc(), &mut session, &new, "*090*#", &after);
     Ok(())
 }
+
+// A frame `a` on each page from 0 on; route 1 leads to the following page, and from the last to page 0. A frame costs its
+// page's number modulo 10,000.
+fn ring(rt: &impl Abort, alloc: Global, count: u32) -> Result<Base, Fail> {
+    let mut frames = Vec::new(alloc);
+    for number in 0..count {
+        let to = if number + 1 < count { number + 1 } else { 0 };
+        let id = FrameId::first(page(rt, number));
+        let pence = (number % 10_000) as u16;
+        frames.push(frame(rt, alloc, id.text().as_str(), pence, &[(1, to)]))?;
+    }
+    Ok(Base::build(page(rt, 0), Vec::new(alloc), frames)?)
+}
+
+#[test]
+fn a_base_of_65_535_frames_is_opened_and_walked(rt: HostRuntime) -> Result<(), Fail> {
+    let base = ring(&rt, rt.alloc(), 65_535)?;
+    let (mut session, reply) = Session::open(rt.alloc(), &base)?;
+    assert_eq!(rt; reply, shown(&rt, "0a", 0));
+    let key = &Key::Route(Digit::new(1).ok_or("a digit")?);
+    for number in 1..65_535u32 {
+        let first = FrameId::first(page(&rt, number));
+        let price = Pence::new((number % 10_000) as u16).ok_or("a price")?;
+        assert_eq!(rt;
+            session.key(&base, *key),
+            Reply::Shown(first, price),
+            "page {number}"
+        );
+    }
+    assert_eq!(rt; session.key(&base, *key), shown(&rt, "0a", 0));
+    assert_eq!(rt; session.remembered(), 3);
+    assert_eq!(rt; session.remembered_at(0), Some(id(&rt, "65534a")));
+    Ok(())
+}

@@ -11,8 +11,8 @@ returns-then-not-is_ascii_digit c h =
     let e = c.if-not-is_ascii_digit.ensures in
     grind (arith, common_steps, r, e.cases)
 
-pub returns-then-next-gt999999999 : goal.returns-then-next-gt999999999
-returns-then-next-gt999999999 c h =
+pub returns-then-next-gt4294967295 : goal.returns-then-next-gt4294967295
+returns-then-next-gt4294967295 c h =
     let r = digit_at c.args.digits.now c.loop-digit.digit-index h.0 c.loop-digit-test.true in
     let is = digit_is (get_or c.args.digits.now c.loop-digit.digit-index 0) r.0 r.1 in
     let more = digits_value_more 10 c.args.digits.now c.loop-digit.digit-index c.loop-digit-test.true in

@@ -6,5 +6,5 @@ abbrev pub invariant-loop-digit : goal.invariant-loop-digit
 invariant-loop-digit l = record {
   digits : AllDigits 10 (take l.digit-index l.digits);
   value : l.number ≡ digits_value 10 (take l.digit-index l.digits);
-  small : l.number ≤ 999999999;
+  small : l.number ≤ 4294967295;
 }

@@ -1,9 +1,9 @@
-use Rattle.std.proofs.Common.{ℕ, List, subst}
-use Rattle.pageaudit.specs.Runs.{IsCertAnswer}
-use Rattle.pageaudit.proofs.WholeTexts.{cert_read_by}
+use Rattle.std.proofs.Common.{Ok}
+use Rattle.cert_text.proofs.Outcomes.{is_found}
 use Rattle.pageaudit.proofs.input.read_cert.Goals as goal
 
-pub returns-in-Ok : goal.returns-in-Ok
-returns-in-Ok g c =
-    let answer = subst (λ (text : List ℕ). IsCertAnswer text c.cert_of.result) c.as_slice.ensures.value c.cert_of.ensures in
-    cert_read_by (g.S.Source.left c.args.source.now) (g.S.Source.left c.read_whole.new.source) (g.S.Source.has_failed c.read_whole.new.source) c.in-Ok.text.items c.cert_of.result c.in-Ok.ensures.whole answer
+-- what is read without a fault is spelled so
+pub returns-in-Ok-finish : goal.returns-in-Ok-finish
+returns-in-Ok-finish g c =
+    let fed = c.in-Ok.ensures in
+    record { text = fed.text; read = fed.read; is = is_found fed.text (Ok c.in-Ok-finish.cert) (c.in-Ok-finish.ensures.stream fed.text fed.taken) }

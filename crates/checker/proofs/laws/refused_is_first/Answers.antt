@@ -1,0 +1,5 @@
+use Rattle.checker.proofs.Refusals.{refusal}
+use Rattle.checker.proofs.laws.refused_is_first.Goals as goal
+
+pub returns : goal.returns
+returns c caller base policy cert cause = refusal caller base cert policy cause

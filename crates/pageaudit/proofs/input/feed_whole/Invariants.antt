@@ -1,0 +1,12 @@
+use Rattle.pageaudit.specs.Device.{device}
+use Rattle.pageaudit.specs.Files.{IsBeingFed}
+use Rattle.pageaudit.proofs.input.feed_whole.Given as goal
+
+-- what was read so far was taken by the reader
+abbrev pub invariant-loop-room : goal.invariant-loop-room
+invariant-loop-room g l = record {
+  fed : IsBeingFed (device (g.S.Source.left l.initial.source) (g.S.Source.left l.source) (g.S.Source.has_failed l.source)) l.reader l.room;
+}
+
+abbrev pub decreases-loop-room : goal.decreases-loop-room
+decreases-loop-room g l = l.room

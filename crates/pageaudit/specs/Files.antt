@@ -1,0 +1,127 @@
+-- What a run reads of its files. A file that doesn't tell its bytes is left open.
+use Rattle.std.specs.Prelude.{◌≡◌, ◌≤◌, ◌<◌, ◌++◌, ◌+◌, ℕ, true, false, List, Option, length, Result, Ok, Err}
+use Rattle.std.specs.Io.KnownBytes.{Consumes, IsAtEnd}
+use Rattle.frame_records.specs.BaseView.{BaseView}
+use Rattle.base_text.specs.declared.fault.BaseFault.{BaseFault}
+use Rattle.base_text.specs.Whole.{IsTextBase}
+use Rattle.cert_table.specs.CertView.{CertView}
+use Rattle.cert_text.specs.declared.fault.LineCause.{LineCause}
+use Rattle.cert_text.specs.declared.fault.LineCause.TheVariants.{Truncated}
+use Rattle.cert_text.specs.declared.fault.ReadFault.{ReadFault}
+use Rattle.cert_text.specs.declared.fault.ReadFault.TheVariants as read
+use Rattle.cert_text.specs.Grammar.{IsCertificateText}
+use Rattle.cert_text.specs.Outcome.{ReaderView, HasRead}
+use Rattle.checker.specs.Headline.{IsBaseRefused, IsCertRefused}
+use Rattle.pageaudit.specs.declared.file_fault.FileFault.{FileFault}
+use Rattle.pageaudit.specs.declared.file_fault.FileFault.TheVariants as file
+use Rattle.pageaudit.specs.Device.{Device}
+
+-- the most bytes that are read of each file: one more than a base may have, and as many as settle any certificate
+abbrev pub base_limit : ℕ
+base_limit = 16777217
+
+abbrev pub cert_limit : ℕ
+cert_limit = 16777216
+
+-- the first bytes that the file had, no more than the limit; no read failed
+pub record WasReadSoFar (limit : ℕ) (d : Device) (text : List ℕ) : Type 0 where
+  pub within : length text ≤ limit
+  pub given : Consumes d.before d.after text
+  pub unbroken : d.failed ≡ false
+
+-- all bytes that the file had
+pub record WasRead (limit : ℕ) (d : Device) (text : List ℕ) : Type 0 where
+  pub so_far : WasReadSoFar limit d text
+  pub whole : IsAtEnd d.after
+
+-- the base of the file's text
+pub record IsBaseOfFile (d : Device) (base : BaseView) : Type 0 where
+  pub text : List ℕ
+  pub read : WasRead base_limit d text
+  pub is : IsTextBase text base
+
+-- the certificate of the file's text
+pub record IsCertOfFile (d : Device) (cert : CertView) : Type 0 where
+  pub text : List ℕ
+  pub read : WasRead cert_limit d text
+  pub is : IsCertificateText text cert
+
+-- the first fault of a base's text, which is all that the file had, or longer than a base may be
+pub record IsBaseTextFault (d : Device) (fault : BaseFault) : Type 0 where
+  pub text : List ℕ
+  pub read : WasReadSoFar base_limit d text
+  pub whole : length text < base_limit → IsAtEnd d.after
+  pub first : IsBaseRefused text fault
+
+-- a line that ended early
+abbrev pub IsTruncated : ReadFault → Type 0
+IsTruncated (read.Line number cause) = cause ≡ Truncated
+IsTruncated _ = ⊥
+
+-- the first line at fault of a certificate's bytes so far; that the text ended early is said at the file's end alone
+pub record IsCertTextFault (d : Device) (fault : ReadFault) : Type 0 where
+  pub text : List ℕ
+  pub read : WasReadSoFar cert_limit d text
+  pub whole : IsTruncated fault → IsAtEnd d.after
+  pub first : IsCertRefused text fault
+
+-- why a file gives nothing: its text is refused, a read failed, or memory was refused while none had failed
+abbrev pub IsFileFault : {F : Type 0} → (F → Type 0) → Device → FileFault F → Type 0
+IsFileFault IsTextFault d (file.Text fault) = IsTextFault fault
+IsFileFault IsTextFault d file.Broken = d.failed ≡ true
+IsFileFault IsTextFault d file.Memory = d.failed ≡ false
+
+abbrev pub IsBaseRead : Device → Result BaseView (FileFault BaseFault) → Type 0
+IsBaseRead d (Ok base) = IsBaseOfFile d base
+IsBaseRead d (Err fault) = IsFileFault (IsBaseTextFault d) d fault
+
+abbrev pub IsCertRead : Device → Result CertView (FileFault ReadFault) → Type 0
+IsCertRead d (Ok cert) = IsCertOfFile d cert
+IsCertRead d (Err fault) = IsFileFault (IsCertTextFault d) d fault
+
+-- what a text alone is answered with
+abbrev pub IsBaseAnswer : List ℕ → Result BaseView (FileFault BaseFault) → Type 0
+IsBaseAnswer text (Ok base) = IsTextBase text base
+IsBaseAnswer text (Err (file.Text fault)) = IsBaseRefused text fault
+IsBaseAnswer text (Err file.Broken) = ⊥
+IsBaseAnswer text (Err file.Memory) = Unit {0}
+
+-- one read of a certificate's file, and what its reader said of the bytes: so many, and none at the end alone
+pub record IsPieceRead (most : ℕ) (d : Device) (stream : List ℕ) (reader : ReaderView) (count : ℕ) : Type 0 where
+  pub piece : List ℕ
+  pub counted : length piece ≡ count
+  pub within : count ≤ most
+  pub given : Consumes d.before d.after piece
+  pub whole : count ≡ 0 → IsAtEnd d.after
+  pub taken : HasRead reader (stream ++ piece)
+  pub unbroken : d.failed ≡ false
+
+-- the bytes so far have a line at fault, whatever follows
+pub record IsPieceRefused (most : ℕ) (d : Device) (stream : List ℕ) (fault : ReadFault) : Type 0 where
+  pub piece : List ℕ
+  pub within : length piece ≤ most
+  pub given : Consumes d.before d.after piece
+  pub first : IsCertRefused (stream ++ piece) fault
+  pub lasting : IsTruncated fault → ⊥
+  pub unbroken : d.failed ≡ false
+
+abbrev pub IsPieceTaken : ℕ → Device → List ℕ → ReaderView → Result ℕ (FileFault ReadFault) → Type 0
+IsPieceTaken most d stream reader (Ok count) = IsPieceRead most d stream reader count
+IsPieceTaken most d stream reader (Err fault) = IsFileFault (IsPieceRefused most d stream) d fault
+
+-- the first bytes of a certificate's file were taken by its reader, and so many more may be
+pub record IsBeingFed (d : Device) (reader : ReaderView) (room : ℕ) : Type 0 where
+  pub text : List ℕ
+  pub read : WasReadSoFar cert_limit d text
+  pub counted : length text + room ≡ cert_limit
+  pub taken : HasRead reader text
+
+-- all bytes of a certificate's file were taken by its reader
+pub record WasFed (d : Device) (reader : ReaderView) : Type 0 where
+  pub text : List ℕ
+  pub read : WasRead cert_limit d text
+  pub taken : HasRead reader text
+
+abbrev pub IsFed : Device → ReaderView → Result (Unit {0}) (FileFault ReadFault) → Type 0
+IsFed d reader (Ok _) = WasFed d reader
+IsFed d reader (Err fault) = IsFileFault (IsCertTextFault d) d fault
