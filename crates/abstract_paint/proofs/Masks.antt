@@ -1,5 +1,5 @@
 -- Masks of the lanes that are plain, or aren't.
-use Rattle.std.proofs.Common.{◌≡◌, ◌≢◌, ℕ, suc, ◌+◌, ◌-◌, ◌*◌, ◌<◌, ◌%◌, ◌^◌, ◌↔◌, ltb, leb, Bool, true, false, not, ◌&&◌, cond, List, [], ◌∷◌, map, length, replicate, refl, sym, ap, ap₂, ◌∙◌, arith, IsTrue, IsBitSet, EachIndex, slice_index, Fits, w32, subst}
+use Rattle.std.proofs.Common.{◌≡◌, ℕ, ◌+◌, ◌-◌, ◌*◌, ◌<◌, ◌%◌, ◌^◌, ◌↔◌, ltb, leb, Bool, true, false, not, ◌&&◌, cond, List, [], ◌∷◌, map, length, replicate, refl, sym, ap, ap₂, ◌∙◌, arith, IsTrue, IsBitSet, EachIndex, slice_index, Fits, w32, subst}
 use Rattle.std.specs.Int.{bit_at}
 use Rattle.std.proofs.lemmas.Simd.{zip2_splat, zip2_splat_left, zip2_of_maps, mask_l-mod, mask_l-lt, bit_mask_l}
 use Rattle.std.proofs.lemmas.Nat.{pow_pos}

@@ -1,5 +1,5 @@
 -- So many plain bytes at the front, however they were counted.
-use Rattle.std.proofs.Common.{◌≡◌, ℕ, zero, suc, ◌+◌, ◌<◌, ◌≤◌, arith, Bool, true, false, cond, List, [], ◌∷◌, length, take}
+use Rattle.std.proofs.Common.{ℕ, zero, suc, ◌+◌, ◌<◌, ◌≤◌, arith, Bool, true, false, cond, List, [], ◌∷◌, take}
 use Rattle.std.proofs.lemmas.Bool.Decides.{nat_tests}
 use Rattle.std.proofs.lemmas.List.Sums.{prefix_len-le-length}
 use Rattle.abstract_paint.specs.declared.advance.Advance.TheVariants.{Touches, Goes}
@@ -14,11 +14,15 @@ room_on_screen : (p n : ℕ) → p < 960 → n ≤ room p → p + n < 960
 room_on_screen p n lt h = grind (arith, nat_tests)
 
 pub goes_over : (bs : List ℕ) (p n : ℕ) → p < 960 → 0 < n → n ≤ plain_len bs → n ≤ room p → IsAdvance (calm (Spot p)) bs (Goes (calm (Spot (p + n))) n)
-goes_over bs p n lt some plain fits =
-    (some, omega (arith, prefix_len-le-length is_plain bs), room_on_screen p n lt fits, λ i. plain_goes_on bs n p i plain fits)
+goes_over bs p n lt some plain fits = record {
+  some = some;
+  within = omega (arith, prefix_len-le-length is_plain bs);
+  on_screen = room_on_screen p n lt fits;
+  same = λ i. plain_goes_on bs n p i plain fits;
+}
 
 pub stops_at : (bs : List ℕ) (p n : ℕ) → n ≤ plain_len bs → room p < n → IsAdvance (calm (Spot p)) bs (Touches (room p))
-stops_at bs p n plain over = (omega (arith, prefix_len-le-length is_plain bs), λ i. plain_reaches bs p i (omega arith))
+stops_at bs p n plain over = record { within = omega (arith, prefix_len-le-length is_plain bs); same = λ i. plain_reaches bs p i (omega arith) }
 
 -- the run at the front of a front
 as_many : (r : Bool) (m n : ℕ) → m ≤ n → cond r (1 + m) 0 ≤ cond r (1 + n) 0

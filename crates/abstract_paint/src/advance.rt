@@ -9,7 +9,7 @@ ghost use Rattle.abstract_paint.specs.Plain.{plain_len};
 ghost use Rattle.abstract_paint.specs.Advance.{IsAdvance};
 
 use crate::cursor::{AbsCursor, Pend, Place};
-use crate::plain::{is_plain, plain_run};
+use crate::plain::{front_run, is_plain};
 use crate::step::{after_byte, calm};
 
 // What the front of some bytes comes to.
@@ -25,7 +25,11 @@ fn room(at: u16) -> u16
     ensures room { result ≡ room at }
     ensures within { result ≤ 880 }
 {
-    if at < 40 { 0 } else { 920u16.saturating_sub(at) }
+    if at < 40 {
+        0
+    } else {
+        920u16.saturating_sub(at)
+    }
 }
 
 // A run of plain bytes from a spot, which ends before row 23 or reaches it.
@@ -36,7 +40,7 @@ fn over_run(at: u16, rest: &[u8]) -> Advance
 {
     let room = room(at);
     let most = rest.len().min(room as usize + 1);
-    let run = plain_run(&rest[..most]);
+    let run = front_run(&rest[..most]);
     if run > room as usize {
         return Advance::Touches(room as usize);
     }
@@ -74,7 +78,9 @@ pub fn advance_over(cursor: AbsCursor, rest: &[u8]) -> Advance
     requires more { 0 < length rest.now }
     ensures { IsAdvance cursor rest.now result }
 {
-    if is_plain(rest[0]) && let Some(at) = known_spot(cursor) {
+    if is_plain(rest[0])
+        && let Some(at) = known_spot(cursor)
+    {
         return over_run(at, rest);
     }
     over_byte(cursor, rest)

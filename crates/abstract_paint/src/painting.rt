@@ -20,7 +20,7 @@ pub enum Painted {
 
 /// Whether the frame is clean, with where it may end, or the first byte that touches.
 ///
-/// Takes each byte of the body at most once, runs of plain bytes 32 at a time, and none after the one that touches.
+/// Runs of plain bytes are taken 32 at a time, other bytes one by one.
 pub fn paint(lead: Lead, body: &[u8]) -> Painted
     ensures computed { result ≡ paint_of lead body.now }
     // Exactly: clean with just the ends, or the least offset.

@@ -13,14 +13,20 @@ pub fn is_plain(byte: u8) -> bool
     byte >= 0x20 && byte < 0x80
 }
 
+// The bits of the lanes that are plain.
+fn lane_mask(lanes: u8x32) -> u64
+    ensures { result ≡ mask_l (map is_plain lanes) }
+{
+    let plain = lanes.simd_ge(u8x32::splat(0x20)) & lanes.simd_lt(u8x32::splat(0x80));
+    plain.to_bitmask()
+}
+
 /// Which of 32 bytes are plain, 20 to 7F: bit i is set exactly where byte i is.
 pub fn plain_mask(bytes: &[u8; 32]) -> u32
     ensures mask { result ≡ mask_l (map is_plain bytes.now) }
     ensures bits { EachIndex bytes.now (λ i. IsBitSet result i ↔ IsTrue (is_plain (slice_index bytes.now i))) }
 {
-    let lanes = u8x32::from_array(*bytes);
-    let plain = lanes.simd_ge(u8x32::splat(0x20)) & lanes.simd_lt(u8x32::splat(0x80));
-    plain.to_bitmask() as u32
+    lane_mask(u8x32::from_array(*bytes)) as u32
 }
 
 // The bits of the bytes that aren't plain.
@@ -50,4 +56,18 @@ pub fn plain_run(bytes: &[u8]) -> usize
         run += 32;
     }
     run + short_run(&bytes[run..])
+}
+
+// The same. A run of fewer than 8 bytes is counted byte by byte: lanes pay for longer ones.
+pub fn front_run(bytes: &[u8]) -> usize
+    ensures { result ≡ plain_len bytes.now }
+{
+    if bytes.len() < 8 {
+        return short_run(bytes);
+    }
+    let short = short_run(&bytes[..8]);
+    if short < 8 {
+        return short;
+    }
+    8 + plain_run(&bytes[8..])
 }

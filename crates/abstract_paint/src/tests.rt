@@ -150,14 +150,41 @@ fn stands_for_positions_of_the_screen(rt: HostRuntime) {
 #[test]
 fn counts_plain_bytes(rt: HostRuntime) {
     assert_eq!(rt; plain_run(&[]), 0);
-    assert_eq!(rt; plain_run(&[0x20, 0x7f, 0x1f]), 2);
-    let mut bytes = [0x41; 100];
+    assert_eq!(rt; plain_run(&[0x7f, 0x1f]), 1);
+    let mut bytes = [0x41; 34];
+    bytes[33] = 0x0d;
+    assert_eq!(rt; plain_run(&bytes), 33);
+    bytes[31] = 0x80;
+    assert_eq!(rt; plain_run(&bytes[..32]), 31);
+}
+
+// Each length, with a byte below the plain ones, one above them, or the last of them at each place.
+#[test]
+fn counts_plain_bytes_of_each_length(rt: HostRuntime) {
+    let mut bytes = [0x20; 100];
     for length in 0..101 {
         assert_eq!(rt; plain_run(&bytes[..length]), length);
-        for stop in 0..length {
-            bytes[stop] = if length % 2 == 0 { 0x1f } else { 0x80 };
-            assert_eq!(rt; plain_run(&bytes[..length]), stop);
-            bytes[stop] = 0x41;
+        for place in 0..length {
+            for (byte, run) in [(0x1f, place), (0x80, place), (0x7f, length)] {
+                bytes[place] = byte;
+                assert_eq!(rt; plain_run(&bytes[..length]), run, "{byte} at {place}");
+            }
+            bytes[place] = 0x20;
         }
     }
+}
+
+#[test]
+fn masks_plain_bytes(rt: HostRuntime) {
+    let mut bytes = [0x41; 32];
+    assert_eq!(rt; plain_mask(&bytes), 4_294_967_295);
+    bytes[0] = 0x80;
+    assert_eq!(rt; plain_mask(&bytes), 4_294_967_294);
+    bytes[0] = 0x41;
+    bytes[31] = 0x1f;
+    assert_eq!(rt; plain_mask(&bytes), 2_147_483_647);
+    bytes[31] = 0x7f;
+    bytes[4] = 0xff;
+    bytes[17] = 0x00;
+    assert_eq!(rt; plain_mask(&bytes), 4_294_967_295 - 16 - 131_072);
 }

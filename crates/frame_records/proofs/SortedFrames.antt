@@ -1,11 +1,13 @@
 -- Frames that are sorted by their ids.
-use Rattle.std.proofs.Common.{◌≡◌, ℕ, ◌+◌, ◌<◌, ◌≤◌, Bool, true, false, eqb, ltb, List, [], ◌∷◌, length, get_or, Option, Some, None, refl, sym, ap, ◌∙◌, arith, subst, inl, inr}
-use Rattle.std.specs.Prelude.{find, option_map, Err}
-use Rattle.std.specs.Ordering.{is_lt}
+use Rattle.std.proofs.Common.{◌≡◌, ℕ, ◌+◌, ◌<◌, ◌≤◌, Bool, true, false, eqb, List, [], ◌∷◌, length, get_or, Option, Some, None, refl, sym, ap, ◌∙◌, arith, subst, inl, inr}
+use Rattle.std.specs.Prelude.{find, option_map, Result, Ok, Err}
+use Rattle.std.specs.Ordering.{nat_cmp, is_lt}
+use Rattle.std.specs.Result.{is_ok}
 use Rattle.std.specs.List.{AllAdjacentBelow}
-use Rattle.std.specs.List.Sorted.{IsSortedByKey, IsBinarySearchResult, IsPartitionedBy, IsPartitionPoint}
+use Rattle.std.specs.List.Sorted.{IsSortedByKey, IsBinarySearchResult, IsSearchInRange}
 use Rattle.std.specs.declared.cmp.Ordering.TheVariants.{Less, Equal, Greater}
 use Rattle.std.proofs.lemmas.Bool.{cases_lt}
+use Rattle.std.proofs.lemmas.Cmp.{nat_cmp_total}
 use Rattle.std.proofs.lemmas.Bool.Decides.{nat_tests}
 use Rattle.std.proofs.lemmas.List.Sorted.{ranks_by, sorted_far, searchable_from_sorted}
 use Rattle.std.proofs.lemmas.List.Folds.{list_any_at, list_any_none}
@@ -102,50 +104,37 @@ apart_at xs i k d up lt within = by_test (id_eq (get_or xs k d).id (get_or xs i 
 page_le : (a b : Id) → is_lt (id_cmp b a) ≡ false → a.page ≤ b.page
 page_le a b e = grind (arith, nat_tests)
 
--- pages of ascending frames don't fall
-pub pages_rise : (xs : List Frame) → IsAscending xs → (i j : ℕ) (d : Frame) → i ≤ j → j < length xs → (get_or xs i d).id.page ≤ (get_or xs j d).id.page
-pages_rise xs up i j d le lt = page_le (get_or xs i d).id (get_or xs j d).id (far xs (ascending_sorted xs up) i j d le lt)
+no_less : (a b : ℕ) → a ≤ b → is_lt (nat_cmp b a) ≡ false
+no_less a b le = grind (arith, nat_tests)
 
-below : (a b : ℕ) → ltb a b ≡ true → a < b
-below a b e = grind (arith, nat_tests)
+pages_sorted : (xs : List Frame) → IsAscending xs → IsSortedByKey (λ f. f.id.page) nat_cmp xs
+pages_sorted xs up k d low lt = no_less (get_or xs k d).id.page (get_or xs (k + 1) d).id.page (page_le (get_or xs k d).id (get_or xs (k + 1) d).id (not_after (get_or xs k d).id (get_or xs (k + 1) d).id (up k d lt)))
 
-not_below : (a b : ℕ) → ltb a b ≡ false → b ≤ a
-not_below a b e = grind (arith, nat_tests)
+equal_page : (a b : ℕ) → nat_cmp a b ≡ Equal → eqb a b ≡ true
+equal_page a b e = grind (arith, nat_tests)
 
-is_below : (a b : ℕ) → a < b → ltb a b ≡ true
-is_below a b lt = grind (arith, nat_tests)
+less_page : (a b : ℕ) → nat_cmp a b ≡ Less → eqb a b ≡ false
+less_page a b e = grind (arith, nat_tests)
 
-other_page : (a b : ℕ) → (a ≡ b → ⊥) → eqb a b ≡ false
-other_page a b ne = grind (arith, nat_tests)
+greater_page : (a b : ℕ) → nat_cmp a b ≡ Greater → eqb a b ≡ false
+greater_page a b e = grind (arith, nat_tests)
 
-same_page : (a b : ℕ) → eqb a b ≡ true → a ≡ b
-same_page a b e = grind (arith, nat_tests)
+page_at : (xs : List Frame) (page i : ℕ) → i < length xs → IsBinarySearchResult (λ f. nat_cmp f.id.page page) xs (Ok i) → has_page xs page ≡ true
+page_at [] page i lt h = absurd (omega arith)
+page_at (f ∷ fs) page i lt h = list_any_at (λ g. eqb g.id.page page) (f ∷ fs) i f lt (equal_page (get_or (f ∷ fs) i f).id.page page (h f))
 
-pub are_parted : (xs : List Frame) (page : ℕ) → IsAscending xs → IsPartitionedBy (λ f. ltb f.id.page page) xs
-are_parted xs page up i j d le lt e = is_below (get_or xs i d).id.page page (omega (arith, pages_rise xs up i j d le lt, below (get_or xs j d).id.page page e))
+page_missing : (xs : List Frame) (page i : ℕ) → IsAscending xs → IsBinarySearchResult (λ f. nat_cmp f.id.page page) xs (Err i) → has_page xs page ≡ false
+page_missing xs page i up h =
+    let p = h (searchable_from_sorted nat_cmp_total (λ (f : Frame). f.id.page) xs page (pages_sorted xs up)) in
+    list_any_none (λ g. eqb g.id.page page) xs (λ k d lt. elim (cases_lt k i) [
+      | inl before ↦ less_page (get_or xs k d).id.page page (p.0 k d (omega arith) before)
+      | inr from ↦ greater_page (get_or xs k d).id.page page (p.1 k d from lt)
+    ])
 
-abbrev pub IsPartedAt : List Frame → ℕ → ℕ → Type 0
-IsPartedAt xs page i = IsPartitionPoint (λ f. ltb f.id.page page ≡ true) (λ f. ltb f.id.page page ≡ false) xs i
-
--- the first frame of no lower page tells whether the page has a frame
-pub page_by_first : (xs : List Frame) (page i : ℕ) (f : Frame) → IsAscending xs → IsPartedAt xs page i → i < length xs → f ≡ get_or xs i f → eqb f.id.page page ≡ has_page xs page
-page_by_first xs page i f up parted lt at = by_test (eqb f.id.page page) refl where
-  by_test : (b : Bool) → eqb f.id.page page ≡ b → eqb f.id.page page ≡ has_page xs page
-  by_test true e = e ∙ sym (list_any_at (λ g. eqb g.id.page page) xs i f lt (ap (λ (g : Frame). eqb g.id.page page) (sym at) ∙ e))
-  by_test false e = e ∙ sym (list_any_none (λ g. eqb g.id.page page) xs (λ k d kl. elim (cases_lt k i) [
-    | inl before ↦ other_page (get_or xs k d).id.page page (λ same. absurd (omega (arith, same, below (get_or xs k d).id.page page (parted.0 k d (omega arith) before))))
-    | inr from ↦ other_page (get_or xs k d).id.page page (λ same.
-        let least : page ≤ (get_or xs i d).id.page = not_below (get_or xs i d).id.page page (parted.1 i d (omega arith) lt) in
-        let rise = pages_rise xs up i k d from kl in
-        let is : get_or xs i d ≡ f = get_or_default xs i d f lt ∙ sym at in
-        let page_is : f.id.page ≡ page = omega (arith, ap (λ (g : Frame). g.id.page) is, same, least, rise) in
-        let clash : eqb f.id.page page ≡ true = grind (arith, nat_tests) in
-        let no : true ≡ false = sym clash ∙ e in
-        cc)
-  ]))
-
-pub page_of_none : (xs : List Frame) (page i : ℕ) → IsPartedAt xs page i → length xs ≤ i → has_page xs page ≡ false
-page_of_none xs page i parted le = list_any_none (λ g. eqb g.id.page page) xs (λ k d kl. other_page (get_or xs k d).id.page page (λ same. absurd (omega (arith, same, below (get_or xs k d).id.page page (parted.0 k d (omega arith) (omega arith))))))
+-- a binary search tells whether a page has a frame
+pub page_found : (xs : List Frame) (page : ℕ) (r : Result ℕ ℕ) → IsAscending xs → IsSearchInRange r (length xs) → IsBinarySearchResult (λ f. nat_cmp f.id.page page) xs r → is_ok r ≡ has_page xs page
+page_found xs page (Ok i) up within h = sym (page_at xs page i within h)
+page_found xs page (Err i) up within h = sym (page_missing xs page i up h)
 
 -- neighbours of two ids ascend
 pub rises : (xs : List Frame) (j i : ℕ) (x y d : Frame) → i ≡ j + 1 → i < length xs → IsSortedById xs → id_eq (get_or xs j x).id (get_or xs i y).id ≡ false → id_cmp (get_or xs j d).id (get_or xs i d).id ≡ Less

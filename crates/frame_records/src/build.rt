@@ -84,14 +84,9 @@ fn page_has_frame(frames: &[Frame], page: PageNo) -> bool
     requires { IsAscending frames.now }
     ensures { result ≡ has_page frames.now page }
 {
-    let at = frames.partition_point(|frame| frame.id.page < page);
-    match frames.get(at) {
-        Some(frame) => {
-            let id = frame.id;
-            id.page == page
-        }
-        None => false,
-    }
+    frames
+        .binary_search_by_key(&page, |frame| frame.id.page)
+        .is_ok()
 }
 
 // The first outside page that has a frame.

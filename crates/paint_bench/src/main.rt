@@ -151,26 +151,27 @@ fn run_time(rt: &HostRuntime, bytes: &[u8]) -> Result<Duration> {
     Ok(time)
 }
 
-fn copy_time(rt: &HostRuntime, bytes: &[u8], copy: &mut Vec<u8>) -> Result<Duration> {
-    let start = rt.thread_cpu_time()?;
-    copy.clear();
-    copy.extend_from_slice(bytes)?;
-    let time = rt.thread_cpu_time()?.saturating_sub(start);
+fn copy_time(rt: &HostRuntime, bytes: &[u8], copy: &mut [u8]) -> Result<Duration> {
     if copy.len() != bytes.len() {
-        bail!("a byte is not copied");
+        bail!("there is other room than needed");
     }
-    Ok(time)
+    let start = rt.thread_cpu_time()?;
+    copy.copy_from_slice(bytes);
+    Ok(rt.thread_cpu_time()?.saturating_sub(start))
 }
 
 // Plain bytes passed over, beside a copy of them into room that is there.
 fn measure_run(rt: &HostRuntime) -> Result<()> {
     let bytes = bodies(rt, Kind::Plain)?;
-    let mut copy = Vec::with_capacity(rt.alloc(), bytes.len())?;
+    let mut copy = bodies(rt, Kind::Moves)?;
     let mut copying = copy_time(rt, &bytes, &mut copy)?;
     let mut running = run_time(rt, &bytes)?;
     for _ in 1..RUNS {
         copying = copy_time(rt, &bytes, &mut copy)?.min(copying);
         running = run_time(rt, &bytes)?.min(running);
+    }
+    if copy != bytes {
+        bail!("the copy differs");
     }
     let (run, plain_copy) = (speed(bytes.len(), running), speed(bytes.len(), copying));
     eprintln!(rt;

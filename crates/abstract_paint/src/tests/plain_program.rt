@@ -2,6 +2,8 @@
 
 use super::super::*;
 use frame_records::Lead;
+use std::alloc::{AllocError, Global};
+use std::test::Fail;
 use terminal_codes::{Terminal, lead_bytes};
 
 // A terminal that stands at a position, an escape pending or not.
@@ -125,4 +127,76 @@ fn agrees_on_each_byte_after_an_escape(rt: HostRuntime) {
             assert!(rt; agrees(Lead::Keep, body), "keep {body:?}");
         }
     }
+}
+
+// The head, so many letters, the middle, and so many letters more.
+fn body_of(
+    alloc: Global,
+    head: &[u8],
+    letters: usize,
+    middle: &[u8],
+    more: usize,
+) -> Result<Vec<u8>, AllocError> {
+    let mut body = Vec::new(alloc);
+    body.extend_from_slice(head)?;
+    for _ in 0..letters {
+        body.push(0x41)?;
+    }
+    body.extend_from_slice(middle)?;
+    for _ in 0..more {
+        body.push(0x7f)?;
+    }
+    Ok(body)
+}
+
+// Runs that end before, at and behind position 919, from the start and from the end of row 22, from row 0, and from row
+// 23, behind whose last cell comes position 0.
+#[test]
+fn agrees_on_runs_near_the_service_rows(rt: HostRuntime) -> Result<(), Fail> {
+    let heads: [&[u8]; 6] = [
+        &[0x1e, 0x0b, 0x0b],
+        &[0x1e, 0x0a, 0x08, 0x0b, 0x0b],
+        &[0x1e],
+        &[0x1e, 0x0a, 0x08],
+        &[0x1e, 0x0b],
+        &[0x1e, 0x08],
+    ];
+    for head in heads {
+        for letters in 0..48 {
+            let body = body_of(rt.alloc(), head, letters, &[], 0)?;
+            assert!(rt; agrees(Lead::Clear, &body), "clear {head:?} {letters}");
+            assert!(rt; agrees(Lead::Keep, &body), "keep {head:?} {letters}");
+        }
+    }
+    Ok(())
+}
+
+// The letters of all rows from 1 to 22, and one less and one more.
+#[test]
+fn agrees_on_full_pages(rt: HostRuntime) -> Result<(), Fail> {
+    for letters in 878..883 {
+        let body = body_of(rt.alloc(), &[0x1e, 0x0a], letters, &[], 0)?;
+        assert!(rt; agrees(Lead::Clear, &body), "clear {letters}");
+        assert!(rt; agrees(Lead::Keep, &body), "keep {letters}");
+        let body = body_of(rt.alloc(), &[], letters, &[], 0)?;
+        assert!(rt; agrees(Lead::Clear, &body), "lead alone {letters}");
+    }
+    Ok(())
+}
+
+// Runs cut by each control byte and by codes that aren't plain.
+#[test]
+fn agrees_on_runs_that_are_cut(rt: HostRuntime) -> Result<(), Fail> {
+    for letters in [1, 7, 8, 9, 31, 32, 33, 40] {
+        for byte in 0..0x20u8 {
+            let body = body_of(rt.alloc(), &[0x1e, 0x0a], letters, &[byte], 34)?;
+            assert!(rt; agrees(Lead::Clear, &body), "clear {letters} {byte}");
+            assert!(rt; agrees(Lead::Keep, &body), "keep {letters} {byte}");
+        }
+        for byte in [0x80, 0x9f, 0xa0, 0xff] {
+            let body = body_of(rt.alloc(), &[0x1e, 0x0a], letters, &[byte], 34)?;
+            assert!(rt; agrees(Lead::Keep, &body), "high {letters} {byte}");
+        }
+    }
+    Ok(())
 }

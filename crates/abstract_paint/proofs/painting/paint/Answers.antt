@@ -11,7 +11,7 @@ pub returns-in-Touches-clause-meaning : goal.returns-in-Touches-clause-meaning
 returns-in-Touches-clause-meaning c =
     let body = c.args.body.now in
     let done = c.loop-done.done in
-    let stops = c.in-Touches.ensures.1 done in
+    let stops = c.in-Touches.ensures.same done in
     let tail = ap (paint_from c.loop-done.cursor done) (tail_is done body) in
     let is : Touches (done + c.in-Touches.more) ≡ paint_of c.args.lead body = sym stops ∙ (tail ∙ c.loop-done.invariant.same) in
     means c.args.lead body (Touches (done + c.in-Touches.more)) is
