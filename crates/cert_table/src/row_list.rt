@@ -1,4 +1,5 @@
-ghost use Rattle.std.specs.Prelude.{◌≡◌, ◌<◌, ◌≤◌, length};
+ghost use Rattle.std.specs.Prelude.{◌≡◌, ◌<◌, ◌≤◌, length, position};
+ghost use Rattle.page_ids.specs.Ids.{id_eq};
 ghost use Rattle.std.specs.Option.{option_copied};
 ghost use Rattle.cert_table.specs.Rows.{row_among};
 
@@ -26,6 +27,13 @@ impl Model for RowList {
     ghost invariant = { λ l. AreRows l.rows.items };
 }
 
+// The place of an id's first row.
+fn place_in(rows: &[Row], id: FrameId) -> Option<usize>
+    ensures { result ≡ position (λ r. id_eq r.id id) rows.now }
+{
+    rows.iter().position(|row| row.id == id)
+}
+
 // The first row of an id, and how many rows were compared with it: those up to it, or all.
 fn first_of(rows: &[Row], id: FrameId) -> (Option<&Row>, u32)
     requires { length rows.now ≤ 65535 }
@@ -33,7 +41,7 @@ fn first_of(rows: &[Row], id: FrameId) -> (Option<&Row>, u32)
     ensures most { result.1 ≤ length rows.now }
     ensures least { 0 < length rows.now → 1 ≤ result.1 }
 {
-    match rows.iter().position(|row| row.id == id) {
+    match place_in(rows, id) {
         Some(at) => (Some(&rows[at]), at as u32 + 1),
         None => (None, rows.len() as u32),
     }
@@ -69,6 +77,6 @@ impl Cover for RowList {
     }
 
     fn most(&self) -> u32 {
-        self.rows.len() as u32
+        self.len() as u32
     }
 }

@@ -110,7 +110,7 @@ impl Cover for RowTable {
     }
 
     fn row_of(&self, id: FrameId) -> Option<&Row> {
-        row_in(self.rows.as_slice(), id).0
+        self.row_counted(id).0
     }
 
     fn rank_of(&self, id: FrameId) -> Option<u16> {

@@ -1,6 +1,6 @@
 //! Tables built by hand; which rows make none is this profile's own list of refusals.
 
-use crate::{Certificate, Cover, Row, RowList, TableFault};
+use crate::{Certificate, Cover, Row, RowList, RowTable, TableFault};
 use abstract_paint::{AbsCursor, Pend, Place};
 use frame_records::Pence;
 use page_ids::{FrameId, PageNo};
@@ -120,5 +120,60 @@ fn a_table_has_at_most_65_535_rows(rt: HostRuntime) -> Result<(), Fail> {
         certificate(many(rt.alloc(), 65_536)?).err(),
         Some(TableFault::TooMany)
     );
+    Ok(())
+}
+
+// So many rows, of every third page from 1.
+fn every_third(alloc: Global, count: u32) -> Result<Vec<Row>, AllocError> {
+    let mut rows = Vec::new(alloc);
+    for i in 0..count {
+        if let Some(page) = PageNo::new(i.saturating_mul(3).saturating_add(1)) {
+            rows.push(row(FrameId::first(page), (i % 9) as u16, Place::Any))?;
+        }
+    }
+    Ok(rows)
+}
+
+// The certificate of these rows over a cover, whichever it is.
+fn covered<C: Cover + Drop>(rows: Vec<Row>) -> Result<Certificate<C>, Fail> {
+    let entry = PageNo::new(123).ok_or("entry")?;
+    let ceiling = Pence::new(5).ok_or("ceiling")?;
+    Ok(
+        Certificate::build(entry, ceiling, 1, rows)
+            .ok()
+            .ok_or("rows")?,
+    )
+}
+
+#[test]
+fn a_table_and_a_list_of_rows_answer_alike(rt: HostRuntime) -> Result<(), Fail> {
+    for count in [0, 1, 2, 3, 4, 7, 8, 100] {
+        let table = covered::<RowTable>(every_third(rt.alloc(), count)?)?;
+        let list = covered::<RowList>(every_third(rt.alloc(), count)?)?;
+        assert_eq!(rt; table.cover().most(), 16);
+        assert_eq!(rt; list.cover().most(), count);
+        for number in 0..count.saturating_mul(3).saturating_add(3) {
+            let id = FrameId::first(PageNo::new(number).ok_or("page")?);
+            let (found, asked) = table.cover().row_counted(id);
+            let (listed, compared) = list.cover().row_counted(id);
+            assert_eq!(rt;
+                found.map(|row| row.rank),
+                listed.map(|row| row.rank),
+                "{number} of {count}"
+            );
+            assert_eq!(rt;
+                found.is_some(),
+                number % 3 == 1 && number < count.saturating_mul(3),
+                "{number} of {count}"
+            );
+            assert_eq!(rt;
+                table.cover().rank_of(id),
+                list.cover().rank_of(id),
+                "{number} of {count}"
+            );
+            assert!(rt; asked <= 7, "{number} of {count}: {asked}");
+            assert!(rt; compared <= count, "{number} of {count}: {compared}");
+        }
+    }
     Ok(())
 }

@@ -32,6 +32,7 @@ use Rattle.std.specs.List.{AllByRecursion}
 use Rattle.cert_table.specs.declared.row.Row.{Row}
 use Rattle.cert_table.specs.Rows.{row_among}
 use Rattle.cert_table.specs.CertView.{CertView}
+use Rattle.frame_records.proofs.Finds.{none_passes}
 use Rattle.checker.specs.declared.policy.Policy.{Policy}
 use Rattle.checker.specs.declared.verdict.Cause.{Cause}
 use Rattle.checker.specs.declared.verdict.Cause.TheVariants as cause
@@ -62,19 +63,6 @@ not_true false h = refl
 
 pub at_least : (m n : ℕ) → not (nat_lt m n) ≡ true → n ≤ m
 at_least m n h = grind (arith, nat_tests)
-
-none_by_test : {A : Type 0} (p : A → Bool) (x : A) (xs : List A) (i : ℕ) (d : A) → ((j : ℕ) → position_from p (i + 1) xs ≡ None → j < length xs → p (get_or xs j d) ≡ false) → (b : Bool) → p x ≡ b → cond b (Some i) (position_from p (i + 1) xs) ≡ None → (k : ℕ) → k < length (x ∷ xs) → p (get_or (x ∷ xs) k d) ≡ false
-none_by_test p x xs i d rest true e h k lt = cc
-none_by_test p x xs i d rest false e h zero lt = e
-none_by_test p x xs i d rest false e h (suc k) lt = rest k h (omega arith)
-
--- an element of which the test was found false
-none_from : {A : Type 0} (p : A → Bool) (xs : List A) (i k : ℕ) (d : A) → position_from p i xs ≡ None → k < length xs → p (get_or xs k d) ≡ false
-none_from p [] i k d h lt = absurd (omega arith)
-none_from p (x ∷ xs) i k d h lt = none_by_test p x xs i d (λ j e l. none_from p xs (i + 1) j d e l) (p x) refl h k lt
-
-pub none_passes : {A : Type 0} (p : A → Bool) (xs : List A) (k : ℕ) (d : A) → position p xs ≡ None → k < length xs → p (get_or xs k d) ≡ false
-none_passes p xs k d h lt = none_from p xs 0 k d (sym (position_from-zero p xs) ∙ h) lt
 
 -- what is read behind the end is None
 pub within : (xs : List (Option ℕ)) (k page : ℕ) → get_or xs k None ≡ Some page → k < length xs

@@ -1,6 +1,8 @@
 -- What `find` finds in a list: the first element that passes a test.
 use Rattle.std.proofs.Common.{◌≡◌, ℕ, zero, suc, ◌+◌, ◌<◌, ◌≤◌, Bool, true, false, cond, List, [], ◌∷◌, length, get_or, Some, None, refl, sym, ap, ◌∙◌, arith}
-use Rattle.std.specs.Prelude.{find, count_by}
+use Rattle.std.specs.Prelude.{find, count_by, position}
+use Rattle.std.specs.List.{position_from}
+use Rattle.std.proofs.lemmas.Iterator.Adapters.{position_from-zero}
 use Rattle.std.proofs.lemmas.List.Sums.{sum_by-cons}
 
 -- the place of what was found; all before it fail the test
@@ -98,3 +100,17 @@ count_two test (y ∷ ys) zero zero lt h g = absurd (omega arith)
 count_two test (y ∷ ys) zero (suc k) lt h g = omega (arith, count_true test y ys (h.passes y), count_one test ys k (behind test y ys k g))
 count_two test (y ∷ ys) (suc j) zero lt h g = absurd (omega arith)
 count_two test (y ∷ ys) (suc j) (suc k) lt h g = omega (arith, count_two test ys j k (omega arith) (behind test y ys j h) (behind test y ys k g), count_le test y ys)
+
+none_by_test : {A : Type 0} (p : A → Bool) (x : A) (xs : List A) (i : ℕ) (d : A) → ((j : ℕ) → position_from p (i + 1) xs ≡ None → j < length xs → p (get_or xs j d) ≡ false) → (b : Bool) → p x ≡ b → cond b (Some i) (position_from p (i + 1) xs) ≡ None → (k : ℕ) → k < length (x ∷ xs) → p (get_or (x ∷ xs) k d) ≡ false
+none_by_test p x xs i d rest true e h k lt = cc
+none_by_test p x xs i d rest false e h zero lt = e
+none_by_test p x xs i d rest false e h (suc k) lt = rest k h (omega arith)
+
+-- an element of which the test was found false
+none_from : {A : Type 0} (p : A → Bool) (xs : List A) (i k : ℕ) (d : A) → position_from p i xs ≡ None → k < length xs → p (get_or xs k d) ≡ false
+none_from p [] i k d h lt = absurd (omega arith)
+none_from p (x ∷ xs) i k d h lt = none_by_test p x xs i d (λ j e l. none_from p xs (i + 1) j d e l) (p x) refl h k lt
+
+-- where no place is found, none passes
+pub none_passes : {A : Type 0} (p : A → Bool) (xs : List A) (k : ℕ) (d : A) → position p xs ≡ None → k < length xs → p (get_or xs k d) ≡ false
+none_passes p xs k d h lt = none_from p xs 0 k d (sym (position_from-zero p xs) ∙ h) lt

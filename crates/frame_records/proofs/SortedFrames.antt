@@ -101,6 +101,16 @@ apart_at xs i k d up lt within = by_test (id_eq (get_or xs k d).id (get_or xs i 
   by_test true e = absurd (no_two xs (length xs) k i d (ascending_sorted xs up) up lt within within (id_eq_same (get_or xs k d).id (get_or xs i d).id e))
   by_test false e = refl
 
+equal_ids : (a b : Id) → id_cmp a b ≡ Equal → id_eq a b ≡ true
+equal_ids a b e = grind (arith, nat_tests)
+
+-- the frame at a place is the one of its id
+pub found_at : (xs : List Frame) (id : Id) (i : ℕ) (f : Frame) → IsAscending xs → i < length xs → get_or xs i f ≡ f → id_cmp f.id id ≡ Equal → frame_among xs id ≡ Some f
+found_at xs id i f up lt at e =
+    let same : f.id ≡ id = id_eq_same f.id id (equal_ids f.id id e) in
+    find_first (λ g. id_eq g.id id) xs i f lt at (equal_ids f.id id e)
+    (λ k l. ap (λ (o : Id). id_eq (get_or xs k f).id o) (sym same ∙ ap (λ (g : Frame). g.id) (sym at)) ∙ apart_at xs i k f up l lt)
+
 page_le : (a b : Id) → is_lt (id_cmp b a) ≡ false → a.page ≤ b.page
 page_le a b e = grind (arith, nat_tests)
 
