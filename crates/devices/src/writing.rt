@@ -1,5 +1,5 @@
 ghost use Rattle.std.specs.Prelude.{◌≡◌, false, OnOk, IfErr};
-ghost use Rattle.audit_report.specs.Devices.{WroteWhole, WrotePart};
+ghost use Rattle.devices.specs.Devices.{WroteWhole, WrotePart};
 
 use crate::device::Sink;
 use thiserror::Error;
