@@ -25,6 +25,3 @@ pub use from_read::FromRead;
 pub use into_write::IntoWrite;
 pub use reading::{SourceFault, read_whole};
 pub use writing::{WriteFault, write_whole};
-
-#[cfg(test)]
-mod tests;

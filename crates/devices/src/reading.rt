@@ -67,6 +67,3 @@ pub fn read_whole<S: Source>(
     }
     Ok(bytes)
 }
-
-#[cfg(test)]
-mod tests;

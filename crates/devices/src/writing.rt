@@ -46,6 +46,3 @@ pub fn write_whole<S: Sink>(sink: &mut S, bytes: &[u8]) -> Result<(), WriteFault
         }),
     }
 }
-
-#[cfg(test)]
-mod tests;
