@@ -9,8 +9,6 @@ use page_ids::{Digit, FrameId, PageNo};
 use session_machine::Reply;
 use std::test::Fail;
 
-pub mod fakes;
-
 #[test]
 fn a_verdict_is_one_line(rt: HostRuntime) -> Result<(), Fail> {
     let id = FrameId::read("1231b")?;

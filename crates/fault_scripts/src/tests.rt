@@ -5,15 +5,13 @@ use abstract_paint::{AbsCursor, Pend, Place, Start};
 use base_text::base_read;
 use cert_table::{Certificate, Cover, Row};
 use checker::Policy;
+use demo_texts::DEMO;
 use frame_records::{Base, Body, Frame, Lead, Pence};
 use page_ids::{FrameId, Key, KeyList, PageNo, keys_read, keys_text};
 use session_machine::{OpenFault, Reply};
 use std::alloc::Global;
 use std::process::Abort;
 use std::test::Fail;
-
-const DEMO: &str =
-    "entry = 123\noutside = [0]\n[[frame]]\nid = \"123a\"\nrows = [\"WELCOME\"]\nroutes = { 0 = 0, 1 = 1231 }\n[[frame]]\nid = \"1231a\"\nprice = 5\nnext = true\nrows = [\"PART ONE\"]\nroutes = { 0 = 123 }\n[[frame]]\nid = \"1231b\"\nlead = \"keep\"\nbody = \"\\u001E\\u000APART TWO\"\nroutes = { 0 = 123 }\n";
 
 const LAST: &str = "PART TWO\"\nroutes = { 0 = 123 }";
 
@@ -27,28 +25,13 @@ fn policy(ceiling: u16, keyings: u16) -> Result<Policy, Fail> {
     Ok(Policy { ceiling, keyings })
 }
 
-// The text with its first part that reads so replaced.
-fn changed(alloc: Global, text: &str, old: &str, new: &str) -> Result<String, Fail> {
-    let at = text.find(old).ok_or("no such part")?;
-    let mut out = String::new(alloc);
-    for (i, byte) in text.bytes().enumerate() {
-        if i == at {
-            out.push_str(new)?;
-        }
-        if i < at || i - at >= old.len() {
-            out.push(char::from(byte))?;
-        }
-    }
-    Ok(out)
-}
-
 fn base_of(alloc: Global, text: &str) -> Result<Base, Fail> {
     Ok(base_read(alloc, text.as_bytes()).ok().ok_or("a base")?)
 }
 
 // The base with one change.
 fn demo(alloc: Global, old: &str, new: &str) -> Result<Base, Fail> {
-    let text = changed(alloc, DEMO, old, new)?;
+    let text = DEMO.replacen(alloc, old, new, 1)?;
     base_of(alloc, text.as_str())
 }
 

@@ -1,7 +1,7 @@
 -- What a run did with one of its devices.
 use Rattle.std.specs.Prelude.{◌≡◌, ℕ, Bool, false, List, Option, Result, Ok, Err}
 use Rattle.std.specs.Io.KnownBytes.{Keeps}
-use Rattle.audit_report.specs.Devices.{WroteWhole, WrotePart}
+use Rattle.devices.specs.Devices.{WroteWhole, WrotePart}
 use Rattle.audit_report.specs.declared.run_fault.RunFault.{RunFault}
 use Rattle.audit_report.specs.declared.run_fault.RunFault.TheVariants as run
 use Rattle.pageaudit.specs.declared.status.Status.{Status}

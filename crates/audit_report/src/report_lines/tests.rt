@@ -4,6 +4,7 @@ use super::{fault_list_text, report};
 use abstract_paint::Start;
 use cert_text::cert_read;
 use checker::Policy;
+use demo_texts::CERT;
 use fault_scripts::{Fault, FaultKind, Outcome, audit};
 use frame_records::{Base, Body, Frame, Lead, Pence};
 use page_ids::{FrameId, PageNo, keys_read};
@@ -110,9 +111,6 @@ fn a_script_of_every_key_is_printed_in_its_words(rt: HostRuntime) -> Result<(), 
     );
     Ok(())
 }
-
-const CERT: &str =
-    "PBC1\nentry 123\nceiling 5\nkeyings 1\nrows 3\n123a 0 s80\n1231a 1 s80\n1231b 1 s48\nend\n";
 
 #[test]
 fn a_certificate_is_reported_as_its_text(rt: HostRuntime) -> Result<(), Fail> {

@@ -1,12 +1,13 @@
 //! The audits.
 
-use super::device::{broken_tape, full_paper, paper_of, tape_of};
-use super::{CERT, DEMO, changed, front, policy};
+use super::{front, policy};
 use crate::audit_run::run_audit;
 use crate::status::{Status, status_of};
 use audit_report::RunFault;
 use base_text::{BaseFault, Cause};
 use checker::Policy;
+use demo_texts::{CERT, DEMO};
+use fake_devices::{FakeSink, FakeSource};
 use std::alloc::Global;
 use std::test::Fail;
 
@@ -17,8 +18,8 @@ fn audited(
     step: usize,
     policy: &Policy,
 ) -> (Result<Status, RunFault>, Vec<u8>) {
-    let mut base = tape_of(base.as_bytes(), step);
-    let mut out = paper_of(alloc);
+    let mut base = FakeSource::of(base.as_bytes(), step);
+    let mut out = FakeSink::of(alloc, 1_000);
     let answer = run_audit(alloc, &mut base, &mut out, policy);
     (answer, out.taken)
 }
@@ -68,7 +69,7 @@ fn a_base_with_faults_gets_their_list(rt: HostRuntime) -> Result<(), Fail> {
         ),
     ];
     for (old, new, wanted) in rows {
-        let base = changed(rt.alloc(), DEMO, old, new)?;
+        let base = DEMO.replacen(rt.alloc(), old, new, 1)?;
         let (answer, text) = audited(rt.alloc(), base.as_str(), 7, &policy(50, 3)?);
         assert_eq!(rt; answer, Ok(Status::Faulty), "{wanted}");
         assert_eq!(rt; text.as_slice(), wanted.as_bytes(), "{wanted}");
@@ -112,8 +113,8 @@ fn a_base_that_cannot_be_read_writes_nothing_wherever_it_fails(
     rt: HostRuntime,
 ) -> Result<(), Fail> {
     for kept in 0..DEMO.len() + 1 {
-        let mut base = broken_tape(DEMO.as_bytes(), kept, 4_096);
-        let mut out = paper_of(rt.alloc());
+        let mut base = FakeSource::broken(DEMO.as_bytes(), 4_096, kept);
+        let mut out = FakeSink::of(rt.alloc(), 1_000);
         let answer = run_audit(rt.alloc(), &mut base, &mut out, &policy(50, 3)?);
         assert_eq!(rt; answer, Err(RunFault::ReadBase), "{kept}");
         assert_eq!(rt; out.taken.len(), 0, "{kept}");
@@ -124,16 +125,16 @@ fn a_base_that_cannot_be_read_writes_nothing_wherever_it_fails(
 #[test]
 fn a_report_that_is_not_taken_whole_is_told_with_what_was(rt: HostRuntime) -> Result<(), Fail> {
     for room in 0..81usize {
-        let mut base = tape_of(DEMO.as_bytes(), 4_096);
-        let mut out = full_paper(rt.alloc(), room, true);
+        let mut base = FakeSource::of(DEMO.as_bytes(), 4_096);
+        let mut out = FakeSink::full(rt.alloc(), 1_000, room);
         let answer = run_audit(rt.alloc(), &mut base, &mut out, &policy(50, 3)?);
         assert_eq!(rt; answer, Err(RunFault::Write(room as u64)), "{room}");
         assert_eq!(rt; status_of(&answer), 3, "{room}");
         assert_eq!(rt; out.taken.as_slice(), front(CERT, room), "{room}");
         assert_eq!(rt; out.flushes, 0, "{room}");
     }
-    let mut base = tape_of(DEMO.as_bytes(), 4_096);
-    let mut out = full_paper(rt.alloc(), 1_000, false);
+    let mut base = FakeSource::of(DEMO.as_bytes(), 4_096);
+    let mut out = FakeSink::unflushed(rt.alloc(), 1_000);
     let answer = run_audit(rt.alloc(), &mut base, &mut out, &policy(50, 3)?);
     assert_eq!(rt; answer, Err(RunFault::Write(81)));
     assert_eq!(rt; out.flushes, 1);

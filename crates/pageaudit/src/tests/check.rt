@@ -1,13 +1,14 @@
 //! The checks.
 
-use super::device::{Then, broken_tape, full_paper, paper_of, tape_of, tape_with};
-use super::{CERT, DEMO, changed, front, policy};
+use super::{front, policy};
 use crate::check_run::run_check;
 use crate::status::{Status, status_of};
 use audit_report::RunFault;
 use base_text::{BaseFault, Cause, Field};
 use cert_text::{LineCause, ReadFault};
 use checker::Policy;
+use demo_texts::{CERT, DEMO};
+use fake_devices::{FakeSink, FakeSource};
 use std::alloc::Global;
 use std::test::Fail;
 
@@ -19,9 +20,9 @@ fn checked(
     step: usize,
     policy: &Policy,
 ) -> (Result<Status, RunFault>, Vec<u8>) {
-    let mut base = tape_of(base.as_bytes(), step);
-    let mut cert = tape_of(cert.as_bytes(), step);
-    let mut out = paper_of(alloc);
+    let mut base = FakeSource::of(base.as_bytes(), step);
+    let mut cert = FakeSource::of(cert.as_bytes(), step);
+    let mut out = FakeSink::of(alloc, 1_000);
     let answer = run_check(alloc, &mut base, &mut cert, &mut out, policy);
     (answer, out.taken)
 }
@@ -83,7 +84,7 @@ fn a_changed_certificate_is_refused(rt: HostRuntime) -> Result<(), Fail> {
         ),
     ];
     for (old, new, wanted) in rows {
-        let cert = changed(rt.alloc(), CERT, old, new)?;
+        let cert = CERT.replacen(rt.alloc(), old, new, 1)?;
         let (answer, text) = checked(rt.alloc(), DEMO, cert.as_str(), 7, &policy(5, 1)?);
         assert_eq!(rt; answer, Ok(Status::Faulty), "{wanted}");
         assert_eq!(rt; text.as_slice(), wanted.as_bytes(), "{wanted}");
@@ -121,7 +122,7 @@ fn a_changed_base_is_refused(rt: HostRuntime) -> Result<(), Fail> {
         ),
     ];
     for (old, new, wanted) in rows {
-        let base = changed(rt.alloc(), DEMO, old, new)?;
+        let base = DEMO.replacen(rt.alloc(), old, new, 1)?;
         let (answer, text) = checked(rt.alloc(), base.as_str(), CERT, 7, &policy(5, 1)?);
         assert_eq!(rt; answer, Ok(Status::Faulty), "{wanted}");
         assert_eq!(rt; text.as_slice(), wanted.as_bytes(), "{wanted}");
@@ -137,9 +138,9 @@ fn the_bases_fault_comes_first_and_the_certificate_is_not_read(
         frame: None,
         cause: Cause::Absent(Field::Entry),
     };
-    let mut base = tape_of(b"", 7);
-    let mut cert = tape_of(b"PBC3\n", 7);
-    let mut out = paper_of(rt.alloc());
+    let mut base = FakeSource::of(b"", 7);
+    let mut cert = FakeSource::of(b"PBC3\n", 7);
+    let mut out = FakeSink::of(rt.alloc(), 1_000);
     let answer = run_check(rt.alloc(), &mut base, &mut cert, &mut out, &policy(5, 1)?);
     assert_eq!(rt; answer, Err(RunFault::Base(absent)));
     assert_eq!(rt; cert.calls, 0);
@@ -149,9 +150,9 @@ fn the_bases_fault_comes_first_and_the_certificate_is_not_read(
 
 // What a check of DEMO and a certificate answers, which is read in pieces of so many bytes.
 fn judged(alloc: Global, cert: &[u8], step: usize, policy: &Policy) -> Result<Status, RunFault> {
-    let mut base = tape_of(DEMO.as_bytes(), 4_096);
-    let mut cert = tape_of(cert, step);
-    let mut out = paper_of(alloc);
+    let mut base = FakeSource::of(DEMO.as_bytes(), 4_096);
+    let mut cert = FakeSource::of(cert, step);
+    let mut out = FakeSink::of(alloc, 1_000);
     run_check(alloc, &mut base, &mut cert, &mut out, policy)
 }
 
@@ -194,7 +195,7 @@ fn a_line_at_fault_is_named_whatever_the_pieces(rt: HostRuntime) -> Result<(), F
     ];
     let policy = policy(5, 1)?;
     for (old, new, line, cause) in rows {
-        let cert = changed(rt.alloc(), CERT, old, new)?;
+        let cert = CERT.replacen(rt.alloc(), old, new, 1)?;
         for step in PIECES {
             let answer = judged(rt.alloc(), cert.as_bytes(), step, &policy);
             let wanted = RunFault::Cert(ReadFault::Line(line, cause));
@@ -206,9 +207,9 @@ fn a_line_at_fault_is_named_whatever_the_pieces(rt: HostRuntime) -> Result<(), F
 
 #[test]
 fn nothing_is_asked_behind_a_refused_line(rt: HostRuntime) -> Result<(), Fail> {
-    let mut base = tape_of(DEMO.as_bytes(), 4_096);
-    let mut cert = broken_tape(b"PBC3\n", 5, 4_096);
-    let mut out = paper_of(rt.alloc());
+    let mut base = FakeSource::of(DEMO.as_bytes(), 4_096);
+    let mut cert = FakeSource::broken(b"PBC3\n", 4_096, 5);
+    let mut out = FakeSink::of(rt.alloc(), 1_000);
     let answer = run_check(rt.alloc(), &mut base, &mut cert, &mut out, &policy(5, 1)?);
     let magic = RunFault::Cert(ReadFault::Line(1, LineCause::Magic));
     assert_eq!(rt; answer, Err(magic));
@@ -220,9 +221,9 @@ fn nothing_is_asked_behind_a_refused_line(rt: HostRuntime) -> Result<(), Fail> {
 
 #[test]
 fn nothing_is_asked_behind_an_end(rt: HostRuntime) -> Result<(), Fail> {
-    let mut base = tape_with(DEMO.as_bytes(), 4_096, Then::Ends, b"x");
-    let mut cert = tape_with(CERT.as_bytes(), 4_096, Then::Ends, b"x");
-    let mut out = paper_of(rt.alloc());
+    let mut base = FakeSource::with_more(DEMO.as_bytes(), 4_096, b"x");
+    let mut cert = FakeSource::with_more(CERT.as_bytes(), 4_096, b"x");
+    let mut out = FakeSink::of(rt.alloc(), 1_000);
     let answer = run_check(rt.alloc(), &mut base, &mut cert, &mut out, &policy(5, 1)?);
     assert_eq!(rt; answer, Ok(Status::Clear));
     assert_eq!(rt; base.calls, 2);
@@ -234,9 +235,9 @@ fn nothing_is_asked_behind_an_end(rt: HostRuntime) -> Result<(), Fail> {
 #[test]
 fn a_reader_that_fails_once_is_its_read_fault(rt: HostRuntime) -> Result<(), Fail> {
     for kept in [0, 1, 100] {
-        let mut base = broken_tape(DEMO.as_bytes(), kept, 7);
-        let mut cert = tape_of(CERT.as_bytes(), 7);
-        let mut out = paper_of(rt.alloc());
+        let mut base = FakeSource::broken(DEMO.as_bytes(), 7, kept);
+        let mut cert = FakeSource::of(CERT.as_bytes(), 7);
+        let mut out = FakeSink::of(rt.alloc(), 1_000);
         let answer = run_check(rt.alloc(), &mut base, &mut cert, &mut out, &policy(5, 1)?);
         assert_eq!(rt; answer, Err(RunFault::ReadBase), "{kept}");
         assert_eq!(rt; status_of(&answer), 3);
@@ -244,9 +245,9 @@ fn a_reader_that_fails_once_is_its_read_fault(rt: HostRuntime) -> Result<(), Fai
         assert_eq!(rt; out.taken.len(), 0);
     }
     for kept in 0..82usize {
-        let mut base = tape_of(DEMO.as_bytes(), 4_096);
-        let mut cert = broken_tape(CERT.as_bytes(), kept, 4_096);
-        let mut out = paper_of(rt.alloc());
+        let mut base = FakeSource::of(DEMO.as_bytes(), 4_096);
+        let mut cert = FakeSource::broken(CERT.as_bytes(), 4_096, kept);
+        let mut out = FakeSink::of(rt.alloc(), 1_000);
         let answer = run_check(rt.alloc(), &mut base, &mut cert, &mut out, &policy(5, 1)?);
         assert_eq!(rt; answer, Err(RunFault::ReadCert), "{kept}");
         assert_eq!(rt; out.taken.len(), 0, "{kept}");
@@ -257,17 +258,17 @@ fn a_reader_that_fails_once_is_its_read_fault(rt: HostRuntime) -> Result<(), Fai
 #[test]
 fn a_writer_that_fails_is_told_with_what_it_took(rt: HostRuntime) -> Result<(), Fail> {
     for room in [0, 3, 7] {
-        let mut base = tape_of(DEMO.as_bytes(), 7);
-        let mut cert = tape_of(CERT.as_bytes(), 7);
-        let mut out = full_paper(rt.alloc(), room, true);
+        let mut base = FakeSource::of(DEMO.as_bytes(), 7);
+        let mut cert = FakeSource::of(CERT.as_bytes(), 7);
+        let mut out = FakeSink::full(rt.alloc(), 1_000, room);
         let answer = run_check(rt.alloc(), &mut base, &mut cert, &mut out, &policy(5, 1)?);
         assert_eq!(rt; answer, Err(RunFault::Write(room as u64)), "{room}");
         assert_eq!(rt; status_of(&answer), 3);
         assert_eq!(rt; out.taken.len(), room);
     }
-    let mut base = tape_of(DEMO.as_bytes(), 7);
-    let mut cert = tape_of(CERT.as_bytes(), 7);
-    let mut out = full_paper(rt.alloc(), 1_000, false);
+    let mut base = FakeSource::of(DEMO.as_bytes(), 7);
+    let mut cert = FakeSource::of(CERT.as_bytes(), 7);
+    let mut out = FakeSink::unflushed(rt.alloc(), 1_000);
     let answer = run_check(rt.alloc(), &mut base, &mut cert, &mut out, &policy(5, 1)?);
     assert_eq!(rt; answer, Err(RunFault::Write(8)));
     assert_eq!(rt; out.flushes, 1);

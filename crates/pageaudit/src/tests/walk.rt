@@ -1,16 +1,16 @@
 //! The walks.
 
-use super::DEMO;
-use super::device::{broken_tape, full_paper, paper_of, tape_of};
 use crate::status::{Status, status_of};
 use crate::walk_run::run_walk;
 use audit_report::RunFault;
+use demo_texts::DEMO;
+use fake_devices::{FakeSink, FakeSource};
 use std::alloc::Global;
 
 // What a walk answers, and what it writes.
 fn walked(alloc: Global, base: &str, keys: &str) -> (Result<Status, RunFault>, Vec<u8>) {
-    let mut base = tape_of(base.as_bytes(), 1);
-    let mut out = paper_of(alloc);
+    let mut base = FakeSource::of(base.as_bytes(), 1);
+    let mut out = FakeSink::of(alloc, 1_000);
     let answer = run_walk(alloc, &mut base, keys, &mut out);
     (answer, out.taken)
 }
@@ -54,8 +54,8 @@ fn a_walk_shows_each_reply(rt: HostRuntime) {
 
 #[test]
 fn bad_keys_come_before_the_base(rt: HostRuntime) {
-    let mut base = broken_tape(DEMO.as_bytes(), 0, 5);
-    let mut out = paper_of(rt.alloc());
+    let mut base = FakeSource::broken(DEMO.as_bytes(), 5, 0);
+    let mut out = FakeSink::of(rt.alloc(), 1_000);
     let answer = run_walk(rt.alloc(), &mut base, "1*5#", &mut out);
     assert_eq!(rt; answer, Err(RunFault::Keys(1)));
     assert_eq!(rt; status_of(&answer), 2);
@@ -66,21 +66,21 @@ fn bad_keys_come_before_the_base(rt: HostRuntime) {
 #[test]
 fn a_device_that_fails_once_is_not_asked_again(rt: HostRuntime) {
     for kept in [0, 1, 100] {
-        let mut base = broken_tape(DEMO.as_bytes(), kept, 4_096);
-        let mut out = paper_of(rt.alloc());
+        let mut base = FakeSource::broken(DEMO.as_bytes(), 4_096, kept);
+        let mut out = FakeSink::of(rt.alloc(), 1_000);
         let answer = run_walk(rt.alloc(), &mut base, "1", &mut out);
         assert_eq!(rt; answer, Err(RunFault::ReadBase), "{kept}");
         assert_eq!(rt; out.taken.len(), 0, "{kept}");
     }
     for room in [0, 12, 26] {
-        let mut base = tape_of(DEMO.as_bytes(), 7);
-        let mut out = full_paper(rt.alloc(), room, true);
+        let mut base = FakeSource::of(DEMO.as_bytes(), 7);
+        let mut out = FakeSink::full(rt.alloc(), 1_000, room);
         let answer = run_walk(rt.alloc(), &mut base, "1", &mut out);
         assert_eq!(rt; answer, Err(RunFault::Write(room as u64)), "{room}");
         assert_eq!(rt; out.taken.len(), room, "{room}");
     }
-    let mut base = tape_of(DEMO.as_bytes(), 7);
-    let mut out = full_paper(rt.alloc(), 1_000, false);
+    let mut base = FakeSource::of(DEMO.as_bytes(), 7);
+    let mut out = FakeSink::unflushed(rt.alloc(), 1_000);
     let answer = run_walk(rt.alloc(), &mut base, "1", &mut out);
     assert_eq!(rt; answer, Err(RunFault::Write(27)));
     assert_eq!(rt; out.flushes, 1);

@@ -42,6 +42,3 @@ impl<R: Read> Source for FromRead<R> {
         self.failed
     }
 }
-
-#[cfg(test)]
-mod tests;

@@ -1,7 +1,7 @@
 ghost use Rattle.std.specs.Prelude.{◌≡◌, List, ℕ, Option, Bool};
 ghost use Rattle.std.specs.Io.{ReadsAtMost};
 ghost use Rattle.std.specs.Io.KnownBytes.{ReadConsumes, WriteAppends, Keeps};
-ghost use Rattle.audit_report.specs.Devices.{Flags, WritesSome};
+ghost use Rattle.devices.specs.Devices.{Flags, WritesSome};
 
 use thiserror::Error;
 

@@ -1,6 +1,6 @@
 use Rattle.std.proofs.Common.{◌≡◌, ◌-◌, ◌≤◌, false, length}
 use Rattle.std.specs.Io.KnownBytes.{Consumes}
-use Rattle.audit_report.proofs.reading.read_whole.Given as goal
+use Rattle.devices.proofs.reading.read_whole.Given as goal
 
 abbrev pub invariant-loop-bytes : goal.invariant-loop-bytes
 invariant-loop-bytes g l = record {

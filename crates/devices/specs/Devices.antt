@@ -1,8 +1,8 @@
 -- What the calls of sources and sinks do.
 use Rattle.std.specs.Prelude.{◌≡◌, ◌≤◌, ◌<◌, ◌++◌, ℕ, Bool, true, false, List, Option, length, take, IfOk, MatchResult, Result}
 use Rattle.std.specs.Io.KnownBytes.{Consumes, Appends, IsAtEnd}
-use Rattle.audit_report.specs.declared.reading.SourceFault.{SourceFault}
-use Rattle.audit_report.specs.declared.reading.SourceFault.TheVariants.{Broken, Memory}
+use Rattle.devices.specs.declared.reading.SourceFault.{SourceFault}
+use Rattle.devices.specs.declared.reading.SourceFault.TheVariants.{Broken, Memory}
 
 -- an error sets the flag for good, a success leaves it
 abbrev pub Flags : {A E : Type 0} → Bool → Bool → Result A E → Type 0

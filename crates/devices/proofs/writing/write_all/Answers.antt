@@ -1,7 +1,7 @@
 use Rattle.std.proofs.Common.{rules}
 use Rattle.std.proofs.KnownBytes.{Appends-trans}
-use Rattle.audit_report.proofs.Parts.{first_and_more}
-use Rattle.audit_report.proofs.writing.write_all.Goals as goal
+use Rattle.devices.proofs.Parts.{first_and_more}
+use Rattle.devices.proofs.writing.write_all.Goals as goal
 
 pub loop-wrote-preserved : goal.loop-wrote-preserved
 loop-wrote-preserved g c =

@@ -1,5 +1,5 @@
 ghost use Rattle.std.specs.Prelude.{◌≡◌, false, OnOk, IfErr};
-ghost use Rattle.audit_report.specs.Devices.{WroteWhole, WrotePart};
+ghost use Rattle.devices.specs.Devices.{WroteWhole, WrotePart};
 
 use crate::device::Sink;
 use thiserror::Error;
@@ -46,6 +46,3 @@ pub fn write_whole<S: Sink>(sink: &mut S, bytes: &[u8]) -> Result<(), WriteFault
         }),
     }
 }
-
-#[cfg(test)]
-mod tests;

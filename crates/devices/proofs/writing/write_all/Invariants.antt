@@ -1,6 +1,6 @@
 use Rattle.std.proofs.Common.{◌≡◌, ◌-◌, ◌≤◌, false, length, take}
 use Rattle.std.specs.Io.KnownBytes.{Appends}
-use Rattle.audit_report.proofs.writing.write_all.Given as goal
+use Rattle.devices.proofs.writing.write_all.Given as goal
 
 abbrev pub invariant-loop-wrote : goal.invariant-loop-wrote
 invariant-loop-wrote g l = record {

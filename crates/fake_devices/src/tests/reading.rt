@@ -1,5 +1,5 @@
-use crate::tests::fakes::FakeSource;
-use crate::{Source, SourceFault, read_whole};
+use crate::FakeSource;
+use devices::{Source, SourceFault, read_whole};
 use std::test::Fail;
 
 const TEXT: &[u8] = b"entry = 123\n";
@@ -35,20 +35,18 @@ fn reading_stops_at_the_limit(rt: HostRuntime) -> Result<(), Fail> {
 // The source would go on behind the call that fails. The 13th would tell the end.
 #[test]
 fn a_source_that_fails_is_broken_wherever_it_fails(rt: HostRuntime) {
-    for call in 1..14u32 {
-        let mut source = FakeSource::of(TEXT, 1);
-        source.fails_at = call;
+    for kept in 0..13u32 {
+        let mut source = FakeSource::broken(TEXT, 1, kept as usize);
         let fault = read_whole(rt.alloc(), &mut source, 100).err();
-        assert!(rt; fault == Some(SourceFault::Broken), "call {call}");
-        assert!(rt; source.failed(), "call {call}");
-        assert_eq!(rt; source.calls, call, "asked once more");
+        assert!(rt; fault == Some(SourceFault::Broken), "{kept}");
+        assert!(rt; source.failed(), "{kept}");
+        assert_eq!(rt; source.calls, kept + 1, "asked once more");
     }
 }
 
 #[test]
 fn what_lies_behind_the_limit_is_not_asked_for(rt: HostRuntime) -> Result<(), Fail> {
-    let mut source = FakeSource::of(TEXT, 5);
-    source.fails_at = 4;
+    let mut source = FakeSource::broken(TEXT, 5, 12);
     let bytes = read_whole(rt.alloc(), &mut source, 12)?;
     assert!(rt; bytes.as_slice() == TEXT);
     assert!(rt; !source.failed());
@@ -57,8 +55,7 @@ fn what_lies_behind_the_limit_is_not_asked_for(rt: HostRuntime) -> Result<(), Fa
 
 #[test]
 fn what_lies_behind_the_end_is_not_asked_for(rt: HostRuntime) -> Result<(), Fail> {
-    let mut source = FakeSource::of(TEXT, 5);
-    source.behind = b"more";
+    let mut source = FakeSource::with_more(TEXT, 5, b"more");
     let bytes = read_whole(rt.alloc(), &mut source, 100)?;
     assert!(rt; bytes.as_slice() == TEXT);
     assert_eq!(rt; source.calls, 4);

@@ -1,5 +1,5 @@
 ghost use Rattle.std.specs.Prelude.{◌≡◌, ◌<◌, false, IfOk, OnOk, IfErr, IfSome, take};
-ghost use Rattle.audit_report.specs.Devices.{IsPieceRead, IsWholeRead, IsSourceFault};
+ghost use Rattle.devices.specs.Devices.{IsPieceRead, IsWholeRead, IsSourceFault};
 
 use crate::device::Source;
 use std::alloc::Global;
@@ -67,6 +67,3 @@ pub fn read_whole<S: Source>(
     }
     Ok(bytes)
 }
-
-#[cfg(test)]
-mod tests;

@@ -1,0 +1,91 @@
+ghost use Rattle.std.specs.Prelude.{◌≡◌, false, None};
+
+use devices::{Broken, Source};
+use std::io;
+use std::io::{ErrorKind, Read};
+
+/// Gives its bytes, so many a call, then ends or fails once, and then gives the bytes behind.
+#[derive(Drop)]
+pub struct FakeSource<'a> {
+    /// What it gives before it ends or fails.
+    pub bytes: &'a [u8],
+    behind: &'a [u8],
+    step: usize,
+    fails: bool,
+    /// How many reads there were.
+    pub calls: u32,
+    /// Whether a read failed.
+    pub failed: bool,
+}
+
+impl<'a> FakeSource<'a> {
+    /// It ends, and then gives the bytes behind.
+    pub fn with_more(bytes: &'a [u8], step: usize, behind: &'a [u8]) -> FakeSource<'a>
+        ensures { result.failed ≡ false }
+    {
+        FakeSource {
+            bytes,
+            behind,
+            step,
+            fails: false,
+            calls: 0,
+            failed: false,
+        }
+    }
+
+    /// It ends behind its bytes.
+    pub fn of(bytes: &'a [u8], step: usize) -> FakeSource<'a>
+        ensures { result.failed ≡ false }
+    {
+        FakeSource::with_more(bytes, step, &[])
+    }
+
+    /// It fails behind so many bytes, and then gives the others.
+    pub fn broken(bytes: &'a [u8], step: usize, kept: usize) -> FakeSource<'a>
+        ensures { result.failed ≡ false }
+    {
+        let (front, behind) = bytes.split_at(kept.min(bytes.len()));
+        FakeSource {
+            bytes: front,
+            behind,
+            step,
+            fails: true,
+            calls: 0,
+            failed: false,
+        }
+    }
+}
+
+impl Source for FakeSource<'_> {
+    ghost left = { λ _. None };
+
+    ghost has_failed = { λ s. s.failed };
+
+    fn read(&mut self, into: &mut [u8]) -> Result<usize, Broken> {
+        self.calls = self.calls.wrapping_add(1);
+        if self.bytes.is_empty() {
+            self.bytes = self.behind;
+            self.behind = &[];
+            if self.fails {
+                self.fails = false;
+                self.failed = true;
+                return Err(Broken);
+            }
+            return Ok(0);
+        }
+        let count = into.len().min(self.step).min(self.bytes.len());
+        into[..count].copy_from_slice(&self.bytes[..count]);
+        self.bytes = &self.bytes[count..];
+        Ok(count)
+    }
+
+    fn failed(&self) -> bool {
+        self.failed
+    }
+}
+
+impl Read for FakeSource<'_> {
+    fn read(&mut self, into: &mut [u8]) -> io::Result<usize> {
+        Source::read(self, into).map_err(|_| io::Error::from(ErrorKind::Other))
+    }
+}

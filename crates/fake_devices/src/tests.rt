@@ -1,0 +1,6 @@
+//! Tests of the crate [`devices`].
+
+mod from_read;
+mod into_write;
+mod reading;
+mod writing;
