@@ -13,8 +13,8 @@ pub trait Cover {
     /// The rows, in the order of their ids.
     ghost rows: { Self → List Row };
 
-    /// The most rows that one look-up compares.
-    ghost most_asked: { Self → ℕ };
+    /// The most rows that one look-up compares, among so many.
+    ghost most_among: { ℕ → ℕ };
 
     /// The map of these rows. Takes no memory: the list is kept.
     fn of(list: Vec<Row>) -> Self
@@ -42,10 +42,10 @@ pub trait Cover {
     /// The row of an id, and how many rows were compared with it: at least one where there is one, and at most `most`.
     fn row_counted(&self, id: FrameId) -> (Option<&Row>, u32)
         ensures value { option_copied result.0 ≡ row_among (rows self.now) id }
-        ensures most { result.1 ≤ most_asked self.now }
+        ensures most { result.1 ≤ most_among (length (rows self.now)) }
         ensures least { 0 < length (rows self.now) → 1 ≤ result.1 };
 
     /// The most rows that one look-up compares.
     fn most(&self) -> u32
-        ensures { result ≡ most_asked self.now };
+        ensures { result ≡ most_among (length (rows self.now)) };
 }

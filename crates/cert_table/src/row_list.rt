@@ -50,7 +50,7 @@ fn first_of(rows: &[Row], id: FrameId) -> (Option<&Row>, u32)
 impl Cover for RowList {
     ghost rows = { λ l. l };
 
-    ghost most_asked = { λ l. length l };
+    ghost most_among = { λ n. n };
 
     fn of(list: Vec<Row>) -> Self {
         RowList { rows: list }

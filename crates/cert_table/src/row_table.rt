@@ -95,7 +95,7 @@ fn row_in(rows: &[Row], id: FrameId) -> (Option<&Row>, u32)
 impl Cover for RowTable {
     ghost rows = { λ t. t };
 
-    ghost most_asked = { λ _. 16 };
+    ghost most_among = { λ _. 16 };
 
     fn of(list: Vec<Row>) -> Self {
         RowTable { rows: list }

@@ -72,7 +72,7 @@ no_position_from : {A : Type 0} (p : A → Bool) (xs : List A) (i : ℕ) → ((k
 no_position_from p [] i all = refl
 no_position_from p (x ∷ xs) i all = position_by p x xs i (all 0 x (omega arith)) (no_position_from p xs (i + 1) (λ k d lt. all (suc k) d (omega arith)))
 
-no_position : {A : Type 0} (p : A → Bool) (xs : List A) → ((k : ℕ) (d : A) → k < length xs → p (get_or xs k d) ≡ false) → position p xs ≡ None
+pub no_position : {A : Type 0} (p : A → Bool) (xs : List A) → ((k : ℕ) (d : A) → k < length xs → p (get_or xs k d) ≡ false) → position p xs ≡ None
 no_position p xs all = position_from-zero p xs ∙ no_position_from p xs 0 all
 
 pub true_or : (a b : Bool) → (a ≡ true) ⊎ (b ≡ true) → (a || b) ≡ true

@@ -4,3 +4,5 @@ pub mod Clears
 pub mod IsCleared
 pub mod RowBodies
 pub mod Refusals
+pub mod WaysTold
+pub mod Counted

@@ -85,7 +85,7 @@ clean_same : (x y : AbsCursor) → Clean x ≡ Clean y → x ≡ y
 clean_same x y e = cc
 
 -- the first place that passes
-first_place : {A : Type 0} (p : A → Bool) (xs : List A) (i : ℕ) (d : A) → i < length xs → p (get_or xs i d) ≡ true → ((k : ℕ) → k < i → p (get_or xs k d) ≡ false) → position p xs ≡ Some i
+pub first_place : {A : Type 0} (p : A → Bool) (xs : List A) (i : ℕ) (d : A) → i < length xs → p (get_or xs i d) ≡ true → ((k : ℕ) → k < i → p (get_or xs k d) ≡ false) → position p xs ≡ Some i
 first_place p xs i d lt at before =
     let is = position_or_len_is p xs i d (omega (arith, lt)) before (λ l. at) in
     let inside : (nat_lt i (length xs)) ≡ true = grind (arith, nat_tests, lt) in

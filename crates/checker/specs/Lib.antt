@@ -1,7 +1,9 @@
 pub mod Good
 pub mod Safe
 pub mod Verdict
+pub mod Headline
 pub mod Refusal
+pub mod Ways
+pub mod Counts
 pub mod Laws
 pub mod RowsAreClean
-pub mod Headline

@@ -1,24 +1,15 @@
-ghost use Rattle.std.specs.Prelude.{◌≡◌};
+ghost use Rattle.std.specs.Prelude.{◌≡◌, ◌<◌, ◌≤◌, length};
+ghost use Rattle.std.specs.Option.{option_copied};
 ghost use Rattle.cert_table.specs.Rows.{row_among};
-ghost use Rattle.checker.specs.Good.{is_covered};
-ghost use Rattle.checker.specs.Verdict.{rank_below};
 
-use cert_table::{Certificate, Cover};
+use cert_table::{Certificate, Cover, Row};
 use page_ids::FrameId;
 
-// The id has a row.
-pub fn has_row<C: Cover + Drop>(cert: &Certificate<C>, id: FrameId) -> bool
-    ensures { result ≡ is_covered cert.now.rows id }
+// The row of an id, and how many rows were compared with it.
+pub fn seek_row<C: Cover + Drop>(cert: &Certificate<C>, id: FrameId) -> (Option<&Row>, u32)
+    ensures value { option_copied result.0 ≡ row_among cert.now.rows id }
+    ensures most { result.1 ≤ C.most_among (length cert.now.rows) }
+    ensures least { 0 < length cert.now.rows → 1 ≤ result.1 }
 {
-    cert.cover().row_of(id).is_some()
-}
-
-// The id has a row of lower rank.
-pub fn is_below<C: Cover + Drop>(cert: &Certificate<C>, rank: u16, id: FrameId) -> bool
-    ensures { result ≡ rank_below rank (row_among cert.now.rows id) }
-{
-    match cert.cover().row_of(id) {
-        None => false,
-        Some(row) => row.rank < rank,
-    }
+    cert.cover().row_counted(id)
 }

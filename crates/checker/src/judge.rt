@@ -1,17 +1,19 @@
-ghost use Rattle.std.specs.Prelude.{◌≡◌, ◌≤◌, ◌↔◌, [], ℕ, List};
+ghost use Rattle.std.specs.Prelude.{◌≡◌, ◌≤◌, ◌<◌, ◌+◌, ◌*◌, ◌↔◌, [], None, ℕ, List, length};
+ghost use Rattle.abstract_paint.specs.Paint.{paint_of};
+ghost use Rattle.checker.specs.Counts.{ways_of, IsFoundCount, IsRowCount, AreAllCounted, IsCount};
 ghost use Rattle.page_ids.specs.declared.key.Key.{Key};
 ghost use Rattle.session_machine.specs.Open.{opening};
 ghost use Rattle.session_machine.specs.Runs.{state_after};
-ghost use Rattle.abstract_paint.specs.Paint.{paint_of};
 ghost use Rattle.checker.specs.Good.{Good};
 ghost use Rattle.checker.specs.Safe.{Safe, HasRows};
 ghost use Rattle.checker.specs.Verdict.{verdict, verdict_of, same_cursor, paint_fault, frame_fault, ways_fault, found_fault, row_fault, rows_fault, head_fault};
 
-use crate::cover::has_row;
+use crate::count::Count;
+use crate::cover::seek_row;
 use crate::policy::Policy;
-use crate::rank::judge_rank;
+use crate::rank::ways_cause;
 use crate::verdict::{Cause, Verdict};
-use crate::ways::{lost_route, next_is_lost};
+use crate::ways::{over_next, over_routes};
 use abstract_paint::{AbsCursor, Painted, paint};
 use cert_table::{Certificate, Cover, Row};
 use frame_records::{Base, Frame};
@@ -51,95 +53,177 @@ fn judge_painting(row: &Row, frame: &Frame) -> Option<Cause>
     }
 }
 
-// K11 and K12, then the rank: the ways on from the frame.
+// K11 to K14: the ways on from the frame, and how much was compared for them.
 fn judge_ways<C: Cover + Drop>(
     base: &Base,
     cert: &Certificate<C>,
     row: &Row,
     frame: &Frame,
-) -> Option<Cause>
-    ensures { result ≡ ways_fault base.now cert.now.rows row.now frame.now }
+) -> (Option<Cause>, u64)
+    ensures cause { result.0 ≡ ways_fault base.now cert.now.rows row.now frame.now }
+    ensures most { result.1 ≤ 160 + 11 * C.most_among (length cert.now.rows) }
+    ensures small { result.1 ≤ 90194313195 }
+    ensures least { 0 < length cert.now.rows → ways_of row.now.id frame.now ≤ result.1 }
 {
-    let id = row.id;
-    if let Some(digit) = lost_route(base, cert, frame) {
-        return Some(Cause::RouteNotCovered(id, digit));
-    }
-    if next_is_lost(cert, row, frame) {
-        return Some(Cause::NextNotCovered(id));
-    }
-    judge_rank(base, cert, row, frame)
+    let routes = over_routes(base, cert, row.rank, &frame.routes);
+    let next = over_next(cert, row, frame);
+    let cause = ways_cause(
+        base,
+        row.id,
+        row.rank,
+        routes.lost,
+        next.leads_on,
+        routes.down | next.down,
+    );
+    (cause, routes.asked + next.asked)
 }
 
-// All conditions on a row whose frame is there.
+// All conditions on a row whose frame is there, and what they took.
 fn judge_found<C: Cover + Drop>(
     base: &Base,
     cert: &Certificate<C>,
     row: &Row,
     frame: &Frame,
-) -> Option<Cause>
-    ensures { result ≡ found_fault [] base.now cert.now row.now frame.now }
+) -> (Option<Cause>, Count)
+    ensures cause { result.0 ≡ found_fault [] base.now cert.now row.now frame.now }
+    ensures count { IsFoundCount (C.most_among (length cert.now.rows)) cert.now.rows row.now frame.now result.0 result.1 }
 {
     if let Some(cause) = judge_frame(cert, row, frame) {
-        return Some(cause);
+        return (
+            Some(cause),
+            Count {
+                probes: 0,
+                steps: 0,
+            },
+        );
     }
+    let steps = frame.body.as_slice().len() as u64;
     if let Some(cause) = judge_painting(row, frame) {
-        return Some(cause);
+        return (Some(cause), Count { probes: 0, steps });
     }
-    judge_ways(base, cert, row, frame)
+    let (cause, probes) = judge_ways(base, cert, row, frame);
+    (cause, Count { probes, steps })
 }
 
-// The first condition that fails of a row.
-fn judge_row<C: Cover + Drop>(base: &Base, cert: &Certificate<C>, row: &Row) -> Option<Cause>
-    ensures { result ≡ row_fault [] base.now cert.now row.now }
+// The first condition that fails of a row, and what that took.
+fn judge_row<C: Cover + Drop>(
+    base: &Base,
+    cert: &Certificate<C>,
+    row: &Row,
+) -> (Option<Cause>, Count)
+    ensures cause { result.0 ≡ row_fault [] base.now cert.now row.now }
+    ensures count { IsRowCount base.now (C.most_among (length cert.now.rows)) cert.now.rows row.now result.0 result.1 }
 {
-    match base.find(row.id) {
-        None => Some(Cause::NoFrame(row.id)),
-        Some(frame) => judge_found(base, cert, row, frame),
-    }
-}
-
-fn judge_rows<C: Cover + Drop>(base: &Base, cert: &Certificate<C>) -> Option<Cause>
-    ensures { result ≡ rows_fault [] base.now cert.now cert.now.rows }
-{
-    let cover = cert.cover();
-    for i in 0..cover.len() {
-        if let Some(cause) = judge_row(base, cert, cover.row_at(i)) {
-            return Some(cause);
+    let _frames = base.frames();
+    let (frame, asked) = base.find_counted(row.id);
+    let asked = u64::from(asked);
+    match frame {
+        None => (
+            Some(Cause::NoFrame(row.id)),
+            Count {
+                probes: asked,
+                steps: 0,
+            },
+        ),
+        Some(frame) => {
+            let (cause, count) = judge_found(base, cert, row, frame);
+            (
+                cause,
+                Count {
+                    probes: asked + count.probes,
+                    steps: count.steps,
+                },
+            )
         }
     }
-    None
+}
+// The first condition that fails of the rows in order, and what they took.
+fn judge_rows<C: Cover + Drop>(base: &Base, cert: &Certificate<C>) -> (Option<Cause>, Count)
+    requires some { 0 < length cert.now.rows }
+    ensures cause { result.0 ≡ rows_fault [] base.now cert.now cert.now.rows }
+    ensures count { AreAllCounted base.now (C.most_among (length cert.now.rows)) cert.now.rows result.0 result.1 }
+{
+    let cover = cert.cover();
+    let mut total = Count {
+        probes: 0,
+        steps: 0,
+    };
+    for i in 0..cover.len() {
+        let (cause, count) = judge_row(base, cert, cover.row_at(i));
+        total = total.with(count);
+        if let Some(cause) = cause {
+            return (Some(cause), total);
+        }
+    }
+    (None, total)
 }
 
-// K1 to K4.
-fn judge_head<C: Cover + Drop>(base: &Base, policy: &Policy, cert: &Certificate<C>) -> Option<Cause>
-    ensures { result ≡ head_fault base.now policy.now cert.now }
+// K1 to K4, and how much was compared for the entry frame.
+fn judge_head<C: Cover + Drop>(
+    base: &Base,
+    policy: &Policy,
+    cert: &Certificate<C>,
+) -> (Option<Cause>, u32)
+    ensures cause { result.0 ≡ head_fault base.now policy.now cert.now }
+    ensures most { result.1 ≤ C.most_among (length cert.now.rows) }
+    ensures small { result.1 ≤ 4294967295 }
+    ensures some { result.0 ≡ None → 0 < length cert.now.rows }
+    ensures least { result.0 ≡ None → 1 ≤ result.1 }
 {
     if cert.entry() != base.entry() {
-        return Some(Cause::EntryDiffers);
+        return (Some(Cause::EntryDiffers), 0);
     }
     if cert.ceiling() > policy.ceiling {
-        return Some(Cause::CeilingAbove);
+        return (Some(Cause::CeilingAbove), 0);
     }
     if cert.keyings() > policy.keyings {
-        return Some(Cause::KeyingsAbove);
+        return (Some(Cause::KeyingsAbove), 0);
     }
-    if !has_row(cert, base.entry_frame()) {
-        return Some(Cause::EntryNotCovered);
+    match seek_row(cert, base.entry_frame()) {
+        (Some(_), asked) => (None, asked),
+        (None, asked) => (Some(Cause::EntryNotCovered), asked),
     }
-    None
 }
 
+// The first condition that fails, and what the check took.
 fn first_cause<C: Cover + Drop>(
     base: &Base,
     policy: &Policy,
     cert: &Certificate<C>,
-) -> Option<Cause>
-    ensures { verdict_of result ≡ verdict [] base.now policy.now cert.now }
+) -> (Option<Cause>, Count)
+    ensures cause { verdict_of result.0 ≡ verdict [] base.now policy.now cert.now }
+    ensures count { IsCount base.now cert.now.rows (C.most_among (length cert.now.rows)) (verdict_of result.0) result.1 }
 {
-    match judge_head(base, policy, cert) {
-        Some(cause) => Some(cause),
-        None => judge_rows(base, cert),
+    let (cause, asked) = judge_head(base, policy, cert);
+    let head = Count {
+        probes: u64::from(asked),
+        steps: 0,
+    };
+    if let Some(cause) = cause {
+        return (Some(cause), head);
     }
+    let (cause, count) = judge_rows(base, cert);
+    (cause, count.with(head))
+}
+
+/// Checks a certificate against a base, for a caller outside every group, and tells what that took. Takes no memory.
+///
+/// Each route and next of a row is sought once among the rows, and each row's body is painted at most once. With m the
+/// cover's `most`, the look-ups compare at most (176 + 11 m) times the rows, and m and 16 more.
+pub fn check_counted<C: Cover + Drop>(
+    base: &Base,
+    policy: &Policy,
+    cert: &Certificate<C>,
+) -> (Verdict, Count)
+    ensures verdict { result.0 ≡ verdict [] base.now policy.now cert.now }
+    ensures count { IsCount base.now cert.now.rows (C.most_among (length cert.now.rows)) result.0 result.1 }
+{
+    let (cause, count) = first_cause(base, policy, cert);
+    let verdict = match cause {
+        None => Verdict::Cleared,
+        Some(cause) => Verdict::Refused(cause),
+    };
+    (verdict, count)
 }
 
 /// Checks a certificate against a base, for a caller outside every group. Takes no memory.
@@ -161,8 +245,5 @@ pub fn check<C: Cover + Drop>(base: &Base, policy: &Policy, cert: &Certificate<C
     ensures within { result ≡ Verdict.Cleared → (cert.now.ceiling ≤ policy.now.ceiling) × (cert.now.keyings ≤ policy.now.keyings) }
 {
     let _frames = base.frames();
-    match first_cause(base, policy, cert) {
-        None => Verdict::Cleared,
-        Some(cause) => Verdict::Refused(cause),
-    }
+    check_counted(base, policy, cert).0
 }

@@ -13,6 +13,7 @@
 #![tactic(auto)]
 
 mod bytes;
+mod count;
 mod cover;
 mod judge;
 mod laws;
@@ -22,7 +23,8 @@ mod verdict;
 mod ways;
 
 pub use bytes::{InputFault, check_bytes};
-pub use judge::check;
+pub use count::Count;
+pub use judge::{check, check_counted};
 pub use laws::{cleared_is_good, good_is_safe, refused_is_first, rows_are_clean};
 pub use policy::Policy;
 pub use verdict::{Cause, Verdict};

@@ -1,65 +1,49 @@
-ghost use Rattle.std.specs.Prelude.{◌≡◌};
-ghost use Rattle.std.specs.List.{list_any};
-ghost use Rattle.checker.specs.Verdict.{route_down, way_down, rank_fault};
+ghost use Rattle.std.specs.Prelude.{◌≡◌, ◌<◌, ◌==◌, IfSome, if◌then◌else◌};
+ghost use Rattle.page_ids.specs.Ids.{id_eq};
+ghost use Rattle.session_machine.specs.Open.{entry_of};
+ghost use Rattle.checker.specs.declared.verdict.Cause.TheVariants as cause;
+ghost use Rattle.checker.specs.Verdict.{◌otherwise◌, unless, route_fault};
 
-use crate::cover::is_below;
 use crate::verdict::Cause;
-use cert_table::{Certificate, Cover, Row};
-use frame_records::{Base, Frame};
-use page_ids::{FrameId, PageNo};
+use frame_records::Base;
+use page_ids::{Digit, FrameId};
 
-// The route leads to a row of lower rank.
-fn leads_down<C: Cover + Drop>(cert: &Certificate<C>, rank: u16, route: Option<PageNo>) -> bool
-    ensures { result ≡ route_down cert.now.rows rank route }
+// K13 and K14, by whether some way leads down.
+fn rank_cause(base: &Base, id: FrameId, rank: u16, down: bool) -> Option<Cause>
+    ensures { result ≡ (if rank == 0 then unless (id_eq id (entry_of base.now)) (cause.RankZero id) else unless down (cause.NoWayDown id)) }
 {
-    match route {
-        None => false,
-        Some(page) => is_below(cert, rank, FrameId::first(page)),
-    }
-}
-
-fn has_route_down<C: Cover + Drop>(cert: &Certificate<C>, rank: u16, frame: &Frame) -> bool
-    ensures { result ≡ list_any (route_down cert.now.rows rank) frame.now.routes }
-{
-    frame
-        .routes
-        .iter()
-        .any(|route| leads_down(cert, rank, *route))
-}
-
-// Some route or next leads to a row of lower rank.
-fn has_way_down<C: Cover + Drop>(cert: &Certificate<C>, row: &Row, frame: &Frame) -> bool
-    ensures { result ≡ way_down cert.now.rows row.now frame.now }
-{
-    if has_route_down(cert, row.rank, frame) {
-        return true;
-    }
-    let id = row.id;
-    match id.following() {
-        Some(next) => frame.next && is_below(cert, row.rank, next),
-        None => false,
-    }
-}
-
-// K13 and K14.
-pub fn judge_rank<C: Cover + Drop>(
-    base: &Base,
-    cert: &Certificate<C>,
-    row: &Row,
-    frame: &Frame,
-) -> Option<Cause>
-    ensures { result ≡ rank_fault base.now cert.now.rows row.now frame.now }
-{
-    let id = row.id;
-    if row.rank == 0 {
+    if rank == 0 {
         if id == base.entry_frame() {
             None
         } else {
             Some(Cause::RankZero(id))
         }
-    } else if has_way_down(cert, row, frame) {
+    } else if down {
         None
     } else {
         Some(Cause::NoWayDown(id))
     }
+}
+
+// K11 to K14, by the first route that leads nowhere, whether next leads on, and whether some way leads down.
+pub fn ways_cause(
+    base: &Base,
+    id: FrameId,
+    rank: u16,
+    lost: Option<usize>,
+    next_on: bool,
+    down: bool,
+) -> Option<Cause>
+    requires { IfSome lost (λ digit. digit < 10) }
+    ensures { result ≡ (route_fault id lost otherwise unless next_on (cause.NextNotCovered id) otherwise (if rank == 0 then unless (id_eq id (entry_of base.now)) (cause.RankZero id) else unless down (cause.NoWayDown id))) }
+{
+    if let Some(digit) = lost
+        && let Some(digit) = Digit::new(digit as u8)
+    {
+        return Some(Cause::RouteNotCovered(id, digit));
+    }
+    if !next_on {
+        return Some(Cause::NextNotCovered(id));
+    }
+    rank_cause(base, id, rank, down)
 }

@@ -1,7 +1,8 @@
 //! One base of three frames, its certificate, and one change at a time. Verdicts come from the list of conditions.
 
-use crate::{Cause, InputFault, Policy, Verdict, check, check_bytes};
+use crate::{Cause, InputFault, Policy, Verdict, check, check_bytes, check_counted};
 use base_text::base_read;
+use cert_table::{Certificate, Cover, RowList};
 use cert_text::{LineCause, ReadFault, cert_read};
 use frame_records::Pence;
 use page_ids::{Digit, FrameId};
@@ -168,5 +169,88 @@ fn a_base_and_a_certificate_are_checked_as_they_are(rt: HostRuntime) -> Result<(
         return Err(Fail::from("certificate"));
     };
     assert_eq!(rt; check(&base, &policy(5, 1)?, &cert), Verdict::Cleared);
+    Ok(())
+}
+
+// The same certificate over a list that is searched from the front.
+fn as_list(alloc: Global, cert: &Certificate) -> Result<Certificate<RowList>, Fail> {
+    let mut rows = Vec::new(alloc);
+    let cover = cert.cover();
+    for i in 0..cover.len() {
+        rows.push(*cover.row_at(i))?;
+    }
+    Ok(
+        Certificate::<RowList>::build(cert.entry(), cert.ceiling(), cert.keyings(), rows)
+            .ok()
+            .ok_or("rows")?,
+    )
+}
+
+#[test]
+fn what_a_check_took_is_counted(rt: HostRuntime) -> Result<(), Fail> {
+    let base = base_read(rt.alloc(), DEMO.as_bytes())?;
+    let cert = cert_read(rt.alloc(), CERT.as_bytes())?;
+    let (verdict, count) = check_counted(&base, &policy(5, 1)?, &cert);
+    assert_eq!(rt; verdict, Verdict::Cleared);
+    assert_eq!(rt; count.steps, 33);
+    assert!(rt;
+        count.probes >= 9 && count.probes <= 1_088,
+        "{}",
+        count.probes
+    );
+    let (verdict, count) = check_counted(&base, &policy(5, 1)?, &as_list(rt.alloc(), &cert)?);
+    assert_eq!(rt; verdict, Verdict::Cleared);
+    assert_eq!(rt; count.steps, 33);
+    assert!(rt;
+        count.probes >= 9 && count.probes <= 646,
+        "{}",
+        count.probes
+    );
+    Ok(())
+}
+
+#[test]
+fn a_list_of_rows_is_judged_as_a_table(rt: HostRuntime) -> Result<(), Fail> {
+    let bases: [(&str, &str); 6] = [
+        ("entry", "entry"),
+        ("lead = \"keep\"", "lead = \"keep\"\ngroup = 7"),
+        ("\\u001E\\u000APART TWO", "A"),
+        (
+            "PART TWO\"\nroutes = { 0 = 123 }",
+            "PART TWO\"\nroutes = { 0 = 123, 9 = 555 }",
+        ),
+        (
+            "PART TWO\"\nroutes = { 0 = 123 }",
+            "PART TWO\"\nroutes = { 0 = 0 }",
+        ),
+        (
+            "PART TWO\"\nroutes = { 0 = 123 }",
+            "PART TWO\"\nroutes = { 0 = 1231 }",
+        ),
+    ];
+    let certs: [(&str, &str); 7] = [
+        ("entry", "entry"),
+        ("entry 123", "entry 124"),
+        ("ceiling 5", "ceiling 4"),
+        ("123a 0 s80", "123a 0 s81"),
+        ("rows 3\n123a 0 s80\n1231a 1 s80\n1231b 1 s48\n", "rows 0\n"),
+        (
+            "rows 3\n123a 0 s80\n1231a 1 s80\n1231b 1 s48\n",
+            "rows 2\n123a 0 s80\n1231a 1 s80\n",
+        ),
+        ("1231a 1 s80\n1231b 1 s48\n", "1231a 0 s80\n1231b 0 s48\n"),
+    ];
+    let policy = policy(5, 1)?;
+    for (old_base, new_base) in bases {
+        let text = changed(rt.alloc(), DEMO, old_base, new_base)?;
+        let base = base_read(rt.alloc(), text.as_bytes())?;
+        for (old, new) in certs {
+            let text = changed(rt.alloc(), CERT, old, new)?;
+            let cert = cert_read(rt.alloc(), text.as_bytes())?;
+            let list = as_list(rt.alloc(), &cert)?;
+            let wanted = check(&base, &policy, &cert);
+            assert_eq!(rt; check(&base, &policy, &list), wanted, "{new_base} {new}");
+        }
+    }
     Ok(())
 }

@@ -1,7 +1,11 @@
-use Rattle.std.proofs.Common.{◌≡◌, drop, []}
+use Rattle.std.proofs.Common.{◌≡◌, drop, length, []}
 use Rattle.checker.specs.Verdict.{rows_fault}
+use Rattle.checker.specs.Counts.{AreCounted}
 use Rattle.checker.proofs.judge.judge_rows.Given as goal
 
--- the rows so far are right
+-- the rows so far are right, and counted
 abbrev pub invariant-loop-i : goal.invariant-loop-i
-invariant-loop-i g l = rows_fault [] l.base l.cert (drop l.i l.cert.rows) ≡ rows_fault [] l.base l.cert l.cert.rows
+invariant-loop-i g l = record {
+  right : rows_fault [] l.base l.cert (drop l.i l.cert.rows) ≡ rows_fault [] l.base l.cert l.cert.rows;
+  counted : AreCounted l.base (g.C.Cover.most_among (length l.cert.rows)) l.cert.rows l.i l.total;
+}

@@ -1,0 +1,11 @@
+use Rattle.std.proofs.Common.{◌≡◌, ◌≤◌, ◌<◌, Option, Some, length, sym, ap, ◌∙◌, subst, arith}
+use Rattle.std.specs.Option.{option_copied}
+use Rattle.frame_records.specs.declared.frame.Frame.{Frame}
+use Rattle.frame_records.specs.BaseView.{frame_at}
+use Rattle.checker.proofs.Counted.{short_body, found_count}
+use Rattle.checker.proofs.judge.judge_row.Goals as goal
+
+pub returns-in-Some-clause-count : goal.returns-in-Some-clause-count
+returns-in-Some-clause-count g c =
+    let found : frame_at c.args.base.now c.args.row.now.id ≡ Some c.in-Some.frame.now = sym c.find_counted-asked.ensures.value ∙ ap option_copied c.in-Some.is in
+    found_count c.args.base.now _ c.args.cert.now.rows c.args.row.now c.in-Some.frame.now c.judge_found-cause.result.0 c.judge_found-cause.result.1 c.from-asked.result c.frames-frames.ensures.valid found (omega (arith, c.from-asked.ensures, c.find_counted-asked.ensures.most)) (λ some. omega (arith, c.from-asked.ensures, c.find_counted-asked.ensures.least some)) c.judge_found-cause.ensures.count

@@ -1,0 +1,79 @@
+-- How much a check compares, and how much it paints.
+use Rattle.std.specs.Prelude.{◌≡◌, ◌≤◌, ◌<◌, ◌+◌, ◌*◌, ℕ, Bool, true, false, not, List, Option, Some, None, length, get_or, is_some, take, if◌then◌else◌, MatchOption}
+use Rattle.std.specs.List.{list_any, count_by, sum_by}
+use Rattle.page_ids.specs.Id.{Id}
+use Rattle.frame_records.specs.declared.frame.Frame.{Frame}
+use Rattle.frame_records.specs.BaseView.{BaseView, frame_at}
+use Rattle.session_machine.specs.Step.{offers_next}
+use Rattle.cert_table.specs.declared.row.Row.{Row}
+use Rattle.checker.specs.declared.count.Count.{Count}
+use Rattle.checker.specs.declared.verdict.Cause.{Cause}
+use Rattle.checker.specs.declared.verdict.Verdict.{Verdict}
+use Rattle.checker.specs.declared.verdict.Verdict.TheVariants.{Cleared}
+use Rattle.checker.specs.Verdict.{route_covered, route_down}
+
+-- the ways that a frame offers: its routes, and next
+abbrev pub ways_of : Id → Frame → ℕ
+ways_of id f = count_by is_some f.routes + (if offers_next id (Some f) then 1 else 0)
+
+abbrev pub ways_if : Id → Option Frame → ℕ
+ways_if id None = 0
+ways_if id (Some f) = ways_of id f
+
+-- the ways of a row's frame
+abbrev pub ways_at : BaseView → Row → ℕ
+ways_at base row = ways_if row.id (frame_at base row.id)
+
+abbrev pub bytes_if : Option Frame → ℕ
+bytes_if None = 0
+bytes_if (Some f) = length f.body
+
+-- the bytes of the body of a row's frame
+abbrev pub bytes_at : BaseView → Row → ℕ
+bytes_at base row = bytes_if (frame_at base row.id)
+
+-- the most that is compared for a row: 16 for its frame, 16 for each of ten outside pages, and for each of its eleven ways
+-- as much as one look-up among the rows
+abbrev pub row_most : ℕ → ℕ
+row_most m = 176 + 11 * m
+
+-- what a row took whose frame is there, where one look-up among the rows compares at most m
+pub record IsFoundCount (m : ℕ) (rows : List Row) (row : Row) (f : Frame) (cause : Option Cause) (count : Count) : Type 0 where
+  pub most : count.probes ≤ 160 + 11 * m
+  pub small : count.probes ≤ 90194313195
+  pub least : 0 < length rows → cause ≡ None → ways_of row.id f ≤ count.probes
+  pub within : count.steps ≤ length f.body
+  pub all : cause ≡ None → count.steps ≡ length f.body
+
+-- what a row took
+pub record IsRowCount (base : BaseView) (m : ℕ) (rows : List Row) (row : Row) (cause : Option Cause) (count : Count) : Type 0 where
+  pub most : count.probes ≤ row_most m
+  pub small : count.probes ≤ 90194313211
+  pub least : 0 < length rows → cause ≡ None → 1 + ways_at base row ≤ count.probes
+  pub within : count.steps ≤ bytes_at base row
+  pub short : count.steps ≤ 4096
+  pub all : cause ≡ None → count.steps ≡ bytes_at base row
+
+-- what the first n rows took, none of which is at fault
+pub record AreCounted (base : BaseView) (m : ℕ) (rows : List Row) (n : ℕ) (count : Count) : Type 0 where
+  pub most : count.probes ≤ row_most m * n
+  pub small : count.probes ≤ 90194313211 * n
+  pub least : n + sum_by (ways_at base) (take n rows) ≤ count.probes
+  pub short : count.steps ≤ 4096 * n
+  pub all : count.steps ≡ sum_by (bytes_at base) (take n rows)
+
+-- what the rows took, up to the first at fault
+pub record AreAllCounted (base : BaseView) (m : ℕ) (rows : List Row) (cause : Option Cause) (count : Count) : Type 0 where
+  pub most : count.probes ≤ row_most m * length rows
+  pub small : count.probes ≤ 90194313211 * 65535
+  pub short : count.steps ≤ 4096 * 65535
+  pub least : cause ≡ None → length rows + sum_by (ways_at base) rows ≤ count.probes
+  pub within : count.steps ≤ sum_by (bytes_at base) rows
+  pub all : cause ≡ None → count.steps ≡ sum_by (bytes_at base) rows
+
+-- what a check took, where one look-up among the rows compares at most m
+pub record IsCount (base : BaseView) (rows : List Row) (m : ℕ) (v : Verdict) (count : Count) : Type 0 where
+  pub most : count.probes ≤ row_most m * length rows + m + 16
+  pub least : v ≡ Cleared → 1 + length rows + sum_by (ways_at base) rows ≤ count.probes
+  pub within : count.steps ≤ sum_by (bytes_at base) rows
+  pub all : v ≡ Cleared → count.steps ≡ sum_by (bytes_at base) rows
