@@ -186,6 +186,15 @@ def build(entry, outside, frames):
     return Base(entry, set(outside), {frame.id: frame for frame in frames})
 
 
+def fits_64_bits(value):
+    """Whether each integer of the tree is one of 64 bits: others are no TOML."""
+    if isinstance(value, dict):
+        return all(map(fits_64_bits, value.values()))
+    if isinstance(value, list):
+        return all(map(fits_64_bits, value))
+    return not is_integer(value) or -(2**63) <= value < 2**63
+
+
 def base_of(text):
     """The base of the bytes; Refused with the first fault."""
     if len(text) > MOST_BYTES:
@@ -194,6 +203,8 @@ def base_of(text):
         tree = tomllib.loads(text.decode())
     except ValueError:
         raise Refused("X2 NotToml") from None
+    if not fits_64_bits(tree):
+        raise Refused("X2 NotToml")
     if not tree.keys() <= {"entry", "outside", "frame"}:
         raise Refused("X3 UnknownKey")
     if "entry" not in tree:
