@@ -1,4 +1,4 @@
-"""Ids, keys, and the base that a text stands for or its first fault."""
+"""Ids, keys, a caller's groups, and the base that a text stands for or its first fault."""
 
 import tomllib
 from dataclasses import dataclass
@@ -7,6 +7,9 @@ MOST_BYTES = 16_777_216
 MOST_PAGE = 999_999_999
 MOST_LISTED = 65_535
 MOST_BODY = 4_096
+MOST_GROUP = 65_535
+MOST_GROUPS = 16
+BAD_GROUPS = "", "groups: I4 BadGroups\n", 2
 FRAME_KEYS = {"id", "price", "group", "next", "routes", "lead", "body", "rows"}
 
 
@@ -24,6 +27,9 @@ class Frame:
     keep: bool
     body: bytes
 
+    def is_open(self, groups):
+        return self.group is None or self.group in groups
+
 
 @dataclass
 class Base:
@@ -34,11 +40,12 @@ class Base:
     def entry_frame(self):
         return (self.entry, "a")
 
-    def seek(self, id):
+    def seek(self, id, groups):
+        """What a caller of these groups comes to."""
         frame = self.frames.get(id)
         if frame is None:
             return "MISSING"
-        return "FOUND" if frame.group is None else "CLOSED"
+        return "FOUND" if frame.is_open(groups) else "CLOSED"
 
 
 def is_numeral(text):
@@ -55,6 +62,30 @@ def id_in(text):
 
 def id_text(id):
     return f"{id[0]}{id[1]}"
+
+
+def group_flaw(word, before):
+    """What is wrong with a group's number behind these groups, or None."""
+    if not is_numeral(word):
+        return "Number"
+    if not 1 <= int(word) <= MOST_GROUP or len(before) == MOST_GROUPS:
+        return "Range"
+    return "Order" if before and int(word) <= before[-1] else None
+
+
+def groups_in(words):
+    """The groups that the words spell and None, or None and what is wrong with the first wrong word."""
+    groups = []
+    for word in words:
+        if flaw := group_flaw(word, groups):
+            return None, flaw
+        groups.append(int(word))
+    return groups, None
+
+
+def caller_of(option):
+    """The caller's groups by the word of the option: none where it isn't given, None where the word is refused."""
+    return [] if option is None else groups_in(option.split(","))[0]
 
 
 def keys_in(text):

@@ -2,7 +2,7 @@
 
 from dataclasses import dataclass
 
-from .base import MOST_LISTED, MOST_PAGE, Refused, base_of, id_in, id_text, is_numeral
+from .base import BAD_GROUPS, MOST_LISTED, MOST_PAGE, Refused, base_of, caller_of, groups_in, id_in, id_text, is_numeral
 from .screen import paint
 
 KEYS = [*"0123456789", "#"]
@@ -13,6 +13,7 @@ class Certificate:
     entry: int
     ceiling: int
     keyings: int
+    groups: list
     rows: list
 
 
@@ -45,6 +46,24 @@ def number_in(count, text, most):
     return int(text)
 
 
+def head_number(lines, word, most):
+    """The number of the next line, which begins with its word and one space."""
+    count, line, _ = next(lines)
+    if not line.startswith(f"{word} "):
+        raise Refused(f"line {count}: Word")
+    return number_in(count, line.removeprefix(f"{word} "), most)
+
+
+def groups_line(lines):
+    count, line, _ = next(lines)
+    if not line.startswith("groups "):
+        raise Refused(f"line {count}: Word")
+    groups, flaw = groups_in(line.removeprefix("groups ").split(" "))
+    if flaw:
+        raise Refused(f"line {count}: {flaw}")
+    return groups
+
+
 def is_cursor(text):
     place = text[:-1] if text[-1:] in ("+", "?") else text
     if place == "any":
@@ -72,16 +91,13 @@ def certificate_of(text):
     """The certificate of the bytes; Refused with the first line at fault."""
     lines = lines_in(text)
     count, line, _ = next(lines)
-    if line != "PBC1":
+    if line not in ("PBC1", "PBC2"):
         raise Refused(f"line {count}: Magic")
-    numbers = []
-    for word, most in (("entry ", MOST_PAGE), ("ceiling ", 9_999), ("keyings ", 65_535), ("rows ", MOST_LISTED)):
-        count, line, _ = next(lines)
-        if not line.startswith(word):
-            raise Refused(f"line {count}: Word")
-        numbers.append(number_in(count, line.removeprefix(word), most))
+    limits = ("entry", MOST_PAGE), ("ceiling", 9_999), ("keyings", 65_535)
+    numbers = [head_number(lines, word, most) for word, most in limits]
+    groups = groups_line(lines) if line == "PBC2" else []
     rows = []
-    for _ in range(numbers.pop()):
+    for _ in range(head_number(lines, "rows", MOST_LISTED)):
         count, line, _ = next(lines)
         rows.append(row_in(count, line, rows))
     count, line, end = next(lines)
@@ -89,17 +105,19 @@ def certificate_of(text):
         raise Refused(f"line {count}: Count")
     if end < len(text):
         raise Refused(f"line {count + 1}: Tail")
-    return Certificate(*numbers, rows)
+    return Certificate(*numbers, groups, rows)
 
 
 def head_fault(base, certificate, policy):
-    ceiling, keyings = policy
+    ceiling, keyings, groups = policy
     if certificate.entry != base.entry:
         return "K1 EntryDiffers"
     if certificate.ceiling > ceiling:
         return "K2 CeilingAbove"
     if certificate.keyings > keyings:
         return "K3 KeyingsAbove"
+    if certificate.groups != groups:
+        return "K15 GroupsDiffer"
     if base.entry_frame() not in [row[0] for row in certificate.rows]:
         return "K4 EntryNotCovered"
     return None
@@ -107,7 +125,7 @@ def head_fault(base, certificate, policy):
 
 def frame_fault(frame, certificate, rank, cursor):
     name = id_text(frame.id)
-    if frame.group is not None:
+    if not frame.is_open(certificate.groups):
         return f"K6 ClosedFrame {name}"
     if frame.price > certificate.ceiling:
         return f"K7 Price {name}"
@@ -147,8 +165,11 @@ def refusal(base, certificate, policy):
     return None
 
 
-def check(text, certificate_text, policy):
-    """Standard output, standard error and status of `check`."""
+def check(text, certificate_text, limits, option=None):
+    """Standard output, standard error and status of `check`, with the word of `--groups` where it is given."""
+    groups = caller_of(option)
+    if groups is None:
+        return BAD_GROUPS
     try:
         base = base_of(text)
     except Refused as fault:
@@ -157,5 +178,5 @@ def check(text, certificate_text, policy):
         certificate = certificate_of(certificate_text)
     except Refused as fault:
         return "", f"certificate: {fault}\n", 3
-    fault = refusal(base, certificate, policy)
+    fault = refusal(base, certificate, (*limits, groups))
     return (f"REFUSED {fault}\n", "", 1) if fault else ("CLEARED\n", "", 0)

@@ -1,4 +1,4 @@
-"""Random bases, certificates and keys: mostly right, some of them with a few things wrong."""
+"""Random bases, certificates, groups and keys: mostly right, some of them with a few things wrong."""
 
 from .audit import discover, outcome, ranks_of
 from .base import id_in, id_text
@@ -22,19 +22,26 @@ ODD_FIELDS = {
     "rows": [["A" * 41, 1], ["\x1b", "A" * 41], ["A", "\xa0"], ["A"] * 23, [1] * 23, ["A", 1], "A", ["A" * 40] * 22],
 }
 FRAME_FIELDS = ["id", "price", "group", "next", "routes", "lead", "body", "rows", "rows", "name"]
-CODES = ["A", "0", "\x1b", "\r", "\n", "\x1e", "\x08", "\t", "\x0b", "\x0c", "\x91", "\xc1", "\x1bM", "\x11", "\x18"]
+CODES = ["A", "M", "\x1b", "\r", "\n", "\x1e", "\x08", "\t", "\x0b", "\x0c", "\x91", "\xc1", "\x1bM", "\x11", "\x18"]
 INSIDE = ["A" * 40, "\r\n", "\x1bA", "\x8dX", "\x1b", "\x1b0", "\t\x08", "\n\x0b", "\xe9", "\r"]
-ROWS = ["", "A", "WELCOME", " \x7f\x80\x9f", "B" * 39, "C" * 40, '"\\']
+ROWS = ["", "A", "WELCOME", "\x8dM", " \x7f\x80\x9f", "B" * 39, "C" * 40, '"\\']
 KEYS = ["0", "1", "2", "3", "5", "9", "#", "#", "*#", "*#", "*00", "*09"]
 PARTS = [
     ["0a", "1a", "123a", "1231b", "999999999z", "1000000000a", "", "12A"],
     ["0", "1", "2", "65535", "65536", "99999999999999999999", "", "01"],
     ["s80", "any", "any?", "any+", "c0", "c39", "c40", "s959", "s960", "s00", "c", "", "?", "s48+", "C1"],
 ]
-HEAD = ["PBC2", "entr", "ceil", "keyi", "rows"]
 HEAD_LINES = [
-    *("PBC2", "entry 123", "entry 0123", "entry 1000000000", "entry", "entry ", "ceiling 0", "ceiling 9999"),
-    *("ceiling 10000", "keyings 0", "keyings 65535", "keyings 65536", "rows 0", "rows 1", "rows 65536"),
+    *("PBC1", "PBC2", "PBC3", "entry 123", "entry 0123", "entry 1000000000", "entry", "entry ", "ceiling 0"),
+    *("ceiling 9999", "ceiling 10000", "keyings 0", "keyings 65535", "keyings 65536", "rows 0", "rows 1", "rows 65536"),
+]
+GROUPS = [1, 7, 9, 65_535]
+MANY = [*range(1, 15), 65_534, 65_535]
+ODD_LISTS = [
+    *([], [""], ["", "7"], ["7", ""], ["7", "", "9"], ["9", "7"], ["7", "7"], ["7", "9", "8"], ["0"], ["0", "0"]),
+    *(["7", "0"], ["07"], ["7", "09"], ["00"], ["65536"], ["7", "65536"], ["9" * 20], ["7x"], ["+7"], ["\xb2"]),
+    *(["a", "0"], ["0", "a"], ["9", "7", "a"]),
+    *([*map(str, MANY), "9"], [*map(str, MANY), "0"], [*map(str, MANY), "x"], [*map(str, range(1, 18))]),
 ]
 
 
@@ -53,10 +60,14 @@ class Inputs:
         if self.chance(0.3):
             return "".join(self.pick(CODES) for _ in range(self.random.randrange(12)))
         if self.chance(0.4):
-            return "\x1e\n" + "A" * self.pick([839, 840, 879, 880, 881]) + self.pick(["", "\x1b", "\r", "\x8d", "\x08\x08B"])
+            last = ["", "\x1b", "\r", "\x8d", "\x8d", "\x1bM", "M", "\x08\x08B", "\x08\x8d", "\r\x8c"]
+            return "\x1e\n" + "A" * self.pick([838, 839, 840, 841, 879, 880, 881]) + self.pick(last)
         if self.chance(0.6):
-            return "\x1e" + "\n" * self.random.randrange(25) + self.pick(["A", "\x1b", "\x1b0A", "\t" * 39 + "BC", "\x08A"])
-        return self.pick(["\r", "\r\n", "\n", "\x1b", "\r\x08"]) * self.random.randrange(3) + self.pick(["", "\x1b", "A", "\x1b0"])
+            far = "\t" * 39
+            last = ["A", "M", "\x1b", "\x1b0A", "\x1bM", "\x8d", "\x1bL", far + "BC", far + "\x8d", "\x08A", "\x08\x8d"]
+            return "\x1e" + "\n" * self.random.randrange(25) + self.pick(last)
+        first = self.pick(["\r", "\r\n", "\n", "\x1b", "\r\x08"]) * self.random.randrange(3)
+        return first + self.pick(["", "\x1b", "A", "M", "\x1b0", "\x1bM", "\x8d"])
 
     def ids(self, pages):
         """A few frames of each page, which need not begin with `a`."""
@@ -65,15 +76,15 @@ class Inputs:
             for letter in range(first, min(first + self.pick([1, 1, 2, 3, 4]), ord("z") + 1)):
                 yield page, chr(letter)
 
-    def frame(self, id, ids, targets, wild):
-        """A frame whose routes and `next` lead somewhere, but for a share of wild ones."""
+    def frame(self, id, ids, targets, wild, closed):
+        """A frame whose routes and `next` lead somewhere, but for a share of wild ones; a share of frames has a group."""
         page, letter = id
         following = (page, chr(ord(letter) + 1)) in ids
         table = {"id": id_text(id)}
         if self.chance(0.5):
             table["price"] = self.pick([0, 1, 5, 5, 50, 9_999])
-        if self.chance(wild):
-            table["group"] = self.pick([1, 7, 65_535])
+        if self.chance(closed):
+            table["group"] = self.pick(GROUPS)
         if following or self.chance(0.2):
             table["next"] = following != (letter < "y" and self.chance(wild))
         digits = self.random.sample("0123456789", self.pick([0, 10] if self.chance(wild) else [1, 2, 3, 4]))
@@ -88,6 +99,7 @@ class Inputs:
 
     def tree(self):
         wild = self.pick([0, 0, 0.05, 0.2, 0.5])
+        closed = self.pick([wild, wild, 0.3, 0.7])
         pages = self.random.sample(PAGES, self.random.randrange(1, 6))
         outside = [page for page in PAGES if page not in pages and self.chance(0.4)]
         ids = list(self.ids(pages))
@@ -95,7 +107,7 @@ class Inputs:
         targets = [page for page in pages if (page, "a") in ids] + outside
         tree = {"entry": self.pick(pages if self.chance(0.95) else PAGES)}
         tree["outside"] = outside + outside[:1] * self.chance(0.1)
-        tree["frame"] = [self.frame(id, ids, targets, wild) for id in ids]
+        tree["frame"] = [self.frame(id, ids, targets, wild, closed) for id in ids]
         return tree
 
     def odd(self, field):
@@ -179,23 +191,43 @@ class Inputs:
     def policy(self, ceilings, keyings):
         return self.pick(ceilings), self.pick(keyings)
 
+    def groups(self):
+        """A caller's groups: often none, or those of all frames."""
+        if self.chance(0.05):
+            return MANY
+        return sorted(self.random.sample(GROUPS, self.pick([0, 0, 0, 1, 2, 3, 4, 4, 4])))
+
+    def option(self, groups):
+        """The word of `--groups` for these groups, now and then a wrong one; None where it isn't given."""
+        if self.chance(0.05):
+            return self.pick([",".join(self.pick(ODD_LISTS)), "7 9", "7, 9", "7,9 "])
+        return ",".join(map(str, groups)) or None
+
     def row(self, base, id, rank):
         """The row of a frame; where it has none of its own, one that comes near."""
         frame = base.frames[id]
         return f"{id_text(id)} {self.pick([1, 9]) if rank is None else rank} {paint(frame.keep, frame.body)[0] or 's80'}"
 
-    def certificate_lines(self, base):
-        """A certificate of the frames that can be reached: the audit's own, or what comes nearest to one."""
-        if unopened(base):
-            return ["PBC1", f"entry {base.entry}", "ceiling 50", "keyings 9", "rows 0", "end"]
-        printed, status = outcome(base, (9_999, 65_535))
-        if status == 0:
+    def head(self, base, groups, count):
+        """The lines before that many rows."""
+        first, more = ("PBC2", [f"groups {' '.join(map(str, groups))}"]) if groups else ("PBC1", [])
+        return [first, f"entry {base.entry}", f"ceiling {self.pick([9_999, 50])}", "keyings 9", *more, f"rows {count}"]
+
+    def certificate_lines(self, base, groups):
+        """A certificate of the frames that can be reached: the audit's own, or what comes nearest to one.
+
+        Now and then the frames are those that others can reach.
+        """
+        others = self.groups() if self.chance(0.1) else groups
+        if unopened(base, others):
+            return [*self.head(base, groups, 0), "end"]
+        printed, status = outcome(base, (9_999, 65_535, groups))
+        if status == 0 and others == groups:
             return printed.splitlines()
-        ids = discover(base)
+        ids = discover(base, others)
         ranks = ranks_of(base, ids)
         rows = [self.row(base, id, ranks.get(id)) for id in sorted(ids)]
-        head = [f"entry {base.entry}", f"ceiling {self.pick([9_999, 50])}", "keyings 9", f"rows {len(rows)}"]
-        return ["PBC1", *head, *rows, "end"]
+        return [*self.head(base, groups, len(rows)), *rows, "end"]
 
     def change_row(self, lines, index):
         parts = lines[index].split(" ")
@@ -208,22 +240,40 @@ class Inputs:
             parts[place] = self.pick(PARTS[place])
         lines[index] = " ".join(parts)
 
+    def change_head(self, lines):
+        """Another line in the place of the one that begins alike."""
+        line = self.pick(HEAD_LINES)
+        place = next((place for place, old in enumerate(lines[:6]) if old[:3] == line[:3]), 0)
+        lines[place] = line
+
+    def change_groups(self, lines):
+        """Other groups behind the fourth line, or none; line 1 mostly fits them."""
+        groups = self.pick([*([group] for group in GROUPS), [7, 9], GROUPS, MANY, *[ODD_LISTS] * 7])
+        words = self.pick(groups) if groups is ODD_LISTS else map(str, groups)
+        line = self.pick(["groups ", "groups ", "groups ", "groups ", "groups", "groups  ", "Groups "]) + " ".join(words)
+        is_kept = self.chance(0.8)
+        lines[4 : 5 if lines[4][:6] == "groups" else 4] = [line] if is_kept else []
+        if self.chance(0.8):
+            lines[0] = "PBC2" if is_kept else "PBC1"
+
     def change_lines(self, lines, names):
         """One thing wrong with the lines of a certificate, as their number, order, words or rows."""
         index, share = self.random.randrange(len(lines)), self.random.random()
-        is_long, row = len(lines) > 6, self.random.randrange(5, max(6, len(lines) - 1))
-        if share < 0.4 and is_long:
+        first = 6 if lines[4][:6] == "groups" else 5
+        is_long, row = len(lines) > first + 1, self.random.randrange(first, max(first + 1, len(lines) - 1))
+        if share < 0.35 and is_long:
             self.change_row(lines, row)
-        elif share < 0.5 and is_long:
+        elif share < 0.45 and is_long:
             del lines[row]
-            lines[4] = f"rows {len(lines) - 6}"
-        elif share < 0.6 and is_long:
-            rows = [*lines[5:-1], f"{self.pick(names)} 1 s80"]
-            lines[5:-1] = sorted(rows, key=lambda line: id_in(line.split(" ")[0]) or (0, ""))
-            lines[4] = f"rows {len(lines) - 6}"
-        elif share < 0.7:
-            line = self.pick(HEAD_LINES)
-            lines[HEAD.index(line.split(" ")[0][:4])] = line
+            lines[first - 1] = f"rows {len(lines) - first - 1}"
+        elif share < 0.55 and is_long:
+            rows = [*lines[first:-1], f"{self.pick(names)} 1 s80"]
+            lines[first:-1] = sorted(rows, key=lambda line: id_in(line.split(" ")[0]) or (0, ""))
+            lines[first - 1] = f"rows {len(lines) - first - 1}"
+        elif share < 0.65:
+            self.change_groups(lines)
+        elif share < 0.72:
+            self.change_head(lines)
         elif share < 0.8:
             lines.insert(index, self.pick([lines[index], "A" * 128, "A" * 129, "end"]))
         elif share < 0.9:
@@ -233,8 +283,8 @@ class Inputs:
             other = self.random.randrange(len(lines))
             lines[index], lines[other] = lines[other], lines[index]
 
-    def certificate_text(self, base):
-        lines = self.certificate_lines(base)
+    def certificate_text(self, base, groups):
+        lines = self.certificate_lines(base, groups)
         for _ in range(self.pick([0, 1, 1, 1, 2])):
             self.change_lines(lines, [*map(id_text, base.frames), "0z", "999999999z"])
         text = "".join(f"{line}\n" for line in lines).encode("latin-1")

@@ -8,30 +8,42 @@ from functools import cache
 CELLS = 960
 CLEAR = b"\x0c\x1e\x0a"
 STATES = [(at, pending) for at in range(CELLS) for pending in (False, True)]
+BLANKS = [(at, 0x20) for at in range(CELLS)]
+DOUBLE_HEIGHT = 0x8D
 MOVES = {0x08: -1, 0x09: 1, 0x0A: 40, 0x0B: -40}
 
 
-def is_service(at):
-    return at < 40 or at >= 920
+def is_service(at, code):
+    """Whether a code counts as written in row 0 or 23: in row 22 double height does, which shows in the row beneath."""
+    return at < 40 or at >= 920 or (880 <= at and code == DOUBLE_HEIGHT)
+
+
+def code_of(byte, pending):
+    """The code that a byte from 20 on writes, or None."""
+    if byte >= 0xA0:
+        return byte - 0x80
+    if byte >= 0x80 or not pending:
+        return byte
+    return byte + 0x40 if 0x40 <= byte <= 0x5F else None
 
 
 def step(state, byte):
-    """The state behind a byte, and the positions that it writes."""
+    """The state behind a byte, and the positions that it writes with their codes."""
     at, pending = state
     if byte == 0x1B:
         return (at, True), ()
     if byte in MOVES:
         return ((at + MOVES[byte]) % CELLS, False), ()
     if byte == 0x0C:
-        return (0, False), range(CELLS)
+        return (0, False), BLANKS
     if byte == 0x0D:
         return (at - at % 40, False), ()
     if byte == 0x1E:
         return (0, False), ()
-    dropped = pending and byte < 0x80 and not 0x40 <= byte <= 0x5F
-    if byte < 0x20 or dropped:
+    code = None if byte < 0x20 else code_of(byte, pending)
+    if code is None:
         return (at, False), ()
-    return ((at + 1) % CELLS, False), (at,)
+    return ((at + 1) % CELLS, False), ((at, code),)
 
 
 def run(state, data):
@@ -41,7 +53,7 @@ def run(state, data):
 
 
 def touches(state, byte):
-    return any(is_service(at) for at in step(state, byte)[1])
+    return any(is_service(at, code) for at, code in step(state, byte)[1])
 
 
 def cursor_text(states):

@@ -1,11 +1,12 @@
 """A caller's session, by the table of keys."""
 
-from .base import Refused, base_of, id_text, keys_in
+from .base import BAD_GROUPS, Refused, base_of, caller_of, id_text, keys_in
 
 
 class Session:
-    def __init__(self, base):
+    def __init__(self, base, groups):
         self.base = base
+        self.groups = groups
         self.at = base.entry_frame()
         self.remembered = []
 
@@ -13,7 +14,7 @@ class Session:
         return f"SHOWN {id_text(id)} {self.base.frames[id].price}"
 
     def forward(self, id):
-        sought = self.base.seek(id)
+        sought = self.base.seek(id, self.groups)
         if sought != "FOUND":
             return f"{sought} {id_text(id)}"
         self.remembered = [self.at, *self.remembered][:3]
@@ -24,7 +25,7 @@ class Session:
         page = self.base.frames[self.at].routes.get(digit)
         if page is None:
             return "NOTOFFERED"
-        if page in self.base.outside and self.base.seek((page, "a")) == "MISSING":
+        if page in self.base.outside and self.base.seek((page, "a"), self.groups) == "MISSING":
             self.at = None
             return f"GONE {page}"
         return self.forward((page, "a"))
@@ -53,14 +54,17 @@ class Session:
         return self.next() if word == "#" else self.route(word)
 
 
-def unopened(base):
-    """The line of a session that can't be opened, or None."""
-    sought = base.seek(base.entry_frame())
+def unopened(base, groups):
+    """The line of a session that can't be opened by a caller of these groups, or None."""
+    sought = base.seek(base.entry_frame(), groups)
     return None if sought == "FOUND" else f"ENTRY{sought} {id_text(base.entry_frame())}\n"
 
 
-def walk(text, keys):
-    """Standard output, standard error and status of `walk`."""
+def walk(text, keys, option=None):
+    """Standard output, standard error and status of `walk`, with the word of `--groups` where it is given."""
+    groups = caller_of(option)
+    if groups is None:
+        return BAD_GROUPS
     words, offset = keys_in(keys)
     if words is None:
         return "", f"keys: I3 BadKey {offset}\n", 2
@@ -68,8 +72,8 @@ def walk(text, keys):
         base = base_of(text)
     except Refused as fault:
         return "", f"base: {fault}\n", 3
-    if line := unopened(base):
+    if line := unopened(base, groups):
         return line, "", 1
-    session = Session(base)
+    session = Session(base, groups)
     replies = [session.shown(base.entry_frame()), *(session.key(word) for word in words)]
     return "".join(f"{reply}\n" for reply in replies), "", 0

@@ -7,7 +7,7 @@ use Rattle.abstract_paint.specs.declared.cursor.Place.TheVariants.{Spot}
 use Rattle.abstract_paint.specs.Step.{calm, written_at, cursor_step}
 use Rattle.abstract_paint.specs.Paint.{or_touches, paint_from}
 use Rattle.abstract_paint.specs.Codes.{is_cell_code, codes_fit, CodesGoOn, CodeTouches}
-use Rattle.abstract_paint.proofs.Unique.{both_true}
+use Rattle.std.proofs.lemmas.Bool.{and_parts, not-true}
 
 cell_low : (b : ℕ) → is_cell_code b ≡ true → nat_lt b 32 ≡ false
 cell_low b h = grind (arith, nat_tests)
@@ -35,14 +35,10 @@ code_touches b bs p i h s = next_is p b i bs None h (rw s refl)
 pub same_paint : (p q i j : ℕ) (bs : List ℕ) → p ≡ q → i ≡ j → paint_from (calm (Spot p)) i bs ≡ paint_from (calm (Spot q)) j bs
 same_paint p q i j bs e f = ap (λ (k : ℕ). paint_from (calm (Spot k)) i bs) e ∙ ap (λ (k : ℕ). paint_from (calm (Spot q)) k bs) f
 
-not_true : (b : Bool) → not b ≡ true → b ≡ false
-not_true true h = cc
-not_true false h = refl
-
 pub codes_go_on : CodesGoOn
 codes_go_on [] rest p i h = same_paint p (p + 0) i (i + 0) rest (omega arith) (omega arith)
 codes_go_on (b ∷ bs) rest p i h =
-    let t = both_true (is_cell_code b && not (is_service p b)) (codes_fit (p + 1) bs) h in
-    let c = both_true (is_cell_code b) (not (is_service p b)) t.0 in
-    let s = not_true (is_service p b) c.1 in
+    let t = and_parts (is_cell_code b && not (is_service p b)) (codes_fit (p + 1) bs) h in
+    let c = and_parts (is_cell_code b) (not (is_service p b)) t.0 in
+    let s = not-true (is_service p b) c.1 in
     goes_on p b i (bs ++ rest) c.0 s ∙ (codes_go_on bs rest (p + 1) (i + 1) t.1 ∙ same_paint (p + 1 + length bs) (p + length (b ∷ bs)) (i + 1 + length bs) (i + length (b ∷ bs)) rest (omega arith) (omega arith))

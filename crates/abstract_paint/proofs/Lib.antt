@@ -7,6 +7,7 @@ pub mod Judged
 pub mod Exact
 pub mod Codes
 pub mod Least
+pub mod LeastStart
 pub mod PlainRuns
 pub mod Masks
 pub mod ChunkRuns

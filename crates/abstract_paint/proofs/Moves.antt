@@ -1,8 +1,8 @@
 -- What a control code makes of the positions that a place stands for.
-use Rattle.std.proofs.Common.{◌≡◌, ◌≢◌, ℕ, ◌+◌, ◌%◌, ◌<◌, ◌==◌, inl, inr, arith, refl, ap, sym, subst, false}
+use Rattle.std.proofs.Common.{◌≡◌, ℕ, ◌+◌, ◌%◌, ◌<◌, ◌==◌, inl, inr, arith, refl, ap, sym, subst, false}
 use Rattle.std.proofs.lemmas.Bool.{cases_eq}
-use Rattle.std.proofs.lemmas.Bool.Decides.{nat_tests}
 use Rattle.terminal_codes.specs.ByteTable.{moved}
+use Rattle.std.proofs.lemmas.Bool.{ne_eqb}
 use Rattle.abstract_paint.specs.declared.cursor.Place.{Place}
 use Rattle.abstract_paint.specs.declared.cursor.Place.TheVariants.{Any, Col, Spot}
 use Rattle.abstract_paint.specs.Cursor.{PlaceStands, OnScreen}
@@ -17,9 +17,6 @@ pub record IsStill (b : ℕ) : Type 0 where
   pub not_11 : (b == 11) ≡ false
   pub not_13 : (b == 13) ≡ false
   pub not_30 : (b == 30) ≡ false
-
-differs : (b k : ℕ) → b ≢ k → (b == k) ≡ false
-differs b k h = grind (arith, nat_tests)
 
 -- by the codes that move, one at a time
 by_move : (P : ℕ → Type 0) → P 8 → P 9 → P 10 → P 11 → P 13 → P 30 → ((b : ℕ) → IsStill b → P b) → (b : ℕ) → P b
@@ -41,7 +38,7 @@ by_move P p8 p9 p10 p11 p13 p30 other b =
                               | inr n13 ↦
                                   elim (cases_eq b 30) [
                                     | inl e ↦ subst P (sym e) p30
-                                    | inr n30 ↦ other b (record { not_8 = differs b 8 n8; not_9 = differs b 9 n9; not_10 = differs b 10 n10; not_11 = differs b 11 n11; not_13 = differs b 13 n13; not_30 = differs b 30 n30 })
+                                    | inr n30 ↦ other b (record { not_8 = ne_eqb b 8 n8; not_9 = ne_eqb b 9 n9; not_10 = ne_eqb b 10 n10; not_11 = ne_eqb b 11 n11; not_13 = ne_eqb b 13 n13; not_30 = ne_eqb b 30 n30 })
                                   ]
                             ]
                       ]

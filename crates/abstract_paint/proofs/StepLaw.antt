@@ -1,11 +1,12 @@
 -- One abstract step is exact.
-use Rattle.std.proofs.Common.{◌≡◌, ◌≢◌, ℕ, ◌+◌, ◌%◌, ◌<◌, inl, inr, arith, refl, ap, sym, ◌∙◌, subst, Bool, true, false, Option, Some, None, ◌==◌, nat_lt, if◌then◌else◌}
+use Rattle.std.proofs.Common.{◌≡◌, ℕ, ◌+◌, ◌%◌, ◌<◌, inl, inr, arith, refl, ap, sym, ◌∙◌, subst, Bool, true, false, Option, Some, None, ◌==◌, nat_lt, if◌then◌else◌}
 use Rattle.std.proofs.lemmas.Bool.{cases_eq}
 use Rattle.std.proofs.lemmas.Bool.Decides.{nat_tests}
 use Rattle.terminal_codes.specs.declared.caret.Caret.{Caret}
 use Rattle.terminal_codes.specs.ByteTable.{moved, code_of}
 use Rattle.terminal_codes.specs.Writes.{one, past, byte_writes, control_at, caret_step, has_service, is_service, touches}
 use Rattle.terminal_codes.proofs.Runs.{touches_12}
+use Rattle.std.proofs.lemmas.Bool.{ne_eqb}
 use Rattle.abstract_paint.specs.declared.cursor.Place.{Place}
 use Rattle.abstract_paint.specs.declared.cursor.Place.TheVariants.{Any, Col, Spot}
 use Rattle.abstract_paint.specs.declared.cursor.Pend.{Pend}
@@ -70,9 +71,6 @@ control_moves : (x : AbsCursor) (b : ℕ) → IsCursor x → nat_lt b 32 ≡ tru
 control_moves x b v lt n12 n27 =
     calm_step b (λ p. moved p b) x (place_moved x.place b) (λ s h. control_steps s b lt n12 n27) (λ s h. quiet_control s b lt n12) (λ p small. moved_small p small b) (place_moves x.place v.screen b)
 
-differs : (b k : ℕ) → b ≢ k → (b == k) ≡ false
-differs b k h = grind (arith, nat_tests)
-
 control_other : (x : AbsCursor) (b : ℕ) → (b == 27) ≡ false → (b == 12) ≡ false → control_cursor x b ≡ Some (calm (place_moved x.place b))
 control_other x b n27 n12 = rw (n27, n12) refl
 
@@ -84,8 +82,8 @@ control_law x b v lt =
           elim (cases_eq b 12) [
             | inl e ↦ subst (λ (k : ℕ). IsJudged k x (control_cursor x k)) (sym e) (clear_touches x v)
             | inr n12 ↦
-                let d27 = differs b 27 n27 in
-                let d12 = differs b 12 n12 in
+                let d27 = ne_eqb b 27 n27 in
+                let d12 = ne_eqb b 12 n12 in
                 subst (λ (r : Option AbsCursor). IsJudged b x r) (sym (control_other x b d27 d12)) (control_moves x b v lt d12 d27)
           ]
     ]

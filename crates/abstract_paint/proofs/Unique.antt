@@ -1,6 +1,7 @@
 -- At most one cursor stands for given ends.
 use Rattle.std.proofs.Common.{◌≡◌, ℕ, ◌+◌, ◌%◌, ◌<◌, ◌↔◌, ◌&&◌, nat_lt, arith, refl, ap, sym, ◌∙◌, List, ◌++◌, Bool, true, false, IsTrue}
 use Rattle.std.proofs.lemmas.Bool.Decides.{nat_tests}
+use Rattle.std.proofs.lemmas.Bool.{and_parts}
 use Rattle.frame_records.specs.declared.frame.Lead.{Lead}
 use Rattle.terminal_codes.specs.Leads.{lead_codes}
 use Rattle.terminal_codes.specs.Ends.{EndsAt}
@@ -93,10 +94,6 @@ pend_is_test No false = ((λ h. refl), (λ h. refl))
 pend_is_test Yes q = ((λ h. h), (λ h. h))
 pend_is_test Maybe q = ((λ h. tt), (λ h. refl))
 
-pub both_true : (a b : Bool) → (a && b) ≡ true → (a ≡ true) × (b ≡ true)
-both_true true b h = (refl, h)
-both_true false b h = cc
-
 lt_test : (p : ℕ) → nat_lt p 960 ≡ true → p < 960
 lt_test p h = grind (arith, nat_tests)
 
@@ -106,8 +103,8 @@ test_lt p h = grind (arith, nat_tests)
 pub stands_is_test : (x : AbsCursor) (p : ℕ) (q : Bool) → (stands x p q ≡ true) ↔ Stands x p q
 stands_is_test x p q = (
   (λ h.
-      let a = both_true (nat_lt p 960) (place_test x.place p && pend_test x.pend q) h in
-      let b = both_true (place_test x.place p) (pend_test x.pend q) a.1 in
+      let a = and_parts (nat_lt p 960) (place_test x.place p && pend_test x.pend q) h in
+      let b = and_parts (place_test x.place p) (pend_test x.pend q) a.1 in
       record { within = lt_test p a.0; place = (place_is_test x.place p).0 b.0; pend = (pend_is_test x.pend q).0 b.1 }),
   (λ h.
       let a = test_lt p h.within in

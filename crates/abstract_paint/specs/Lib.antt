@@ -2,6 +2,7 @@ pub mod Cursor
 pub mod Step
 pub mod Paint
 pub mod Start
+pub mod StartOf
 pub mod Plain
 pub mod Codes
 pub mod Runs

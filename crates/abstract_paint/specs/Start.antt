@@ -31,6 +31,18 @@ abbrev pub IsStart : Lead → List ℕ → Option Start → Type 0
 IsStart lead body None = IsClean lead body
 IsStart lead body (Some s) = IsLeastStart lead body s
 
+-- the least of the starts from which the byte at i writes a service position
+pub record IsLeastStartAt (lead : Lead) (body : List ℕ) (i : ℕ) (s : Start) : Type 0 where
+  pub offset : s.offset ≡ i
+  pub on_screen : s.at < 960
+  pub touch : StartTouches lead body i (caret_at s.at s.pending)
+  pub least : (c : Caret) → start_number c < start_number (caret_at s.at s.pending) → StartTouches lead body i c → ⊥
+
+-- none, where no start is one
+abbrev pub IsStartAt : Lead → List ℕ → ℕ → Option Start → Type 0
+IsStartAt lead body i None = (c : Caret) → c.at < 960 → StartTouches lead body i c → ⊥
+IsStartAt lead body i (Some s) = IsLeastStartAt lead body i s
+
 -- at most one answer is right
 abbrev pub StartsAreOne : Type 0
 StartsAreOne = (lead : Lead) (body : List ℕ) (r s : Option Start) → IsStart lead body r → IsStart lead body s → r ≡ s

@@ -46,7 +46,7 @@ code_by No b = code_of false b
 code_by Yes b = code_of true b
 code_by Maybe b = code_of false b
 
--- a code at a place: only a spot that is no service position takes it
+-- a code at a place: only a spot at which it doesn't count as written in a service row takes it
 abbrev pub written_at : Place → ℕ → Option AbsCursor
 written_at Any code = None
 written_at (Col c) code = None

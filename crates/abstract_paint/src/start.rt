@@ -1,9 +1,9 @@
 //! The least start that shows why a frame isn't clean.
 
-ghost use Rattle.std.specs.Prelude.{◌<◌, ◌↔◌, length, IsTrue};
-ghost use Rattle.terminal_codes.specs.Touch.{IsFirstTouch};
-ghost use Rattle.terminal_codes.specs.Starts.{StartTouches};
-ghost use Rattle.abstract_paint.specs.Start.{IsStart};
+ghost use Rattle.std.specs.Prelude.{◌≡◌, ◌<◌};
+ghost use Rattle.abstract_paint.specs.Paint.{paint_of};
+ghost use Rattle.abstract_paint.specs.Start.{IsStart, IsStartAt};
+ghost use Rattle.abstract_paint.specs.StartOf.{caret_numbered, start_touches, least_number, start_at, start_of};
 
 use crate::painting::{Painted, paint};
 use frame_records::Lead;
@@ -20,45 +20,67 @@ pub struct Start {
     pub offset: usize,
 }
 
+// The start of a number: position n / 2, pending where n is odd.
+fn caret_numbered(n: u16) -> Caret
+    requires { n < 1920 }
+    ensures { result ≡ caret_numbered n }
+{
+    Caret {
+        at: n / 2,
+        pending: n % 2 == 1,
+    }
+}
+
 // Whether the body byte at the offset writes a service position from the start.
 fn touches_from(lead: Lead, body: &[u8], offset: usize, start: Caret) -> bool
-    requires { offset < length body.now }
-    ensures { IsTrue result ↔ StartTouches lead body.now offset start }
+    ensures { result ≡ start_touches lead body.now offset start }
 {
+    if offset >= body.len() {
+        return false;
+    }
     let caret = start.run(lead_bytes(lead)).run(&body[..offset]);
     caret.touches(body[offset])
 }
 
-// The least start that touches at the offset. Start n is position n / 2, pending where n is odd.
-fn least_start(lead: Lead, body: &[u8], offset: usize) -> Option<Start>
-    requires { IsFirstTouch lead body.now offset }
-    ensures { IsStart lead body.now result }
+// The number of the least start that touches at the offset.
+fn least_number(lead: Lead, body: &[u8], offset: usize) -> Option<u16>
+    ensures { result ≡ least_number lead body.now offset }
 {
-    for n in 0..1920u16 {
-        let start = Caret {
+    (0..1920u16).find(
+        |n|
+            requires { n.now < 1920 }
+        { touches_from(lead, body, offset, caret_numbered(*n)) },
+    )
+}
+
+/// The least start from which the body byte at the offset writes a service position, or none where no start is one, as
+/// behind the body's end.
+///
+/// Starts are ordered by position, not pending before pending. It costs up to 1,920 runs through the body's front.
+pub fn start_at(lead: Lead, body: &[u8], offset: usize) -> Option<Start>
+    ensures computed { result ≡ start_at lead body.now offset }
+    ensures meaning { IsStartAt lead body.now offset result }
+{
+    match least_number(lead, body, offset) {
+        None => None,
+        Some(n) => Some(Start {
             at: n / 2,
             pending: n % 2 == 1,
-        };
-        if touches_from(lead, body, offset, start) {
-            return Some(Start {
-                at: start.at,
-                pending: start.pending,
-                offset,
-            });
-        }
+            offset,
+        }),
     }
-    None
 }
 
 /// The least start from which a service position is written at `paint`'s offset, or none where the frame is clean.
 ///
-/// Starts are ordered by position, not pending before pending. A frame that isn't clean costs up to 1,920 runs through
-/// its body's front, a clean one none.
+/// A frame that isn't clean costs what `start_at` does beside its painting. Who has painted already calls that.
+#[tactic(auto, using(crate::proofs::LeastStart::means))]
 pub fn start_for(lead: Lead, body: &[u8]) -> Option<Start>
-    ensures { IsStart lead body.now result }
+    ensures computed { result ≡ start_of lead body.now (paint_of lead body.now) }
+    ensures meaning { IsStart lead body.now result }
 {
     match paint(lead, body) {
         Painted::Clean(_) => None,
-        Painted::Touches(offset) => least_start(lead, body, offset),
+        Painted::Touches(offset) => start_at(lead, body, offset),
     }
 }

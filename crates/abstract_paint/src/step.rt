@@ -71,8 +71,8 @@ fn code(pend: Pend, byte: u8) -> Option<u8>
     }
 }
 
-// The cursor after a code is written, or none where some position of the place is a service position. Of a column's
-// positions and of all positions some are.
+// The cursor after a code is written, or none where the code counts as written in a service row at some position of the
+// place. Of a column's positions, and of all positions, some are in a service row.
 fn after_code(place: Place, code: u8) -> Option<AbsCursor>
     requires { OnScreen place }
     ensures computed { result ≡ written_at place code }

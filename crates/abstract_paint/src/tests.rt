@@ -52,22 +52,54 @@ fn paints_full_pages(rt: HostRuntime) {
     }
 }
 
-// An attribute at the front of a row, so many rows down.
+// An attribute at the front of a row, so many rows down. 4D is double height, which shows in the row beneath too.
 #[test]
 fn paints_an_attribute_in_each_row(rt: HostRuntime) {
-    let mut body = [0x0a; 30];
+    for (letter, last) in [(0x4c, 22), (0x4d, 21), (0x4e, 22)] {
+        let mut body = [0x0a; 30];
+        body[0] = 0x1e;
+        for rows in 1..24 {
+            body[rows + 1] = 0x1b;
+            body[rows + 2] = letter;
+            let painted = if rows > last {
+                Painted::Touches(rows + 2)
+            } else {
+                spot(rows as u16 * 40 + 1)
+            };
+            assert_eq!(rt;
+                paint(Lead::Clear, &body[..rows + 3]),
+                painted,
+                "{rows} {letter}"
+            );
+            body[rows + 1] = 0x0a;
+            body[rows + 2] = 0x0a;
+        }
+    }
+}
+
+// Codes in each column of rows 21 and 22, and behind them, after letters from the start of row 21 on.
+#[test]
+fn paints_double_height_up_to_row_21(rt: HostRuntime) {
+    let mut body = [0x41; 85];
     body[0] = 0x1e;
-    for rows in 1..24 {
-        body[rows + 1] = 0x1b;
-        body[rows + 2] = 0x4d;
-        let painted = if rows == 23 {
-            Painted::Touches(25)
-        } else {
-            spot(rows as u16 * 40 + 1)
-        };
-        assert_eq!(rt; paint(Lead::Clear, &body[..rows + 3]), painted, "{rows}");
-        body[rows + 1] = 0x0a;
-        body[rows + 2] = 0x0a;
+    body[1] = 0x0b;
+    body[2] = 0x0b;
+    body[3] = 0x0b;
+    for letters in 0..81 {
+        for code in [0x41, 0x4d, 0x8c, 0x8d, 0x8e, 0xcd] {
+            body[letters + 4] = code;
+            let painted = if letters == 80 || letters >= 40 && code == 0x8d {
+                Painted::Touches(letters + 4)
+            } else {
+                spot(letters as u16 + 841)
+            };
+            assert_eq!(rt;
+                paint(Lead::Keep, &body[..letters + 5]),
+                painted,
+                "{letters} {code}"
+            );
+        }
+        body[letters + 4] = 0x41;
     }
 }
 
@@ -80,9 +112,17 @@ fn finds_the_least_start(rt: HostRuntime) {
             offset,
         })
     };
-    let rows: [(Lead, &[u8], Option<Start>); 6] = [
+    let rows: [(Lead, &[u8], Option<Start>); 12] = [
         (Lead::Keep, &[0x41], start(0, 0)),
         (Lead::Keep, &[0x0d, 0x0a, 0x41], start(880, 2)),
+        // double height goes one row down to row 22, other attributes and the letter M to row 23
+        (Lead::Keep, &[0x0d, 0x0a, 0x1b, 0x4d], start(840, 3)),
+        (Lead::Keep, &[0x0d, 0x0a, 0x8d], start(840, 2)),
+        (Lead::Keep, &[0x0d, 0x0a, 0x1b, 0x4c], start(880, 3)),
+        (Lead::Keep, &[0x0d, 0x0a, 0x4d], start(880, 2)),
+        // an escape may be pending before the body
+        (Lead::Keep, &[0x4d], start(0, 0)),
+        (Lead::Keep, &[0x1b, 0x4d], start(0, 1)),
         (Lead::Clear, &[0x1e, 0x0b, 0x41], start(0, 2)),
         (Lead::Clear, &[0x41, 0x0c], start(0, 1)),
         (Lead::Keep, &[0x0d], None),
@@ -90,6 +130,33 @@ fn finds_the_least_start(rt: HostRuntime) {
     ];
     for (lead, body, least) in rows {
         assert_eq!(rt; start_for(lead, body), least, "{lead:?} {body:?}");
+    }
+}
+
+// Of a byte that touches after the first one, of one that never does, and past the body's end.
+#[test]
+fn finds_the_least_start_at_a_byte(rt: HostRuntime) {
+    let start = |at: u16, offset: usize| {
+        Some(Start {
+            at,
+            pending: false,
+            offset,
+        })
+    };
+    let rows: [(Lead, &[u8], usize, Option<Start>); 6] = [
+        (Lead::Keep, &[0x41, 0x42], 0, start(0, 0)),
+        (Lead::Keep, &[0x41, 0x42], 1, start(0, 1)),
+        (Lead::Keep, &[0x09, 0x0a, 0x41], 2, start(879, 2)),
+        (Lead::Clear, &[0x41, 0x0c, 0x41], 0, None),
+        (Lead::Clear, &[0x41, 0x0c, 0x41], 2, start(0, 2)),
+        (Lead::Keep, &[0x41], 1, None),
+    ];
+    for (lead, body, offset, least) in rows {
+        assert_eq!(rt;
+            start_at(lead, body, offset),
+            least,
+            "{lead:?} {body:?} {offset}"
+        );
     }
 }
 

@@ -10,7 +10,7 @@ use audit_report::report;
 use base_text::base_read;
 use checker::Policy;
 use fault_scripts::{Outcome, audit};
-use frame_records::{Base, Body, Frame, Lead, Pence};
+use frame_records::{Base, Body, Frame, Groups, Lead, Pence};
 use itoa::Buffer;
 use page_ids::{FrameId, PageNo};
 use std::alloc::{AllocError, Global};
@@ -88,6 +88,7 @@ fn policy(ceiling: u16) -> Result<Policy> {
         Some(ceiling) => Ok(Policy {
             ceiling,
             keyings: 65_535,
+            groups: Groups::none(),
         }),
         None => bail!("no such price"),
     }

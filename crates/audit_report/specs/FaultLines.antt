@@ -71,6 +71,7 @@ cert_fault_text read.Memory = codes "memory refused"
 abbrev pub fault_words : RunFault → List ℕ
 fault_words (run.Base fault) = base_place_text fault.frame ++ base_cause_text fault.cause
 fault_words (run.Cert fault) = cert_fault_text fault
+fault_words run.Groups = codes "groups: I4 BadGroups"
 fault_words (run.Keys offset) = codes "keys: I3 BadKey " ++ decimal offset
 fault_words run.ReadBase = codes "base: read failed"
 fault_words run.ReadCert = codes "certificate: read failed"

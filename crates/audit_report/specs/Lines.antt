@@ -26,6 +26,7 @@ abbrev pub cause_text : Cause → List ℕ
 cause_text cause.EntryDiffers = codes "REFUSED K1 EntryDiffers"
 cause_text cause.CeilingAbove = codes "REFUSED K2 CeilingAbove"
 cause_text cause.KeyingsAbove = codes "REFUSED K3 KeyingsAbove"
+cause_text cause.GroupsDiffer = codes "REFUSED K15 GroupsDiffer"
 cause_text cause.EntryNotCovered = codes "REFUSED K4 EntryNotCovered"
 cause_text (cause.NoFrame id) = with_id (codes "REFUSED K5 NoFrame ") id
 cause_text (cause.ClosedFrame id) = with_id (codes "REFUSED K6 ClosedFrame ") id

@@ -1,10 +1,11 @@
 ghost use Rattle.std.specs.Prelude.{◌≡◌, ◌++◌, IfOk, OnOk, decimal};
 ghost use Rattle.audit_report.specs.FaultLines.{field_text, base_cause_text, base_place_text, line_cause_text, cert_fault_text, fault_words, fault_text};
 
-use crate::push::{push_id, push_number, push_page, push_words_number};
+use crate::push::{push_id, push_page, push_words_number};
 use crate::run_fault::RunFault;
 use base_text::{BaseFault, Cause, Field};
 use cert_text::{LineCause, ReadFault};
+use page_ids::push_number;
 use std::alloc::{AllocError, Global};
 
 fn field_name(field: Field) -> &'static [u8]
@@ -135,6 +136,7 @@ fn push_fault(out: &mut Vec<u8>, fault: &RunFault) -> Result<(), AllocError>
     match fault {
         RunFault::Base(fault) => push_base_fault(out, fault),
         RunFault::Cert(fault) => push_cert_fault(out, *fault),
+        RunFault::Groups => out.extend_from_slice(b"groups: I4 BadGroups"),
         RunFault::Keys(offset) => push_words_number(out, b"keys: I3 BadKey ", *offset as u64),
         RunFault::ReadBase => out.extend_from_slice(b"base: read failed"),
         RunFault::ReadCert => out.extend_from_slice(b"certificate: read failed"),

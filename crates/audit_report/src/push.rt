@@ -2,18 +2,8 @@ ghost use Rattle.std.specs.Prelude.{◌≡◌, ◌++◌, OnOk, decimal};
 ghost use Rattle.page_ids.specs.Ids.{page_text};
 ghost use Rattle.audit_report.specs.Lines.{with_id, with_id_number};
 
-use itoa::Buffer;
-use page_ids::{FrameId, PageNo};
+use page_ids::{FrameId, PageNo, push_number};
 use std::alloc::AllocError;
-
-pub fn push_number(out: &mut Vec<u8>, number: u64) -> Result<(), AllocError>
-    ensures { OnOk result (out.new.items ≡ out.old.items ++ decimal number) }
-{
-    let mut buffer = Buffer::new();
-    let digits = buffer.format(number);
-    out.extend_from_slice(digits.as_bytes())?;
-    Ok(())
-}
 
 // Words and a number.
 #[tactic(auto, using(std::proofs::Common::append_assoc))]

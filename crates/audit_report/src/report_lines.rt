@@ -7,30 +7,8 @@ use crate::push::{push_id, push_id_number, push_words_number};
 use abstract_paint::Start;
 use cert_text::cert_write;
 use fault_scripts::{Fault, FaultKind, Outcome};
-use page_ids::{FrameId, Key};
+use page_ids::{FrameId, Key, push_key, push_keys};
 use std::alloc::{AllocError, Global};
-
-fn push_key(out: &mut Vec<u8>, key: Key) -> Result<(), AllocError>
-    ensures { OnOk result (out.new.items ≡ out.old.items ++ key_word key) }
-{
-    match key {
-        Key::Route(digit) => out.push(b'0' + digit.get())?,
-        Key::Next => out.push(b'#')?,
-        Key::Prev => out.extend_from_slice(b"*#")?,
-        Key::Reprint => out.extend_from_slice(b"*00")?,
-        Key::Update => out.extend_from_slice(b"*09")?,
-    }
-    Ok(())
-}
-
-fn push_keys(out: &mut Vec<u8>, keys: &[Key]) -> Result<(), AllocError>
-    ensures { OnOk result (out.new.items ≡ out.old.items ++ keys_text keys.now) }
-{
-    for key in keys {
-        push_key(out, *key)?;
-    }
-    Ok(())
-}
 
 // The keys that lead to a fault.
 #[tactic(auto, using(std::proofs::Common::append_assoc))]

@@ -11,6 +11,9 @@ pub enum RunFault {
     /// The certificate text's first line at fault.
     #[error("certificate text refused")]
     Cert(ReadFault),
+    /// I4: the list of groups can't be read.
+    #[error("no list of groups")]
+    Groups,
     /// I3: the byte offset of the first key that can't be read.
     #[error("no key at byte {0}")]
     Keys(usize),

@@ -13,11 +13,15 @@ use std::test::Fail;
 fn a_verdict_is_one_line(rt: HostRuntime) -> Result<(), Fail> {
     let id = FrameId::read("1231b")?;
     let nine = Digit::new(9).ok_or("nine")?;
-    let rows: [(Verdict, &str); 8] = [
+    let rows: [(Verdict, &str); 9] = [
         (Verdict::Cleared, "CLEARED\n"),
         (
             Verdict::Refused(Cause::CeilingAbove),
             "REFUSED K2 CeilingAbove\n",
+        ),
+        (
+            Verdict::Refused(Cause::GroupsDiffer),
+            "REFUSED K15 GroupsDiffer\n",
         ),
         (
             Verdict::Refused(Cause::EntryNotCovered),
@@ -120,7 +124,7 @@ fn a_fault_is_one_line(rt: HostRuntime) -> Result<(), Fail> {
         frame: Some(65_534),
         cause: BaseCause::Range(Field::Price),
     };
-    let rows: [(RunFault, &str); 12] = [
+    let rows: [(RunFault, &str); 13] = [
         (RunFault::Base(range), "base: frame 2: X6 Range body\n"),
         (RunFault::Base(last), "base: frame 65534: X6 Range price\n"),
         (RunFault::Base(unknown), "base: X3 UnknownKey\n"),
@@ -134,6 +138,7 @@ fn a_fault_is_one_line(rt: HostRuntime) -> Result<(), Fail> {
             "certificate: line 65540: Order\n",
         ),
         (RunFault::Cert(ReadFault::Failed), "certificate: failed\n"),
+        (RunFault::Groups, "groups: I4 BadGroups\n"),
         (RunFault::Keys(1), "keys: I3 BadKey 1\n"),
         (RunFault::ReadBase, "base: read failed\n"),
         (RunFault::ReadCert, "certificate: read failed\n"),

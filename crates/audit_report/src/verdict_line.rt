@@ -13,6 +13,7 @@ fn push_cause(out: &mut Vec<u8>, cause: Cause) -> Result<(), AllocError>
         Cause::EntryDiffers => out.extend_from_slice(b"REFUSED K1 EntryDiffers"),
         Cause::CeilingAbove => out.extend_from_slice(b"REFUSED K2 CeilingAbove"),
         Cause::KeyingsAbove => out.extend_from_slice(b"REFUSED K3 KeyingsAbove"),
+        Cause::GroupsDiffer => out.extend_from_slice(b"REFUSED K15 GroupsDiffer"),
         Cause::EntryNotCovered => out.extend_from_slice(b"REFUSED K4 EntryNotCovered"),
         Cause::NoFrame(id) => push_id(out, b"REFUSED K5 NoFrame ", id),
         Cause::ClosedFrame(id) => push_id(out, b"REFUSED K6 ClosedFrame ", id),

@@ -4,6 +4,8 @@ use Rattle.std.specs.Option.{ok_or}
 use Rattle.std.specs.Str.{bytes_eq}
 use Rattle.page_ids.specs.Id.{Id}
 use Rattle.page_ids.specs.Numbers.{id_in}
+use Rattle.frame_records.specs.declared.limits.TheConstants.{MOST_PENCE, MOST_GROUP}
+use Rattle.page_ids.specs.declared.limits.TheConstants.{MOST_PAGE}
 use Rattle.frame_records.specs.declared.frame.Lead.{Lead}
 use Rattle.frame_records.specs.declared.frame.Lead.TheVariants.{Clear, Keep}
 use Rattle.toml.specs.Data.{Data, string, integer, boolean, array, Items, no_items, item}
@@ -21,7 +23,7 @@ number_of f most _ = Err (WrongKind f)
 
 -- a page number
 abbrev pub page_of : Field → Data → Result ℕ Cause
-page_of f d = number_of f 999999999 d
+page_of f d = number_of f MOST_PAGE d
 
 -- the entry page, which has to be there
 abbrev pub entry_of : Option Data → Result ℕ Cause
@@ -55,7 +57,7 @@ id_of (Some _) = Err (WrongKind field.Id)
 -- a frame's price, or 0
 abbrev pub price_of : Option Data → Result ℕ Cause
 price_of None = Ok 0
-price_of (Some d) = number_of field.Price 9999 d
+price_of (Some d) = number_of field.Price MOST_PENCE d
 
 -- the group of a number; 0 is none
 abbrev pub group_number : ℕ → Result (Option ℕ) Cause
@@ -64,7 +66,7 @@ group_number n = if n == 0 then Err (Range field.Group) else Ok (Some n)
 -- a frame's closed user group, or none
 abbrev pub group_of : Option Data → Result (Option ℕ) Cause
 group_of None = Ok None
-group_of (Some d) = number_of field.Group 65535 d >>= group_number
+group_of (Some d) = number_of field.Group MOST_GROUP d >>= group_number
 
 -- whether `#` leads on, or not
 abbrev pub next_of : Option Data → Result Bool Cause

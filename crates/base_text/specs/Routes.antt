@@ -1,5 +1,5 @@
 -- The routes of a frame, in the order of their digits.
-use Rattle.std.specs.Prelude.{ℕ, suc, zero, ◌+◌, if◌then◌else◌, List, [], ◌∷◌, Option, Some, None, Result, Ok, Err}
+use Rattle.std.specs.Prelude.{ℕ, suc, zero, ◌+◌, ◌-◌, if◌then◌else◌, List, [], ◌∷◌, Option, Some, None, Result, Ok, Err}
 use Rattle.toml.specs.Data.{Data, table, Members, get_member}
 use Rattle.base_text.specs.declared.fault.Cause.{Cause}
 use Rattle.base_text.specs.declared.fault.Cause.TheVariants.{UnknownKey, WrongKind}
@@ -8,6 +8,11 @@ use Rattle.base_text.specs.declared.keys.Place.TheVariants as place
 use Rattle.base_text.specs.Outcome.{◌>>=◌}
 use Rattle.base_text.specs.Keys.{has_only_keys, digit_key}
 use Rattle.base_text.specs.Fields.{page_of}
+
+-- the digit of a key; 48 is `0`
+abbrev pub digit_of : List ℕ → ℕ
+digit_of [] = 0
+digit_of (c ∷ cs) = c - 48
 
 -- the page of one digit, or none
 abbrev pub route_of : Option Data → Result (Option ℕ) Cause

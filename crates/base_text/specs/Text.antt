@@ -3,6 +3,7 @@ use Rattle.std.specs.Prelude.{ℕ, List, codes, length, nat_lt, if◌then◌else
 use Rattle.std.specs.Str.{is_utf8}
 use Rattle.toml.specs.Data.{Members, get_member}
 use Rattle.toml.specs.Parse.{parse_document}
+use Rattle.base_text.specs.declared.limits.TheConstants.{MOST_TEXT}
 use Rattle.base_text.specs.declared.fault.BaseFault.{BaseFault}
 use Rattle.base_text.specs.declared.fault.Cause.TheVariants.{UnknownKey, TooLong, NotToml}
 use Rattle.base_text.specs.declared.keys.Place.TheVariants as place
@@ -35,4 +36,4 @@ tree_of text = if is_utf8 text then parse_document text else None
 
 -- what a text lists; its length comes before all else
 abbrev pub parts_of : List ℕ → Result PartsView BaseFault
-parts_of text = if nat_lt 16777216 (length text) then Err (top_fault TooLong) else tree_parts (tree_of text)
+parts_of text = if nat_lt MOST_TEXT (length text) then Err (top_fault TooLong) else tree_parts (tree_of text)

@@ -90,11 +90,26 @@ fn short_row(text: &str) -> Result<RowCells, Cause>
     Ok(RowCells { cells })
 }
 
-// The row whose codes are the code points of a text.
+// The row of codes that are given as bytes.
+fn row_of_codes(codes: &[u8]) -> Result<RowCells, Cause>
+    ensures { result ≡ row_text codes.now }
+{
+    if codes.len() > 40 {
+        return Err(Cause::RowTooLong);
+    }
+    match RowCells::new(codes) {
+        Some(row) => Ok(row),
+        None => Err(Cause::RowCode),
+    }
+}
+
+// The row whose codes are the code points of a text; those of an ASCII text are its bytes.
 pub fn row_of_text(text: &str) -> Result<RowCells, Cause>
     ensures { result ≡ row_text (chars text.now) }
 {
-    if is_row_long(text) {
+    if text.is_ascii() {
+        row_of_codes(text.as_bytes())
+    } else if is_row_long(text) {
         Err(Cause::RowTooLong)
     } else {
         short_row(text)

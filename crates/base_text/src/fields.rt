@@ -5,8 +5,8 @@ ghost use Rattle.base_text.specs.Seen.{seen, listed};
 ghost use Rattle.base_text.specs.Fields.{number_of, page_of, entry_of, pages_of, outside_of, id_text, id_of, price_of, group_of, next_of, lead_text, lead_of};
 
 use crate::fault::{Cause, Field};
-use frame_records::{GroupNo, Lead, Pence};
-use page_ids::{FrameId, PageNo};
+use frame_records::{GroupNo, Lead, MOST_GROUP, MOST_PENCE, Pence};
+use page_ids::{FrameId, MOST_PAGE, PageNo};
 use std::alloc::Global;
 use toml::Value;
 
@@ -28,7 +28,7 @@ fn number(field: Field, most: u32, value: &Value) -> Result<u32, Cause>
 pub fn page(field: Field, value: &Value) -> Result<PageNo, Cause>
     ensures { result ≡ page_of field (view value.now) }
 {
-    let number = number(field, PageNo::MOST, value)?;
+    let number = number(field, MOST_PAGE, value)?;
     PageNo::new(number).ok_or(Cause::Range(field))
 }
 
@@ -84,7 +84,7 @@ pub fn read_price(value: Option<&Value>) -> Result<Pence, Cause>
     ensures { result ≡ price_of (seen value.entry) }
 {
     let number = match value {
-        Some(value) => number(Field::Price, 9_999, value)?,
+        Some(value) => number(Field::Price, MOST_PENCE as u32, value)?,
         None => 0,
     };
     Pence::new(number as u16).ok_or(Cause::Range(Field::Price))
@@ -96,7 +96,7 @@ pub fn read_group(value: Option<&Value>) -> Result<Option<GroupNo>, Cause>
     let Some(value) = value else {
         return Ok(None);
     };
-    let number = number(Field::Group, 65_535, value)?;
+    let number = number(Field::Group, MOST_GROUP as u32, value)?;
     match GroupNo::new(number as u16) {
         Some(group) => Ok(Some(group)),
         None => Err(Cause::Range(Field::Group)),

@@ -1,9 +1,9 @@
-ghost use Rattle.std.specs.Prelude.{◌≡◌};
+ghost use Rattle.std.specs.Prelude.{◌≡◌, codes, option_map};
 ghost use Rattle.toml.specs.View.{table_view, view, items_view};
 ghost use Rattle.base_text.specs.Outcome.{OrMemory, FaultOrMemory, at_index};
 ghost use Rattle.base_text.specs.Frames.{head_of, shown_of, known_frame, table_frame, frame_of};
 ghost use Rattle.base_text.specs.FrameList.{frames_from, frames_of};
-ghost use Rattle.base_text.specs.Seen.{seen, listed};
+ghost use Rattle.base_text.specs.Seen.{listed};
 
 use crate::bodies::read_body;
 use crate::fault::{BaseFault, Cause, Field, fault_at, top_fault};
@@ -47,21 +47,22 @@ fn read_head(table: &Table) -> Result<Head, Cause>
     })
 }
 
-fn read_shown(alloc: Global, table: &Table) -> Result<Shown, Cause>
-    ensures { OrMemory (shown_of (table_view table.now)) result }
+// Takes the body out of the table.
+fn read_shown(alloc: Global, table: &mut Table) -> Result<Shown, Cause>
+    ensures { OrMemory (shown_of (table_view table.old)) result }
 {
     let routes = read_routes(member(table, "routes"))?;
     let lead = read_lead(member(table, "lead"))?;
-    let body = read_body(alloc, member(table, "body"), member(table, "rows"))?;
+    let body = read_body(alloc, table)?;
     Ok(Shown { routes, lead, body })
 }
 
 // The frame of a table whose keys are known.
-fn known_frame(alloc: Global, table: &Table) -> Result<Frame, Cause>
-    ensures { OrMemory (known_frame (table_view table.now)) result }
+fn known_frame(alloc: Global, mut table: Table) -> Result<Frame, Cause>
+    ensures { OrMemory (known_frame (table_view table)) result }
 {
-    let head = read_head(table)?;
-    let Shown { routes, lead, body } = read_shown(alloc, table)?;
+    let head = read_head(&table)?;
+    let Shown { routes, lead, body } = read_shown(alloc, &mut table)?;
     Ok(Frame {
         id: head.id,
         price: head.price,
@@ -73,18 +74,18 @@ fn known_frame(alloc: Global, table: &Table) -> Result<Frame, Cause>
     })
 }
 
-fn table_frame(alloc: Global, table: &Table) -> Result<Frame, Cause>
-    ensures { OrMemory (table_frame (table_view table.now)) result }
+fn table_frame(alloc: Global, table: Table) -> Result<Frame, Cause>
+    ensures { OrMemory (table_frame (table_view table)) result }
 {
-    if has_only_keys(Place::Frame, table) {
+    if has_only_keys(Place::Frame, &table) {
         known_frame(alloc, table)
     } else {
         Err(Cause::UnknownKey)
     }
 }
 
-fn read_frame(alloc: Global, value: &Value) -> Result<Frame, Cause>
-    ensures { OrMemory (frame_of (view value.now)) result }
+fn read_frame(alloc: Global, value: Value) -> Result<Frame, Cause>
+    ensures { OrMemory (frame_of (view value)) result }
 {
     match value {
         Value::Table(table) => table_frame(alloc, table),
@@ -92,8 +93,8 @@ fn read_frame(alloc: Global, value: &Value) -> Result<Frame, Cause>
     }
 }
 
-fn frame_at_index(alloc: Global, index: usize, value: &Value) -> Result<Frame, BaseFault>
-    ensures { FaultOrMemory (at_index index (frame_of (view value.now))) result }
+fn frame_at_index(alloc: Global, index: usize, value: Value) -> Result<Frame, BaseFault>
+    ensures { FaultOrMemory (at_index index (frame_of (view value))) result }
 {
     match read_frame(alloc, value) {
         Ok(frame) => Ok(frame),
@@ -101,9 +102,17 @@ fn frame_at_index(alloc: Global, index: usize, value: &Value) -> Result<Frame, B
     }
 }
 
-// The frames of an array.
-fn frame_list(alloc: Global, values: &[Value]) -> Result<Vec<Frame>, BaseFault>
-    ensures { FaultOrMemory (frames_from 0 (items_view values.now)) (listed result) }
+// Has the C library's allocator join the small pieces that the tables of the last 32 frames let go: it does so at each request
+// of this size, and that costs little while they are at hand. Left to the end, it takes a tenth of the time of a large base.
+fn settle(alloc: Global, frames: usize) {
+    if frames % 32 == 0 {
+        let _ = Vec::<u8>::with_capacity(alloc, 4_096);
+    }
+}
+
+// The frames of an array. Each value is let go as soon as its frame is read.
+fn frame_list(alloc: Global, values: Vec<Value>) -> Result<Vec<Frame>, BaseFault>
+    ensures { FaultOrMemory (frames_from 0 (items_view values.items)) (listed result) }
 {
     let mut frames = Vec::new(alloc);
     for value in values {
@@ -114,15 +123,16 @@ fn frame_list(alloc: Global, values: &[Value]) -> Result<Vec<Frame>, BaseFault>
         if frames.push(frame).is_err() {
             return Err(top_fault(Cause::Memory));
         }
+        settle(alloc, frames.len());
     }
     Ok(frames)
 }
 
-pub fn read_frames(alloc: Global, value: Option<&Value>) -> Result<Vec<Frame>, BaseFault>
-    ensures { FaultOrMemory (frames_of (seen value.entry)) (listed result) }
+pub fn read_frames(alloc: Global, value: Option<Value>) -> Result<Vec<Frame>, BaseFault>
+    ensures { FaultOrMemory (frames_of (option_map view value)) (listed result) }
 {
     match value {
-        Some(Value::Array(values)) => frame_list(alloc, values.as_slice()),
+        Some(Value::Array(values)) => frame_list(alloc, values),
         Some(_) => Err(top_fault(Cause::WrongKind(Field::Frame))),
         None => Ok(Vec::new(alloc)),
     }

@@ -1,6 +1,6 @@
-ghost use Rattle.std.specs.Prelude.{◌≡◌};
+ghost use Rattle.std.specs.Prelude.{◌≡◌, option_map};
 ghost use Rattle.toml.specs.Data.{get_member};
-ghost use Rattle.toml.specs.View.{table_view};
+ghost use Rattle.toml.specs.View.{table_view, view};
 ghost use Rattle.base_text.specs.Keys.{is_key, is_head_key, is_shown_key, has_only_keys};
 ghost use Rattle.base_text.specs.Seen.{seen};
 
@@ -55,4 +55,11 @@ pub fn member<'a>(table: &'a Table, key: &str) -> Option<&'a Value>
     ensures { seen result ≡ get_member key.now (table_view table.now) }
 {
     table.get(key)
+}
+
+// The value at a key, taken out of the table.
+pub fn take_member(table: &mut Table, key: &str) -> Option<Value>
+    ensures { option_map view result ≡ get_member key.now (table_view table.old) }
+{
+    table.remove(key)
 }

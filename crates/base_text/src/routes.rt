@@ -1,51 +1,33 @@
-ghost use Rattle.std.specs.Prelude.{◌≡◌, ◌<◌};
+ghost use Rattle.std.specs.Prelude.{◌≡◌, ◌<◌, true};
 ghost use Rattle.toml.specs.View.{table_view};
-ghost use Rattle.base_text.specs.Keys.{digit_key};
-ghost use Rattle.base_text.specs.Routes.{route_of, all_routes, table_routes, routes_of};
+ghost use Rattle.base_text.specs.Keys.{is_digit_key, has_only_keys};
+ghost use Rattle.base_text.specs.Routes.{digit_of, all_routes, table_routes, routes_of};
 ghost use Rattle.base_text.specs.Seen.{seen};
 
 use crate::fault::{Cause, Field};
 use crate::fields::page;
-use crate::keys::{Place, has_only_keys, member};
+use crate::keys::{Place, has_only_keys};
 use page_ids::PageNo;
 use toml::{Table, Value};
 
-// The key of a digit's route.
-fn digit_key(digit: usize) -> &'static str
-    requires { digit < 10 }
-    ensures { result.now ≡ digit_key digit }
+// The digit of a key.
+fn digit_of(key: &str) -> usize
+    requires { is_digit_key key.now ≡ true }
+    ensures digit { result ≡ digit_of key.now }
+    ensures small { result < 10 }
 {
-    match digit {
-        0 => "0",
-        1 => "1",
-        2 => "2",
-        3 => "3",
-        4 => "4",
-        5 => "5",
-        6 => "6",
-        7 => "7",
-        8 => "8",
-        _ => "9",
-    }
+    usize::from(key.as_bytes()[0] - b'0')
 }
 
-fn read_route(value: Option<&Value>) -> Result<Option<PageNo>, Cause>
-    ensures { result ≡ route_of (seen value.entry) }
-{
-    match value {
-        Some(value) => Ok(Some(page(Field::Routes, value)?)),
-        None => Ok(None),
-    }
-}
-
-// The routes of the ten digits, in their order.
+// The routes of a table whose keys are digits. They come in the order of the digits.
 fn all_routes(table: &Table) -> Result<[Option<PageNo>; 10], Cause>
+    requires { has_only_keys Place.Routes (table_view table.now) ≡ true }
     ensures { result ≡ all_routes (table_view table.now) }
 {
     let mut routes = [None; 10];
-    for digit in 0..10usize {
-        let route = read_route(member(table, digit_key(digit)))?;
-        routes[digit] = route;
+    for (key, value) in table.iter() {
+        let page = page(Field::Routes, value)?;
+        routes[digit_of(key.as_str())] = Some(page);
     }
     Ok(routes)
 }

@@ -23,7 +23,7 @@ fn read_row(value: &Value) -> Result<RowCells, Cause>
 fn row_list(alloc: Global, values: &[Value]) -> Result<Vec<RowCells>, Cause>
     ensures { OrMemory (rows_of (items_view values.now)) (listed result) }
 {
-    let mut rows = Vec::new(alloc);
+    let mut rows = Vec::with_capacity(alloc, values.len()).map_err(|_| Cause::Memory)?;
     for value in values {
         let row = read_row(value)?;
         rows.push(row).map_err(|_| Cause::Memory)?;
@@ -47,7 +47,7 @@ pub fn body_of_rows(alloc: Global, rows: &[RowCells]) -> Result<Body, AllocError
     requires { length rows.now ≤ 22 }
     ensures { IfOk result (λ body. body ≡ body_of_rows rows.now) }
 {
-    let mut bytes = Vec::new(alloc);
+    let mut bytes = Vec::with_capacity(alloc, 2 + 42 * rows.len())?;
     bytes.extend_from_slice(&[0x1E, 0x0A])?;
     for row in rows {
         push_row(&mut bytes, row.as_slice())?;

@@ -8,7 +8,8 @@ ghost use Rattle.base_text.specs.Whole.{IsTextBase, IsFirstFault, IsRead};
 use crate::fault::{BaseFault, Cause, build_cause, top_fault};
 use crate::fields::{read_entry, read_outside};
 use crate::frames::read_frames;
-use crate::keys::{Place, has_only_keys, member};
+use crate::keys::{Place, has_only_keys, member, take_member};
+use crate::limits::MOST_TEXT;
 use frame_records::{Base, Frame};
 use page_ids::PageNo;
 use std::alloc::Global;
@@ -32,18 +33,18 @@ impl Model for Parts {
 }
 
 // What a table lists whose keys are known.
-fn known_parts(alloc: Global, table: &Table) -> Result<Parts, BaseFault>
-    ensures { FaultOrMemory (known_parts (table_view table.now)) result }
+fn known_parts(alloc: Global, mut table: Table) -> Result<Parts, BaseFault>
+    ensures { FaultOrMemory (known_parts (table_view table)) result }
 {
-    let entry = match read_entry(member(table, "entry")) {
+    let entry = match read_entry(member(&table, "entry")) {
         Ok(entry) => entry,
         Err(cause) => return Err(top_fault(cause)),
     };
-    let outside = match read_outside(alloc, member(table, "outside")) {
+    let outside = match read_outside(alloc, member(&table, "outside")) {
         Ok(outside) => outside,
         Err(cause) => return Err(top_fault(cause)),
     };
-    match read_frames(alloc, member(table, "frame")) {
+    match read_frames(alloc, take_member(&mut table, "frame")) {
         Ok(frames) => Ok(Parts {
             entry,
             outside,
@@ -53,10 +54,10 @@ fn known_parts(alloc: Global, table: &Table) -> Result<Parts, BaseFault>
     }
 }
 
-fn table_parts(alloc: Global, table: &Table) -> Result<Parts, BaseFault>
-    ensures { FaultOrMemory (table_parts (table_view table.now)) result }
+fn table_parts(alloc: Global, table: Table) -> Result<Parts, BaseFault>
+    ensures { FaultOrMemory (table_parts (table_view table)) result }
 {
-    if has_only_keys(Place::Top, table) {
+    if has_only_keys(Place::Top, &table) {
         known_parts(alloc, table)
     } else {
         Err(top_fault(Cause::UnknownKey))
@@ -84,7 +85,7 @@ fn tree_parts(alloc: Global, text: &[u8]) -> Result<Parts, BaseFault>
     ensures { FaultOrMemory (tree_parts (tree_of text.now)) result }
 {
     match tree(alloc, text) {
-        Ok(table) => table_parts(alloc, &table),
+        Ok(table) => table_parts(alloc, table),
         Err(cause) => Err(top_fault(cause)),
     }
 }
@@ -93,7 +94,7 @@ fn tree_parts(alloc: Global, text: &[u8]) -> Result<Parts, BaseFault>
 fn read_parts(alloc: Global, text: &[u8]) -> Result<Parts, BaseFault>
     ensures { FaultOrMemory (parts_of text.now) result }
 {
-    if text.len() > 16_777_216 {
+    if text.len() > MOST_TEXT {
         Err(top_fault(Cause::TooLong))
     } else {
         tree_parts(alloc, text)

@@ -6,10 +6,11 @@ use Rattle.page_ids.specs.Id.{Id}
 use Rattle.page_ids.specs.Ids.{id_cmp, id_eq}
 use Rattle.abstract_paint.specs.Cursor.{OnScreen}
 use Rattle.cert_table.specs.declared.row.Row.{Row}
+use Rattle.cert_table.specs.declared.limits.TheConstants.{MOST_ROWS}
 
 -- ids ascend, and there are at most 65,535
 pub record AreRows (rows : List Row) : Type 0 where
-  pub few : length rows ≤ 65535
+  pub few : length rows ≤ MOST_ROWS
   pub ascending : AllAdjacentBelow (λ r s. id_cmp r.id s.id ≡ Less) rows (length rows)
 
 -- each row's cursor has a place on the screen

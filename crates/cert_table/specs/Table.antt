@@ -6,6 +6,7 @@ use Rattle.page_ids.specs.Ids.{id_cmp}
 use Rattle.abstract_paint.specs.declared.cursor.Place.{Place}
 use Rattle.abstract_paint.specs.declared.cursor.Place.TheVariants.{Any, Col, Spot}
 use Rattle.cert_table.specs.declared.row.Row.{Row}
+use Rattle.cert_table.specs.declared.limits.TheConstants.{MOST_ROWS}
 use Rattle.cert_table.specs.declared.certificate.TableFault.{TableFault}
 use Rattle.cert_table.specs.declared.certificate.TableFault.TheVariants.{TooMany, Range, Order}
 use Rattle.cert_table.specs.Rows.{AreRows, AreOnScreen}
@@ -41,15 +42,15 @@ rows_fault i before (row ∷ rows) = or_later (row_fault i before row) (rows_fau
 
 -- over 65,535 rows; then the first row at fault
 abbrev pub table_fault : List Row → Option TableFault
-table_fault rows = if nat_lt 65535 (length rows) then Some TooMany else rows_fault 0 None rows
+table_fault rows = if nat_lt MOST_ROWS (length rows) then Some TooMany else rows_fault 0 None rows
 
 abbrev pub unless_fault : Option TableFault → CertView → Result CertView TableFault
 unless_fault None cert = Ok cert
 unless_fault (Some fault) cert = Err fault
 
 -- the certificate of these parts, or the refusal of its rows
-abbrev pub built : ℕ → ℕ → ℕ → List Row → Result CertView TableFault
-built entry ceiling keyings rows = unless_fault (table_fault rows) (record { entry = entry; ceiling = ceiling; keyings = keyings; rows = rows })
+abbrev pub built : ℕ → ℕ → ℕ → List ℕ → List Row → Result CertView TableFault
+built entry ceiling keyings groups rows = unless_fault (table_fault rows) (record { entry = entry; ceiling = ceiling; keyings = keyings; groups = groups; rows = rows })
 
 -- no refusal applies exactly where the rows are a table on the screen
 abbrev pub FaultsAreExact : Type 0

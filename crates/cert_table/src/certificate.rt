@@ -4,10 +4,11 @@ ghost use Rattle.cert_table.specs.Rows.{AreRows, AreOnScreen};
 ghost use Rattle.cert_table.specs.Table.{is_on_screen, is_behind, row_fault, table_fault, built, FaultsAreExact};
 
 use crate::cover::Cover;
+use crate::limits::MOST_ROWS;
 use crate::row::Row;
 use crate::row_table::RowTable;
 use abstract_paint::Place;
-use frame_records::Pence;
+use frame_records::{Groups, Pence};
 use page_ids::{FrameId, PageNo};
 use std::marker::Model;
 use thiserror::Error;
@@ -32,6 +33,7 @@ pub struct Certificate<C: Cover + Drop = RowTable> {
     entry: PageNo,
     ceiling: Pence,
     keyings: u16,
+    groups: Groups,
     cover: C,
 }
 
@@ -42,7 +44,7 @@ impl<C: Cover + Drop> Model for Certificate<C> {
 
     ghost use Rattle.cert_table.specs.Rows.{AreOnScreen};
 
-    ghost view = { λ c. record { entry = c.entry; ceiling = c.ceiling; keyings = c.keyings; rows = C.rows c.cover } };
+    ghost view = { λ c. record { entry = c.entry; ceiling = c.ceiling; keyings = c.keyings; groups = c.groups; rows = C.rows c.cover } };
 
     ghost invariant = { λ c. AreOnScreen (C.rows c.cover) };
 }
@@ -83,7 +85,7 @@ fn row_fault(i: usize, before: Option<&Row>, row: &Row) -> Option<TableFault>
 fn table_fault(rows: &[Row]) -> Option<TableFault>
     ensures { result ≡ table_fault rows.now }
 {
-    if rows.len() > 65_535 {
+    if rows.len() > MOST_ROWS {
         return Some(TableFault::TooMany);
     }
     let mut before = None;
@@ -109,9 +111,10 @@ impl<C: Cover + Drop> Certificate<C> {
         entry: PageNo,
         ceiling: Pence,
         keyings: u16,
+        groups: Groups,
         rows: Vec<Row>,
     ) -> Result<Certificate<C>, TableFault>
-        ensures { result ≡ built entry ceiling keyings rows.items }
+        ensures { result ≡ built entry ceiling keyings groups rows.items }
     {
         match table_fault(rows.as_slice()) {
             Some(fault) => Err(fault),
@@ -119,6 +122,7 @@ impl<C: Cover + Drop> Certificate<C> {
                 entry,
                 ceiling,
                 keyings,
+                groups,
                 cover: C::of(rows),
             }),
         }
@@ -143,6 +147,13 @@ impl<C: Cover + Drop> Certificate<C> {
         ensures { result ≡ self.now.keyings }
     {
         self.keyings
+    }
+
+    /// The closed user groups of the callers for whom it was made.
+    pub fn groups(&self) -> &Groups
+        ensures { result.now ≡ self.now.groups }
+    {
+        &self.groups
     }
 
     /// The covered frames.

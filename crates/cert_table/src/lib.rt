@@ -11,12 +11,14 @@
 
 mod certificate;
 mod cover;
+mod limits;
 mod row;
 mod row_list;
 mod row_table;
 
 pub use certificate::{Certificate, TableFault, faults_are_exact};
 pub use cover::Cover;
+pub use limits::{MOST_RANK, MOST_ROWS};
 pub use row::Row;
 pub use row_list::RowList;
 pub use row_table::RowTable;

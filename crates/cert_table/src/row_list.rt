@@ -1,6 +1,7 @@
 ghost use Rattle.std.specs.Prelude.{◌≡◌, ◌<◌, ◌≤◌, length, position};
 ghost use Rattle.page_ids.specs.Ids.{id_eq};
 ghost use Rattle.std.specs.Option.{option_copied};
+ghost use Rattle.cert_table.specs.declared.limits.TheConstants.{MOST_ROWS};
 ghost use Rattle.cert_table.specs.Rows.{row_among};
 
 use crate::cover::Cover;
@@ -36,7 +37,7 @@ fn place_in(rows: &[Row], id: FrameId) -> Option<usize>
 
 // The first row of an id, and how many rows were compared with it: those up to it, or all.
 fn first_of(rows: &[Row], id: FrameId) -> (Option<&Row>, u32)
-    requires { length rows.now ≤ 65535 }
+    requires { length rows.now ≤ MOST_ROWS }
     ensures value { option_copied result.0 ≡ row_among rows.now id }
     ensures most { result.1 ≤ length rows.now }
     ensures least { 0 < length rows.now → 1 ≤ result.1 }

@@ -2,7 +2,7 @@
 
 use crate::{Certificate, Cover, Row, RowList, RowTable, TableFault};
 use abstract_paint::{AbsCursor, Pend, Place};
-use frame_records::Pence;
+use frame_records::{GroupNo, Groups, Pence};
 use page_ids::{FrameId, PageNo};
 use std::alloc::{AllocError, Global};
 use std::test::Fail;
@@ -30,7 +30,13 @@ fn certificate(rows: Vec<Row>) -> Result<Certificate<RowList>, TableFault> {
     let (Some(entry), Some(ceiling)) = (PageNo::new(123), Pence::new(5)) else {
         unreachable!()
     };
-    Certificate::build(entry, ceiling, 1, rows)
+    let mut groups = Groups::none();
+    for group in [GroupNo::new(7), GroupNo::new(9)] {
+        if let Some(group) = group {
+            groups.push(group);
+        }
+    }
+    Certificate::build(entry, ceiling, 1, groups, rows)
 }
 
 const DEMO: [(&str, u16, Place); 3] = [
@@ -47,6 +53,7 @@ fn a_certificate_has_the_parts_that_it_was_made_of(rt: HostRuntime) -> Result<()
     assert_eq!(rt; cert.entry().get(), 123);
     assert_eq!(rt; cert.ceiling().get(), 5);
     assert_eq!(rt; cert.keyings(), 1);
+    assert!(rt; cert.groups().are_same(&Groups::read("7,9")?));
     let cover = cert.cover();
     assert_eq!(rt; cover.len(), 3);
     assert_eq!(rt; cover.row_at(1).id, FrameId::read("1231a")?);
@@ -139,7 +146,7 @@ fn covered<C: Cover + Drop>(rows: Vec<Row>) -> Result<Certificate<C>, Fail> {
     let entry = PageNo::new(123).ok_or("entry")?;
     let ceiling = Pence::new(5).ok_or("ceiling")?;
     Ok(
-        Certificate::build(entry, ceiling, 1, rows)
+        Certificate::build(entry, ceiling, 1, Groups::none(), rows)
             .ok()
             .ok_or("rows")?,
     )

@@ -1,5 +1,5 @@
 -- What is spelled so is read.
-use Rattle.std.proofs.Common.{◌≡◌, ℕ, zero, suc, ◌-◌, ◌<◌, ◌≤◌, true, false, eqb, List, [], ◌∷◌, ◌++◌, length, get_or, take, Ok, refl, ap, ◌∙◌, arith, length-append, All}
+use Rattle.std.proofs.Common.{◌≡◌, ℕ, zero, suc, ◌-◌, ◌<◌, ◌≤◌, true, false, eqb, leb, List, [], ◌∷◌, ◌++◌, length, get_or, Ok, refl, ap, ◌∙◌, arith, All}
 use Rattle.std.specs.Prelude.{◌==◌, slice_get}
 use Rattle.std.specs.List.{list_all, AllByRecursion}
 use Rattle.std.specs.Char.{is_ascii_digit}
@@ -11,7 +11,8 @@ use Rattle.std.proofs.lemmas.Fmt.{decimal_nonempty}
 use Rattle.std.proofs.lemmas.List.{append-nil}
 use Rattle.std.proofs.lemmas.List.Elements.{All-from_recursion}
 use Rattle.std.proofs.lemmas.List.Splits.{slice_split_at, slice_split_none}
-use Rattle.std.proofs.Math.Seq.{take-append_seam, drop-append_seam, get_or-append_seam}
+use Rattle.std.proofs.Math.Seq.{take-append_seam, drop-append_seam}
+use Rattle.page_ids.proofs.IdTexts.{last_at, take_at_end, less_one}
 use Rattle.page_ids.specs.Id.{Id}
 use Rattle.page_ids.specs.Ids.{IsFrameId, frame_text}
 use Rattle.cert_table.specs.declared.row.Row.{Row}
@@ -22,7 +23,8 @@ use Rattle.abstract_paint.specs.declared.cursor.Pend.{Pend}
 use Rattle.abstract_paint.specs.declared.cursor.Pend.TheVariants.{No, Yes, Maybe}
 use Rattle.abstract_paint.specs.Cursor.{OnScreen}
 use Rattle.cert_text.specs.Grammar.{place_text, pend_text, cursor_text, row_line, IsRow}
-use Rattle.cert_text.specs.Lines.{number_or_cause, line_number, number_after, place_in, pend_in, without_pend, cursor_in, parts_of, row_of, row_in}
+use Rattle.frame_records.specs.Parts.{parts_of}
+use Rattle.cert_text.specs.Lines.{number_or_flaw, line_number, number_after, place_in, pend_in, without_pend, cursor_in, row_of, row_in}
 use Rattle.page_ids.proofs.Numerals.{both}
 use Rattle.page_ids.proofs.Numbers.{number_again, decimal_digits}
 use Rattle.page_ids.proofs.IdTexts.{id_again}
@@ -31,24 +33,18 @@ use Rattle.cert_table.specs.Table.{is_behind}
 -- ---- numbers
 
 pub line_number_again : (most n : ℕ) → most ≤ 4294967295 → n ≤ most → line_number most (decimal n) ≡ Ok n
-line_number_again most n small le = ap number_or_cause (number_again most n small le)
+line_number_again most n small le = ap number_or_flaw (number_again most n small le)
 
-bytes_same : (xs : List ℕ) → bytes_eq xs xs ≡ true
+pub bytes_same : (xs : List ℕ) → bytes_eq xs xs ≡ true
 bytes_same xs = grind (arith, bytes_eq-Decides xs xs)
 
-pub number_after_again : (word : List ℕ) (most n : ℕ) → most ≤ 4294967295 → n ≤ most → number_after word most (word ++ decimal n) ≡ Ok n
-number_after_again word most n small le = rw (take-append_seam word (decimal n), drop-append_seam word (decimal n), bytes_same word) (line_number_again most n small le)
+pub number_after_again : (word : List ℕ) (most n : ℕ) → most ≤ 4294967295 → n ≤ most
+    → number_after word most (word ++ decimal n) ≡ Ok n
+number_after_again word most n small le =
+    rw (take-append_seam word (decimal n), drop-append_seam word (decimal n), bytes_same word)
+    (line_number_again most n small le)
 
 -- ---- the last byte of a text
-
-last_at : (xs : List ℕ) (c k : ℕ) → k ≡ length xs → get_or (xs ++ c ∷ []) k 0 ≡ c
-last_at xs c k e = rw e (get_or-append_seam xs c [] 0)
-
-take_at_end : (xs : List ℕ) (c k : ℕ) → k ≡ length xs → take k (xs ++ c ∷ []) ≡ xs
-take_at_end xs c k e = rw e (take-append_seam xs (c ∷ []))
-
-less_one : (xs : List ℕ) (c : ℕ) → length (xs ++ c ∷ []) - 1 ≡ length xs
-less_one xs c = omega (arith, length-append xs (c ∷ []))
 
 -- ---- cursors
 
@@ -58,10 +54,12 @@ place_again (Col c) is = rw (number_again 39 c (omega arith) (omega (arith, is))
 place_again (Spot c) is = rw (number_again 959 c (omega arith) (omega (arith, is))) refl
 
 -- the last byte of a place is no pending state
-ends_number : (c : ℕ) (ds : List ℕ) (k : ℕ) → list_all is_ascii_digit ds ≡ true → k < length ds → is_ascii_digit (get_or (c ∷ ds) (suc k) 0) ≡ true
+ends_number : (c : ℕ) (ds : List ℕ) (k : ℕ) → list_all is_ascii_digit ds ≡ true → k < length ds
+    → is_ascii_digit (get_or (c ∷ ds) (suc k) 0) ≡ true
 ends_number c [] k all lt = absurd (omega arith)
 ends_number c (d ∷ ds) zero all lt = (both (is_ascii_digit d) (list_all is_ascii_digit ds) all).0
-ends_number c (d ∷ ds) (suc k) all lt = ends_number d ds k (both (is_ascii_digit d) (list_all is_ascii_digit ds) all).1 (omega arith)
+ends_number c (d ∷ ds) (suc k) all lt =
+    ends_number d ds k (both (is_ascii_digit d) (list_all is_ascii_digit ds) all).1 (omega arith)
 
 no_pend : (d : ℕ) → is_ascii_digit d ≡ true → (eqb d 43 ≡ false) × (eqb d 63 ≡ false)
 no_pend d h = (grind (arith, nat_tests), grind (arith, nat_tests))
@@ -70,8 +68,10 @@ number_no_pend : (c n : ℕ) → n ≤ 999999999 → pend_in (c ∷ decimal n) �
 number_no_pend c n small =
     let some = decimal_nonempty n (omega arith) in
     let place : length (c ∷ decimal n) - 1 ≡ suc (length (decimal n) - 1) = omega (arith, some) in
-    let last : get_or (c ∷ decimal n) (length (c ∷ decimal n) - 1) 0 ≡ get_or (c ∷ decimal n) (suc (length (decimal n) - 1)) 0 = ap (λ (k : ℕ). get_or (c ∷ decimal n) k 0) place in
-    let digit = ends_number c (decimal n) (length (decimal n) - 1) (decimal_digits n (omega arith)) (omega (arith, some)) in
+    let last : get_or (c ∷ decimal n) (length (c ∷ decimal n) - 1) 0
+    ≡ get_or (c ∷ decimal n) (suc (length (decimal n) - 1)) 0 = ap (λ (k : ℕ). get_or (c ∷ decimal n) k 0) place in
+    let digit =
+    ends_number c (decimal n) (length (decimal n) - 1) (decimal_digits n (omega arith)) (omega (arith, some)) in
     let no = no_pend (get_or (c ∷ decimal n) (suc (length (decimal n) - 1)) 0) digit in
     rw (last, no.0, no.1) refl
 
@@ -80,10 +80,19 @@ place_no_pend Any is = refl
 place_no_pend (Col c) is = number_no_pend 99 c (omega (arith, is))
 place_no_pend (Spot c) is = number_no_pend 115 c (omega (arith, is))
 
-pub pend_again : (p : Place) (d : Pend) → OnScreen p → (pend_in (place_text p ++ pend_text d) ≡ d) × (without_pend (place_text p ++ pend_text d) d ≡ place_text p)
+pub pend_again : (p : Place) (d : Pend) → OnScreen p
+    → (pend_in (place_text p ++ pend_text d) ≡ d) × (without_pend (place_text p ++ pend_text d) d ≡ place_text p)
 pend_again p No is = (rw (append-nil (place_text p)) (place_no_pend p is), append-nil (place_text p))
-pend_again p Yes is = (rw (last_at (place_text p) 43 _ (less_one (place_text p) 43)) refl, take_at_end (place_text p) 43 _ (less_one (place_text p) 43))
-pend_again p Maybe is = (rw (last_at (place_text p) 63 _ (less_one (place_text p) 63)) refl, take_at_end (place_text p) 63 _ (less_one (place_text p) 63))
+pend_again p Yes is = (
+  rw (last_at (place_text p) 43 _ (less_one (place_text p) 43)) refl,
+  take_at_end (place_text p) 43 _
+      (less_one (place_text p) 43),
+)
+pend_again p Maybe is = (
+  rw (last_at (place_text p) 63 _ (less_one (place_text p) 63)) refl,
+  take_at_end (place_text p) 63 _
+      (less_one (place_text p) 63),
+)
 
 pub cursor_again : (x : AbsCursor) → OnScreen x.place → cursor_in (cursor_text x) ≡ Ok x
 cursor_again x is =
@@ -95,6 +104,14 @@ cursor_again x is =
 abbrev pub AllAbove : ℕ → List ℕ → Type 0
 AllAbove m bytes = AllByRecursion (λ b. m ≤ b) bytes
 
+-- of a literal, by computing
+pub above_all : (m : ℕ) (xs : List ℕ) → list_all (λ b. leb m b) xs ≡ true → AllAbove m xs
+above_all m [] h = tt
+above_all m (x ∷ xs) h =
+    let b = both (leb m x) (list_all (λ b. leb m b) xs) h in (above m x b.0, above_all m xs b.1) where
+      above : (m x : ℕ) → leb m x ≡ true → m ≤ x
+      above m x h = grind (arith, nat_tests)
+
 pub above_append : (m : ℕ) (xs ys : List ℕ) → AllAbove m xs → AllAbove m ys → AllAbove m (xs ++ ys)
 above_append m [] ys p q = q
 above_append m (x ∷ xs) ys p q = (p.0, above_append m xs ys p.1 q)
@@ -105,15 +122,18 @@ above_less m n (x ∷ xs) le p = (omega (arith, p.0), above_less m n xs le p.1)
 
 above_digits : (ds : List ℕ) → list_all is_ascii_digit ds ≡ true → AllAbove 33 ds
 above_digits [] h = tt
-above_digits (d ∷ ds) h = let b = both (is_ascii_digit d) (list_all is_ascii_digit ds) h in (digit_above d b.0, above_digits ds b.1) where
-  digit_above : (d : ℕ) → is_ascii_digit d ≡ true → 33 ≤ d
-  digit_above d h = grind (arith, nat_tests)
+above_digits (d ∷ ds) h =
+    let b = both (is_ascii_digit d) (list_all is_ascii_digit ds) h in (digit_above d b.0, above_digits ds b.1) where
+      digit_above : (d : ℕ) → is_ascii_digit d ≡ true → 33 ≤ d
+      digit_above d h = grind (arith, nat_tests)
 
 pub above_decimal : (n : ℕ) → n ≤ 999999999 → AllAbove 33 (decimal n)
 above_decimal n small = above_digits (decimal n) (decimal_digits n (omega arith))
 
 pub above_id : (i : Id) → IsFrameId i → AllAbove 33 (frame_text i)
-above_id i is = let letter : 33 ≤ i.letter = omega (arith, is.letter.0) in above_append 33 (decimal i.page) (i.letter ∷ []) (above_decimal i.page is.page) (letter, tt)
+above_id i is =
+    let letter : 33 ≤ i.letter = omega (arith, is.letter.0) in above_append 33 (decimal i.page) (i.letter ∷ [])
+    (above_decimal i.page is.page) (letter, tt)
 
 above_place : (p : Place) → OnScreen p → AllAbove 33 (place_text p)
 above_place Any is = (omega arith, (omega arith, (omega arith, tt)))
@@ -128,6 +148,11 @@ above_pend Maybe = (omega arith, tt)
 pub above_cursor : (x : AbsCursor) → OnScreen x.place → AllAbove 33 (cursor_text x)
 above_cursor x is = above_append 33 (place_text x.place) (pend_text x.pend) (above_place x.place is) (above_pend x.pend)
 
+-- a line that is short enough, without line ends
+pub record IsLine (line : List ℕ) : Type 0 where
+  pub above : AllAbove 11 line
+  pub short : length line ≤ 128
+
 no_spaces_rec : (xs : List ℕ) → AllAbove 33 xs → AllByRecursion (λ b. (b == 32) ≡ false) xs
 no_spaces_rec [] h = tt
 no_spaces_rec (x ∷ xs) h = (other x h.0, no_spaces_rec xs h.1) where
@@ -139,18 +164,28 @@ no_spaces xs h = All-from_recursion (λ b. (b == 32) ≡ false) xs (no_spaces_re
 
 -- ---- rows
 
-parts_again : (a b c : List ℕ) → AllAbove 33 a → AllAbove 33 b → AllAbove 33 c → parts_of (a ++ (32 ∷ (b ++ (32 ∷ c)))) ≡ a ∷ b ∷ c ∷ []
+parts_again : (a b c : List ℕ) → AllAbove 33 a → AllAbove 33 b → AllAbove 33 c
+    → parts_of 32 (a ++ (32 ∷ (b ++ (32 ∷ c)))) ≡ a ∷ b ∷ c ∷ []
 parts_again a b c p q r =
-    let first : parts_of (a ++ (32 ∷ (b ++ (32 ∷ c)))) ≡ a ∷ parts_of (b ++ (32 ∷ c)) = slice_split_at (λ x. x == 32) a 32 (b ++ (32 ∷ c)) (no_spaces a p) refl in
-    let second : parts_of (b ++ (32 ∷ c)) ≡ b ∷ parts_of c = slice_split_at (λ x. x == 32) b 32 c (no_spaces b q) refl in
-    let third : parts_of c ≡ c ∷ [] = slice_split_none (λ x. x == 32) c (no_spaces c r) in
+    let first : parts_of 32 (a ++ (32 ∷ (b ++ (32 ∷ c)))) ≡ a ∷ parts_of 32 (b ++ (32 ∷ c)) =
+    slice_split_at (λ x. x == 32) a 32 (b ++ (32 ∷ c)) (no_spaces a p) refl in
+    let second : parts_of 32 (b ++ (32 ∷ c)) ≡ b ∷ parts_of 32 c =
+    slice_split_at (λ x. x == 32) b 32 c (no_spaces b q) refl in
+    let third : parts_of 32 c ≡ c ∷ [] = slice_split_none (λ x. x == 32) c (no_spaces c r) in
     first ∙ ap (λ (t : List (List ℕ)). a ∷ t) (second ∙ ap (λ (t : List (List ℕ)). b ∷ t) third)
 
 row_of_again : (r : Row) → IsRow r → row_of (frame_text r.id) (decimal r.rank) (cursor_text r.cursor) ≡ Ok r
 unfolding row_of
-row_of_again r is = rw (id_again r.id is.id, line_number_again 65535 r.rank (omega arith) is.rank, cursor_again r.cursor is.place) refl
+row_of_again r is =
+    rw (id_again r.id is.id, line_number_again 65535 r.rank (omega arith) is.rank, cursor_again r.cursor is.place) refl
 
-pub row_again : (rows : List Row) (r : Row) → IsRow r → is_behind (slice_get rows (length rows - 1)) r.id ≡ true → row_in rows (row_line r) ≡ Ok r
+pub row_again : (rows : List Row) (r : Row) → IsRow r → is_behind (slice_get rows (length rows - 1)) r.id ≡ true
+    → row_in rows (row_line r) ≡ Ok r
 unfolding row_in
 row_again rows r is after =
-    rw (parts_again (frame_text r.id) (decimal r.rank) (cursor_text r.cursor) (above_id r.id is.id) (above_decimal r.rank (omega (arith, is.rank))) (above_cursor r.cursor is.place), row_of_again r is, after) refl
+    rw (
+      parts_again (frame_text r.id) (decimal r.rank) (cursor_text r.cursor) (above_id r.id is.id)
+          (above_decimal r.rank (omega (arith, is.rank))) (above_cursor r.cursor is.place),
+      row_of_again r is,
+      after,
+    ) refl

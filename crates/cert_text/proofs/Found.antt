@@ -1,216 +1,276 @@
 -- What has been read is the text of what was read.
 use Rattle.std.proofs.Common.{◌≡◌, ℕ, ◌+◌, ◌≤◌, Bool, true, false, cond, ltb, eqb, List, [], ◌∷◌, ◌++◌, length, map, Result, Ok, Err, refl, sym, ap, subst, inl, inr, ◌∙◌, arith, append_assoc, length-append}
 use Rattle.std.specs.Prelude.{codes}
+use Rattle.std.specs.Fmt.{decimal}
 use Rattle.std.specs.Str.{bytes_eq}
 use Rattle.std.proofs.lemmas.Bool.Decides.{nat_tests}
 use Rattle.std.proofs.lemmas.Slice.Eq.{bytes_eq-Decides}
 use Rattle.std.proofs.lemmas.List.{append-nil, map_push}
 use Rattle.std.proofs.lemmas.List.Elements.{All-from_recursion}
+use Rattle.frame_records.specs.Limits.{IsGroup}
+use Rattle.frame_records.specs.Groups.{AreGroups}
 use Rattle.cert_table.specs.declared.row.Row.{Row}
 use Rattle.cert_table.specs.CertView.{CertView}
-use Rattle.cert_text.specs.declared.fault.LineCause.{LineCause}
 use Rattle.cert_text.specs.declared.fault.LineCause.TheVariants as causes
+use Rattle.cert_text.specs.declared.fault.LineFlaw.{LineFlaw}
+use Rattle.cert_text.specs.declared.fault.LineFlaw.TheVariants as flaws
 use Rattle.cert_text.specs.declared.stage.Stage.{Stage}
-use Rattle.cert_text.specs.declared.stage.Stage.TheVariants.{Magic, Entry, Ceiling, Keyings, Count, Rows, After}
-use Rattle.cert_text.specs.Grammar.{entry_line, ceiling_line, keyings_line, head_lines, row_line, text_of, certificate_text, IsRow, IsCertificateText}
-use Rattle.cert_text.specs.Lines.{◌>>=◌, number_after, row_in}
-use Rattle.cert_text.specs.Reading.{Reading, IsSound, Fault, start, number_of, judge, judge_at, judge_row, judge_end, lengthen, is_over, take_byte, at_line, step, run, ended, certificate_of, reading}
-use Rattle.cert_text.proofs.Spelled.{bind_ok, ok_is, needs, lacks, chosen, number_after_found, row_found}
-use Rattle.cert_text.proofs.Sound.{sound_row}
+use Rattle.cert_text.specs.declared.stage.Stage.TheVariants.{Magic, Head, Groups, Rows, After}
+use Rattle.cert_text.specs.declared.stage.Field.{Field}
+use Rattle.cert_text.specs.declared.stage.Field.TheVariants.{Entry, Ceiling, Keyings, Count}
+use Rattle.cert_text.specs.Grammar.{has_groups, first_line, groups_lines, entry_line, ceiling_line, keyings_line, rows_line, row_line, text_of, IsRow, IsCertificateText}
+use Rattle.frame_records.specs.Steps.{◌>>=◌}
+use Rattle.cert_text.specs.Lines.{number_after, groups_after, row_in}
+use Rattle.cert_text.specs.Reading.{Said, Reading, IsSound, Fault, nothing, begins, start, number_of, word_of, most_of, put, stage_after, judge, judge_at, judge_magic, judge_groups, judge_row, judge_end, lengthen, is_over, take_byte, at_line, step, run, ended, certificate_of, reading}
+use Rattle.cert_text.proofs.Spelled.{bind_ok, ok_is, needs, lacks, number_after_found, row_found}
+use Rattle.page_ids.proofs.KeyTexts.{chosen}
+use Rattle.cert_text.proofs.Sound.{with_grouped, with_groups, most_small, put_sound, grouped_sound, groups_sound, row_sound}
+use Rattle.cert_text.proofs.GroupLines.{one_line, has_some, groups_found}
 
--- the lines that a reading has taken
-abbrev pub lines_before : Stage → Reading → List (List ℕ)
+-- the lines before the rows
+abbrev pub head_of : Said → List (List ℕ)
+head_of s =
+    first_line s.grouped ∷ entry_line s.entry ∷ ceiling_line s.ceiling ∷ keyings_line s.keyings
+    ∷ (groups_lines s.groups ++ (rows_line s.count ∷ []))
+
+-- the lines that have been taken
+abbrev pub lines_before : Stage → Said → List (List ℕ)
 lines_before Magic s = []
-lines_before Entry s = codes "PBC1" ∷ []
-lines_before Ceiling s = codes "PBC1" ∷ entry_line s.entry ∷ []
-lines_before Keyings s = codes "PBC1" ∷ entry_line s.entry ∷ ceiling_line s.ceiling ∷ []
-lines_before Count s = codes "PBC1" ∷ entry_line s.entry ∷ ceiling_line s.ceiling ∷ keyings_line s.keyings ∷ []
-lines_before Rows s = head_lines s.entry s.ceiling s.keyings s.count ++ map row_line s.rows
-lines_before After s = head_lines s.entry s.ceiling s.keyings s.count ++ (map row_line s.rows ++ (codes "end" ∷ []))
+lines_before (Head Entry) s = first_line s.grouped ∷ []
+lines_before (Head Ceiling) s = first_line s.grouped ∷ entry_line s.entry ∷ []
+lines_before (Head Keyings) s = first_line s.grouped ∷ entry_line s.entry ∷ ceiling_line s.ceiling ∷ []
+lines_before Groups s = first_line s.grouped ∷ entry_line s.entry ∷ ceiling_line s.ceiling ∷ keyings_line s.keyings ∷ []
+lines_before (Head Count) s =
+    first_line s.grouped ∷ entry_line s.entry ∷ ceiling_line s.ceiling ∷ keyings_line s.keyings ∷ groups_lines s.groups
+lines_before Rows s = head_of s ++ map row_line s.rows
+lines_before After s = head_of s ++ (map row_line s.rows ++ (codes "end" ∷ []))
 
--- how many rows there are
-abbrev pub RowsAt : Stage → Reading → Type 0
-RowsAt Magic s = s.rows ≡ []
-RowsAt Entry s = s.rows ≡ []
-RowsAt Ceiling s = s.rows ≡ []
-RowsAt Keyings s = s.rows ≡ []
-RowsAt Count s = s.rows ≡ []
-RowsAt Rows s = length s.rows ≤ s.count
-RowsAt After s = length s.rows ≡ s.count
+-- which groups and rows have come: none of them, and then groups just where line 1 announced them
+abbrev AreNone : Said → Type 0
+AreNone s = (s.groups ≡ []) × (s.rows ≡ [])
+
+abbrev AreAnnounced : Said → Type 0
+AreAnnounced s = s.grouped ≡ has_groups s.groups
+
+abbrev pub HaveCome : Stage → Said → Type 0
+HaveCome Magic s = AreNone s
+HaveCome (Head Entry) s = AreNone s
+HaveCome (Head Ceiling) s = AreNone s
+HaveCome (Head Keyings) s = AreNone s
+HaveCome Groups s = (s.grouped ≡ true) × AreNone s
+HaveCome (Head Count) s = AreAnnounced s × (s.rows ≡ [])
+HaveCome Rows s = AreAnnounced s × (length s.rows ≤ s.count)
+HaveCome After s = AreAnnounced s × (length s.rows ≡ s.count)
 
 -- a line was taken
-pub record Took (stage : Stage) (s : Reading) (line : List ℕ) (t : Reading) : Type 0 where
-  pub lines : lines_before t.stage t ≡ lines_before stage s ++ (line ∷ [])
-  pub rows : RowsAt t.stage t
-  pub sound : IsSound t
-  pub rest : t.line ≡ s.line
-
--- records with a field changed
-abbrev with_entry : Reading → ℕ → Reading
-with_entry s n = record s { stage = Ceiling; entry = n }
-
-abbrev with_ceiling : Reading → ℕ → Reading
-with_ceiling s n = record s { stage = Keyings; ceiling = n }
-
-abbrev with_keyings : Reading → ℕ → Reading
-with_keyings s n = record s { stage = Count; keyings = n }
-
-abbrev with_count : Reading → ℕ → Reading
-with_count s n = record s { stage = Rows; count = n }
-
-abbrev with_row : Reading → Row → Reading
-with_row s r = record s { rows = s.rows ++ (r ∷ []) }
+pub record Took (stage : Stage) (s : Said) (line : List ℕ) (t : Reading) : Type 0 where
+  pub lines : lines_before t.stage t.said ≡ lines_before stage s ++ (line ∷ [])
+  pub come : HaveCome t.stage t.said
+  pub sound : IsSound t.said
+  pub rest : t.line ≡ []
 
 same : (xs ys : List ℕ) → bytes_eq xs ys ≡ true → xs ≡ ys
 same xs ys h = grind (arith, bytes_eq-Decides xs ys, h)
 
-took_row : (s : Reading) (line : List ℕ) (t : Reading) → s.stage ≡ Rows → IsSound s → length s.rows + 1 ≤ s.count → judge_row s line ≡ Ok t → Took Rows s line t
-took_row s line t at is room e =
-    let a = lacks (bytes_eq line (codes "end")) causes.Count (row_in s.rows line >>= λ r. Ok (with_row s r)) t e in
-    let b = bind_ok (row_in s.rows line) (λ r. Ok (with_row s r)) t a.1 in
-    let f = row_found s.rows line b.0 b.1 in
-    let lines : lines_before Rows (with_row s b.0) ≡ lines_before Rows s ++ (line ∷ []) =
-    ap (λ (ls : List (List ℕ)). head_lines s.entry s.ceiling s.keyings s.count ++ ls) (map_push row_line s.rows b.0 ∙ ap (λ (l : List ℕ). map row_line s.rows ++ (l ∷ [])) (sym f.1)) ∙ sym (append_assoc (head_lines s.entry s.ceiling s.keyings s.count) (map row_line s.rows) (line ∷ [])) in
-    let few : length (s.rows ++ (b.0 ∷ [])) ≤ s.count = omega (arith, length-append s.rows (b.0 ∷ [])) in
-    subst (Took Rows s line) (ok_is (with_row s b.0) t b.2) (record { lines = ap (λ (g : Stage). lines_before g (with_row s b.0)) at ∙ lines; rows = subst (λ (g : Stage). RowsAt g (with_row s b.0)) (sym at) few; sound = sound_row s line b.0 (s.rows ++ (b.0 ∷ [])) is room b.1 refl; rest = refl })
+-- ---- a line of a word and a number
 
-took_end : (s : Reading) (line : List ℕ) (t : Reading) → IsSound s → length s.rows ≤ s.count → s.count ≤ length s.rows → judge_end s line ≡ Ok t → Took Rows s line t
-took_end s line t is few all e =
-    let a = needs (bytes_eq line (codes "end")) causes.Count (Ok (record s { stage = After })) t e in
-    let lines : lines_before After (record s { stage = After }) ≡ lines_before Rows s ++ (line ∷ []) =
-    ap (λ (l : List ℕ). head_lines s.entry s.ceiling s.keyings s.count ++ (map row_line s.rows ++ (l ∷ []))) (sym (same line (codes "end") a.0)) ∙ sym (append_assoc (head_lines s.entry s.ceiling s.keyings s.count) (map row_line s.rows) (line ∷ [])) in
-    let count : length s.rows ≡ s.count = omega arith in
-    subst (Took Rows s line) (ok_is (record s { stage = After }) t a.1) (record { lines = lines; rows = count; sound = record { entry = is.entry; ceiling = is.ceiling; keyings = is.keyings; count = is.count; few = is.few; ascending = is.ascending; each = is.each }; rest = refl })
+keyings_lines : (q : Bool) (s : Said) → s.groups ≡ []
+    → lines_before (cond q Groups (Head Count)) s
+    ≡ first_line s.grouped ∷ entry_line s.entry ∷ ceiling_line s.ceiling ∷ keyings_line s.keyings ∷ []
+keyings_lines true s none = refl
+keyings_lines false s none = ap (λ (gs : List ℕ). lines_before (Head Count) (record s { groups = gs })) none
 
-pub took : (stage : Stage) (s : Reading) (line : List ℕ) (t : Reading) → s.stage ≡ stage → RowsAt stage s → IsSound s → judge_at stage s line ≡ Ok t → Took stage s line t
-took Magic s line t at rows is e =
-    let a = needs (bytes_eq line (codes "PBC1")) causes.Magic (Ok (record s { stage = Entry })) t e in
-    subst (Took Magic s line) (ok_is (record s { stage = Entry }) t a.1) (record { lines = ap (λ (l : List ℕ). l ∷ []) (sym (same line (codes "PBC1") a.0)); rows = rows; sound = record { entry = is.entry; ceiling = is.ceiling; keyings = is.keyings; count = is.count; few = is.few; ascending = is.ascending; each = is.each }; rest = refl })
-took Entry s line t at rows is e =
-    let b = bind_ok (number_after (codes "entry ") 999999999 line) (λ n. Ok (with_entry s n)) t e in
-    let f = number_after_found (codes "entry ") 999999999 line b.0 (omega arith) b.1 in
-    subst (Took Entry s line) (ok_is (with_entry s b.0) t b.2) (record { lines = ap (λ (l : List ℕ). codes "PBC1" ∷ l ∷ []) (sym f.1); rows = rows; sound = record { entry = f.0; ceiling = is.ceiling; keyings = is.keyings; count = is.count; few = is.few; ascending = is.ascending; each = is.each }; rest = refl })
-took Ceiling s line t at rows is e =
-    let b = bind_ok (number_after (codes "ceiling ") 9999 line) (λ n. Ok (with_ceiling s n)) t e in
-    let f = number_after_found (codes "ceiling ") 9999 line b.0 (omega arith) b.1 in
-    subst (Took Ceiling s line) (ok_is (with_ceiling s b.0) t b.2) (record { lines = ap (λ (l : List ℕ). codes "PBC1" ∷ entry_line s.entry ∷ l ∷ []) (sym f.1); rows = rows; sound = record { entry = is.entry; ceiling = f.0; keyings = is.keyings; count = is.count; few = is.few; ascending = is.ascending; each = is.each }; rest = refl })
-took Keyings s line t at rows is e =
-    let b = bind_ok (number_after (codes "keyings ") 65535 line) (λ n. Ok (with_keyings s n)) t e in
-    let f = number_after_found (codes "keyings ") 65535 line b.0 (omega arith) b.1 in
-    subst (Took Keyings s line) (ok_is (with_keyings s b.0) t b.2) (record { lines = ap (λ (l : List ℕ). codes "PBC1" ∷ entry_line s.entry ∷ ceiling_line s.ceiling ∷ l ∷ []) (sym f.1); rows = rows; sound = record { entry = is.entry; ceiling = is.ceiling; keyings = f.0; count = is.count; few = is.few; ascending = is.ascending; each = is.each }; rest = refl })
-took Count s line t at rows is e =
-    let b = bind_ok (number_after (codes "rows ") 65535 line) (λ n. Ok (with_count s n)) t e in
-    let f = number_after_found (codes "rows ") 65535 line b.0 (omega arith) b.1 in
-    let none : length s.rows ≤ b.0 = omega (arith, ap length rows) in
-    let lines : lines_before Rows (with_count s b.0) ≡ lines_before Count s ++ (line ∷ []) =
-    ap (λ (rs : List Row). head_lines s.entry s.ceiling s.keyings b.0 ++ map row_line rs) rows ∙ ap (λ (l : List ℕ). codes "PBC1" ∷ entry_line s.entry ∷ ceiling_line s.ceiling ∷ keyings_line s.keyings ∷ l ∷ []) (sym f.1) in
-    subst (Took Count s line) (ok_is (with_count s b.0) t b.2) (record { lines = lines; rows = none; sound = record { entry = is.entry; ceiling = is.ceiling; keyings = is.keyings; count = f.0; few = is.few; ascending = is.ascending; each = is.each }; rest = refl })
-took Rows s line t at rows is e =
-    elim (chosen (ltb (length s.rows) s.count) (judge_row s line) (judge_end s line) (Ok t) e) [
-      | inl h ↦ let room : length s.rows + 1 ≤ s.count = grind (arith, nat_tests, h.0) in took_row s line t at is room h.1
-      | inr h ↦ let all : s.count ≤ length s.rows = grind (arith, nat_tests, h.0) in took_end s line t is rows all h.1
+put_lines : (f : Field) (n : ℕ) (s : Said) → HaveCome (Head f) s
+    → lines_before (stage_after f s.grouped) (put f n s) ≡ lines_before (Head f) s ++ ((word_of f ++ decimal n) ∷ [])
+put_lines Entry n s come = refl
+put_lines Ceiling n s come = refl
+put_lines Keyings n s come = keyings_lines s.grouped (put Keyings n s) come.0
+put_lines Count n s come =
+    ap (λ (rows : List Row). head_of (put Count n s) ++ map row_line rows) come.1 ∙ append-nil (head_of (put Count n s))
+
+keyings_come : (q : Bool) (s : Said) → s.grouped ≡ q → AreNone s → HaveCome (cond q Groups (Head Count)) s
+keyings_come true s is none = (is, none)
+keyings_come false s is none = (is ∙ sym (ap has_groups none.0), none.1)
+
+put_come : (f : Field) (n : ℕ) (s : Said) → HaveCome (Head f) s → HaveCome (stage_after f s.grouped) (put f n s)
+put_come Entry n s come = come
+put_come Ceiling n s come = come
+put_come Keyings n s come = keyings_come s.grouped (put Keyings n s) refl come
+put_come Count n s come = (come.0, omega (arith, ap length come.1))
+
+took_number : (f : Field) (s : Said) (line : List ℕ) (t : Reading) → HaveCome (Head f) s → IsSound s
+    → judge_at (Head f) s line ≡ Ok t
+    → Took (Head f) s line t
+took_number f s line t come is e =
+    let b =
+    bind_ok (number_after (word_of f) (most_of f) line) (λ n. Ok (begins (stage_after f s.grouped) (put f n s))) t e in
+    let k = number_after_found (word_of f) (most_of f) line b.0 (omega (arith, most_small f)) b.1 in
+    subst (Took (Head f) s line) (ok_is (begins (stage_after f s.grouped) (put f b.0 s)) t b.2) (record {
+      lines = put_lines f b.0 s come ∙ ap (λ (l : List ℕ). lines_before (Head f) s ++ (l ∷ [])) (sym k.1);
+      come = put_come f b.0 s come;
+      sound = put_sound f b.0 s is k.0;
+      rest = refl;
+    })
+
+-- ---- line 1, and the line of the groups
+
+took_first : (q : Bool) (s : Said) (line : List ℕ) (t : Reading) → AreNone s → IsSound s → line ≡ first_line q
+    → begins (Head Entry) (with_grouped s q) ≡ t
+    → Took Magic s line t
+took_first q s line t come is spelled same_reading =
+    subst (Took Magic s line) same_reading
+    (record {
+      lines = ap (λ (l : List ℕ). l ∷ []) (sym spelled);
+      come = come;
+      sound = grouped_sound q s is;
+      rest = refl;
+    })
+
+took_magic : (s : Said) (line : List ℕ) (t : Reading) → AreNone s → IsSound s → judge_magic s line ≡ Ok t
+    → Took Magic s line t
+took_magic s line t come is e =
+    let plain : Result Reading LineFlaw = Ok (begins (Head Entry) (with_grouped s false)) in
+    let grouped : Result Reading LineFlaw = Ok (begins (Head Entry) (with_grouped s true)) in
+    let second = bytes_eq line (codes "PBC2") in
+    elim (chosen (bytes_eq line (codes "PBC1")) plain (cond second grouped (Err flaws.Magic)) (Ok t) e) [
+      | inl h ↦ took_first false s line t come is (same line (codes "PBC1") h.0) (ok_is _ t h.1)
+      | inr h ↦
+          let a = needs second flaws.Magic grouped t h.1 in
+          took_first true s line t come is (same line (codes "PBC2") a.0) (ok_is _ t a.1)
     ]
-took After s line t at rows is e = absurd cc
 
--- the bytes so far are those lines, and what has come of the next
+took_groups : (s : Said) (line : List ℕ) (t : Reading) → HaveCome Groups s → IsSound s → judge_groups s line ≡ Ok t
+    → Took Groups s line t
+took_groups s line t come is e =
+    let b =
+    bind_ok (groups_after (codes "groups ") line) (λ groups. Ok (begins (Head Count) (with_groups s groups))) t e in
+    let f = groups_found line b.0 b.1 in
+    let one : groups_lines b.0 ≡ line ∷ [] = one_line b.0 f.some ∙ ap (λ (l : List ℕ). l ∷ []) (sym f.spelled) in
+    subst (Took Groups s line) (ok_is (begins (Head Count) (with_groups s b.0)) t b.2) (record {
+      lines = ap (λ (ls : List (List ℕ)). lines_before Groups s ++ ls) one;
+      come = (come.0 ∙ sym (has_some b.0 f.some), come.1.1);
+      sound = groups_sound b.0 s is f.valid;
+      rest = refl;
+    })
+
+-- ---- rows, and the last line
+
+abbrev with_row : Said → Row → Said
+with_row s r = record s { rows = s.rows ++ (r ∷ []) }
+
+took_row : (s : Said) (line : List ℕ) (t : Reading) → AreAnnounced s → IsSound s → length s.rows + 1 ≤ s.count
+    → judge_row s line ≡ Ok t
+    → Took Rows s line t
+took_row s line t told is room e =
+    let a =
+    lacks (bytes_eq line (codes "end")) flaws.Count (row_in s.rows line >>= λ r. Ok (begins Rows (with_row s r))) t e in
+    let b = bind_ok (row_in s.rows line) (λ r. Ok (begins Rows (with_row s r))) t a.1 in
+    let f = row_found s.rows line b.0 b.1 in
+    let more : map row_line (s.rows ++ (b.0 ∷ [])) ≡ map row_line s.rows ++ (line ∷ []) =
+    map_push row_line s.rows b.0 ∙ ap (λ (l : List ℕ). map row_line s.rows ++ (l ∷ [])) (sym f.1) in
+    subst (Took Rows s line) (ok_is (begins Rows (with_row s b.0)) t b.2) (record {
+      lines = ap (λ (ls : List (List ℕ)). head_of s ++ ls) more
+          ∙ sym (append_assoc (head_of s) (map row_line s.rows) (line ∷ []));
+      come = (told, omega (arith, room, length-append s.rows (b.0 ∷ [])));
+      sound = row_sound s line b.0 (s.rows ++ (b.0 ∷ [])) is room b.1 refl;
+      rest = refl;
+    })
+
+took_end : (s : Said) (line : List ℕ) (t : Reading) → HaveCome After s → IsSound s → judge_end s line ≡ Ok t
+    → Took Rows s line t
+took_end s line t come is e =
+    let a = needs (bytes_eq line (codes "end")) flaws.Count (Ok (begins After s)) t e in
+    let last = sym (same line (codes "end") a.0) in
+    subst (Took Rows s line) (ok_is (begins After s) t a.1) (record {
+      lines = ap (λ (l : List ℕ). head_of s ++ (map row_line s.rows ++ (l ∷ []))) last
+          ∙ sym (append_assoc (head_of s) (map row_line s.rows) (line ∷ []));
+      come = come;
+      sound = is;
+      rest = refl;
+    })
+
+pub took : (stage : Stage) (s : Said) (line : List ℕ) (t : Reading) → HaveCome stage s → IsSound s
+    → judge_at stage s line ≡ Ok t
+    → Took stage s line t
+took Magic s line t come is e = took_magic s line t come is e
+took (Head f) s line t come is e = took_number f s line t come is e
+took Groups s line t come is e = took_groups s line t come is e
+took Rows s line t come is e =
+    elim (chosen (ltb (length s.rows) s.count) (judge_row s line) (judge_end s line) (Ok t) e) [
+      | inl h ↦ took_row s line t come.0 is (grind (arith, nat_tests, h.0)) h.1
+      | inr h ↦
+          let all : s.count ≤ length s.rows = grind (arith, nat_tests, h.0) in
+          took_end s line t (come.0, omega (arith, come.1)) is h.1
+    ]
+took After s line t come is e = absurd cc
+
+-- ---- the bytes so far
+
+-- they are those lines, and what has come of the next
 pub record Holds (bytes : List ℕ) (s : Reading) : Type 0 where
-  pub text : bytes ≡ text_of (lines_before s.stage s) ++ s.line
-  pub rows : RowsAt s.stage s
-  pub sound : IsSound s
+  pub text : bytes ≡ text_of (lines_before s.stage s.said) ++ s.line
+  pub come : HaveCome s.stage s.said
+  pub sound : IsSound s.said
   pub over : is_over s.stage ≡ true → s.line ≡ []
+
+pub took_line : (bytes : List ℕ) (s t : Reading) → Holds bytes s → judge s ≡ Ok t → Took s.stage s.said s.line t
+took_line bytes s t h e = took s.stage s.said s.line t h.come h.sound e
 
 text_push : (ls : List (List ℕ)) (line : List ℕ) → text_of (ls ++ (line ∷ [])) ≡ text_of ls ++ (line ++ (10 ∷ []))
 text_push [] line = refl
-text_push (l ∷ ls) line = ap (λ (x : List ℕ). l ++ (10 ∷ x)) (text_push ls line) ∙ sym (append_assoc l (10 ∷ text_of ls) (line ++ (10 ∷ [])))
-
-abbrev cleared : Reading → Reading
-cleared s = record s { line = [] }
-
-cleared_before : (stage : Stage) (s : Reading) → lines_before stage (cleared s) ≡ lines_before stage s
-cleared_before Magic s = refl
-cleared_before Entry s = refl
-cleared_before Ceiling s = refl
-cleared_before Keyings s = refl
-cleared_before Count s = refl
-cleared_before Rows s = refl
-cleared_before After s = refl
-
-cleared_rows : (stage : Stage) (s : Reading) → RowsAt stage s → RowsAt stage (cleared s)
-cleared_rows Magic s h = h
-cleared_rows Entry s h = h
-cleared_rows Ceiling s h = h
-cleared_rows Keyings s h = h
-cleared_rows Count s h = h
-cleared_rows Rows s h = h
-cleared_rows After s h = h
-
-pub judge_lines : (bytes : List ℕ) (s t : Reading) → Holds bytes s → judge s ≡ Ok t → lines_before t.stage t ≡ lines_before s.stage s ++ (s.line ∷ [])
-unfolding judge
-judge_lines bytes s t h e =
-    let is = h.sound in
-    let k = took s.stage (cleared s) s.line t refl (cleared_rows s.stage s h.rows) (record { entry = is.entry; ceiling = is.ceiling; keyings = is.keyings; count = is.count; few = is.few; ascending = is.ascending; each = is.each }) e in
-    k.lines ∙ ap (λ (ls : List (List ℕ)). ls ++ (s.line ∷ [])) (cleared_before s.stage s)
-
-pub judge_rest : (bytes : List ℕ) (s t : Reading) → Holds bytes s → judge s ≡ Ok t → t.line ≡ []
-unfolding judge
-judge_rest bytes s t h e =
-    let is = h.sound in
-    (took s.stage (cleared s) s.line t refl (cleared_rows s.stage s h.rows) (record { entry = is.entry; ceiling = is.ceiling; keyings = is.keyings; count = is.count; few = is.few; ascending = is.ascending; each = is.each }) e).rest
+text_push (l ∷ ls) line =
+    ap (λ (x : List ℕ). l ++ (10 ∷ x)) (text_push ls line) ∙ sym (append_assoc l (10 ∷ text_of ls) (line ++ (10 ∷ [])))
 
 holds_judge : (bytes : List ℕ) (s t : Reading) → Holds bytes s → judge s ≡ Ok t → Holds (bytes ++ (10 ∷ [])) t
-unfolding judge
 holds_judge bytes s t h e =
-    let is = h.sound in
-    let k = took s.stage (cleared s) s.line t refl (cleared_rows s.stage s h.rows) (record { entry = is.entry; ceiling = is.ceiling; keyings = is.keyings; count = is.count; few = is.few; ascending = is.ascending; each = is.each }) e in
-    let lines = judge_lines bytes s t h e in
-    let now : text_of (lines_before t.stage t) ++ t.line ≡ text_of (lines_before s.stage s) ++ (s.line ++ (10 ∷ [])) = ap (λ (l : List ℕ). text_of (lines_before t.stage t) ++ l) k.rest ∙ append-nil (text_of (lines_before t.stage t)) ∙ ap text_of lines ∙ text_push (lines_before s.stage s) s.line in
-    record { text = ap (λ (x : List ℕ). x ++ (10 ∷ [])) h.text ∙ append_assoc (text_of (lines_before s.stage s)) s.line (10 ∷ []) ∙ sym now; rows = k.rows; sound = k.sound; over = λ _. k.rest }
+    let k = took_line bytes s t h e in
+    let before = text_of (lines_before s.stage s.said) in
+    let after = text_of (lines_before t.stage t.said) in
+    let now : after ++ t.line ≡ before ++ (s.line ++ (10 ∷ [])) =
+    ap (λ (l : List ℕ). after ++ l) k.rest ∙ append-nil after ∙ ap text_of k.lines
+    ∙ text_push (lines_before s.stage s.said) s.line in
+    record {
+      text = ap (λ (x : List ℕ). x ++ (10 ∷ [])) h.text ∙ append_assoc before s.line (10 ∷ []) ∙ sym now;
+      come = k.come;
+      sound = k.sound;
+      over = λ _. k.rest;
+    }
 
 abbrev longer : Reading → ℕ → Reading
 longer s b = record s { line = s.line ++ (b ∷ []) }
-
-longer_before : (stage : Stage) (s : Reading) (b : ℕ) → lines_before stage (longer s b) ≡ lines_before stage s
-longer_before Magic s b = refl
-longer_before Entry s b = refl
-longer_before Ceiling s b = refl
-longer_before Keyings s b = refl
-longer_before Count s b = refl
-longer_before Rows s b = refl
-longer_before After s b = refl
-
-longer_rows : (stage : Stage) (s : Reading) (b : ℕ) → RowsAt stage s → RowsAt stage (longer s b)
-longer_rows Magic s b h = h
-longer_rows Entry s b h = h
-longer_rows Ceiling s b h = h
-longer_rows Keyings s b h = h
-longer_rows Count s b h = h
-longer_rows Rows s b h = h
-longer_rows After s b h = h
 
 both_ways : (b : Bool) → b ≡ true → b ≡ false → ⊥
 both_ways true p q = cc
 both_ways false p q = cc
 
-holds_longer : (bytes : List ℕ) (s t : Reading) (b : ℕ) → Holds bytes s → is_over s.stage ≡ false → lengthen s b ≡ Ok t → Holds (bytes ++ (b ∷ [])) t
+holds_longer : (bytes : List ℕ) (s t : Reading) (b : ℕ) → Holds bytes s → is_over s.stage ≡ false → lengthen s b ≡ Ok t
+    → Holds (bytes ++ (b ∷ [])) t
 holds_longer bytes s t b h going e =
-    let a = needs (ltb (length s.line) 128) causes.Word (Ok (longer s b)) t e in
-    let is = h.sound in
-    let text : bytes ++ (b ∷ []) ≡ text_of (lines_before s.stage (longer s b)) ++ (s.line ++ (b ∷ [])) = ap (λ (x : List ℕ). x ++ (b ∷ [])) h.text ∙ append_assoc (text_of (lines_before s.stage s)) s.line (b ∷ []) ∙ ap (λ (ls : List (List ℕ)). text_of ls ++ (s.line ++ (b ∷ []))) (sym (longer_before s.stage s b)) in
-    subst (Holds (bytes ++ (b ∷ []))) (ok_is (longer s b) t a.1) (record { text = text; rows = longer_rows s.stage s b h.rows; sound = record { entry = is.entry; ceiling = is.ceiling; keyings = is.keyings; count = is.count; few = is.few; ascending = is.ascending; each = is.each }; over = λ o. absurd (both_ways (is_over s.stage) o going) })
+    let a = needs (ltb (length s.line) 128) flaws.Word (Ok (longer s b)) t e in
+    subst (Holds (bytes ++ (b ∷ []))) (ok_is (longer s b) t a.1) (record {
+      text = ap (λ (x : List ℕ). x ++ (b ∷ [])) h.text
+          ∙ append_assoc (text_of (lines_before s.stage s.said)) s.line (b ∷ []);
+      come = h.come;
+      sound = h.sound;
+      over = λ o. absurd (both_ways (is_over s.stage) o going);
+    })
 
-pub at_line_ok : (n : ℕ) (r : Result Reading LineCause) (t : Reading) → at_line n r ≡ Ok t → r ≡ Ok t
+pub at_line_ok : (n : ℕ) (r : Result Reading LineFlaw) (t : Reading) → at_line n r ≡ Ok t → r ≡ Ok t
 at_line_ok n (Ok s) t e = ap (λ (x : Reading). Ok x) (inner s t e) where
   inner : (s t : Reading) → at_line 0 (Ok s) ≡ Ok t → s ≡ t
   inner s t e = cc
 at_line_ok n (Err c) t e = absurd cc
 
-pub holds_step : (bytes : List ℕ) (s t : Reading) (b : ℕ) → Holds bytes s → step s b ≡ Ok t → Holds (bytes ++ (b ∷ [])) t
+pub holds_step : (bytes : List ℕ) (s t : Reading) (b : ℕ) → Holds bytes s → step s b ≡ Ok t
+    → Holds (bytes ++ (b ∷ [])) t
 unfolding step
 holds_step bytes s t b h e =
-    let r = at_line_ok (number_of s.stage (length s.rows)) (take_byte s b) t e in
-    let a = lacks (is_over s.stage) causes.Tail (cond (eqb b 10) (judge s) (lengthen s b)) t r in
+    let r = at_line_ok (number_of s.stage s.said) (take_byte s b) t e in
+    let a = lacks (is_over s.stage) flaws.Tail (cond (eqb b 10) (judge s) (lengthen s b)) t r in
     elim (chosen (eqb b 10) (judge s) (lengthen s b) (Ok t) a.1) [
-      | inl k ↦ let is : 10 ≡ b = grind (arith, nat_tests, k.0) in subst (λ (x : ℕ). Holds (bytes ++ (x ∷ [])) t) is (holds_judge bytes s t h k.1)
+      | inl k ↦
+          let is : 10 ≡ b = grind (arith, nat_tests, k.0) in
+          subst (λ (x : ℕ). Holds (bytes ++ (x ∷ [])) t) is (holds_judge bytes s t h k.1)
       | inr k ↦ holds_longer bytes s t b h a.0 k.1
     ]
 
@@ -220,17 +280,34 @@ holds_run bytes [] s t h e = rw (append-nil bytes) (subst (Holds bytes) (inner s
   inner s t e = cc
 holds_run bytes (b ∷ more) s t h e =
     let a = bind_ok (step s b) (λ u. run u more) t e in
-    subst (λ (x : List ℕ). Holds x t) (append_assoc bytes (b ∷ []) more) (holds_run (bytes ++ (b ∷ [])) more a.0 t (holds_step bytes s a.0 b h a.1) a.2)
+    subst (λ (x : List ℕ). Holds x t) (append_assoc bytes (b ∷ []) more)
+    (holds_run (bytes ++ (b ∷ [])) more a.0 t (holds_step bytes s a.0 b h a.1) a.2)
+
+no_groups : AreGroups []
+no_groups = record {
+  few = omega arith;
+  ascending = λ i j d lt within. absurd (omega arith);
+  each = All-from_recursion IsGroup [] tt;
+}
+
+pub nothing_sound : IsSound nothing
+nothing_sound = record {
+  entry = omega arith;
+  ceiling = omega arith;
+  keyings = omega arith;
+  groups = no_groups;
+  count = omega arith;
+  rows = record { few = omega arith; ascending = λ k d lt. absurd (omega arith) };
+  each = tt;
+}
 
 pub holds_start : Holds [] start
-holds_start = record { text = refl; rows = refl; sound = record { entry = omega arith; ceiling = omega arith; keyings = omega arith; count = omega arith; few = omega arith; ascending = λ k d lt. absurd (omega arith); each = tt }; over = λ o. refl }
+holds_start = record { text = refl; come = (refl, refl); sound = nothing_sound; over = λ o. refl }
 
 is_after_end : (g : Stage) → is_over g ≡ true → g ≡ After
 is_after_end Magic h = absurd cc
-is_after_end Entry h = absurd cc
-is_after_end Ceiling h = absurd cc
-is_after_end Keyings h = absurd cc
-is_after_end Count h = absurd cc
+is_after_end (Head f) h = absurd cc
+is_after_end Groups h = absurd cc
 is_after_end Rows h = absurd cc
 is_after_end After h = refl
 
@@ -238,17 +315,36 @@ over_of : (b : Bool) (f : Fault) (x y : CertView) → cond b (Ok x) (Err f) ≡ 
 over_of true f x y e = (refl, cc)
 over_of false f x y e = absurd cc
 
+-- what has been said when `end` has come
+said_whole : (bytes : List ℕ) (s : Said) → Holds bytes (begins After s) → IsCertificateText bytes (certificate_of s)
+said_whole bytes s h =
+    let is = h.sound in
+    let count = ap (λ (n : ℕ). text_of (lines_before After (record s { count = n }))) (sym h.come.1) in
+    let first =
+    ap (λ (q : Bool). text_of (lines_before After (record s { grouped = q; count = length s.rows }))) h.come.0 in
+    record {
+      valid = record {
+        entry = is.entry;
+        ceiling = is.ceiling;
+        keyings = is.keyings;
+        groups = is.groups;
+        rows = is.rows;
+        each = All-from_recursion IsRow s.rows is.each;
+      };
+      spelled = h.text ∙ append-nil (text_of (lines_before After s)) ∙ count ∙ first;
+    }
+
+at_end : (s : Reading) → is_over s.stage ≡ true → s.line ≡ [] → s ≡ begins After s.said
+at_end s over none =
+    ap (λ (g : Stage). record s { stage = g }) (is_after_end s.stage over)
+    ∙ ap (λ (l : List ℕ). record s { stage = After; line = l }) none
+
 -- what is read is a text of it
 pub found : (bytes : List ℕ) (c : CertView) → reading bytes ≡ Ok c → IsCertificateText bytes c
 found bytes c e =
     let a = bind_ok (run start bytes) ended c e in
     let s = a.0 in
     let h = holds_run [] bytes start s holds_start a.1 in
-    let o = over_of (is_over s.stage) (number_of s.stage (length s.rows), causes.Truncated) (certificate_of s) c a.2 in
-    let after : s.stage ≡ After = is_after_end s.stage o.0 in
-    let count : length s.rows ≡ s.count = subst (λ (g : Stage). RowsAt g s) after h.rows in
-    let is = h.sound in
-    let text : bytes ≡ certificate_text (certificate_of s) =
-    h.text ∙ ap (λ (l : List ℕ). text_of (lines_before s.stage s) ++ l) (h.over o.0) ∙ append-nil (text_of (lines_before s.stage s)) ∙ ap (λ (g : Stage). text_of (lines_before g s)) after
-    ∙ ap (λ (n : ℕ). text_of (head_lines s.entry s.ceiling s.keyings n ++ (map row_line s.rows ++ (codes "end" ∷ [])))) (sym count) in
-    subst (IsCertificateText bytes) o.1 (record { valid = record { entry = is.entry; ceiling = is.ceiling; keyings = is.keyings; rows = record { few = is.few; ascending = is.ascending }; each = All-from_recursion IsRow s.rows is.each }; spelled = text })
+    let o = over_of (is_over s.stage) (number_of s.stage s.said, causes.Truncated) (certificate_of s.said) c a.2 in
+    let whole = subst (Holds bytes) (at_end s o.0 (h.over o.0)) h in
+    subst (IsCertificateText bytes) o.1 (said_whole bytes s.said whole)

@@ -2,6 +2,7 @@ pub mod Parts
 pub mod Spelled
 pub mod Sound
 pub mod Again
+pub mod GroupLines
 pub mod Found
 pub mod Only
 pub mod Outcomes

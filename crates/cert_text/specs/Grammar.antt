@@ -1,6 +1,9 @@
 -- The text of a certificate.
-use Rattle.std.specs.Prelude.{◌≡◌, ℕ, ◌≤◌, List, [], ◌∷◌, ◌++◌, length, map, All, decimal, codes}
+use Rattle.std.specs.Prelude.{◌≡◌, ℕ, ◌≤◌, Bool, true, false, List, [], ◌∷◌, ◌++◌, length, map, All, decimal, codes}
 use Rattle.page_ids.specs.Ids.{IsPageNumber, IsFrameId, page_text, frame_text}
+use Rattle.frame_records.specs.declared.limits.TheConstants.{MOST_PENCE}
+use Rattle.frame_records.specs.Groups.{AreGroups}
+use Rattle.cert_table.specs.declared.limits.TheConstants.{MOST_RANK}
 use Rattle.cert_table.specs.declared.row.Row.{Row}
 use Rattle.abstract_paint.specs.declared.cursor.AbsCursor.{AbsCursor}
 use Rattle.abstract_paint.specs.declared.cursor.Place.{Place}
@@ -44,13 +47,39 @@ keyings_line keys = codes "keyings " ++ decimal keys
 abbrev pub rows_line : ℕ → List ℕ
 rows_line count = codes "rows " ++ decimal count
 
--- the five lines before the rows
-abbrev pub head_lines : ℕ → ℕ → ℕ → ℕ → List (List ℕ)
-head_lines entry ceiling keyings count = codes "PBC1" ∷ entry_line entry ∷ ceiling_line ceiling ∷ keyings_line keyings ∷ rows_line count ∷ []
+-- whether a certificate is for callers of some group
+abbrev pub has_groups : List ℕ → Bool
+has_groups [] = false
+has_groups (group ∷ groups) = true
+
+-- line 1 says whether there is a line of groups
+abbrev pub first_line : Bool → List ℕ
+first_line false = codes "PBC1"
+first_line true = codes "PBC2"
+
+-- the word, and a space (32) and a number for each group
+abbrev pub spaced : List ℕ → List ℕ
+spaced [] = []
+spaced (group ∷ groups) = 32 ∷ (decimal group ++ spaced groups)
+
+abbrev pub groups_line : List ℕ → List ℕ
+groups_line groups = codes "groups" ++ spaced groups
+
+-- the line of the groups, where there are any
+abbrev pub groups_lines : List ℕ → List (List ℕ)
+groups_lines [] = []
+groups_lines (group ∷ groups) = groups_line (group ∷ groups) ∷ []
+
+-- the lines before the rows: five, and a sixth where there are groups
+abbrev pub head_lines : ℕ → ℕ → ℕ → List ℕ → ℕ → List (List ℕ)
+head_lines entry ceiling keyings groups count =
+    first_line (has_groups groups) ∷ entry_line entry ∷ ceiling_line ceiling ∷ keyings_line keyings
+    ∷ (groups_lines groups ++ (rows_line count ∷ []))
 
 -- the head, a line for each row, and `end`
 abbrev pub certificate_lines : CertView → List (List ℕ)
-certificate_lines c = head_lines c.entry c.ceiling c.keyings (length c.rows) ++ (map row_line c.rows ++ (codes "end" ∷ []))
+certificate_lines c =
+    head_lines c.entry c.ceiling c.keyings c.groups (length c.rows) ++ (map row_line c.rows ++ (codes "end" ∷ []))
 
 -- each line ends with a byte 10
 abbrev pub text_of : List (List ℕ) → List ℕ
@@ -64,14 +93,15 @@ certificate_text c = text_of (certificate_lines c)
 -- the id is a frame's, the rank at most 65,535, the cursor on the screen
 pub record IsRow (r : Row) : Type 0 where
   pub id : IsFrameId r.id
-  pub rank : r.rank ≤ 65535
+  pub rank : r.rank ≤ MOST_RANK
   pub place : OnScreen r.cursor.place
 
--- what has a text: each number within its bound, and rows in the order of their ids
+-- what has a text: each number within its bound, groups ascending, and rows in the order of their ids
 pub record IsCertificate (c : CertView) : Type 0 where
   pub entry : IsPageNumber c.entry
-  pub ceiling : c.ceiling ≤ 9999
-  pub keyings : c.keyings ≤ 65535
+  pub ceiling : c.ceiling ≤ MOST_PENCE
+  pub keyings : c.keyings ≤ MOST_RANK
+  pub groups : AreGroups c.groups
   pub rows : AreRows c.rows
   pub each : All IsRow c.rows
 

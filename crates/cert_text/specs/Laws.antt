@@ -8,9 +8,11 @@ pub record TextsAreCertificates : Type 0 where
   -- a certificate has one text
   pub one_text : (c : CertView) (a b : List ℕ) → IsCertificateText a c → IsCertificateText b c → a ≡ b
   -- a text has one certificate
-  pub one_certificate : (bytes : List ℕ) (c d : CertView) → IsCertificateText bytes c → IsCertificateText bytes d → c ≡ d
+  pub one_certificate : (bytes : List ℕ) (c d : CertView) → IsCertificateText bytes c → IsCertificateText bytes d
+      → c ≡ d
   -- no text begins another
-  pub no_prefix : (bytes : List ℕ) (b : ℕ) (more : List ℕ) (c d : CertView) → IsCertificateText bytes c → IsCertificateText (bytes ++ b ∷ more) d → ⊥
+  pub no_prefix : (bytes : List ℕ) (b : ℕ) (more : List ℕ) (c d : CertView) → IsCertificateText bytes c
+      → IsCertificateText (bytes ++ b ∷ more) d → ⊥
   -- what is read from a text without a fault is the certificate that it stands in the grammar with
   pub no_fault : (bytes : List ℕ) (c : CertView) → (reading bytes ≡ Ok c) ↔ IsCertificateText bytes c
   -- reading goes on where it stood

@@ -3,17 +3,25 @@ use Rattle.std.specs.Prelude.{◌≡◌, ℕ, Bool, false, List, Option, Some, N
 use Rattle.cert_table.specs.CertView.{CertView}
 use Rattle.cert_text.specs.declared.fault.LineCause.{LineCause}
 use Rattle.cert_text.specs.declared.fault.LineCause.TheVariants as causes
+use Rattle.cert_text.specs.declared.fault.LineFlaw.{LineFlaw}
 use Rattle.cert_text.specs.declared.fault.LineFault.{LineFault}
 use Rattle.cert_text.specs.declared.fault.LineFault.TheVariants as line
 use Rattle.cert_text.specs.declared.fault.ReadFault.{ReadFault}
 use Rattle.cert_text.specs.declared.fault.ReadFault.TheVariants as read
-use Rattle.cert_text.specs.Reading.{Reading, Fault, start, run}
+use Rattle.cert_text.specs.declared.stage.Stage.{Stage}
+use Rattle.cert_text.specs.Reading.{Said, Reading, Fault, begins, start, run}
+
+-- a whole line that leads to the next stage
+abbrev pub Says : Result Stage LineFault → Said → Result Reading LineFlaw → Type 0
+Says (Ok stage) new outcome = outcome ≡ Ok (begins stage new)
+Says (Err line.Memory) new outcome = Unit {0}
+Says (Err (line.Says flaw)) new outcome = outcome ≡ Err flaw
 
 -- a call that changes a reading into the new one
-abbrev pub Turns : Result (Unit {0}) LineFault → Reading → Result Reading LineCause → Type 0
+abbrev pub Turns : Result (Unit {0}) LineFault → Reading → Result Reading LineFlaw → Type 0
 Turns (Ok _) new outcome = outcome ≡ Ok new
 Turns (Err line.Memory) new outcome = Unit {0}
-Turns (Err (line.Says cause)) new outcome = outcome ≡ Err cause
+Turns (Err (line.Says flaw)) new outcome = outcome ≡ Err flaw
 
 -- a reading with its fault
 abbrev pub Refuses : {A : Type 0} → ReadFault → Result A Fault → Type 0
@@ -43,14 +51,7 @@ pub record HasRead (r : ReaderView) (stream : List ℕ) : Type 0 where
 -- a fault that no further byte takes away
 abbrev pub lasting_cause : ℕ → LineCause → Option Fault
 lasting_cause n causes.Truncated = None
-lasting_cause n causes.Magic = Some (n, causes.Magic)
-lasting_cause n causes.Word = Some (n, causes.Word)
-lasting_cause n causes.Number = Some (n, causes.Number)
-lasting_cause n causes.Range = Some (n, causes.Range)
-lasting_cause n causes.Order = Some (n, causes.Order)
-lasting_cause n causes.Cursor = Some (n, causes.Cursor)
-lasting_cause n causes.Count = Some (n, causes.Count)
-lasting_cause n causes.Tail = Some (n, causes.Tail)
+lasting_cause n cause = Some (n, cause)
 
 abbrev pub lasting : Option Fault → Option Fault
 lasting None = None

@@ -1,98 +1,159 @@
 -- Reading a certificate's text byte by byte, with the first fault.
-use Rattle.std.specs.Prelude.{◌≡◌, ℕ, ◌+◌, List, [], ◌∷◌, ◌++◌, length, Bool, true, false, ◌==◌, ◌≤◌, nat_lt, if◌then◌else◌, Option, Some, None, Result, Ok, Err, codes}
+use Rattle.std.specs.Prelude.{ℕ, ◌+◌, List, [], ◌∷◌, ◌++◌, length, Bool, true, false, ◌==◌, ◌≤◌, nat_lt, if◌then◌else◌, Option, Some, None, Result, Ok, Err, codes}
+use Rattle.std.specs.Int.{from_bool}
 use Rattle.std.specs.Str.{bytes_eq}
-use Rattle.std.specs.List.{AllByRecursion, AllAdjacentBelow}
-use Rattle.std.specs.declared.cmp.Ordering.TheVariants.{Less}
-use Rattle.page_ids.specs.Ids.{id_cmp, IsPageNumber}
+use Rattle.std.specs.List.{AllByRecursion}
+use Rattle.page_ids.specs.Ids.{IsPageNumber}
+use Rattle.page_ids.specs.declared.limits.TheConstants.{MOST_PAGE}
+use Rattle.frame_records.specs.declared.limits.TheConstants.{MOST_PENCE}
+use Rattle.frame_records.specs.Groups.{AreGroups}
+use Rattle.cert_table.specs.declared.limits.TheConstants.{MOST_RANK, MOST_ROWS}
 use Rattle.cert_table.specs.declared.row.Row.{Row}
 use Rattle.cert_text.specs.Grammar.{IsRow}
 use Rattle.cert_table.specs.CertView.{CertView}
+use Rattle.cert_table.specs.Rows.{AreRows}
 use Rattle.cert_text.specs.declared.fault.LineCause.{LineCause}
 use Rattle.cert_text.specs.declared.fault.LineCause.TheVariants as causes
 use Rattle.cert_text.specs.declared.stage.Stage.{Stage}
-use Rattle.cert_text.specs.declared.stage.Stage.TheVariants.{Magic, Entry, Ceiling, Keyings, Count, Rows, After}
-use Rattle.cert_text.specs.Lines.{◌>>=◌, number_after, row_in}
+use Rattle.cert_text.specs.declared.fault.LineFlaw.{LineFlaw}
+use Rattle.cert_text.specs.declared.fault.LineFlaw.TheVariants as flaws
+use Rattle.cert_text.specs.declared.stage.Stage.TheVariants.{Magic, Head, Groups, Rows, After}
+use Rattle.cert_text.specs.declared.stage.Field.{Field}
+use Rattle.cert_text.specs.declared.stage.Field.TheVariants.{Entry, Ceiling, Keyings, Count}
+use Rattle.frame_records.specs.Steps.{◌>>=◌}
+use Rattle.cert_text.specs.Lines.{cause_of, number_after, groups_after, row_in}
 
--- what the lines so far have said, which line is due, and what has come of it
-pub record Reading : Type 0 where
-  pub stage : Stage
+-- what the lines so far have said
+pub record Said : Type 0 where
+  -- line 1 says that a line of groups comes
+  pub grouped : Bool
   pub entry : ℕ
   pub ceiling : ℕ
   pub keyings : ℕ
+  pub groups : List ℕ
   pub count : ℕ
   pub rows : List Row
+
+abbrev pub nothing : Said
+nothing = record { grouped = false; entry = 0; ceiling = 0; keyings = 0; groups = []; count = 0; rows = [] }
+
+-- that, which line is due, and what has come of it
+pub record Reading : Type 0 where
+  pub stage : Stage
+  pub said : Said
   pub line : List ℕ
 
+-- before a line
+abbrev pub begins : Stage → Said → Reading
+begins stage said = record { stage = stage; said = said; line = [] }
+
 abbrev pub start : Reading
-start = record { stage = Magic; entry = 0; ceiling = 0; keyings = 0; count = 0; rows = []; line = [] }
+start = begins Magic nothing
 
 -- what a reader keeps, for any stream
-pub record IsSound (s : Reading) : Type 0 where
+pub record IsSound (s : Said) : Type 0 where
   pub entry : IsPageNumber s.entry
-  pub ceiling : s.ceiling ≤ 9999
-  pub keyings : s.keyings ≤ 65535
-  pub count : s.count ≤ 65535
-  pub few : length s.rows ≤ 65535
-  pub ascending : AllAdjacentBelow (λ r t. id_cmp r.id t.id ≡ Less) s.rows (length s.rows)
+  pub ceiling : s.ceiling ≤ MOST_PENCE
+  pub keyings : s.keyings ≤ MOST_RANK
+  pub groups : AreGroups s.groups
+  pub count : s.count ≤ MOST_ROWS
+  pub rows : AreRows s.rows
   pub each : AllByRecursion IsRow s.rows
 
--- the number of the line that is due
-abbrev pub number_of : Stage → ℕ → ℕ
-number_of Magic rows = 1
-number_of Entry rows = 2
-number_of Ceiling rows = 3
-number_of Keyings rows = 4
-number_of Count rows = 5
-number_of Rows rows = rows + 6
-number_of After rows = rows + 7
+-- the number of the line that is due; a line of groups moves those behind it
+abbrev pub number_of : Stage → Said → ℕ
+number_of Magic s = 1
+number_of (Head Entry) s = 2
+number_of (Head Ceiling) s = 3
+number_of (Head Keyings) s = 4
+number_of Groups s = 5
+number_of (Head Count) s = from_bool s.grouped + 5
+number_of Rows s = length s.rows + from_bool s.grouped + 6
+number_of After s = length s.rows + from_bool s.grouped + 7
 
 -- the line at fault, and why
 abbrev pub Fault : Type 0
 Fault = ℕ × LineCause
 
--- a line in the place of a row, and in the place of `end`
-abbrev pub judge_row : Reading → List ℕ → Result Reading LineCause
-judge_row s line = if bytes_eq line (codes "end") then Err causes.Count else row_in s.rows line >>= λ r. Ok (record s { rows = s.rows ++ r ∷ [] })
+-- the lines of a word and a number: the word with its space, the greatest number, what it says, and the next stage
+abbrev pub word_of : Field → List ℕ
+word_of Entry = codes "entry "
+word_of Ceiling = codes "ceiling "
+word_of Keyings = codes "keyings "
+word_of Count = codes "rows "
 
-abbrev pub judge_end : Reading → List ℕ → Result Reading LineCause
-judge_end s line = if bytes_eq line (codes "end") then Ok (record s { stage = After }) else Err causes.Count
+abbrev pub most_of : Field → ℕ
+most_of Entry = MOST_PAGE
+most_of Ceiling = MOST_PENCE
+most_of Keyings = MOST_RANK
+most_of Count = MOST_ROWS
+
+abbrev pub put : Field → ℕ → Said → Said
+put Entry n s = record s { entry = n }
+put Ceiling n s = record s { ceiling = n }
+put Keyings n s = record s { keyings = n }
+put Count n s = record s { count = n }
+
+abbrev pub stage_after : Field → Bool → Stage
+stage_after Entry grouped = Head Ceiling
+stage_after Ceiling grouped = Head Keyings
+stage_after Keyings grouped = if grouped then Groups else Head Count
+stage_after Count grouped = Rows
+
+-- line 1
+abbrev pub judge_magic : Said → List ℕ → Result Reading LineFlaw
+judge_magic s line =
+    if bytes_eq line (codes "PBC1") then Ok (begins (Head Entry) (record s { grouped = false }))
+    else if bytes_eq line (codes "PBC2") then Ok (begins (Head Entry) (record s { grouped = true }))
+    else Err flaws.Magic
+
+-- the line of the groups
+abbrev pub judge_groups : Said → List ℕ → Result Reading LineFlaw
+judge_groups s line =
+    groups_after (codes "groups ") line >>= λ groups. Ok (begins (Head Count) (record s { groups = groups }))
+
+-- a line in the place of a row, and in the place of `end`
+abbrev pub judge_row : Said → List ℕ → Result Reading LineFlaw
+judge_row s line =
+    if bytes_eq line (codes "end") then Err flaws.Count
+    else row_in s.rows line >>= λ r. Ok (begins Rows (record s { rows = s.rows ++ r ∷ [] }))
+
+abbrev pub judge_end : Said → List ℕ → Result Reading LineFlaw
+judge_end s line = if bytes_eq line (codes "end") then Ok (begins After s) else Err flaws.Count
 
 -- a whole line, by the stage at which it comes
-abbrev pub judge_at : Stage → Reading → List ℕ → Result Reading LineCause
-judge_at Magic s line = if bytes_eq line (codes "PBC1") then Ok (record s { stage = Entry }) else Err causes.Magic
-judge_at Entry s line = number_after (codes "entry ") 999999999 line >>= λ n. Ok (record s { stage = Ceiling; entry = n })
-judge_at Ceiling s line = number_after (codes "ceiling ") 9999 line >>= λ n. Ok (record s { stage = Keyings; ceiling = n })
-judge_at Keyings s line = number_after (codes "keyings ") 65535 line >>= λ n. Ok (record s { stage = Count; keyings = n })
-judge_at Count s line = number_after (codes "rows ") 65535 line >>= λ n. Ok (record s { stage = Rows; count = n })
+abbrev pub judge_at : Stage → Said → List ℕ → Result Reading LineFlaw
+judge_at Magic s line = judge_magic s line
+judge_at (Head field) s line =
+    number_after (word_of field) (most_of field) line >>= λ n. Ok (begins (stage_after field s.grouped) (put field n s))
+judge_at Groups s line = judge_groups s line
 judge_at Rows s line = if nat_lt (length s.rows) s.count then judge_row s line else judge_end s line
-judge_at After s line = Err causes.Tail
+judge_at After s line = Err flaws.Tail
 
-unfoldable pub judge : Reading → Result Reading LineCause
-judge s = judge_at s.stage (record s { line = [] }) s.line
+abbrev pub judge : Reading → Result Reading LineFlaw
+judge s = judge_at s.stage s.said s.line
 
 -- a byte of a line that isn't ended by it
-abbrev pub lengthen : Reading → ℕ → Result Reading LineCause
-lengthen s b = if nat_lt (length s.line) 128 then Ok (record s { line = s.line ++ b ∷ [] }) else Err causes.Word
+abbrev pub lengthen : Reading → ℕ → Result Reading LineFlaw
+lengthen s b = if nat_lt (length s.line) 128 then Ok (record s { line = s.line ++ b ∷ [] }) else Err flaws.Word
 
 abbrev pub is_over : Stage → Bool
 is_over Magic = false
-is_over Entry = false
-is_over Ceiling = false
-is_over Keyings = false
-is_over Count = false
+is_over (Head field) = false
+is_over Groups = false
 is_over Rows = false
 is_over After = true
 
-abbrev pub take_byte : Reading → ℕ → Result Reading LineCause
-take_byte s b = if is_over s.stage then Err causes.Tail else if b == 10 then judge s else lengthen s b
+abbrev pub take_byte : Reading → ℕ → Result Reading LineFlaw
+take_byte s b = if is_over s.stage then Err flaws.Tail else if b == 10 then judge s else lengthen s b
 
--- a cause, at its line
-abbrev pub at_line : ℕ → Result Reading LineCause → Result Reading Fault
+-- a flaw, at its line
+abbrev pub at_line : ℕ → Result Reading LineFlaw → Result Reading Fault
 at_line n (Ok s) = Ok s
-at_line n (Err cause) = Err (n, cause)
+at_line n (Err flaw) = Err (n, cause_of flaw)
 
 unfoldable pub step : Reading → ℕ → Result Reading Fault
-step s b = at_line (number_of s.stage (length s.rows)) (take_byte s b)
+step s b = at_line (number_of s.stage s.said) (take_byte s b)
 
 abbrev pub run : Reading → List ℕ → Result Reading Fault
 run s [] = Ok s
@@ -102,12 +163,13 @@ run s (b ∷ bytes) = step s b >>= λ t. run t bytes
 abbrev pub run_on : Result Reading Fault → List ℕ → Result Reading Fault
 run_on r bytes = r >>= λ s. run s bytes
 
-abbrev pub certificate_of : Reading → CertView
-certificate_of s = record { entry = s.entry; ceiling = s.ceiling; keyings = s.keyings; rows = s.rows }
+abbrev pub certificate_of : Said → CertView
+certificate_of s =
+    record { entry = s.entry; ceiling = s.ceiling; keyings = s.keyings; groups = s.groups; rows = s.rows }
 
 -- at the end of the input
 abbrev pub ended : Reading → Result CertView Fault
-ended s = if is_over s.stage then Ok (certificate_of s) else Err (number_of s.stage (length s.rows), causes.Truncated)
+ended s = if is_over s.stage then Ok (certificate_of s.said) else Err (number_of s.stage s.said, causes.Truncated)
 
 -- the certificate of a text, or its first fault
 abbrev pub reading : List ℕ → Result CertView Fault

@@ -3,12 +3,12 @@
 ghost use Rattle.std.specs.Prelude.{◌≡◌};
 ghost use Rattle.cert_text.specs.Lines.{place_in, pend_in, without_pend, cursor_in};
 
-use crate::fault::LineCause;
+use crate::fault::LineFlaw;
 use abstract_paint::{AbsCursor, Pend, Place};
 use page_ids::number_read;
 
 // A place on the screen.
-fn place_in(text: &[u8]) -> Result<Place, LineCause>
+fn place_in(text: &[u8]) -> Result<Place, LineFlaw>
     ensures { result ≡ place_in text.now }
 {
     if text == b"any".as_slice() {
@@ -17,13 +17,13 @@ fn place_in(text: &[u8]) -> Result<Place, LineCause>
     match text {
         [b'c', digits @ ..] => match number_read(digits, 39) {
             Ok(column) => Ok(Place::Col(column as u16)),
-            Err(_) => Err(LineCause::Cursor),
+            Err(_) => Err(LineFlaw::Cursor),
         },
         [b's', digits @ ..] => match number_read(digits, 959) {
             Ok(spot) => Ok(Place::Spot(spot as u16)),
-            Err(_) => Err(LineCause::Cursor),
+            Err(_) => Err(LineFlaw::Cursor),
         },
-        _ => Err(LineCause::Cursor),
+        _ => Err(LineFlaw::Cursor),
     }
 }
 
@@ -40,7 +40,7 @@ fn split_pend(text: &[u8]) -> (Pend, &[u8])
 }
 
 // The cursor of a text.
-pub fn cursor_in(text: &[u8]) -> Result<AbsCursor, LineCause>
+pub fn cursor_in(text: &[u8]) -> Result<AbsCursor, LineFlaw>
     ensures { result ≡ cursor_in text.now }
 {
     let (pend, rest) = split_pend(text);

@@ -1,5 +1,6 @@
 ghost use Rattle.std.specs.Prelude.{◌≡◌};
 ghost use Rattle.cert_text.specs.declared.fault.LineFault.TheVariants as line;
+ghost use Rattle.cert_text.specs.Lines.{cause_of};
 
 use std::alloc::{AllocError, AllocFailed};
 use thiserror::Error;
@@ -7,7 +8,7 @@ use thiserror::Error;
 /// What is wrong with a line.
 #[derive(Debug, Clone, Copy, PartialEq, Eq, Error)]
 pub enum LineCause {
-    /// Line 1 isn't `PBC1`.
+    /// Line 1 is neither `PBC1` nor `PBC2`.
     #[error("Magic")]
     Magic,
     /// The line doesn't begin with its word and one space, a row has not just two spaces or no frame's id, or a line
@@ -17,10 +18,10 @@ pub enum LineCause {
     /// Decimal digits without a leading zero are missing.
     #[error("Number")]
     Number,
-    /// A number, of any length, above its limit.
+    /// A number, of any length, above its limit; a group 0, or a 17th group.
     #[error("Range")]
     Range,
-    /// The id of a row isn't greater than that of the row before.
+    /// The id of a row isn't greater than that of the row before, or a group isn't greater than the one before.
     #[error("Order")]
     Order,
     /// What stands behind the rank is no cursor.
@@ -51,18 +52,49 @@ pub enum ReadFault {
     Memory,
 }
 
+/// What is wrong with a line that has come: each cause but `Truncated`.
+#[derive(Debug, Clone, Copy, PartialEq, Eq)]
+pub enum LineFlaw {
+    Magic,
+    Word,
+    Number,
+    Range,
+    Order,
+    Cursor,
+    Count,
+    Tail,
+}
+
+impl LineFlaw {
+    // The cause that callers are told.
+    pub fn cause(self) -> LineCause
+        ensures { result ≡ cause_of self }
+    {
+        match self {
+            LineFlaw::Magic => LineCause::Magic,
+            LineFlaw::Word => LineCause::Word,
+            LineFlaw::Number => LineCause::Number,
+            LineFlaw::Range => LineCause::Range,
+            LineFlaw::Order => LineCause::Order,
+            LineFlaw::Cursor => LineCause::Cursor,
+            LineFlaw::Count => LineCause::Count,
+            LineFlaw::Tail => LineCause::Tail,
+        }
+    }
+}
+
 /// Why a line isn't taken.
 #[derive(Debug, Clone, Copy, PartialEq, Eq)]
 pub enum LineFault {
     Memory,
-    Says(LineCause),
+    Says(LineFlaw),
 }
 
-impl From<LineCause> for LineFault {
+impl From<LineFlaw> for LineFault {
     ghost from_gives = { λ c e. e ≡ line.Says c };
 
-    fn from(cause: LineCause) -> LineFault {
-        LineFault::Says(cause)
+    fn from(flaw: LineFlaw) -> LineFault {
+        LineFault::Says(flaw)
     }
 }
 

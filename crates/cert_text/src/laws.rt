@@ -15,8 +15,8 @@ pub fn lines_are_judged()
     ensures { LinesAreJudged }
 {}
 
-/// Of every text of more than 8,454,789 bytes (65,541 lines of 128 bytes, each with its end): what is read doesn't depend
-/// on what follows, since no right text is so long. So nobody need take more bytes than that.
+/// Of every text of more than 8,454,918 bytes (65,542 lines of 128 bytes, each with its end): what is read doesn't
+/// depend on what follows, since no right text is so long. So nobody need take more bytes than that.
 pub fn long_texts_are_decided()
     ensures { LongTextsAreDecided }
 {}

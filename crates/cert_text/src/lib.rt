@@ -1,7 +1,9 @@
 //! The text of certificates.
 //!
-//! One spelling for each certificate, line by line: `PBC1`, the entry page, the ceiling, the keyings, the number of rows,
-//! then a line for each row in the order of ids (`1231a 1 s80`), and `end`. A certificate is read from just its own text.
+//! One spelling for each certificate, line by line: `PBC1`, the entry page, the ceiling, the keyings, the number of
+//! rows, then a line for each row in the order of ids (`1231a 1 s80`), and `end`. A certificate for callers of some
+//! groups begins with `PBC2`, and has a line `groups 7 9` behind the keyings. A certificate is read from just its own
+//! text.
 //!
 //! - [`cert_write`]: the text of a certificate.
 //! - [`cert_read`], [`ReadFault`], [`LineCause`]: the certificate of a text, or the first line at fault and why.
@@ -14,6 +16,7 @@ mod laws;
 mod line;
 mod line_reader;
 mod reader;
+mod so_far;
 mod stage;
 mod writer;
 

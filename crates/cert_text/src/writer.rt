@@ -3,24 +3,18 @@
 ghost use Rattle.std.specs.Prelude.{◌≡◌, ◌≤◌, ◌++◌, ◌∷◌, [], Ok, IfOk, OnOk, All, decimal, map, length};
 ghost use Rattle.page_ids.specs.Ids.{IsPageNumber, IsFrameId, frame_text};
 ghost use Rattle.abstract_paint.specs.Cursor.{OnScreen};
+ghost use Rattle.frame_records.specs.declared.limits.TheConstants.{MOST_PENCE};
+ghost use Rattle.frame_records.specs.Groups.{AreGroups};
+ghost use Rattle.cert_table.specs.declared.limits.TheConstants.{MOST_RANK};
 ghost use Rattle.cert_table.specs.Rows.{AreRows, AreOnScreen};
-ghost use Rattle.cert_text.specs.Grammar.{IsRow, IsCertificateText, certificate_text, cursor_text, place_text, row_line, head_lines, text_of};
+ghost use Rattle.cert_text.specs.Grammar.{IsRow, IsCertificateText, certificate_text, cursor_text, place_text, row_line, has_groups, first_line, spaced, groups_lines, head_lines, text_of};
 ghost use Rattle.cert_text.specs.Reading.{reading};
 
 use abstract_paint::{AbsCursor, Pend, Place};
 use cert_table::{Certificate, Cover, Row};
-use itoa::Buffer;
-use page_ids::FrameId;
+use frame_records::Groups;
+use page_ids::{FrameId, push_number};
 use std::alloc::{AllocError, Global};
-
-fn push_number(out: &mut Vec<u8>, number: u32) -> Result<(), AllocError>
-    ensures { OnOk result (out.new.items ≡ out.old.items ++ decimal number) }
-{
-    let mut buffer = Buffer::new();
-    let digits = buffer.format(number);
-    out.extend_from_slice(digits.as_bytes())?;
-    Ok(())
-}
 
 // A word with its space, a number and the line's end.
 #[tactic(auto, using(std::proofs::Common::append_assoc))]
@@ -28,7 +22,7 @@ fn push_line(out: &mut Vec<u8>, word: &[u8], number: u32) -> Result<(), AllocErr
     ensures { OnOk result (out.new.items ≡ out.old.items ++ ((word.now ++ decimal number) ++ (10 ∷ []))) }
 {
     out.extend_from_slice(word)?;
-    push_number(out, number)?;
+    push_number(out, u64::from(number))?;
     out.push(b'\n')?;
     Ok(())
 }
@@ -40,11 +34,11 @@ fn push_place(out: &mut Vec<u8>, place: Place) -> Result<(), AllocError>
         Place::Any => out.extend_from_slice(b"any")?,
         Place::Col(column) => {
             out.push(b'c')?;
-            push_number(out, u32::from(column))?;
+            push_number(out, u64::from(column))?;
         }
         Place::Spot(spot) => {
             out.push(b's')?;
-            push_number(out, u32::from(spot))?;
+            push_number(out, u64::from(spot))?;
         }
     }
     Ok(())
@@ -69,7 +63,7 @@ fn push_id(out: &mut Vec<u8>, id: FrameId) -> Result<(), AllocError>
     ensures in_range { IsFrameId id }
 {
     let letter = id.letter.get();
-    push_number(out, id.page.get())?;
+    push_number(out, u64::from(id.page.get()))?;
     out.push(letter)?;
     Ok(())
 }
@@ -83,10 +77,55 @@ fn push_row(out: &mut Vec<u8>, row: &Row) -> Result<(), AllocError>
     let rank = row.rank;
     push_id(out, row.id)?;
     out.push(b' ')?;
-    push_number(out, u32::from(rank))?;
+    push_number(out, u64::from(rank))?;
     out.push(b' ')?;
     push_cursor(out, row.cursor)?;
     out.push(b'\n')?;
+    Ok(())
+}
+
+#[tactic(auto, using(crate::proofs::Written::some_by_length))]
+fn has_groups(groups: &Groups) -> bool
+    ensures answer { result ≡ has_groups groups.now }
+    ensures valid { AreGroups groups.now }
+{
+    groups.len() > 0
+}
+
+// Line 1.
+fn push_first(out: &mut Vec<u8>, groups: &Groups) -> Result<(), AllocError>
+    ensures text { OnOk result (out.new.items ≡ out.old.items ++ (first_line (has_groups groups.now) ++ (10 ∷ []))) }
+    ensures valid { AreGroups groups.now }
+{
+    if has_groups(groups) {
+        out.extend_from_slice(b"PBC2\n")?;
+    } else {
+        out.extend_from_slice(b"PBC1\n")?;
+    }
+    Ok(())
+}
+
+// The groups, with a space before each.
+fn push_numbers(out: &mut Vec<u8>, groups: &Groups) -> Result<(), AllocError>
+    ensures { OnOk result (out.new.items ≡ out.old.items ++ spaced groups.now) }
+{
+    for i in 0..groups.len() {
+        let group = groups.at(i);
+        out.push(b' ')?;
+        push_number(out, u64::from(group.get()))?;
+    }
+    Ok(())
+}
+
+// The line of the groups, if there are any.
+fn push_groups(out: &mut Vec<u8>, groups: &Groups) -> Result<(), AllocError>
+    ensures { OnOk result (out.new.items ≡ out.old.items ++ text_of (groups_lines groups.now)) }
+{
+    if has_groups(groups) {
+        out.extend_from_slice(b"groups")?;
+        push_numbers(out, groups)?;
+        out.push(b'\n')?;
+    }
     Ok(())
 }
 
@@ -96,15 +135,18 @@ fn push_head(
     entry: u32,
     ceiling: u16,
     keyings: u16,
+    groups: &Groups,
     count: u32,
 ) -> Result<(), AllocError>
     requires { out.old.items ≡ [] }
-    ensures { OnOk result (out.new.items ≡ text_of (head_lines entry ceiling keyings count)) }
+    ensures text { OnOk result (out.new.items ≡ text_of (head_lines entry ceiling keyings groups.now count)) }
+    ensures valid { AreGroups groups.now }
 {
-    out.extend_from_slice(b"PBC1\n")?;
+    push_first(out, groups)?;
     push_line(out, b"entry ", entry)?;
     push_line(out, b"ceiling ", u32::from(ceiling))?;
     push_line(out, b"keyings ", u32::from(keyings))?;
+    push_groups(out, groups)?;
     push_line(out, b"rows ", count)?;
     Ok(())
 }
@@ -125,17 +167,18 @@ fn push_cert_head<C: Cover + Drop>(
     cert: &Certificate<C>,
 ) -> Result<(), AllocError>
     requires { out.old.items ≡ [] }
-    ensures text { OnOk result (out.new.items ≡ text_of (head_lines cert.now.entry cert.now.ceiling cert.now.keyings (length cert.now.rows))) }
+    ensures text { OnOk result (out.new.items ≡ text_of (head_lines cert.now.entry cert.now.ceiling cert.now.keyings cert.now.groups (length cert.now.rows))) }
     ensures entry { IsPageNumber cert.now.entry }
-    ensures ceiling { cert.now.ceiling ≤ 9999 }
-    ensures keyings { cert.now.keyings ≤ 65535 }
+    ensures ceiling { cert.now.ceiling ≤ MOST_PENCE }
+    ensures keyings { cert.now.keyings ≤ MOST_RANK }
+    ensures groups { AreGroups cert.now.groups }
     ensures rows { AreRows cert.now.rows }
 {
     let entry = cert.entry().get();
     let ceiling = cert.ceiling().get();
     let keyings = cert.keyings();
     let count = cert.cover().len() as u32;
-    push_head(out, entry, ceiling, keyings, count)
+    push_head(out, entry, ceiling, keyings, cert.groups(), count)
 }
 
 fn push_cert_rows<C: Cover + Drop>(
@@ -150,7 +193,7 @@ fn push_cert_rows<C: Cover + Drop>(
 
 /// The text of a certificate, whatever cover holds its rows.
 ///
-/// Linear in the text. It is at most 128 bytes a line, and a line for each row and six more.
+/// Linear in the text. It is at most 128 bytes a line, and a line for each row and six more, or seven with groups.
 pub fn cert_write<C: Cover + Drop>(
     alloc: Global,
     cert: &Certificate<C>,

@@ -1,23 +1,23 @@
 -- Where no condition fails, the certificate is good.
-use Rattle.std.proofs.Common.{◌≡◌, ℕ, zero, suc, ◌+◌, ◌<◌, ◌≤◌, ◌⊎◌, inl, inr, Bool, true, false, not, cond, ◌||◌, ◌&&◌, List, [], ◌∷◌, length, get_or, Option, Some, None, refl, sym, ◌∙◌, ap, subst, arith, is_some, option_map, if◌then◌else◌, add-one, ◌==◌}
-use Rattle.std.specs.Prelude.{position, slice_index_or, nat_lt}
-use Rattle.std.specs.List.{position_from, list_any}
-use Rattle.std.proofs.lemmas.Iterator.Adapters.{position_from-zero}
-use Rattle.std.proofs.lemmas.Bool.{or_cases}
+use Rattle.std.proofs.Common.{◌≡◌, ℕ, ◌<◌, ◌≤◌, Bool, true, false, not, List, [], ◌∷◌, get_or, Option, Some, None, refl, sym, ◌∙◌, ap, subst, arith, if◌then◌else◌, ◌==◌}
+use Rattle.std.specs.Prelude.{nat_lt}
+use Rattle.std.proofs.lemmas.Bool.{or_cases, and_parts, not-false}
+use Rattle.std.specs.Str.{bytes_eq}
 use Rattle.std.proofs.lemmas.Bool.Decides.{nat_tests}
+use Rattle.std.proofs.lemmas.Slice.Eq.{bytes_eq-Decides}
 use Rattle.std.proofs.lemmas.List.Folds.{Any-from_list_any}
-use Rattle.std.proofs.lemmas.List.{get_or_past, get_or_default}
 use Rattle.page_ids.specs.Id.{Id}
-use Rattle.page_ids.specs.Ids.{id_eq, first_frame, following}
+use Rattle.page_ids.specs.Ids.{id_eq}
 use Rattle.page_ids.specs.IdLaws.{id_eq_same}
-use Rattle.page_ids.specs.declared.key.Key.TheVariants.{Route, Next}
+use Rattle.page_ids.specs.declared.way.Way.{Way}
+use Rattle.page_ids.specs.declared.way.Way.TheVariants.{Route, Next}
+use Rattle.page_ids.specs.Ways.{ways, way_place}
+use Rattle.page_ids.specs.WayLaws.{ways_length, ways_at}
 use Rattle.frame_records.specs.declared.frame.Frame.{Frame}
 use Rattle.frame_records.specs.BaseView.{BaseView, frame_at, lists_outside}
-use Rattle.frame_records.specs.Seek.{is_open, route_of}
-use Rattle.session_machine.specs.Step.{offers_next, route_at}
-use Rattle.session_machine.specs.Open.{entry_of}
-use Rattle.session_machine.specs.Runs.{target}
-use Rattle.terminal_codes.specs.Touch.{IsClean}
+use Rattle.frame_records.specs.Seek.{is_open, entry_of}
+use Rattle.frame_records.specs.Ways.{sought}
+use Rattle.frame_records.specs.WayLaws.{offered_place}
 use Rattle.abstract_paint.specs.declared.cursor.AbsCursor.{AbsCursor}
 use Rattle.abstract_paint.specs.declared.cursor.Place.{Place}
 use Rattle.abstract_paint.specs.declared.cursor.Place.TheVariants.{Any, Col, Spot}
@@ -25,21 +25,20 @@ use Rattle.abstract_paint.specs.declared.cursor.Pend.{Pend}
 use Rattle.abstract_paint.specs.declared.cursor.Pend.TheVariants.{No, Yes, Maybe}
 use Rattle.abstract_paint.specs.declared.painting.Painted.{Painted}
 use Rattle.abstract_paint.specs.declared.painting.Painted.TheVariants.{Clean, Touches}
-use Rattle.abstract_paint.specs.Cursor.{Ends}
 use Rattle.abstract_paint.specs.Paint.{paint_of}
 use Rattle.abstract_paint.proofs.Exact.{is_exact}
 use Rattle.std.specs.List.{AllByRecursion}
 use Rattle.cert_table.specs.declared.row.Row.{Row}
 use Rattle.cert_table.specs.Rows.{row_among}
 use Rattle.cert_table.specs.CertView.{CertView}
-use Rattle.frame_records.proofs.Finds.{none_passes}
+use Rattle.frame_records.proofs.Finds.{none_found}
 use Rattle.checker.specs.declared.policy.Policy.{Policy}
 use Rattle.checker.specs.declared.verdict.Cause.{Cause}
 use Rattle.checker.specs.declared.verdict.Cause.TheVariants as cause
-use Rattle.checker.specs.declared.verdict.Verdict.TheVariants.{Cleared, Refused}
+use Rattle.checker.specs.declared.verdict.Verdict.TheVariants.{Cleared}
 use Rattle.checker.specs.Refusal.{IsFair, IsPaintedAs, IsGoodHead}
-use Rattle.checker.specs.Good.{Good, IsGoodRow, LeadsDown, is_covered}
-use Rattle.checker.specs.Verdict.{◌otherwise◌, unless, route_covered, route_fault, rank_below, route_down, way_down, next_lost, rank_fault, frame_fault, ways_fault, paint_fault, same_place, same_pend, same_cursor, found_fault, frame_or_none, row_fault, rows_fault, head_fault, verdict_of, verdict}
+use Rattle.checker.specs.Good.{Good, IsGoodRow, LeadsDown, LeadsOn, WaysLeadOn, is_covered}
+use Rattle.checker.specs.Verdict.{◌otherwise◌, unless, goes_on, offered_on, way_on, lost_way, lost_fault, rank_below, offered_down, way_down, is_down, frame_fault, ways_fault, paint_fault, same_place, same_pend, same_cursor, found_fault, frame_or_none, row_fault, rows_fault, head_fault, verdict_of, verdict}
 
 pub both_none : (a b : Option Cause) → (a otherwise b) ≡ None → (a ≡ None) × (b ≡ None)
 both_none None b h = (refl, h)
@@ -49,26 +48,19 @@ pub holds : (b : Bool) (c : Cause) → unless b c ≡ None → b ≡ true
 holds true c h = refl
 holds false c h = cc
 
-pub no_digit : (id : Id) (o : Option ℕ) → route_fault id o ≡ None → o ≡ None
-no_digit id None h = refl
-no_digit id (Some d) h = cc
+pub no_way : (id : Id) (o : Option Way) → lost_fault id o ≡ None → o ≡ None
+no_way id None h = refl
+no_way id (Some way) h = cc
 
 cleared_none : (o : Option Cause) → verdict_of o ≡ Cleared → o ≡ None
 cleared_none None h = refl
 cleared_none (Some c) h = cc
 
-pub not_true : (b : Bool) → not b ≡ true → b ≡ false
-not_true true h = cc
-not_true false h = refl
-
 pub at_least : (m n : ℕ) → not (nat_lt m n) ≡ true → n ≤ m
 at_least m n h = grind (arith, nat_tests)
 
--- what is read behind the end is None
-pub within : (xs : List (Option ℕ)) (k page : ℕ) → get_or xs k None ≡ Some page → k < length xs
-within [] k page h = cc
-within (x ∷ xs) zero page h = omega arith
-within (x ∷ xs) (suc k) page h = omega (arith, within xs k page h)
+pub same_groups : (a b : List ℕ) → bytes_eq a b ≡ true → a ≡ b
+same_groups a b h = grind (arith, bytes_eq-Decides a b)
 
 place_is : (x y : Place) → same_place x y ≡ true → x ≡ y
 place_is Any Any h = refl
@@ -92,10 +84,6 @@ pend_is Maybe No h = cc
 pend_is Maybe Yes h = cc
 pend_is Maybe Maybe h = refl
 
-both_true : (a b : Bool) → (a && b) ≡ true → (a ≡ true) × (b ≡ true)
-both_true true b h = (refl, h)
-both_true false b h = cc
-
 abbrev cursor_with : Place → Pend → AbsCursor
 cursor_with place pend = record { place = place; pend = pend }
 
@@ -105,7 +93,7 @@ same_parts p q d e h k = cc
 -- the test says which cursors are one
 pub cursor_is : (x y : AbsCursor) → same_cursor x y ≡ true → x ≡ y
 cursor_is x y h =
-    let b = both_true (same_place x.place y.place) (same_pend x.pend y.pend) h in
+    let b = and_parts (same_place x.place y.place) (same_pend x.pend y.pend) h in
     same_parts x.place y.place x.pend y.pend (place_is x.place y.place b.0) (pend_is x.pend y.pend b.1)
 
 pub painted : (row : Row) (p : Painted) → paint_fault row p ≡ None → p ≡ Clean row.cursor
@@ -121,46 +109,33 @@ module _ (caller : List ℕ) (base : BaseView) (cert : CertView) where
   some_below rank None h = cc
   some_below rank (Some r) h = (r, refl, grind (arith, nat_tests))
 
-  down_by_route : (id : Id) (f : Frame) (rank digit : ℕ) (o : Option ℕ) → frame_at base id ≡ Some f → route_of f digit ≡ o → route_down cert.rows rank o ≡ true → LeadsDown base cert.rows id rank
-  down_by_route id f rank digit None is e h = cc
-  down_by_route id f rank digit (Some page) is e h =
-      let r = some_below rank (row_among cert.rows (first_frame page)) h in
-      record { key = Route digit; to = first_frame page; row = r.0; sought = rw is (ap (option_map first_frame) e); covered = r.1; lower = r.2 }
+  down_by : (f : Frame) (rank : ℕ) (way : Way) (o : Option Id) → sought f way ≡ o → offered_down cert.rows rank o ≡ true → LeadsDown cert.rows f rank
+  down_by f rank way None is h = cc
+  down_by f rank way (Some to) is h =
+      let r = some_below rank (row_among cert.rows to) h in
+      record { way = way; to = to; row = r.0; offered = is; covered = r.1; lower = r.2 }
 
-  down_by_next : (id : Id) (f : Frame) (rank : ℕ) → frame_at base id ≡ Some f → (b : Bool) → offers_next id (Some f) ≡ b → (b && rank_below rank (row_among cert.rows (following id))) ≡ true → LeadsDown base cert.rows id rank
-  down_by_next id f rank is false e h = cc
-  down_by_next id f rank is true e h =
-      let r = some_below rank (row_among cert.rows (following id)) h in
-      record { key = Next; to = following id; row = r.0; sought = rw (is, e) refl; covered = r.1; lower = r.2 }
+  pub leads_down : (rank : ℕ) (f : Frame) → is_down cert.rows rank f ≡ true → LeadsDown cert.rows f rank
+  leads_down rank f h =
+      let a = Any-from_list_any (way_down cert.rows rank f) ways h in
+      down_by f rank a.1 (sought f a.1) refl a.4
 
-  pub leads_down : (row : Row) (f : Frame) → frame_at base row.id ≡ Some f → way_down cert.rows row f ≡ true → LeadsDown base cert.rows row.id row.rank
-  leads_down row f is h =
-      elim (or_cases (list_any (route_down cert.rows row.rank) f.routes) (offers_next row.id (Some f) && rank_below row.rank (row_among cert.rows (following row.id))) h) [
-        | inl w ↦
-            let a = Any-from_list_any (route_down cert.rows row.rank) f.routes w in
-            down_by_route row.id f row.rank a.0 a.1 is (get_or_default f.routes a.0 None a.1 a.2 ∙ a.3) a.4
-        | inr w ↦ down_by_next row.id f row.rank is (offers_next row.id (Some f)) refl w
-      ]
+  rank_rules : (row : Row) (f : Frame) (b : Bool) → (row.rank == 0) ≡ b → (if b then unless (id_eq row.id (entry_of base)) (cause.RankZero row.id) else unless (is_down cert.rows row.rank f) (cause.NoWayDown row.id)) ≡ None → (row.rank ≡ 0 → row.id ≡ entry_of base) × (0 < row.rank → LeadsDown cert.rows f row.rank)
+  rank_rules row f true e h = (λ z. id_eq_same row.id (entry_of base) (holds (id_eq row.id (entry_of base)) (cause.RankZero row.id) h), λ lt. absurd (grind (arith, nat_tests)))
+  rank_rules row f false e h = (λ z. absurd (grind (arith, nat_tests)), λ lt. leads_down row.rank f (holds (is_down cert.rows row.rank f) (cause.NoWayDown row.id) h))
 
-  rank_rules : (row : Row) (f : Frame) (b : Bool) → frame_at base row.id ≡ Some f → (row.rank == 0) ≡ b → (if b then unless (id_eq row.id (entry_of base)) (cause.RankZero row.id) else unless (way_down cert.rows row f) (cause.NoWayDown row.id)) ≡ None → (row.rank ≡ 0 → row.id ≡ entry_of base) × (0 < row.rank → LeadsDown base cert.rows row.id row.rank)
-  rank_rules row f true is e h = (λ z. id_eq_same row.id (entry_of base) (holds (id_eq row.id (entry_of base)) (cause.RankZero row.id) h), λ lt. absurd (grind (arith, nat_tests)))
-  rank_rules row f false is e h = (λ z. absurd (grind (arith, nat_tests)), λ lt. leads_down row f is (holds (way_down cert.rows row f) (cause.NoWayDown row.id) h))
+  -- a way that passes the test leads on
+  pub leads_on : (way : Way) (to : Id) → goes_on base cert.rows way to ≡ true → LeadsOn base cert.rows way to
+  leads_on (Route digit) to h = or_cases (lists_outside base to.page) (is_covered cert.rows to) h
+  leads_on Next to h = h
 
-  pub routes_rule : (f : Frame) → position (λ r. not (route_covered base cert.rows r)) f.routes ≡ None → (digit page : ℕ) → route_of f digit ≡ Some page → (lists_outside base page ≡ true) ⊎ (is_covered cert.rows (first_frame page) ≡ true)
-  routes_rule f h digit page e =
-      let p = none_passes (λ r. not (route_covered base cert.rows r)) f.routes digit None h (within f.routes digit page e) in
-      let q : not (route_covered base cert.rows (Some page)) ≡ false = subst (λ (o : Option ℕ). not (route_covered base cert.rows o) ≡ false) e p in
-      or_cases (lists_outside base page) (is_covered cert.rows (first_frame page)) (true_not (route_covered base cert.rows (Some page)) q) where
-        true_not : (b : Bool) → not b ≡ false → b ≡ true
-        true_not true h = refl
-        true_not false h = cc
-
-  pub next_rule : (row : Row) (f : Frame) → not (next_lost cert.rows row f) ≡ true → offers_next row.id (Some f) ≡ true → is_covered cert.rows (following row.id) ≡ true
-  next_rule row f h e = by_tests (offers_next row.id (Some f)) (is_covered cert.rows (following row.id)) h e where
-    by_tests : (a b : Bool) → not (a && not b) ≡ true → a ≡ true → b ≡ true
-    by_tests true true h e = refl
-    by_tests true false h e = cc
-    by_tests false b h e = cc
+  pub ways_rule : (f : Frame) → lost_way base cert.rows f ≡ None → WaysLeadOn base cert.rows f
+  ways_rule f h way to e =
+      let place = offered_place f way to e in
+      let here : get_or ways (way_place way) way ≡ way = ways_at (way_place way) way place.0 ∙ place.1 in
+      let none = none_found (λ w. not (way_on base cert.rows f w)) ways h (way_place way) way (omega (arith, ways_length, place.0)) in
+      let on : not (way_on base cert.rows f way) ≡ false = subst (λ (w : Way). not (way_on base cert.rows f w) ≡ false) here none in
+      leads_on way to (not-false (goes_on base cert.rows way to) (ap (λ (o : Option Id). not (offered_on base cert.rows way o)) (sym e) ∙ on))
 
   pub fair : (row : Row) (f : Frame) → frame_fault caller cert row f ≡ None → IsFair caller cert row f
   fair row f h =
@@ -185,9 +160,8 @@ module _ (caller : List ℕ) (base : BaseView) (cert : CertView) where
       let m = both_none (paint_fault row (paint_of f.lead f.body)) (ways_fault base cert.rows row f) n.1 in
       let g = fair row f n.0 in
       let p = painted_as row f m.0 in
-      let d = both_none (route_fault row.id (position (λ r. not (route_covered base cert.rows r)) f.routes)) _ m.1 in
-      let e = both_none (unless (not (next_lost cert.rows row f)) (cause.NextNotCovered row.id)) _ d.1 in
-      let rank = rank_rules row f (row.rank == 0) w.1 refl e.1 in
+      let d = both_none (lost_fault row.id (lost_way base cert.rows f)) _ m.1 in
+      let rank = rank_rules row f (row.rank == 0) refl d.1 in
       record {
         frame = f;
         found = w.1;
@@ -196,8 +170,7 @@ module _ (caller : List ℕ) (base : BaseView) (cert : CertView) where
         most = g.most;
         clean = p.clean;
         ends = p.ends;
-        routes = routes_rule f (no_digit row.id _ d.0);
-        next = next_rule row f (holds _ (cause.NextNotCovered row.id) e.0);
+        ways = ways_rule f (no_way row.id _ d.0);
         zero = rank.0;
         down = rank.1;
       }
@@ -213,23 +186,26 @@ module _ (caller : List ℕ) (base : BaseView) (cert : CertView) where
       let a = both_none (unless (cert.entry == base.entry) cause.EntryDiffers) _ h in
       let b = both_none (unless (not (nat_lt policy.ceiling cert.ceiling)) cause.CeilingAbove) _ a.1 in
       let d = both_none (unless (not (nat_lt policy.keyings cert.keyings)) cause.KeyingsAbove) _ b.1 in
+      let e = both_none (unless (bytes_eq policy.groups cert.groups) cause.GroupsDiffer) _ d.1 in
       let test = holds (cert.entry == base.entry) cause.EntryDiffers a.0 in
       record {
         entry = grind (arith, nat_tests);
         ceiling = at_least policy.ceiling cert.ceiling (holds _ cause.CeilingAbove b.0);
         keyings = at_least policy.keyings cert.keyings (holds _ cause.KeyingsAbove d.0);
-        covered = holds (is_covered cert.rows (entry_of base)) cause.EntryNotCovered d.1;
+        groups = same_groups policy.groups cert.groups (holds _ cause.GroupsDiffer e.0);
+        covered = holds (is_covered cert.rows (entry_of base)) cause.EntryNotCovered e.1;
       }
 
-  pub cleared_good : (policy : Policy) → verdict caller base policy cert ≡ Cleared → Good caller base policy cert
-  cleared_good policy h =
-      let n = cleared_none (head_fault base policy cert otherwise rows_fault caller base cert cert.rows) h in
-      let both = both_none (head_fault base policy cert) (rows_fault caller base cert cert.rows) n in
-      let head = head_right policy both.0 in
-      record {
-        entry = head.entry;
-        ceiling = head.ceiling;
-        keyings = head.keyings;
-        covered = head.covered;
-        rows = good_rows cert.rows both.1;
-      }
+pub cleared_good : (base : BaseView) (policy : Policy) (cert : CertView) → verdict base policy cert ≡ Cleared → Good base policy cert
+cleared_good base policy cert h =
+    let n = cleared_none (head_fault base policy cert otherwise rows_fault cert.groups base cert cert.rows) h in
+    let both = both_none (head_fault base policy cert) (rows_fault cert.groups base cert cert.rows) n in
+    let head = head_right cert.groups base cert policy both.0 in
+    record {
+      entry = head.entry;
+      ceiling = head.ceiling;
+      keyings = head.keyings;
+      groups = head.groups;
+      covered = head.covered;
+      rows = good_rows cert.groups base cert cert.rows both.1;
+    }

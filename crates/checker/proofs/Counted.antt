@@ -1,5 +1,5 @@
 -- What the rows took, row by row.
-use Rattle.std.proofs.Common.{◌≡◌, ℕ, ◌+◌, ◌*◌, ◌<◌, ◌≤◌, true, false, List, [], ◌∷◌, ◌++◌, length, get_or, take, Option, Some, None, refl, sym, ◌∙◌, ap, subst, arith}
+use Rattle.std.proofs.Common.{◌≡◌, ℕ, ◌+◌, ◌*◌, ◌<◌, ◌≤◌, false, List, [], ◌∷◌, ◌++◌, length, take, Option, Some, None, refl, sym, ◌∙◌, ap, arith}
 use Rattle.std.specs.Prelude.{slice_get, find}
 use Rattle.std.specs.List.{sum_by}
 use Rattle.std.proofs.Math.Nat.{mul-suc, mul-le-mul_left}
@@ -78,7 +78,7 @@ none_at (x ∷ frames) id f e = omega arith
 pub found_count : (base : BaseView) (m : ℕ) (rows : List Row) (row : Row) (f : Frame) (cause : Option Cause) (count : Count) (asked : ℕ) → IsBase base → frame_at base row.id ≡ Some f → asked ≤ 16 → (0 < length base.frames → 1 ≤ asked) → IsFoundCount m rows row f cause count → IsRowCount base m rows row cause (record { probes = asked + count.probes; steps = count.steps })
 found_count base m rows row f cause count asked valid found most least is =
     let bytes : bytes_at base row ≡ length f.body = ap bytes_if found in
-    let ways : ways_at base row ≡ ways_of row.id f = ap (ways_if row.id) found in
+    let ways : ways_at base row ≡ ways_of f = ap (ways_if) found in
     let short = short_body base row.id f valid found in
     let one = least (none_at base.frames row.id f found) in
     record {

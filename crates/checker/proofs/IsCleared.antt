@@ -1,30 +1,32 @@
 -- Where the certificate is good, no condition fails.
-use Rattle.std.proofs.Common.{◌≡◌, ℕ, zero, suc, ◌+◌, ◌<◌, ◌≤◌, ◌⊎◌, inl, inr, Bool, true, false, not, cond, ◌||◌, ◌&&◌, List, [], ◌∷◌, length, get_or, Option, Some, None, refl, sym, ◌∙◌, ap, subst, arith, option_map, if◌then◌else◌, ◌==◌}
-use Rattle.std.specs.Prelude.{◌↔◌, position, nat_lt, option_and_then}
-use Rattle.std.specs.List.{position_from, list_any, AllByRecursion}
-use Rattle.std.proofs.lemmas.Iterator.Adapters.{position_from-zero}
+use Rattle.std.proofs.Common.{◌≡◌, ℕ, ◌<◌, ◌≤◌, inl, inr, Bool, true, false, not, List, [], ◌∷◌, get_or, Option, Some, None, refl, sym, ◌∙◌, ap, arith, if◌then◌else◌, ◌==◌}
+use Rattle.std.specs.Prelude.{◌↔◌, nat_lt}
+use Rattle.std.specs.List.{AllByRecursion}
+use Rattle.std.proofs.lemmas.Bool.{or_left, or_right}
+use Rattle.std.specs.Str.{bytes_eq}
 use Rattle.std.proofs.lemmas.Bool.Decides.{nat_tests}
+use Rattle.std.proofs.lemmas.Slice.Eq.{bytes_eq-Decides}
 use Rattle.std.proofs.lemmas.List.Folds.{list_any_at}
-use Rattle.std.proofs.lemmas.List.{get_or_default}
 use Rattle.page_ids.specs.Id.{Id}
-use Rattle.page_ids.specs.Ids.{id_eq, first_frame, following}
+use Rattle.page_ids.specs.Ids.{id_eq}
 use Rattle.page_ids.specs.IdLaws.{id_eq_refl}
-use Rattle.page_ids.specs.declared.key.Key.{Key}
-use Rattle.page_ids.specs.declared.key.Key.TheVariants.{Route, Next, Prev, Reprint, Update}
+use Rattle.page_ids.specs.declared.way.Way.{Way}
+use Rattle.page_ids.specs.declared.way.Way.TheVariants.{Route, Next}
+use Rattle.page_ids.specs.Ways.{ways, way_place}
+use Rattle.page_ids.specs.WayLaws.{ways_length, ways_at}
 use Rattle.frame_records.specs.declared.frame.Frame.{Frame}
-use Rattle.frame_records.specs.BaseView.{BaseView, frame_at, lists_outside}
-use Rattle.frame_records.specs.Seek.{is_open, route_of}
+use Rattle.frame_records.specs.BaseView.{BaseView, lists_outside}
+use Rattle.frame_records.specs.Seek.{is_open, entry_of}
+use Rattle.frame_records.specs.Ways.{sought}
+use Rattle.frame_records.specs.WayLaws.{offered_place}
+use Rattle.frame_records.proofs.Finds.{find_none}
 use Rattle.abstract_paint.specs.declared.cursor.AbsCursor.{AbsCursor}
 use Rattle.abstract_paint.specs.declared.cursor.Place.{Place}
 use Rattle.abstract_paint.specs.declared.cursor.Place.TheVariants.{Any, Col, Spot}
 use Rattle.abstract_paint.specs.declared.cursor.Pend.{Pend}
 use Rattle.abstract_paint.specs.declared.cursor.Pend.TheVariants.{No, Yes, Maybe}
-use Rattle.abstract_paint.specs.declared.painting.Painted.{Painted}
 use Rattle.abstract_paint.specs.Paint.{paint_of}
 use Rattle.abstract_paint.proofs.Exact.{is_exact}
-use Rattle.session_machine.specs.Step.{offers_next, route_at}
-use Rattle.session_machine.specs.Open.{entry_of}
-use Rattle.session_machine.specs.Runs.{target, next_target}
 use Rattle.cert_table.specs.declared.row.Row.{Row}
 use Rattle.cert_table.specs.Rows.{row_among}
 use Rattle.cert_table.specs.CertView.{CertView}
@@ -34,9 +36,9 @@ use Rattle.checker.specs.declared.verdict.Cause.TheVariants as cause
 use Rattle.checker.specs.declared.verdict.Verdict.{Verdict}
 use Rattle.checker.specs.declared.verdict.Verdict.TheVariants.{Cleared}
 use Rattle.checker.specs.Refusal.{IsFair, IsPaintedAs, IsGoodHead}
-use Rattle.checker.specs.Good.{Good, IsGoodRow, LeadsDown, is_covered}
-use Rattle.checker.specs.Verdict.{◌otherwise◌, unless, route_covered, route_fault, rank_below, route_down, way_down, next_lost, rank_fault, frame_fault, paint_fault, same_place, same_pend, same_cursor, ways_fault, found_fault, frame_or_none, row_fault, rows_fault, head_fault, verdict_of, verdict}
-use Rattle.checker.proofs.Clears.{within, cleared_good}
+use Rattle.checker.specs.Good.{Good, IsGoodRow, LeadsDown, LeadsOn, WaysLeadOn, is_covered}
+use Rattle.checker.specs.Verdict.{◌otherwise◌, unless, goes_on, offered_on, way_on, lost_way, lost_fault, rank_below, offered_down, way_down, is_down, frame_fault, paint_fault, same_place, same_pend, same_cursor, ways_fault, found_fault, frame_or_none, row_fault, rows_fault, head_fault, verdict_of, verdict}
+use Rattle.checker.proofs.Clears.{cleared_good}
 
 pub none_both : (a b : Option Cause) → a ≡ None → b ≡ None → (a otherwise b) ≡ None
 none_both None b h k = k
@@ -65,78 +67,44 @@ pend_same Maybe = refl
 pub cursor_same : (x : AbsCursor) → same_cursor x x ≡ true
 cursor_same x = rw (place_same x.place, pend_same x.pend) refl
 
-position_by : {A : Type 0} (p : A → Bool) (x : A) (xs : List A) (i : ℕ) → p x ≡ false → position_from p (i + 1) xs ≡ None → position_from p i (x ∷ xs) ≡ None
-position_by p x xs i fails rest = rw fails rest
-
-no_position_from : {A : Type 0} (p : A → Bool) (xs : List A) (i : ℕ) → ((k : ℕ) (d : A) → k < length xs → p (get_or xs k d) ≡ false) → position_from p i xs ≡ None
-no_position_from p [] i all = refl
-no_position_from p (x ∷ xs) i all = position_by p x xs i (all 0 x (omega arith)) (no_position_from p xs (i + 1) (λ k d lt. all (suc k) d (omega arith)))
-
-pub no_position : {A : Type 0} (p : A → Bool) (xs : List A) → ((k : ℕ) (d : A) → k < length xs → p (get_or xs k d) ≡ false) → position p xs ≡ None
-no_position p xs all = position_from-zero p xs ∙ no_position_from p xs 0 all
-
-pub true_or : (a b : Bool) → (a ≡ true) ⊎ (b ≡ true) → (a || b) ≡ true
-true_or true b h = refl
-true_or false true h = refl
-true_or false false h = elim h [ inl e ↦ cc | inr e ↦ cc ]
-
-or_true : (a b : Bool) → b ≡ true → (a || b) ≡ true
-or_true true b h = refl
-or_true false b h = h
+pub groups_same : (a b : List ℕ) → a ≡ b → bytes_eq a b ≡ true
+groups_same a b e = grind (arith, bytes_eq-Decides a b)
 
 module _ (caller : List ℕ) (base : BaseView) (cert : CertView) where
-  covers : (f : Frame) → ((digit page : ℕ) → route_of f digit ≡ Some page → (lists_outside base page ≡ true) ⊎ (is_covered cert.rows (first_frame page) ≡ true)) → (o : Option ℕ) (digit : ℕ) → route_of f digit ≡ o → route_covered base cert.rows o ≡ true
-  covers f all None digit e = refl
-  covers f all (Some page) digit e = true_or (lists_outside base page) (is_covered cert.rows (first_frame page)) (all digit page e)
+  -- a way that leads on passes the test
+  pub goes : (way : Way) (to : Id) → LeadsOn base cert.rows way to → goes_on base cert.rows way to ≡ true
+  goes (Route digit) to (inl out) = or_left (lists_outside base to.page) (is_covered cert.rows to) out
+  goes (Route digit) to (inr row) = or_right (lists_outside base to.page) (is_covered cert.rows to) row
+  goes Next to h = h
 
-  pub no_route : (row : Row) (f : Frame) → ((digit page : ℕ) → route_of f digit ≡ Some page → (lists_outside base page ≡ true) ⊎ (is_covered cert.rows (first_frame page) ≡ true)) → route_fault row.id (position (λ r. not (route_covered base cert.rows r)) f.routes) ≡ None
-  no_route row f all =
-      let none : position (λ r. not (route_covered base cert.rows r)) f.routes ≡ None = no_position (λ r. not (route_covered base cert.rows r)) f.routes (λ k d lt.
-      ap (λ (o : Option ℕ). not (route_covered base cert.rows o)) (get_or_default f.routes k d None lt) ∙ ap not (covers f all (route_of f k) k refl)) in
-      ap (route_fault row.id) none
+  pub on_by : (f : Frame) (way : Way) (o : Option Id) → sought f way ≡ o → ((to : Id) → sought f way ≡ Some to → LeadsOn base cert.rows way to) → offered_on base cert.rows way o ≡ true
+  on_by f way None e all = refl
+  on_by f way (Some to) e all = goes way to (all to e)
 
-  pub kept_next : (a b : Bool) → (a ≡ true → b ≡ true) → not (a && not b) ≡ true
-  kept_next true true h = refl
-  kept_next true false h = let no = h refl in cc
-  kept_next false b h = refl
+  pub none_lost : (id : Id) (f : Frame) → WaysLeadOn base cert.rows f → lost_fault id (lost_way base cert.rows f) ≡ None
+  none_lost id f all =
+      ap (lost_fault id) (find_none (λ w. not (way_on base cert.rows f w)) ways (λ k d lt.
+      let way = get_or ways k d in
+      ap not (on_by f way (sought f way) refl (all way))))
 
   below : (rank : ℕ) (o : Option Row) (r : Row) → o ≡ Some r → r.rank < rank → rank_below rank o ≡ true
   below rank None r e lt = cc
   below rank (Some x) r e lt = let same : x ≡ r = cc in let is : x.rank ≡ r.rank = ap (λ (y : Row). y.rank) same in grind (arith, nat_tests)
 
-  some_page : (o : Option ℕ) (to : Id) → option_map first_frame o ≡ Some to → (page : ℕ) × (o ≡ Some page) × (first_frame page ≡ to)
-  some_page None to e = cc
-  some_page (Some page) to e = (page, refl, cc)
+  pub down_by : (rank : ℕ) (f : Frame) → LeadsDown cert.rows f rank → is_down cert.rows rank f ≡ true
+  down_by rank f d =
+      let place = offered_place f d.way d.to d.offered in
+      let here : get_or ways (way_place d.way) d.way ≡ d.way = ways_at (way_place d.way) d.way place.0 ∙ place.1 in
+      let passes : way_down cert.rows rank f d.way ≡ true = ap (offered_down cert.rows rank) d.offered ∙ below rank (row_among cert.rows d.to) d.row d.covered d.lower in
+      list_any_at (way_down cert.rows rank f) ways (way_place d.way) d.way (omega (arith, ways_length, place.0)) (ap (way_down cert.rows rank f) here ∙ passes)
 
-  next_is : (b : Bool) (id to : Id) → (if b then Some (following id) else None) ≡ Some to → (b ≡ true) × (following id ≡ to)
-  next_is true id to e = (refl, cc)
-  next_is false id to e = cc
-
-  pub down_by : (row : Row) (f : Frame) (key : Key) (to : Id) (r : Row) → frame_at base row.id ≡ Some f → target base row.id key ≡ Some to → row_among cert.rows to ≡ Some r → r.rank < row.rank → way_down cert.rows row f ≡ true
-  down_by row f (Route digit) to r is e cov lt =
-      let s = some_page (route_at base row.id digit) to e in
-      let route : route_of f digit ≡ Some s.0 = ap (option_and_then (λ frame. route_of frame digit)) (sym is) ∙ s.1 in
-      let in_list = within f.routes digit s.0 route in
-      let covered : row_among cert.rows (first_frame s.0) ≡ Some r = ap (row_among cert.rows) s.2 ∙ cov in
-      let passes : route_down cert.rows row.rank (get_or f.routes digit None) ≡ true = ap (route_down cert.rows row.rank) route ∙ below row.rank (row_among cert.rows (first_frame s.0)) r covered lt in
-      rw (list_any_at (route_down cert.rows row.rank) f.routes digit None in_list passes) refl
-  down_by row f Next to r is e cov lt =
-      let n = next_is (offers_next row.id (frame_at base row.id)) row.id to e in
-      let offered : offers_next row.id (Some f) ≡ true = ap (offers_next row.id) (sym is) ∙ n.0 in
-      let covered : row_among cert.rows (following row.id) ≡ Some r = ap (row_among cert.rows) n.1 ∙ cov in
-      or_true (list_any (route_down cert.rows row.rank) f.routes) (offers_next row.id (Some f) && rank_below row.rank (row_among cert.rows (following row.id))) (rw (offered, below row.rank (row_among cert.rows (following row.id)) r covered lt) refl)
-  down_by row f Prev to r is e cov lt = cc
-  down_by row f Reprint to r is e cov lt = cc
-  down_by row f Update to r is e cov lt = cc
-
-  rank_kept : (row : Row) (f : Frame) (b : Bool) → frame_at base row.id ≡ Some f → (row.rank == 0) ≡ b → (row.rank ≡ 0 → row.id ≡ entry_of base) → (0 < row.rank → LeadsDown base cert.rows row.id row.rank) → (if b then unless (id_eq row.id (entry_of base)) (cause.RankZero row.id) else unless (way_down cert.rows row f) (cause.NoWayDown row.id)) ≡ None
-  rank_kept row f true is e zero_is down =
+  rank_kept : (row : Row) (f : Frame) (b : Bool) → (row.rank == 0) ≡ b → (row.rank ≡ 0 → row.id ≡ entry_of base) → (0 < row.rank → LeadsDown cert.rows f row.rank) → (if b then unless (id_eq row.id (entry_of base)) (cause.RankZero row.id) else unless (is_down cert.rows row.rank f) (cause.NoWayDown row.id)) ≡ None
+  rank_kept row f true e zero_is down =
       let zero : row.rank ≡ 0 = grind (arith, nat_tests) in
       no_fault (id_eq row.id (entry_of base)) (cause.RankZero row.id) (ap (λ (i : Id). id_eq row.id i) (sym (zero_is zero)) ∙ id_eq_refl row.id)
-  rank_kept row f false is e zero_is down =
+  rank_kept row f false e zero_is down =
       let some : 0 < row.rank = grind (arith, nat_tests) in
-      let d = down some in
-      no_fault (way_down cert.rows row f) (cause.NoWayDown row.id) (down_by row f d.key d.to d.row is d.sought d.covered d.lower)
+      no_fault (is_down cert.rows row.rank f) (cause.NoWayDown row.id) (down_by row.rank f (down some))
 
   pub fair_none : (row : Row) (f : Frame) → IsFair caller cert row f → frame_fault caller cert row f ≡ None
   fair_none row f g =
@@ -154,10 +122,8 @@ module _ (caller : List ℕ) (base : BaseView) (cert : CertView) where
       let f = g.frame in
       let frame = fair_none row f (record { admitted = g.admitted; price = g.price; most = g.most }) in
       let paint = painted_none row f (record { clean = g.clean; ends = g.ends }) in
-      let ways = none_both (route_fault row.id (position (λ r. not (route_covered base cert.rows r)) f.routes)) _ (no_route row f g.routes)
-      (none_both (unless (not (next_lost cert.rows row f)) (cause.NextNotCovered row.id)) _ (no_fault _ (cause.NextNotCovered row.id) (kept_next (offers_next row.id (Some f)) (is_covered cert.rows (following row.id)) g.next))
-      (rank_kept row f (row.rank == 0) g.found refl g.zero g.down)) in
-      let whole : found_fault caller base cert row f ≡ None = none_both (frame_fault caller cert row f) _ frame (none_both (paint_fault row (paint_of f.lead f.body)) (ways_fault base cert.rows row f) paint ways) in
+      let led = none_both (lost_fault row.id (lost_way base cert.rows f)) _ (none_lost row.id f g.ways) (rank_kept row f (row.rank == 0) refl g.zero g.down) in
+      let whole : found_fault caller base cert row f ≡ None = none_both (frame_fault caller cert row f) _ frame (none_both (paint_fault row (paint_of f.lead f.body)) (ways_fault base cert.rows row f) paint led) in
       ap (frame_or_none caller base cert row) g.found ∙ whole
 
   rows_kept : (rows : List Row) → AllByRecursion (λ r. IsGoodRow caller base cert r.id r.rank r.cursor) rows → rows_fault caller base cert rows ≡ None
@@ -172,13 +138,14 @@ module _ (caller : List ℕ) (base : BaseView) (cert : CertView) where
       none_both (unless (cert.entry == base.entry) cause.EntryDiffers) _ (entry_is g.entry)
       (none_both (unless (not (nat_lt policy.ceiling cert.ceiling)) cause.CeilingAbove) _ (no_fault _ cause.CeilingAbove (not_less policy.ceiling cert.ceiling g.ceiling))
       (none_both (unless (not (nat_lt policy.keyings cert.keyings)) cause.KeyingsAbove) _ (no_fault _ cause.KeyingsAbove (not_less policy.keyings cert.keyings g.keyings))
-      (no_fault _ cause.EntryNotCovered g.covered)))
+      (none_both (unless (bytes_eq policy.groups cert.groups) cause.GroupsDiffer) _ (no_fault _ cause.GroupsDiffer (groups_same policy.groups cert.groups g.groups))
+      (no_fault _ cause.EntryNotCovered g.covered))))
 
-  pub good_cleared : (policy : Policy) → Good caller base policy cert → verdict caller base policy cert ≡ Cleared
-  good_cleared policy g =
-      let head = head_none policy (record { entry = g.entry; ceiling = g.ceiling; keyings = g.keyings; covered = g.covered }) in
-      ap verdict_of (none_both (head_fault base policy cert) (rows_fault caller base cert cert.rows) head (rows_kept cert.rows g.rows))
+pub good_cleared : (base : BaseView) (policy : Policy) (cert : CertView) → Good base policy cert → verdict base policy cert ≡ Cleared
+good_cleared base policy cert g =
+    let head = head_none cert.groups base cert policy (record { entry = g.entry; ceiling = g.ceiling; keyings = g.keyings; groups = g.groups; covered = g.covered }) in
+    ap verdict_of (none_both (head_fault base policy cert) (rows_fault cert.groups base cert cert.rows) head (rows_kept cert.groups base cert cert.rows g.rows))
 
 -- an answer that is the verdict is Cleared exactly where the certificate is good
-pub tells : (caller : List ℕ) (base : BaseView) (policy : Policy) (cert : CertView) (v : Verdict) → v ≡ verdict caller base policy cert → (v ≡ Cleared) ↔ Good caller base policy cert
-tells caller base policy cert v e = (λ h. cleared_good caller base cert policy (sym e ∙ h), λ g. e ∙ good_cleared caller base cert policy g)
+pub tells : (base : BaseView) (policy : Policy) (cert : CertView) (v : Verdict) → v ≡ verdict base policy cert → (v ≡ Cleared) ↔ Good base policy cert
+tells base policy cert v e = (λ h. cleared_good base policy cert (sym e ∙ h), λ g. e ∙ good_cleared base policy cert g)

@@ -1,44 +1,46 @@
--- What the ways of a frame come to, and the first condition of them that fails.
-use Rattle.std.proofs.Common.{◌≡◌, ℕ, ◌+◌, ◌<◌, ◌≤◌, Bool, true, false, not, ◌||◌, ◌&&◌, ◌==◌, List, length, get_or, take, Option, Some, None, refl, sym, ◌∙◌, ap, subst, arith, is_some, if◌then◌else◌, cond}
-use Rattle.std.specs.Prelude.{position}
-use Rattle.std.specs.List.{list_any, count_by}
-use Rattle.std.proofs.lemmas.List.{get_or_default, take_all}
-use Rattle.page_ids.specs.Ids.{id_eq, following}
+-- What the ways of a frame come to, one after another.
+use Rattle.std.proofs.Common.{◌≡◌, ℕ, ◌+◌, Bool, true, false, not, ◌||◌, List, [], ◌∷◌, ◌++◌, Option, Some, None, refl, sym, ◌∙◌, ap, arith, is_some, if◌then◌else◌, cond}
+use Rattle.std.specs.Prelude.{find}
+use Rattle.std.specs.Option.{option_or}
+use Rattle.std.specs.List.{list_any}
+use Rattle.std.proofs.lemmas.List.Folds.{find-append, list_any-append}
+use Rattle.std.proofs.lemmas.List.FromFn.{map-range_with_len_more, sum_by-map-range_with_len_more}
+use Rattle.page_ids.specs.declared.way.Way.{Way}
+use Rattle.page_ids.specs.Ways.{way_at}
 use Rattle.frame_records.specs.declared.frame.Frame.{Frame}
 use Rattle.frame_records.specs.BaseView.{BaseView}
-use Rattle.session_machine.specs.Step.{offers_next}
-use Rattle.session_machine.specs.Open.{entry_of}
+use Rattle.frame_records.specs.Ways.{sought}
 use Rattle.cert_table.specs.declared.row.Row.{Row}
-use Rattle.cert_table.specs.Rows.{row_among}
-use Rattle.checker.specs.declared.verdict.Cause.{Cause}
-use Rattle.checker.specs.declared.verdict.Cause.TheVariants as cause
-use Rattle.checker.specs.declared.ways.Way.{Way}
-use Rattle.checker.specs.declared.ways.Routes.{Routes}
-use Rattle.checker.specs.Verdict.{◌otherwise◌, unless, route_fault, route_covered, route_down, next_lost, rank_below, way_down, ways_fault}
-use Rattle.checker.specs.Ways.{IsWay, IsNextWay, AreRoutes, IsFirstLost, is_lost_at}
-use Rattle.checker.specs.Counts.{ways_of}
-use Rattle.checker.proofs.IsCleared.{no_position}
-use Rattle.checker.proofs.Refusals.{first_place}
+use Rattle.checker.specs.declared.ways.Target.{Target}
+use Rattle.checker.specs.declared.ways.Targets.{Targets}
+use Rattle.checker.specs.Verdict.{way_on, way_down}
+use Rattle.checker.specs.Ways.{one_if, outside_of, first_ways, IsTarget, AreTargets}
 
--- the causes by what the ways came to
-abbrev told : BaseView → Row → Option ℕ → Bool → Bool → Option Cause
-told base row lost on down = route_fault row.id lost otherwise unless on (cause.NextNotCovered row.id) otherwise (if row.rank == 0 then unless (id_eq row.id (entry_of base)) (cause.RankZero row.id) else unless down (cause.NoWayDown row.id))
+first_more : (n : ℕ) → first_ways (n + 1) ≡ first_ways n ++ way_at n ∷ []
+first_more n = map-range_with_len_more way_at 0 n n (omega arith)
 
-told_same : (base : BaseView) (row : Row) (lost other : Option ℕ) (on further down below : Bool) → lost ≡ other → on ≡ further → down ≡ below → told base row lost on down ≡ told base row other further below
-told_same base row lost other on further down below e f g = cc
+-- the first of some ways and one more
+lost_more : (lost : Option Way) (on : Bool) (way : Way) → (if is_some lost then lost else if on then None else Some way) ≡ option_or lost (cond (not on) (Some way) None)
+lost_more None true way = refl
+lost_more None false way = refl
+lost_more (Some w) on way = refl
 
-module _ (base : BaseView) (rows : List Row) where
-  lost_is : (routes : List (Option ℕ)) (lost : Option ℕ) → length routes ≡ 10 → IsFirstLost base rows routes 10 lost → lost ≡ position (λ r. not (route_covered base rows r)) routes
-  lost_is routes None ten h = sym (no_position (λ r. not (route_covered base rows r)) routes (λ k d lt. ap (λ (o : Option ℕ). not (route_covered base rows o)) (get_or_default routes k d None lt) ∙ h k (omega (arith, ten, lt))))
-  lost_is routes (Some digit) ten h = sym (first_place (λ r. not (route_covered base rows r)) routes digit None (omega (arith, ten, h.0)) h.1 h.2)
+any_more : (a b : Bool) → (a || b) ≡ (a || (b || false))
+any_more true b = refl
+any_more false true = refl
+any_more false false = refl
 
-  pub ways_told : (m : ℕ) (row : Row) (f : Frame) (routes : Routes) (next : Way) → length f.routes ≡ 10 → AreRoutes base rows m row.rank f.routes 10 routes → IsNextWay rows m row f next → told base row routes.lost next.leads_on (routes.down || next.down) ≡ ways_fault base rows row f
-  ways_told m row f routes next ten r n =
-      let whole : take 10 f.routes ≡ f.routes = take_all 10 f.routes (omega (arith, ten)) in
-      let down : (routes.down || next.down) ≡ way_down rows row f = rw (r.down, n.down, whole) refl in
-      told_same base row routes.lost (position (λ p. not (route_covered base rows p)) f.routes) next.leads_on (not (next_lost rows row f)) (routes.down || next.down) (way_down rows row f) (lost_is f.routes routes.lost ten r.lost) n.leads_on down
-
-  pub ways_counted : (m : ℕ) (row : Row) (f : Frame) (routes : Routes) (next : Way) → length f.routes ≡ 10 → AreRoutes base rows m row.rank f.routes 10 routes → IsNextWay rows m row f next → 0 < length rows → ways_of row.id f ≤ routes.asked + next.asked
-  ways_counted m row f routes next ten r n some =
-      let whole : count_by is_some (take 10 f.routes) ≡ count_by is_some f.routes = ap (count_by is_some) (take_all 10 f.routes (omega (arith, ten))) in
-      omega (arith, whole, r.least some, n.least some)
+module _ (base : BaseView) (rows : List Row) (m rank : ℕ) (f : Frame) (n : ℕ) (seen new : Targets) (target : Target) where
+  -- one way more
+  pub next_way : AreTargets base rows m rank f n seen → IsTarget base rows m rank f (way_at n) target → new.lost ≡ (if is_some seen.lost then seen.lost else if target.leads_on then None else Some (way_at n)) → new.down ≡ (seen.down || target.down) → new.asked ≡ seen.asked + target.asked → AreTargets base rows m rank f (n + 1) new
+  next_way before is lost down asked =
+      let test = λ (way : Way). not (way_on base rows f way) in
+      let outside = sum_by-map-range_with_len_more outside_of way_at 0 n n (omega arith) in
+      let offered = sum_by-map-range_with_len_more (λ (way : Way). one_if (is_some (sought f way))) way_at 0 n n (omega arith) in
+      record {
+        lost = lost ∙ lost_more seen.lost target.leads_on (way_at n) ∙ rw (before.lost, is.leads_on) (sym (find-append test (first_ways n) (way_at n ∷ []))) ∙ ap (find test) (sym (first_more n));
+        down = down ∙ any_more seen.down target.down ∙ rw (before.down, is.down) (sym (list_any-append (way_down rows rank f) (first_ways n) (way_at n ∷ []))) ∙ ap (list_any (way_down rows rank f)) (sym (first_more n));
+        most = omega (arith, asked, outside, before.most, is.most);
+        small = omega (arith, asked, before.small, is.small);
+        least = λ some. omega (arith, asked, offered, before.least some, is.least some);
+      }

@@ -1,28 +1,28 @@
 -- How much a check compares, and how much it paints.
-use Rattle.std.specs.Prelude.{◌≡◌, ◌≤◌, ◌<◌, ◌+◌, ◌*◌, ℕ, Bool, true, false, not, List, Option, Some, None, length, get_or, is_some, take, if◌then◌else◌, MatchOption}
-use Rattle.std.specs.List.{list_any, count_by, sum_by}
-use Rattle.page_ids.specs.Id.{Id}
+use Rattle.std.specs.Prelude.{◌≡◌, ◌≤◌, ◌<◌, ◌+◌, ◌*◌, ℕ, List, Option, Some, None, length, is_some, take}
+use Rattle.std.specs.List.{sum_by}
+use Rattle.page_ids.specs.Ways.{ways}
 use Rattle.frame_records.specs.declared.frame.Frame.{Frame}
 use Rattle.frame_records.specs.BaseView.{BaseView, frame_at}
-use Rattle.session_machine.specs.Step.{offers_next}
+use Rattle.frame_records.specs.Ways.{sought}
 use Rattle.cert_table.specs.declared.row.Row.{Row}
 use Rattle.checker.specs.declared.count.Count.{Count}
+use Rattle.checker.specs.Ways.{one_if}
 use Rattle.checker.specs.declared.verdict.Cause.{Cause}
 use Rattle.checker.specs.declared.verdict.Verdict.{Verdict}
 use Rattle.checker.specs.declared.verdict.Verdict.TheVariants.{Cleared}
-use Rattle.checker.specs.Verdict.{route_covered, route_down}
 
--- the ways that a frame offers: its routes, and next
-abbrev pub ways_of : Id → Frame → ℕ
-ways_of id f = count_by is_some f.routes + (if offers_next id (Some f) then 1 else 0)
+-- how many ways a frame offers: its routes, and next
+abbrev pub ways_of : Frame → ℕ
+ways_of f = sum_by (λ way. one_if (is_some (sought f way))) ways
 
-abbrev pub ways_if : Id → Option Frame → ℕ
-ways_if id None = 0
-ways_if id (Some f) = ways_of id f
+abbrev pub ways_if : Option Frame → ℕ
+ways_if None = 0
+ways_if (Some f) = ways_of f
 
 -- the ways of a row's frame
 abbrev pub ways_at : BaseView → Row → ℕ
-ways_at base row = ways_if row.id (frame_at base row.id)
+ways_at base row = ways_if (frame_at base row.id)
 
 abbrev pub bytes_if : Option Frame → ℕ
 bytes_if None = 0
@@ -40,15 +40,15 @@ row_most m = 176 + 11 * m
 -- what a row took whose frame is there, where one look-up among the rows compares at most m
 pub record IsFoundCount (m : ℕ) (rows : List Row) (row : Row) (f : Frame) (cause : Option Cause) (count : Count) : Type 0 where
   pub most : count.probes ≤ 160 + 11 * m
-  pub small : count.probes ≤ 90194313195
-  pub least : 0 < length rows → cause ≡ None → ways_of row.id f ≤ count.probes
+  pub small : count.probes ≤ 94489280490
+  pub least : 0 < length rows → cause ≡ None → ways_of f ≤ count.probes
   pub within : count.steps ≤ length f.body
   pub all : cause ≡ None → count.steps ≡ length f.body
 
 -- what a row took
 pub record IsRowCount (base : BaseView) (m : ℕ) (rows : List Row) (row : Row) (cause : Option Cause) (count : Count) : Type 0 where
   pub most : count.probes ≤ row_most m
-  pub small : count.probes ≤ 90194313211
+  pub small : count.probes ≤ 94489280506
   pub least : 0 < length rows → cause ≡ None → 1 + ways_at base row ≤ count.probes
   pub within : count.steps ≤ bytes_at base row
   pub short : count.steps ≤ 4096
@@ -57,7 +57,7 @@ pub record IsRowCount (base : BaseView) (m : ℕ) (rows : List Row) (row : Row) 
 -- what the first n rows took, none of which is at fault
 pub record AreCounted (base : BaseView) (m : ℕ) (rows : List Row) (n : ℕ) (count : Count) : Type 0 where
   pub most : count.probes ≤ row_most m * n
-  pub small : count.probes ≤ 90194313211 * n
+  pub small : count.probes ≤ 94489280506 * n
   pub least : n + sum_by (ways_at base) (take n rows) ≤ count.probes
   pub short : count.steps ≤ 4096 * n
   pub all : count.steps ≡ sum_by (bytes_at base) (take n rows)
@@ -65,7 +65,7 @@ pub record AreCounted (base : BaseView) (m : ℕ) (rows : List Row) (n : ℕ) (c
 -- what the rows took, up to the first at fault
 pub record AreAllCounted (base : BaseView) (m : ℕ) (rows : List Row) (cause : Option Cause) (count : Count) : Type 0 where
   pub most : count.probes ≤ row_most m * length rows
-  pub small : count.probes ≤ 90194313211 * 65535
+  pub small : count.probes ≤ 94489280506 * 65535
   pub short : count.steps ≤ 4096 * 65535
   pub least : cause ≡ None → length rows + sum_by (ways_at base) rows ≤ count.probes
   pub within : count.steps ≤ sum_by (bytes_at base) rows

@@ -1,18 +1,16 @@
 -- When a certificate is right about a base. The caller is the list of the groups to which the caller belongs.
-use Rattle.std.specs.Prelude.{◌≡◌, ℕ, ◌<◌, ◌≤◌, ◌⊎◌, Bool, true, List, Option, Some, is_some}
+use Rattle.std.specs.Prelude.{◌≡◌, ℕ, ◌<◌, ◌≤◌, ◌⊎◌, Bool, true, List, Some, is_some}
 use Rattle.std.specs.List.{AllByRecursion}
 use Rattle.page_ids.specs.Id.{Id}
-use Rattle.page_ids.specs.Ids.{first_frame, following}
-use Rattle.page_ids.specs.declared.key.Key.{Key}
+use Rattle.page_ids.specs.declared.way.Way.{Way}
+use Rattle.page_ids.specs.declared.way.Way.TheVariants.{Route, Next}
 use Rattle.frame_records.specs.declared.frame.Frame.{Frame}
 use Rattle.frame_records.specs.BaseView.{BaseView, frame_at, lists_outside}
-use Rattle.frame_records.specs.Seek.{is_open, route_of}
+use Rattle.frame_records.specs.Seek.{is_open, entry_of}
+use Rattle.frame_records.specs.Ways.{sought}
 use Rattle.terminal_codes.specs.Touch.{IsClean}
 use Rattle.abstract_paint.specs.declared.cursor.AbsCursor.{AbsCursor}
 use Rattle.abstract_paint.specs.Cursor.{Ends}
-use Rattle.session_machine.specs.Step.{offers_next}
-use Rattle.session_machine.specs.Open.{entry_of}
-use Rattle.session_machine.specs.Runs.{target}
 use Rattle.cert_table.specs.declared.row.Row.{Row}
 use Rattle.cert_table.specs.Rows.{row_among}
 use Rattle.cert_table.specs.CertView.{CertView}
@@ -22,18 +20,27 @@ use Rattle.checker.specs.declared.policy.Policy.{Policy}
 abbrev pub is_covered : List Row → Id → Bool
 is_covered rows id = is_some (row_among rows id)
 
--- some route or next key of the frame leads to a row of lower rank
-pub record LeadsDown (base : BaseView) (rows : List Row) (id : Id) (rank : ℕ) : Type 0 where
-  pub key : Key
+-- the frame that a way seeks has a row; a route may also lead to an outside page
+abbrev pub LeadsOn : BaseView → List Row → Way → Id → Type 0
+LeadsOn base rows (Route digit) to = (lists_outside base to.page ≡ true) ⊎ (is_covered rows to ≡ true)
+LeadsOn base rows Next to = is_covered rows to ≡ true
+
+-- each way that the frame offers leads on
+abbrev pub WaysLeadOn : BaseView → List Row → Frame → Type 0
+WaysLeadOn base rows f = (way : Way) (to : Id) → sought f way ≡ Some to → LeadsOn base rows way to
+
+-- some way of the frame leads to a row of lower rank
+pub record LeadsDown (rows : List Row) (f : Frame) (rank : ℕ) : Type 0 where
+  pub way : Way
   pub to : Id
   pub row : Row
-  pub sought : target base id key ≡ Some to
+  pub offered : sought f way ≡ Some to
   pub covered : row_among rows to ≡ Some row
   pub lower : row.rank < rank
 
 -- a row is right: its frame is there and open, costs and ranks no more than the certificate says, paints no service cell,
--- and ends where the cursor says; its routes and next lead outside or to rows; rank 0 is the entry frame's alone, and
--- from any other rank some key leads to a lower one
+-- and ends where the cursor says; its ways lead outside or to rows; rank 0 is the entry frame's alone, and from any other
+-- rank some way leads to a lower one
 pub record IsGoodRow (caller : List ℕ) (base : BaseView) (cert : CertView) (id : Id) (rank : ℕ) (cursor : AbsCursor) : Type 0 where
   pub frame : Frame
   pub found : frame_at base id ≡ Some frame
@@ -42,15 +49,16 @@ pub record IsGoodRow (caller : List ℕ) (base : BaseView) (cert : CertView) (id
   pub most : rank ≤ cert.keyings
   pub clean : IsClean frame.lead frame.body
   pub ends : Ends frame.lead frame.body cursor
-  pub routes : (digit page : ℕ) → route_of frame digit ≡ Some page → (lists_outside base page ≡ true) ⊎ (is_covered cert.rows (first_frame page) ≡ true)
-  pub next : offers_next id (Some frame) ≡ true → is_covered cert.rows (following id) ≡ true
+  pub ways : WaysLeadOn base cert.rows frame
   pub zero : rank ≡ 0 → id ≡ entry_of base
-  pub down : 0 < rank → LeadsDown base cert.rows id rank
+  pub down : 0 < rank → LeadsDown cert.rows frame rank
 
--- the certificate is the base's, is within the policy, covers the entry frame, and each of its rows is right
-pub record Good (caller : List ℕ) (base : BaseView) (policy : Policy) (cert : CertView) : Type 0 where
+-- the certificate is the base's, is within the policy, speaks for its groups, covers the entry frame, and each of its rows
+-- is right for a caller of those
+pub record Good (base : BaseView) (policy : Policy) (cert : CertView) : Type 0 where
   pub entry : cert.entry ≡ base.entry
   pub ceiling : cert.ceiling ≤ policy.ceiling
   pub keyings : cert.keyings ≤ policy.keyings
+  pub groups : policy.groups ≡ cert.groups
   pub covered : is_covered cert.rows (entry_of base) ≡ true
-  pub rows : AllByRecursion (λ r. IsGoodRow caller base cert r.id r.rank r.cursor) cert.rows
+  pub rows : AllByRecursion (λ r. IsGoodRow cert.groups base cert r.id r.rank r.cursor) cert.rows

@@ -1,5 +1,5 @@
 -- Two texts, one verdict, and what Cleared says of the texts.
-use Rattle.std.specs.Prelude.{◌≡◌, ◌≤◌, ℕ, List, [], Option, Some, Result, Ok, Err}
+use Rattle.std.specs.Prelude.{◌≡◌, ◌≤◌, ℕ, List, Some, Result, Ok, Err}
 use Rattle.frame_records.specs.BaseView.{BaseView}
 use Rattle.base_text.specs.declared.fault.BaseFault.{BaseFault}
 use Rattle.base_text.specs.declared.fault.Cause.TheVariants as base_cause
@@ -33,7 +33,7 @@ pub record IsVerdictOf (base_text cert_text : List ℕ) (policy : Policy) (v : V
   pub cert : CertView
   pub of_base : IsTextBase base_text base
   pub of_cert : IsCertificateText cert_text cert
-  pub is : v ≡ verdict [] base policy cert
+  pub is : v ≡ verdict base policy cert
 
 -- the base text comes first; a certificate's fault is told only behind a whole base; memory may be refused
 abbrev pub IsInputFault : List ℕ → List ℕ → InputFault → Type 0
@@ -58,13 +58,13 @@ IsCertInput text (Err (input.Base fault)) = ⊥
 IsCertInput text (Err (input.Cert fault)) = IsCertRefused text fault
 IsCertInput text (Err input.Memory) = Unit {0}
 
--- the headline: the texts are those of a base and of a certificate; by a caller outside every group, after every list of
--- keys from the entry page, the base is safe within the certificate's ceiling and keyings; and both are the policy's at most
+-- the headline: the texts are those of a base and of a certificate; by a caller of just the policy's groups, after every list
+-- of keys from the entry page, the base is safe within the certificate's ceiling and keyings; and both are the policy's at most
 pub record Headline (base_text cert_text : List ℕ) (policy : Policy) : Type 0 where
   pub base : BaseView
   pub cert : CertView
   pub of_base : IsTextBase base_text base
   pub of_cert : IsCertificateText cert_text cert
-  pub safe : Safe [] base cert.ceiling cert.keyings
+  pub safe : Safe policy.groups base cert.ceiling cert.keyings
   pub ceiling : cert.ceiling ≤ policy.ceiling
   pub keyings : cert.keyings ≤ policy.keyings

@@ -13,12 +13,12 @@ use Rattle.checker.specs.Verdict.{verdict}
 
 -- a good certificate makes every session safe. The premise is what every base keeps: no frame stands on an outside page
 abbrev pub GoodIsSafe : Type 0
-GoodIsSafe = (caller : List ℕ) (base : BaseView) (policy : Policy) (cert : CertView) → AreApart base → Good caller base policy cert → Safe caller base cert.ceiling cert.keyings
+GoodIsSafe = (base : BaseView) (policy : Policy) (cert : CertView) → AreApart base → Good base policy cert → Safe cert.groups base cert.ceiling cert.keyings
 
 -- after every list of keys the present frame and each remembered one have rows
 abbrev pub GoodKeepsRows : Type 0
-GoodKeepsRows = (caller : List ℕ) (base : BaseView) (policy : Policy) (cert : CertView) → AreApart base → Good caller base policy cert → (keys : List Key) → HasRows cert.rows (state_after caller base (opening base) keys)
+GoodKeepsRows = (base : BaseView) (policy : Policy) (cert : CertView) → AreApart base → Good base policy cert → (keys : List Key) → HasRows cert.rows (state_after cert.groups base (opening base) keys)
 
 -- cleared exactly where the certificate is good
 abbrev pub ClearedIsGood : Type 0
-ClearedIsGood = (caller : List ℕ) (base : BaseView) (policy : Policy) (cert : CertView) → (verdict caller base policy cert ≡ Cleared) ↔ Good caller base policy cert
+ClearedIsGood = (base : BaseView) (policy : Policy) (cert : CertView) → (verdict base policy cert ≡ Cleared) ↔ Good base policy cert

@@ -9,7 +9,8 @@ use Rattle.terminal_codes.specs.Touch.{IsClean}
 use Rattle.session_machine.specs.declared.reply.Reply.{Reply}
 use Rattle.session_machine.specs.declared.reply.Reply.TheVariants.{Shown, Again, NotOffered, Missing, Closed, Gone}
 use Rattle.session_machine.specs.State.{SessionState, At, Left}
-use Rattle.session_machine.specs.Open.{entry_of, opening}
+use Rattle.frame_records.specs.Seek.{entry_of}
+use Rattle.session_machine.specs.Open.{opening}
 use Rattle.session_machine.specs.Runs.{replies_to}
 use Rattle.session_machine.specs.Safe.{SafeSession}
 use Rattle.cert_table.specs.declared.row.Row.{Row}

@@ -1,11 +1,16 @@
 -- The first condition that fails, in order. The caller is the list of the groups to which the caller belongs.
-use Rattle.std.specs.Prelude.{ℕ, Bool, true, false, not, ◌&&◌, ◌||◌, ◌==◌, List, [], ◌∷◌, Option, Some, None, position, nat_lt, if◌then◌else◌}
+use Rattle.std.specs.Prelude.{ℕ, Bool, true, false, not, ◌&&◌, ◌||◌, ◌==◌, List, [], ◌∷◌, Option, Some, None, find, nat_lt, if◌then◌else◌}
 use Rattle.std.specs.List.{list_any}
+use Rattle.std.specs.Str.{bytes_eq}
 use Rattle.page_ids.specs.Id.{Id}
-use Rattle.page_ids.specs.Ids.{id_eq, first_frame, following}
+use Rattle.page_ids.specs.Ids.{id_eq}
+use Rattle.page_ids.specs.declared.way.Way.{Way}
+use Rattle.page_ids.specs.declared.way.Way.TheVariants.{Route, Next}
+use Rattle.page_ids.specs.Ways.{ways}
 use Rattle.frame_records.specs.declared.frame.Frame.{Frame}
 use Rattle.frame_records.specs.BaseView.{BaseView, frame_at, lists_outside}
-use Rattle.frame_records.specs.Seek.{is_open}
+use Rattle.frame_records.specs.Seek.{is_open, entry_of}
+use Rattle.frame_records.specs.Ways.{sought}
 use Rattle.abstract_paint.specs.declared.cursor.AbsCursor.{AbsCursor}
 use Rattle.abstract_paint.specs.declared.cursor.Place.{Place}
 use Rattle.abstract_paint.specs.declared.cursor.Place.TheVariants.{Any, Col, Spot}
@@ -14,8 +19,6 @@ use Rattle.abstract_paint.specs.declared.cursor.Pend.TheVariants.{No, Yes, Maybe
 use Rattle.abstract_paint.specs.declared.painting.Painted.{Painted}
 use Rattle.abstract_paint.specs.declared.painting.Painted.TheVariants.{Clean, Touches}
 use Rattle.abstract_paint.specs.Paint.{paint_of}
-use Rattle.session_machine.specs.Step.{offers_next}
-use Rattle.session_machine.specs.Open.{entry_of}
 use Rattle.cert_table.specs.declared.row.Row.{Row}
 use Rattle.cert_table.specs.Rows.{row_among}
 use Rattle.cert_table.specs.CertView.{CertView}
@@ -62,39 +65,54 @@ same_pend Maybe Maybe = true
 abbrev pub same_cursor : AbsCursor → AbsCursor → Bool
 same_cursor x y = same_place x.place y.place && same_pend x.pend y.pend
 
--- a route leads outside, or to a row
-abbrev pub route_covered : BaseView → List Row → Option ℕ → Bool
-route_covered base rows None = true
-route_covered base rows (Some page) = lists_outside base page || is_covered rows (first_frame page)
+-- the frame that a way seeks has a row; a route may also lead to an outside page
+abbrev pub goes_on : BaseView → List Row → Way → Id → Bool
+goes_on base rows (Route digit) to = lists_outside base to.page || is_covered rows to
+goes_on base rows Next to = is_covered rows to
 
--- K11, with the smallest digit
-abbrev pub route_fault : Id → Option ℕ → Option Cause
-route_fault id None = None
-route_fault id (Some digit) = Some (cause.RouteNotCovered id digit)
+abbrev pub offered_on : BaseView → List Row → Way → Option Id → Bool
+offered_on base rows way None = true
+offered_on base rows way (Some to) = goes_on base rows way to
+
+-- a way leads on, where the frame offers it
+abbrev pub way_on : BaseView → List Row → Frame → Way → Bool
+way_on base rows f way = offered_on base rows way (sought f way)
+
+-- the first way that leads nowhere: the smallest digit, or next
+abbrev pub lost_way : BaseView → List Row → Frame → Option Way
+lost_way base rows f = find (λ way. not (way_on base rows f way)) ways
+
+-- K11 of a route, K12 of next
+abbrev pub lost_cause : Id → Way → Cause
+lost_cause id (Route digit) = cause.RouteNotCovered id digit
+lost_cause id Next = cause.NextNotCovered id
+
+abbrev pub lost_fault : Id → Option Way → Option Cause
+lost_fault id None = None
+lost_fault id (Some way) = Some (lost_cause id way)
 
 abbrev pub rank_below : ℕ → Option Row → Bool
 rank_below rank None = false
 rank_below rank (Some row) = nat_lt row.rank rank
 
--- a route leads to a row of lower rank
-abbrev pub route_down : List Row → ℕ → Option ℕ → Bool
-route_down rows rank None = false
-route_down rows rank (Some page) = rank_below rank (row_among rows (first_frame page))
+abbrev pub offered_down : List Row → ℕ → Option Id → Bool
+offered_down rows rank None = false
+offered_down rows rank (Some to) = rank_below rank (row_among rows to)
 
--- some route, or next where it is offered, leads to a row of lower rank
-abbrev pub way_down : List Row → Row → Frame → Bool
-way_down rows row f = list_any (route_down rows row.rank) f.routes || (offers_next row.id (Some f) && rank_below row.rank (row_among rows (following row.id)))
+-- a way leads to a row of lower rank
+abbrev pub way_down : List Row → ℕ → Frame → Way → Bool
+way_down rows rank f way = offered_down rows rank (sought f way)
 
--- the next frame is offered, and has no row
-abbrev pub next_lost : List Row → Row → Frame → Bool
-next_lost rows row f = offers_next row.id (Some f) && not (is_covered rows (following row.id))
+-- some way does
+abbrev pub is_down : List Row → ℕ → Frame → Bool
+is_down rows rank f = list_any (way_down rows rank f) ways
 
 -- K13 and K14
 abbrev pub rank_fault : BaseView → List Row → Row → Frame → Option Cause
 rank_fault base rows row f =
     if row.rank == 0
     then unless (id_eq row.id (entry_of base)) (cause.RankZero row.id)
-    else unless (way_down rows row f) (cause.NoWayDown row.id)
+    else unless (is_down rows row.rank f) (cause.NoWayDown row.id)
 
 -- K6, K7 and K8: the frame by itself
 abbrev pub frame_fault : List ℕ → CertView → Row → Frame → Option Cause
@@ -111,8 +129,7 @@ paint_fault row (Clean cursor) = unless (same_cursor cursor row.cursor) (cause.C
 -- K11 to K14: the ways on from the frame
 abbrev pub ways_fault : BaseView → List Row → Row → Frame → Option Cause
 ways_fault base rows row f =
-    route_fault row.id (position (λ r. not (route_covered base rows r)) f.routes)
-    otherwise unless (not (next_lost rows row f)) (cause.NextNotCovered row.id)
+    lost_fault row.id (lost_way base rows f)
     otherwise rank_fault base rows row f
 
 -- K6 to K14
@@ -136,18 +153,19 @@ abbrev pub rows_fault : List ℕ → BaseView → CertView → List Row → Opti
 rows_fault caller base cert [] = None
 rows_fault caller base cert (row ∷ rows) = row_fault caller base cert row otherwise rows_fault caller base cert rows
 
--- K1 to K4
+-- K1 to K3, K15 and K4
 abbrev pub head_fault : BaseView → Policy → CertView → Option Cause
 head_fault base policy cert =
     unless (cert.entry == base.entry) cause.EntryDiffers
     otherwise unless (not (nat_lt policy.ceiling cert.ceiling)) cause.CeilingAbove
     otherwise unless (not (nat_lt policy.keyings cert.keyings)) cause.KeyingsAbove
+    otherwise unless (bytes_eq policy.groups cert.groups) cause.GroupsDiffer
     otherwise unless (is_covered cert.rows (entry_of base)) cause.EntryNotCovered
 
 abbrev pub verdict_of : Option Cause → Verdict
 verdict_of None = verdicts.Cleared
 verdict_of (Some c) = verdicts.Refused c
 
--- Cleared, or the first condition that fails
-abbrev pub verdict : List ℕ → BaseView → Policy → CertView → Verdict
-verdict caller base policy cert = verdict_of (head_fault base policy cert otherwise rows_fault caller base cert cert.rows)
+-- Cleared, or the first condition that fails; the rows are judged for a caller of the certificate's groups
+abbrev pub verdict : BaseView → Policy → CertView → Verdict
+verdict base policy cert = verdict_of (head_fault base policy cert otherwise rows_fault cert.groups base cert cert.rows)

@@ -1,48 +1,54 @@
 -- What the ways of a frame come to among the rows, for a row of some rank.
-use Rattle.std.specs.Prelude.{◌≡◌, ◌≤◌, ◌<◌, ◌+◌, ◌*◌, ◌&&◌, ℕ, Bool, true, false, not, List, Option, Some, None, length, get_or, is_some, take, if◌then◌else◌}
-use Rattle.std.specs.List.{list_any, count_by}
-use Rattle.page_ids.specs.Ids.{following}
+use Rattle.std.specs.Prelude.{◌≡◌, ◌≤◌, ◌<◌, ◌+◌, ◌*◌, ℕ, Bool, false, not, List, length, is_some, find, map, if◌then◌else◌}
+use Rattle.std.specs.List.{list_any, sum_by, range_with_len}
+use Rattle.page_ids.specs.declared.way.Way.{Way}
+use Rattle.page_ids.specs.declared.way.Way.TheVariants.{Route, Next}
+use Rattle.page_ids.specs.Ways.{way_at}
 use Rattle.frame_records.specs.declared.frame.Frame.{Frame}
-use Rattle.frame_records.specs.BaseView.{BaseView}
-use Rattle.session_machine.specs.Step.{offers_next}
+use Rattle.frame_records.specs.BaseView.{BaseView, lists_outside}
+use Rattle.frame_records.specs.Ways.{sought}
 use Rattle.cert_table.specs.declared.row.Row.{Row}
-use Rattle.cert_table.specs.Rows.{row_among}
-use Rattle.checker.specs.declared.ways.Way.{Way}
-use Rattle.checker.specs.declared.ways.Routes.{Routes}
-use Rattle.checker.specs.Verdict.{route_covered, route_down, next_lost, rank_below}
+use Rattle.checker.specs.declared.ways.Target.{Target}
+use Rattle.checker.specs.declared.ways.Targets.{Targets}
+use Rattle.checker.specs.Verdict.{way_on, way_down}
 
 abbrev pub one_if : Bool → ℕ
 one_if b = if b then 1 else 0
 
--- a route, where one look-up among the rows compares at most m
-pub record IsWay (base : BaseView) (rows : List Row) (m rank : ℕ) (route : Option ℕ) (way : Way) : Type 0 where
-  pub leads_on : way.leads_on ≡ route_covered base rows route
-  pub down : way.down ≡ route_down rows rank route
-  pub most : way.asked ≤ 16 + m
-  pub small : way.asked ≤ 8589934590
-  pub least : 0 < length rows → one_if (is_some route) ≤ way.asked
+-- the most that is compared among outside pages for a way: next is never sought there
+abbrev pub outside_of : Way → ℕ
+outside_of (Route digit) = 16
+outside_of Next = 0
 
--- next, which leads nowhere only where it is offered
-pub record IsNextWay (rows : List Row) (m : ℕ) (row : Row) (f : Frame) (way : Way) : Type 0 where
-  pub leads_on : way.leads_on ≡ not (next_lost rows row f)
-  pub down : way.down ≡ (offers_next row.id (Some f) && rank_below row.rank (row_among rows (following row.id)))
-  pub most : way.asked ≤ m
-  pub small : way.asked ≤ 4294967295
-  pub least : 0 < length rows → one_if (offers_next row.id (Some f)) ≤ way.asked
+-- whether a way leads to an outside page
+abbrev pub is_outside : BaseView → Way → ℕ → Bool
+is_outside base (Route digit) page = lists_outside base page
+is_outside base Next page = false
 
--- the route at k leads nowhere
-abbrev pub is_lost_at : BaseView → List Row → List (Option ℕ) → ℕ → Bool
-is_lost_at base rows routes k = not (route_covered base rows (get_or routes k None))
+-- a way whose frame has no row, for which so many rows were compared
+pub record IsAbsent (base : BaseView) (way : Way) (page asked : ℕ) (target : Target) : Type 0 where
+  pub leads_on : target.leads_on ≡ is_outside base way page
+  pub down : target.down ≡ false
+  pub most : target.asked ≤ asked + outside_of way
+  pub small : target.asked ≤ asked + 4294967295
+  pub least : asked ≤ target.asked
 
--- the first of n routes that leads nowhere, if any
-abbrev pub IsFirstLost : BaseView → List Row → List (Option ℕ) → ℕ → Option ℕ → Type 0
-IsFirstLost base rows routes n None = (k : ℕ) → k < n → is_lost_at base rows routes k ≡ false
-IsFirstLost base rows routes n (Some digit) = (digit < n) × (is_lost_at base rows routes digit ≡ true) × ((k : ℕ) → k < digit → is_lost_at base rows routes k ≡ false)
+-- what a way comes to, where one look-up among the rows compares at most m
+pub record IsTarget (base : BaseView) (rows : List Row) (m rank : ℕ) (f : Frame) (way : Way) (target : Target) : Type 0 where
+  pub leads_on : target.leads_on ≡ way_on base rows f way
+  pub down : target.down ≡ way_down rows rank f way
+  pub most : target.asked ≤ m + outside_of way
+  pub small : target.asked ≤ 8589934590
+  pub least : 0 < length rows → one_if (is_some (sought f way)) ≤ target.asked
 
--- the first n routes
-pub record AreRoutes (base : BaseView) (rows : List Row) (m rank : ℕ) (routes : List (Option ℕ)) (n : ℕ) (seen : Routes) : Type 0 where
-  pub lost : IsFirstLost base rows routes n seen.lost
-  pub down : seen.down ≡ list_any (route_down rows rank) (take n routes)
-  pub most : seen.asked ≤ n * (16 + m)
+-- the first n ways
+abbrev pub first_ways : ℕ → List Way
+first_ways n = map way_at (range_with_len 0 n)
+
+-- what the first n ways come to
+pub record AreTargets (base : BaseView) (rows : List Row) (m rank : ℕ) (f : Frame) (n : ℕ) (seen : Targets) : Type 0 where
+  pub lost : seen.lost ≡ find (λ way. not (way_on base rows f way)) (first_ways n)
+  pub down : seen.down ≡ list_any (way_down rows rank f) (first_ways n)
+  pub most : seen.asked ≤ n * m + sum_by outside_of (first_ways n)
   pub small : seen.asked ≤ n * 8589934590
-  pub least : 0 < length rows → count_by is_some (take n routes) ≤ seen.asked
+  pub least : 0 < length rows → sum_by (λ way. one_if (is_some (sought f way))) (first_ways n) ≤ seen.asked

@@ -52,7 +52,7 @@ pub fn cert_of(alloc: Global, text: &[u8]) -> Result<Certificate, InputFault>
     }
 }
 
-/// Checks the text of a certificate against the text of a base, for a caller outside every group.
+/// Checks the text of a certificate against the text of a base, for a caller of the policy's groups.
 ///
 /// The base is read first. `Base` and `Cert` carry the texts' own first faults.
 pub fn check_bytes(

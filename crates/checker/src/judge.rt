@@ -1,4 +1,4 @@
-ghost use Rattle.std.specs.Prelude.{◌≡◌, ◌≤◌, ◌<◌, ◌+◌, ◌*◌, ◌↔◌, [], None, ℕ, List, length};
+ghost use Rattle.std.specs.Prelude.{◌≡◌, ◌≤◌, ◌<◌, ◌+◌, ◌*◌, ◌↔◌, None, ℕ, List, length};
 ghost use Rattle.abstract_paint.specs.Paint.{paint_of};
 ghost use Rattle.checker.specs.Counts.{ways_of, IsFoundCount, IsRowCount, AreAllCounted, IsCount};
 ghost use Rattle.page_ids.specs.declared.key.Key.{Key};
@@ -13,17 +13,17 @@ use crate::cover::seek_row;
 use crate::policy::Policy;
 use crate::rank::ways_cause;
 use crate::verdict::{Cause, Verdict};
-use crate::ways::{over_next, over_routes};
+use crate::ways::over_ways;
 use abstract_paint::{AbsCursor, Painted, paint};
 use cert_table::{Certificate, Cover, Row};
 use frame_records::{Base, Frame};
 
 // K6, K7 and K8: the frame by itself.
 fn judge_frame<C: Cover + Drop>(cert: &Certificate<C>, row: &Row, frame: &Frame) -> Option<Cause>
-    ensures { result ≡ frame_fault [] cert.now row.now frame.now }
+    ensures { result ≡ frame_fault cert.now.groups cert.now row.now frame.now }
 {
     let id = row.id;
-    if frame.group.is_some() {
+    if !frame.is_open(cert.groups()) {
         return Some(Cause::ClosedFrame(id));
     }
     if frame.price > cert.ceiling() {
@@ -62,20 +62,12 @@ fn judge_ways<C: Cover + Drop>(
 ) -> (Option<Cause>, u64)
     ensures cause { result.0 ≡ ways_fault base.now cert.now.rows row.now frame.now }
     ensures most { result.1 ≤ 160 + 11 * C.most_among (length cert.now.rows) }
-    ensures small { result.1 ≤ 90194313195 }
-    ensures least { 0 < length cert.now.rows → ways_of row.now.id frame.now ≤ result.1 }
+    ensures small { result.1 ≤ 94489280490 }
+    ensures least { 0 < length cert.now.rows → ways_of frame.now ≤ result.1 }
 {
-    let routes = over_routes(base, cert, row.rank, &frame.routes);
-    let next = over_next(cert, row, frame);
-    let cause = ways_cause(
-        base,
-        row.id,
-        row.rank,
-        routes.lost,
-        next.leads_on,
-        routes.down | next.down,
-    );
-    (cause, routes.asked + next.asked)
+    let targets = over_ways(base, cert, row.rank, frame);
+    let cause = ways_cause(base, row.id, row.rank, targets.lost, targets.down);
+    (cause, targets.asked)
 }
 
 // All conditions on a row whose frame is there, and what they took.
@@ -85,7 +77,7 @@ fn judge_found<C: Cover + Drop>(
     row: &Row,
     frame: &Frame,
 ) -> (Option<Cause>, Count)
-    ensures cause { result.0 ≡ found_fault [] base.now cert.now row.now frame.now }
+    ensures cause { result.0 ≡ found_fault cert.now.groups base.now cert.now row.now frame.now }
     ensures count { IsFoundCount (C.most_among (length cert.now.rows)) cert.now.rows row.now frame.now result.0 result.1 }
 {
     if let Some(cause) = judge_frame(cert, row, frame) {
@@ -111,7 +103,7 @@ fn judge_row<C: Cover + Drop>(
     cert: &Certificate<C>,
     row: &Row,
 ) -> (Option<Cause>, Count)
-    ensures cause { result.0 ≡ row_fault [] base.now cert.now row.now }
+    ensures cause { result.0 ≡ row_fault cert.now.groups base.now cert.now row.now }
     ensures count { IsRowCount base.now (C.most_among (length cert.now.rows)) cert.now.rows row.now result.0 result.1 }
 {
     let _frames = base.frames();
@@ -140,7 +132,7 @@ fn judge_row<C: Cover + Drop>(
 // The first condition that fails of the rows in order, and what they took.
 fn judge_rows<C: Cover + Drop>(base: &Base, cert: &Certificate<C>) -> (Option<Cause>, Count)
     requires some { 0 < length cert.now.rows }
-    ensures cause { result.0 ≡ rows_fault [] base.now cert.now cert.now.rows }
+    ensures cause { result.0 ≡ rows_fault cert.now.groups base.now cert.now cert.now.rows }
     ensures count { AreAllCounted base.now (C.most_among (length cert.now.rows)) cert.now.rows result.0 result.1 }
 {
     let cover = cert.cover();
@@ -158,7 +150,7 @@ fn judge_rows<C: Cover + Drop>(base: &Base, cert: &Certificate<C>) -> (Option<Ca
     (None, total)
 }
 
-// K1 to K4, and how much was compared for the entry frame.
+// K1 to K3, K15 and K4, and how much was compared for the entry frame.
 fn judge_head<C: Cover + Drop>(
     base: &Base,
     policy: &Policy,
@@ -179,6 +171,9 @@ fn judge_head<C: Cover + Drop>(
     if cert.keyings() > policy.keyings {
         return (Some(Cause::KeyingsAbove), 0);
     }
+    if !policy.groups.are_same(cert.groups()) {
+        return (Some(Cause::GroupsDiffer), 0);
+    }
     match seek_row(cert, base.entry_frame()) {
         (Some(_), asked) => (None, asked),
         (None, asked) => (Some(Cause::EntryNotCovered), asked),
@@ -191,7 +186,7 @@ fn first_cause<C: Cover + Drop>(
     policy: &Policy,
     cert: &Certificate<C>,
 ) -> (Option<Cause>, Count)
-    ensures cause { verdict_of result.0 ≡ verdict [] base.now policy.now cert.now }
+    ensures cause { verdict_of result.0 ≡ verdict base.now policy.now cert.now }
     ensures count { IsCount base.now cert.now.rows (C.most_among (length cert.now.rows)) (verdict_of result.0) result.1 }
 {
     let (cause, asked) = judge_head(base, policy, cert);
@@ -206,7 +201,7 @@ fn first_cause<C: Cover + Drop>(
     (cause, count.with(head))
 }
 
-/// Checks a certificate against a base, for a caller outside every group, and tells what that took. Takes no memory.
+/// Checks a certificate against a base, for a caller of the policy's groups, and tells what that took. Takes no memory.
 ///
 /// Each route and next of a row is sought once among the rows, and each row's body is painted at most once. With m the
 /// cover's `most`, the look-ups compare at most (176 + 11 m) times the rows, and m and 16 more.
@@ -215,7 +210,7 @@ pub fn check_counted<C: Cover + Drop>(
     policy: &Policy,
     cert: &Certificate<C>,
 ) -> (Verdict, Count)
-    ensures verdict { result.0 ≡ verdict [] base.now policy.now cert.now }
+    ensures verdict { result.0 ≡ verdict base.now policy.now cert.now }
     ensures count { IsCount base.now cert.now.rows (C.most_among (length cert.now.rows)) result.0 result.1 }
 {
     let (cause, count) = first_cause(base, policy, cert);
@@ -226,20 +221,20 @@ pub fn check_counted<C: Cover + Drop>(
     (verdict, count)
 }
 
-/// Checks a certificate against a base, for a caller outside every group. Takes no memory.
+/// Checks a certificate against a base, for a caller of the policy's groups. Takes no memory.
 ///
 /// Whoever made the certificate isn't trusted: each of its rows is compared with the base, and no key is run.
 pub fn check<C: Cover + Drop>(base: &Base, policy: &Policy, cert: &Certificate<C>) -> Verdict
-    ensures verdict { result ≡ verdict [] base.now policy.now cert.now }
+    ensures verdict { result ≡ verdict base.now policy.now cert.now }
 
     // Cleared exactly where each condition holds, in the subject's words.
-    ensures good { (result ≡ Verdict.Cleared) ↔ Good [] base.now policy.now cert.now }
+    ensures good { (result ≡ Verdict.Cleared) ↔ Good base.now policy.now cert.now }
 
     // The headline: after every list of keys.
-    ensures safe { result ≡ Verdict.Cleared → Safe [] base.now cert.now.ceiling cert.now.keyings }
+    ensures safe { result ≡ Verdict.Cleared → Safe policy.now.groups base.now cert.now.ceiling cert.now.keyings }
 
     // At every moment the present frame and each remembered one have rows.
-    ensures covered { result ≡ Verdict.Cleared → (keys : List Key) → HasRows cert.now.rows (state_after [] base.now (opening base.now) keys) }
+    ensures covered { result ≡ Verdict.Cleared → (keys : List Key) → HasRows cert.now.rows (state_after policy.now.groups base.now (opening base.now) keys) }
 
     // What is promised is within the policy.
     ensures within { result ≡ Verdict.Cleared → (cert.now.ceiling ≤ policy.now.ceiling) × (cert.now.keyings ≤ policy.now.keyings) }

@@ -13,7 +13,8 @@ pub fn cleared_is_good()
     ensures { ClearedIsGood }
 {}
 
-/// A frame that is given as at most 22 rows paints over no service row, under either lead.
+/// A frame that is given as at most 22 rows is clean exactly where the 22nd of them, if there is one, has no double height
+/// (8D), under either lead.
 pub fn rows_are_clean()
     ensures { RowsAreClean }
 {}

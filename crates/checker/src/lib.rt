@@ -1,15 +1,15 @@
 //! The check of a certificate against a base.
 //!
 //! [`check`] reads each row of a certificate once. It runs no key and paints no cell; yet where it answers
-//! [`Verdict::Cleared`], no list of keys whatever leads a caller to a missing or closed frame, to a price above the
-//! certificate's ceiling, to a frame that paints over the service rows, or to a place from which the entry page can't be
-//! regained within the certificate's keyings. Who made the certificate doesn't matter.
+//! [`Verdict::Cleared`], no list of keys whatever leads a caller of the policy's groups to a missing or closed frame, to a
+//! price above the certificate's ceiling, to a frame that paints over the service rows, or to a place from which the entry
+//! page can't be regained within the certificate's keyings. Who made the certificate doesn't matter.
 //!
 //! - [`Policy`]: what a centre asks of its bases.
 //! - [`check_bytes`], [`InputFault`]: the same of two texts; the headline stands on this call.
 //! - [`Verdict`], [`Cause`]: the first condition that fails, in one order.
-//! - [`good_is_safe`], [`cleared_is_good`], [`refused_is_first`]: the laws, of every base, caller, policy and certificate.
-//! - [`rows_are_clean`]: a frame that is given as rows paints over no service row.
+//! - [`good_is_safe`], [`cleared_is_good`], [`refused_is_first`]: the laws, of every base, policy and certificate.
+//! - [`rows_are_clean`]: a frame that is given as rows is clean where its 22nd row has no double height, and only there.
 #![tactic(auto)]
 
 mod bytes;

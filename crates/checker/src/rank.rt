@@ -1,12 +1,12 @@
-ghost use Rattle.std.specs.Prelude.{◌≡◌, ◌<◌, ◌==◌, IfSome, if◌then◌else◌};
+ghost use Rattle.std.specs.Prelude.{◌≡◌, ◌==◌, if◌then◌else◌};
 ghost use Rattle.page_ids.specs.Ids.{id_eq};
-ghost use Rattle.session_machine.specs.Open.{entry_of};
+ghost use Rattle.frame_records.specs.Seek.{entry_of};
 ghost use Rattle.checker.specs.declared.verdict.Cause.TheVariants as cause;
-ghost use Rattle.checker.specs.Verdict.{◌otherwise◌, unless, route_fault};
+ghost use Rattle.checker.specs.Verdict.{◌otherwise◌, unless, lost_cause, lost_fault};
 
 use crate::verdict::Cause;
 use frame_records::Base;
-use page_ids::{Digit, FrameId};
+use page_ids::{FrameId, Way};
 
 // K13 and K14, by whether some way leads down.
 fn rank_cause(base: &Base, id: FrameId, rank: u16, down: bool) -> Option<Cause>
@@ -25,25 +25,28 @@ fn rank_cause(base: &Base, id: FrameId, rank: u16, down: bool) -> Option<Cause>
     }
 }
 
-// K11 to K14, by the first route that leads nowhere, whether next leads on, and whether some way leads down.
+// K11 of a route that leads nowhere, K12 of next.
+fn lost_cause(id: FrameId, way: &Way) -> Cause
+    ensures { result ≡ lost_cause id way.now }
+{
+    match way {
+        Way::Route(digit) => Cause::RouteNotCovered(id, *digit),
+        Way::Next => Cause::NextNotCovered(id),
+    }
+}
+
+// K11 to K14, by the first way that leads nowhere, and whether some way leads down.
 pub fn ways_cause(
     base: &Base,
     id: FrameId,
     rank: u16,
-    lost: Option<usize>,
-    next_on: bool,
+    lost: Option<Way>,
     down: bool,
 ) -> Option<Cause>
-    requires { IfSome lost (λ digit. digit < 10) }
-    ensures { result ≡ (route_fault id lost otherwise unless next_on (cause.NextNotCovered id) otherwise (if rank == 0 then unless (id_eq id (entry_of base.now)) (cause.RankZero id) else unless down (cause.NoWayDown id))) }
+    ensures { result ≡ (lost_fault id lost otherwise (if rank == 0 then unless (id_eq id (entry_of base.now)) (cause.RankZero id) else unless down (cause.NoWayDown id))) }
 {
-    if let Some(digit) = lost
-        && let Some(digit) = Digit::new(digit as u8)
-    {
-        return Some(Cause::RouteNotCovered(id, digit));
+    match lost {
+        Some(way) => Some(lost_cause(id, &way)),
+        None => rank_cause(base, id, rank, down),
     }
-    if !next_on {
-        return Some(Cause::NextNotCovered(id));
-    }
-    rank_cause(base, id, rank, down)
 }

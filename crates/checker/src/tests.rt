@@ -4,35 +4,26 @@ use crate::{Cause, InputFault, Policy, Verdict, check, check_bytes, check_counte
 use base_text::base_read;
 use cert_table::{Certificate, Cover, RowList};
 use cert_text::{LineCause, ReadFault, cert_read};
-use frame_records::Pence;
+use demo_texts::{CERT, DEMO};
+use frame_records::{Groups, Pence};
 use page_ids::{Digit, FrameId};
 use std::alloc::Global;
 use std::test::Fail;
 
-const DEMO: &str =
-    "entry = 123\noutside = [0]\n[[frame]]\nid = \"123a\"\nrows = [\"WELCOME\"]\nroutes = { 0 = 0, 1 = 1231 }\n[[frame]]\nid = \"1231a\"\nprice = 5\nnext = true\nrows = [\"PART ONE\"]\nroutes = { 0 = 123 }\n[[frame]]\nid = \"1231b\"\nlead = \"keep\"\nbody = \"\\u001E\\u000APART TWO\"\nroutes = { 0 = 123 }\n";
-
-const CERT: &str =
-    "PBC1\nentry 123\nceiling 5\nkeyings 1\nrows 3\n123a 0 s80\n1231a 1 s80\n1231b 1 s48\nend\n";
-
 fn policy(ceiling: u16, keyings: u16) -> Result<Policy, Fail> {
     let ceiling = Pence::new(ceiling).ok_or("ceiling")?;
-    Ok(Policy { ceiling, keyings })
+    Ok(Policy {
+        ceiling,
+        keyings,
+        groups: Groups::none(),
+    })
 }
 
-// The text with its first part that reads so replaced.
-fn changed(alloc: Global, text: &str, old: &str, new: &str) -> Result<String, Fail> {
-    let at = text.find(old).ok_or("no such part")?;
-    let mut out = String::new(alloc);
-    for (i, byte) in text.bytes().enumerate() {
-        if i == at {
-            out.push_str(new)?;
-        }
-        if i < at || i - at >= old.len() {
-            out.push(char::from(byte))?;
-        }
-    }
-    Ok(out)
+// The same for a caller of groups.
+fn policy_for(ceiling: u16, keyings: u16, groups: &str) -> Result<Policy, Fail> {
+    let mut policy = policy(ceiling, keyings)?;
+    policy.groups = Groups::read(groups)?;
+    Ok(policy)
 }
 
 fn verdict(alloc: Global, base: &str, cert: &str, policy: &Policy) -> Result<Verdict, InputFault> {
@@ -78,7 +69,7 @@ fn one_change_of_the_certificate_is_refused(rt: HostRuntime) -> Result<(), Fail>
         ),
     ];
     for (old, new, cause) in rows {
-        let cert = changed(alloc, CERT, old, new)?;
+        let cert = CERT.replacen(alloc, old, new, 1)?;
         assert_eq!(rt;
             verdict(alloc, DEMO, cert.as_str(), &policy(5, 1)?),
             Ok(Verdict::Refused(cause)),
@@ -114,11 +105,32 @@ fn one_change_of_the_base_is_refused(rt: HostRuntime) -> Result<(), Fail> {
         ),
     ];
     for (old, new, cause) in rows {
-        let base = changed(alloc, DEMO, old, new)?;
+        let base = DEMO.replacen(alloc, old, new, 1)?;
         assert_eq!(rt;
             verdict(alloc, base.as_str(), CERT, &policy(5, 1)?),
             Ok(Verdict::Refused(cause)),
             "{new}"
+        );
+    }
+    Ok(())
+}
+
+// 123a with so many empty rows and then double height, which shows in the row beneath.
+#[test]
+fn double_height_in_the_last_row_is_refused(rt: HostRuntime) -> Result<(), Fail> {
+    let alloc = rt.alloc();
+    let id = FrameId::read("123a")?;
+    for (empty, cause) in [(20, Cause::CursorDiffers(id)), (21, Cause::Touches(id, 44))] {
+        let mut rows = String::new(alloc);
+        for _ in 0..empty {
+            rows.push_str("\"\", ")?;
+        }
+        rows.push_str("\"\\u008D\"")?;
+        let base = DEMO.replacen(alloc, "\"WELCOME\"", rows.as_str(), 1)?;
+        assert_eq!(rt;
+            verdict(alloc, base.as_str(), CERT, &policy(5, 1)?),
+            Ok(Verdict::Refused(cause)),
+            "{empty}"
         );
     }
     Ok(())
@@ -144,6 +156,72 @@ fn what_is_not_covered_is_refused(rt: HostRuntime) -> Result<(), Fail> {
         verdict(alloc, DEMO, zero, &policy(5, 0)?),
         Ok(Verdict::Refused(Cause::RankZero(a)))
     );
+    Ok(())
+}
+
+// 1231b belongs to group 7.
+const GROUPED: &str = "lead = \"keep\"\ngroup = 7";
+
+#[test]
+fn a_certificate_speaks_for_its_groups_alone(rt: HostRuntime) -> Result<(), Fail> {
+    let alloc = rt.alloc();
+    let base = DEMO.replacen(alloc, "lead = \"keep\"", GROUPED, 1)?;
+    let cert = CERT.replacen(alloc, "PBC1", "PBC2", 1)?;
+    let cert = cert.replacen(alloc, "rows 3", "groups 7\nrows 3", 1)?;
+    let refused = |cause| Ok(Verdict::Refused(cause));
+    assert_eq!(rt;
+        verdict(alloc, base.as_str(), cert.as_str(), &policy_for(5, 1, "7")?),
+        Ok(Verdict::Cleared)
+    );
+    for groups in ["8", "7,8"] {
+        assert_eq!(rt;
+            verdict(
+                alloc,
+                base.as_str(),
+                cert.as_str(),
+                &policy_for(5, 1, groups)?
+            ),
+            refused(Cause::GroupsDiffer),
+            "{groups}"
+        );
+    }
+    assert_eq!(rt;
+        verdict(alloc, base.as_str(), cert.as_str(), &policy(5, 1)?),
+        refused(Cause::GroupsDiffer)
+    );
+    assert_eq!(rt;
+        verdict(alloc, DEMO, CERT, &policy_for(5, 1, "7")?),
+        refused(Cause::GroupsDiffer)
+    );
+    let other = cert.replacen(alloc, "groups 7", "groups 8", 1)?;
+    assert_eq!(rt;
+        verdict(
+            alloc,
+            base.as_str(),
+            other.as_str(),
+            &policy_for(5, 1, "8")?
+        ),
+        refused(Cause::ClosedFrame(FrameId::read("1231b")?))
+    );
+    Ok(())
+}
+
+// K3, then K15, then K4.
+#[test]
+fn groups_are_compared_before_the_entry_frame(rt: HostRuntime) -> Result<(), Fail> {
+    let alloc = rt.alloc();
+    let empty = "PBC2\nentry 123\nceiling 0\nkeyings 1\ngroups 7\nrows 0\nend\n";
+    let rows = [
+        (policy(0, 0)?, Cause::KeyingsAbove),
+        (policy(0, 1)?, Cause::GroupsDiffer),
+        (policy_for(0, 1, "7")?, Cause::EntryNotCovered),
+    ];
+    for (policy, cause) in &rows {
+        assert_eq!(rt;
+            verdict(alloc, DEMO, empty, policy),
+            Ok(Verdict::Refused(*cause))
+        );
+    }
     Ok(())
 }
 
@@ -180,9 +258,15 @@ fn as_list(alloc: Global, cert: &Certificate) -> Result<Certificate<RowList>, Fa
         rows.push(*cover.row_at(i))?;
     }
     Ok(
-        Certificate::<RowList>::build(cert.entry(), cert.ceiling(), cert.keyings(), rows)
-            .ok()
-            .ok_or("rows")?,
+        Certificate::<RowList>::build(
+            cert.entry(),
+            cert.ceiling(),
+            cert.keyings(),
+            cert.groups().copy(),
+            rows,
+        )
+        .ok()
+        .ok_or("rows")?,
     )
 }
 
@@ -242,10 +326,10 @@ fn a_list_of_rows_is_judged_as_a_table(rt: HostRuntime) -> Result<(), Fail> {
     ];
     let policy = policy(5, 1)?;
     for (old_base, new_base) in bases {
-        let text = changed(rt.alloc(), DEMO, old_base, new_base)?;
+        let text = DEMO.replacen(rt.alloc(), old_base, new_base, 1)?;
         let base = base_read(rt.alloc(), text.as_bytes())?;
         for (old, new) in certs {
-            let text = changed(rt.alloc(), CERT, old, new)?;
+            let text = CERT.replacen(rt.alloc(), old, new, 1)?;
             let cert = cert_read(rt.alloc(), text.as_bytes())?;
             let list = as_list(rt.alloc(), &cert)?;
             let wanted = check(&base, &policy, &cert);

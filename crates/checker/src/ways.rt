@@ -1,127 +1,114 @@
 //! The ways on from a frame: each is sought once among the rows, and the row that was found serves the way down too.
 
-ghost use Rattle.std.specs.Prelude.{◌≡◌, ◌≤◌, ◌+◌, ◌||◌, Some, None, length, is_some, position, not, if◌then◌else◌};
-ghost use Rattle.checker.specs.Verdict.{route_covered};
-ghost use Rattle.checker.specs.Ways.{IsWay, IsNextWay, AreRoutes};
+ghost use Rattle.std.specs.Prelude.{◌≡◌, ◌≤◌, ◌+◌, ◌||◌, Some, None, length, is_some, if◌then◌else◌};
+ghost use Rattle.page_ids.specs.Ways.{way_at};
+ghost use Rattle.frame_records.specs.Ways.{sought};
+ghost use Rattle.checker.specs.Verdict.{way_on, way_down};
+ghost use Rattle.checker.specs.Ways.{IsAbsent, IsTarget, AreTargets};
 
 use crate::cover::seek_row;
-use cert_table::{Certificate, Cover, Row};
+use cert_table::{Certificate, Cover};
 use frame_records::{Base, Frame};
-use page_ids::{FrameId, PageNo};
+use page_ids::{PageNo, Way};
 
 // What a way comes to: whether it leads outside or to a row, whether to a row of lower rank, and how much was compared.
 #[derive(Clone, Copy)]
-pub struct Way {
+pub struct Target {
     pub leads_on: bool,
     pub down: bool,
     pub asked: u64,
 }
 
-// What the routes of a frame come to: the first that leads nowhere, whether one leads down, and how much was compared.
+// What the ways of a frame come to: the first that leads nowhere, whether one leads down, and how much was compared.
 #[derive(Clone, Copy)]
-pub struct Routes {
-    pub lost: Option<usize>,
+pub struct Targets {
+    pub lost: Option<Way>,
     pub down: bool,
     pub asked: u64,
 }
 
-// A route to a page, for a row of this rank.
-fn over_page<C: Cover + Drop>(base: &Base, cert: &Certificate<C>, rank: u16, page: PageNo) -> Way
-    ensures { IsWay base.now cert.now.rows (C.most_among (length cert.now.rows)) rank (Some page) result }
+// A way whose frame has no row: a route may lead to an outside page.
+fn over_absent(base: &Base, way: &Way, page: PageNo, asked: u32) -> Target
+    ensures { IsAbsent base.now way.now page asked result }
 {
-    let (row, asked) = seek_row(cert, FrameId::first(page));
-    match row {
-        Some(row) => Way {
-            leads_on: true,
-            down: row.rank < rank,
-            asked: u64::from(asked),
-        },
-        None => {
+    match way {
+        Way::Route(_) => {
             let (leads_on, more) = base.is_outside_counted(page);
-            Way {
+            Target {
                 leads_on,
                 down: false,
                 asked: u64::from(asked) + u64::from(more),
             }
         }
+        Way::Next => Target {
+            leads_on: false,
+            down: false,
+            asked: u64::from(asked),
+        },
     }
 }
 
-// A route, if there is one.
-fn over_route<C: Cover + Drop>(
+// A way of a frame, for a row of this rank.
+fn over_way<C: Cover + Drop>(
     base: &Base,
     cert: &Certificate<C>,
     rank: u16,
-    route: Option<PageNo>,
-) -> Way
-    ensures { IsWay base.now cert.now.rows (C.most_among (length cert.now.rows)) rank route result }
+    frame: &Frame,
+    way: &Way,
+) -> Target
+    ensures { IsTarget base.now cert.now.rows (C.most_among (length cert.now.rows)) rank frame.now way.now result }
 {
-    match route {
-        None => Way {
+    let Some(to) = frame.sought(*way) else {
+        return Target {
             leads_on: true,
             down: false,
             asked: 0,
-        },
-        Some(page) => over_page(base, cert, rank, page),
-    }
-}
-
-// Next, where it is offered.
-pub fn over_next<C: Cover + Drop>(cert: &Certificate<C>, row: &Row, frame: &Frame) -> Way
-    ensures { IsNextWay cert.now.rows (C.most_among (length cert.now.rows)) row.now frame.now result }
-{
-    let id = row.id;
-    match id.following() {
-        Some(next) if frame.next => {
-            let (row_on, asked) = seek_row(cert, next);
-            Way {
-                leads_on: row_on.is_some(),
-                down: row_on.is_some_and(|on| on.rank < row.rank),
-                asked: u64::from(asked),
-            }
-        }
-        _ => Way {
+        };
+    };
+    let (row, asked) = seek_row(cert, to);
+    match row {
+        Some(row) => Target {
             leads_on: true,
-            down: false,
-            asked: 0,
+            down: row.rank < rank,
+            asked: u64::from(asked),
         },
+        None => over_absent(base, way, to.page, asked),
     }
 }
 
-// The routes so far, and one more.
-fn with_way(seen: Routes, digit: usize, way: Way) -> Routes
-    ensures lost { result.lost ≡ (if is_some seen.lost then seen.lost else if way.leads_on then None else Some digit) }
-    ensures down { result.down ≡ (seen.down || way.down) }
-    ensures asked { seen.asked + way.asked ≤ 18446744073709551615 → result.asked ≡ seen.asked + way.asked }
+// The ways so far, and the one at the next place.
+fn with_target(seen: Targets, place: u8, target: Target) -> Targets
+    ensures lost { result.lost ≡ (if is_some seen.lost then seen.lost else if target.leads_on then None else Some (way_at place)) }
+    ensures down { result.down ≡ (seen.down || target.down) }
+    ensures asked { seen.asked + target.asked ≤ 18446744073709551615 → result.asked ≡ seen.asked + target.asked }
 {
-    Routes {
+    Targets {
         lost: match seen.lost {
-            None if !way.leads_on => Some(digit),
+            None if !target.leads_on => Some(Way::at(place)),
             lost => lost,
         },
-        down: seen.down || way.down,
-        asked: seen.asked.saturating_add(way.asked),
+        down: seen.down || target.down,
+        asked: seen.asked.saturating_add(target.asked),
     }
 }
 
-// The ten routes of a frame, for a row of this rank.
-pub fn over_routes<C: Cover + Drop>(
+// All ways of a frame, for a row of this rank.
+pub fn over_ways<C: Cover + Drop>(
     base: &Base,
     cert: &Certificate<C>,
     rank: u16,
-    routes: &[Option<PageNo>; 10],
-) -> Routes
-    ensures routes { AreRoutes base.now cert.now.rows (C.most_among (length cert.now.rows)) rank routes.now 10 result }
-    ensures ten { length routes.now ≡ 10 }
+    frame: &Frame,
+) -> Targets
+    ensures { AreTargets base.now cert.now.rows (C.most_among (length cert.now.rows)) rank frame.now 11 result }
 {
-    let mut seen = Routes {
+    let mut seen = Targets {
         lost: None,
         down: false,
         asked: 0,
     };
-    for digit in 0..10usize {
-        let way = over_route(base, cert, rank, routes[digit]);
-        seen = with_way(seen, digit, way);
+    for place in 0..Way::COUNT {
+        let target = over_way(base, cert, rank, frame, &Way::at(place));
+        seen = with_target(seen, place, target);
     }
     seen
 }

@@ -17,11 +17,12 @@ pub enum SourceFault {
 }
 
 // How many bytes are asked for at once.
-const PIECE: usize = 4_096;
+const PIECE: usize = 65_536;
 
-// Reads once, at most `most` bytes, and appends them; their number, 0 at the end.
+// Reads once, at most `most` bytes, and appends them; their number, 0 at the end. What the piece holds is overwritten.
 fn read_piece<S: Source>(
     source: &mut S,
+    piece: &mut [u8; PIECE],
     bytes: &mut Vec<u8>,
     most: usize,
 ) -> Result<usize, SourceFault>
@@ -31,7 +32,6 @@ fn read_piece<S: Source>(
     ensures fault { IfErr result (λ fault. IsSourceFault fault (S.has_failed source.new)) }
     ensures unbroken { OnOk result (S.has_failed source.new ≡ false) }
 {
-    let mut piece = [0; PIECE];
     let room = most.min(PIECE);
     let count = source
         .read(&mut piece[..room])
@@ -44,7 +44,7 @@ fn read_piece<S: Source>(
 
 /// What a source has left, up to a limit: fewer bytes than the limit are all, and then the source answered its end.
 ///
-/// Reads in pieces of at most 4,096 bytes and never asks for more than the limit; short reads are followed by further ones.
+/// Reads in pieces of at most 65,536 bytes and never asks for more than the limit; short reads are followed by further ones.
 /// After `Memory` the bytes that were read are lost.
 pub fn read_whole<S: Source>(
     alloc: Global,
@@ -58,9 +58,10 @@ pub fn read_whole<S: Source>(
     ensures fault { IfErr result (λ fault. IsSourceFault fault (S.has_failed source.new)) }
 {
     let mut bytes = Vec::new(alloc);
+    let mut piece = [0; PIECE];
     while bytes.len() < limit {
         let most = limit - bytes.len();
-        let count = read_piece(source, &mut bytes, most)?;
+        let count = read_piece(source, &mut piece, &mut bytes, most)?;
         if count == 0 {
             break;
         }

@@ -1,88 +1,105 @@
 -- What the outcome of an audit comes to.
-use Rattle.std.proofs.Common.{◌≡◌, ℕ, List, [], length, None, ◌∷◌, Bool, true, eqb, refl, sym, ◌∙◌, ap, subst, arith}
-use Rattle.std.specs.Prelude.{Result, Ok, Err, IfOk, Contains}
+use Rattle.std.proofs.Common.{◌≡◌, ◌≢◌, ◌≤◌, ℕ, List, [], length, Some, Bool, true, false, eqb, refl, sym, ◌∙◌, ap, subst, arith}
+use Rattle.std.specs.Prelude.{Result, Ok, Err, IfOk, slice_get}
 use Rattle.std.proofs.lemmas.Bool.Decides.{nat_tests}
-use Rattle.frame_records.specs.declared.base.Sought.TheVariants.{Found}
+use Rattle.std.proofs.lemmas.List.{take_all, nil_from_length}
 use Rattle.frame_records.specs.BaseView.{BaseView, IsBase}
-use Rattle.session_machine.specs.Open.{seek_entry}
 use Rattle.cert_table.specs.declared.row.Row.{Row}
 use Rattle.cert_table.specs.CertView.{CertView}
-use Rattle.cert_table.specs.Table.{table_fault}
 use Rattle.checker.specs.declared.policy.Policy.{Policy}
-use Rattle.finder.specs.Found.{found_of}
+use Rattle.finder.specs.declared.found.Discovered.{Discovered}
+use Rattle.finder.specs.Finds.{IsFinding}
+use Rattle.finder.specs.Walks.{EntryIsFound}
 use Rattle.fault_scripts.specs.declared.frames.Judge.{Judge}
 use Rattle.fault_scripts.specs.declared.outcome.Outcome.{Outcome}
 use Rattle.fault_scripts.specs.declared.outcome.Outcome.TheVariants.{Certified, Faulty}
-use Rattle.fault_scripts.specs.declared.fault.Fault.{Fault}
-use Rattle.fault_scripts.specs.FaultsOf.{faults_of, faults_by}
-use Rattle.fault_scripts.specs.FaultLaws.{HasDigitRoutes}
-use Rattle.fault_scripts.specs.Judged.{IsJudged}
+use Rattle.fault_scripts.specs.Faults.{AreDue, AreFaultsAlong}
+use Rattle.fault_scripts.specs.Gathered.{IsGathered}
+use Rattle.fault_scripts.specs.Judged.{IsWhole}
 use Rattle.fault_scripts.specs.Outcomes.{IsCertificateOf, IsOutcome, DecidesSafety, AreShown}
 use Rattle.fault_scripts.specs.SortedTable.{IsTableInOrder, IsSortedTable, AreSortedRows}
-use Rattle.fault_scripts.specs.Table.{Parts, parts_along}
-use Rattle.fault_scripts.specs.TableView.{parts_of}
-use Rattle.fault_scripts.proofs.Due.{just}
-use Rattle.fault_scripts.proofs.Ordered.{in_order}
+use Rattle.fault_scripts.proofs.Certified.{no_table_fault, is_certificate}
+use Rattle.fault_scripts.proofs.FaultsDue.{from_along}
+use Rattle.fault_scripts.proofs.GoodRows.{certificate}
+use Rattle.fault_scripts.proofs.Limits.{frames_few}
+use Rattle.fault_scripts.proofs.NoneSafe.{none_due, none_safe}
 use Rattle.fault_scripts.proofs.Shown.{faults_shown}
-use Rattle.fault_scripts.proofs.Discoveries.{frames_few}
-use Rattle.fault_scripts.proofs.Certified.{certified}
-use Rattle.fault_scripts.proofs.NoneSafe.{none_safe}
+use Rattle.fault_scripts.proofs.Sound.{IsSound, sound}
+use Rattle.fault_scripts.proofs.Told.{all_told}
 
-abbrev certificate : ℕ → ℕ → ℕ → List Row → CertView
-certificate entry ceiling keyings rows = record { entry = entry; ceiling = ceiling; keyings = keyings; rows = rows }
-
-same_parts : (entry ceiling keyings : ℕ) (cert : CertView) → cert.entry ≡ entry → cert.ceiling ≡ ceiling → cert.keyings ≡ keyings → cert ≡ certificate entry ceiling keyings cert.rows
-same_parts entry ceiling keyings cert a b c =
-    ap (λ (e : ℕ). certificate e cert.ceiling cert.keyings cert.rows) a
-    ∙ ap (λ (p : ℕ). certificate entry p cert.keyings cert.rows) b
-    ∙ ap (λ (k : ℕ). certificate entry ceiling k cert.rows) c
-
-same_number : (a b : ℕ) → eqb a b ≡ true → a ≡ b
-same_number a b e = grind (arith, nat_tests)
-
-no_length : {X : Type 0} (xs : List X) → length xs ≡ 0 → xs ≡ []
-no_length [] e = refl
-no_length (x ∷ xs) e = absurd (omega (arith, e))
-
--- a list that is tested to be empty
+-- a list that is tested to be empty, or not to be
 pub none_told : {X : Type 0} (xs ys : List X) (b : Bool) → ys ≡ xs → b ≡ eqb (length ys) 0 → b ≡ true → xs ≡ []
-none_told xs ys b same test yes_it_is = sym same ∙ no_length ys (same_number (length ys) 0 (sym test ∙ yes_it_is))
+none_told xs ys b same test passes =
+    let is : eqb (length ys) 0 ≡ true = sym test ∙ passes in
+    sym same ∙ nil_from_length ys (grind (arith, nat_tests))
 
-module _ (base : BaseView) (policy : Policy) (price : ℕ) (found : seek_entry [] base ≡ Found price) (valid : IsBase base) (digits : HasDigitRoutes base) (j : Judge) (judged : IsJudged base policy (found_of [] base) (length (found_of [] base)) j) where
+pub some_told : {X : Type 0} (xs ys : List X) (b : Bool) → ys ≡ xs → b ≡ eqb (length ys) 0 → b ≡ false → xs ≢ []
+some_told xs ys b same test fails none =
+    let is : eqb (length ys) 0 ≡ false = sym test ∙ fails in
+    let nothing : length ys ≡ 0 = ap length (same ∙ none) in
+    absurd (grind (arith, nat_tests))
+
+module _ (base : BaseView) (policy : Policy) (j : Judge) (whole : IsWhole base policy j) where
   -- what was told is all
-  pub all_told : faults_of [] base policy ≡ j.teller.faults.items
-  all_told = ap (faults_by [] base policy) found ∙ sym judged.faults
+  pub told_along : AreFaultsAlong base policy j.teller.faults.items
+  told_along = record {
+    found = whole.found;
+    finding = whole.judged.telling.finding;
+    due = all_told base policy whole.found whole.judged.telling.finding j.teller.faults.items whole.judged.telling.told;
+  }
 
-  abbrev p : Parts
-  p = parts_along base (found_of [] base)
+  module _ (entry : EntryIsFound policy.groups base) (none : j.teller.faults.items ≡ []) where
+    abbrev found : List Discovered
+    found = whole.found
 
-  module _ (none : j.teller.faults.items ≡ []) where
-    right : (rows : List Row) → AreSortedRows p.rows rows → (table_fault rows ≡ None) × IsCertificateOf [] base policy (certificate base.entry p.ceiling p.keyings rows)
-    right rows s = certified [] base policy price found valid.apart digits (frames_few base valid) (all_told ∙ none) rows s.same s.in_order
+    abbrev finding : IsFinding policy.groups base found
+    finding = whole.judged.telling.finding
 
-    pub in_order_table : IsTableInOrder (parts_of j.table).rows
-    in_order_table sorted s = (right sorted (subst (λ (q : Parts). AreSortedRows q.rows sorted) judged.parts s)).0
+    abbrev none_along : AreFaultsAlong base policy []
+    none_along = record {
+      found = found;
+      finding = finding;
+      due = subst (AreDue base policy found) none (all_told base policy found finding j.teller.faults.items whole.judged.telling.told);
+    }
 
-    pub certified_by : (cert : CertView) → IsSortedTable base (parts_of j.table) cert → IsOutcome [] base policy (Certified cert)
+    sounds : (i : ℕ) (d : Discovered) → slice_get found i ≡ Some d → IsSound base policy d
+    sounds = sound base policy found finding (none_due base policy none_along)
+
+    gathered : IsGathered base found j.table
+    gathered = subst (λ (f : List Discovered). IsGathered base f j.table) (take_all (length found) found (omega arith)) whole.judged.gathered
+
+    small : length found ≤ 65535
+    small = omega (arith, finding.few, frames_few base whole.valid)
+
+    pub in_order_table : IsTableInOrder j.table.rows.items
+    in_order_table rows s =
+        no_table_fault base policy found finding entry small sounds j.table.ceiling j.table.keyings gathered.ceiling gathered.keyings rows (subst (λ (l : List Row). AreSortedRows l rows) gathered.rows s)
+
+    pub certified_by : (cert : CertView) → IsSortedTable base policy.groups j.table cert
+        → IsOutcome base policy (Certified cert)
     certified_by cert t =
-        let ceiling : cert.ceiling ≡ p.ceiling = t.ceiling ∙ ap (λ (q : Parts). q.ceiling) judged.parts in
-        let keyings : cert.keyings ≡ p.keyings = t.keyings ∙ ap (λ (q : Parts). q.keyings) judged.parts in
-        let rows = subst (λ (q : Parts). AreSortedRows q.rows cert.rows) judged.parts t.rows in
-        (all_told ∙ none, subst (IsCertificateOf [] base policy) (sym (same_parts base.entry p.ceiling p.keyings cert t.entry ceiling keyings)) (right cert.rows rows).1)
+        let is = is_certificate base policy found finding entry small sounds j.table.ceiling j.table.keyings gathered.ceiling gathered.keyings cert.rows (subst (λ (l : List Row). AreSortedRows l cert.rows) gathered.rows t.rows) in
+        let same : cert ≡ certificate base j.table.ceiling j.table.keyings policy.groups cert.rows =
+        ap (λ (e : ℕ). record { entry = e; ceiling = cert.ceiling; keyings = cert.keyings; groups = cert.groups; rows = cert.rows }) t.entry
+        ∙ ap (λ (p : ℕ). certificate base p cert.keyings cert.groups cert.rows) t.ceiling
+        ∙ ap (λ (k : ℕ). certificate base j.table.ceiling k cert.groups cert.rows) t.keyings
+        ∙ ap (λ (g : List ℕ). certificate base j.table.ceiling j.table.keyings g cert.rows) t.groups in
+        (from_along base policy entry.0 [] entry.1 none_along, subst (IsCertificateOf base policy) (sym same) is)
 
-module _ (base : BaseView) (policy : Policy) (valid : IsBase base) (digits : HasDigitRoutes base) where
-  decided : (o : Outcome) → IsOutcome [] base policy o → DecidesSafety [] base policy o
-  decided (Certified cert) is = (none_safe [] base policy valid.apart digits).0 is.0
-  decided (Faulty faults) is = λ safe. is.1 (is.0 ∙ (none_safe [] base policy valid.apart digits).1 safe)
+module _ (base : BaseView) (policy : Policy) (valid : IsBase base) where
+  decided : (o : Outcome) → IsOutcome base policy o → DecidesSafety base policy o
+  decided (Certified cert) is = (none_safe base policy [] valid.apart is.0).0 refl
+  decided (Faulty faults) is = λ safe. is.1 ((none_safe base policy faults valid.apart is.0).1 safe)
 
-  shown : (o : Outcome) → IsOutcome [] base policy o → AreShown [] base policy o
+  shown : (o : Outcome) → IsOutcome base policy o → AreShown base policy o
   shown (Certified cert) is = tt
-  shown (Faulty faults) is = λ fault told. faults_shown (record { just = just; in_order = in_order }) [] base policy fault valid.apart (subst (λ (f : List Fault). Contains f fault) is.0 told)
+  shown (Faulty faults) is = λ fault told. faults_shown base policy faults fault is.0 told
 
-  pub if_decided : {E : Type 0} (r : Result Outcome E) → IfOk r (IsOutcome [] base policy) → IfOk r (DecidesSafety [] base policy)
+  pub if_decided : {E : Type 0} (r : Result Outcome E) → IfOk r (IsOutcome base policy)
+      → IfOk r (DecidesSafety base policy)
   if_decided (Ok o) is = decided o is
   if_decided (Err e) is = is
 
-  pub if_shown : {E : Type 0} (r : Result Outcome E) → IfOk r (IsOutcome [] base policy) → IfOk r (AreShown [] base policy)
+  pub if_shown : {E : Type 0} (r : Result Outcome E) → IfOk r (IsOutcome base policy) → IfOk r (AreShown base policy)
   if_shown (Ok o) is = shown o is
   if_shown (Err e) is = is

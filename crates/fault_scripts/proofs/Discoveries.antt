@@ -1,41 +1,101 @@
--- The list of discovered frames of a base whose entry frame is found.
-use Rattle.std.proofs.Common.{◌≡◌, ◌≤◌, ℕ, nat_lt, Bool, true, false, List, [], ◌∷◌, ◌++◌, length, Option, Some, None, slice_get, refl, subst, ◌||◌, arith}
-use Rattle.std.proofs.lemmas.Bool.Decides.{nat_tests}
-use Rattle.page_ids.specs.declared.key.Key.{Key}
-use Rattle.frame_records.specs.declared.base.Sought.TheVariants.{Found}
-use Rattle.frame_records.specs.BaseView.{BaseView, IsBase}
-use Rattle.session_machine.specs.Open.{seek_entry}
+-- What each discovered frame is: reached, found, with its record, its price and its rank; and each reached frame is listed, once.
+use Rattle.std.proofs.Common.{◌≡◌, ◌<◌, ℕ, zero, suc, inl, inr, List, Bool, true, false, cond, Option, Some, None, slice_get, refl, sym, ◌∙◌, ap, subst, arith}
+use Rattle.std.proofs.lemmas.Bool.{cases_lt}
+use Rattle.std.proofs.lemmas.Option.{slice_get_within, get_or_from_slice_get}
+use Rattle.page_ids.specs.Id.{Id}
+use Rattle.page_ids.specs.declared.way.Way.{Way}
+use Rattle.frame_records.specs.declared.frame.Frame.{Frame}
+use Rattle.frame_records.specs.declared.base.Sought.TheVariants.{Found, Closed}
+use Rattle.frame_records.specs.declared.ways.Destination.TheVariants as way
+use Rattle.frame_records.specs.BaseView.{BaseView, frame_at}
+use Rattle.frame_records.specs.Seek.{is_open, sought_of, seek, entry_of}
+use Rattle.frame_records.specs.Ways.{Leads}
+use Rattle.frame_records.specs.WayLaws.{going, found_sought}
 use Rattle.finder.specs.declared.found.Discovered.{Discovered}
-use Rattle.finder.specs.Found.{found_of, script, parent_of, parent_by}
-use Rattle.finder.proofs.Listing.{discovery}
-use Rattle.finder.proofs.ScriptLaw.{scripts_lead}
-use Rattle.finder.proofs.FoundList as found_list
-use Rattle.fault_scripts.specs.Telling.{ScriptsExtend}
+use Rattle.finder.specs.Walks.{Walk, IsRank, IsReached}
+use Rattle.finder.specs.Finds.{IsFinding}
+use Rattle.fault_scripts.proofs.Lists.{of_all, place_of, contains_at}
 
-module _ (caller : List ℕ) (base : BaseView) (price : ℕ) (found : seek_entry caller base ≡ Found price) where
-  -- the parent of an entry, by its two halves
-  by_halves : (i : ℕ) (d : Discovered) (p : ℕ × Key) (parent : Option ℕ) (key : Option Key) → slice_get (found_of caller base) i ≡ Some d → d.parent ≡ parent → d.key ≡ key → parent_by parent key ≡ Some p → script (found_of caller base) i ≡ script (found_of caller base) p.0 ++ p.1 ∷ []
-  by_halves i d p None key at a b e = absurd cc
-  by_halves i d p (Some parent) None at a b e = absurd cc
-  by_halves i d p (Some parent) (Some key) at a b e =
-      let both : (parent, key) ≡ p = cc in
-      subst (λ (q : ℕ × Key). script (found_of caller base) i ≡ script (found_of caller base) q.0 ++ q.1 ∷ []) both (scripts_lead.extends caller base price i parent d key found at a b).1
+-- the record of an id that is found
+pub record HasRecord (caller : List ℕ) (base : BaseView) (id : Id) (price : ℕ) : Type 0 where
+  pub frame : Frame
+  pub of_frame : frame_at base id ≡ Some frame
+  pub priced : frame.price ≡ price
+  pub opened : is_open caller frame ≡ true
 
-  by_entry : (i : ℕ) (p : ℕ × Key) (d : Option Discovered) → slice_get (found_of caller base) i ≡ d → parent_of d ≡ Some p → script (found_of caller base) i ≡ script (found_of caller base) p.0 ++ p.1 ∷ []
-  by_entry i p None at e = absurd cc
-  by_entry i p (Some d) at e = by_halves i d p d.parent d.key at refl refl e
+pub found_record : (caller : List ℕ) (base : BaseView) (id : Id) (price : ℕ) → seek caller base id ≡ Found price
+    → HasRecord caller base id price
+found_record caller base id price e = by (frame_at base id) refl e where
+  opened : (frame : Frame) → frame_at base id ≡ Some frame → (b : Bool) → is_open caller frame ≡ b
+      → cond b (Found frame.price) Closed ≡ Found price → HasRecord caller base id price
+  opened frame at true o f = record { frame = frame; of_frame = at; priced = cc; opened = o }
+  opened frame at false o f = absurd cc
 
-  pub scripts_extend : ScriptsExtend (found_of caller base)
-  scripts_extend i p e = by_entry i p (slice_get (found_of caller base) i) refl e
+  by : (r : Option Frame) → frame_at base id ≡ r → sought_of caller r ≡ Found price → HasRecord caller base id price
+  by None at f = absurd cc
+  by (Some frame) at f = opened frame at (is_open caller frame) refl f
 
-  -- there are no more than a base's frames
-  pub found_few : length base.frames ≤ 65535 → length (found_of caller base) ≤ 65535
-  found_few few = omega (arith, few, (discovery caller base price found).few, found_list.found_count caller base)
+-- what a way leads to is found
+pub leads_found : (caller : List ℕ) (base : BaseView) (f g : Id) (way : Way) (l : Leads caller base f way g)
+    → seek caller base g ≡ Found l.price
+leads_found caller base f g through l =
+    let w = going caller base f through (way.Found g l.price) l.found (λ e. cc) in
+    let s = found_sought base through w.to (seek caller base w.to) g l.price w.comes in
+    subst (λ (x : Id). seek caller base x ≡ Found l.price) s.0 s.1
 
--- a base has at most 65,535 frames
-few_by : (a : ℕ) (b c : Bool) → nat_lt 65535 a ≡ b → (b || c) ≡ false → a ≤ 65535
-few_by a true c is e = absurd cc
-few_by a false c is e = grind (arith, nat_tests)
+reached_found : (caller : List ℕ) (base : BaseView) (id : Id) → IsReached caller base id
+    → (price : ℕ) × (seek caller base id ≡ Found price)
+reached_found caller base id r = by r.steps id r.walk where
+  by : (n : ℕ) (id : Id) → Walk caller base (entry_of base) id n → (price : ℕ) × (seek caller base id ≡ Found price)
+  by zero id w = subst (λ (x : Id). (price : ℕ) × (seek caller base x ≡ Found price)) w r.entry
+  by (suc n) id w = (w.3.price, leads_found caller base w.0 id w.1 w.3)
 
-pub frames_few : (base : BaseView) → IsBase base → length base.frames ≤ 65535
-frames_few base is = few_by (length base.frames) (nat_lt 65535 (length base.frames)) (nat_lt 65535 (length base.outside)) refl is.few
+-- a discovered frame
+pub record IsDiscovered (caller : List ℕ) (base : BaseView) (d : Discovered) : Type 0 where
+  pub frame : Frame
+  pub reached : IsReached caller base d.id
+  pub of_frame : frame_at base d.id ≡ Some frame
+  pub opened : is_open caller frame ≡ true
+  pub rank : IsRank caller base d.id d.rank
+
+module _ (caller : List ℕ) (base : BaseView) (found : List Discovered) (finding : IsFinding caller base found) where
+  -- each discovered frame is one
+  pub listed_frame : (i : ℕ) (d : Discovered) → slice_get found i ≡ Some d → IsDiscovered caller base d
+  listed_frame i d at =
+      let here = contains_at found i d at in
+      let reached = (finding.reached.reached d.id).1 (here.0, d, here.1, here.2, refl) in
+      let p = reached_found caller base d.id reached in
+      let r = found_record caller base d.id p.0 p.1 in
+      record {
+        frame = r.frame;
+        reached = reached;
+        of_frame = r.of_frame;
+        opened = r.opened;
+        rank = of_all (λ (x : Discovered). IsRank caller base x.id x.rank) found i d finding.ranks at;
+      }
+
+  -- each reached frame is discovered
+  pub reached_listed : (id : Id) → IsReached caller base id
+      → (i : ℕ) × (d : Discovered) × (slice_get found i ≡ Some d) × (d.id ≡ id)
+  reached_listed id r =
+      let l = (finding.reached.reached id).0 r in
+      (l.0, l.1, place_of found l.1 (l.0, l.2, l.3), l.4)
+
+  other : (i j : ℕ) (d e : Discovered) → i < j → slice_get found i ≡ Some d → slice_get found j ≡ Some e → d.id ≡ e.id
+      → ⊥
+  other i j d e lt at to same =
+      let differ = finding.reached.once i j d lt (slice_get_within found j e to) in
+      differ (ap (λ (x : Discovered). x.id) (get_or_from_slice_get found i d d at) ∙ same ∙ sym (ap (λ (x : Discovered). x.id) (get_or_from_slice_get found j e d to)))
+
+  -- once
+  pub listed_once : (i j : ℕ) (d e : Discovered) → slice_get found i ≡ Some d → slice_get found j ≡ Some e → d.id ≡ e.id
+      → i ≡ j
+  listed_once i j d e at to same =
+      elim (cases_lt i j) [
+        | inl l ↦ absurd (other i j d e l at to same)
+        | inr ge ↦
+            elim (cases_lt j i) [
+              | inl l ↦ absurd (other j i e d l to at (sym same))
+              | inr le ↦ omega (arith, ge, le)
+            ]
+      ]

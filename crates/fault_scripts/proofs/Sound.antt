@@ -1,54 +1,58 @@
 -- What holds of each discovered frame where there is no fault.
-use Rattle.std.proofs.Common.{◌≡◌, ◌<◌, ◌≤◌, ◌⊎◌, inl, inr, ℕ, nat_lt, Bool, true, false, List, [], Option, Some, None, slice_get, refl, subst, arith}
-use Rattle.std.specs.Prelude.{Contains}
+use Rattle.std.proofs.Common.{◌≡◌, ◌<◌, ◌≤◌, ◌⊎◌, inl, inr, ℕ, nat_lt, Bool, true, false, cond, List, Option, Some, None, slice_get, refl, arith}
 use Rattle.std.proofs.lemmas.Bool.Decides.{nat_tests}
 use Rattle.page_ids.specs.Id.{Id}
+use Rattle.page_ids.specs.Ways.{way_key}
+use Rattle.page_ids.specs.declared.way.Way.{Way}
+use Rattle.page_ids.specs.declared.way.Way.TheVariants.{Route, Next}
 use Rattle.frame_records.specs.declared.frame.Frame.{Frame}
 use Rattle.frame_records.specs.declared.base.Sought.{Sought}
 use Rattle.frame_records.specs.declared.base.Sought.TheVariants as sought
+use Rattle.frame_records.specs.declared.ways.Destination.{Destination}
+use Rattle.frame_records.specs.declared.ways.Destination.TheVariants as way
 use Rattle.frame_records.specs.BaseView.{BaseView, frame_at, lists_outside}
-use Rattle.frame_records.specs.Seek.{is_open, seek}
+use Rattle.frame_records.specs.Seek.{is_open, seek, entry_of}
+use Rattle.frame_records.specs.Ways.{destination, sought, sought_by, Leads}
+use Rattle.frame_records.specs.WayLaws.{goes}
 use Rattle.abstract_paint.specs.declared.start.Start.{Start}
 use Rattle.abstract_paint.specs.declared.cursor.AbsCursor.{AbsCursor}
 use Rattle.abstract_paint.specs.declared.painting.Painted.TheVariants.{Clean}
 use Rattle.abstract_paint.specs.Paint.{paint_of}
 use Rattle.abstract_paint.specs.Start.{IsStart}
+use Rattle.abstract_paint.specs.StartOf.{start_of}
 use Rattle.abstract_paint.proofs.Exact.{is_exact}
-use Rattle.session_machine.specs.Open.{entry_of, seek_entry}
+use Rattle.abstract_paint.proofs.LeastStart.{is_start}
 use Rattle.terminal_codes.specs.Touch.{IsClean}
 use Rattle.checker.specs.declared.policy.Policy.{Policy}
 use Rattle.finder.specs.declared.found.Discovered.{Discovered}
-use Rattle.finder.specs.Walks.{Walk, IsDistance, IsReached, sought_by}
-use Rattle.finder.specs.RankLaws.{IsRank}
-use Rattle.finder.specs.Found.{found_of, key_of, script}
+use Rattle.finder.specs.Finds.{IsFinding}
+use Rattle.finder.specs.Scripts.{script}
+use Rattle.finder.specs.Walks.{Walk, IsDistance, IsRank, IsReached}
 use Rattle.fault_scripts.specs.declared.fault.Fault.{Fault}
 use Rattle.fault_scripts.specs.declared.fault.FaultKind.TheVariants as kind
-use Rattle.fault_scripts.specs.FaultsOf.{plain_fault, price_fault, touch_fault, key_fault, faults_of}
-use Rattle.fault_scripts.specs.StartOf.{start_of}
 use Rattle.fault_scripts.specs.Due.{IsDueAs, IsDue}
-use Rattle.fault_scripts.proofs.Elements.{none_in}
-use Rattle.fault_scripts.proofs.Starts.{start_is}
-use Rattle.fault_scripts.proofs.Listed.{IsDiscovered, listed_frame}
-use Rattle.fault_scripts.proofs.Due.{just}
+use Rattle.fault_scripts.specs.Makers.{plain_fault, price_fault, touch_fault, key_fault}
+use Rattle.fault_scripts.proofs.Discoveries.{IsDiscovered, listed_frame}
 
--- what an offered key seeks is found, or is missing on a page that is listed as outside
-abbrev pub LeadsOn : List ℕ → BaseView → Id → Type 0
-LeadsOn caller base to = ((price : ℕ) × (seek caller base to ≡ sought.Found price)) ⊎ ((seek caller base to ≡ sought.Missing) × (lists_outside base to.page ≡ true))
+-- the frame that a way seeks is found, or a route leads to an outside page
+abbrev pub GoesOn : List ℕ → BaseView → Id → Way → Id → Type 0
+GoesOn caller base id (Route digit) to = Leads caller base id (Route digit) to ⊎ (lists_outside base to.page ≡ true)
+GoesOn caller base id Next to = Leads caller base id Next to
 
--- a discovered frame without a fault: it costs and ranks no more than the policy says, is clean, and its keys lead on
-pub record IsSound (caller : List ℕ) (base : BaseView) (policy : Policy) (d : Discovered) : Type 0 where
+-- a discovered frame without a fault: it costs and ranks no more than the policy says, is clean, and its ways lead on
+pub record IsSound (base : BaseView) (policy : Policy) (d : Discovered) : Type 0 where
   pub frame : Frame
   pub rank : ℕ
   pub cursor : AbsCursor
-  pub reached : IsReached caller base d.id
+  pub reached : IsReached policy.groups base d.id
   pub of_frame : frame_at base d.id ≡ Some frame
-  pub opened : is_open caller frame ≡ true
+  pub opened : is_open policy.groups frame ≡ true
   pub price : frame.price ≤ policy.ceiling
   pub painted : paint_of frame.lead frame.body ≡ Clean cursor
   pub ranked : d.rank ≡ Some rank
-  pub distance : IsDistance caller base d.id rank
+  pub distance : IsDistance policy.groups base d.id rank
   pub near : rank ≤ policy.keyings
-  pub keys : (number : ℕ) (to : Id) → number ≤ 10 → sought_by frame number ≡ Some to → LeadsOn caller base to
+  pub ways : (w : Way) (to : Id) → sought frame w ≡ Some to → GoesOn policy.groups base d.id w to
 
 not_above : (n m : ℕ) → (n < m → ⊥) → m ≤ n
 not_above n m never = by (nat_lt n m) refl where
@@ -56,70 +60,75 @@ not_above n m never = by (nat_lt n m) refl where
   by true e = let above : n < m = grind (arith, nat_tests) in absurd (never above)
   by false e = grind (arith, nat_tests)
 
-module _ (caller : List ℕ) (base : BaseView) (policy : Policy) (price : ℕ) (found : seek_entry caller base ≡ sought.Found price) (none : faults_of caller base policy ≡ []) where
-  -- no fault is due
-  none_due : (fault : Fault) → IsDue caller base policy fault → ⊥
-  none_due fault due = none_in fault (subst (λ (faults : List Fault). Contains faults fault) none ((just caller base policy price found fault).1 due))
+module _ (base : BaseView) (policy : Policy) (found : List Discovered) (finding : IsFinding policy.groups base found) (none : (fault : Fault) → IsDue base policy found fault → ⊥) (i : ℕ) (d : Discovered) (listed : slice_get found i ≡ Some d) where
+  is : IsDiscovered policy.groups base d
+  is = listed_frame policy.groups base found finding i d listed
 
-  module _ (i : ℕ) (d : Discovered) (listed : slice_get (found_of caller base) i ≡ Some d) where
-    is : IsDiscovered caller base d
-    is = listed_frame caller base price found i d listed
+  -- no fault is due at the frame
+  none_here : (fault : Fault) → IsDueAs fault.kind base policy d.id is.frame (script found i) fault → ⊥
+  none_here fault due = none fault (record {
+    index = i;
+    discovered = d;
+    frame = is.frame;
+    keys = script found i;
+    place = record { listed = listed; of_frame = is.of_frame; script = refl };
+    due = due;
+  })
 
-    -- none at the frame
-    none_here : (fault : Fault) → IsDueAs fault.kind caller base policy d.id is.frame (script (found_of caller base) i) fault → ⊥
-    none_here fault due = none_due fault (record {
-      index = i;
-      discovered = d;
-      frame = is.frame;
-      keys = script (found_of caller base) i;
-      place = record { listed = listed; of_frame = is.of_frame; script = refl };
-      due = due;
-    })
+  price_low : is.frame.price ≤ policy.ceiling
+  price_low = not_above policy.ceiling is.frame.price (λ above. none_here (price_fault d.id (script found i) is.frame.price) (record { above = above; is = refl }))
 
-    price_low : is.frame.price ≤ policy.ceiling
-    price_low = not_above policy.ceiling is.frame.price (λ above. none_here (price_fault d.id (script (found_of caller base) i) is.frame.price) (record { above = above; is = refl }))
+  clean_by : (r : Option Start) → IsStart is.frame.lead is.frame.body r → IsClean is.frame.lead is.frame.body
+  clean_by None clean = clean
+  clean_by (Some start) least = absurd (none_here (touch_fault d.id (script found i) start) (record { start = start; least = least; is = refl }))
 
-    clean_by : (r : Option Start) → IsStart is.frame.lead is.frame.body r → IsClean is.frame.lead is.frame.body
-    clean_by None clean = clean
-    clean_by (Some start) least = absurd (none_here (touch_fault d.id (script (found_of caller base) i) start) (record { start = start; least = least; is = refl }))
+  clean : IsClean is.frame.lead is.frame.body
+  clean = clean_by (start_of is.frame.lead is.frame.body (paint_of is.frame.lead is.frame.body)) (is_start is.frame.lead is.frame.body)
 
-    clean : IsClean is.frame.lead is.frame.body
-    clean = clean_by (start_of is.frame.lead is.frame.body (paint_of is.frame.lead is.frame.body)) (start_is is.frame.lead is.frame.body)
+  -- no way comes to a closed or a missing frame
+  not_closed : (w : Way) (to : Id) → destination policy.groups base d.id w ≡ way.Closed to → ⊥
+  not_closed w to e = none_here (key_fault kind.Closed d.id (script found i) (way_key w) to) (record { through = w; to = to; comes_to = e; is = refl })
 
-    leads_by : (number : ℕ) (to : Id) (s : Sought) → number ≤ 10 → sought_by is.frame number ≡ Some to → seek caller base to ≡ s → LeadsOn caller base to
-    leads_by number to (sought.Found price) le offered comes = inl (price, comes)
-    leads_by number to sought.Closed le offered comes =
-        absurd (none_here (key_fault kind.Closed d.id (script (found_of caller base) i) (key_of number) to) (record { number = number; to = to; is_key = le; offered = offered; comes_to = comes; is = refl }))
-    leads_by number to sought.Missing le offered comes = by (lists_outside base to.page) refl where
-      by : (b : Bool) → lists_outside base to.page ≡ b → LeadsOn caller base to
-      by true outside = inr (comes, outside)
-      by false inside =
-          absurd (none_here (key_fault kind.Missing d.id (script (found_of caller base) i) (key_of number) to) (record { key = record { number = number; to = to; is_key = le; offered = offered; comes_to = comes; is = refl }; inside = inside }))
+  not_missing : (w : Way) (to : Id) → destination policy.groups base d.id w ≡ way.Missing to → ⊥
+  not_missing w to e = none_here (key_fault kind.Missing d.id (script found i) (way_key w) to) (record { through = w; to = to; comes_to = e; is = refl })
 
-    no_return : ((n : ℕ) → n ≤ policy.keyings → Walk caller base d.id (entry_of base) n → ⊥) → ⊥
-    no_return far = none_here (plain_fault kind.NoReturn d.id (script (found_of caller base) i)) (record { far = far; is = refl })
+  on_by : (w : Way) (to : Id) (s : Sought) → destination policy.groups base d.id w ≡ sought_by base w to s
+      → GoesOn policy.groups base d.id w to
+  on_by (Route digit) to (sought.Found price) e = inl (record { price = price; found = e })
+  on_by Next to (sought.Found price) e = record { price = price; found = e }
+  on_by w to sought.Closed e = absurd (not_closed w to e)
+  on_by Next to sought.Missing e = absurd (not_missing Next to e)
+  on_by (Route digit) to sought.Missing e = by (lists_outside base to.page) refl e where
+    by : (b : Bool) → lists_outside base to.page ≡ b
+        → destination policy.groups base d.id (Route digit) ≡ cond {A = Destination} b (way.Outside to.page) (way.Missing to) → GoesOn policy.groups base d.id (Route digit) to
+    by true outside h = inr outside
+    by false inside h = absurd (not_missing (Route digit) to h)
 
-    -- the rank, which is within the keyings
-    near_by : (r : Option ℕ) → d.rank ≡ r → IsRank caller base d.id r → (rank : ℕ) × (d.rank ≡ Some rank) × IsDistance caller base d.id rank × (rank ≤ policy.keyings)
-    near_by None is_none no_walk = absurd (no_return (λ n le walk. no_walk n walk))
-    near_by (Some rank) is_some distance =
-        (rank, is_some, distance, not_above policy.keyings rank (λ far. no_return (λ n le walk. omega (arith, far, le, distance.least n walk))))
+  no_return : ((n : ℕ) → n ≤ policy.keyings → Walk policy.groups base d.id (entry_of base) n → ⊥) → ⊥
+  no_return far = none_here (plain_fault kind.NoReturn d.id (script found i)) (record { far = far; is = refl })
 
-    pub sound : IsSound caller base policy d
-    sound =
-        let cursor = (is_exact is.frame.lead is.frame.body).some_cursor clean in
-        let near = near_by d.rank refl is.rank in
-        record {
-          frame = is.frame;
-          rank = near.0;
-          cursor = cursor.0;
-          reached = is.reached;
-          of_frame = is.of_frame;
-          opened = is.opened;
-          price = price_low;
-          painted = cursor.1;
-          ranked = near.1;
-          distance = near.2;
-          near = near.3;
-          keys = λ number to le offered. leads_by number to (seek caller base to) le offered refl;
-        }
+  -- the rank, which is within the keyings
+  near_by : (r : Option ℕ) → d.rank ≡ r → IsRank policy.groups base d.id r
+      → (rank : ℕ) × (d.rank ≡ Some rank) × IsDistance policy.groups base d.id rank × (rank ≤ policy.keyings)
+  near_by None is_none no_walk = absurd (no_return (λ n le walk. no_walk n walk))
+  near_by (Some rank) is_some distance =
+      (rank, is_some, distance, not_above policy.keyings rank (λ far. no_return (λ n le walk. omega (arith, far, le, distance.least n walk))))
+
+  pub sound : IsSound base policy d
+  sound =
+      let cursor = (is_exact is.frame.lead is.frame.body).some_cursor clean in
+      let near = near_by d.rank refl is.rank in
+      record {
+        frame = is.frame;
+        rank = near.0;
+        cursor = cursor.0;
+        reached = is.reached;
+        of_frame = is.of_frame;
+        opened = is.opened;
+        price = price_low;
+        painted = cursor.1;
+        ranked = near.1;
+        distance = near.2;
+        near = near.3;
+        ways = λ w to offered. on_by w to (seek policy.groups base to) (goes policy.groups base d.id is.frame w to is.of_frame offered);
+      }

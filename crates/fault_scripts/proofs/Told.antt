@@ -1,35 +1,179 @@
--- Faults that are told one after another.
-use Rattle.std.proofs.Common.{◌≡◌, ℕ, List, [], ◌∷◌, ◌++◌, Option, Some, slice_get, sym, ◌∙◌, ap, subst, append_assoc}
-use Rattle.std.specs.Prelude.{Result, Ok, Err, OnOk}
+-- The faults that are told, one answer after another, are just those that are due so far, in order.
+use Rattle.std.proofs.Common.{◌≡◌, ◌<◌, ◌≤◌, ◌+◌, ◌*◌, ◌++◌, inl, inr, ℕ, List, [], ◌∷◌, length, get_or, Option, slice_get, option_map, refl, sym, ◌∙◌, ap, subst, arith}
+use Rattle.std.proofs.Common as std
+use Rattle.std.specs.Prelude.{Contains}
+use Rattle.std.specs.Option.{option_to_list}
+use Rattle.std.proofs.lemmas.Bool.{cases_lt}
+use Rattle.std.proofs.lemmas.List.{append-nil}
+use Rattle.std.proofs.lemmas.List.Elements.{All-nil, All-push, All-weaker, All-get_or, Contains-append_left, Contains-push}
+use Rattle.std.proofs.lemmas.List.Quantifiers.{all_pairs_push}
+use Rattle.std.proofs.lemmas.Option.{same_Some, slice_get_within}
 use Rattle.page_ids.specs.Id.{Id}
 use Rattle.page_ids.specs.declared.key.Key.{Key}
+use Rattle.frame_records.specs.declared.frame.Frame.{Frame}
+use Rattle.frame_records.specs.BaseView.{BaseView, frame_at}
+use Rattle.checker.specs.declared.policy.Policy.{Policy}
 use Rattle.finder.specs.declared.found.Discovered.{Discovered}
-use Rattle.finder.specs.Found.{script, parent_of}
+use Rattle.finder.specs.Finds.{IsFinding}
+use Rattle.finder.specs.Scripts.{script}
+use Rattle.finder.specs.Survey.{SurveyView}
 use Rattle.fault_scripts.specs.declared.fault.Fault.{Fault}
+use Rattle.fault_scripts.specs.declared.flaw.Flaw.{Flaw}
+use Rattle.fault_scripts.specs.declared.flaw.Flaw.TheVariants.{Price, Touches, Missing, Closed, NoReturn}
 use Rattle.fault_scripts.specs.declared.teller.Teller.{Teller}
-use Rattle.fault_scripts.specs.Telling.{ScriptsExtend, HasScript, Tells}
+use Rattle.fault_scripts.specs.Due.{IsDue, IsOfPlace, StandsBefore, turn_of, turn_at}
+use Rattle.fault_scripts.specs.Faults.{AreDue}
+use Rattle.fault_scripts.specs.Flaws.{fault_of, asked}
+use Rattle.fault_scripts.specs.Judged.{HasScript, IsFrameAt, IsDueBelow, IsTold, IsTelling}
+use Rattle.fault_scripts.proofs.Asked.{IsAnswer, asked_due, due_asked}
+use Rattle.fault_scripts.proofs.Discoveries.{listed_frame, listed_once}
 
--- the parent's script and the key that led from it are the script
-pub led : (found : List Discovered) (at : Option ℕ) (keys more : List Key) (index : ℕ) (p : ℕ × Key) → ScriptsExtend found → HasScript found at keys → parent_of (slice_get found index) ≡ Some p → at ≡ Some p.0 → more ≡ keys ++ p.1 ∷ [] → more ≡ script found index
-led found at keys more index p extends has is same pushed =
-    let here : keys ≡ script found p.0 = subst (λ (a : Option ℕ). HasScript found a keys) same has in
-    pushed ∙ ap (λ (k : List Key). k ++ p.1 ∷ []) here ∙ sym (extends index p is)
+-- a fault names its frame
+frame_of : (id : Id) (keys : List Key) (flaw : Flaw) → (fault_of id keys flaw).frame ≡ id
+frame_of id keys (Price price) = refl
+frame_of id keys (Touches start) = refl
+frame_of id keys (Missing way to) = refl
+frame_of id keys (Closed way to) = refl
+frame_of id keys NoReturn = refl
 
--- some faults, and then some more
-pub told_both : (a b c : Teller) (xs ys : List Fault) → Tells a b xs → Tells b c ys → Tells a c (xs ++ ys)
-told_both a b c xs ys s t = record {
-  found = t.found ∙ s.found;
-  index = t.index ∙ s.index;
-  id = t.id ∙ s.id;
-  faults = t.faults ∙ ap (λ (f : List Fault). f ++ ys) s.faults ∙ append_assoc a.faults.items xs ys;
-  ready = t.ready;
-}
+-- places are one where their frames and turns are
+place_parts : (i j s t : ℕ) → s < 14 → t < 14 → i * 14 + s ≡ j * 14 + t → (i ≡ j) × (s ≡ t)
+place_parts i j s t a b e = (omega (arith, a, b, e), omega (arith, a, b, e))
 
--- some faults, and then those of the frame by a definition
-pub told_then : {X E : Type 0} (a b c : Teller) (xs : List Fault) (F : Id → List Key → List Fault) (r : Result X E) → Tells a b xs → OnOk r (Tells b c (F b.id (script b.found b.index))) → OnOk r (Tells a c (xs ++ F a.id (script a.found a.index)))
-told_then a b c xs F (Err e) s t = t
-told_then a b c xs F (Ok u) s t =
-    let id : F b.id (script b.found b.index) ≡ F a.id (script b.found b.index) = ap (λ (i : Id). F i (script b.found b.index)) s.id in
-    let found : F a.id (script b.found b.index) ≡ F a.id (script a.found b.index) = ap (λ (f : List Discovered). F a.id (script f b.index)) s.found in
-    let index : F a.id (script a.found b.index) ≡ F a.id (script a.found a.index) = ap (λ (i : ℕ). F a.id (script a.found i)) s.index in
-    told_both a b c xs (F a.id (script a.found a.index)) s (subst (Tells b c) (id ∙ found ∙ index) t)
+module _ (base : BaseView) (policy : Policy) (found : List Discovered) (finding : IsFinding policy.groups base found) where
+  -- the answer that a due fault is
+  pub answer_of : (f : Fault) (due : IsDue base policy found f)
+      → IsAnswer base policy due.discovered.id due.frame due.place.of_frame due.discovered.rank (listed_frame policy.groups base found finding due.index due.discovered due.place.listed).rank due.keys (turn_of f.kind f.key) f
+  answer_of f due = due_asked base policy due.discovered.id due.frame due.place.of_frame due.discovered.rank (listed_frame policy.groups base found finding due.index due.discovered due.place.listed).rank due.keys f.kind f due.due
+
+  pub own_place : (f : Fault) (due : IsDue base policy found f) → IsOfPlace found due.index f
+  own_place f due =
+      let a = answer_of f due in
+      (due.discovered, due.place.listed, ap (λ (x : Fault). x.frame) a.is ∙ frame_of due.discovered.id due.keys a.flaw)
+
+  -- a due fault has one place
+  pub place_is_one : (f : Fault) (due : IsDue base policy found f) (i : ℕ) → IsOfPlace found i f
+      → turn_at i f ≡ turn_at due.index f
+  place_is_one f due i p =
+      let q = own_place f due in
+      ap (λ (j : ℕ). turn_at j f) (listed_once policy.groups base found finding i due.index p.0 q.0 p.1 q.1 (sym p.2 ∙ q.2))
+
+  pub before_end : (f : Fault) (due : IsDue base policy found f) → turn_at due.index f < length found * 14
+  before_end f due = omega (arith, (answer_of f due).in_turn, slice_get_within found due.index due.discovered due.place.listed)
+
+  -- a due fault stands before another, where its own place does
+  pub stands_before : (x y : Fault) (a : IsDue base policy found x) (b : IsDue base policy found y)
+      → turn_at a.index x < turn_at b.index y → StandsBefore found x y
+  stands_before x y a b lt i j p q = omega (arith, place_is_one x a i p, place_is_one y b j q, lt)
+
+  -- at one place of one frame
+  module _ (i : ℕ) (d : Discovered) (listed : slice_get found i ≡ std.Some d) (frame : Frame) (at : frame_at base d.id ≡ std.Some frame) (turn : ℕ) (small : turn < 14) where
+    -- the answer is due there
+    due_there : (flaw : Flaw) → asked base policy frame d.rank turn ≡ std.Some flaw
+        → (due : IsDue base policy found (fault_of d.id (script found i) flaw)) × (turn_at due.index (fault_of d.id (script found i) flaw) ≡ i * 14 + turn)
+    due_there flaw e =
+        let a = asked_due base policy d.id frame at d.rank (listed_frame policy.groups base found finding i d listed).rank (script found i) turn small flaw e in
+        (record { index = i; discovered = d; frame = frame; keys = script found i; place = record { listed = listed; of_frame = at; script = refl }; due = a.due }, ap (λ (t : ℕ). i * 14 + t) a.stands)
+
+    -- what is due there is the answer
+    there_is : (f : Fault) (due : IsDue base policy found f) → turn_at due.index f ≡ i * 14 + turn
+        → (flaw : Flaw) × (asked base policy frame d.rank turn ≡ std.Some flaw) × (f ≡ fault_of d.id (script found i) flaw)
+    there_is f due e =
+        let a = answer_of f due in
+        let parts = place_parts due.index i (turn_of f.kind f.key) turn a.in_turn small e in
+        let same : due.discovered ≡ d = same_Some due.discovered d (sym due.place.listed ∙ ap (slice_get found) parts.0 ∙ listed) in
+        let record_is : due.frame ≡ frame = same_Some due.frame frame (sym due.place.of_frame ∙ ap (λ (x : Discovered). frame_at base x.id) same ∙ at) in
+        let keys : due.keys ≡ script found i = due.place.script ∙ ap (script found) parts.0 in
+        let is : asked base policy due.frame due.discovered.rank (turn_of f.kind f.key) ≡ asked base policy frame d.rank turn =
+        ap (λ (x : Frame). asked base policy x due.discovered.rank (turn_of f.kind f.key)) record_is
+        ∙ ap (λ (x : Discovered). asked base policy frame x.rank (turn_of f.kind f.key)) same
+        ∙ ap (asked base policy frame d.rank) parts.1 in
+        (a.flaw, sym is ∙ a.answered, a.is ∙ ap (λ (x : Discovered). fault_of x.id due.keys a.flaw) same ∙ ap (λ (k : List Key). fault_of d.id k a.flaw) keys)
+
+module _ (base : BaseView) (policy : Policy) (found : List Discovered) (finding : IsFinding policy.groups base found) where
+  below_more : (p : ℕ) (f : Fault) → IsDueBelow base policy found p f → IsDueBelow base policy found (p + 1) f
+  below_more p f h = record { due = h.due; below = omega (arith, h.below) }
+
+  module _ (i : ℕ) (d : Discovered) (listed : slice_get found i ≡ std.Some d) (frame : Frame) (at : frame_at base d.id ≡ std.Some frame) (turn : ℕ) (small : turn < 14) where
+    abbrev p : ℕ
+    p = i * 14 + turn
+
+    abbrev mine : Flaw → Fault
+    mine flaw = fault_of d.id (script found i) flaw
+
+    -- no answer: nothing more is due
+    none_told : (faults : List Fault) → asked base policy frame d.rank turn ≡ std.None
+        → IsTold base policy found p faults → IsTold base policy found (p + 1) faults
+    none_told faults none told = record {
+      just = All-weaker (IsDueBelow base policy found p) (IsDueBelow base policy found (p + 1)) (below_more p) faults told.just;
+      whole = λ f h. elim (cases_lt (turn_at h.due.index f) p) [
+        | inl below ↦ told.whole f (record { due = h.due; below = below })
+        | inr ge ↦
+            let w = there_is base policy found finding i d listed frame at turn small f h.due (omega (arith, ge, h.below)) in
+            let clash : std.None ≡ std.Some w.0 = sym none ∙ w.1 in
+            absurd cc
+      ];
+      in_order = told.in_order;
+    }
+
+    -- an answer: its fault goes last
+    one_told : (faults : List Fault) (flaw : Flaw) → asked base policy frame d.rank turn ≡ std.Some flaw
+        → IsTold base policy found p faults → IsTold base policy found (p + 1) (faults ++ mine flaw ∷ [])
+    one_told faults flaw some told =
+        let own = due_there base policy found finding i d listed frame at turn small flaw some in
+        record {
+          just = All-push (IsDueBelow base policy found (p + 1)) faults (mine flaw) (All-weaker (IsDueBelow base policy found p) (IsDueBelow base policy found (p + 1)) (below_more p) faults told.just) (record { due = own.0; below = omega (arith, own.1) });
+          whole = λ f h. elim (cases_lt (turn_at h.due.index f) p) [
+            | inl below ↦ Contains-append_left faults (mine flaw ∷ []) f (told.whole f (record { due = h.due; below = below }))
+            | inr ge ↦
+                let w = there_is base policy found finding i d listed frame at turn small f h.due (omega (arith, ge, h.below)) in
+                let same : flaw ≡ w.0 = same_Some flaw w.0 (sym some ∙ w.1) in
+                let is : mine flaw ≡ f = ap mine same ∙ sym w.2 in
+                subst (λ (x : Fault). Contains (faults ++ mine flaw ∷ []) x) is (Contains-push faults (mine flaw))
+          ];
+          in_order = all_pairs_push (StandsBefore found) faults (mine flaw) told.in_order (λ k x lt.
+              let before = All-get_or (IsDueBelow base policy found p) faults k x lt told.just in
+              stands_before base policy found finding (get_or faults k x) (mine flaw) before.due own.0 (omega (arith, before.below, own.1)));
+        }
+
+    told_more : (faults : List Fault) (answer : Option Flaw) → asked base policy frame d.rank turn ≡ answer
+        → IsTold base policy found p faults
+        → IsTold base policy found (p + 1) (faults ++ option_to_list (option_map mine answer))
+    told_more faults std.None e told = subst (IsTold base policy found (p + 1)) (sym (append-nil faults)) (none_told faults e told)
+    told_more faults (std.Some flaw) e told = one_told faults flaw e told
+
+    -- of the teller
+    pub telling_more : (old new : Teller) (answer : Option Flaw) → asked base policy frame d.rank turn ≡ answer
+        → IsTelling base policy found p old → HasScript found new.at new.keys.items
+        → new.faults.items ≡ old.faults.items ++ option_to_list (option_map mine answer)
+        → IsTelling base policy found (p + 1) new
+    telling_more old new answer e telling script more = record {
+      finding = finding;
+      script = script;
+      told = subst (IsTold base policy found (p + 1)) (sym more) (told_more old.faults.items answer e telling.told);
+    }
+
+  -- nothing is due before the first place
+  pub none_yet : IsTold base policy found 0 []
+  none_yet = record {
+    just = All-nil (IsDueBelow base policy found 0);
+    whole = λ f h. absurd (omega (arith, h.below));
+    in_order = λ i j x lt few. absurd (omega (arith, few));
+  }
+
+  -- those of all places are those of the base
+  pub all_told : (faults : List Fault) → IsTold base policy found (length found * 14) faults
+      → AreDue base policy found faults
+  all_told faults told = record {
+    just = λ f. (
+      (λ h. subst (λ (x : Fault). IsDue base policy found x) h.2 (told.just h.0 f h.1).due),
+      (λ due. told.whole f (record { due = due; below = before_end base policy found finding f due })),
+    );
+    in_order = told.in_order;
+  }
+
+-- one answer more, of the frame at an index
+pub step : (survey : SurveyView) (policy : Policy) (i : ℕ) (d : Discovered) (listed : slice_get survey.found i ≡ std.Some d) (frame : Frame) (at : IsFrameAt survey i frame) (p q turn : ℕ) → turn < 14 → p ≡ i * 14 + turn → q ≡ p + 1 → (old new : Teller) (answer : Option Flaw) → asked survey.base policy frame d.rank turn ≡ answer → IsTelling survey.base policy survey.found p old → HasScript survey.found new.at new.keys.items → new.faults.items ≡ old.faults.items ++ option_to_list (option_map (fault_of d.id (script survey.found i)) answer) → IsTelling survey.base policy survey.found q new
+step survey policy i d listed frame at p q turn small here next old new answer e telling script more =
+    let before = subst (λ (n : ℕ). IsTelling survey.base policy survey.found n old) here telling in
+    subst (λ (n : ℕ). IsTelling survey.base policy survey.found n new) (omega (arith, here, next)) (telling_more survey.base policy survey.found telling.finding i d listed frame (at d listed) turn small old new answer e before script more)

@@ -1,31 +1,35 @@
--- What the list of faults says, of every caller, base and policy.
-use Rattle.std.specs.Prelude.{◌≡◌, ◌↔◌, ◌<◌, ◌≤◌, ℕ, List, [], Some, Contains, slice_get, length}
+-- What the list of faults says, of every base and policy: of the caller of just the policy's groups.
+use Rattle.std.specs.Prelude.{◌≡◌, ◌≢◌, ◌↔◌, ℕ, List, [], Contains, AllPairs}
 use Rattle.frame_records.specs.declared.base.Sought.TheVariants as sought
-use Rattle.frame_records.specs.BaseView.{BaseView, AreApart, frame_at}
-use Rattle.frame_records.specs.declared.frame.Frame.{Frame}
-use Rattle.page_ids.specs.Id.{Id}
-use Rattle.session_machine.specs.Open.{seek_entry}
+use Rattle.frame_records.specs.BaseView.{BaseView, AreApart}
+use Rattle.frame_records.specs.Seek.{seek_entry}
 use Rattle.checker.specs.declared.policy.Policy.{Policy}
 use Rattle.checker.specs.Safe.{Safe}
+use Rattle.finder.specs.declared.found.Discovered.{Discovered}
+use Rattle.finder.specs.Finds.{IsFinding}
 use Rattle.fault_scripts.specs.declared.fault.Fault.{Fault}
-use Rattle.fault_scripts.specs.FaultsOf.{faults_of}
+use Rattle.fault_scripts.specs.Due.{IsDue, StandsBefore}
+use Rattle.fault_scripts.specs.Faults.{AreFaults}
 use Rattle.fault_scripts.specs.Shows.{Shows}
-use Rattle.fault_scripts.specs.Due.{IsDue, IsOfPlace, turn_at}
+
+-- just the faults that are due at the discovered frames, each once and in order
+pub record HasJustTheDue (base : BaseView) (policy : Policy) (faults : List Fault) : Type 0 where
+  pub found : List Discovered
+  pub finding : IsFinding policy.groups base found
+  pub just : (fault : Fault) → Contains faults fault ↔ IsDue base policy found fault
+  pub once : AllPairs (λ x y. x ≢ y) faults
+  pub in_order : AllPairs (StandsBefore found) faults
 
 -- where a session can be opened, the list has just the faults that are due, each once, in the order of discovery and
 -- within a frame of their kinds and keys
-pub record FaultsAreDue : Type 0 where
-  pub just : (caller : List ℕ) (base : BaseView) (policy : Policy) (price : ℕ) → seek_entry caller base ≡ sought.Found price → (fault : Fault) → Contains (faults_of caller base policy) fault ↔ IsDue caller base policy fault
-  pub in_order : (caller : List ℕ) (base : BaseView) (policy : Policy) (price : ℕ) → seek_entry caller base ≡ sought.Found price → (a b i j : ℕ) (x y : Fault) → a < b → slice_get (faults_of caller base policy) a ≡ Some x → slice_get (faults_of caller base policy) b ≡ Some y → IsOfPlace caller base i x → IsOfPlace caller base j y → turn_at i x < turn_at j y
+abbrev pub FaultsAreDue : Type 0
+FaultsAreDue = (base : BaseView) (policy : Policy) (price : ℕ) (faults : List Fault) → seek_entry policy.groups base ≡ sought.Found price → AreFaults base policy faults → HasJustTheDue base policy faults
 
--- each fault is borne out by its script. The premise is what every base keeps: no frame stands on an outside page
+-- each fault is borne out by its script
 abbrev pub FaultsAreShown : Type 0
-FaultsAreShown = (caller : List ℕ) (base : BaseView) (policy : Policy) (fault : Fault) → AreApart base → Contains (faults_of caller base policy) fault → Shows caller base policy fault
+FaultsAreShown = (base : BaseView) (policy : Policy) (faults : List Fault) (fault : Fault) → AreFaults base policy faults → Contains faults fault → Shows base policy fault
 
--- a frame has no more routes than there are digits
-abbrev pub HasDigitRoutes : BaseView → Type 0
-HasDigitRoutes base = (id : Id) (frame : Frame) → frame_at base id ≡ Some frame → length frame.routes ≤ 10
-
--- there is none exactly where the base is safe within the policy. The premises are what every base keeps
+-- there is none exactly where the base is safe within the policy. The premise is what every base keeps: no frame stands on
+-- an outside page
 abbrev pub NoneIsSafe : Type 0
-NoneIsSafe = (caller : List ℕ) (base : BaseView) (policy : Policy) → AreApart base → HasDigitRoutes base → (faults_of caller base policy ≡ []) ↔ Safe caller base policy.ceiling policy.keyings
+NoneIsSafe = (base : BaseView) (policy : Policy) (faults : List Fault) → AreApart base → AreFaults base policy faults → (faults ≡ []) ↔ Safe policy.groups base policy.ceiling policy.keyings

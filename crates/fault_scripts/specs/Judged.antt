@@ -1,25 +1,62 @@
--- How far the discovered frames have been judged.
-use Rattle.std.specs.Prelude.{◌≡◌, ℕ, List, [], Option}
-use Rattle.frame_records.specs.BaseView.{BaseView}
+-- How far the frames have been judged that a caller of just the policy's groups discovers.
+use Rattle.std.specs.Prelude.{◌≡◌, ◌<◌, ◌*◌, ◌++◌, ◌∷◌, ℕ, List, [], Option, Some, None, slice_get, length, take, All, AllPairs, Contains}
+use Rattle.page_ids.specs.declared.key.Key.{Key}
 use Rattle.frame_records.specs.declared.frame.Frame.{Frame}
-use Rattle.abstract_paint.specs.Paint.{paint_of}
+use Rattle.frame_records.specs.BaseView.{BaseView, IsBase, frame_at}
 use Rattle.checker.specs.declared.policy.Policy.{Policy}
 use Rattle.finder.specs.declared.found.Discovered.{Discovered}
-use Rattle.finder.specs.Found.{script}
+use Rattle.finder.specs.Finds.{IsFinding}
+use Rattle.finder.specs.Scripts.{script, parent_of}
+use Rattle.finder.specs.Survey.{SurveyView}
+use Rattle.fault_scripts.specs.declared.fault.Fault.{Fault}
 use Rattle.fault_scripts.specs.declared.frames.Judge.{Judge}
-use Rattle.fault_scripts.specs.FaultsOf.{faults_upto, faults_at}
-use Rattle.fault_scripts.specs.Table.{parts_upto, with_parts}
-use Rattle.fault_scripts.specs.TableView.{parts_of}
-use Rattle.fault_scripts.specs.Telling.{HasScript, Tells}
+use Rattle.fault_scripts.specs.declared.teller.Teller.{Teller}
+use Rattle.fault_scripts.specs.Due.{IsDue, StandsBefore, turn_at}
+use Rattle.fault_scripts.specs.Gathered.{IsGathered}
 
--- the faults of the first discovered frames have been told, and their parts of a certificate gathered
+-- a frame's script is its parent's and one key more
+abbrev pub ScriptsExtend : List Discovered → Type 0
+ScriptsExtend found = (i : ℕ) (p : ℕ × Key) → parent_of (slice_get found i) ≡ Some p → (p.0 < i) × (script found i ≡ script found p.0 ++ p.1 ∷ [])
+
+-- the keys at hand are the script of the frame for which they are kept
+abbrev pub HasScript : List Discovered → Option ℕ → List Key → Type 0
+HasScript found None keys = Unit {0}
+HasScript found (Some i) keys = keys ≡ script found i
+
+-- the keys at hand can lead on to the frame at an index
+pub record CanLead (found : List Discovered) (index : ℕ) (at : Option ℕ) (keys : List Key) : Type 0 where
+  pub within : index < length found
+  pub extends : ScriptsExtend found
+  pub script : HasScript found at keys
+
+-- the record of the frame at an index
+abbrev pub IsFrameAt : SurveyView → ℕ → Frame → Type 0
+IsFrameAt survey index frame = (d : Discovered) → slice_get survey.found index ≡ Some d → frame_at survey.base d.id ≡ Some frame
+
+-- a fault that is due before a place in the order of all that is asked
+pub record IsDueBelow (base : BaseView) (policy : Policy) (found : List Discovered) (place : ℕ) (fault : Fault) : Type 0 where
+  pub due : IsDue base policy found fault
+  pub below : turn_at due.index fault < place
+
+-- just those have been told, in order
+pub record IsTold (base : BaseView) (policy : Policy) (found : List Discovered) (place : ℕ) (faults : List Fault) : Type 0 where
+  pub just : All (IsDueBelow base policy found place) faults
+  pub whole : (fault : Fault) → IsDueBelow base policy found place fault → Contains faults fault
+  pub in_order : AllPairs (StandsBefore found) faults
+
+-- a teller that has told them
+pub record IsTelling (base : BaseView) (policy : Policy) (found : List Discovered) (place : ℕ) (t : Teller) : Type 0 where
+  pub finding : IsFinding policy.groups base found
+  pub script : HasScript found t.at t.keys.items
+  pub told : IsTold base policy found place t.faults.items
+
+-- of the first frames the faults have been told, and the rows gathered
 pub record IsJudged (base : BaseView) (policy : Policy) (found : List Discovered) (done : ℕ) (j : Judge) : Type 0 where
-  pub same_found : j.teller.found ≡ found
-  pub script : HasScript found j.teller.at j.teller.keys.items
-  pub faults : j.teller.faults.items ≡ faults_upto [] base policy found done
-  pub parts : parts_of j.table ≡ parts_upto base found done
+  pub telling : IsTelling base policy found (done * 14) j.teller
+  pub gathered : IsGathered base (take done found) j.table
 
--- a discovered frame of this record and rank has been judged
-pub record Judges (caller : List ℕ) (base : BaseView) (policy : Policy) (frame : Frame) (rank : Option ℕ) (old new : Judge) : Type 0 where
-  pub told : Tells old.teller new.teller (faults_at caller base policy old.teller.id (script old.teller.found old.teller.index) rank frame)
-  pub parts : parts_of new.table ≡ with_parts (parts_of old.table) old.teller.id rank frame.price (paint_of frame.lead frame.body)
+-- all frames of a base have been judged
+pub record IsWhole (base : BaseView) (policy : Policy) (j : Judge) : Type 0 where
+  pub valid : IsBase base
+  pub found : List Discovered
+  pub judged : IsJudged base policy found (length found) j

@@ -1,12 +1,12 @@
-pub mod StartOf
-pub mod FaultsOf
+pub mod Makers
+pub mod Flaws
 pub mod Replays
 pub mod Shows
 pub mod Due
+pub mod Faults
 pub mod FaultLaws
 pub mod Outcomes
-pub mod Table
-pub mod Telling
-pub mod TableView
+pub mod Gathered
 pub mod Judged
 pub mod SortedTable
+pub mod Aims

@@ -1,4 +1,4 @@
--- What the audit answers. The caller is the list of the groups to which the caller belongs.
+-- What the audit answers, for a caller of just the policy's groups.
 use Rattle.std.specs.Prelude.{◌≡◌, ◌≢◌, ◌≤◌, ◌↔◌, ℕ, true, List, [], Some, Contains}
 use Rattle.page_ids.specs.Id.{Id}
 use Rattle.frame_records.specs.declared.frame.Frame.{Frame}
@@ -16,12 +16,13 @@ use Rattle.finder.specs.Walks.{IsReached, IsDistance}
 use Rattle.fault_scripts.specs.declared.fault.Fault.{Fault}
 use Rattle.fault_scripts.specs.declared.outcome.Outcome.{Outcome}
 use Rattle.fault_scripts.specs.declared.outcome.Outcome.TheVariants.{Certified, Faulty}
-use Rattle.fault_scripts.specs.FaultsOf.{faults_of}
+use Rattle.fault_scripts.specs.Faults.{AreFaults}
 use Rattle.fault_scripts.specs.Shows.{Shows}
 
 -- the ceiling is the greatest price of a covered frame
 pub record IsGreatestPrice (base : BaseView) (rows : List Row) (ceiling : ℕ) : Type 0 where
-  pub at_most : (id : Id) (frame : Frame) → is_covered rows id ≡ true → frame_at base id ≡ Some frame → frame.price ≤ ceiling
+  pub at_most : (id : Id) (frame : Frame) → is_covered rows id ≡ true → frame_at base id ≡ Some frame
+      → frame.price ≤ ceiling
   pub some : (id : Id) × (frame : Frame) × (is_covered rows id ≡ true) × (frame_at base id ≡ Some frame) × (frame.price ≡ ceiling)
 
 -- the keyings are the greatest rank of a row
@@ -29,29 +30,31 @@ pub record IsGreatestRank (rows : List Row) (keyings : ℕ) : Type 0 where
   pub at_most : (row : Row) → Contains rows row → row.rank ≤ keyings
   pub some : (row : Row) × Contains rows row × (row.rank ≡ keyings)
 
--- the certificate has just the reached frames as rows, each with its distance to the entry frame and its ends; it costs and
--- ranks no more than it must; and the check clears it
-pub record IsCertificateOf (caller : List ℕ) (base : BaseView) (policy : Policy) (cert : CertView) : Type 0 where
+-- the certificate has the policy's groups, and just the reached frames as rows, each with its distance to the entry frame and
+-- its ends; it costs and ranks no more than it must; and the check clears it
+pub record IsCertificateOf (base : BaseView) (policy : Policy) (cert : CertView) : Type 0 where
   pub entry : cert.entry ≡ base.entry
+  pub groups : cert.groups ≡ policy.groups
   pub rows : AreRows cert.rows
-  pub reached : (id : Id) → (is_covered cert.rows id ≡ true) ↔ IsReached caller base id
-  pub ranks : (row : Row) → Contains cert.rows row → IsDistance caller base row.id row.rank
-  pub ends : (row : Row) (frame : Frame) → Contains cert.rows row → frame_at base row.id ≡ Some frame → Ends frame.lead frame.body row.cursor
+  pub reached : (id : Id) → (is_covered cert.rows id ≡ true) ↔ IsReached policy.groups base id
+  pub ranks : (row : Row) → Contains cert.rows row → IsDistance policy.groups base row.id row.rank
+  pub ends : (row : Row) (frame : Frame) → Contains cert.rows row → frame_at base row.id ≡ Some frame
+      → Ends frame.lead frame.body row.cursor
   pub ceiling : IsGreatestPrice base cert.rows cert.ceiling
   pub keyings : IsGreatestRank cert.rows cert.keyings
-  pub cleared : verdict caller base policy cert ≡ Cleared
+  pub cleared : verdict base policy cert ≡ Cleared
 
 -- a certificate exactly where there is no fault, else all faults
-abbrev pub IsOutcome : List ℕ → BaseView → Policy → Outcome → Type 0
-IsOutcome caller base policy (Certified cert) = (faults_of caller base policy ≡ []) × IsCertificateOf caller base policy cert
-IsOutcome caller base policy (Faulty faults) = (faults ≡ faults_of caller base policy) × (faults ≢ [])
+abbrev pub IsOutcome : BaseView → Policy → Outcome → Type 0
+IsOutcome base policy (Certified cert) = AreFaults base policy [] × IsCertificateOf base policy cert
+IsOutcome base policy (Faulty faults) = AreFaults base policy faults × (faults ≢ [])
 
 -- Certified says that the base is safe within the policy, and Faulty that it isn't
-abbrev pub DecidesSafety : List ℕ → BaseView → Policy → Outcome → Type 0
-DecidesSafety caller base policy (Certified cert) = Safe caller base policy.ceiling policy.keyings
-DecidesSafety caller base policy (Faulty faults) = Safe caller base policy.ceiling policy.keyings → ⊥
+abbrev pub DecidesSafety : BaseView → Policy → Outcome → Type 0
+DecidesSafety base policy (Certified cert) = Safe policy.groups base policy.ceiling policy.keyings
+DecidesSafety base policy (Faulty faults) = Safe policy.groups base policy.ceiling policy.keyings → ⊥
 
 -- each fault that is told is borne out by its script
-abbrev pub AreShown : List ℕ → BaseView → Policy → Outcome → Type 0
-AreShown caller base policy (Certified cert) = Unit {0}
-AreShown caller base policy (Faulty faults) = (fault : Fault) → Contains faults fault → Shows caller base policy fault
+abbrev pub AreShown : BaseView → Policy → Outcome → Type 0
+AreShown base policy (Certified cert) = Unit {0}
+AreShown base policy (Faulty faults) = (fault : Fault) → Contains faults fault → Shows base policy fault

@@ -6,7 +6,8 @@ use Rattle.frame_records.specs.BaseView.{BaseView}
 use Rattle.session_machine.specs.declared.reply.Reply.{Reply}
 use Rattle.session_machine.specs.declared.session.OpenFault.{OpenFault}
 use Rattle.session_machine.specs.State.{SessionState, present}
-use Rattle.session_machine.specs.Open.{seek_entry, opening, opening_reply, IsOpenFault}
+use Rattle.frame_records.specs.Seek.{seek_entry}
+use Rattle.session_machine.specs.Open.{opening, opening_reply, IsOpenFault}
 use Rattle.session_machine.specs.Runs.{state_after, replies_to}
 use Rattle.fault_scripts.specs.declared.replaying.Replayed.{Replayed}
 

@@ -1,4 +1,4 @@
--- What bears a fault out: what its script, run as a session, comes to. The caller is the list of the caller's groups.
+-- What bears a fault out: what its script comes to, run as a session of a caller of just the policy's groups.
 use Rattle.std.specs.Prelude.{◌≡◌, ◌≤◌, ◌<◌, ◌++◌, ◌∷◌, [], ℕ, List, Some}
 use Rattle.page_ids.specs.Id.{Id}
 use Rattle.page_ids.specs.declared.key.Key.{Key}
@@ -11,7 +11,7 @@ use Rattle.abstract_paint.specs.Start.{IsLeastStart}
 use Rattle.session_machine.specs.declared.reply.Reply.{Reply}
 use Rattle.session_machine.specs.declared.reply.Reply.TheVariants.{Shown, Missing, Closed}
 use Rattle.session_machine.specs.State.{present}
-use Rattle.session_machine.specs.Open.{entry_of, seek_entry}
+use Rattle.frame_records.specs.Seek.{entry_of, seek_entry}
 use Rattle.checker.specs.declared.policy.Policy.{Policy}
 use Rattle.finder.specs.Walks.{Walk}
 use Rattle.fault_scripts.specs.declared.fault.Fault.{Fault}
@@ -32,10 +32,10 @@ pub record EndsAtFrame (caller : List ℕ) (base : BaseView) (fault : Fault) : T
   pub at : present (last_state caller base fault.script) ≡ Some fault.frame
 
 -- its last reply shows the frame at its price, which is above the policy's ceiling
-pub record ShowsPrice (caller : List ℕ) (base : BaseView) (policy : Policy) (fault : Fault) : Type 0 where
+pub record ShowsPrice (base : BaseView) (policy : Policy) (fault : Fault) : Type 0 where
   pub price : ℕ
-  pub opened : seek_entry caller base ≡ sought.Found price
-  pub last : last_reply caller base fault.script price ≡ Shown fault.frame fault.price
+  pub opened : seek_entry policy.groups base ≡ sought.Found price
+  pub last : last_reply policy.groups base fault.script price ≡ Shown fault.frame fault.price
   pub above : policy.ceiling < fault.price
 
 -- it ends at the frame, which from the start writes a service position at the first offset at which any does; no lesser
@@ -60,19 +60,19 @@ pub record ShowsKey (caller : List ℕ) (base : BaseView) (fault : Fault) (reply
   pub last : last_reply caller base fault.script there.price ≡ reply to
 
 -- it ends at the frame, from which no walk of so few steps leads to the entry frame
-pub record ShowsNoReturn (caller : List ℕ) (base : BaseView) (policy : Policy) (fault : Fault) : Type 0 where
-  pub there : EndsAtFrame caller base fault
-  pub far : (n : ℕ) → n ≤ policy.keyings → Walk caller base fault.frame (entry_of base) n → ⊥
+pub record ShowsNoReturn (base : BaseView) (policy : Policy) (fault : Fault) : Type 0 where
+  pub there : EndsAtFrame policy.groups base fault
+  pub far : (n : ℕ) → n ≤ policy.keyings → Walk policy.groups base fault.frame (entry_of base) n → ⊥
 
 -- each kind in turn
-abbrev pub ShowsAs : FaultKind → List ℕ → BaseView → Policy → Fault → Type 0
-ShowsAs kind.EntryMissing caller base policy fault = ShowsEntry caller base fault sought.Missing
-ShowsAs kind.EntryClosed caller base policy fault = ShowsEntry caller base fault sought.Closed
-ShowsAs kind.Price caller base policy fault = ShowsPrice caller base policy fault
-ShowsAs kind.Touches caller base policy fault = ShowsTouch caller base fault
-ShowsAs kind.Missing caller base policy fault = ShowsKey caller base fault Missing
-ShowsAs kind.Closed caller base policy fault = ShowsKey caller base fault Closed
-ShowsAs kind.NoReturn caller base policy fault = ShowsNoReturn caller base policy fault
+abbrev pub ShowsAs : FaultKind → BaseView → Policy → Fault → Type 0
+ShowsAs kind.EntryMissing base policy fault = ShowsEntry policy.groups base fault sought.Missing
+ShowsAs kind.EntryClosed base policy fault = ShowsEntry policy.groups base fault sought.Closed
+ShowsAs kind.Price base policy fault = ShowsPrice base policy fault
+ShowsAs kind.Touches base policy fault = ShowsTouch policy.groups base fault
+ShowsAs kind.Missing base policy fault = ShowsKey policy.groups base fault Missing
+ShowsAs kind.Closed base policy fault = ShowsKey policy.groups base fault Closed
+ShowsAs kind.NoReturn base policy fault = ShowsNoReturn base policy fault
 
-abbrev pub Shows : List ℕ → BaseView → Policy → Fault → Type 0
-Shows caller base policy fault = ShowsAs fault.kind caller base policy fault
+abbrev pub Shows : BaseView → Policy → Fault → Type 0
+Shows base policy fault = ShowsAs fault.kind base policy fault

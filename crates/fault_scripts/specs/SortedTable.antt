@@ -1,12 +1,12 @@
 -- The rows of a certificate, put in order.
-use Rattle.std.specs.Prelude.{◌≡◌, List, None, IsPermutation}
+use Rattle.std.specs.Prelude.{◌≡◌, ℕ, List, None, IsPermutation}
 use Rattle.std.specs.List.Sorted.{IsSortedByKey}
 use Rattle.page_ids.specs.Ids.{id_cmp}
 use Rattle.frame_records.specs.BaseView.{BaseView}
 use Rattle.cert_table.specs.declared.row.Row.{Row}
 use Rattle.cert_table.specs.CertView.{CertView}
 use Rattle.cert_table.specs.Table.{table_fault}
-use Rattle.fault_scripts.specs.Table.{Parts}
+use Rattle.fault_scripts.specs.declared.table.Table as held
 
 -- the same rows in the order of their ids
 pub record AreSortedRows (rows sorted : List Row) : Type 0 where
@@ -17,9 +17,10 @@ pub record AreSortedRows (rows sorted : List Row) : Type 0 where
 abbrev pub IsTableInOrder : List Row → Type 0
 IsTableInOrder rows = (sorted : List Row) → AreSortedRows rows sorted → table_fault sorted ≡ None
 
--- the certificate has these parts, its rows in order
-pub record IsSortedTable (base : BaseView) (parts : Parts) (cert : CertView) : Type 0 where
+-- the certificate has these parts and the caller's groups, its rows in order
+pub record IsSortedTable (base : BaseView) (caller : List ℕ) (t : held.Table) (cert : CertView) : Type 0 where
   pub entry : cert.entry ≡ base.entry
-  pub ceiling : cert.ceiling ≡ parts.ceiling
-  pub keyings : cert.keyings ≡ parts.keyings
-  pub rows : AreSortedRows parts.rows cert.rows
+  pub ceiling : cert.ceiling ≡ t.ceiling
+  pub keyings : cert.keyings ≡ t.keyings
+  pub groups : cert.groups ≡ caller
+  pub rows : AreSortedRows t.rows.items cert.rows

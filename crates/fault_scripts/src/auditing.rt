@@ -1,24 +1,21 @@
-ghost use Rattle.std.specs.Prelude.{◌≡◌, ℕ, ◌∷◌, [], IfOk, length};
+ghost use Rattle.std.specs.Prelude.{◌≡◌, ℕ, ◌∷◌, [], IfOk};
 ghost use Rattle.frame_records.specs.declared.base.Sought.TheVariants as sought;
-ghost use Rattle.session_machine.specs.Open.{seek_entry, entry_of};
-ghost use Rattle.finder.specs.Found.{found_of};
-ghost use Rattle.fault_scripts.specs.FaultsOf.{faults_of, plain_fault};
-ghost use Rattle.fault_scripts.specs.Judged.{IsJudged};
+ghost use Rattle.frame_records.specs.BaseView.{IsBase};
+ghost use Rattle.frame_records.specs.Seek.{entry_of, seek_entry};
+ghost use Rattle.fault_scripts.specs.Makers.{plain_fault};
+ghost use Rattle.fault_scripts.specs.Faults.{AreFaults};
+ghost use Rattle.fault_scripts.specs.Judged.{IsWhole};
 ghost use Rattle.fault_scripts.specs.Outcomes.{IsOutcome, DecidesSafety, AreShown};
 ghost use Rattle.fault_scripts.specs.SortedTable.{IsTableInOrder, IsSortedTable};
-ghost use Rattle.fault_scripts.specs.TableView.{parts_of};
 
 use crate::fault::{Fault, FaultKind, FaultList};
 use crate::frames::{Judge, judge_all};
-use crate::kinds::no_price;
-use crate::limits::keeps_limits;
 use crate::outcome::Outcome;
 use crate::table::Table;
 use cert_table::Certificate;
 use checker::Policy;
-use finder::find;
-use frame_records::{Base, Sought};
-use page_ids::KeyList;
+use finder::Survey;
+use frame_records::{Base, Groups, Sought};
 use std::alloc::{AllocError, Global};
 
 // The one fault of a base whose entry frame isn't found.
@@ -26,35 +23,33 @@ fn entry_fault(alloc: Global, base: &Base, kind: FaultKind) -> Result<FaultList,
     ensures { IfOk result (λ list. list ≡ plain_fault kind (entry_of base.now) [] ∷ []) }
 {
     let mut faults = Vec::new(alloc);
-    faults.push(Fault {
-        kind,
-        frame: base.entry_frame(),
-        key: None,
-        sought: None,
-        script: KeyList::of(Vec::new(alloc)),
-        start: None,
-        price: no_price(),
-    })?;
+    faults.push(Fault::plain(alloc, kind, base.entry_frame(), &[])?)?;
     Ok(FaultList::of(faults))
+}
+
+// What every base keeps, by its type: nothing is computed.
+fn keeps_limits(base: &Base)
+    ensures { IsBase base.now }
+{
+    base.frames();
 }
 
 // All discovered frames, judged.
 fn judged(alloc: Global, base: &Base, policy: &Policy) -> Result<Judge, AllocError>
-    requires { (price : ℕ) × (seek_entry [] base.now ≡ sought.Found price) }
-    ensures { IfOk result (λ j. IsJudged base.now policy.now (found_of [] base.now) (length (found_of [] base.now)) j) }
+    ensures { IfOk result (IsWhole base.now policy.now) }
 {
     keeps_limits(base);
-    let found = find(alloc, base)?;
-    judge_all(alloc, base, policy, found)
+    let survey = Survey::of(alloc, base, &policy.groups)?;
+    judge_all(alloc, &survey, policy)
 }
 
-/// Every fault of a base, for a caller outside every group: in the order of the discovery of the frames, and of one frame
-/// Price, Touches, Missing and Closed by key (`0` to `9`, `#`), NoReturn. Where the entry frame is missing or closed that is
-/// the one fault.
+/// Every fault of a base, for a caller of just the policy's groups: in the order of the discovery of the frames, and of
+/// one frame Price, Touches, Missing and Closed by key (`0` to `9`, `#`), NoReturn. Where the entry frame is missing or
+/// closed that is the one fault.
 pub fn faults(alloc: Global, base: &Base, policy: &Policy) -> Result<FaultList, AllocError>
-    ensures { IfOk result (λ list. list ≡ faults_of [] base.now policy.now) }
+    ensures { IfOk result (AreFaults base.now policy.now) }
 {
-    match base.seek(base.entry_frame()) {
+    match base.seek(base.entry_frame(), &policy.groups) {
         Sought::Missing => entry_fault(alloc, base, FaultKind::EntryMissing),
         Sought::Closed => entry_fault(alloc, base, FaultKind::EntryClosed),
         Sought::Found(_) => {
@@ -65,13 +60,19 @@ pub fn faults(alloc: Global, base: &Base, policy: &Policy) -> Result<FaultList, 
 }
 
 // The certificate of a table's rows, in the order of their ids.
-fn certificate_of(base: &Base, table: Table) -> Certificate
-    requires { IsTableInOrder (parts_of table).rows }
-    ensures { IsSortedTable base.now (parts_of table) result }
+fn certificate_of(base: &Base, groups: &Groups, table: Table) -> Certificate
+    requires { IsTableInOrder table.rows.items }
+    ensures { IsSortedTable base.now groups.now table result }
 {
     let mut rows = table.rows;
     rows.sort_unstable_by_key(|row| row.id);
-    match Certificate::build(base.entry(), table.ceiling, table.keyings, rows) {
+    match Certificate::build(
+        base.entry(),
+        table.ceiling,
+        table.keyings,
+        groups.copy(),
+        rows,
+    ) {
         Ok(cert) => cert,
         Err(_) => unreachable!(),
     }
@@ -79,13 +80,12 @@ fn certificate_of(base: &Base, table: Table) -> Certificate
 
 // The outcome of a base whose entry frame is found.
 fn audit_found(alloc: Global, base: &Base, policy: &Policy) -> Result<Outcome, AllocError>
-    requires { (price : ℕ) × (seek_entry [] base.now ≡ sought.Found price) }
-    ensures { IfOk result (IsOutcome [] base.now policy.now) }
+    requires { (price : ℕ) × (seek_entry policy.now.groups base.now ≡ sought.Found price) }
+    ensures { IfOk result (IsOutcome base.now policy.now) }
 {
-    keeps_limits(base);
     let judge = judged(alloc, base, policy)?;
     if judge.teller.faults.as_slice().is_empty() {
-        Ok(Outcome::Certified(certificate_of(base, judge.table)))
+        Ok(Outcome::Certified(certificate_of(base, &policy.groups, judge.table)))
     } else {
         Ok(Outcome::Faulty(FaultList::of(judge.teller.faults)))
     }
@@ -93,24 +93,24 @@ fn audit_found(alloc: Global, base: &Base, policy: &Policy) -> Result<Outcome, A
 
 // The outcome: a certificate, or the faults.
 fn outcome_of(alloc: Global, base: &Base, policy: &Policy) -> Result<Outcome, AllocError>
-    ensures { IfOk result (IsOutcome [] base.now policy.now) }
+    ensures { IfOk result (IsOutcome base.now policy.now) }
 {
-    match base.seek(base.entry_frame()) {
+    match base.seek(base.entry_frame(), &policy.groups) {
         Sought::Missing => Ok(Outcome::Faulty(entry_fault(alloc, base, FaultKind::EntryMissing)?)),
         Sought::Closed => Ok(Outcome::Faulty(entry_fault(alloc, base, FaultKind::EntryClosed)?)),
         Sought::Found(_) => audit_found(alloc, base, policy),
     }
 }
 
-/// Audits a base for a caller outside every group: a certificate exactly where every session is safe within the policy, else
-/// every fault.
+/// Audits a base for a caller of just the policy's groups: a certificate exactly where every session is safe within the
+/// policy, else every fault.
 ///
-/// The certificate covers just the frames that can be reached, with least ranks, the greatest price of a covered frame as its
-/// ceiling and the greatest rank as its keyings; `check` clears it. Each frame is painted once.
+/// The certificate covers just the frames that can be reached, with least ranks, the greatest price of a covered frame as
+/// its ceiling, the greatest rank as its keyings, and the policy's groups; `check` clears it. Each frame is painted once.
 pub fn audit(alloc: Global, base: &Base, policy: &Policy) -> Result<Outcome, AllocError>
-    ensures outcome { IfOk result (IsOutcome [] base.now policy.now) }
-    ensures safety { IfOk result (DecidesSafety [] base.now policy.now) }
-    ensures shown { IfOk result (AreShown [] base.now policy.now) }
+    ensures outcome { IfOk result (IsOutcome base.now policy.now) }
+    ensures safety { IfOk result (DecidesSafety base.now policy.now) }
+    ensures shown { IfOk result (AreShown base.now policy.now) }
 {
     keeps_limits(base);
     outcome_of(alloc, base, policy)

@@ -1,8 +1,10 @@
-ghost use Rattle.std.specs.Prelude.{◌≡◌};
+ghost use Rattle.std.specs.Prelude.{◌≡◌, ◌++◌, ◌∷◌, [], IfOk};
+ghost use Rattle.fault_scripts.specs.Makers.{plain_fault, price_fault, touch_fault, key_fault};
 
 use abstract_paint::Start;
 use frame_records::Pence;
 use page_ids::{FrameId, Key, KeyList};
+use std::alloc::{AllocError, Global};
 use std::marker::Model;
 
 /// What kind of fault it is.
@@ -40,6 +42,110 @@ pub struct Fault {
     pub start: Option<Start>,
     /// For `Price` alone the frame's price; else 0.
     pub price: Pence,
+}
+
+// The price of a fault that isn't about one.
+pub fn no_price() -> Pence
+    ensures { result ≡ 0 }
+{
+    match Pence::new(0) {
+        Some(price) => price,
+        None => unreachable!(),
+    }
+}
+
+// The keys, as a list of its own.
+fn copied(alloc: Global, keys: &[Key]) -> Result<KeyList, AllocError>
+    ensures { IfOk result (λ list. list ≡ keys.now) }
+{
+    let mut list = Vec::new(alloc);
+    list.extend_from_slice(keys)?;
+    Ok(KeyList::of(list))
+}
+
+// The keys, and behind them one more.
+fn pressed(alloc: Global, keys: &[Key], key: Key) -> Result<KeyList, AllocError>
+    ensures { IfOk result (λ list. list ≡ keys.now ++ key ∷ []) }
+{
+    let mut list = Vec::new(alloc);
+    list.extend_from_slice(keys)?;
+    list.push(key)?;
+    Ok(KeyList::of(list))
+}
+
+impl Fault {
+    // A fault of a frame to which the keys lead, without a key, a start or a price.
+    pub(crate) fn plain(
+        alloc: Global,
+        kind: FaultKind,
+        frame: FrameId,
+        keys: &[Key],
+    ) -> Result<Fault, AllocError>
+        ensures { IfOk result (λ fault. fault ≡ plain_fault kind frame keys.now) }
+    {
+        let script = copied(alloc, keys)?;
+        Ok(Fault {
+            kind,
+            frame,
+            key: None,
+            sought: None,
+            script,
+            start: None,
+            price: no_price(),
+        })
+    }
+
+    // A frame that costs too much.
+    pub(crate) fn price(
+        alloc: Global,
+        frame: FrameId,
+        keys: &[Key],
+        price: Pence,
+    ) -> Result<Fault, AllocError>
+        ensures { IfOk result (λ fault. fault ≡ price_fault frame keys.now price) }
+    {
+        let mut fault = Fault::plain(alloc, FaultKind::Price, frame, keys)?;
+        fault.price = price;
+        Ok(fault)
+    }
+
+    // A frame that writes a service position from the start.
+    pub(crate) fn touches(
+        alloc: Global,
+        frame: FrameId,
+        keys: &[Key],
+        start: Start,
+    ) -> Result<Fault, AllocError>
+        ensures { IfOk result (λ fault. fault ≡ touch_fault frame keys.now start) }
+    {
+        let mut fault = Fault::plain(alloc, FaultKind::Touches, frame, keys)?;
+        fault.start = Some(start);
+        Ok(fault)
+    }
+
+    // A key that seeks a frame which isn't found.
+    pub(crate) fn sought(
+        alloc: Global,
+        kind: FaultKind,
+        frame: FrameId,
+        keys: &[Key],
+        key: Key,
+        to: FrameId,
+    ) -> Result<Fault, AllocError>
+        ensures { IfOk result (λ fault. fault ≡ key_fault kind frame keys.now key to) }
+    {
+        let again = key;
+        let script = pressed(alloc, keys, again)?;
+        Ok(Fault {
+            kind,
+            frame,
+            key: Some(key),
+            sought: Some(to),
+            script,
+            start: None,
+            price: no_price(),
+        })
+    }
 }
 
 /// The faults of a base, in order. Contracts see the list.

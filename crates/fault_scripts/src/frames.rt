@@ -1,14 +1,12 @@
-ghost use Rattle.std.specs.Prelude.{◌<◌, ◌≤◌, ◌+◌, [], IfOk, OnOk, length};
-ghost use Rattle.fault_scripts.specs.Telling.{ScriptsExtend, IsReady};
-ghost use Rattle.fault_scripts.specs.Judged.{IsJudged, Judges};
+ghost use Rattle.std.specs.Prelude.{◌≡◌, ◌<◌, ◌≤◌, ◌+◌, IfOk, OnOk, length};
+ghost use Rattle.finder.specs.Finds.{IsFinding};
+ghost use Rattle.fault_scripts.specs.Judged.{IsJudged};
 
-use crate::kinds::judge_frame;
 use crate::table::Table;
-use crate::teller::Teller;
+use crate::teller::{Teller, discovered_at};
 use abstract_paint::paint;
 use checker::Policy;
-use finder::Found;
-use frame_records::{Base, Frame};
+use finder::Survey;
 use std::alloc::{AllocError, Global};
 
 // Judges the discovered frames: tells their faults, and gathers the rows of a certificate.
@@ -19,62 +17,44 @@ pub struct Judge {
 }
 
 impl Judge {
-    // Judges a discovered frame, which is painted once.
+    // Judges the discovered frame at an index, which is painted once.
     fn frame(
         &mut self,
         alloc: Global,
-        base: &Base,
-        policy: &Policy,
-        frame: &Frame,
-        rank: Option<u16>,
-    ) -> Result<(), AllocError>
-        requires { IsReady self.old.teller }
-        ensures { OnOk result (Judges [] base.now policy.now frame.now rank self.old self.new) }
-    {
-        let painted = paint(frame.lead, frame.body.as_slice());
-        judge_frame(alloc, base, policy, &mut self.teller, frame, painted, rank)?;
-        self.table.add(self.teller.id, rank, frame.price, painted)
-    }
-
-    // Judges the discovered frame at an index.
-    fn place(
-        &mut self,
-        alloc: Global,
-        base: &Base,
+        survey: &Survey,
         policy: &Policy,
         index: u32,
     ) -> Result<(), AllocError>
-        requires within { index < length self.old.teller.found }
-        requires extends { ScriptsExtend self.old.teller.found }
-        requires judged { IsJudged base.now policy.now self.old.teller.found index self.old }
-        ensures { OnOk result (IsJudged base.now policy.now self.old.teller.found (index + 1) self.new) }
+        requires within { index < length survey.now.found }
+        requires groups { survey.now.groups ≡ policy.now.groups }
+        requires judged { IsJudged survey.now.base policy.now survey.now.found index self.old }
+        ensures { OnOk result (IsJudged survey.now.base policy.now survey.now.found (index + 1) self.new) }
     {
-        let rank = self.teller.enter(index);
-        match base.find(self.teller.id) {
-            Some(frame) => self.frame(alloc, base, policy, frame, rank),
-            None => Ok(()),
-        }
+        let discovered = discovered_at(survey, index);
+        let frame = survey.frame(index as usize);
+        let painted = paint(frame.lead, frame.body.as_slice());
+        self.teller
+            .judge(alloc, survey, policy, index, frame, painted)?;
+        self.table
+            .add(discovered.id, discovered.rank, frame.price, painted)?;
+        Ok(())
     }
 }
 
 // Judges all discovered frames, in order.
-pub fn judge_all(
-    alloc: Global,
-    base: &Base,
-    policy: &Policy,
-    found: Found,
-) -> Result<Judge, AllocError>
-    requires few { length found ≤ 65535 }
-    requires extends { ScriptsExtend found }
-    ensures { IfOk result (IsJudged base.now policy.now found (length found)) }
+pub fn judge_all(alloc: Global, survey: &Survey, policy: &Policy) -> Result<Judge, AllocError>
+    requires few { length survey.now.found ≤ 65535 }
+    requires groups { survey.now.groups ≡ policy.now.groups }
+    requires finding { IsFinding policy.now.groups survey.now.base survey.now.found }
+    ensures { IfOk result (IsJudged survey.now.base policy.now survey.now.found (length survey.now.found)) }
 {
-    let count = found.as_slice().len() as u32;
+    let count = survey.found().as_slice().len() as u32;
     let mut judge = Judge {
-        teller: Teller::new(alloc, found, base.entry_frame()),
+        teller: Teller::new(alloc),
         table: Table::new(alloc),
     };
     for index in 0..count {
-        judge.place(alloc, base, policy, index)?;
+        judge.frame(alloc, survey, policy, index)?;
     }
     Ok(judge)
 }

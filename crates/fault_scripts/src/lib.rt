@@ -10,10 +10,9 @@
 
 mod auditing;
 mod fault;
+mod flaw;
 mod frames;
-mod kinds;
 mod laws;
-mod limits;
 mod outcome;
 mod replaying;
 mod table;

@@ -1,7 +1,6 @@
-ghost use Rattle.std.specs.Prelude.{[]};
 ghost use Rattle.fault_scripts.specs.Replays.{IsReplayed};
 
-use frame_records::Base;
+use frame_records::{Base, Groups};
 use page_ids::{FrameId, KeyList};
 use session_machine::{OpenFault, Reply, Session};
 use std::alloc::Global;
@@ -15,13 +14,18 @@ pub struct Replayed {
     pub at: Option<FrameId>,
 }
 
-/// Runs keys from the entry frame, by a caller outside every group.
+/// Runs keys from the entry frame, by a caller of just these groups.
 ///
 /// `EntryMissing` and `EntryClosed` where no session can be opened.
-pub fn replay(alloc: Global, base: &Base, keys: &KeyList) -> Result<Replayed, OpenFault>
-    ensures { IsReplayed [] base.now keys.now result }
+pub fn replay(
+    alloc: Global,
+    base: &Base,
+    groups: &Groups,
+    keys: &KeyList,
+) -> Result<Replayed, OpenFault>
+    ensures { IsReplayed groups.now base.now keys.now result }
 {
-    let (mut session, opened) = Session::open(alloc, base)?;
+    let (mut session, opened) = Session::open(alloc, base, groups)?;
     let mut last = opened;
     for key in keys.as_slice() {
         last = session.key(base, *key);

@@ -1,8 +1,7 @@
-ghost use Rattle.std.specs.Prelude.{◌≡◌, ◌++◌, OnOk};
-ghost use Rattle.fault_scripts.specs.Table.{greater, row_of, rank_or_zero, no_parts, with_parts};
-ghost use Rattle.fault_scripts.specs.TableView.{parts_of};
+ghost use Rattle.std.specs.Prelude.{◌≡◌, ◌++◌, [], OnOk, unwrap_or};
+ghost use Rattle.fault_scripts.specs.Gathered.{greater, row_of, IsGathered};
 
-use crate::kinds::no_price;
+use crate::fault::no_price;
 use abstract_paint::Painted;
 use cert_table::Row;
 use frame_records::Pence;
@@ -26,7 +25,7 @@ fn dearer(a: Pence, b: Pence) -> Pence
 
 // The greater of the rank so far and another, if there is one.
 fn farther(keyings: u16, rank: Option<u16>) -> u16
-    ensures { result ≡ greater keyings (rank_or_zero rank) }
+    ensures { result ≡ greater keyings (unwrap_or rank 0) }
 {
     match rank {
         Some(rank) if keyings < rank => rank,
@@ -55,7 +54,9 @@ fn push_row(
 impl Table {
     // No frame yet.
     pub fn new(alloc: Global) -> Table
-        ensures { parts_of result ≡ no_parts }
+        ensures rows { result.rows.items ≡ [] }
+        ensures ceiling { result.ceiling ≡ 0 }
+        ensures keyings { result.keyings ≡ 0 }
     {
         Table {
             rows: Vec::new(alloc),
@@ -72,7 +73,9 @@ impl Table {
         price: Pence,
         painted: Painted,
     ) -> Result<(), AllocError>
-        ensures { OnOk result (parts_of self.new ≡ with_parts (parts_of self.old) id rank price painted) }
+        ensures rows { OnOk result (self.new.rows.items ≡ self.old.rows.items ++ row_of id rank painted) }
+        ensures ceiling { OnOk result (self.new.ceiling ≡ greater self.old.ceiling price) }
+        ensures keyings { OnOk result (self.new.keyings ≡ greater self.old.keyings (unwrap_or rank 0)) }
     {
         push_row(&mut self.rows, id, rank, painted)?;
         self.ceiling = dearer(self.ceiling, price);

@@ -1,36 +1,35 @@
-ghost use Rattle.std.specs.Prelude.{◌≡◌, ◌<◌, ◌∷◌, [], None, OnOk, IfOk, length, slice_get};
-ghost use Rattle.finder.specs.Found.{script, parent_of};
-ghost use Rattle.fault_scripts.specs.Telling.{ScriptsExtend, HasScript, IsReady, IsTold, IsPlaceAt, Tells, fault_of, pressed};
+ghost use Rattle.std.specs.Prelude.{◌≡◌, ◌<◌, ◌*◌, ◌+◌, ◌++◌, [], None, Some, OnOk, length, slice_get, option_map};
+ghost use Rattle.std.specs.Option.{option_to_list};
+ghost use Rattle.abstract_paint.specs.Paint.{paint_of};
+ghost use Rattle.finder.specs.Scripts.{script};
+ghost use Rattle.fault_scripts.specs.Flaws.{fault_of};
+ghost use Rattle.fault_scripts.specs.Judged.{ScriptsExtend, HasScript, CanLead, IsFrameAt, IsTelling};
 
-use crate::fault::{Fault, FaultKind};
-use abstract_paint::Start;
-use finder::{Found, script_to};
-use frame_records::Pence;
-use page_ids::{FrameId, Key, KeyList};
+use crate::fault::Fault;
+use crate::flaw::{Flaw, price_flaw, return_flaw, touch_flaw, way_flaw};
+use abstract_paint::Painted;
+use checker::Policy;
+use finder::{Discovered, Found, Survey, script_to};
+use frame_records::Frame;
+use page_ids::{FrameId, Key, Way};
 use std::alloc::{AllocError, Global};
 
 // Tells the faults of the discovered frames, one frame after another. The keys that lead to a frame are looked for when its
 // first fault is told, and go on from those of its parent where these are at hand.
 #[derive(Drop)]
 pub struct Teller {
-    pub found: Found,
-    // The frame whose faults are told, and its place among the discovered ones.
-    pub index: u32,
-    pub id: FrameId,
-    // The keys to the frame at this place.
+    // The keys to the frame at this index.
     pub at: Option<u32>,
     pub keys: Vec<Key>,
     pub faults: Vec<Fault>,
 }
 
-// The parent of a discovered frame, and the key that led from it.
-fn parent_of(found: &Found, index: u32) -> Option<(u32, Key)>
-    ensures { result ≡ parent_of (slice_get found.now index) }
+// The discovered frame at an index of the list.
+pub fn discovered_at<'a>(survey: &'a Survey, index: u32) -> &'a Discovered
+    requires { index < length survey.now.found }
+    ensures { slice_get survey.now.found index ≡ Some result.now }
 {
-    let frame = found.as_slice().get(index as usize)?;
-    let parent = frame.parent?;
-    let key = frame.key?;
-    Some((parent, key))
+    &survey.found().as_slice()[index as usize]
 }
 
 // The keys that lead to the frame at an index, looked for anew.
@@ -52,12 +51,10 @@ fn lead_on(
     at: Option<u32>,
     keys: &mut Vec<Key>,
 ) -> Result<(), AllocError>
-    requires within { index < length found.now }
-    requires extends { ScriptsExtend found.now }
-    requires script { HasScript found.now at keys.old.items }
+    requires { CanLead found.now index at keys.old.items }
     ensures { OnOk result (keys.new.items ≡ script found.now index) }
 {
-    match parent_of(found, index) {
+    match found.parent_of(index) {
         Some((parent, key)) if at == Some(parent) => {
             keys.push(key)?;
             Ok(())
@@ -66,88 +63,96 @@ fn lead_on(
     }
 }
 
-// The keys, and behind them the one that is pressed.
-fn copied(alloc: Global, keys: &[Key], key: Option<Key>) -> Result<KeyList, AllocError>
-    ensures { IfOk result (λ list. list ≡ pressed keys.now key) }
-{
-    let mut list = Vec::new(alloc);
-    list.extend_from_slice(keys)?;
-    if let Some(key) = key {
-        list.push(key)?;
-    }
-    Ok(KeyList::of(list))
-}
-
 impl Teller {
     // Nothing told yet.
-    pub fn new(alloc: Global, found: Found, id: FrameId) -> Teller
-        ensures { IsTold result found None [] [] }
+    pub fn new(alloc: Global) -> Teller
+        ensures at { result.at ≡ None }
+        ensures none { result.faults.items ≡ [] }
     {
         Teller {
-            found,
-            index: 0,
-            id,
             at: None,
             keys: Vec::new(alloc),
             faults: Vec::new(alloc),
         }
     }
 
-    // Goes on to the frame at an index, and answers its rank.
-    pub fn enter(&mut self, index: u32) -> Option<u16>
-        requires within { index < length self.old.found }
-        requires extends { ScriptsExtend self.old.found }
-        requires script { HasScript self.old.found self.old.at self.old.keys.items }
-        ensures told { IsTold self.new self.old.found self.old.at self.old.keys.items self.old.faults.items }
-        ensures index { self.new.index ≡ index }
-        ensures place { IsPlaceAt self.old.found index self.new.id result }
+    // Makes the keys at hand those that lead to the frame at an index.
+    fn go(&mut self, alloc: Global, found: &Found, index: u32) -> Result<(), AllocError>
+        requires { CanLead found.now index self.old.at self.old.keys.items }
+        ensures at { OnOk result (self.new.at ≡ Some index) }
+        ensures keys { OnOk result (self.new.keys.items ≡ script found.now index) }
+        ensures faults { self.new.faults.items ≡ self.old.faults.items }
     {
-        let place = &self.found.as_slice()[index as usize];
-        let rank = place.rank;
-        self.id = place.id;
-        self.index = index;
-        rank
-    }
-
-    // Makes the keys at hand those that lead to the frame.
-    fn go(&mut self, alloc: Global) -> Result<(), AllocError>
-        requires { IsReady self.old }
-        ensures told { OnOk result (Tells self.old self.new []) }
-        ensures keys { OnOk result (self.new.keys.items ≡ script self.old.found self.old.index) }
-    {
-        if self.at == Some(self.index) {
+        if self.at == Some(index) {
             return Ok(());
         }
-        lead_on(alloc, &self.found, self.index, self.at, &mut self.keys)?;
-        self.at = Some(self.index);
+        lead_on(alloc, found, index, self.at, &mut self.keys)?;
+        self.at = Some(index);
         Ok(())
     }
 
-    // Tells a fault of these parts.
-    pub fn tell(
+    // Tells a flaw of the frame at an index, if there is one.
+    fn tell(
         &mut self,
         alloc: Global,
-        kind: FaultKind,
-        key: Option<Key>,
-        sought: Option<FrameId>,
-        start: Option<Start>,
-        price: Pence,
+        survey: &Survey,
+        index: u32,
+        id: FrameId,
+        flaw: Option<Flaw>,
     ) -> Result<(), AllocError>
-        requires { IsReady self.old }
-        ensures { OnOk result (Tells self.old self.new (fault_of kind self.old.id (script self.old.found self.old.index) key sought start price ∷ [])) }
+        requires within { index < length survey.now.found }
+        requires extends { ScriptsExtend survey.now.found }
+        requires script { HasScript survey.now.found self.old.at self.old.keys.items }
+        ensures script { OnOk result (HasScript survey.now.found self.new.at self.new.keys.items) }
+        ensures told { OnOk result (self.new.faults.items ≡ self.old.faults.items ++ option_to_list (option_map (fault_of id (script survey.now.found index)) flaw)) }
     {
-        self.go(alloc)?;
-        let pressed = key;
-        let script = copied(alloc, self.keys.as_slice(), pressed)?;
-        self.faults.push(Fault {
-            kind,
-            frame: self.id,
-            key,
-            sought,
-            script,
-            start,
-            price,
-        })?;
+        let Some(flaw) = flaw else {
+            return Ok(());
+        };
+        self.go(alloc, survey.found(), index)?;
+        let fault = flaw.fault(alloc, id, self.keys.as_slice())?;
+        self.faults.push(fault)?;
+        Ok(())
+    }
+
+    // Tells the faults of the frame at an index: Price, Touches, Missing and Closed by way, NoReturn.
+    pub fn judge(
+        &mut self,
+        alloc: Global,
+        survey: &Survey,
+        policy: &Policy,
+        index: u32,
+        frame: &Frame,
+        painted: Painted,
+    ) -> Result<(), AllocError>
+        requires within { index < length survey.now.found }
+        requires frame { IsFrameAt survey.now index frame.now }
+        requires painted { painted ≡ paint_of frame.now.lead frame.now.body }
+        requires groups { survey.now.groups ≡ policy.now.groups }
+        requires telling { IsTelling survey.now.base policy.now survey.now.found (index * 14) self.old }
+        ensures { OnOk result (IsTelling survey.now.base policy.now survey.now.found ((index + 1) * 14) self.new) }
+    {
+        let discovered = discovered_at(survey, index);
+        let id = discovered.id;
+        self.tell(
+            alloc,
+            survey,
+            index,
+            id,
+            price_flaw(policy.ceiling, frame.price),
+        )?;
+        self.tell(alloc, survey, index, id, touch_flaw(frame, painted))?;
+        for place in 0..Way::COUNT {
+            let flaw = way_flaw(survey, index, frame, &Way::at(place));
+            self.tell(alloc, survey, index, id, flaw)?;
+        }
+        self.tell(
+            alloc,
+            survey,
+            index,
+            id,
+            return_flaw(policy.keyings, discovered.rank),
+        )?;
         Ok(())
     }
 }

@@ -6,7 +6,7 @@ use base_text::base_read;
 use cert_table::{Certificate, Cover, Row};
 use checker::Policy;
 use demo_texts::DEMO;
-use frame_records::{Base, Body, Frame, Lead, Pence};
+use frame_records::{Base, Body, Frame, Groups, Lead, Pence};
 use page_ids::{FrameId, Key, KeyList, PageNo, keys_read, keys_text};
 use session_machine::{OpenFault, Reply};
 use std::alloc::Global;
@@ -22,7 +22,11 @@ const ALL_KINDS: &str =
 
 fn policy(ceiling: u16, keyings: u16) -> Result<Policy, Fail> {
     let ceiling = Pence::new(ceiling).ok_or("ceiling")?;
-    Ok(Policy { ceiling, keyings })
+    Ok(Policy {
+        ceiling,
+        keyings,
+        groups: Groups::none(),
+    })
 }
 
 fn base_of(alloc: Global, text: &str) -> Result<Base, Fail> {
@@ -120,8 +124,42 @@ fn a_closed_frame_is_told_where_its_key_is_pressed(rt: HostRuntime) -> Result<()
     assert_eq!(rt; list.as_slice().len(), 1);
     let fault = &list.as_slice()[0];
     assert_fault(&rt, fault, FaultKind::Closed, "1231a", "#", "1231b", "1#")?;
-    let end = replay(rt.alloc(), &base, &fault.script)?;
+    let end = replay(rt.alloc(), &base, &Groups::none(), &fault.script)?;
     assert_eq!(rt; end.last, Reply::Closed(FrameId::read("1231b")?));
+    assert_eq!(rt; end.at, Some(FrameId::read("1231a")?));
+    Ok(())
+}
+
+#[test]
+fn a_base_may_be_safe_for_callers_of_a_group_alone(rt: HostRuntime) -> Result<(), Fail> {
+    let base = demo(rt.alloc(), "lead = \"keep\"", "lead = \"keep\"\ngroup = 7")?;
+    let mut members = policy(50, 3)?;
+    members.groups = Groups::read("7")?;
+    let cert = certified(&rt, &base, &members)?;
+    assert_eq!(rt; cert.entry().get(), 123);
+    assert_eq!(rt; cert.ceiling().get(), 5);
+    assert_eq!(rt; cert.keyings(), 1);
+    assert_eq!(rt; cert.cover().len(), 3);
+    let groups = cert.groups();
+    assert_eq!(rt; groups.len(), 1);
+    assert_eq!(rt; groups.at(0).get(), 7);
+    let list = faulty(&rt, &base, &policy(50, 3)?)?;
+    assert_eq!(rt; list.as_slice().len(), 1);
+    let fault = &list.as_slice()[0];
+    assert_fault(&rt, fault, FaultKind::Closed, "1231a", "#", "1231b", "1#")
+}
+
+#[test]
+fn replay_is_by_a_caller_of_the_groups(rt: HostRuntime) -> Result<(), Fail> {
+    let base = demo(rt.alloc(), "lead = \"keep\"", "lead = \"keep\"\ngroup = 7")?;
+    let keys = keys_read(rt.alloc(), "1#")?;
+    let last = FrameId::read("1231b")?;
+    let free = Pence::new(0).ok_or("price")?;
+    let end = replay(rt.alloc(), &base, &Groups::read("7")?, &keys)?;
+    assert_eq!(rt; end.last, Reply::Shown(last, free));
+    assert_eq!(rt; end.at, Some(last));
+    let end = replay(rt.alloc(), &base, &Groups::none(), &keys)?;
+    assert_eq!(rt; end.last, Reply::Closed(last));
     assert_eq!(rt; end.at, Some(FrameId::read("1231a")?));
     Ok(())
 }
@@ -212,7 +250,7 @@ fn an_entry_that_is_not_found_is_the_one_fault(rt: HostRuntime) -> Result<(), Fa
     let fault = &list.as_slice()[0];
     assert_fault(&rt, fault, FaultKind::EntryMissing, "0a", "", "", "")?;
     assert_eq!(rt;
-        replay(rt.alloc(), &base, &fault.script),
+        replay(rt.alloc(), &base, &Groups::none(), &fault.script),
         Err(OpenFault::EntryMissing)
     );
     let base = demo(rt.alloc(), "id = \"123a\"", "id = \"123a\"\ngroup = 7")?;
@@ -237,11 +275,21 @@ fn the_entry_frame_may_be_too_dear(rt: HostRuntime) -> Result<(), Fail> {
 fn replay_tells_the_last_reply_and_the_place(rt: HostRuntime) -> Result<(), Fail> {
     let base = base_of(rt.alloc(), DEMO)?;
     let id = FrameId::read("123a")?;
-    let opened = replay(rt.alloc(), &base, &keys_read(rt.alloc(), "")?)?;
+    let opened = replay(
+        rt.alloc(),
+        &base,
+        &Groups::none(),
+        &keys_read(rt.alloc(), "")?,
+    )?;
     let free = Pence::new(0).ok_or("price")?;
     assert_eq!(rt; opened.last, Reply::Shown(id, free));
     assert_eq!(rt; opened.at, Some(id));
-    let left = replay(rt.alloc(), &base, &keys_read(rt.alloc(), "01")?)?;
+    let left = replay(
+        rt.alloc(),
+        &base,
+        &Groups::none(),
+        &keys_read(rt.alloc(), "01")?,
+    )?;
     assert_eq!(rt; left.last, Reply::NotOffered);
     assert!(rt; left.at.is_none());
     Ok(())
@@ -251,7 +299,12 @@ fn replay_tells_the_last_reply_and_the_place(rt: HostRuntime) -> Result<(), Fail
 fn replay_presses_20_000_keys(rt: HostRuntime) -> Result<(), Fail> {
     let base = base_of(rt.alloc(), DEMO)?;
     let keys = "10".repeat(rt.alloc(), 10_000)?;
-    let end = replay(rt.alloc(), &base, &keys_read(rt.alloc(), keys.as_str())?)?;
+    let end = replay(
+        rt.alloc(),
+        &base,
+        &Groups::none(),
+        &keys_read(rt.alloc(), keys.as_str())?,
+    )?;
     let entry = FrameId::read("123a")?;
     let free = Pence::new(0).ok_or("price")?;
     assert_eq!(rt; end.last, Reply::Shown(entry, free));
@@ -307,7 +360,7 @@ fn a_script_has_a_key_for_each_frame_of_a_long_chain(rt: HostRuntime) -> Result<
             "999999a",
             script.as_str(),
         )?;
-        let end = replay(rt.alloc(), &base, &fault.script)?;
+        let end = replay(rt.alloc(), &base, &Groups::none(), &fault.script)?;
         assert_eq!(rt; end.last, Reply::Missing(FrameId::read("999999a")?));
         assert_eq!(rt; end.at, Some(FrameId::read("19999a")?));
     }

@@ -1,12 +1,13 @@
 //! Finds the frames of a base of the greatest size, beside one pass of look-ups of its routes in an `IndexMap`.
 //!
-//! It does so where the routes lead to frames in a row, and where they are scattered. It prints the least processor times of
-//! five runs each and their ratios to standard error, and `ok` where each frame was found.
+//! It does so where the routes lead to frames in a row, where they are scattered, where each frame leads to the next alone, and
+//! where the frames are a tree. It prints the least processor times of five runs each and their ratios to standard error, and
+//! `ok` where each frame was found.
 #![tactic(auto)]
 
 use anyhow::{Result, bail};
 use finder::find;
-use frame_records::{Base, Body, Frame, Lead, Pence};
+use frame_records::{Base, Body, Frame, Groups, Lead, Pence};
 use indexmap::IndexMap;
 use page_ids::{FrameId, PageNo};
 use std::alloc::Global;
@@ -28,20 +29,33 @@ fn page_of(number: u32) -> Result<PageNo> {
     }
 }
 
-// How the routes lie: to ten frames in a row, or to ten scattered ones. Either way five keys lead from any frame to any other.
+// How the ten routes of a frame lie.
 #[derive(Clone, Copy)]
 enum Routes {
+    // To ten frames in a row: five keys lead from any frame to any other.
     InARow,
+    // To ten scattered frames; here too five keys do.
     Scattered,
+    // Each to the next frame.
+    Chain,
+    // To ten frames that no other frame leads to, as far as there are any, and else to the entry frame.
+    Tree,
 }
 
 // The frame to which a frame's route of this digit leads.
 fn target(routes: Routes, number: u32, digit: u32) -> u32 {
-    let next = number.wrapping_mul(10).wrapping_add(digit.wrapping_add(1)) % FRAMES;
+    let child = number.wrapping_mul(10).wrapping_add(digit.wrapping_add(1));
     match routes {
-        Routes::InARow => next,
-        Routes::Scattered => next.wrapping_mul(40_507) % FRAMES,
+        Routes::InARow => child % FRAMES,
+        Routes::Scattered => (child % FRAMES).wrapping_mul(40_507) % FRAMES,
+        Routes::Chain => number.wrapping_add(1) % FRAMES,
+        Routes::Tree => { if child < FRAMES { child } else { 0 } }
     }
+}
+
+// The page to which a frame's route of this digit leads.
+fn route(routes: Routes, number: u32, digit: u32) -> Option<PageNo> {
+    PageNo::new(FIRST_PAGE + target(routes, number, digit) % FRAMES)
 }
 
 // A frame with ten routes.
@@ -49,16 +63,23 @@ fn frame_of(alloc: Global, routes: Routes, number: u32) -> Result<Frame> {
     let Some(price) = Pence::new(5) else {
         bail!("no such price");
     };
-    let mut ways = [None; 10];
-    for digit in 0..10u32 {
-        ways[digit as usize] = Some(page_of(target(routes, number, digit))?);
-    }
     Ok(Frame {
         id: FrameId::first(page_of(number)?),
         price,
         group: None,
         next: false,
-        routes: ways,
+        routes: [
+            route(routes, number, 0),
+            route(routes, number, 1),
+            route(routes, number, 2),
+            route(routes, number, 3),
+            route(routes, number, 4),
+            route(routes, number, 5),
+            route(routes, number, 6),
+            route(routes, number, 7),
+            route(routes, number, 8),
+            route(routes, number, 9),
+        ],
         lead: Lead::Clear,
         body: Body::of(Vec::new(alloc)),
     })
@@ -112,7 +133,7 @@ fn lookup_time(rt: &HostRuntime, base: &Base) -> Result<Duration> {
 
 fn find_time(rt: &HostRuntime, base: &Base) -> Result<Duration> {
     let start = rt.thread_cpu_time()?;
-    let found = find(rt.alloc(), base)?;
+    let found = find(rt.alloc(), base, &Groups::none())?;
     let time = rt.thread_cpu_time()?.saturating_sub(start);
     if found.as_slice().len() != 65_535 {
         bail!("a frame is not found");
@@ -146,6 +167,8 @@ fn measure(rt: &HostRuntime, name: &str, routes: Routes) -> Result<()> {
 fn main(rt: HostRuntime) -> Result<()> {
     measure(&rt, "in a row", Routes::InARow)?;
     measure(&rt, "scattered", Routes::Scattered)?;
+    measure(&rt, "in a chain", Routes::Chain)?;
+    measure(&rt, "in a tree", Routes::Tree)?;
     println!(rt; "ok")?;
     Ok(())
 }

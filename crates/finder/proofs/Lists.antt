@@ -1,8 +1,10 @@
--- What stands in lists, and in a list with one more at its end.
-use Rattle.std.proofs.Common.{◌≡◌, ◌<◌, ◌⊎◌, inl, inr, ℕ, zero, suc, List, [], ◌∷◌, ◌++◌, Some, slice_get, get_or, length, refl, arith}
+-- What stands in a list with one more at its end, and in a list with one changed.
+use Rattle.std.proofs.Common.{◌≡◌, ◌<◌, ◌≤◌, ◌⊎◌, inl, inr, ℕ, zero, suc, Bool, true, false, List, [], ◌∷◌, ◌++◌, Option, Some, None, map, option_map, slice_get, length, get_or, set, All, AllPairs, Any, sym, ◌∙◌, ap, subst, refl, length-append, arith}
+use Rattle.std.proofs.lemmas.List.{get_or-set_other, get_or_append_left}
+use Rattle.std.proofs.lemmas.Option.{same_Some, slice_get-map, slice_get_within, slice_get_read, get_or_from_slice_get}
 
--- what stands in a list with one more at its end
-pub at_push : {X : Type 0} (xs : List X) (y : X) (j : ℕ) (x : X) → slice_get (xs ++ y ∷ []) j ≡ Some x → (slice_get xs j ≡ Some x) ⊎ ((j ≡ length xs) × (y ≡ x))
+pub at_push : {X : Type 0} (xs : List X) (y : X) (j : ℕ) (x : X) → slice_get (xs ++ y ∷ []) j ≡ Some x
+    → (slice_get xs j ≡ Some x) ⊎ ((j ≡ length xs) × (y ≡ x))
 at_push [] y zero x h = inr (refl, cc)
 at_push [] y (suc j) x h = absurd cc
 at_push (z ∷ zs) y zero x h = inl h
@@ -12,37 +14,54 @@ at_push (z ∷ zs) y (suc j) x h =
       | inr e ↦ inr (omega (arith, e.0), e.1)
     ]
 
-pub push_at : {X : Type 0} (xs : List X) (y : X) (j : ℕ) (x : X) → slice_get xs j ≡ Some x → slice_get (xs ++ y ∷ []) j ≡ Some x
+pub push_at : {X : Type 0} (xs : List X) (y : X) (j : ℕ) (x : X) → slice_get xs j ≡ Some x
+    → slice_get (xs ++ y ∷ []) j ≡ Some x
 push_at [] y j x h = absurd cc
 push_at (z ∷ zs) y zero x h = h
 push_at (z ∷ zs) y (suc j) x h = push_at zs y j x h
 
-pub push_end : {X : Type 0} (xs : List X) (y : X) → slice_get (xs ++ y ∷ []) (length xs) ≡ Some y
-push_end [] y = refl
-push_end (z ∷ zs) y = push_end zs y
+pub none_past : {X : Type 0} (xs : List X) (j : ℕ) → slice_get xs j ≡ None → length xs ≤ j
+none_past [] j none = omega arith
+none_past (z ∷ zs) zero none = absurd cc
+none_past (z ∷ zs) (suc j) none = omega (arith, none_past zs j none)
 
-pub slice_push : {X : Type 0} (xs : List X) (y : X) (i : ℕ) → i < length xs → slice_get (xs ++ y ∷ []) i ≡ slice_get xs i
-slice_push [] y i lt = absurd (omega (arith, lt))
-slice_push (x ∷ xs) y zero lt = refl
-slice_push (x ∷ xs) y (suc i) lt = slice_push xs y i (omega (arith, lt))
+-- what holds of each holds of the one at an index
+pub all_at : {X : Type 0} (P : X → Type 0) (xs : List X) (j : ℕ) (x : X) → All P xs → slice_get xs j ≡ Some x → P x
+all_at P xs j x all at = subst P (get_or_from_slice_get xs j x x at) (all j x (slice_get_within xs j x at))
 
-pub some_at : {X : Type 0} (xs : List X) (i : ℕ) → i < length xs → (x : X) × (slice_get xs i ≡ Some x)
-some_at [] i lt = absurd (omega (arith, lt))
-some_at (x ∷ xs) zero lt = (x, refl)
-some_at (x ∷ xs) (suc i) lt = some_at xs i (omega (arith, lt))
+-- a value stays where another one is changed
+pub set_kept : {X : Type 0} (xs : List X) (i j : ℕ) (y d v : X) → get_or xs j d ≡ v → (get_or xs i d ≡ v → ⊥)
+    → get_or (set xs i y) j d ≡ v
+set_kept xs i j y d v here not_there = get_or-set_other xs i j y d (λ same. not_there (ap (λ k. get_or xs k d) (sym same) ∙ here)) ∙ here
 
-pub get_push : {X : Type 0} (xs : List X) (y : X) (j : ℕ) (d : X) → j < length xs → get_or (xs ++ y ∷ []) j d ≡ get_or xs j d
-get_push [] y j d lt = absurd (omega (arith, lt))
-get_push (x ∷ xs) y zero d lt = refl
-get_push (x ∷ xs) y (suc j) d lt = get_push xs y j d (omega (arith, lt))
+pub any_grown : {X : Type 0} (P : X → Type 0) (xs : List X) (y : X) → Any P xs → Any P (xs ++ y ∷ [])
+any_grown P xs y some = (some.0, some.1, omega (arith, some.2, length-append xs (y ∷ [])), get_or_append_left xs (y ∷ []) some.1 some.0 some.2 ∙ some.3, some.4)
 
-pub get_end : {X : Type 0} (xs : List X) (y : X) (j : ℕ) (d : X) → j ≡ length xs → get_or (xs ++ y ∷ []) j d ≡ y
-get_end [] y zero d e = refl
-get_end [] y (suc j) d e = absurd (omega (arith, e))
-get_end (x ∷ xs) y zero d e = absurd (omega (arith, e))
-get_end (x ∷ xs) y (suc j) d e = get_end xs y j d (omega (arith, e))
+pub true_within : (xs : List Bool) (j : ℕ) → get_or xs j false ≡ true → j < length xs
+true_within [] j h = absurd cc
+true_within (z ∷ zs) zero h = omega arith
+true_within (z ∷ zs) (suc j) h = omega (arith, true_within zs j h)
 
-pub any_default : {X : Type 0} (xs : List X) (j : ℕ) (a b : X) → j < length xs → get_or xs j a ≡ get_or xs j b
-any_default [] j a b lt = absurd (omega (arith, lt))
-any_default (x ∷ xs) zero a b lt = refl
-any_default (x ∷ xs) (suc j) a b lt = any_default xs j a b (omega (arith, lt))
+pub any_of : {X : Type 0} (P : X → Type 0) (xs : List X) (j : ℕ) (x : X) → slice_get xs j ≡ Some x → P x → Any P xs
+any_of P xs j x at p = (j, x, slice_get_within xs j x at, get_or_from_slice_get xs j x x at, p)
+
+pub any_at : {X : Type 0} (P : X → Type 0) (xs : List X) → Any P xs
+    → (j : ℕ) × (x : X) × (slice_get xs j ≡ Some x) × P x
+any_at P xs some = (some.0, some.1, slice_get_read xs (length xs) some.0 some.1 refl some.2 (sym some.3), some.4)
+
+-- what holds of each two holds of two at indices
+pub pairs_at : {X : Type 0} (R : X → X → Type 0) (xs : List X) (i j : ℕ) (x y : X) → AllPairs R xs → i < j
+    → slice_get xs i ≡ Some x → slice_get xs j ≡ Some y → R x y
+pairs_at R xs i j x y all lt at there = subst (R x) (get_or_from_slice_get xs j y x there) (subst (λ z. R z (get_or xs j x)) (get_or_from_slice_get xs i x x at) (all i j x lt (slice_get_within xs j y there)))
+
+-- what stands in a list of images
+pub image_at : {X Y : Type 0} (f : X → Y) (xs : List X) (i : ℕ) (y : Y) → slice_get (map f xs) i ≡ Some y
+    → (x : X) × (slice_get xs i ≡ Some x) × (f x ≡ y)
+image_at {X} f xs i y e = by (slice_get xs i) refl (sym (slice_get-map f xs i) ∙ e) where
+  by : (o : Option X) → slice_get xs i ≡ o → option_map f o ≡ Some y → (x : X) × (slice_get xs i ≡ Some x) × (f x ≡ y)
+  by None is e = absurd cc
+  by (Some x) is e = (x, is, same_Some (f x) y e)
+
+pub at_image : {X Y : Type 0} (f : X → Y) (xs : List X) (i : ℕ) (x : X) → slice_get xs i ≡ Some x
+    → slice_get (map f xs) i ≡ Some (f x)
+at_image f xs i x at = slice_get-map f xs i ∙ ap (option_map f) at

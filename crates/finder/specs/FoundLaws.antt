@@ -1,16 +1,14 @@
--- What the list of discovered frames is made of.
-use Rattle.std.specs.Prelude.{◌≡◌, ◌≢◌, ℕ, List, [], length, option_map, slice_get}
-use Rattle.page_ids.specs.Ids.{first_frame}
+-- What holds of every list of the reached frames.
+use Rattle.std.specs.Prelude.{◌≡◌, ℕ, List}
 use Rattle.frame_records.specs.BaseView.{BaseView}
-use Rattle.frame_records.specs.declared.base.Sought.TheVariants.{Found, Closed, Missing}
-use Rattle.frame_records.specs.Seek.{seek}
-use Rattle.finder.specs.Walks.{listing}
-use Rattle.finder.specs.Found.{with_rank, rank_of, found_of}
+use Rattle.finder.specs.declared.found.Discovered.{Discovered}
+use Rattle.finder.specs.Scripts.{ScriptsLead}
+use Rattle.finder.specs.Finds.{FindsReached, RanksAreLeast}
 
--- the list is the listing, each entry with its rank; it is empty exactly where the entry frame isn't found
-pub record FoundIsListing : Type 0 where
-  pub count : (caller : List ℕ) (base : BaseView) → length (found_of caller base) ≡ length (listing caller base)
-  pub frames : (caller : List ℕ) (base : BaseView) (i : ℕ) → slice_get (found_of caller base) i ≡ option_map (λ e. with_rank e (rank_of base (listing caller base) i)) (slice_get (listing caller base) i)
-  pub closed : (caller : List ℕ) (base : BaseView) → seek caller base (first_frame base.entry) ≡ Closed → found_of caller base ≡ []
-  pub missing : (caller : List ℕ) (base : BaseView) → seek caller base (first_frame base.entry) ≡ Missing → found_of caller base ≡ []
-  pub some : (caller : List ℕ) (base : BaseView) (price : ℕ) → seek caller base (first_frame base.entry) ≡ Found price → found_of caller base ≢ []
+-- two lists of them with their ranks are equal
+abbrev pub FoundIsOne : Type 0
+FoundIsOne = (caller : List ℕ) (base : BaseView) (a b : List Discovered) → FindsReached caller base a → RanksAreLeast caller base a → FindsReached caller base b → RanksAreLeast caller base b → a ≡ b
+
+-- their scripts lead
+abbrev pub AllScriptsLead : Type 0
+AllScriptsLead = (caller : List ℕ) (base : BaseView) (found : List Discovered) → FindsReached caller base found → ScriptsLead caller base found

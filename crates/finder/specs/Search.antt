@@ -1,34 +1,32 @@
--- The search back from the index 0, along the steps turned round: a queue of indices, and their ranks.
-use Rattle.std.specs.Prelude.{ℕ, zero, suc, ◌+◌, List, [], ◌∷◌, ◌++◌, length, Option, Some, None, slice_get, get_or, set, replicate}
+-- The search back from the entry node.
+use Rattle.std.specs.Prelude.{◌≡◌, ◌<◌, ◌≤◌, ◌+◌, ℕ, List, Option, Some, None, length, get_or, slice_get, All, AllPairs, Contains, sum_by}
+use Rattle.std.specs.List.{AllWithin}
+use Rattle.finder.specs.declared.graph.Graph.{Graph}
+use Rattle.finder.specs.declared.ranks.Ranked.{Ranked}
+use Rattle.finder.specs.Graph.{NodeWalk}
+use Rattle.finder.specs.Turned.{LeadsTo}
 
--- the queue, and for each index its rank, where it has been in the queue
-abbrev pub Search : Type 0
-Search = List ℕ × List (Option ℕ)
+-- the node has a rank, at most m
+abbrev pub HasRank : List (Option ℕ) → ℕ → ℕ → Type 0
+HasRank ranks f m = (n : ℕ) × (get_or ranks f None ≡ Some n) × (n ≤ m)
 
--- an index that has no rank yet gets one and goes last
-abbrev pub mark_by : Search → ℕ → ℕ → Option (Option ℕ) → Search
-mark_by s rank index None = s
-mark_by s rank index (Some (Some other)) = s
-mark_by s rank index (Some None) = (s.0 ++ index ∷ [], set s.1 index (Some rank))
+-- each node that leads to a ranked one has a rank, at most one more
+abbrev pub IsClosed : Graph → List (Option ℕ) → Ranked → Type 0
+IsClosed graph ranks e = (f : ℕ) → LeadsTo graph f e.node → HasRank ranks f (e.rank + 1)
 
-abbrev pub mark : Search → ℕ → ℕ → Search
-mark s rank index = mark_by s rank index (slice_get s.1 index)
+abbrev pub one_if_some : Option ℕ → ℕ
+one_if_some None = 0
+one_if_some (Some n) = 1
 
--- so do the first of some indices
-abbrev pub mark_upto : Search → ℕ → List ℕ → ℕ → Search
-mark_upto s rank froms zero = s
-mark_upto s rank froms (suc k) = mark (mark_upto s rank froms k) rank (get_or froms k 0)
-
--- goes back from an index, where it has a rank
-abbrev pub search_from : List ℕ → Search → Option ℕ → Search
-search_from froms s None = s
-search_from froms s (Some rank) = mark_upto s (rank + 1) froms (length froms)
-
-abbrev pub search_at : (ℕ → List ℕ) → Search → Option ℕ → Search
-search_at froms s None = s
-search_at froms s (Some index) = search_from (froms index) s (get_or s.1 index None)
-
--- the search among so many indices in so many turns
-abbrev pub search_upto : (ℕ → List ℕ) → ℕ → ℕ → Search
-search_upto froms count zero = mark ([], replicate count None) 0 0
-search_upto froms count (suc turn) = search_at froms (search_upto froms count turn) (slice_get (search_upto froms count turn).0 turn)
+-- nodes wait in a queue in the order of their ranks; the first of them are done
+pub record IsSearch (graph : Graph) (done : ℕ) (queue : List Ranked) (ranks : List (Option ℕ)) : Type 0 where
+  pub nodes : length ranks ≡ graph.table.count
+  pub entry_is : get_or ranks graph.entry None ≡ Some 0
+  pub queued : (f n : ℕ) → get_or ranks f None ≡ Some n → Contains queue (record { node = f; rank = n })
+  pub count : sum_by one_if_some ranks ≡ length queue
+  pub inside : All (λ e. e.node < graph.table.count) queue
+  pub walks : All (λ e. NodeWalk graph e.node graph.entry e.rank) queue
+  pub ascend : AllPairs (λ d e. d.rank ≤ e.rank) queue
+  pub low : (i : ℕ) (e : Ranked) → slice_get queue i ≡ Some e → e.rank ≤ i
+  pub near : (e : Ranked) → slice_get queue done ≡ Some e → All (λ d. d.rank ≤ e.rank + 1) queue
+  pub closed : AllWithin (IsClosed graph ranks) queue 0 done

@@ -1,229 +1,163 @@
-ghost use Rattle.std.specs.Prelude.{◌≡◌, ◌<◌, ◌≤◌, ◌+◌, ◌++◌, ◌∷◌, ℕ, [], Some, None, if◌then◌else◌, nat_lt, option_map, OnOk, IfOk, slice_get, length};
-ghost use Rattle.page_ids.specs.Id.{Id};
+ghost use Rattle.std.specs.Prelude.{◌≡◌, ◌<◌, ◌≤◌, ◌+◌, ◌*◌, ◌++◌, ◌∷◌, [], ℕ, Some, None, false, OnOk, IfOk, map, slice_get, length, get_or};
+ghost use Rattle.std.specs.Map.{lookup, values_of};
 ghost use Rattle.page_ids.specs.Ids.{id_eq};
-ghost use Rattle.frame_records.specs.BaseView.{BaseView, IsAscending, frame_at};
-ghost use Rattle.finder.specs.Walks.{opening, listing, lead, sought_by, next_sought};
-ghost use Rattle.finder.specs.Discovery.{try_lead, after_keys, after_node};
-ghost use Rattle.finder.specs.Edges.{index_of, add_edge, step, edges_nodes};
-ghost use Rattle.finder.specs.Seen.{AreOpen, AreOpenBelow, IsSeen, known, listed_of, step_now, seen_keys, seen_node};
+ghost use Rattle.finder.specs.Discovery.{AreNamed, IsListed};
+ghost use Rattle.finder.specs.Entries.{discovered_of};
+ghost use Rattle.finder.specs.Finds.{FindsReached, RanksAreLeast};
+ghost use Rattle.finder.specs.Graph.{target, IsNodeRank};
+ghost use Rattle.finder.specs.Walks.{EntryIsFound};
 
-use frame_records::{Base, Frame};
+use crate::graph::Graph;
+use crate::ranks::{rank_at, ranks_of};
 use indexmap::IndexMap;
 use page_ids::FrameId;
 use std::alloc::{AllocError, Global};
 
-// The frames that a caller outside every group finds, by their ids: the listed ones first, in the order of discovery.
-pub type OpenFrames<'a> = IndexMap<FrameId, &'a Frame>;
+// A frame that is reached, beside its id.
+#[derive(Debug, Clone, Copy, PartialEq, Eq)]
+pub struct Reached {
+    // Its place in the base.
+    pub node: u16,
+    // The least number of ways that lead back to the entry frame; `None` where none do.
+    pub rank: Option<u16>,
+    // The index of the frame from which it was discovered, and the place of the way that led to it; `None` for the entry
+    // frame.
+    pub origin: Option<(u16, u8)>,
+}
 
-// Of a listed frame its parent's index and the key that led to it; none of the entry frame. The keys are numbered in the
-// order in which they are tried: 0 to 9, and 10 for `#`.
-pub type Origin = Option<(u16, u8)>;
+// The frames that are listed by now, by their ids, in the order of discovery.
+pub type Order = IndexMap<FrameId, Reached>;
 
-// What is discovered: as many of the open frames are listed as there are origins; and the steps between the listed ones, by
-// their indices.
+// Lists a frame last that isn't listed.
+fn list(order: &mut Order, id: FrameId, reached: Reached) -> Result<(), AllocError>
+    requires { lookup (id_eq id) order.now.entries ≡ None }
+    ensures { OnOk result (order.new.entries ≡ order.old.entries ++ (id, reached) ∷ []) }
+{
+    match order.insert(id, reached) {
+        Ok(_) => Ok(()),
+        Err(_) => Err(AllocError),
+    }
+}
+
+// The listed frames, and for each place whether its frame is listed.
 #[derive(Drop)]
-pub struct Discovery<'a> {
-    pub frames: OpenFrames<'a>,
-    pub origins: Vec<Origin>,
-    pub steps: Vec<(u16, u16)>,
+struct Discovery {
+    order: Order,
+    listed: Vec<bool>,
 }
 
-// The frame that follows, where `next` is offered.
-fn following_of(frame: &Frame) -> Option<FrameId>
-    ensures { result ≡ next_sought frame.now }
-{
-    let id = frame.id;
-    if frame.next { id.following() } else { None }
-}
+impl Discovery {
+    // The node that is listed at an index.
+    fn at(&self, index: u16) -> Option<Reached>
+        ensures { result ≡ slice_get (values_of self.now.order.entries) index }
+    {
+        let (_, reached) = self.order.get_index(index as usize)?;
+        Some(*reached)
+    }
 
-// The frame that a key of the frame seeks.
-fn sought_of(frame: &Frame, key: u8) -> Option<FrameId>
-    requires { key < 11 }
-    ensures { result ≡ sought_by frame.now key }
-{
-    if key == 10 {
-        following_of(frame)
-    } else {
-        match frame.routes[key as usize] {
-            Some(page) => Some(FrameId::first(page)),
-            None => None,
+    // Whether a node is listed.
+    fn is_listed(&self, node: u16) -> bool
+        requires { node < length self.now.listed.items }
+        ensures { result ≡ get_or self.now.listed.items node false }
+    {
+        self.listed[node as usize]
+    }
+
+    // Tries a way of the node at an index: the node to which it leads goes last, where it isn't listed.
+    fn try_way(
+        &mut self,
+        graph: &Graph<'_>,
+        ranks: &[Option<u16>],
+        index: u16,
+        from: Reached,
+        way: u8,
+    ) -> Result<(), AllocError>
+        requires is_way { way < 11 }
+        requires stands { slice_get (values_of self.old.order.entries) index ≡ Some from }
+        requires len { length ranks.now ≡ graph.now.table.count }
+        requires ranks { (f : ℕ) → IsNodeRank graph.now f (get_or ranks.now f None) }
+        requires listed { IsListed graph.now (index * 11 + way) self.old.order.entries self.old.listed.items }
+        ensures stands { OnOk result (slice_get (values_of self.new.order.entries) index ≡ Some from) }
+        ensures listed { OnOk result (IsListed graph.now (index * 11 + way + 1) self.new.order.entries self.new.listed.items) }
+    {
+        let Some(node) = graph.target(from.node, way) else {
+            return Ok(());
+        };
+        if self.is_listed(node) {
+            return Ok(());
         }
+        let rank = rank_at(ranks, node);
+        self.listed[node as usize] = true;
+        list(
+            &mut self.order,
+            graph.id(node),
+            Reached {
+                node,
+                rank,
+                origin: Some((index, way)),
+            },
+        )?;
+        Ok(())
+    }
+
+    // Tries each way of the node at an index.
+    fn try_ways(
+        &mut self,
+        graph: &Graph<'_>,
+        ranks: &[Option<u16>],
+        index: u16,
+        from: Reached,
+    ) -> Result<(), AllocError>
+        requires stands { slice_get (values_of self.old.order.entries) index ≡ Some from }
+        requires len { length ranks.now ≡ graph.now.table.count }
+        requires ranks { (f : ℕ) → IsNodeRank graph.now f (get_or ranks.now f None) }
+        requires listed { IsListed graph.now (index * 11) self.old.order.entries self.old.listed.items }
+        ensures { OnOk result (IsListed graph.now ((index + 1) * 11) self.new.order.entries self.new.listed.items) }
+    {
+        for way in 0..11u8 {
+            self.try_way(graph, ranks, index, from, way)?;
+        }
+        Ok(())
+    }
+
+    // The entry node alone.
+    fn new(alloc: Global, graph: &Graph<'_>, ranks: &[Option<u16>]) -> Result<Discovery, AllocError>
+        requires len { length ranks.now ≡ graph.now.table.count }
+        requires ranks { (f : ℕ) → IsNodeRank graph.now f (get_or ranks.now f None) }
+        ensures { IfOk result (λ d. IsListed graph.now 0 d.order.entries d.listed.items) }
+    {
+        let mut listed = vec![in alloc; false; graph.table.count as usize]?;
+        let mut order = IndexMap::with_capacity(alloc, graph.table.count as usize)?;
+        listed[graph.entry as usize] = true;
+        list(
+            &mut order,
+            graph.id(graph.entry),
+            Reached {
+                node: graph.entry,
+                rank: rank_at(ranks, graph.entry),
+                origin: None,
+            },
+        )?;
+        Ok(Discovery { order, listed })
     }
 }
 
-// Adds a frame of the base, where it is open.
-fn add_open<'a>(frames: &mut OpenFrames<'a>, frame: &'a Frame) -> Result<(), AllocError>
-    ensures { OnOk result ((base : BaseView) (i : ℕ) → IsAscending base.frames → slice_get base.frames i ≡ Some frame.now → AreOpenBelow (λ f. f.now) base frames.old.entries i → AreOpenBelow (λ f. f.now) base frames.new.entries (i + 1)) }
+// The frames that are reached from the entry frame, in the order of discovery: the entry frame first; then for each listed
+// frame in turn its ways are tried in order, and each frame found that isn't yet listed goes last.
+pub fn discover(alloc: Global, graph: &Graph<'_>) -> Result<Order, AllocError>
+    requires { EntryIsFound graph.now.table.groups.now graph.now.table.base.now }
+    ensures reached { IfOk result (λ order. FindsReached graph.now.table.groups.now graph.now.table.base.now (map discovered_of order.entries)) }
+    ensures ranks { IfOk result (λ order. RanksAreLeast graph.now.table.groups.now graph.now.table.base.now (map discovered_of order.entries)) }
+    ensures named { IfOk result (λ order. AreNamed graph.now.table.base.now.frames order.entries) }
+    ensures few { IfOk result (λ order. length order.entries ≤ graph.now.table.count) }
 {
-    if frame.group.is_none() && frames.insert(frame.id, frame).is_err() {
-        return Err(AllocError);
+    let ranks = ranks_of(alloc, graph)?;
+    let mut discovery = Discovery::new(alloc, graph, ranks.as_slice())?;
+    for index in 0..graph.table.count {
+        let Some(from) = discovery.at(index) else {
+            return Ok(discovery.order);
+        };
+        discovery.try_ways(graph, ranks.as_slice(), index, from)?;
     }
-    Ok(())
-}
-
-// The open frames of a base.
-fn open_frames(alloc: Global, base: &Base) -> Result<OpenFrames<'_>, AllocError>
-    ensures { IfOk result (λ frames. AreOpen (λ f. f.now) base.now frames.entries) }
-{
-    let all = base.frames();
-    let mut frames = IndexMap::with_capacity(alloc, all.len())?;
-    for i in 0..all.len() {
-        add_open(&mut frames, &all[i])?;
-    }
-    Ok(frames)
-}
-
-// Lists the open frame at an index behind the listed ones.
-fn list(seen: &mut Discovery<'_>, at: usize, origin: Origin) -> Result<(), AllocError>
-    requires unlisted { length seen.now.origins.items ≤ at }
-    requires within { at < length seen.now.frames.entries }
-    ensures listed { OnOk result ((id : Id) → option_map (λ e. e.0) (slice_get seen.old.frames.entries at) ≡ Some id → listed_of seen.new.frames.entries seen.new.origins.items ≡ listed_of seen.old.frames.entries seen.old.origins.items ++ (id, origin) ∷ []) }
-    ensures kept { OnOk result ((base : BaseView) → AreOpen (λ f. f.now) base seen.old.frames.entries → AreOpen (λ f. f.now) base seen.new.frames.entries) }
-    ensures count { OnOk result (length seen.new.origins.items ≡ length seen.old.origins.items + 1) }
-    ensures within { OnOk result (length seen.new.frames.entries ≡ length seen.old.frames.entries) }
-    ensures steps { OnOk result (seen.new.steps.items ≡ seen.old.steps.items) }
-{
-    let count = seen.origins.len();
-    seen.frames.swap_indices(at, count);
-    seen.origins.push(origin)?;
-    Ok(())
-}
-
-// The index of a frame that a key seeks: as it is listed, or, where it is open, as it is listed now.
-fn index_of_sought(
-    seen: &mut Discovery<'_>,
-    sought: FrameId,
-    origin: (u16, u8),
-) -> Result<Option<u16>, AllocError>
-    requires few { length seen.now.origins.items ≤ 65535 }
-    requires within { length seen.now.origins.items ≤ length seen.now.frames.entries }
-    ensures listed { OnOk result (listed_of seen.new.frames.entries seen.new.origins.items ≡ try_lead id_eq (listed_of seen.old.frames.entries seen.old.origins.items) origin (known seen.old.frames.entries sought)) }
-    ensures index { IfOk result (λ index. index ≡ index_of (listed_of seen.new.frames.entries seen.new.origins.items) sought) }
-    ensures kept { OnOk result ((base : BaseView) → AreOpen (λ f. f.now) base seen.old.frames.entries → AreOpen (λ f. f.now) base seen.new.frames.entries) }
-    ensures within { OnOk result (length seen.new.origins.items ≤ length seen.new.frames.entries) }
-    ensures steps { OnOk result (seen.new.steps.items ≡ seen.old.steps.items) }
-{
-    let Some(at) = seen.frames.get_index_of(&sought) else {
-        return Ok(None);
-    };
-    let count = seen.origins.len();
-    if at < count {
-        return Ok(Some(at as u16));
-    }
-    list(seen, at, Some(origin))?;
-    Ok(Some(count as u16))
-}
-
-// Tries a key of a listed frame, and adds its step.
-fn try_key(
-    base: &Base,
-    seen: &mut Discovery<'_>,
-    index: u16,
-    frame: &Frame,
-    key: u8,
-) -> Result<(), AllocError>
-    requires is_key { key < 11 }
-    requires is_frame { frame_at base.now frame.now.id ≡ Some frame.now }
-    requires few { length seen.now.origins.items ≤ 65535 }
-    requires seen { IsSeen (λ f. f.now) base.now seen.now.frames.entries seen.now.origins.items }
-    ensures listed { OnOk result (listed_of seen.new.frames.entries seen.new.origins.items ≡ try_lead id_eq (listed_of seen.old.frames.entries seen.old.origins.items) (index, key) (lead [] base.now frame.now.id key)) }
-    ensures steps { OnOk result (seen.new.steps.items ≡ add_edge seen.old.steps.items index (step_now base.now (listed_of seen.new.frames.entries seen.new.origins.items) frame.now.id key)) }
-    ensures seen { OnOk result (IsSeen (λ f. f.now) base.now seen.new.frames.entries seen.new.origins.items) }
-{
-    let Some(sought) = sought_of(frame, key) else {
-        return Ok(());
-    };
-    if let Some(to) = index_of_sought(seen, sought, (index, key))? {
-        seen.steps.push((index, to))?;
-    }
-    Ok(())
-}
-
-// Tries each key of a listed frame.
-fn try_keys(
-    base: &Base,
-    seen: &mut Discovery<'_>,
-    index: u16,
-    frame: &Frame,
-) -> Result<(), AllocError>
-    requires is_frame { frame_at base.now frame.now.id ≡ Some frame.now }
-    requires few { length (after_keys id_eq (lead [] base.now) (listed_of seen.now.frames.entries seen.now.origins.items) index frame.now.id 11) ≤ 65535 }
-    requires seen { IsSeen (λ f. f.now) base.now seen.now.frames.entries seen.now.origins.items }
-    ensures listed { OnOk result (listed_of seen.new.frames.entries seen.new.origins.items ≡ after_keys id_eq (lead [] base.now) (listed_of seen.old.frames.entries seen.old.origins.items) index frame.now.id 11) }
-    ensures steps { OnOk result (seen.new.steps.items ≡ seen_keys [] base.now (listed_of seen.old.frames.entries seen.old.origins.items) seen.old.steps.items index frame.now.id 11) }
-    ensures seen { OnOk result (IsSeen (λ f. f.now) base.now seen.new.frames.entries seen.new.origins.items) }
-{
-    for key in 0..11u8 {
-        try_key(base, seen, index, frame, key)?;
-    }
-    Ok(())
-}
-
-// How many frames the base has.
-fn frame_count(base: &Base) -> u16
-    ensures count { result ≡ length base.now.frames }
-    ensures few { result ≤ 65535 }
-{
-    base.frames().len() as u16
-}
-
-// The listed frame at an index.
-fn frame_at<'a>(seen: &Discovery<'a>, index: u16) -> Option<&'a Frame>
-    ensures { result ≡ (if nat_lt index (length seen.now.origins.items) then option_map (λ e. e.1) (slice_get seen.now.frames.entries index) else None) }
-{
-    if index as usize >= seen.origins.len() {
-        return None;
-    }
-    match seen.frames.get_index(index as usize) {
-        Some((_, frame)) => Some(*frame),
-        None => None,
-    }
-}
-
-// Tries each key of the listed frame at an index; past the end of the list nothing is left to try.
-fn try_frame(base: &Base, seen: &mut Discovery<'_>, index: u16) -> Result<(), AllocError>
-    requires few { length (after_node id_eq 11 (lead [] base.now) (listed_of seen.now.frames.entries seen.now.origins.items) index (slice_get (listed_of seen.now.frames.entries seen.now.origins.items) index)) ≤ 65535 }
-    requires seen { IsSeen (λ f. f.now) base.now seen.now.frames.entries seen.now.origins.items }
-    ensures listed { OnOk result (listed_of seen.new.frames.entries seen.new.origins.items ≡ after_node id_eq 11 (lead [] base.now) (listed_of seen.old.frames.entries seen.old.origins.items) index (slice_get (listed_of seen.old.frames.entries seen.old.origins.items) index)) }
-    ensures steps { OnOk result (seen.new.steps.items ≡ seen_node [] base.now (listed_of seen.old.frames.entries seen.old.origins.items) seen.old.steps.items index (slice_get (listed_of seen.old.frames.entries seen.old.origins.items) index)) }
-    ensures seen { OnOk result (IsSeen (λ f. f.now) base.now seen.new.frames.entries seen.new.origins.items) }
-{
-    match frame_at(seen, index) {
-        Some(frame) => try_keys(base, seen, index, frame),
-        None => Ok(()),
-    }
-}
-
-// The entry frame alone, where it is open.
-fn start(alloc: Global, base: &Base) -> Result<Discovery<'_>, AllocError>
-    ensures listed { IfOk result (λ d. listed_of d.frames.entries d.origins.items ≡ opening [] base.now) }
-    ensures seen { IfOk result (λ d. IsSeen (λ f. f.now) base.now d.frames.entries d.origins.items) }
-    ensures steps { IfOk result (λ d. d.steps.items ≡ []) }
-{
-    let frames = open_frames(alloc, base)?;
-    let origins = Vec::with_capacity(alloc, frames.len())?;
-    let steps = Vec::with_capacity(alloc, frame_count(base) as usize * 11)?;
-    let mut seen = Discovery {
-        frames,
-        origins,
-        steps,
-    };
-    if let Some(at) = seen.frames.get_index_of(&base.entry_frame()) {
-        list(&mut seen, at, None)?;
-    }
-    Ok(seen)
-}
-
-// Discovers the frames of a base.
-pub fn discover(alloc: Global, base: &Base) -> Result<Discovery<'_>, AllocError>
-    ensures listing { IfOk result (λ d. listed_of d.frames.entries d.origins.items ≡ listing [] base.now) }
-    ensures within { IfOk result (λ d. length d.origins.items ≤ length d.frames.entries) }
-    ensures steps { IfOk result (λ d. d.steps.items ≡ edges_nodes (step base.now (listing [] base.now)) (length (listing [] base.now))) }
-    ensures few { IfOk result (λ d. length d.origins.items ≤ 65535) }
-{
-    let mut seen = start(alloc, base)?;
-    for index in 0..frame_count(base) {
-        try_frame(base, &mut seen, index)?;
-    }
-    Ok(seen)
+    Ok(discovery.order)
 }

@@ -1,25 +1,12 @@
-ghost use Rattle.finder.specs.Listing.{ListingIsDiscovery};
-ghost use Rattle.finder.specs.FoundLaws.{FoundIsListing};
-ghost use Rattle.finder.specs.RankLaws.{RanksAreDistances};
-ghost use Rattle.finder.specs.ScriptLaws.{ScriptsLead};
+ghost use Rattle.finder.specs.FoundLaws.{FoundIsOne, AllScriptsLead};
 
-/// What is discovered from an entry that is found is just the reached frames, in order.
-pub fn listing_is_discovery()
-    ensures { ListingIsDiscovery }
+/// Of every caller and base: the reached frames in the order of their discovery, with their least ranks, are one list.
+pub fn found_is_one()
+    ensures { FoundIsOne }
 {}
 
-/// The rank of a listed frame is the length of the shortest walk from it to the entry frame; without a rank there is none.
-pub fn ranks_are_distances()
-    ensures { RanksAreDistances }
-{}
-
-/// The list that `find` gives is the listing, each entry with its rank; it is empty exactly where the entry frame isn't
-/// found.
-pub fn found_is_listing()
-    ensures { FoundIsListing }
-{}
-
-/// The script of a listed frame leads from the entry frame to it; it is the parent's script and one key more.
+/// Of every list of the reached frames: each frame's script leads from the entry frame to it, and is its parent's script
+/// and one key more.
 pub fn scripts_lead()
-    ensures { ScriptsLead }
+    ensures { AllScriptsLead }
 {}

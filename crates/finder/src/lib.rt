@@ -1,21 +1,32 @@
-//! The frames that a caller can reach, in the order of their discovery, each with its distance to the entry frame.
+//! The frames that a caller of stated groups can reach, in the order of their discovery, each with its distance to the
+//! entry frame.
 //!
 //! The entry frame is first. Then for each listed frame in turn the keys `0` to `9` and `#` are tried, and each open frame
 //! found that isn't yet listed goes last. So each has a parent, and the keys along the parents lead to it.
 //!
-//! - [`find`], [`Found`], [`Discovered`]: the list.
+//! - [`Survey`]: the list of a base, with the record of each listed frame and what each of its ways came to ([`Aim`]). Each
+//!   way is looked up once, and nothing is sought again.
+//! - [`find`], [`Found`], [`Discovered`]: the list alone.
 //! - [`script_to`]: the keys that lead to a listed frame.
-//! - [`found_is_listing`], [`listing_is_discovery`], [`ranks_are_distances`], [`scripts_lead`]: what the list, its ranks and
-//!   its scripts say, in terms of walks.
+//! - [`found_is_one`]: the list's clauses pin one list; [`scripts_lead`]: its scripts lead.
+//!
+//! The list is stated by what it means, and no definition computes it: its frames are those that walks reach from the entry
+//! frame, each parent and key the first that lead to its frame, each rank the length of the shortest walk back.
 #![tactic(auto)]
 
+mod aim;
 mod discover;
 mod found;
+mod graph;
 mod laws;
 mod ranks;
 mod script;
+mod survey;
+mod table;
 mod turned;
 
-pub use found::{Discovered, Found, find};
-pub use laws::{found_is_listing, listing_is_discovery, ranks_are_distances, scripts_lead};
+pub use aim::Aim;
+pub use found::{Discovered, Found};
+pub use laws::{found_is_one, scripts_lead};
 pub use script::script_to;
+pub use survey::{Survey, find};

@@ -1,89 +1,122 @@
-ghost use Rattle.std.specs.Prelude.{◌≡◌, ◌<◌, ◌≤◌, ℕ, Some, None, OnOk, IfOk, slice_get, length, get_or};
-ghost use Rattle.finder.specs.Turned.{section_of, AreSections};
-ghost use Rattle.finder.specs.Search.{mark, mark_upto, search_at, search_upto};
+ghost use Rattle.std.specs.Prelude.{◌≡◌, ◌<◌, ◌≤◌, ◌+◌, ◌*◌, ℕ, Some, None, is_some, OnOk, IfOk, slice_get, length, get_or};
+ghost use Rattle.finder.specs.Graph.{IsNodeRank};
+ghost use Rattle.finder.specs.Search.{HasRank, IsSearch};
+ghost use Rattle.finder.specs.Turned.{AreTurned, LeadsTo};
 
+use crate::graph::Graph;
 use crate::turned::Turned;
 use std::alloc::{AllocError, Global};
 
-// The rank of an index, where it has one.
-pub fn rank_at(ranks: &[Option<u16>], index: usize) -> Option<u16>
-    ensures { result ≡ get_or ranks.now index None }
-{
-    match ranks.get(index) {
-        Some(rank) => *rank,
-        None => None,
-    }
+// A node and its rank: the least number of ways that lead back to the entry node.
+#[derive(Debug, Clone, Copy, PartialEq, Eq)]
+pub struct Ranked {
+    pub node: u16,
+    pub rank: u16,
 }
 
-// An index that has no rank yet gets one and goes last.
-fn mark(
-    queue: &mut Vec<u16>,
-    ranks: &mut Vec<Option<u16>>,
-    rank: u16,
-    index: u16,
-) -> Result<(), AllocError>
-    ensures { OnOk result ((queue.new.items, ranks.new.items) ≡ mark (queue.old.items, ranks.old.items) rank index) }
-{
-    match ranks.get(index as usize) {
-        Some(None) => {}
-        _ => return Ok(()),
-    }
-    ranks[index as usize] = Some(rank);
-    queue.push(index)?;
-    Ok(())
+// The ranked nodes in the order of their ranks, and the rank of each node that has one.
+#[derive(Drop)]
+struct Search {
+    queue: Vec<Ranked>,
+    ranks: Vec<Option<u16>>,
 }
 
-// So does each of these indices.
-fn mark_all(
-    queue: &mut Vec<u16>,
-    ranks: &mut Vec<Option<u16>>,
-    rank: u16,
-    froms: &[u16],
-) -> Result<(), AllocError>
-    ensures { OnOk result ((queue.new.items, ranks.new.items) ≡ mark_upto (queue.old.items, ranks.old.items) rank froms.now (length froms.now)) }
-{
-    for k in 0..froms.len() {
-        mark(queue, ranks, rank, froms[k])?;
+impl Search {
+    // Whether a node has a rank.
+    fn is_ranked(&self, node: u16) -> bool
+        requires { node < length self.now.ranks.items }
+        ensures { result ≡ is_some (get_or self.now.ranks.items node None) }
+    {
+        self.ranks[node as usize].is_some()
     }
-    Ok(())
-}
 
-// Goes back along each step that leads to the index at a place of the queue; past the end nothing is left.
-fn search_at(
-    turned: &Turned,
-    queue: &mut Vec<u16>,
-    ranks: &mut Vec<Option<u16>>,
-    place: u16,
-) -> Result<(), AllocError>
-    requires sections { AreSections turned.now.starts.items turned.now.froms.items }
-    requires small { (index rank : ℕ) → get_or ranks.now.items index None ≡ Some rank → rank < 65535 }
-    ensures { OnOk result ((queue.new.items, ranks.new.items) ≡ search_at (section_of turned.now.starts.items turned.now.froms.items) (queue.old.items, ranks.old.items) (slice_get queue.old.items place)) }
-{
-    let Some(index) = queue.get(place as usize) else {
-        return Ok(());
-    };
-    let index = *index;
-    match rank_at(ranks.as_slice(), index as usize) {
-        Some(rank) => mark_all(queue, ranks, rank + 1, turned.section(index)),
-        None => Ok(()),
+    // The node at an index of the queue.
+    fn waiting(&self, index: u16) -> Option<Ranked>
+        ensures { result ≡ slice_get self.now.queue.items index }
+    {
+        self.queue.get(index as usize).copied()
     }
-}
 
-// The rank of each of so many indices, by a search back from the first.
-pub fn ranks_of(alloc: Global, turned: &Turned, count: u16) -> Result<Vec<Option<u16>>, AllocError>
-    requires sections { AreSections turned.now.starts.items turned.now.froms.items }
-    requires small { (turn index rank : ℕ) → turn < count → get_or (search_upto (section_of turned.now.starts.items turned.now.froms.items) count turn).1 index None ≡ Some rank → rank < 65535 }
-    ensures { IfOk result (λ ranks. ranks.items ≡ (search_upto (section_of turned.now.starts.items turned.now.froms.items) count count).1) }
-{
-    let mut ranks: Vec<Option<u16>> = vec![in alloc; None; count as usize]?;
-    let mut queue = Vec::with_capacity(alloc, count as usize)?;
-    mark(&mut queue, &mut ranks, 0, 0)?;
-    for place in 0..count {
-        // Each index has a rank by now.
-        if queue.len() == count as usize {
-            return Ok(ranks);
+    // Ranks a node from which a way leads to the node at an index of the queue.
+    fn mark(
+        &mut self,
+        graph: &Graph<'_>,
+        done: u16,
+        to: Ranked,
+        node: u16,
+    ) -> Result<(), AllocError>
+        requires search { IsSearch graph.now done self.old.queue.items self.old.ranks.items }
+        requires waits { slice_get self.old.queue.items done ≡ Some to }
+        requires leads { LeadsTo graph.now node to.node }
+        ensures search { OnOk result (IsSearch graph.now done self.new.queue.items self.new.ranks.items) }
+        ensures waits { OnOk result (slice_get self.new.queue.items done ≡ Some to) }
+        ensures marked { OnOk result (HasRank self.new.ranks.items node (to.rank + 1)) }
+        ensures kept { OnOk result ((f n : ℕ) → HasRank self.old.ranks.items f n → HasRank self.new.ranks.items f n) }
+    {
+        if self.is_ranked(node) {
+            return Ok(());
         }
-        search_at(turned, &mut queue, &mut ranks, place)?;
+        let rank = to.rank + 1;
+        self.ranks[node as usize] = Some(rank);
+        self.queue.push(Ranked { node, rank })?;
+        Ok(())
     }
-    Ok(ranks)
+
+    // Ranks each node from which a way leads to the one at an index of the queue.
+    fn mark_all(
+        &mut self,
+        graph: &Graph<'_>,
+        turned: &Turned,
+        done: u16,
+        to: Ranked,
+    ) -> Result<(), AllocError>
+        requires search { IsSearch graph.now done self.old.queue.items self.old.ranks.items }
+        requires waits { slice_get self.old.queue.items done ≡ Some to }
+        requires turned { AreTurned graph.now (graph.now.table.count * 11) turned.now.sources.items }
+        ensures { OnOk result (IsSearch graph.now (done + 1) self.new.queue.items self.new.ranks.items) }
+    {
+        let sources = turned.sources_of(to.node);
+        for source in sources {
+            self.mark(graph, done, to, *source)?;
+        }
+        Ok(())
+    }
+
+    // The entry node alone.
+    fn new(alloc: Global, graph: &Graph<'_>) -> Result<Search, AllocError>
+        ensures { IfOk result (λ s. IsSearch graph.now 0 s.queue.items s.ranks.items) }
+    {
+        let mut ranks = vec![in alloc; None; graph.table.count as usize]?;
+        let mut queue = Vec::with_capacity(alloc, graph.table.count as usize)?;
+        ranks[graph.entry as usize] = Some(0);
+        queue.push(Ranked {
+            node: graph.entry,
+            rank: 0,
+        })?;
+        Ok(Search { queue, ranks })
+    }
+}
+
+// The rank of a node.
+pub fn rank_at(ranks: &[Option<u16>], node: u16) -> Option<u16>
+    requires { node < length ranks.now }
+    ensures { result ≡ get_or ranks.now node None }
+{
+    ranks[node as usize]
+}
+
+// The rank of each node.
+pub fn ranks_of(alloc: Global, graph: &Graph<'_>) -> Result<Vec<Option<u16>>, AllocError>
+    ensures len { IfOk result (λ ranks. length ranks.items ≡ graph.now.table.count) }
+    ensures ranks { IfOk result (λ ranks. (f : ℕ) → IsNodeRank graph.now f (get_or ranks.items f None)) }
+{
+    let turned = Turned::of(alloc, graph)?;
+    let mut search = Search::new(alloc, graph)?;
+    for done in 0..graph.table.count {
+        let Some(to) = search.waiting(done) else {
+            return Ok(search.ranks);
+        };
+        search.mark_all(graph, &turned, done, to)?;
+    }
+    Ok(search.ranks)
 }

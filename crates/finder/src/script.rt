@@ -1,28 +1,31 @@
 ghost use Rattle.std.specs.Prelude.{◌≡◌, ◌<◌, IfOk, length, slice_get};
-ghost use Rattle.finder.specs.Found.{parent_of, keys_back, script};
+ghost use Rattle.finder.specs.Scripts.{parent_of, keys_back, script};
 
 use crate::found::{Discovered, Found};
 use page_ids::{Key, KeyList};
 use std::alloc::{AllocError, Global};
 
-// The parent of the frame at an index, and the key that led from it.
-fn parent_of(frames: &[Discovered], at: u32) -> Option<(u32, Key)>
-    ensures { result ≡ parent_of (slice_get frames.now at) }
-{
-    let frame = frames.get(at as usize)?;
-    let parent = frame.parent?;
-    let key = frame.key?;
-    Some((parent, key))
+impl Found {
+    /// The index of the frame from which the frame at an index was discovered, and the key that led from it; `None` for the
+    /// entry frame.
+    pub fn parent_of(&self, at: u32) -> Option<(u32, Key)>
+        ensures { result ≡ parent_of (slice_get self.now at) }
+    {
+        let frame = self.as_slice().get(at as usize)?;
+        let parent = frame.parent?;
+        let key = frame.key?;
+        Some((parent, key))
+    }
 }
 
 // The keys back along the parents, from the last to the first.
-fn keys_back(alloc: Global, frames: &[Discovered], from: u32) -> Result<Vec<Key>, AllocError>
-    ensures { IfOk result (λ keys. keys.items ≡ keys_back frames.now (length frames.now) from) }
+fn keys_back(alloc: Global, found: &Found, from: u32) -> Result<Vec<Key>, AllocError>
+    ensures { IfOk result (λ keys. keys.items ≡ keys_back found.now (length found.now) from) }
 {
     let mut keys = Vec::new(alloc);
     let mut at = from;
-    for turn in 0..frames.len() {
-        let Some((parent, key)) = parent_of(frames, at) else {
+    for turn in 0..found.as_slice().len() {
+        let Some((parent, key)) = found.parent_of(at) else {
             return Ok(keys);
         };
         keys.push(key)?;
@@ -37,7 +40,7 @@ pub fn script_to(alloc: Global, found: &Found, index: u32) -> Result<KeyList, Al
     requires { index < length found.now }
     ensures { IfOk result (λ keys. keys ≡ script found.now index) }
 {
-    let mut keys = keys_back(alloc, found.as_slice(), index)?;
+    let mut keys = keys_back(alloc, found, index)?;
     keys.reverse();
     Ok(KeyList::of(keys))
 }

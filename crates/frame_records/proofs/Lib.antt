@@ -6,3 +6,5 @@ pub mod Built
 pub mod OneBase
 pub mod Halves
 pub mod Searchable
+pub mod Cuts
+pub mod GroupTexts

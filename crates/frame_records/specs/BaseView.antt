@@ -6,6 +6,7 @@ use Rattle.std.specs.List.Sorted.{IsStrictlyIncreasing}
 use Rattle.page_ids.specs.Id.{Id}
 use Rattle.page_ids.specs.Ids.{id_cmp, id_eq}
 use Rattle.frame_records.specs.declared.frame.Frame.{Frame}
+use Rattle.frame_records.specs.declared.limits.TheConstants.{MOST_LISTED, MOST_BODY}
 
 -- the entry page, the outside pages and the frames, both ascending
 pub record BaseView : Type 0 where
@@ -43,11 +44,11 @@ AreApart base = (id : Id) → lists_outside base id.page ≡ true → frame_at b
 
 -- more frames, or more outside pages, than a base may have
 abbrev pub are_too_many : List ℕ → List Frame → Bool
-are_too_many outside frames = nat_lt 65535 (length frames) || nat_lt 65535 (length outside)
+are_too_many outside frames = nat_lt MOST_LISTED (length frames) || nat_lt MOST_LISTED (length outside)
 
 -- a body of over 4,096 bytes
 abbrev pub is_body_long : Frame → Bool
-is_body_long f = nat_lt 4096 (length f.body)
+is_body_long f = nat_lt MOST_BODY (length f.body)
 
 -- `next` on a frame `z`, whose byte is 122
 abbrev pub is_next_after_z : Frame → Bool

@@ -1,6 +1,11 @@
 pub mod Limits
+pub mod Steps
+pub mod Parts
+pub mod Groups
 pub mod Orderings
 pub mod BaseView
 pub mod Seek
+pub mod Ways
+pub mod WayLaws
 pub mod Build
 pub mod BaseLaws

@@ -1,12 +1,12 @@
-ghost use Rattle.std.specs.Prelude.{◌≡◌, ◌<◌, ◌≤◌, [], length};
+ghost use Rattle.std.specs.Prelude.{◌≡◌, ◌<◌, ◌≤◌, length};
 ghost use Rattle.std.specs.Option.{option_copied};
-ghost use Rattle.page_ids.specs.Ids.{first_frame, IsPageNumber};
 ghost use Rattle.frame_records.specs.BaseView.{IsBase, frame_at, lists_outside};
 ghost use Rattle.frame_records.specs.Build.{IsBuilt, BasesAreOne};
-ghost use Rattle.frame_records.specs.Seek.{seek};
+ghost use Rattle.frame_records.specs.Seek.{seek, entry_of};
 
 use crate::build::{BuildFault, are_too_many, first_fault, sort};
 use crate::frame::Frame;
+use crate::groups::Groups;
 use crate::numbers::Pence;
 use crate::sorted::{find_among, is_among};
 use page_ids::{FrameId, PageNo};
@@ -82,16 +82,17 @@ impl Base {
         find_among(self.frames.as_slice(), id)
     }
 
-    /// Seeks a frame for a caller outside every group.
-    pub fn seek(&self, id: FrameId) -> Sought
-        ensures { result ≡ seek [] self.now id }
+    /// Seeks a frame for a caller of these groups.
+    pub fn seek(&self, id: FrameId, groups: &Groups) -> Sought
+        ensures { result ≡ seek groups.now self.now id }
     {
-        match self.find(id) {
-            None => Sought::Missing,
-            Some(frame) => match frame.group {
-                None => Sought::Found(frame.price),
-                Some(_) => Sought::Closed,
-            },
+        let Some(frame) = self.find(id) else {
+            return Sought::Missing;
+        };
+        if frame.is_open(groups) {
+            Sought::Found(frame.price)
+        } else {
+            Sought::Closed
         }
     }
 
@@ -128,7 +129,7 @@ impl Base {
 
     /// The frame at which every session begins: the entry page's frame `a`.
     pub fn entry_frame(&self) -> FrameId
-        ensures { result ≡ first_frame self.now.entry }
+        ensures { result ≡ entry_of self.now }
     {
         FrameId::first(self.entry)
     }

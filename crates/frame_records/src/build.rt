@@ -5,6 +5,7 @@ ghost use Rattle.frame_records.specs.BaseView.{IsAscending, has_page, are_too_ma
 ghost use Rattle.frame_records.specs.Build.{IsLeastTwice, IsBuildFault, IsUnrefused, AreSorted};
 
 use crate::frame::Frame;
+use crate::limits::{MOST_BODY, MOST_LISTED};
 use page_ids::{FrameId, PageNo};
 use thiserror::Error;
 
@@ -31,13 +32,13 @@ pub enum BuildFault {
 pub fn are_too_many(outside: &[PageNo], frames: &[Frame]) -> bool
     ensures { result ≡ are_too_many outside.now frames.now }
 {
-    frames.len() > 65_535 || outside.len() > 65_535
+    frames.len() > MOST_LISTED || outside.len() > MOST_LISTED
 }
 
 fn is_body_long(frame: &Frame) -> bool
     ensures { result ≡ is_body_long frame.now }
 {
-    frame.body.as_slice().len() > 4096
+    frame.body.as_slice().len() > MOST_BODY
 }
 
 fn is_next_after_z(frame: &Frame) -> bool

@@ -4,22 +4,33 @@
 //! and its frames, both ascending; `find` and `seek` answer by that list of frames as by a map from ids.
 //!
 //! - [`Pence`], [`GroupNo`]: numbers within the limits of this profile.
+//! - [`Groups`], [`GroupsFault`], [`GroupFlaw`]: the closed user groups of a caller, and why a text lists none.
+//! - [`cut`]: what stands before a separator, and behind it.
 //! - [`Frame`], [`Lead`], [`Body`]: a frame's record.
 //! - [`Base`], [`BuildFault`], [`Sought`]: the base, why two lists make none, and what seeking an id comes to.
+//! - [`Frame::sought`], [`Base::follow`], [`Destination`]: what the ways of a frame seek, and what that comes to.
 #![tactic(auto)]
 
 mod base;
 mod build;
 mod frame;
+mod groups;
+mod limits;
 mod numbers;
+mod parts;
 mod probe;
 mod sorted;
+mod ways;
 
 pub use base::{Base, Sought, bases_are_one};
 pub use build::BuildFault;
 pub use frame::{Body, Frame, Lead};
+pub use groups::{GroupFlaw, Groups, GroupsFault, groups_are_texts};
+pub use limits::{MOST_BODY, MOST_GROUP, MOST_GROUPS, MOST_LISTED, MOST_PENCE};
 pub use numbers::{GroupNo, Pence};
+pub use parts::cut;
 pub use probe::{Probe, search};
+pub use ways::Destination;
 
 #[cfg(test)]
 mod tests;

@@ -2,6 +2,7 @@ ghost use Rattle.std.specs.Prelude.{◌≡◌, ◌≤◌};
 ghost use Rattle.std.specs.Option.{SomeIff};
 ghost use Rattle.frame_records.specs.Limits.{IsPrice, IsGroup};
 
+use crate::limits::MOST_PENCE;
 use std::marker::Model;
 
 /// A price in whole pence, 0 to 9,999. Contracts see the number.
@@ -12,12 +13,13 @@ pub struct Pence {
 
 impl Model for Pence {
     ghost use Rattle.std.specs.Prelude.{ℕ, ◌≤◌};
+    ghost use Rattle.frame_records.specs.declared.limits.TheConstants.{MOST_PENCE};
 
     ghost Value = { ℕ };
 
     ghost view = { λ p. p.number };
 
-    ghost invariant = { λ p. p.number ≤ 9999 };
+    ghost invariant = { λ p. p.number ≤ MOST_PENCE };
 
     ghost inverse = { λ n. record { number = n } };
 }
@@ -27,7 +29,7 @@ impl Pence {
     pub fn new(number: u16) -> Option<Pence>
         ensures { SomeIff result (IsPrice number) number }
     {
-        if number <= 9999 {
+        if number <= MOST_PENCE {
             Some(Pence { number })
         } else {
             None
@@ -56,7 +58,9 @@ impl Model for GroupNo {
 
     ghost view = { λ g. g.number };
 
-    ghost invariant = { λ g. (1 ≤ g.number) × (g.number ≤ 65535) };
+    ghost use Rattle.frame_records.specs.declared.limits.TheConstants.{MOST_GROUP};
+
+    ghost invariant = { λ g. (1 ≤ g.number) × (g.number ≤ MOST_GROUP) };
 
     ghost inverse = { λ n. record { number = n } };
 }

@@ -2,6 +2,7 @@
 
 ghost use Rattle.std.specs.Prelude.{◌≡◌, ◌≢◌, ℕ, ◌<◌, ◌≤◌, ◌+◌, List, length, slice_get, IfSome, IfNone, Some};
 ghost use Rattle.std.specs.declared.cmp.Ordering.TheVariants.{Equal};
+ghost use Rattle.frame_records.specs.declared.limits.TheConstants.{MOST_LISTED};
 ghost use Rattle.frame_records.specs.Orderings.{IsSearchable};
 
 use std::cmp::Ordering;
@@ -27,7 +28,7 @@ pub trait Probe {
     /// How the i-th entry, from 0, compares with what is wanted. It counts as one comparison.
     fn ask(&mut self, i: usize) -> Ordering
         requires in_range { i < length (orderings self.old) }
-        requires room { count self.old < 65535 }
+        requires room { count self.old < MOST_LISTED }
         ensures answer { slice_get (orderings self.old) i ≡ Some result }
         ensures same { orderings self.new ≡ orderings self.old }
         ensures counted { count self.new ≡ count self.old + 1 };
@@ -38,7 +39,7 @@ pub trait Probe {
 /// The entries stand in order: those that are less, then at most one that is equal, then those that are greater.
 pub fn search<P: Probe>(probe: &mut P) -> Option<usize>
     requires fresh { P.count probe.old ≡ 0 }
-    requires few { length (P.orderings probe.old) ≤ 65535 }
+    requires few { length (P.orderings probe.old) ≤ MOST_LISTED }
     requires searchable { IsSearchable (P.orderings probe.old) }
     ensures found { IfSome result (λ i. slice_get (P.orderings probe.old) i ≡ Some Equal) }
     ensures none { IfNone result ((i : ℕ) → slice_get (P.orderings probe.old) i ≢ Some Equal) }
@@ -58,3 +59,6 @@ pub fn search<P: Probe>(probe: &mut P) -> Option<usize>
     }
     None
 }
+
+#[cfg(test)]
+mod tests;

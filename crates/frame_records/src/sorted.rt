@@ -5,6 +5,7 @@ ghost use Rattle.std.specs.Ordering.{nat_cmp};
 ghost use Rattle.page_ids.specs.Ids.{id_cmp};
 ghost use Rattle.std.specs.Option.{option_copied};
 ghost use Rattle.std.specs.List.Sorted.{IsStrictlyIncreasing};
+ghost use Rattle.frame_records.specs.declared.limits.TheConstants.{MOST_LISTED};
 ghost use Rattle.frame_records.specs.BaseView.{IsAscending, frame_among, lists_page};
 
 use crate::frame::Frame;
@@ -64,7 +65,7 @@ fn frames_beside<'a>(frames: &'a [Frame], wanted: &'a FrameId) -> FrameProbe<'a>
 
 // The frame of an id among frames that ascend, and how many of them were compared with it.
 pub fn find_among(frames: &[Frame], id: FrameId) -> (Option<&Frame>, u32)
-    requires few { length frames.now ≤ 65535 }
+    requires few { length frames.now ≤ MOST_LISTED }
     requires ascending { IsAscending frames.now }
     ensures value { option_copied result.0 ≡ frame_among frames.now id }
     ensures most { result.1 ≤ 16 }
@@ -128,7 +129,7 @@ fn pages_beside<'a>(pages: &'a [PageNo], wanted: &'a PageNo) -> PageProbe<'a>
 
 // Whether a page is among pages that ascend, and how many of them were compared with it.
 pub fn is_among(pages: &[PageNo], page: PageNo) -> (bool, u32)
-    requires few { length pages.now ≤ 65535 }
+    requires few { length pages.now ≤ MOST_LISTED }
     requires ascending { IsStrictlyIncreasing pages.now }
     ensures value { result.0 ≡ lists_page pages.now page }
     ensures most { result.1 ≤ 16 }

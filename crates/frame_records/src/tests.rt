@@ -1,7 +1,10 @@
 //! Bases built by hand; expected refusals come from the order of the limits.
 
-use crate::{Base, Body, BuildFault, Frame, GroupNo, Lead, Pence, Sought};
-use page_ids::{FrameId, PageNo};
+use crate::{
+    Base, Body, BuildFault, Destination, Frame, GroupFlaw, GroupNo, Groups, GroupsFault, Lead,
+    Pence, Sought, cut,
+};
+use page_ids::{FrameId, PageNo, Way};
 use std::alloc::{AllocError, Global};
 use std::test::Fail;
 
@@ -131,9 +134,69 @@ fn a_base_answers_by_its_map(rt: HostRuntime) -> Result<(), Fail> {
     assert!(rt; base.is_outside(page(0)?));
     assert!(rt; !base.is_outside(page(5)?));
     let price = Pence::new(5).ok_or("price")?;
-    assert_eq!(rt; base.seek(FrameId::read("123a")?), Sought::Found(price));
-    assert_eq!(rt; base.seek(FrameId::read("5b")?), Sought::Closed);
-    assert_eq!(rt; base.seek(FrameId::read("6a")?), Sought::Missing);
+    let none = &Groups::none();
+    assert_eq!(rt;
+        base.seek(FrameId::read("123a")?, none),
+        Sought::Found(price)
+    );
+    assert_eq!(rt; base.seek(FrameId::read("5b")?, none), Sought::Closed);
+    assert_eq!(rt; base.seek(FrameId::read("6a")?, none), Sought::Missing);
+    let some = &Groups::read("6,7,9")?;
+    assert_eq!(rt;
+        base.seek(FrameId::read("123a")?, some),
+        Sought::Found(price)
+    );
+    assert_eq!(rt; base.seek(FrameId::read("5b")?, some), Sought::Found(price));
+    assert_eq!(rt;
+        base.seek(FrameId::read("5b")?, &Groups::read("6,8")?),
+        Sought::Closed
+    );
+    assert_eq!(rt; base.seek(FrameId::read("6a")?, some), Sought::Missing);
+    Ok(())
+}
+
+// A frame whose routes 0 to 3 lead to an open, a closed, a missing and an outside page, and `#` to a missing letter.
+#[test]
+fn a_way_comes_to_what_it_seeks(rt: HostRuntime) -> Result<(), Fail> {
+    let alloc = rt.alloc();
+    let mut from = frame(alloc, FrameId::read("123a")?, true, 0)?;
+    from.routes[0] = Some(page(5)?);
+    from.routes[1] = Some(page(6)?);
+    from.routes[2] = Some(page(7)?);
+    from.routes[3] = Some(page(8)?);
+    let mut closed = frame(alloc, FrameId::read("6a")?, false, 0)?;
+    closed.group = GroupNo::new(7);
+    let mut frames = Vec::new(alloc);
+    frames.push(from)?;
+    frames.push(frame(alloc, FrameId::read("5a")?, false, 0)?)?;
+    frames.push(closed)?;
+    let mut outside = Vec::new(alloc);
+    outside.push(page(8)?)?;
+    let Ok(base) = Base::build(page(123)?, outside, frames) else {
+        return Err(Fail::from("refused"));
+    };
+    let Some(from) = base.find(FrameId::read("123a")?) else {
+        return Err(Fail::from("no frame"));
+    };
+    let price = Pence::new(5).ok_or("price")?;
+    let rows: [(u8, Destination); 6] = [
+        (0, Destination::Found(FrameId::read("5a")?, price)),
+        (1, Destination::Closed(FrameId::read("6a")?)),
+        (2, Destination::Missing(FrameId::read("7a")?)),
+        (3, Destination::Outside(page(8)?)),
+        (4, Destination::NotOffered),
+        (10, Destination::Missing(FrameId::read("123b")?)),
+    ];
+    for (place, destination) in rows {
+        assert_eq!(rt;
+            base.follow(from, Way::at(place), &Groups::none()),
+            destination,
+            "way {place}"
+        );
+    }
+    assert_eq!(rt; from.sought(Way::at(3)), Some(FrameId::read("8a")?));
+    assert_eq!(rt; from.sought(Way::at(9)), None);
+    assert_eq!(rt; from.sought(Way::Next), Some(FrameId::read("123b")?));
     Ok(())
 }
 
@@ -190,4 +253,94 @@ fn the_longest_list_is_searched_in_16_comparisons(rt: HostRuntime) -> Result<(),
         assert!(rt; asked <= 16, "{wanted}: {asked}");
     }
     Ok(())
+}
+
+#[test]
+fn groups_are_read_from_their_texts(rt: HostRuntime) -> Result<(), Fail> {
+    assert_eq!(rt; Groups::read("7")?.len(), 1);
+    let two = Groups::read("7,9")?;
+    assert_eq!(rt; two.len(), 2);
+    let (Some(seven), Some(eight), Some(nine)) = (GroupNo::new(7), GroupNo::new(8), GroupNo::new(9))
+    else {
+        unreachable!()
+    };
+    assert!(rt; two.has(seven) && two.has(nine) && !two.has(eight));
+    assert_eq!(rt;
+        Groups::read("1,2,3,4,5,6,7,8,9,10,11,12,13,14,15,65535")?.len(),
+        16
+    );
+    let refused = [
+        "",
+        "9,7",
+        "7,7",
+        "0",
+        "65536",
+        "07",
+        "7,",
+        ",7",
+        "7,,9",
+        "7 9",
+        "7, 9",
+        "a",
+        "1,2,3,4,5,6,7,8,9,10,11,12,13,14,15,16,17",
+    ];
+    for text in refused {
+        assert_eq!(rt;
+            Groups::read(text).err(),
+            Some(GroupsFault::BadGroups),
+            "{text}"
+        );
+    }
+    Ok(())
+}
+
+#[test]
+fn the_first_number_at_fault_is_told(rt: HostRuntime) {
+    let rows: [(&[u8], Option<GroupFlaw>); 8] = [
+        (b"7 9", None),
+        (b"", Some(GroupFlaw::Number)),
+        (b"7  9", Some(GroupFlaw::Number)),
+        (b"07", Some(GroupFlaw::Number)),
+        (b"0", Some(GroupFlaw::Range)),
+        (b"9 7 0", Some(GroupFlaw::Order)),
+        (
+            b"1 2 3 4 5 6 7 8 9 10 11 12 13 14 15 16 17",
+            Some(GroupFlaw::Range),
+        ),
+        (
+            b"1 2 3 4 5 6 7 8 9 10 11 12 13 14 15 16 x",
+            Some(GroupFlaw::Number),
+        ),
+    ];
+    for (text, flaw) in rows {
+        assert_eq!(rt; Groups::read_split(text, b' ').err(), flaw);
+    }
+}
+
+#[test]
+fn groups_take_what_is_greater(rt: HostRuntime) -> Result<(), Fail> {
+    let (Some(seven), Some(nine)) = (GroupNo::new(7), GroupNo::new(9)) else {
+        unreachable!()
+    };
+    let mut groups = Groups::none();
+    assert!(rt; groups.push(seven));
+    assert!(rt; !groups.push(seven));
+    assert!(rt; groups.push(nine));
+    let again = groups.copy();
+    assert!(rt; again.are_same(&Groups::read("7,9")?));
+    assert!(rt; !again.are_same(&Groups::read("7")?));
+    for i in 0..again.len() {
+        let at = if i == 0 { seven } else { nine };
+        assert_eq!(rt; again.at(i), at);
+    }
+    Ok(())
+}
+
+#[test]
+fn a_text_is_cut_at_its_first_separator(rt: HostRuntime) {
+    assert_eq!(rt;
+        cut(b"7,9,", b','),
+        Some((b"7".as_slice(), b"9,".as_slice()))
+    );
+    assert_eq!(rt; cut(b"7", b','), None);
 }

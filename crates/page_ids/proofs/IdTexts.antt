@@ -6,24 +6,21 @@ use Rattle.std.specs.Prelude.{Result, Err}
 use Rattle.std.proofs.lemmas.Bool.Decides.{nat_tests}
 use Rattle.std.proofs.lemmas.List.{take-append-drop}
 use Rattle.std.proofs.Math.Seq.{take-append_seam, get_or-append_seam}
+use Rattle.std.proofs.lemmas.List.{nil_from_length}
 use Rattle.page_ids.specs.Id.{Id}
 use Rattle.page_ids.specs.Ids.{IsFrameId, frame_text}
 use Rattle.page_ids.specs.declared.number.NumberFault.{NumberFault}
 use Rattle.page_ids.specs.Numbers.{number_in, number_or_none, page_in, letter_in, id_with, id_in}
 use Rattle.page_ids.proofs.Numbers.{number_found, number_again}
 
-nil_of : (xs : List ℕ) → length xs ≡ 0 → xs ≡ []
-nil_of [] h = refl
-nil_of (x ∷ xs) h = absurd (omega arith)
-
-split_at_end : (text : List ℕ) (k : ℕ) → length text ≡ k + 1 → text ≡ take k text ++ get_or text k 0 ∷ []
+pub split_at_end : (text : List ℕ) (k : ℕ) → length text ≡ k + 1 → text ≡ take k text ++ get_or text k 0 ∷ []
 split_at_end text k len =
     let at_place : drop k text ≡ get_or text k 0 ∷ drop (k + 1) text = simp unary_clauses (drop-cons text k 0 (omega arith)) in
-    let nothing : drop (k + 1) text ≡ [] = nil_of (drop (k + 1) text) (omega (arith, length-drop (k + 1) text)) in
+    let nothing : drop (k + 1) text ≡ [] = nil_from_length (drop (k + 1) text) (omega (arith, length-drop (k + 1) text)) in
     sym (take-append-drop k text) ∙ ap (λ (r : List ℕ). take k text ++ r) (at_place ∙ ap (λ (r : List ℕ). get_or text k 0 ∷ r) nothing)
 
 -- a text is what stands before its last byte, and that byte
-split_end : (text : List ℕ) → 0 < length text → text ≡ take (length text - 1) text ++ get_or text (length text - 1) 0 ∷ []
+pub split_end : (text : List ℕ) → 0 < length text → text ≡ take (length text - 1) text ++ get_or text (length text - 1) 0 ∷ []
 split_end text some = split_at_end text (length text - 1) (omega arith)
 
 number_of_page : (r : Result ℕ NumberFault) (n : ℕ) → number_or_none r ≡ Some n → r ≡ Ok n
@@ -63,13 +60,13 @@ id_found text id e =
     let some : 0 < length text = grind (arith, nat_tests, a.0) in
     (record { page = n.0; letter = (l.1, l.2) }, split_end text some ∙ ap (λ (d : List ℕ). d ++ last ∷ []) n.1 ∙ ap (λ (c : ℕ). decimal id.page ++ c ∷ []) l.0)
 
-last_at : (xs : List ℕ) (c k : ℕ) → k ≡ length xs → get_or (xs ++ c ∷ []) k 0 ≡ c
+pub last_at : (xs : List ℕ) (c k : ℕ) → k ≡ length xs → get_or (xs ++ c ∷ []) k 0 ≡ c
 last_at xs c k e = rw e (get_or-append_seam xs c [] 0)
 
-take_at_end : (xs : List ℕ) (c k : ℕ) → k ≡ length xs → take k (xs ++ c ∷ []) ≡ xs
+pub take_at_end : (xs : List ℕ) (c k : ℕ) → k ≡ length xs → take k (xs ++ c ∷ []) ≡ xs
 take_at_end xs c k e = rw e (take-append_seam xs (c ∷ []))
 
-less_one : (xs : List ℕ) (c : ℕ) → length (xs ++ c ∷ []) - 1 ≡ length xs
+pub less_one : (xs : List ℕ) (c : ℕ) → length (xs ++ c ∷ []) - 1 ≡ length xs
 less_one xs c = omega (arith, length-append xs (c ∷ []))
 
 not_empty : (xs : List ℕ) (c : ℕ) → eqb (length (xs ++ c ∷ [])) 0 ≡ false

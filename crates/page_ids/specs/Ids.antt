@@ -3,10 +3,11 @@ use Rattle.std.specs.Prelude.{ℕ, ◌≤◌, ◌==◌, ◌&&◌, ◌+◌, Bool,
 use Rattle.std.specs.Ordering.{nat_cmp, ordering_then}
 use Rattle.std.specs.declared.cmp.Ordering.{Ordering}
 use Rattle.page_ids.specs.Id.{Id}
+use Rattle.page_ids.specs.declared.limits.TheConstants.{MOST_PAGE}
 
 -- 0 to 999,999,999
 abbrev pub IsPageNumber : ℕ → Type 0
-IsPageNumber n = n ≤ 999999999
+IsPageNumber n = n ≤ MOST_PAGE
 
 -- the bytes `a` to `z` are 97 to 122
 abbrev pub IsLetter : ℕ → Type 0

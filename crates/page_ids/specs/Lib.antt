@@ -4,4 +4,6 @@ pub mod IdLaws
 pub mod Numbers
 pub mod TextLaws
 pub mod Keys
+pub mod Ways
+pub mod WayLaws
 pub mod KeyLaws

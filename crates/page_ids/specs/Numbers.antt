@@ -6,6 +6,7 @@ use Rattle.std.specs.Str.Parse.{digits_value}
 use Rattle.page_ids.specs.declared.number.NumberFault.{NumberFault}
 use Rattle.page_ids.specs.declared.number.NumberFault.TheVariants.{NotNumeral, AboveLimit}
 use Rattle.page_ids.specs.Id.{Id}
+use Rattle.page_ids.specs.declared.limits.TheConstants.{MOST_PAGE}
 
 -- decimal digits, at least one, and no leading zero (48 is `0`)
 abbrev pub is_numeral : List ℕ → Bool
@@ -24,7 +25,7 @@ number_or_none (Err _) = None
 
 -- the page of a text
 abbrev pub page_in : List ℕ → Option ℕ
-page_in text = number_or_none (number_in 999999999 text)
+page_in text = number_or_none (number_in MOST_PAGE text)
 
 -- the letter of a byte, `a` to `z`
 abbrev pub letter_in : ℕ → Option ℕ

@@ -55,7 +55,8 @@ pub fn keys_read(alloc: Global, text: &str) -> Result<KeyList, IdFault>
     Ok(KeyList::of(keys))
 }
 
-fn push_word(text: &mut Vec<u8>, key: Key) -> Result<(), AllocError>
+/// Writes a key's word behind a text.
+pub fn push_key(text: &mut Vec<u8>, key: Key) -> Result<(), AllocError>
     ensures { OnOk result (text.new.items ≡ text.old.items ++ key_word key) }
 {
     match key {
@@ -68,15 +69,23 @@ fn push_word(text: &mut Vec<u8>, key: Key) -> Result<(), AllocError>
     Ok(())
 }
 
+/// Writes the words of the keys behind a text, one behind the other.
+pub fn push_keys(text: &mut Vec<u8>, keys: &[Key]) -> Result<(), AllocError>
+    ensures { OnOk result (text.new.items ≡ text.old.items ++ keys_text keys.now) }
+{
+    for key in keys {
+        push_key(text, *key)?;
+    }
+    Ok(())
+}
+
 /// The words of the keys, one behind the other. `keys_read` gives the keys back.
 pub fn keys_text(alloc: Global, keys: &KeyList) -> Result<Vec<u8>, AllocError>
     ensures text { IfOk result (λ text. text.items ≡ keys_text keys.now) }
     ensures read_again { IfOk result (λ text. IsRead text.items (Ok keys.now)) }
 {
     let mut text = Vec::new(alloc);
-    for key in keys.as_slice() {
-        push_word(&mut text, *key)?;
-    }
+    push_keys(&mut text, keys.as_slice())?;
     Ok(text)
 }
 

@@ -5,7 +5,9 @@
 //!
 //! - [`PageNo`], [`Letter`], [`Digit`], [`FrameId`]: small copied values; contracts see numbers, and a pair of numbers.
 //! - [`Key`], [`KeyList`], [`keys_read`], [`keys_text`]: the keys of a caller, as `1#*#*00*09`.
+//! - [`Way`]: the ways on from a frame, by a route or by `#`.
 //! - [`number_read`]: decimal numbers up to a limit, for readers of other texts.
+//! - [`push_number`], [`push_key`], [`push_keys`]: for writers of other texts.
 #![tactic(auto)]
 
 mod fault;
@@ -13,16 +15,20 @@ mod id;
 mod key;
 mod key_text;
 mod letter;
+mod limits;
 mod number;
 mod page;
+mod way;
 
 pub use fault::IdFault;
 pub use id::{FrameId, ids_are_ordered, ids_are_texts};
 pub use key::{Digit, Key, KeyList};
-pub use key_text::{keys_are_texts, keys_read, keys_text};
+pub use key_text::{keys_are_texts, keys_read, keys_text, push_key, push_keys};
 pub use letter::Letter;
-pub use number::{NumberFault, number_read, numbers_are_texts};
+pub use limits::MOST_PAGE;
+pub use number::{NumberFault, number_read, numbers_are_texts, push_number};
 pub use page::PageNo;
+pub use way::Way;
 
 #[cfg(test)]
 mod tests;

@@ -1,4 +1,4 @@
-ghost use Rattle.std.specs.Prelude.{◌≡◌, ◌≤◌, IfOk};
+ghost use Rattle.std.specs.Prelude.{◌≡◌, ◌≤◌, ◌++◌, IfOk, OnOk, decimal};
 ghost use Rattle.std.specs.List.{list_all};
 ghost use Rattle.std.specs.Char.{is_ascii_digit};
 ghost use Rattle.std.specs.Option.{SomeIff};
@@ -6,6 +6,8 @@ ghost use Rattle.std.specs.Str.Parse.{AllDigits, digits_value};
 ghost use Rattle.page_ids.specs.Numbers.{is_numeral, number_in};
 ghost use Rattle.page_ids.specs.TextLaws.{NumbersAreTexts};
 
+use itoa::Buffer;
+use std::alloc::AllocError;
 use thiserror::Error;
 
 /// Why bytes are no number up to a limit.
@@ -68,6 +70,16 @@ pub fn number_read(bytes: &[u8], most: u32) -> Result<u32, NumberFault>
         return Err(NumberFault::AboveLimit);
     }
     Ok(number)
+}
+
+/// Writes a number behind a text, in decimal.
+pub fn push_number(text: &mut Vec<u8>, number: u64) -> Result<(), AllocError>
+    ensures { OnOk result (text.new.items ≡ text.old.items ++ decimal number) }
+{
+    let mut buffer = Buffer::new();
+    let digits = buffer.format(number);
+    text.extend_from_slice(digits.as_bytes())?;
+    Ok(())
 }
 
 /// Of every number and text: a number is read from its own text, and from no other.

@@ -5,6 +5,7 @@ ghost use Rattle.page_ids.specs.Ids.{IsPageNumber, page_text};
 ghost use Rattle.page_ids.specs.Numbers.{page_in};
 
 use crate::fault::IdFault;
+use crate::limits::MOST_PAGE;
 use crate::number::number_read;
 use arrayvec::ArrayString;
 use itoa::Buffer;
@@ -23,20 +24,19 @@ impl Model for PageNo {
 
     ghost view = { λ p. p.number };
 
-    ghost invariant = { λ p. p.number ≤ 999999999 };
+    ghost use Rattle.page_ids.specs.declared.limits.TheConstants.{MOST_PAGE};
+
+    ghost invariant = { λ p. p.number ≤ MOST_PAGE };
 
     ghost inverse = { λ n. record { number = n } };
 }
 
 impl PageNo {
-    /// The greatest page number.
-    pub const MOST: u32 = 999_999_999;
-
     /// The page of a number; `None` above 999,999,999.
     pub fn new(number: u32) -> Option<PageNo>
         ensures { SomeIff result (IsPageNumber number) number }
     {
-        if number <= Self::MOST {
+        if number <= MOST_PAGE {
             Some(PageNo { number })
         } else {
             None
@@ -79,7 +79,7 @@ impl PageNo {
 pub fn page_of(bytes: &[u8]) -> Option<PageNo>
     ensures { result ≡ page_in bytes.now }
 {
-    match number_read(bytes, PageNo::MOST) {
+    match number_read(bytes, MOST_PAGE) {
         Ok(number) => PageNo::new(number),
         Err(_) => None,
     }

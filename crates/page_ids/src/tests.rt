@@ -1,8 +1,8 @@
 //! Expected values from the service's own rules: page numbers and keys as the information providers' guide has them.
 
 use crate::{
-    Digit, FrameId, IdFault, Key, KeyList, Letter, NumberFault, PageNo, keys_read, keys_text,
-    number_read,
+    Digit, FrameId, IdFault, Key, KeyList, Letter, NumberFault, PageNo, Way, keys_read, keys_text,
+    number_read, push_keys, push_number,
 };
 use std::process::Abort;
 use std::test::Fail;
@@ -218,5 +218,29 @@ fn a_list_of_keys_is_kept(rt: HostRuntime) -> Result<(), Fail> {
     keys.push(Key::Prev).map_err(|_| IdFault::Memory)?;
     let list = KeyList::of(keys);
     assert_eq!(rt; list.as_slice(), [Key::Next, Key::Prev].as_slice());
+    Ok(())
+}
+
+#[test]
+fn numbers_and_keys_are_written_behind_a_text(rt: HostRuntime) -> Result<(), Fail> {
+    let keys = keys_read(rt.alloc(), "1*#")?;
+    let mut text = Vec::new(rt.alloc());
+    push_number(&mut text, 65_535)?;
+    push_keys(&mut text, keys.as_slice())?;
+    assert_eq!(rt; text.as_slice(), b"655351*#".as_slice());
+    Ok(())
+}
+
+#[test]
+fn the_ways_are_the_digits_and_then_next(rt: HostRuntime) -> Result<(), Fail> {
+    let keys = keys_read(rt.alloc(), "0123456789#")?;
+    assert_eq!(rt; usize::from(Way::COUNT), keys.as_slice().len());
+    for place in 0..Way::COUNT {
+        assert_eq!(rt;
+            Way::at(place).key(),
+            keys.as_slice()[usize::from(place)],
+            "way {place}"
+        );
+    }
     Ok(())
 }

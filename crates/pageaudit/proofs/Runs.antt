@@ -1,5 +1,5 @@
 -- Runs by what their texts came to at the output, and by why a file gives nothing.
-use Rattle.std.proofs.Common.{◌≡◌, false, true, Result, Ok, Err, IfOk, IfErr}
+use Rattle.std.proofs.Common.{Result, Ok, Err, IfOk, IfErr}
 use Rattle.frame_records.specs.BaseView.{BaseView}
 use Rattle.checker.specs.declared.policy.Policy.{Policy}
 use Rattle.fault_scripts.specs.declared.outcome.Outcome.{Outcome}
@@ -24,5 +24,6 @@ report_failed base_file out base policy outcome (Err run.Memory) read is written
 report_failed base_file out base policy outcome (Err (run.Base fault)) read is written = absurd written
 report_failed base_file out base policy outcome (Err (run.Cert fault)) read is written = absurd written
 report_failed base_file out base policy outcome (Err (run.Keys offset)) read is written = absurd written
+report_failed base_file out base policy outcome (Err run.Groups) read is written = absurd written
 report_failed base_file out base policy outcome (Err run.ReadBase) read is written = absurd written
 report_failed base_file out base policy outcome (Err run.ReadCert) read is written = absurd written

@@ -1,5 +1,5 @@
 -- What a run of the audit does.
-use Rattle.std.specs.Prelude.{◌≡◌, true, false, [], Result, Ok, Err}
+use Rattle.std.specs.Prelude.{◌≡◌, true, false, Result, Err}
 use Rattle.frame_records.specs.BaseView.{BaseView}
 use Rattle.checker.specs.declared.policy.Policy.{Policy}
 use Rattle.fault_scripts.specs.declared.outcome.Outcome.{Outcome}
@@ -18,12 +18,12 @@ abbrev pub status_of_outcome : Outcome → Status
 status_of_outcome (Certified cert) = status.Clear
 status_of_outcome (Faulty faults) = status.Faulty
 
--- what an audit may come to: the certificate that the check clears, of a base that is safe; or all faults, each borne out
+-- what an audit may come to: the certificate that the check clears, of a base that is safe for the policy's groups; or all faults, each borne out
 -- by its script, of a base that isn't
 pub record IsOutcomeOf (base : BaseView) (policy : Policy) (outcome : Outcome) : Type 0 where
-  pub is : IsOutcome [] base policy outcome
-  pub safety : DecidesSafety [] base policy outcome
-  pub shown : AreShown [] base policy outcome
+  pub is : IsOutcome base policy outcome
+  pub safety : DecidesSafety base policy outcome
+  pub shown : AreShown base policy outcome
 
 -- the base's file was read to its end and is right; the report of its outcome was written, with its status, or as much of
 -- it as the answer says

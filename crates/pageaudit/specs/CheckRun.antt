@@ -1,5 +1,5 @@
 -- What a run of the check does.
-use Rattle.std.specs.Prelude.{◌≡◌, ℕ, true, false, List, [], Result, Ok, Err}
+use Rattle.std.specs.Prelude.{◌≡◌, ℕ, true, false, List, Result, Err}
 use Rattle.frame_records.specs.BaseView.{BaseView}
 use Rattle.cert_table.specs.CertView.{CertView}
 use Rattle.checker.specs.declared.policy.Policy.{Policy}
@@ -10,7 +10,6 @@ use Rattle.checker.specs.Headline.{Headline}
 use Rattle.audit_report.specs.declared.run_fault.RunFault.{RunFault}
 use Rattle.audit_report.specs.declared.run_fault.RunFault.TheVariants as run
 use Rattle.audit_report.specs.Lines.{verdict_text}
-use Rattle.pageaudit.specs.declared.file_fault.FileFault.TheVariants as file
 use Rattle.pageaudit.specs.declared.status.Status.{Status}
 use Rattle.pageaudit.specs.declared.status.Status.TheVariants.{Clear, Faulty}
 use Rattle.pageaudit.specs.Device.{Device, IsUntouched, IsTextWritten}
@@ -28,7 +27,7 @@ pub record IsVerdictRun (base_file cert_file out : Device) (policy : Policy) (an
   pub cert : CertView
   pub base_read : IsBaseOfFile base_file base
   pub cert_read : IsCertOfFile cert_file cert
-  pub written : IsTextWritten out (verdict_text (verdict [] base policy cert)) (status_of_verdict (verdict [] base policy cert)) answer
+  pub written : IsTextWritten out (verdict_text (verdict base policy cert)) (status_of_verdict (verdict base policy cert)) answer
 
 -- the headline holds of the bytes that were read, which are all that both files had
 pub record HoldsOfFiles (base_file cert_file : Device) (policy : Policy) : Type 0 where

@@ -1,27 +1,28 @@
 -- What a run reads of its files. A file that doesn't tell its bytes is left open.
-use Rattle.std.specs.Prelude.{◌≡◌, ◌≤◌, ◌<◌, ◌++◌, ◌+◌, ℕ, true, false, List, Option, length, Result, Ok, Err}
+use Rattle.std.specs.Prelude.{◌≡◌, ◌≤◌, ◌<◌, ◌++◌, ◌+◌, ℕ, true, false, List, length, Result, Ok, Err}
 use Rattle.std.specs.Io.KnownBytes.{Consumes, IsAtEnd}
 use Rattle.frame_records.specs.BaseView.{BaseView}
 use Rattle.base_text.specs.declared.fault.BaseFault.{BaseFault}
 use Rattle.base_text.specs.Whole.{IsTextBase}
 use Rattle.cert_table.specs.CertView.{CertView}
-use Rattle.cert_text.specs.declared.fault.LineCause.{LineCause}
 use Rattle.cert_text.specs.declared.fault.LineCause.TheVariants.{Truncated}
 use Rattle.cert_text.specs.declared.fault.ReadFault.{ReadFault}
 use Rattle.cert_text.specs.declared.fault.ReadFault.TheVariants as read
 use Rattle.cert_text.specs.Grammar.{IsCertificateText}
 use Rattle.cert_text.specs.Outcome.{ReaderView, HasRead}
 use Rattle.checker.specs.Headline.{IsBaseRefused, IsCertRefused}
+use Rattle.base_text.specs.declared.limits.TheConstants.{MOST_TEXT}
+use Rattle.pageaudit.specs.declared.input.TheConstants.{MOST_CERT}
 use Rattle.pageaudit.specs.declared.file_fault.FileFault.{FileFault}
 use Rattle.pageaudit.specs.declared.file_fault.FileFault.TheVariants as file
 use Rattle.pageaudit.specs.Device.{Device}
 
 -- the most bytes that are read of each file: one more than a base may have, and as many as settle any certificate
 abbrev pub base_limit : ℕ
-base_limit = 16777217
+base_limit = MOST_TEXT + 1
 
 abbrev pub cert_limit : ℕ
-cert_limit = 16777216
+cert_limit = MOST_CERT
 
 -- the first bytes that the file had, no more than the limit; no read failed
 pub record WasReadSoFar (limit : ℕ) (d : Device) (text : List ℕ) : Type 0 where

@@ -5,10 +5,11 @@ use Rattle.audit_report.specs.declared.run_fault.RunFault.TheVariants as run
 use Rattle.pageaudit.specs.declared.status.Status.{Status}
 use Rattle.pageaudit.specs.declared.status.Status.TheVariants.{Clear, Faulty}
 
--- of a fault: bad keys, want of memory, or a file
+-- of a fault: bad groups or keys, want of memory, or a file
 abbrev pub fault_number : RunFault → ℕ
 fault_number (run.Base fault) = 3
 fault_number (run.Cert fault) = 3
+fault_number run.Groups = 2
 fault_number (run.Keys offset) = 2
 fault_number run.ReadBase = 3
 fault_number run.ReadCert = 3

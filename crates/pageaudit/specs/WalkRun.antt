@@ -7,7 +7,7 @@ use Rattle.frame_records.specs.BaseView.{BaseView}
 use Rattle.session_machine.specs.declared.reply.Reply.{Reply}
 use Rattle.session_machine.specs.declared.session.OpenFault.{OpenFault}
 use Rattle.session_machine.specs.declared.session.OpenFault.TheVariants.{EntryMissing, EntryClosed, Memory}
-use Rattle.session_machine.specs.Open.{entry_of}
+use Rattle.frame_records.specs.Seek.{entry_of}
 use Rattle.session_machine.specs.Runs.{session_of}
 use Rattle.audit_report.specs.declared.run_fault.RunFault.{RunFault}
 use Rattle.audit_report.specs.declared.run_fault.RunFault.TheVariants as run
@@ -29,23 +29,23 @@ abbrev pub session_status : Result (List Reply) OpenFault → Status
 session_status (Ok replies) = Clear
 session_status (Err fault) = Faulty
 
--- the text and the status of a session of these keys
-abbrev pub IsSessionAnswer : BaseView → List Key → Vec ℕ Global × Status → Type 0
-IsSessionAnswer base keys (text, status) = (text.items ≡ session_text base (session_of [] base keys)) × (status ≡ session_status (session_of [] base keys))
+-- the text and the status of a caller's session of these keys
+abbrev pub IsSessionAnswer : List ℕ → BaseView → List Key → Vec ℕ Global × Status → Type 0
+IsSessionAnswer caller base keys (text, status) = (text.items ≡ session_text base (session_of caller base keys)) × (status ≡ session_status (session_of caller base keys))
 
 -- words that are the text of keys
 pub record AreKeysOf (words : List ℕ) (keys : List Key) : Type 0 where
   pub are_keys : AreKeys keys
   pub spelled : words ≡ keys_text keys
 
--- the keys were read, the base's file was read to its end and is right; the session's text was written, with its status, or
+-- the keys were read, the base's file was read to its end and is right; the text of the caller's session was written, with its status, or
 -- as much of it as the answer says
-pub record IsSessionRun (base_file out : Device) (words : List ℕ) (answer : Result Status RunFault) : Type 0 where
+pub record IsSessionRun (base_file out : Device) (caller words : List ℕ) (answer : Result Status RunFault) : Type 0 where
   pub keys : List Key
   pub keys_read : AreKeysOf words keys
   pub base : BaseView
   pub base_read : IsBaseOfFile base_file base
-  pub written : IsTextWritten out (session_text base (session_of [] base keys)) (session_status (session_of [] base keys)) answer
+  pub written : IsTextWritten out (session_text base (session_of caller base keys)) (session_status (session_of caller base keys)) answer
 
 -- a fault of the base's file comes behind keys that are read, and nothing was written
 pub record IsBehindKeys (out : Device) (words : List ℕ) (Why : Type 0) : Type 0 where
@@ -56,13 +56,13 @@ pub record IsBehindKeys (out : Device) (words : List ℕ) (Why : Type 0) : Type 
 
 -- why there is no status. Keys that can't be read come first: nothing was read of the base. Nothing was written but where
 -- the output failed
-abbrev pub IsWalkFault : Device → Device → List ℕ → RunFault → Type 0
-IsWalkFault base_file out words (run.Keys offset) = IsUnreadableAt words offset × IsUntouched base_file × IsUntouched out
-IsWalkFault base_file out words (run.Base fault) = IsBehindKeys out words (IsBaseTextFault base_file fault)
-IsWalkFault base_file out words run.ReadBase = IsBehindKeys out words (base_file.failed ≡ true)
-IsWalkFault base_file out words (run.Write wrote) = IsSessionRun base_file out words (Err (run.Write wrote))
-IsWalkFault base_file out words run.Memory = (base_file.failed ≡ false) × IsUntouched out
-IsWalkFault base_file out words _ = ⊥
+abbrev pub IsWalkFault : Device → Device → List ℕ → List ℕ → RunFault → Type 0
+IsWalkFault base_file out caller words (run.Keys offset) = IsUnreadableAt words offset × IsUntouched base_file × IsUntouched out
+IsWalkFault base_file out caller words (run.Base fault) = IsBehindKeys out words (IsBaseTextFault base_file fault)
+IsWalkFault base_file out caller words run.ReadBase = IsBehindKeys out words (base_file.failed ≡ true)
+IsWalkFault base_file out caller words (run.Write wrote) = IsSessionRun base_file out caller words (Err (run.Write wrote))
+IsWalkFault base_file out caller words run.Memory = (base_file.failed ≡ false) × IsUntouched out
+IsWalkFault base_file out caller words _ = ⊥
 
 -- what the words of keys are answered with
 abbrev pub IsKeysAnswer : List ℕ → Result (List Key) RunFault → Type 0

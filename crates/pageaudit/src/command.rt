@@ -1,9 +1,11 @@
 //! The program's words, read by clap: one level of subcommands, required options.
 
+use audit_report::RunFault;
+use cert_table::MOST_RANK;
 use checker::Policy;
 use clap::error::ErrorKind;
 use clap::{Arg, ArgAction, ArgMatches, Command, Error, value_parser};
-use frame_records::Pence;
+use frame_records::{Groups, MOST_PENCE, Pence};
 use std::alloc::{AllocError, Global};
 use std::rt::Env;
 use std::{env, io};
@@ -26,21 +28,31 @@ fn number<'a>(alloc: Global, name: &'a str, most: u16, help: &'a str) -> Arg<'a>
         .help(help)
 }
 
+// The caller's closed user groups, which may be left out.
+fn with_groups<'a>(alloc: Global, command: Command<'a>) -> Result<Command<'a>, AllocError> {
+    let list = Arg::new(alloc, "groups")
+        .long("groups")
+        .action(ArgAction::Set)
+        .help("the caller's closed user groups, ascending, as 7,9");
+    command.arg(list)
+}
+
 // What a policy asks, as options.
 fn with_policy<'a>(alloc: Global, command: Command<'a>) -> Result<Command<'a>, AllocError> {
-    command
+    let command = command
         .arg(number(
             alloc,
             "ceiling",
-            9_999,
+            MOST_PENCE,
             "the most that a frame may cost, in pence",
         ))?
         .arg(number(
             alloc,
             "keyings",
-            65_535,
+            MOST_RANK,
             "the most keys back to the entry page",
-        ))
+        ))?;
+    with_groups(alloc, command)
 }
 
 fn audit_command<'a>(alloc: Global) -> Result<Command<'a>, AllocError> {
@@ -59,10 +71,11 @@ fn check_command<'a>(alloc: Global) -> Result<Command<'a>, AllocError> {
 }
 
 fn walk_command<'a>(alloc: Global) -> Result<Command<'a>, AllocError> {
-    Command::new(alloc, "walk")
+    let command = Command::new(alloc, "walk")
         .about("Shows what a caller sees who presses keys from the entry page")
         .arg(place(alloc, "BASE", "the base, a TOML file"))?
-        .arg(place(alloc, "KEYS", "keys in one word, as 1#*#*00*09"))
+        .arg(place(alloc, "KEYS", "keys in one word, as 1#*#*00*09"))?;
+    with_groups(alloc, command)
 }
 
 fn whole_command<'a>(alloc: Global) -> Result<Command<'a>, AllocError> {
@@ -88,6 +101,7 @@ fn collected(rt: &(impl Env + AllocGlobal), alloc: Global) -> io::Result<Vec<Str
 }
 
 /// What the words ask for. Files are named by their paths.
+#[derive(Drop)]
 pub enum Request<'a> {
     /// The certificate of a base, or its faults.
     Audit {
@@ -100,35 +114,52 @@ pub enum Request<'a> {
         cert: &'a str,
         policy: Policy,
     },
-    /// What a caller sees who presses these keys.
+    /// What a caller of these groups sees who presses these keys.
     Walk {
         base: &'a str,
         keys: &'a str,
+        groups: Groups,
     },
 }
 
-// What the options ask of bases.
-fn policy_of(words: &ArgMatches) -> Option<Policy> {
-    let ceiling = Pence::new(words.get_one::<u16>("ceiling")?)?;
-    let keyings = words.get_one::<u16>("keyings")?;
-    Some(Policy { ceiling, keyings })
+/// The groups that the option lists, and none without it; I4 where it can't be read.
+pub fn groups_of(matches: &ArgMatches) -> Result<Groups, RunFault> {
+    let list = matches
+        .subcommand()
+        .and_then(|(_, words)| words.get_str("groups"));
+    match list {
+        Some(list) => Groups::read(list).map_err(|_| RunFault::Groups),
+        None => Ok(Groups::none()),
+    }
 }
 
-/// What words ask for that clap has taken: each word that a command requires is there, so that there always is a request.
-pub fn asked_for<'a>(matches: &'a ArgMatches) -> Option<Request<'a>> {
+// What the options ask of bases.
+fn policy_of(words: &ArgMatches, groups: Groups) -> Option<Policy> {
+    let ceiling = Pence::new(words.get_one::<u16>("ceiling")?)?;
+    let keyings = words.get_one::<u16>("keyings")?;
+    Some(Policy {
+        ceiling,
+        keyings,
+        groups,
+    })
+}
+
+/// What words ask for that clap has taken, by a caller of these groups: each word that a command requires is there, so that there always is a request.
+pub fn asked_for<'a>(matches: &'a ArgMatches, groups: Groups) -> Option<Request<'a>> {
     match matches.subcommand()? {
         ("audit", words) => Some(Request::Audit {
             base: words.get_str("BASE")?,
-            policy: policy_of(words)?,
+            policy: policy_of(words, groups)?,
         }),
         ("check", words) => Some(Request::Check {
             base: words.get_str("BASE")?,
             cert: words.get_str("CERT")?,
-            policy: policy_of(words)?,
+            policy: policy_of(words, groups)?,
         }),
         ("walk", words) => Some(Request::Walk {
             base: words.get_str("BASE")?,
             keys: words.get_str("KEYS")?,
+            groups,
         }),
         _ => None,
     }

@@ -7,7 +7,7 @@ ghost use Rattle.pageaudit.specs.Files.{IsBaseRead, IsCertRead, IsBaseAnswer, Is
 
 use crate::file_fault::FileFault;
 use audit_report::{Source, SourceFault, read_whole};
-use base_text::{BaseFault, Cause, base_read};
+use base_text::{BaseFault, Cause, MOST_TEXT, base_read};
 use cert_table::Certificate;
 use cert_text::{CertReader, ReadFault};
 use frame_records::Base;
@@ -15,6 +15,9 @@ use std::alloc::Global;
 
 // How many bytes of a certificate are asked for at once.
 const PIECE: usize = 4_096;
+
+// The most bytes of a certificate that are read; every text that is still right behind 8,454,918 of them has ended.
+const MOST_CERT: usize = 16_777_216;
 
 // The base of a text.
 fn base_of(alloc: Global, text: &[u8]) -> Result<Base, FileFault<BaseFault>>
@@ -37,7 +40,7 @@ pub fn read_base<S: Source>(alloc: Global, source: &mut S) -> Result<Base, FileF
     requires { S.has_failed source.old ≡ false }
     ensures { IsBaseRead (device (S.left source.old) (S.left source.new) (S.has_failed source.new)) result }
 {
-    match read_whole(alloc, source, 16_777_217) {
+    match read_whole(alloc, source, MOST_TEXT + 1) {
         Ok(text) => base_of(alloc, text.as_slice()),
         Err(SourceFault::Broken) => Err(FileFault::Broken),
         Err(SourceFault::Memory) => Err(FileFault::Memory),
@@ -75,7 +78,7 @@ fn feed_whole<S: Source>(
     requires fresh { HasRead reader.old [] }
     ensures { IsFed (device (S.left source.old) (S.left source.new) (S.has_failed source.new)) reader.new result }
 {
-    let mut room: usize = 16_777_216;
+    let mut room: usize = MOST_CERT;
     while room > 0 {
         match take_piece(source, reader, room) {
             Ok(0) => return Ok(()),

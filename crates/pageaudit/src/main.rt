@@ -20,7 +20,8 @@ use audit_run::run_audit;
 use check_run::run_check;
 use checker::Policy;
 use clap::ArgMatches;
-use command::{Request, asked_for, matches, refused_status, words};
+use command::{Request, asked_for, groups_of, matches, refused_status, words};
+use frame_records::Groups;
 use status::{Status, status_of};
 use std::process::ExitCode;
 use std::rt::{Env, Files};
@@ -57,17 +58,24 @@ fn told<R: Eprint + AllocGlobal>(rt: &R, status: u8) -> u8 {
     status
 }
 
-// Does what was asked for. Files are opened in the order of the words.
+// Does what was asked for. The groups are read first; files are opened in the order of the words.
 fn dispatch<R: Files + Print + Eprint + AllocGlobal>(rt: &R, matches: &ArgMatches) -> u8 {
-    let run = match asked_for(matches) {
-        Some(Request::Audit { base, policy }) => audit_file(rt, base, &policy),
-        Some(Request::Check { base, cert, policy }) => check_files(rt, base, cert, &policy),
-        Some(Request::Walk { base, keys }) => walk_file(rt, base, keys),
-        None => return 2,
+    let run = match groups_of(matches).map(|groups| asked_for(matches, groups)) {
+        Ok(Some(request)) => answer(rt, &request),
+        Ok(None) => return 2,
+        Err(fault) => Err(fault),
     };
     match &run {
         Err(fault) if !tell(rt, fault) => 4,
         _ => status_of(&run),
+    }
+}
+
+fn answer<R: Files + Print + AllocGlobal>(rt: &R, request: &Request) -> Result<Status, RunFault> {
+    match request {
+        Request::Audit { base, policy } => audit_file(rt, base, policy),
+        Request::Check { base, cert, policy } => check_files(rt, base, cert, policy),
+        Request::Walk { base, keys, groups } => walk_file(rt, base, keys, groups),
     }
 }
 
@@ -111,9 +119,10 @@ fn walk_file<R: Files + Print + AllocGlobal>(
     rt: &R,
     base: &str,
     keys: &str,
+    groups: &Groups,
 ) -> Result<Status, RunFault> {
     let base = fs::open(rt, base).map_err(|_| RunFault::ReadBase)?;
     let mut base = FromRead::new(base);
     let mut out = IntoWrite::new(io::writer(rt));
-    run_walk(rt.alloc(), &mut base, keys, &mut out)
+    run_walk(rt.alloc(), &mut base, keys, groups, &mut out)
 }

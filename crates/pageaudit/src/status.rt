@@ -25,14 +25,14 @@ pub fn status_of_verdict(verdict: &Verdict) -> Status
     }
 }
 
-/// The program's exit status: 0 clear, 1 faulty, 2 bad keys, 3 a file, read, write or text fault, 4 want of memory.
+/// The program's exit status: 0 clear, 1 faulty, 2 bad groups or keys, 3 a file, read, write or text fault, 4 want of memory.
 pub fn status_of(run: &Result<Status, RunFault>) -> u8
     ensures { result ≡ status_number run.now }
 {
     match run {
         Ok(Status::Clear) => 0,
         Ok(Status::Faulty) => 1,
-        Err(RunFault::Keys(_)) => 2,
+        Err(RunFault::Groups | RunFault::Keys(_)) => 2,
         Err(RunFault::Memory) => 4,
         Err(_) => 3,
     }

@@ -1,4 +1,4 @@
-ghost use Rattle.std.specs.Prelude.{◌≡◌, ◌∷◌, ◌++◌, [], Ok, Err, IfOk, IfErr, List, false, MatchResult};
+ghost use Rattle.std.specs.Prelude.{◌≡◌, ◌∷◌, ◌++◌, Ok, Err, IfOk, IfErr, List, false, MatchResult};
 ghost use Rattle.frame_records.specs.BaseView.{BaseView};
 ghost use Rattle.session_machine.specs.Runs.{replies_to, session_of};
 ghost use Rattle.pageaudit.specs.Device.{device, IsTextWritten};
@@ -9,7 +9,7 @@ use crate::input::read_base;
 use crate::output::write_text;
 use crate::status::Status;
 use audit_report::{RunFault, Sink, Source, entry_text, walk_text};
-use frame_records::Base;
+use frame_records::{Base, Groups};
 use page_ids::{IdFault, KeyList, keys_read};
 use session_machine::{OpenFault, Reply, Session};
 use std::alloc::{AllocError, Global};
@@ -33,8 +33,7 @@ fn replies(
     opening: Reply,
     keys: &KeyList,
 ) -> Result<Vec<Reply>, AllocError>
-    requires { session.groups ≡ [] }
-    ensures { IfOk result (λ replies. replies.items ≡ opening ∷ replies_to [] base.now session.state keys.now) }
+    ensures { IfOk result (λ replies. replies.items ≡ opening ∷ replies_to session.groups base.now session.state keys.now) }
 {
     let mut replies = Vec::new(alloc);
     replies.push(opening)?;
@@ -45,10 +44,15 @@ fn replies(
 }
 
 // The text of a whole session, and its status.
-fn session_text(alloc: Global, base: &Base, keys: &KeyList) -> Result<(Vec<u8>, Status), AllocError>
-    ensures { IfOk result (IsSessionAnswer base.now keys.now) }
+fn session_text(
+    alloc: Global,
+    base: &Base,
+    groups: &Groups,
+    keys: &KeyList,
+) -> Result<(Vec<u8>, Status), AllocError>
+    ensures { IfOk result (IsSessionAnswer groups.now base.now keys.now) }
 {
-    match Session::open(alloc, base) {
+    match Session::open(alloc, base, groups) {
         Ok((session, opening)) => {
             let replies = replies(alloc, base, session, opening, keys)?;
             Ok((walk_text(alloc, replies.as_slice())?, Status::Clear))
@@ -69,18 +73,19 @@ fn write_session<O: Sink>(
     alloc: Global,
     out: &mut O,
     base: &Base,
+    groups: &Groups,
     keys: &KeyList,
 ) -> Result<Status, RunFault>
     requires { O.has_failed out.old ≡ false }
-    ensures { IsTextWritten (device (O.written out.old) (O.written out.new) (O.has_failed out.new)) (session_text base.now (session_of [] base.now keys.now)) (session_status (session_of [] base.now keys.now)) result }
+    ensures { IsTextWritten (device (O.written out.old) (O.written out.new) (O.has_failed out.new)) (session_text base.now (session_of groups.now base.now keys.now)) (session_status (session_of groups.now base.now keys.now)) result }
 {
-    match session_text(alloc, base, keys) {
+    match session_text(alloc, base, groups, keys) {
         Ok((text, status)) => write_text(out, text.as_slice(), status),
         Err(_) => Err(RunFault::Memory),
     }
 }
 
-/// Runs keys from the entry page and writes a line for each reply, the opening one first.
+/// Runs a caller's keys from the entry page and writes a line for each reply, the opening one first.
 ///
 /// The keys are read before anything is asked of the base's reader. On every fault but `Write` nothing was written. A device
 /// that answered an error isn't asked again.
@@ -88,23 +93,24 @@ pub fn run_walk<B: Source, O: Sink>(
     alloc: Global,
     base: &mut B,
     keys: &str,
+    groups: &Groups,
     out: &mut O,
 ) -> Result<Status, RunFault>
     requires base_open { B.has_failed base.old ≡ false }
     requires out_open { O.has_failed out.old ≡ false }
 
     // The base's file was read to its end, no device failed, and the session's text and status are those of what was read.
-    ensures session { IfOk result (λ status. IsSessionRun (device (B.left base.old) (B.left base.new) (B.has_failed base.new)) (device (O.written out.old) (O.written out.new) (O.has_failed out.new)) keys.now (Ok status)) }
+    ensures session { IfOk result (λ status. IsSessionRun (device (B.left base.old) (B.left base.new) (B.has_failed base.new)) (device (O.written out.old) (O.written out.new) (O.has_failed out.new)) groups.now keys.now (Ok status)) }
 
     // Each fault at its place in the order: the keys, the base's file, the output.
-    ensures faults { IfErr result (IsWalkFault (device (B.left base.old) (B.left base.new) (B.has_failed base.new)) (device (O.written out.old) (O.written out.new) (O.has_failed out.new)) keys.now) }
+    ensures faults { IfErr result (IsWalkFault (device (B.left base.old) (B.left base.new) (B.has_failed base.new)) (device (O.written out.old) (O.written out.new) (O.has_failed out.new)) groups.now keys.now) }
 {
     let keys = match read_keys(alloc, keys) {
         Ok(keys) => keys,
         Err(fault) => return Err(fault),
     };
     match read_base(alloc, base) {
-        Ok(base) => write_session(alloc, out, &base, &keys),
+        Ok(base) => write_session(alloc, out, &base, groups, &keys),
         Err(fault) => Err(base_fault(fault)),
     }
 }

@@ -1,16 +1,18 @@
 -- What one key remembers and shows.
-use Rattle.std.proofs.Common.{ℕ, ◌≤◌, Bool, true, false, cond, List, [], ◌∷◌, Option, Some, None, length, arith}
+use Rattle.std.proofs.Common.{ℕ, ◌≤◌, List, [], ◌∷◌, length, arith}
 use Rattle.page_ids.specs.Id.{Id}
-use Rattle.page_ids.specs.Ids.{first_frame, following}
 use Rattle.page_ids.specs.declared.key.Key.{Key}
 use Rattle.page_ids.specs.declared.key.Key.TheVariants.{Route, Next, Prev, Reprint, Update}
+use Rattle.page_ids.specs.declared.way.Way.TheVariants as ways
 use Rattle.frame_records.specs.declared.base.Sought.{Sought}
 use Rattle.frame_records.specs.declared.base.Sought.TheVariants as sought
-use Rattle.frame_records.specs.BaseView.{BaseView, frame_at, lists_outside}
+use Rattle.frame_records.specs.declared.ways.Destination.{Destination}
+use Rattle.frame_records.specs.declared.ways.Destination.TheVariants as destination
+use Rattle.frame_records.specs.BaseView.{BaseView}
 use Rattle.frame_records.specs.Seek.{seek}
-use Rattle.session_machine.specs.declared.reply.Reply.TheVariants.{Missing, Gone}
+use Rattle.frame_records.specs.Ways as led
 use Rattle.session_machine.specs.State.{SessionState, At, Left, remembered_of}
-use Rattle.session_machine.specs.Step.{Outcome, key_step, route_at, offers_next, route_step, prev_step, by_route, by_next, by_prev, by_update, not_offered, remember}
+use Rattle.session_machine.specs.Step.{Outcome, key_step, prev_step, by_way, by_prev, by_update, remember}
 use Rattle.session_machine.specs.Runs.{state_after}
 
 -- what one key keeps of what it finds
@@ -22,24 +24,12 @@ few_latest id [] = omega arith
 few_latest id (a ∷ []) = omega arith
 few_latest id (a ∷ b ∷ more) = omega arith
 
-few_missing : (b : Bool) (id : Id) (remembered : List Id) (page : ℕ) → length remembered ≤ 3 → Few (cond b (Left page, Gone page) (At id remembered, Missing (first_frame page)))
-few_missing true id remembered page few = omega arith
-few_missing false id remembered page few = few
-
-few_route : (base : BaseView) (id : Id) (remembered : List Id) (page : ℕ) (s : Sought) → length remembered ≤ 3 → Few (by_route base id remembered page s)
-few_route base id remembered page (sought.Found price) few = few_latest id remembered
-few_route base id remembered page sought.Closed few = few
-few_route base id remembered page sought.Missing few = few_missing (lists_outside base page) id remembered page few
-
-few_digit : (caller : List ℕ) (base : BaseView) (id : Id) (remembered : List Id) (page : Option ℕ) → length remembered ≤ 3 → Few (route_step caller base id remembered page)
-few_digit caller base id remembered None few = few
-few_digit caller base id remembered (Some page) few = few_route base id remembered page (seek caller base (first_frame page)) few
-
-few_next : (b : Bool) (id : Id) (remembered : List Id) (s : Sought) → length remembered ≤ 3 → Few (cond b (by_next id remembered s) (not_offered (At id remembered)))
-few_next true id remembered (sought.Found price) few = few_latest id remembered
-few_next true id remembered sought.Closed few = few
-few_next true id remembered sought.Missing few = few
-few_next false id remembered s few = few
+few_way : (id : Id) (remembered : List Id) (d : Destination) → length remembered ≤ 3 → Few (by_way id remembered d)
+few_way id remembered destination.NotOffered few = few
+few_way id remembered (destination.Found to price) few = few_latest id remembered
+few_way id remembered (destination.Closed to) few = few
+few_way id remembered (destination.Missing to) few = few
+few_way id remembered (destination.Outside page) few = omega arith
 
 few_prev : (id latest : Id) (older : List Id) (s : Sought) → length (latest ∷ older) ≤ 3 → Few (by_prev id latest older s)
 few_prev id latest older (sought.Found price) few = omega arith
@@ -56,8 +46,8 @@ few_update id remembered sought.Closed few = few
 few_update id remembered sought.Missing few = few
 
 few_step : (caller : List ℕ) (base : BaseView) (from : SessionState) (key : Key) → length (remembered_of from) ≤ 3 → Few (key_step caller base from key)
-few_step caller base (At id remembered) (Route digit) few = few_digit caller base id remembered (route_at base id digit) few
-few_step caller base (At id remembered) Next few = few_next (offers_next id (frame_at base id)) id remembered (seek caller base (following id)) few
+few_step caller base (At id remembered) (Route digit) few = few_way id remembered (led.destination caller base id (ways.Route digit)) few
+few_step caller base (At id remembered) Next few = few_way id remembered (led.destination caller base id ways.Next) few
 few_step caller base (At id remembered) Prev few = few_back caller base id remembered few
 few_step caller base (At id remembered) Reprint few = few
 few_step caller base (At id remembered) Update few = few_update id remembered (seek caller base id) few

@@ -1,24 +1,13 @@
 -- How a session begins.
 use Rattle.std.specs.Prelude.{◌≡◌, ℕ, List, [], Result, Ok, Err}
-use Rattle.page_ids.specs.Id.{Id}
-use Rattle.page_ids.specs.Ids.{first_frame}
-use Rattle.frame_records.specs.declared.base.Sought.{Sought}
 use Rattle.frame_records.specs.declared.base.Sought.TheVariants as sought
 use Rattle.frame_records.specs.BaseView.{BaseView}
-use Rattle.frame_records.specs.Seek.{seek}
+use Rattle.frame_records.specs.Seek.{entry_of, seek_entry}
 use Rattle.session_machine.specs.declared.reply.Reply.{Reply}
 use Rattle.session_machine.specs.declared.reply.Reply.TheVariants.{Shown}
 use Rattle.session_machine.specs.declared.session.OpenFault.{OpenFault}
 use Rattle.session_machine.specs.declared.session.OpenFault.TheVariants.{EntryMissing, EntryClosed, Memory}
 use Rattle.session_machine.specs.State.{SessionState, SessionView, At}
-
--- the entry page's frame `a`
-abbrev pub entry_of : BaseView → Id
-entry_of base = first_frame base.entry
-
--- what seeking the entry frame comes to
-abbrev pub seek_entry : List ℕ → BaseView → Sought
-seek_entry caller base = seek caller base (entry_of base)
 
 -- the state in which a session begins: at the entry frame, nothing remembered
 abbrev pub opening : BaseView → SessionState

@@ -1,19 +1,16 @@
 -- Whole sessions: keys in turn, from any state. The caller is the list of the groups to which the caller belongs.
-use Rattle.std.specs.Prelude.{ℕ, List, [], ◌∷◌, Option, Some, None, option_map, if◌then◌else◌, Result, Ok, Err}
-use Rattle.page_ids.specs.Id.{Id}
-use Rattle.page_ids.specs.Ids.{first_frame, following}
+use Rattle.std.specs.Prelude.{ℕ, List, [], ◌∷◌, Result, Ok, Err}
 use Rattle.page_ids.specs.declared.key.Key.{Key}
-use Rattle.page_ids.specs.declared.key.Key.TheVariants.{Route, Next, Prev, Reprint, Update}
-use Rattle.frame_records.specs.declared.frame.Frame.{Frame}
 use Rattle.frame_records.specs.declared.base.Sought.{Sought}
 use Rattle.frame_records.specs.declared.base.Sought.TheVariants as sought
-use Rattle.frame_records.specs.BaseView.{BaseView, frame_at}
+use Rattle.frame_records.specs.BaseView.{BaseView}
 use Rattle.session_machine.specs.declared.reply.Reply.{Reply}
 use Rattle.session_machine.specs.declared.session.OpenFault.{OpenFault}
 use Rattle.session_machine.specs.declared.session.OpenFault.TheVariants.{EntryMissing, EntryClosed}
 use Rattle.session_machine.specs.State.{SessionState}
-use Rattle.session_machine.specs.Step.{key_step, route_at, offers_next}
-use Rattle.session_machine.specs.Open.{seek_entry, opening, opening_reply}
+use Rattle.session_machine.specs.Step.{key_step}
+use Rattle.session_machine.specs.Open.{opening, opening_reply}
+use Rattle.frame_records.specs.Seek.{seek_entry}
 
 -- where the keys lead from a state
 abbrev pub state_after : List ℕ → BaseView → SessionState → List Key → SessionState
@@ -38,15 +35,3 @@ session_by caller base keys sought.Missing = Err EntryMissing
 -- a whole session
 abbrev pub session_of : List ℕ → BaseView → List Key → Result (List Reply) OpenFault
 session_of caller base keys = session_by caller base keys (seek_entry caller base)
-
--- the frame that `#` seeks, where it is offered
-abbrev pub next_target : Id → Option Frame → Option Id
-next_target id frame = if offers_next id frame then Some (following id) else None
-
--- the frame that a route or next key of the present frame seeks, where it is offered
-abbrev pub target : BaseView → Id → Key → Option Id
-target base id (Route digit) = option_map first_frame (route_at base id digit)
-target base id Next = next_target id (frame_at base id)
-target base id Prev = None
-target base id Reprint = None
-target base id Update = None

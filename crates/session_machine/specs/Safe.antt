@@ -2,22 +2,21 @@
 use Rattle.std.specs.Prelude.{◌≡◌, ℕ, ◌≤◌, List, Some, length}
 use Rattle.std.specs.List.{AllByRecursion}
 use Rattle.page_ids.specs.declared.key.Key.{Key}
-use Rattle.page_ids.specs.declared.key.Key.TheVariants.{Route, Next, Prev, Reprint, Update}
+use Rattle.page_ids.specs.declared.key.Key.TheVariants.{Route, Next}
 use Rattle.frame_records.specs.declared.base.Sought.TheVariants.{Found}
 use Rattle.frame_records.specs.BaseView.{BaseView}
 use Rattle.session_machine.specs.declared.reply.Reply.{Reply}
 use Rattle.session_machine.specs.declared.reply.Reply.TheVariants.{Shown, Again, NotOffered, Missing, Closed, Gone}
 use Rattle.session_machine.specs.State.{SessionState, At, Left, present}
-use Rattle.session_machine.specs.Open.{entry_of, seek_entry, opening}
+use Rattle.frame_records.specs.Seek.{entry_of, seek_entry}
+use Rattle.session_machine.specs.Open.{opening}
 use Rattle.session_machine.specs.Runs.{state_after, replies_to}
 
 -- a route or next key: what `*#` might do isn't counted, since it depends on what is remembered
 abbrev pub IsForward : Key → Type 0
 IsForward (Route digit) = Unit {0}
 IsForward Next = Unit {0}
-IsForward Prev = ⊥
-IsForward Reprint = ⊥
-IsForward Update = ⊥
+IsForward _ = ⊥
 
 -- at most so many route and next keys lead to the entry frame
 pub record Regains (caller : List ℕ) (base : BaseView) (state : SessionState) (most : ℕ) : Type 0 where

@@ -1,5 +1,6 @@
-ghost use Rattle.std.specs.Prelude.{◌≡◌, [], length, slice_get};
-ghost use Rattle.page_ids.specs.declared.key.Key.TheVariants.{Route, Next, Prev, Reprint, Update};
+ghost use Rattle.std.specs.Prelude.{◌≡◌, length, slice_get};
+ghost use Rattle.page_ids.specs.declared.key.Key.TheVariants.{Prev, Reprint, Update};
+ghost use Rattle.page_ids.specs.Ways.{way_key};
 ghost use Rattle.frame_records.specs.BaseView.{BaseView};
 ghost use Rattle.session_machine.specs.Open.{IsOpened};
 ghost use Rattle.session_machine.specs.State.{present, left_for, remembered_of};
@@ -7,8 +8,8 @@ ghost use Rattle.session_machine.specs.Step.{key_step};
 
 use crate::reply::Reply;
 use circular_buffer::HeapCircularBuffer;
-use frame_records::{Base, Sought};
-use page_ids::{Digit, FrameId, Key, PageNo};
+use frame_records::{Base, Destination, Groups, Sought};
+use page_ids::{FrameId, Key, PageNo, Way};
 use std::alloc::Global;
 use std::marker::Model;
 use thiserror::Error;
@@ -33,12 +34,13 @@ enum Place {
     Left(PageNo),
 }
 
-/// The session of a caller outside every group. Contracts see the caller's groups, and where the caller is.
+/// The session of a caller. Contracts see the caller's closed user groups, and where the caller is.
 ///
-/// The three frames left last are remembered; the room for them is taken when the session is opened, and no key takes
-/// memory.
+/// The groups are those that it was opened with, for all its keys. The three frames left last are remembered; the room
+/// for them is taken when the session is opened, and no key takes memory.
 #[derive(Drop)]
 pub struct Session {
+    groups: Groups,
     place: Place,
     // The latest at the front.
     remembered: HeapCircularBuffer<FrameId>,
@@ -57,12 +59,12 @@ impl Model for Session {
 }
 
 impl Session {
-    /// Begins a session at the entry page's frame `a`, with the reply that shows it.
-    pub fn open(alloc: Global, base: &Base) -> Result<(Session, Reply), OpenFault>
-        ensures { IsOpened [] base.now result }
+    /// Begins the session of a caller of these groups at the entry page's frame `a`, with the reply that shows it.
+    pub fn open(alloc: Global, base: &Base, groups: &Groups) -> Result<(Session, Reply), OpenFault>
+        ensures { IsOpened groups.now base.now result }
     {
         let entry = base.entry_frame();
-        match base.seek(entry) {
+        match base.seek(entry, groups) {
             Sought::Missing => Err(OpenFault::EntryMissing),
             Sought::Closed => Err(OpenFault::EntryClosed),
             Sought::Found(price) => {
@@ -70,6 +72,7 @@ impl Session {
                     |_| OpenFault::Memory,
                 )?;
                 let session = Session {
+                    groups: groups.copy(),
                     place: Place::At(entry),
                     remembered,
                 };
@@ -84,8 +87,8 @@ impl Session {
         ensures groups { self.new.groups ≡ self.old.groups }
     {
         match key {
-            Key::Route(digit) => self.route(base, digit),
-            Key::Next => self.next(base),
+            Key::Route(digit) => self.go(base, Way::Route(digit)),
+            Key::Next => self.go(base, Way::Next),
             Key::Prev => self.previous(base),
             Key::Reprint => self.reprint(),
             Key::Update => self.update(base),
@@ -132,9 +135,9 @@ impl Session {
         }
     }
 
-    // A digit.
-    fn route(&mut self, base: &Base, digit: Digit) -> Reply
-        ensures step { (self.new.state, result) ≡ key_step self.old.groups base.now self.old.state (Route digit) }
+    // A way of the present frame: a digit's route, or `#`.
+    fn go(&mut self, base: &Base, way: Way) -> Reply
+        ensures step { (self.new.state, result) ≡ key_step self.old.groups base.now self.old.state (way_key way) }
         ensures groups { self.new.groups ≡ self.old.groups }
     {
         let Some(id) = self.at() else {
@@ -143,50 +146,19 @@ impl Session {
         let Some(frame) = base.find(id) else {
             return Reply::NotOffered;
         };
-        let Some(page) = frame.routes[digit.get() as usize] else {
-            return Reply::NotOffered;
-        };
-        let first = FrameId::first(page);
-        match base.seek(first) {
-            Sought::Found(price) => {
+        match base.follow(frame, way, &self.groups) {
+            Destination::NotOffered => Reply::NotOffered,
+            Destination::Found(to, price) => {
                 self.remembered.push_front(id);
-                self.place = Place::At(first);
-                Reply::Shown(first, price)
+                self.place = Place::At(to);
+                Reply::Shown(to, price)
             }
-            Sought::Closed => Reply::Closed(first),
-            Sought::Missing if base.is_outside(page) => {
+            Destination::Closed(to) => Reply::Closed(to),
+            Destination::Missing(to) => Reply::Missing(to),
+            Destination::Outside(page) => {
                 self.place = Place::Left(page);
                 Reply::Gone(page)
             }
-            Sought::Missing => Reply::Missing(first),
-        }
-    }
-
-    // `#`
-    fn next(&mut self, base: &Base) -> Reply
-        ensures step { (self.new.state, result) ≡ key_step self.old.groups base.now self.old.state Next }
-        ensures groups { self.new.groups ≡ self.old.groups }
-    {
-        let Some(id) = self.at() else {
-            return Reply::NotOffered;
-        };
-        let Some(frame) = base.find(id) else {
-            return Reply::NotOffered;
-        };
-        let Some(following) = id.following() else {
-            return Reply::NotOffered;
-        };
-        if !frame.next {
-            return Reply::NotOffered;
-        }
-        match base.seek(following) {
-            Sought::Found(price) => {
-                self.remembered.push_front(id);
-                self.place = Place::At(following);
-                Reply::Shown(following, price)
-            }
-            Sought::Closed => Reply::Closed(following),
-            Sought::Missing => Reply::Missing(following),
         }
     }
 
@@ -201,7 +173,7 @@ impl Session {
         let Some(latest) = self.remembered.front().copied() else {
             return Reply::NotOffered;
         };
-        match base.seek(latest) {
+        match base.seek(latest, &self.groups) {
             Sought::Found(price) => {
                 self.remembered.pop_front();
                 self.place = Place::At(latest);
@@ -229,7 +201,7 @@ impl Session {
         let Place::At(id) = self.place else {
             return Reply::NotOffered;
         };
-        match base.seek(id) {
+        match base.seek(id, &self.groups) {
             Sought::Found(price) => Reply::Shown(id, price),
             Sought::Closed => Reply::Closed(id),
             Sought::Missing => Reply::Missing(id),

@@ -1,5 +1,5 @@
 -- What a byte, and a list of bytes, writes: pairs of a position and a code, in order.
-use Rattle.std.specs.Prelude.{ℕ, ◌+◌, ◌%◌, ◌==◌, ◌||◌, map, Bool, List, [], ◌∷◌, ◌++◌, Option, Some, None, nat_lt, nat_le, if◌then◌else◌, set}
+use Rattle.std.specs.Prelude.{ℕ, ◌+◌, ◌%◌, ◌==◌, ◌||◌, ◌&&◌, map, Bool, List, [], ◌∷◌, ◌++◌, Option, Some, None, nat_lt, nat_le, if◌then◌else◌, set}
 use Rattle.std.specs.List.{range_with_len, list_any}
 use Rattle.terminal_codes.specs.Screen.{Screen}
 use Rattle.terminal_codes.specs.Carets.{caret_of}
@@ -56,11 +56,23 @@ stored cells (w ∷ ws) = stored (set cells w.0 w.1) ws
 abbrev pub is_written : ℕ → List (ℕ × ℕ) → Bool
 is_written p ws = list_any (λ w. w.0 == p) ws
 
--- rows 0 and 23 are the service rows, whatever the code
-abbrev pub is_service : ℕ → ℕ → Bool
-is_service position code = nat_lt position 40 || nat_le 920 position
+-- rows 0 and 23 are the service rows
+abbrev pub in_service_row : ℕ → Bool
+in_service_row position = nat_lt position 40 || nat_le 920 position
 
--- one of the pairs is in a service row
+-- row 22, above a service row
+abbrev pub in_row_22 : ℕ → Bool
+in_row_22 position = nat_le 880 position && nat_lt position 920
+
+-- the attribute double height (141, 8D), whose lower half shows in the row beneath
+abbrev pub is_double_height : ℕ → Bool
+is_double_height code = code == 141
+
+-- a code at a position counts as written in a service row where it stands in one, or where its lower half shows in one
+abbrev pub is_service : ℕ → ℕ → Bool
+is_service position code = in_service_row position || (is_double_height code && in_row_22 position)
+
+-- one of the pairs counts as written in a service row
 abbrev pub has_service : List (ℕ × ℕ) → Bool
 has_service ws = list_any (λ w. is_service w.0 w.1) ws
 

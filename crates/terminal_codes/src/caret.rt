@@ -73,7 +73,7 @@ impl Caret {
         caret
     }
 
-    /// Whether the byte, received here, writes a service position. 0C writes them all.
+    /// Whether the byte, received here, writes a service position, or double height in row 22. 0C writes all cells.
     #[tactic(auto, using(crate::proofs::Runs::touches_12))]
     pub fn touches(self, byte: u8) -> bool
         ensures { result ≡ touches self byte }

@@ -10,7 +10,8 @@
 //! // the cells 0 and 1 hold 81 and 48, and the position is 2
 //! ```
 //!
-//! Positions go from 0 to 959, `40 * row + column`. Rows 0 and 23 are the service rows.
+//! Positions go from 0 to 959, `40 * row + column`. Rows 0 and 23 are the service rows. The attribute 8D, double height,
+//! shows in the row beneath too, so that in row 22 it counts as written in a service row.
 #![tactic(auto)]
 
 mod caret;
@@ -22,7 +23,7 @@ mod terminal;
 pub use caret::Caret;
 pub use laws::{caret_decides, cells_are_writes, starts_decide};
 pub use lead::lead_bytes;
-pub use table::{code_written, is_service_position};
+pub use table::{DOUBLE_HEIGHT, code_written, is_service_position};
 pub use terminal::Terminal;
 
 #[cfg(test)]

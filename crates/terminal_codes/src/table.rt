@@ -46,9 +46,14 @@ pub fn code_written(pending: bool, byte: u8) -> Option<u8>
     }
 }
 
-/// Whether a code at a position counts as written in a service row, row 0 or row 23.
-pub fn is_service_position(position: u16, _code: u8) -> bool
-    ensures { result ≡ is_service position _code }
+/// The serial attribute double height: the lower half of what follows it shows in the row beneath.
+pub const DOUBLE_HEIGHT: u8 = 0x8d;
+
+/// Whether a code at a position counts as written in a service row: any code in row 0 or row 23, and double height in
+/// row 22, since its lower half shows in row 23.
+pub fn is_service_position(position: u16, code: u8) -> bool
+    ensures { result ≡ is_service position code }
 {
-    position < 40 || position >= 920
+    let is_above_one = position >= 880 && position < 920;
+    position < 40 || position >= 920 || code == DOUBLE_HEIGHT && is_above_one
 }

@@ -97,6 +97,61 @@ fn the_service_rows_are_the_first_and_the_last(rt: HostRuntime) {
     }
 }
 
+// Of each position: whether double height, and whether another code, counts as written in a service row there.
+#[test]
+fn double_height_in_row_22_shows_in_a_service_row(rt: HostRuntime) {
+    for (at, double, other) in [
+        (39, true, true),
+        (40, false, false),
+        (879, false, false),
+        (880, true, false),
+        (919, true, false),
+        (920, true, true),
+    ] {
+        assert_eq!(rt; is_service_position(at, DOUBLE_HEIGHT), double, "{at}");
+        for code in [0x41, 0x4d, 0x8c, 0x8e] {
+            assert_eq!(rt; is_service_position(at, code), other, "{at} {code}");
+        }
+    }
+}
+
+// 8D stands for itself, 4D is the letter M where no escape is pending, CD is 4D.
+#[test]
+fn the_letter_m_is_no_double_height(rt: HostRuntime) {
+    for (at, double, other) in [
+        (39, true, true),
+        (40, false, false),
+        (879, false, false),
+        (880, true, false),
+        (919, true, false),
+        (920, true, true),
+    ] {
+        let caret = Caret { at, pending: false };
+        assert_eq!(rt; caret.touches(0x8d), double, "{at}");
+        assert_eq!(rt; caret.touches(0x4d), other, "{at}");
+        assert_eq!(rt; caret.touches(0xcd), other, "{at}");
+    }
+}
+
+// After an escape 4D is 8D, 4C is another attribute, and 2D is dropped.
+#[test]
+fn an_escape_makes_double_height(rt: HostRuntime) {
+    for (at, double, other) in [
+        (39, true, true),
+        (40, false, false),
+        (879, false, false),
+        (880, true, false),
+        (919, true, false),
+        (920, true, true),
+    ] {
+        let caret = Caret { at, pending: true };
+        assert_eq!(rt; caret.touches(0x8d), double, "{at}");
+        assert_eq!(rt; caret.touches(0x4d), double, "{at}");
+        assert_eq!(rt; caret.touches(0x4c), other, "{at}");
+        assert_eq!(rt; caret.touches(0x2d), false, "{at}");
+    }
+}
+
 #[test]
 fn one_byte_has_one_code_and_one_move(rt: HostRuntime) {
     assert_eq!(rt; code_written(false, 0x41), Some(0x41));

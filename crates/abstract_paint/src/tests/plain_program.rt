@@ -21,12 +21,14 @@ fn terminal_at(at: u16, pending: bool) -> Terminal {
     terminal
 }
 
-// Whether the byte writes a service position of the terminal. A code that is written moves the position on.
+// Whether the byte writes a service position of the terminal, or double height in row 22. A code that is written moves
+// the position on.
 fn writes_service(terminal: &mut Terminal, byte: u8) -> bool {
     let at = terminal.at();
     terminal.step(byte);
     let is_written = byte >= 0x20 && terminal.at() != at;
-    byte == 0x0c || is_written && (at < 40 || at >= 920)
+    let code = terminal.cells()[at as usize];
+    byte == 0x0c || is_written && (at < 40 || at >= 920 || at >= 880 && code == 0x8d)
 }
 
 // Runs each start: the least that touches first, and where those that don't touch end.
@@ -166,6 +168,27 @@ fn agrees_on_runs_near_the_service_rows(rt: HostRuntime) -> Result<(), Fail> {
             let body = body_of(rt.alloc(), head, letters, &[], 0)?;
             assert!(rt; agrees(Lead::Clear, &body), "clear {head:?} {letters}");
             assert!(rt; agrees(Lead::Keep, &body), "keep {head:?} {letters}");
+        }
+    }
+    Ok(())
+}
+
+// Double height, other attributes, and letters, in rows 21 and 22 and behind them.
+#[test]
+fn agrees_on_double_height_near_the_last_row(rt: HostRuntime) -> Result<(), Fail> {
+    let codes: [&[u8]; 6] = [
+        &[0x8d],
+        &[0x1b, 0x4d],
+        &[0x4d],
+        &[0xcd],
+        &[0x8c],
+        &[0x1b, 0x4e],
+    ];
+    for code in codes {
+        for letters in [0, 1, 38, 39, 40, 41, 78, 79, 80] {
+            let body = body_of(rt.alloc(), &[0x1e, 0x0b, 0x0b, 0x0b], letters, code, 1)?;
+            assert!(rt; agrees(Lead::Clear, &body), "clear {letters} {code:?}");
+            assert!(rt; agrees(Lead::Keep, &body), "keep {letters} {code:?}");
         }
     }
     Ok(())

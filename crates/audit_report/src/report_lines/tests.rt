@@ -6,7 +6,7 @@ use cert_text::cert_read;
 use checker::Policy;
 use demo_texts::CERT;
 use fault_scripts::{Fault, FaultKind, Outcome, audit};
-use frame_records::{Base, Body, Frame, Lead, Pence};
+use frame_records::{Base, Body, Frame, Groups, Lead, Pence};
 use page_ids::{FrameId, PageNo, keys_read};
 use std::alloc::Global;
 use std::test::Fail;
@@ -173,6 +173,7 @@ fn faults_of_a_megabyte_are_reported(rt: HostRuntime) -> Result<(), Fail> {
     let policy = Policy {
         ceiling: Pence::new(0).ok_or("price")?,
         keyings: 65_535,
+        groups: Groups::none(),
     };
     let outcome = audit(rt.alloc(), &chain(rt.alloc(), 1_500)?, &policy)?;
     let mut text = Vec::new(rt.alloc());

@@ -64,15 +64,16 @@ fn what_lies_behind_the_end_is_not_asked_for(rt: HostRuntime) -> Result<(), Fail
 
 #[test]
 fn long_sources_are_read_in_pieces(rt: HostRuntime) -> Result<(), Fail> {
-    let text = "0123456789".repeat(rt.alloc(), 1_000)?;
+    let text = "0123456789".repeat(rt.alloc(), 20_000)?;
     let mut source = FakeSource::of(text.as_str().as_bytes(), 100_000);
-    let bytes = read_whole(rt.alloc(), &mut source, 9_999)?;
-    assert!(rt; bytes.as_slice() == &text.as_str().as_bytes()[..9_999]);
-    assert_eq!(rt; source.calls, 3);
+    let bytes = read_whole(rt.alloc(), &mut source, 199_999)?;
+    assert_eq!(rt; bytes.len(), 199_999);
+    assert!(rt; text.as_str().as_bytes().starts_with(bytes.as_slice()));
+    assert_eq!(rt; source.calls, 4);
     Ok(())
 }
 
-// As many bytes as a base's text may have, in pieces of 4,096, and then the end.
+// As many bytes as a base's text may have, in pieces of 65,536, and then the end.
 #[test]
 fn sixteen_megabytes_are_read_whole(rt: HostRuntime) -> Result<(), Fail> {
     let text = "0123456789abcdef".repeat(rt.alloc(), 1_048_576)?;
@@ -80,6 +81,6 @@ fn sixteen_megabytes_are_read_whole(rt: HostRuntime) -> Result<(), Fail> {
     let bytes = read_whole(rt.alloc(), &mut source, 16_777_217)?;
     assert_eq!(rt; bytes.len(), 16_777_216);
     assert!(rt; bytes.as_slice() == text.as_str().as_bytes());
-    assert_eq!(rt; source.calls, 4_097);
+    assert_eq!(rt; source.calls, 257);
     Ok(())
 }

@@ -1,6 +1,6 @@
 use super::*;
 use frame_records::{Body, Frame, GroupNo, Lead, Pence};
-use page_ids::keys_read;
+use page_ids::{Digit, keys_read};
 use std::process::Abort;
 use std::test::Fail;
 
@@ -70,7 +70,7 @@ fn presses(
 #[test]
 fn opens_at_the_entry_frame(rt: HostRuntime) -> Result<(), Fail> {
     let base = demo(&rt, rt.alloc());
-    let (session, reply) = Session::open(rt.alloc(), &base)?;
+    let (session, reply) = Session::open(rt.alloc(), &base, &Groups::none())?;
     assert_eq!(rt; reply, shown(&rt, "123a", 0));
     assert_eq!(rt; session.at(), Some(id(&rt, "123a")));
     assert_eq!(rt; session.left(), None);
@@ -83,7 +83,7 @@ fn opens_at_the_entry_frame(rt: HostRuntime) -> Result<(), Fail> {
 #[test]
 fn goes_back_three_frames_at_most(rt: HostRuntime) -> Result<(), Fail> {
     let base = demo(&rt, rt.alloc());
-    let (mut session, _) = Session::open(rt.alloc(), &base)?;
+    let (mut session, _) = Session::open(rt.alloc(), &base, &Groups::none())?;
     let replies = [
         shown(&rt, "1231a", 5),
         shown(&rt, "123a", 0),
@@ -108,7 +108,7 @@ fn goes_back_three_frames_at_most(rt: HostRuntime) -> Result<(), Fail> {
 #[test]
 fn update_charges_again_and_reprint_does_not(rt: HostRuntime) -> Result<(), Fail> {
     let base = demo(&rt, rt.alloc());
-    let (mut session, _) = Session::open(rt.alloc(), &base)?;
+    let (mut session, _) = Session::open(rt.alloc(), &base, &Groups::none())?;
     let replies = [
         shown(&rt, "1231a", 5),
         shown(&rt, "1231a", 5),
@@ -122,7 +122,7 @@ fn update_charges_again_and_reprint_does_not(rt: HostRuntime) -> Result<(), Fail
 #[test]
 fn leaves_for_an_outside_page(rt: HostRuntime) -> Result<(), Fail> {
     let base = demo(&rt, rt.alloc());
-    let (mut session, _) = Session::open(rt.alloc(), &base)?;
+    let (mut session, _) = Session::open(rt.alloc(), &base, &Groups::none())?;
     let replies = [Reply::Gone(page(&rt, 0)), Reply::NotOffered];
     presses(&rt, rt.alloc(), &mut session, &base, "01", &replies);
     assert_eq!(rt; session.at(), None);
@@ -135,7 +135,7 @@ fn leaves_for_an_outside_page(rt: HostRuntime) -> Result<(), Fail> {
 #[test]
 fn remembers_the_latest_first(rt: HostRuntime) -> Result<(), Fail> {
     let base = demo(&rt, rt.alloc());
-    let (mut session, _) = Session::open(rt.alloc(), &base)?;
+    let (mut session, _) = Session::open(rt.alloc(), &base, &Groups::none())?;
     let replies = [shown(&rt, "1231a", 5), shown(&rt, "1231b", 0)];
     presses(&rt, rt.alloc(), &mut session, &base, "1#", &replies);
     assert_eq!(rt; session.at(), Some(id(&rt, "1231b")));
@@ -150,7 +150,7 @@ fn remembers_the_latest_first(rt: HostRuntime) -> Result<(), Fail> {
 #[test]
 fn opens_no_session_without_an_entry_frame(rt: HostRuntime) {
     let base = base_of(&rt, rt.alloc(), Vec::new(rt.alloc()));
-    let opened = Session::open(rt.alloc(), &base).map(|_| ());
+    let opened = Session::open(rt.alloc(), &base, &Groups::none()).map(|_| ());
     assert_eq!(rt; opened, Err(OpenFault::EntryMissing));
 }
 
@@ -159,7 +159,7 @@ fn opens_no_session_at_a_closed_entry_frame(rt: HostRuntime) -> Result<(), Fail>
     let mut entry = frame(&rt, rt.alloc(), "123a", 0, &[]);
     entry.group = GroupNo::new(7);
     let base = base_of(&rt, rt.alloc(), vec![in rt.alloc(); entry]?);
-    let opened = Session::open(rt.alloc(), &base).map(|_| ());
+    let opened = Session::open(rt.alloc(), &base, &Groups::none()).map(|_| ());
     assert_eq!(rt; opened, Err(OpenFault::EntryClosed));
     Ok(())
 }
@@ -171,7 +171,7 @@ fn closed_and_missing_frames_change_nothing(rt: HostRuntime) -> Result<(), Fail>
     let mut grouped = frame(&rt, rt.alloc(), "1231a", 5, &[]);
     grouped.group = GroupNo::new(7);
     let base = base_of(&rt, rt.alloc(), vec![in rt.alloc(); entry, grouped]?);
-    let (mut session, _) = Session::open(rt.alloc(), &base)?;
+    let (mut session, _) = Session::open(rt.alloc(), &base, &Groups::none())?;
     let replies = [
         Reply::Closed(id(&rt, "1231a")),
         Reply::Missing(id(&rt, "555a")),
@@ -185,6 +185,28 @@ fn closed_and_missing_frames_change_nothing(rt: HostRuntime) -> Result<(), Fail>
     Ok(())
 }
 
+// The groups are those of the opening, for each key.
+#[test]
+fn a_frame_of_the_callers_group_is_open(rt: HostRuntime) -> Result<(), Fail> {
+    let entry = frame(&rt, rt.alloc(), "123a", 0, &[(1, 1231), (2, 1232)]);
+    let mut grouped = frame(&rt, rt.alloc(), "1231a", 5, &[(0, 123)]);
+    grouped.group = GroupNo::new(7);
+    let mut other = frame(&rt, rt.alloc(), "1232a", 0, &[]);
+    other.group = GroupNo::new(8);
+    let base = base_of(&rt, rt.alloc(), vec![in rt.alloc(); entry, grouped, other]?);
+    let (mut session, _) = Session::open(rt.alloc(), &base, &Groups::read("7,9")?)?;
+    let replies = [
+        Reply::Closed(id(&rt, "1232a")),
+        shown(&rt, "1231a", 5),
+        shown(&rt, "1231a", 5),
+        shown(&rt, "123a", 0),
+        shown(&rt, "1231a", 5),
+        shown(&rt, "123a", 0),
+    ];
+    presses(&rt, rt.alloc(), &mut session, &base, "21*090*#*#", &replies);
+    Ok(())
+}
+
 // The new base lacks the present frame.
 #[test]
 fn keys_look_into_the_base_of_the_moment(rt: HostRuntime) -> Result<(), Fail> {
@@ -192,7 +214,7 @@ fn keys_look_into_the_base_of_the_moment(rt: HostRuntime) -> Result<(), Fail> {
     let entry = frame(&rt, rt.alloc(), "123a", 0, &[(0, 0), (1, 1231)]);
     let first = frame(&rt, rt.alloc(), "1231a", 5, &[(0, 123)]);
     let new = base_of(&rt, rt.alloc(), vec![in rt.alloc(); entry, first]?);
-    let (mut session, _) = Session::open(rt.alloc(), &old)?;
+    let (mut session, _) = Session::open(rt.alloc(), &old, &Groups::none())?;
     let before = [shown(&rt, "1231a", 5), shown(&rt, "1231b", 0)];
     presses(&rt, rt.alloc(), &mut session, &old, "1#", &before);
     let after = [
@@ -220,7 +242,7 @@ fn ring(rt: &impl Abort, alloc: Global, count: u32) -> Result<Base, Fail> {
 #[test]
 fn a_base_of_65_535_frames_is_opened_and_walked(rt: HostRuntime) -> Result<(), Fail> {
     let base = ring(&rt, rt.alloc(), 65_535)?;
-    let (mut session, reply) = Session::open(rt.alloc(), &base)?;
+    let (mut session, reply) = Session::open(rt.alloc(), &base, &Groups::none())?;
     assert_eq!(rt; reply, shown(&rt, "0a", 0));
     let key = &Key::Route(Digit::new(1).ok_or("a digit")?);
     for number in 1..65_535u32 {

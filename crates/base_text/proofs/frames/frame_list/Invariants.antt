@@ -1,12 +1,11 @@
-use Rattle.std.proofs.Common.{◌≡◌, ◌++◌, drop, Ok, length}
+use Rattle.std.proofs.Common.{◌≡◌, ◌++◌, Ok, length}
+use Rattle.std.specs.Vec.Iter.{into_iter_items}
 use Rattle.toml.specs.View.{items_view}
 use Rattle.base_text.specs.FrameList.{frames_from}
 use Rattle.base_text.specs.Outcome.{◌>>=◌}
 use Rattle.base_text.proofs.frames.frame_list.Given as goal
 
 abbrev pub invariant-loop-value : goal.invariant-loop-value
-invariant-loop-value l = record {
-  read : length l.frames.items ≡ l.value-index;
-  so_far : frames_from 0 (items_view l.values)
-      ≡ (frames_from l.value-index (items_view (drop l.value-index l.values)) >>= (λ fs. Ok (l.frames.items ++ fs)));
-}
+invariant-loop-value l =
+    frames_from 0 (items_view l.fn.values.items)
+    ≡ (frames_from (length l.frames.items) (items_view (into_iter_items l.value-iterator)) >>= (λ fs. Ok (l.frames.items ++ fs)))

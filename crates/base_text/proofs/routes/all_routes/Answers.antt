@@ -1,26 +1,19 @@
-use Rattle.std.proofs.Common.{◌≡◌, arith, sym, ◌∙◌, rules, refl, Err, Ok}
-use Rattle.toml.specs.View.{table_view}
-use Rattle.toml.specs.Data.{get_member}
-use Rattle.base_text.specs.Routes.{route_of, no_routes}
-use Rattle.base_text.specs.Keys.{digit_key}
-use Rattle.base_text.proofs.DigitTurns.{begins, fails, goes_on, ends}
+use Rattle.std.proofs.Common.{◌≡◌, sym, ◌∙◌, rules, Err, Ok}
+use Rattle.toml.specs.View.{members_view}
+use Rattle.base_text.proofs.DigitTurns.{filled, filled_routes}
 use Rattle.base_text.proofs.routes.all_routes.Goals as goal
 
-pub loop-digit-init : goal.loop-digit-init
-loop-digit-init c = begins _ no_routes refl
-
-pub returns-in_err-route : goal.returns-in_err-route
-returns-in_err-route c =
-    let found = rw c.digit_key.ensures at c.member.ensures in
-    let bad : route_of (get_member (digit_key c.loop-digit.digit) (table_view c.args.table.now)) ≡ Err c.in_err-route.field-0.0 = rw (← found) (sym c.read_route.ensures ∙ c.in_err-route.was) in
-    let all = fails c.loop-digit.digit _ c.loop-digit.routes _ c.loop-digit-test.true c.loop-digit.invariant bad in
-    search (rules, all)
-
-pub loop-digit-preserved : goal.loop-digit-preserved
-loop-digit-preserved c =
-    let found = rw c.digit_key.ensures at c.member.ensures in
-    let good : route_of (get_member (digit_key c.loop-digit.digit) (table_view c.args.table.now)) ≡ Ok c.in_ok-route.route = rw (← found) (sym c.read_route.ensures ∙ c.in_ok-route.was) in
-    goes_on c.loop-digit.digit _ c.loop-digit.routes _ c.loop-digit-test.true c.loop-digit.invariant good
+pub returns-in_err-page : goal.returns-in_err-page
+returns-in_err-page c =
+    let held = c.loop-key.invariant in
+    let all = filled_routes c.args.table.now.entries c.iter-key-items.ensures.ordered c.requires in
+    let bad : filled c.loop-key.routes (members_view c.loop-key.key-iterator) ≡ Err c.in_err-page.field-0.0 = search rules in
+    let told : c.from_residual.result ≡ Err c.in_err-page.field-0.0 = search rules in
+    told ∙ sym bad ∙ held.so_far ∙ all
 
 pub returns : goal.returns
-returns c = sym (ends _ c.loop-digit.routes c.loop-digit.digit (omega arith) c.loop-digit.invariant)
+returns c =
+    let held = c.loop-key.invariant in
+    let all = filled_routes c.args.table.now.entries c.iter-key-items.ensures.ordered c.requires in
+    let done : filled c.loop-key.routes (members_view c.loop-key.key-iterator) ≡ Ok c.loop-key.routes = search rules in
+    sym done ∙ held.so_far ∙ all

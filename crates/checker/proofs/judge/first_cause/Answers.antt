@@ -1,4 +1,4 @@
-use Rattle.std.proofs.Common.{◌≡◌, None, ◌≤◌, length, arith}
+use Rattle.std.proofs.Common.{length, arith}
 use Rattle.checker.proofs.Counted.{all_counted}
 use Rattle.checker.proofs.judge.first_cause.Goals as goal
 

@@ -1,8 +1,7 @@
-use Rattle.std.proofs.Common.{◌≡◌, ◌≤◌, ◌<◌, Option, Some, length, sym, ap, ◌∙◌, subst, arith}
+use Rattle.std.proofs.Common.{◌≡◌, Some, sym, ap, ◌∙◌, arith}
 use Rattle.std.specs.Option.{option_copied}
-use Rattle.frame_records.specs.declared.frame.Frame.{Frame}
 use Rattle.frame_records.specs.BaseView.{frame_at}
-use Rattle.checker.proofs.Counted.{short_body, found_count}
+use Rattle.checker.proofs.Counted.{found_count}
 use Rattle.checker.proofs.judge.judge_row.Goals as goal
 
 pub returns-in-Some-clause-count : goal.returns-in-Some-clause-count

@@ -11,7 +11,7 @@ pub returns-in-Some-clause-cause : goal.returns-in-Some-clause-cause
 returns-in-Some-clause-cause g c =
     let at : slice_get c.args.cert.now.rows c.loop-i.i ≡ Some c.row_at.result.now =
     subst (λ (rows : List Row). slice_get rows c.loop-i.i ≡ Some c.row_at.result.now) c.cover-cover.ensures.rows c.row_at.ensures in
-    sym (last_row [] c.args.base.now c.args.cert.now c.args.cert.now.rows c.loop-i.i c.row_at.result.now at c.in-Some.cause (sym c.judge_row-cause.ensures.cause ∙ c.in-Some.is)) ∙ c.loop-i.invariant.right
+    sym (last_row c.args.cert.now.groups c.args.base.now c.args.cert.now c.args.cert.now.rows c.loop-i.i c.row_at.result.now at c.in-Some.cause (sym c.judge_row-cause.ensures.cause ∙ c.in-Some.is)) ∙ c.loop-i.invariant.right
 
 pub returns-in-Some-clause-count : goal.returns-in-Some-clause-count
 returns-in-Some-clause-count g c =
@@ -34,6 +34,6 @@ loop-i-preserved g c =
     let is = subst (λ (o : Option Cause). IsRowCount c.args.base.now m rows row o c.judge_row-cause.result.1) c.in_default.is c.judge_row-cause.ensures.count in
     let sums = fit c.args.base.now m rows c.loop-i.i row at c.loop-i.total c.with-total.result c.judge_row-cause.result.1 c.loop-i.invariant.counted None few is in
     record {
-      right = next_row [] c.args.base.now c.args.cert.now rows c.loop-i.i row at (sym c.judge_row-cause.ensures.cause ∙ c.in_default.is) ∙ c.loop-i.invariant.right;
+      right = next_row c.args.cert.now.groups c.args.base.now c.args.cert.now rows c.loop-i.i row at (sym c.judge_row-cause.ensures.cause ∙ c.in_default.is) ∙ c.loop-i.invariant.right;
       counted = counted_more c.args.base.now m rows c.loop-i.i row at c.loop-i.total c.with-total.result c.judge_row-cause.result.1 c.loop-i.invariant.counted is c.requires.some (c.with-total.ensures.probes sums.0) (c.with-total.ensures.steps sums.1);
     }

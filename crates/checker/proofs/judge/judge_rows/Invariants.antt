@@ -1,4 +1,4 @@
-use Rattle.std.proofs.Common.{◌≡◌, drop, length, []}
+use Rattle.std.proofs.Common.{◌≡◌, drop, length}
 use Rattle.checker.specs.Verdict.{rows_fault}
 use Rattle.checker.specs.Counts.{AreCounted}
 use Rattle.checker.proofs.judge.judge_rows.Given as goal
@@ -6,6 +6,6 @@ use Rattle.checker.proofs.judge.judge_rows.Given as goal
 -- the rows so far are right, and counted
 abbrev pub invariant-loop-i : goal.invariant-loop-i
 invariant-loop-i g l = record {
-  right : rows_fault [] l.base l.cert (drop l.i l.cert.rows) ≡ rows_fault [] l.base l.cert l.cert.rows;
+  right : rows_fault l.cert.groups l.base l.cert (drop l.i l.cert.rows) ≡ rows_fault l.cert.groups l.base l.cert l.cert.rows;
   counted : AreCounted l.base (g.C.Cover.most_among (length l.cert.rows)) l.cert.rows l.i l.total;
 }

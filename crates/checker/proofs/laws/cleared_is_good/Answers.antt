@@ -3,4 +3,4 @@ use Rattle.checker.proofs.IsCleared.{good_cleared}
 use Rattle.checker.proofs.laws.cleared_is_good.Goals as goal
 
 pub returns : goal.returns
-returns c caller base policy cert = (cleared_good caller base cert policy, good_cleared caller base cert policy)
+returns c base policy cert = (cleared_good base policy cert, good_cleared base policy cert)

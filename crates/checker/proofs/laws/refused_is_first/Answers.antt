@@ -2,4 +2,4 @@ use Rattle.checker.proofs.Refusals.{refusal}
 use Rattle.checker.proofs.laws.refused_is_first.Goals as goal
 
 pub returns : goal.returns
-returns c caller base policy cert cause = refusal caller base cert policy cause
+returns c base policy cert cause = refusal base policy cert cause

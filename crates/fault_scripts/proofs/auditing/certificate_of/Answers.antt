@@ -11,6 +11,6 @@ unreachable-requires c =
     let rows = c.sort_unstable_by_key.new.self.items in
     let sorted = by_key (λ (r : Row). r.id) (λ key. IsSortedByKey key id_cmp rows) c.sort_unstable_by_key.ensures.sorted (λ a r q k. search rules) in
     let fine = c.requires rows (record { same = c.sort_unstable_by_key.ensures.permutation; in_order = sorted }) in
-    let built = c.build.ensures ∙ ap (λ f. unless_fault f (record { entry = c.entry.result; ceiling = c.args.table.ceiling; keyings = c.args.table.keyings; rows = rows })) fine in
+    let built = c.build.ensures ∙ ap (λ f. unless_fault f (record { entry = c.entry.result; ceiling = c.args.table.ceiling; keyings = c.args.table.keyings; groups = c.copy.result; rows = rows })) fine in
     let both = sym c.in-Err.is ∙ built in
     cc

@@ -1,6 +1,5 @@
-use Rattle.fault_scripts.proofs.Due.{just}
-use Rattle.fault_scripts.proofs.Ordered.{in_order}
+use Rattle.fault_scripts.proofs.FaultsDue.{faults_due}
 use Rattle.fault_scripts.proofs.laws.faults_are_due.Goals as goal
 
 pub returns : goal.returns
-returns c = record { just = just; in_order = in_order }
+returns c = faults_due

@@ -1,8 +1,15 @@
-use Rattle.std.proofs.Common.{rules, ◌≡◌, Some}
-use Rattle.fault_scripts.proofs.Told.{led}
+use Rattle.std.proofs.Common.{rules, ◌≡◌, ℕ, List, Option, Some, [], ◌∷◌, ◌++◌, sym, ◌∙◌, ap, subst}
+use Rattle.page_ids.specs.declared.key.Key.{Key}
+use Rattle.fault_scripts.specs.Judged.{HasScript}
 use Rattle.fault_scripts.proofs.teller.lead_on.Goals as goal
 
+-- the parent's script and the key that led from it are the script
 pub returns-in_ok-push-in-Some : goal.returns-in_ok-push-in-Some
 returns-in_ok-push-in-Some c =
+    let found = c.args.found.now in
+    let key = c.in-Some.key in
     let same : c.args.at ≡ Some c.in-Some.parent = search rules in
-    led c.args.found.now c.args.at c.args.keys.now.items c.push.new.self.items c.args.index (c.in-Some.parent, c.in-Some.key) c.requires.extends c.requires.script (search rules) same (search rules)
+    let here = subst (λ (a : Option ℕ). HasScript found a c.args.keys.now.items) same c.requires.script in
+    let on = c.requires.extends c.args.index (c.in-Some.parent, key) (search rules) in
+    let pushed : c.push.new.self.items ≡ c.args.keys.now.items ++ key ∷ [] = search rules in
+    pushed ∙ ap (λ (k : List Key). k ++ key ∷ []) here ∙ sym on.1

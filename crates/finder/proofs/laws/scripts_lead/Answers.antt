@@ -1,4 +1,4 @@
-use Rattle.finder.proofs.ScriptLaw.{scripts_lead}
+use Rattle.finder.proofs.Scripted.{scripts_lead}
 use Rattle.finder.proofs.laws.scripts_lead.Goals as goal
 
 pub returns : goal.returns

@@ -1,7 +1,5 @@
-use Rattle.std.proofs.Common.{◌≡◌}
-use Rattle.finder.specs.Turned.{section_of}
-use Rattle.finder.specs.Search.{search_upto}
+use Rattle.finder.specs.Search.{IsSearch}
 use Rattle.finder.proofs.ranks.ranks_of.Given as goal
 
-abbrev pub invariant-loop-place : goal.invariant-loop-place
-invariant-loop-place l = (l.queue.items, l.ranks.items) ≡ search_upto (section_of l.turned.starts.items l.turned.froms.items) l.count l.place
+abbrev pub invariant-loop-done : goal.invariant-loop-done
+invariant-loop-done l = IsSearch l.graph l.done l.search.queue.items l.search.ranks.items

@@ -1,6 +1,5 @@
-use Rattle.std.proofs.Common.{◌≡◌, ◌<◌, ℕ, List, length, map, get_or, sym, ap, subst, arith, Some, ◌==◌}
+use Rattle.std.proofs.Common.{◌≡◌, List, sym, subst, Some}
 use Rattle.std.specs.Prelude.{slice_get}
-use Rattle.std.specs.Ordering.{nat_cmp}
 use Rattle.std.specs.declared.cmp.Ordering.{Ordering}
 use Rattle.std.specs.declared.cmp.Ordering.TheVariants.{Equal}
 use Rattle.frame_records.specs.Orderings.{IsSearchable}

@@ -2,11 +2,11 @@ use Rattle.std.proofs.Common.{◌≤◌, ◌*◌, length, arith}
 use Rattle.cert_text.proofs.Bounded.{bounded}
 use Rattle.pageaudit.proofs.input.feed_whole.Goals as goal
 
--- a text that reaches the limit has had a line at fault before: it has at most 65,541 lines of 129 bytes
+-- a text that reaches the limit has had a line at fault before: it has at most 65,542 lines of 129 bytes
 pub returns : goal.returns
 returns g c =
     let fed = c.loop-room.invariant.fed in
-    let most : length fed.text ≤ 65541 * 129 = bounded fed.text c.loop-room.reader.reading fed.taken.so_far in
+    let most : length fed.text ≤ 65542 * 129 = bounded fed.text c.loop-room.reader.reading fed.taken.so_far in
     let all = fed.counted in
     let none = c.loop-room-test.false in
     absurd (omega (arith, most, all, none))

@@ -1,0 +1,124 @@
+ghost use Rattle.std.specs.Prelude.{◌≡◌, ◌<◌, IfOk, length, option_map};
+ghost use Rattle.frame_records.specs.Ways.{destination_of};
+ghost use Rattle.abstract_paint.specs.Paint.{paint_of};
+ghost use Rattle.abstract_paint.specs.StartOf.{start_of};
+ghost use Rattle.fault_scripts.specs.declared.flaw.Flaw.TheVariants as flaw;
+ghost use Rattle.fault_scripts.specs.Aims.{sought_flaw, aimed_flaw};
+ghost use Rattle.fault_scripts.specs.Flaws.{fault_of, price_flaw, way_flaw, is_far, return_flaw};
+ghost use Rattle.fault_scripts.specs.Judged.{IsFrameAt};
+
+use crate::fault::{Fault, FaultKind};
+use abstract_paint::{Painted, Start, start_at};
+use finder::{Aim, Survey};
+use frame_records::{Frame, Pence};
+use page_ids::{FrameId, Key, Way};
+use std::alloc::{AllocError, Global};
+
+// What is wrong at a frame.
+#[derive(Debug, Clone, Copy, PartialEq, Eq)]
+pub enum Flaw {
+    // It costs this, which is above the ceiling.
+    Price(Pence),
+    // From this start, the least, it writes a service position.
+    Touches(Start),
+    // The way seeks this frame, which the base lacks, and isn't one to an outside page.
+    Missing(Way, FrameId),
+    // The way seeks this frame, which isn't open to the caller.
+    Closed(Way, FrameId),
+    // The way back is too long, or there is none.
+    NoReturn,
+}
+
+impl Flaw {
+    // The fault of a frame to which the keys lead.
+    pub fn fault(&self, alloc: Global, frame: FrameId, keys: &[Key]) -> Result<Fault, AllocError>
+        ensures { IfOk result (λ fault. fault ≡ fault_of frame keys.now self.now) }
+    {
+        match self {
+            Flaw::Price(price) => Fault::price(alloc, frame, keys, *price),
+            Flaw::Touches(start) => Fault::touches(alloc, frame, keys, *start),
+            Flaw::Missing(way, to) => {
+                Fault::sought(alloc, FaultKind::Missing, frame, keys, way.key(), *to)
+            }
+            Flaw::Closed(way, to) => {
+                Fault::sought(alloc, FaultKind::Closed, frame, keys, way.key(), *to)
+            }
+            Flaw::NoReturn => Fault::plain(alloc, FaultKind::NoReturn, frame, keys),
+        }
+    }
+}
+
+// A price above the ceiling.
+pub fn price_flaw(ceiling: Pence, price: Pence) -> Option<Flaw>
+    ensures { result ≡ price_flaw ceiling price }
+{
+    if price > ceiling {
+        Some(Flaw::Price(price))
+    } else {
+        None
+    }
+}
+
+// The least start that touches, of a frame that was painted.
+pub fn touch_flaw(frame: &Frame, painted: Painted) -> Option<Flaw>
+    requires { painted ≡ paint_of frame.now.lead frame.now.body }
+    ensures { result ≡ option_map flaw.Touches (start_of frame.now.lead frame.now.body painted) }
+{
+    match painted {
+        Painted::Clean(_) => None,
+        Painted::Touches(offset) => {
+            start_at(frame.lead, frame.body.as_slice(), offset).map(|start| Flaw::Touches(start))
+        }
+    }
+}
+
+// A way that seeks a frame, by its aim.
+fn sought_flaw(way: &Way, aim: Aim, to: FrameId) -> Option<Flaw>
+    ensures { result ≡ sought_flaw way.now aim to }
+{
+    match aim {
+        Aim::Closed => Some(Flaw::Closed(*way, to)),
+        Aim::Missing => Some(Flaw::Missing(*way, to)),
+        Aim::NotOffered | Aim::Found | Aim::Outside => None,
+    }
+}
+
+// A way by its aim, and by the frame that it seeks.
+fn aimed_flaw(way: &Way, aim: Aim, sought: Option<FrameId>) -> Option<Flaw>
+    ensures { result ≡ aimed_flaw way.now aim sought }
+{
+    match sought {
+        Some(to) => sought_flaw(way, aim, to),
+        None => None,
+    }
+}
+
+// A way of the frame at an index, by what it came to when the frame was discovered.
+pub fn way_flaw(survey: &Survey, index: u32, frame: &Frame, way: &Way) -> Option<Flaw>
+    requires within { index < length survey.now.found }
+    requires frame { IsFrameAt survey.now index frame.now }
+    ensures { result ≡ way_flaw way.now (destination_of survey.now.groups survey.now.base frame.now way.now) }
+{
+    aimed_flaw(way, survey.aim(index as usize, way), frame.sought(*way))
+}
+
+// Whether a rank is above the keyings, or there is none.
+fn is_far(keyings: u16, rank: Option<u16>) -> bool
+    ensures { result ≡ is_far keyings rank }
+{
+    match rank {
+        Some(rank) => rank > keyings,
+        None => true,
+    }
+}
+
+// A way back that is too long.
+pub fn return_flaw(keyings: u16, rank: Option<u16>) -> Option<Flaw>
+    ensures { result ≡ return_flaw keyings rank }
+{
+    if is_far(keyings, rank) {
+        Some(Flaw::NoReturn)
+    } else {
+        None
+    }
+}

@@ -1,0 +1,127 @@
+-- What a survey says.
+use Rattle.std.proofs.Common.{◌≡◌, ℕ, Bool, true, false, List, Option, Some, None, option_map, if◌then◌else◌, length, refl, sym, ◌∙◌, ap, ◌<◌, ◌+◌, ◌*◌, [], map, slice_get, get_or, arith, ◌≤◌}
+use Rattle.std.specs.Map.{lookup, values_of}
+use Rattle.std.proofs.lemmas.Option.{same_Some, slice_get_within}
+use Rattle.page_ids.specs.Id.{Id}
+use Rattle.page_ids.specs.Ids.{id_eq}
+use Rattle.page_ids.specs.declared.way.Way.{Way}
+use Rattle.page_ids.specs.Ways.{way_at}
+use Rattle.frame_records.specs.declared.base.Sought.TheVariants as sought_is
+use Rattle.frame_records.specs.declared.frame.Frame.{Frame}
+use Rattle.frame_records.specs.BaseView.{BaseView, IsAscending, frame_at}
+use Rattle.frame_records.specs.Seek.{entry_of, is_open, sought_of}
+use Rattle.frame_records.specs.Ways.{destination_of, destination_by, destination}
+use Rattle.finder.specs.declared.table.Target.{Target}
+use Rattle.finder.specs.declared.table.Target.TheVariants.{NotOffered}
+use Rattle.finder.specs.Entries.{IsEntryPlace, discovered_of}
+use Rattle.finder.specs.declared.aim.Aim.{Aim}
+use Rattle.finder.specs.declared.aim.Aim.TheVariants as aim
+use Rattle.finder.specs.Targets.{place_of, id_at, aim_to, AreNumbered, aim_at, AreTargets}
+use Rattle.finder.specs.declared.discover.Reached.{Reached}
+use Rattle.finder.specs.declared.found.Discovered.{Discovered}
+use Rattle.finder.specs.Discovery.{AreNamed}
+use Rattle.finder.specs.Survey.{aim_of}
+use Rattle.finder.specs.Finds.{FindsReached, RanksAreLeast, IsFinding}
+use Rattle.finder.specs.Walks.{EntryIsFound}
+use Rattle.finder.proofs.Places.{frame_here}
+use Rattle.finder.proofs.Lists.{image_at, at_image}
+use Rattle.finder.proofs.Within.{id_stands, place_found, found_place}
+use Rattle.finder.proofs.Targeted.{absent}
+use Rattle.finder.proofs.Scripted.{listed_at, scripts_lead}
+
+module _ (caller : List ℕ) (base : BaseView) (entries : List (Id × Target)) (are : AreNumbered caller base.frames (length base.frames) entries) where
+  -- a frame is found where that is its aim
+  entry_found : (aimed : Aim) → aimed ≡ aim.Found → (o : Option Frame) → option_map (aim_to caller) o ≡ Some aimed
+      → (price : ℕ) × (sought_of caller o ≡ sought_is.Found price)
+  entry_found aimed is None e = absurd cc
+  entry_found aimed is (Some f) e = by (is_open caller f) (same_Some (aim_to caller f) aimed e ∙ is) where
+    by : (b : Bool) → (if b then aim.Found else aim.Closed) ≡ aim.Found
+        → (price : ℕ) × ((if b then sought_is.Found f.price else sought_is.Closed) ≡ sought_is.Found price)
+    by true e = (f.price, refl)
+    by false e = absurd cc
+
+  -- and where it is found that is its aim
+  aim_found : (o : Option Frame) (aimed : Aim) (price : ℕ) → option_map (aim_to caller) o ≡ Some aimed
+      → sought_of caller o ≡ sought_is.Found price → aimed ≡ aim.Found
+  aim_found None aimed price e found = absurd cc
+  aim_found (Some f) aimed price e found = sym (same_Some (aim_to caller f) aimed e) ∙ by (is_open caller f) found where
+    by : (b : Bool) → (if b then sought_is.Found f.price else sought_is.Closed) ≡ sought_is.Found price
+        → (if b then aim.Found else aim.Closed) ≡ aim.Found
+    by true found = refl
+    by false found = absurd cc
+
+  pub entry_missing : None ≡ lookup (id_eq (entry_of base)) entries → IsEntryPlace caller base None
+  entry_missing none entry = let gone = sym (ap (sought_of caller) (absent caller base entries (entry_of base) are none)) ∙ entry.1 in absurd cc
+
+  pub entry_by : (target : Target) → Some target ≡ lookup (id_eq (entry_of base)) entries
+      → IsEntryPlace caller base (place_of target)
+  entry_by target there = by (place_of target) refl where
+    aims : option_map (aim_to caller) (frame_at base (entry_of base)) ≡ Some (aim_at target)
+    aims = are.aims (entry_of base) target (sym there)
+
+    by : (o : Option ℕ) → place_of target ≡ o → IsEntryPlace caller base o
+    by (Some place) is = (entry_found (aim_at target) (ap aim_at (place_found target place is)) (frame_at base (entry_of base)) aims, are.places (entry_of base) target place (sym there) is)
+    by None is = λ entry. let some = found_place target (aim_found (frame_at base (entry_of base)) (aim_at target) entry.0 aims entry.1) in let clash = sym is ∙ some.1 in absurd cc
+
+module _ (caller : List ℕ) (base : BaseView) (entries : List (Id × Reached)) (i : ℕ) (r : Reached) (up : IsAscending base.frames) (named : AreNamed base.frames entries) (at : slice_get (values_of entries) i ≡ Some r) where
+  -- the frame of its node stands in the base
+  pub stands : (f : Frame) × (slice_get base.frames r.node ≡ Some f) × ((found : List Discovered) (d : Discovered) → found ≡ map discovered_of entries → slice_get found i ≡ Some d → frame_at base d.id ≡ Some f)
+  stands =
+      let e = image_at (λ x. x.1) entries i r at in
+      let f = id_stands base.frames r.node e.0.0 (ap (λ (x : Reached). id_at base.frames x.node) (sym e.2) ∙ named i e.0 e.1) in (
+        f.0,
+        f.1,
+        λ found d is there.
+            let same : discovered_of e.0 ≡ d = same_Some (discovered_of e.0) d (sym (at_image discovered_of entries i e.0 e.1) ∙ ap (λ l. slice_get l i) (sym is) ∙ there) in
+            ap (frame_at base) (sym (f.2 ∙ ap (λ (x : Discovered). x.id) same)) ∙ frame_here base.frames up r.node f.0 f.1,
+      )
+
+  pub node_within : r.node < length base.frames
+  node_within = slice_get_within base.frames r.node stands.0 stands.1
+
+  -- what its ways come to
+  pub aim_told : (targets : List Target) (way : Way) (place : ℕ) (found : List Discovered) (d : Discovered)
+      → AreTargets caller base (length base.frames * 11) targets → place < 11 → way_at place ≡ way
+      → found ≡ map discovered_of entries → slice_get found i ≡ Some d
+      → aim_at (get_or targets (r.node * 11 + place) NotOffered) ≡ aim_of (destination caller base d.id way)
+  aim_told targets way place found d are small is_way is there =
+      let inside : r.node * 11 + place < length base.frames * 11 = omega (arith, node_within, small) in
+      let f = stands in
+      (are.right r.node place f.0 inside small f.1).aim ∙ ap (λ w. aim_of (destination_of caller base f.0 w)) is_way ∙ ap (λ o. aim_of (destination_by caller base way o)) (sym (f.2 found d is there))
+
+-- where the entry frame is found it is listed
+not_empty : (caller : List ℕ) (base : BaseView) (found : List Discovered) → FindsReached caller base found → found ≡ []
+    → EntryIsFound caller base → ⊥
+not_empty caller base found finds none entry =
+    let there = listed_at caller base found finds (entry_of base) (record { steps = 0; entry = entry; walk = refl }) in
+    let past = sym (ap (λ (l : List Discovered). slice_get l there.0) none) ∙ there.2 in
+    absurd cc
+
+pub whole : (caller : List ℕ) (base : BaseView) (found : List Discovered) → EntryIsFound caller base
+    → FindsReached caller base found → RanksAreLeast caller base found → length found ≤ length base.frames
+    → IsFinding caller base found
+whole caller base found entry reached ranks few = record {
+  reached = reached;
+  ranks = ranks;
+  scripts = scripts_lead caller base found reached;
+  empty = (not_empty caller base found reached, λ not_found. absurd (not_found entry));
+  few = few;
+}
+
+-- no frame
+pub nothing : (caller : List ℕ) (base : BaseView) → (EntryIsFound caller base → ⊥) → IsFinding caller base []
+nothing caller base not_found =
+    let reached : FindsReached caller base [] = record {
+      first = λ d at. absurd cc;
+      reached = λ id. (λ r. absurd (not_found r.entry), λ some. absurd (omega (arith, some.2)));
+      once = λ i j d lt end. absurd (omega (arith, lt, end));
+      pairs = λ i d at. absurd cc;
+      ascend = λ i j d lt end. absurd (omega (arith, lt, end));
+    } in
+    record {
+      reached = reached;
+      ranks = λ i d lt. absurd (omega (arith, lt));
+      scripts = scripts_lead caller base [] reached;
+      empty = (λ none entry. not_found entry, λ not. refl);
+      few = omega arith;
+    }

@@ -1,0 +1,10 @@
+use Rattle.std.specs.Map.{values_of}
+use Rattle.std.proofs.Common.{◌≡◌, ◌+◌, ◌*◌, Some, slice_get}
+use Rattle.finder.specs.Discovery.{IsListed}
+use Rattle.finder.proofs.discover.Discovery.try_ways.Given as goal
+
+abbrev pub invariant-loop-way : goal.invariant-loop-way
+invariant-loop-way l = record {
+  stands : slice_get (values_of l.self.order.entries) l.index ≡ Some l.from;
+  listed : IsListed l.graph (l.index * 11 + l.way) l.self.order.entries l.self.listed.items;
+}

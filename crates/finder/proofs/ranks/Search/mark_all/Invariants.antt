@@ -1,0 +1,10 @@
+use Rattle.std.proofs.Common.{◌≡◌, ◌<◌, ◌+◌, ℕ, Some, slice_get, get_or}
+use Rattle.finder.specs.Search.{HasRank, IsSearch}
+use Rattle.finder.proofs.ranks.Search.mark_all.Given as goal
+
+abbrev pub invariant-loop-source : goal.invariant-loop-source
+invariant-loop-source l = record {
+  search : IsSearch l.graph l.done l.self.queue.items l.self.ranks.items;
+  waits : slice_get l.self.queue.items l.done ≡ Some l.to;
+  passed : (k : ℕ) → k < l.source-index → HasRank l.self.ranks.items (get_or l.sources k 0) (l.to.rank + 1);
+}

@@ -1,0 +1,24 @@
+use Rattle.std.proofs.Common.{◌≡◌, Some, None, sym, subst, arith}
+use Rattle.std.proofs.lemmas.Option.{slice_get_within}
+use Rattle.frame_records.specs.BaseView.{BaseView}
+use Rattle.frame_records.specs.Seek.{entry_of}
+use Rattle.finder.specs.Entries.{IsEntryPlace}
+use Rattle.finder.specs.Finds.{IsFinding}
+use Rattle.finder.specs.Targets.{id_at}
+use Rattle.finder.proofs.Whole.{nothing}
+use Rattle.finder.proofs.Within.{id_stands}
+use Rattle.finder.proofs.survey.Survey.of.Goals as goal
+
+pub returns-in_default-clause-found : goal.returns-in_default-clause-found
+returns-in_default-clause-found c =
+    let numbers = c.in_ok-numbers in
+    let here = subst (λ b. IsEntryPlace numbers.numbers.groups.now b None) numbers.ensures.base c.in_default.ensures in
+    subst (IsFinding c.args.groups.now c.args.base.now) (sym c.empty.ensures.found) (nothing c.args.groups.now c.args.base.now (subst (λ g. IsEntryPlace g c.args.base.now None) numbers.ensures.groups here))
+
+pub invariant_of-of_graph : goal.invariant_of-of_graph
+invariant_of-of_graph c =
+    let table = c.in_ok-table.table in
+    let entry = c.in-Some.entry in
+    let there : id_at table.base.now.frames entry ≡ Some (entry_of table.base.now) = subst (λ (b : BaseView). id_at b.frames entry ≡ Some (entry_of b)) (sym c.in_ok-table.ensures.base) c.in-Some.ensures.1 in
+    let f = id_stands table.base.now.frames entry (entry_of table.base.now) there in
+    record { entered = omega (arith, slice_get_within table.base.now.frames entry f.0 f.1, table.nodes); entry_is = there }

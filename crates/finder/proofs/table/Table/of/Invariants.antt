@@ -1,0 +1,6 @@
+use Rattle.std.proofs.Common.{◌*◌}
+use Rattle.finder.specs.Targets.{AreTargets}
+use Rattle.finder.proofs.table.Table.of.Given as goal
+
+abbrev pub invariant-loop-place : goal.invariant-loop-place
+invariant-loop-place l = AreTargets l.numbers.groups.now l.numbers.base.now (l.place * 11) l.targets.items

@@ -1,0 +1,6 @@
+use Rattle.std.proofs.Common.{◌+◌, ◌*◌}
+use Rattle.finder.specs.Targets.{AreTargets}
+use Rattle.finder.proofs.table.add_targets.Given as goal
+
+abbrev pub invariant-loop-way : goal.invariant-loop-way
+invariant-loop-way l = AreTargets l.numbers.groups.now l.numbers.base.now (l.place * 11 + l.way) l.targets.items

@@ -1,0 +1,22 @@
+-- The discovered frames of a base, with what their ways came to.
+use Rattle.std.specs.Prelude.{ℕ, List}
+use Rattle.frame_records.specs.declared.ways.Destination.{Destination}
+use Rattle.frame_records.specs.declared.ways.Destination.TheVariants as destination
+use Rattle.frame_records.specs.BaseView.{BaseView}
+use Rattle.finder.specs.declared.found.Discovered.{Discovered}
+use Rattle.finder.specs.declared.aim.Aim.{Aim}
+use Rattle.finder.specs.declared.aim.Aim.TheVariants.{NotOffered, Found, Closed, Missing, Outside}
+
+-- a destination without its frame
+abbrev pub aim_of : Destination → Aim
+aim_of destination.NotOffered = NotOffered
+aim_of (destination.Found to price) = Found
+aim_of (destination.Closed to) = Closed
+aim_of (destination.Missing to) = Missing
+aim_of (destination.Outside page) = Outside
+
+-- the base, the caller's groups, and the frames that are discovered
+pub record SurveyView : Type 0 where
+  pub base : BaseView
+  pub groups : List ℕ
+  pub found : List Discovered

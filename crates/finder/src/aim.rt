@@ -1,0 +1,14 @@
+/// What a way of a discovered frame came to, without the frame that it seeks.
+#[derive(Debug, Clone, Copy, PartialEq, Eq)]
+pub enum Aim {
+    /// The frame doesn't offer the way.
+    NotOffered,
+    /// The frame that is sought is open to the caller.
+    Found,
+    /// The base has the frame and it isn't open to the caller.
+    Closed,
+    /// The base lacks the frame.
+    Missing,
+    /// The base lacks the frame of a route's page, and the page is listed as outside.
+    Outside,
+}

@@ -1,0 +1,40 @@
+//! The frames that are found as a graph: a node is a frame's place in the base.
+
+ghost use Rattle.std.specs.Prelude.{◌≡◌, ◌<◌, ◌+◌, ◌*◌, Some, IfSome};
+ghost use Rattle.frame_records.specs.Seek.{entry_of};
+ghost use Rattle.finder.specs.Targets.{id_at};
+
+use crate::table::Table;
+use page_ids::FrameId;
+
+// A table of a base whose entry frame is found, at a place.
+#[derive(Drop)]
+pub struct Graph<'a> {
+    pub table: Table<'a>,
+    pub entry: u16,
+    pub ghost entered: { entry < table.count },
+    pub ghost entry_is: { id_at table.base.now.frames entry ≡ Some (entry_of table.base.now) },
+}
+
+impl Graph<'_> {
+    ghost use Rattle.finder.specs.Graph.{target};
+
+    // The node to which a way of a node leads.
+    pub fn target(&self, node: u16, way: u8) -> Option<u16>
+        requires is_node { node < self.now.table.count }
+        requires is_way { way < 11 }
+        ensures value { result ≡ target self.now node way }
+        ensures within { IfSome result (λ to. to < self.now.table.count) }
+    {
+        let to = self.table.target(node, way).place()?;
+        Some(to)
+    }
+
+    // The id of a node's frame.
+    pub fn id(&self, node: u16) -> FrameId
+        requires { node < self.now.table.count }
+        ensures { id_at self.now.table.base.now.frames node ≡ Some result }
+    {
+        self.table.base.frames()[node as usize].id
+    }
+}

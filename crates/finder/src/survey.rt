@@ -1,0 +1,163 @@
+ghost use Rattle.std.specs.Prelude.{◌≡◌, ◌<◌, ◌≤◌, ◌↔◌, [], IfOk, Some, length, slice_get};
+ghost use Rattle.page_ids.specs.Ways.{way_at};
+ghost use Rattle.frame_records.specs.BaseView.{frame_at};
+ghost use Rattle.frame_records.specs.Ways.{destination};
+ghost use Rattle.finder.specs.declared.found.Discovered.{Discovered};
+ghost use Rattle.finder.specs.Entries.{IsEntryPlace};
+ghost use Rattle.finder.specs.Finds.{IsFinding, FindsReached, RanksAreLeast};
+ghost use Rattle.finder.specs.Scripts.{ScriptsLead};
+ghost use Rattle.finder.specs.Survey.{aim_of};
+ghost use Rattle.finder.specs.Walks.{EntryIsFound};
+
+use crate::aim::Aim;
+use crate::discover::{Order, discover};
+use crate::found::Found;
+use crate::graph::Graph;
+use crate::table::{Numbers, Table};
+use frame_records::{Base, Frame, Groups};
+use indexmap::IndexMap;
+use page_ids::Way;
+use std::alloc::{AllocError, Global};
+use std::marker::Model;
+
+/// The discovered frames of a base, with what each of their ways came to. Contracts see the base, the caller's
+/// groups and the list.
+#[derive(Drop)]
+pub struct Survey<'a> {
+    table: Table<'a>,
+    order: Order,
+    found: Found,
+}
+
+impl<'a> Model for Survey<'a> {
+    ghost use Rattle.std.specs.Prelude.{◌≡◌, map};
+    ghost use Rattle.finder.specs.Discovery.{AreNamed};
+    ghost use Rattle.finder.specs.Entries.{discovered_of};
+    ghost use Rattle.finder.specs.Survey.{SurveyView};
+
+    ghost Value = { SurveyView };
+
+    ghost view = { λ s. record { base = s.table.base.now; groups = s.table.groups.now; found = s.found } };
+
+    ghost invariant = { λ s. (s.found ≡ map discovered_of s.order.entries) × AreNamed s.table.base.now.frames s.order.entries };
+}
+
+// The place of the entry frame, where it is found.
+fn entry_place(numbers: &Numbers<'_>) -> Option<u16>
+    ensures { IsEntryPlace numbers.now.groups.now numbers.now.base.now result }
+{
+    match numbers.target_by_id(&numbers.base.entry_frame()) {
+        Some(target) => target.place(),
+        None => None,
+    }
+}
+
+// A way's place in the order of the ways.
+fn place_of(way: &Way) -> u8
+    ensures way { way_at result ≡ way.now }
+    ensures within { result < 11 }
+{
+    match way {
+        Way::Route(digit) => digit.get(),
+        Way::Next => 10,
+    }
+}
+
+impl<'a> Survey<'a> {
+    // Where the entry frame isn't found, no frame is.
+    fn empty(alloc: Global, table: Table<'a>) -> Survey<'a>
+        ensures base { result.base ≡ table.entry.base.now }
+        ensures groups { result.groups ≡ table.entry.groups.now }
+        ensures found { result.found ≡ [] }
+    {
+        Survey {
+            table,
+            order: IndexMap::new(alloc),
+            found: Found::empty(alloc),
+        }
+    }
+
+    // The frames that are reached from an entry frame that is found.
+    fn of_graph(alloc: Global, graph: Graph<'a>) -> Result<Survey<'a>, AllocError>
+        requires { EntryIsFound graph.table.groups.now graph.table.base.now }
+        ensures base { IfOk result (λ s. s.base ≡ graph.entry.table.base.now) }
+        ensures groups { IfOk result (λ s. s.groups ≡ graph.entry.table.groups.now) }
+        ensures found { IfOk result (λ s. IsFinding graph.entry.table.groups.now graph.entry.table.base.now s.found) }
+    {
+        let order = discover(alloc, &graph)?;
+        let found = Found::of(alloc, &order)?;
+        let Graph { table, .. } = graph;
+        Ok(Survey {
+            table,
+            order,
+            found,
+        })
+    }
+
+    /// Finds the frames that a caller of just these groups can reach, in the order of discovery, and what each of their
+    /// ways comes to; each way is looked up once.
+    pub fn of(alloc: Global, base: &'a Base, groups: &'a Groups) -> Result<Survey<'a>, AllocError>
+        ensures base { IfOk result (λ s. s.base ≡ base.now) }
+        ensures groups { IfOk result (λ s. s.groups ≡ groups.now) }
+        ensures found { IfOk result (λ s. IsFinding groups.now base.now s.found) }
+    {
+        let numbers = Numbers::of(alloc, base, groups)?;
+        let table = Table::of(alloc, &numbers)?;
+        let Some(entry) = entry_place(&numbers) else {
+            return Ok(Survey::empty(alloc, table));
+        };
+        drop(numbers);
+        Survey::of_graph(alloc, Graph { table, entry })
+    }
+
+    // The list alone.
+    fn into_found(self) -> Found
+        ensures { result ≡ self.entry.found }
+    {
+        self.found
+    }
+
+    /// The discovered frames.
+    pub fn found(&self) -> &Found
+        ensures { result.now ≡ self.now.found }
+    {
+        &self.found
+    }
+
+    /// The record of the discovered frame at an index of the list.
+    pub fn frame(&self, index: usize) -> &Frame
+        requires { index < length self.now.found }
+        ensures { (d : Discovered) → slice_get self.now.found index ≡ Some d → frame_at self.now.base d.id ≡ Some result.now }
+    {
+        &self.table.base.frames()[self.order[index].node as usize]
+    }
+
+    /// What a way of the discovered frame at an index of the list came to. Nothing is sought.
+    pub fn aim(&self, index: usize, way: &Way) -> Aim
+        requires { index < length self.now.found }
+        ensures { (d : Discovered) → slice_get self.now.found index ≡ Some d → result ≡ aim_of (destination self.now.groups self.now.base d.id way.now) }
+    {
+        self.table
+            .target(self.order[index].node, place_of(way))
+            .aim()
+    }
+}
+
+/// The frames that a caller of just these groups can reach, in the order of discovery: the entry frame first; then for
+/// each listed frame in turn the keys `0` to `9` and `#` are tried, and each open frame found that isn't yet listed goes
+/// last.
+///
+/// The list is empty where the entry frame is missing or closed.
+pub fn find(alloc: Global, base: &Base, groups: &Groups) -> Result<Found, AllocError>
+    ensures reached { IfOk result (λ found. FindsReached groups.now base.now found) }
+    ensures rank { IfOk result (λ found. RanksAreLeast groups.now base.now found) }
+    ensures scripts { IfOk result (λ found. ScriptsLead groups.now base.now found) }
+    ensures empty { IfOk result (λ found. found ≡ [] ↔ (EntryIsFound groups.now base.now → ⊥)) }
+    ensures few { IfOk result (λ found. length found ≤ length base.now.frames) }
+{
+    let survey = Survey::of(alloc, base, groups)?;
+    Ok(survey.into_found())
+}
+
+#[cfg(test)]
+mod tests;
