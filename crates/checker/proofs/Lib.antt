@@ -6,3 +6,5 @@ pub mod RowBodies
 pub mod Refusals
 pub mod WaysTold
 pub mod Counted
+pub mod Editions
+pub mod Places

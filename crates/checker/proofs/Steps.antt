@@ -33,7 +33,7 @@ use Rattle.checker.specs.declared.policy.Policy.{Policy}
 use Rattle.checker.specs.Good.{Good, IsGoodRow, LeadsOn, is_covered}
 use Rattle.checker.specs.Safe.{Safe, HasRows, IsCleanAt, IsCleanReply}
 
-some_there : {A : Type 0} (o : Option A) → is_some o ≡ true → (x : A) × (o ≡ Some x)
+pub some_there : {A : Type 0} (o : Option A) → is_some o ≡ true → (x : A) × (o ≡ Some x)
 some_there None h = cc
 some_there (Some x) h = (x, refl)
 
@@ -81,7 +81,7 @@ module _ (base : BaseView) (policy : Policy) (cert : CertView) (apart : AreApart
   pub found_at : (id : Id) (row : Row) → IsGoodRow cert.groups base cert id row.rank row.cursor → IsFound id
   found_at id row g = record { price = g.frame.price; found = rw (g.found, g.admitted) refl; fair = g.price; clean = record { frame = g.frame; found = g.found; clean = g.clean } }
 
-  covered_found : (id : Id) → is_covered cert.rows id ≡ true → IsFound id
+  pub covered_found : (id : Id) → is_covered cert.rows id ≡ true → IsFound id
   covered_found id h = let g = good_row id h in found_at id g.0 g.1
 
   remembers : (id : Id) (remembered : List Id) → HasRows cert.rows (At id remembered) → AllByRecursion (λ r. is_covered cert.rows r ≡ true) (remember id remembered)

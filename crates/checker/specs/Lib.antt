@@ -7,3 +7,6 @@ pub mod Ways
 pub mod Counts
 pub mod Laws
 pub mod RowsAreClean
+pub mod Change
+pub mod Places
+pub mod Editions

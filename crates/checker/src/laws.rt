@@ -1,3 +1,4 @@
+ghost use Rattle.checker.specs.Editions.{ChangesAreSafe};
 ghost use Rattle.checker.specs.Laws.{GoodIsSafe, GoodKeepsRows, ClearedIsGood};
 ghost use Rattle.checker.specs.Refusal.{RefusedIsFirst};
 ghost use Rattle.checker.specs.RowsAreClean.{RowsAreClean};
@@ -23,4 +24,11 @@ pub fn rows_are_clean()
 /// the first byte that some state of the terminal lets write a service cell, K10 by the ends that occur.
 pub fn refused_is_first()
     ensures { RefusedIsFirst }
+{}
+
+/// Of every list of editions in turn, each cleared against the one before it, and every caller whose frames have rows in the
+/// first certificate: nothing that is sought is missing or closed, what is shown costs at most that edition's ceiling and is
+/// clean, and just after each change too the caller left or regains the entry frame within that edition's keyings.
+pub fn changes_are_safe()
+    ensures { ChangesAreSafe }
 {}

@@ -1,5 +1,5 @@
 -- Laws of sessions, of every caller, base and state.
-use Rattle.std.specs.Prelude.{◌≡◌, ◌≤◌, ℕ, List, ◌++◌, length, Some}
+use Rattle.std.specs.Prelude.{◌≡◌, ◌≤◌, ℕ, List, [], ◌∷◌, ◌++◌, length, Some}
 use Rattle.std.specs.List.{AllByRecursion}
 use Rattle.page_ids.specs.Id.{Id}
 use Rattle.page_ids.specs.declared.key.Key.{Key}
@@ -11,11 +11,19 @@ use Rattle.session_machine.specs.State.{SessionState, Left, present, remembered_
 use Rattle.session_machine.specs.Step.{key_step}
 use Rattle.session_machine.specs.Open.{opening}
 use Rattle.session_machine.specs.Runs.{state_after, replies_to}
+use Rattle.session_machine.specs.Editions.{Part, state_over, replies_over}
 
 -- two lists of keys in turn do what their concatenation does
 pub record RunsInTurn : Type 0 where
   pub state : (caller : List ℕ) (base : BaseView) (from : SessionState) (keys more : List Key) → state_after caller base from (keys ++ more) ≡ state_after caller base (state_after caller base from keys) more
   pub replies : (caller : List ℕ) (base : BaseView) (from : SessionState) (keys more : List Key) → replies_to caller base from (keys ++ more) ≡ replies_to caller base from keys ++ replies_to caller base (state_after caller base from keys) more
+
+-- parts in turn do what their concatenation does; and a change to the same base is none
+pub record PartsInTurn : Type 0 where
+  pub state : (caller : List ℕ) (from : SessionState) (parts more : List Part) → state_over caller from (parts ++ more) ≡ state_over caller (state_over caller from parts) more
+  pub replies : (caller : List ℕ) (from : SessionState) (parts more : List Part) → replies_over caller from (parts ++ more) ≡ replies_over caller from parts ++ replies_over caller (state_over caller from parts) more
+  pub same : (caller : List ℕ) (base : BaseView) (from : SessionState) (keys more : List Key) → state_over caller from (record { base = base; keys = keys } ∷ record { base = base; keys = more } ∷ []) ≡ state_after caller base from (keys ++ more)
+  pub same_replies : (caller : List ℕ) (base : BaseView) (from : SessionState) (keys more : List Key) → replies_over caller from (record { base = base; keys = keys } ∷ record { base = base; keys = more } ∷ []) ≡ replies_to caller base from (keys ++ more)
 
 -- at most three frames are remembered, after every list of keys
 pub record RemembersFew : Type 0 where

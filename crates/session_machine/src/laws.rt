@@ -1,8 +1,14 @@
-ghost use Rattle.session_machine.specs.SessionLaws.{RunsInTurn, RemembersFew, LeftStays, ShowsWhatIsFound};
+ghost use Rattle.session_machine.specs.SessionLaws.{RunsInTurn, PartsInTurn, RemembersFew, LeftStays, ShowsWhatIsFound};
 
 /// Of every two lists of keys: in turn they answer and lead as their concatenation does.
 pub fn runs_in_turn()
     ensures { RunsInTurn }
+{}
+
+/// Of every two lists of parts, each a base and the keys that are pressed while it stands: in turn they answer and lead as
+/// their concatenation does; where both bases are the same, as the keys of both do.
+pub fn parts_in_turn()
+    ensures { PartsInTurn }
 {}
 
 /// Of every list of keys: afterwards at most three frames are remembered.

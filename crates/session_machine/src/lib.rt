@@ -6,12 +6,13 @@
 //! - [`Session`], [`OpenFault`]: the session, and why none is opened.
 //! - [`Reply`]: what the centre answers to a key.
 //! - [`runs_in_turn`], [`remembers_few`], [`left_stays`], [`shows_what_is_found`]: laws over whole lists of keys.
+//! - [`parts_in_turn`]: the same of sessions during which the edition changes (`specs/Editions.antt`).
 #![tactic(auto)]
 
 mod laws;
 mod reply;
 mod session;
 
-pub use laws::{left_stays, remembers_few, runs_in_turn, shows_what_is_found};
+pub use laws::{left_stays, parts_in_turn, remembers_few, runs_in_turn, shows_what_is_found};
 pub use reply::Reply;
 pub use session::{OpenFault, Session};

@@ -1,0 +1,64 @@
+-- Two tables in the order of ids, gone through side by side.
+use Rattle.std.proofs.Common.{◌≡◌, ℕ, ◌+◌, ◌<◌, ◌≤◌, Bool, true, false, cond, List, ◌∷◌, length, get_or, drop, Some, None, inl, inr, sym, ap, ◌∙◌, subst, arith}
+use Rattle.std.specs.Prelude.{slice_get, is_some, ◌==◌}
+use Rattle.std.specs.Ordering.{is_lt}
+use Rattle.std.specs.List.Sorted.{IsSortedByKey}
+use Rattle.std.specs.declared.cmp.Ordering.TheVariants.{Less}
+use Rattle.std.proofs.lemmas.Bool.{cases_lt}
+use Rattle.std.proofs.lemmas.Bool.Decides.{nat_tests}
+use Rattle.std.proofs.lemmas.List.Sorted.{ranks_by, sorted_far}
+use Rattle.page_ids.specs.Id.{Id}
+use Rattle.page_ids.specs.Ids.{id_cmp, id_eq}
+use Rattle.page_ids.specs.IdLaws.{id_cmp_total}
+use Rattle.frame_records.proofs.Finds.{find_first, find_none}
+use Rattle.cert_table.specs.declared.row.Row.{Row}
+use Rattle.cert_table.specs.Rows.{AreRows, row_among}
+use Rattle.checker.specs.Good.{is_covered}
+use Rattle.checker.specs.Change.{lost_id}
+use Rattle.checker.specs.Places.{AreBelow, IsPlaceOf}
+use Rattle.checker.proofs.RowsInTurn.{drop_at}
+
+not_after : (a b : Id) → id_cmp a b ≡ Less → is_lt (id_cmp b a) ≡ false
+not_after a b e = grind (arith, nat_tests)
+
+less_other : (a b : Id) → id_cmp a b ≡ Less → id_eq a b ≡ false
+less_other a b e = grind (arith, nat_tests)
+
+-- behind what isn't in front of an id and isn't it, the id doesn't stand
+other_behind : (a b id : Id) → is_lt (id_cmp a id) ≡ false → id_eq a id ≡ false → is_lt (id_cmp b a) ≡ false → id_eq b id ≡ false
+other_behind a b id h other up = grind (arith, nat_tests)
+
+-- what is in front of an id is so of those behind that
+still_below : (a b c : Id) → id_cmp a b ≡ Less → is_lt (id_cmp c b) ≡ false → id_cmp a c ≡ Less
+still_below a b c lt up = grind (arith, nat_tests)
+
+-- a later row's id isn't below an earlier one's
+far : (rows : List Row) → AreRows rows → (i j : ℕ) (d : Row) → i ≤ j → j < length rows → is_lt (id_cmp (get_or rows j d).id (get_or rows i d).id) ≡ false
+far rows are i j d le lt = sorted_far (λ r s. is_lt (id_cmp r.id s.id)) (ranks_by id_cmp_total (λ (r : Row). r.id)) rows sorted i j d le lt where
+  sorted : IsSortedByKey (λ r. r.id) id_cmp rows
+  sorted k e within = not_after (get_or rows k e).id (get_or rows (k + 1) e).id (are.ascending k e within)
+
+-- the row at an id's place is the id's, or no row is
+module _ (rows : List Row) (are : AreRows rows) (id : Id) (at : ℕ) (place : IsPlaceOf rows id at) where
+  pub covered_there : (row : Row) → at < length rows → get_or rows at row ≡ row → id_eq row.id id ≡ true → is_covered rows id ≡ true
+  covered_there row lt is same =
+      ap is_some (find_first (λ (r : Row). id_eq r.id id) rows at row lt is same (λ k before. less_other (get_or rows k row).id id (place.below k row before (omega (arith, before, lt)))))
+
+  pub not_covered : ((d : Row) → at < length rows → id_eq (get_or rows at d).id id ≡ false) → is_covered rows id ≡ false
+  not_covered other =
+      ap is_some (find_none (λ (r : Row). id_eq r.id id) rows (λ k d lt. elim (cases_lt k at) [
+        | inl before ↦ less_other (get_or rows k d).id id (place.below k d before lt)
+        | inr behind ↦ other_behind (get_or rows at d).id (get_or rows k d).id id (place.here d (omega (arith, behind, lt))) (other d (omega (arith, behind, lt))) (far rows are at k d behind lt)
+      ]))
+
+-- the old rows from i on are behind the new ones in front of a place
+pub record AreBeside (old new : List Row) (i at : ℕ) : Type 0 where
+  pub right : lost_id (drop i old) new ≡ lost_id old new
+  pub below : (j : ℕ) (d : Row) → i ≤ j → j < length old → AreBelow new at (get_or old j d).id
+
+module _ (old new : List Row) (are : AreRows old) (i : ℕ) (row : Row) (here : slice_get old i ≡ Some row) where
+  pub is_lost : is_covered new row.id ≡ false → lost_id (drop i old) new ≡ Some row.id
+  is_lost none = ap (λ (rows : List Row). lost_id rows new) (drop_at old i row here) ∙ ap (λ (b : Bool). cond b (lost_id (drop (i + 1) old) new) (Some row.id)) none
+
+  pub is_kept : is_covered new row.id ≡ true → lost_id (drop i old) new ≡ lost_id (drop (i + 1) old) new
+  is_kept some = ap (λ (rows : List Row). lost_id rows new) (drop_at old i row here) ∙ ap (λ (b : Bool). cond b (lost_id (drop (i + 1) old) new) (Some row.id)) some
