@@ -4,6 +4,8 @@ from .base import BAD_GROUPS, Refused, base_of, caller_of, id_text, keys_in
 
 
 class Session:
+    """A caller inside: `base` is the edition of the moment, which may be exchanged between two keys."""
+
     def __init__(self, base, groups):
         self.base = base
         self.groups = groups
@@ -13,16 +15,21 @@ class Session:
     def shown(self, id):
         return f"SHOWN {id_text(id)} {self.base.frames[id].price}"
 
-    def forward(self, id):
+    def refused(self, id):
+        """The reply where the frame isn't found, or None."""
         sought = self.base.seek(id, self.groups)
-        if sought != "FOUND":
-            return f"{sought} {id_text(id)}"
+        return None if sought == "FOUND" else f"{sought} {id_text(id)}"
+
+    def forward(self, id):
+        if line := self.refused(id):
+            return line
         self.remembered = [self.at, *self.remembered][:3]
         self.at = id
         return self.shown(id)
 
     def route(self, digit):
-        page = self.base.frames[self.at].routes.get(digit)
+        frame = self.base.frames.get(self.at)
+        page = frame and frame.routes.get(digit)
         if page is None:
             return "NOTOFFERED"
         if page in self.base.outside and self.base.seek((page, "a"), self.groups) == "MISSING":
@@ -32,13 +39,16 @@ class Session:
 
     def next(self):
         page, letter = self.at
-        if not self.base.frames[self.at].next:
+        frame = self.base.frames.get(self.at)
+        if not (frame and frame.next):
             return "NOTOFFERED"
         return self.forward((page, chr(ord(letter) + 1)))
 
     def previous(self):
         if not self.remembered:
             return "NOTOFFERED"
+        if line := self.refused(self.remembered[0]):
+            return line
         self.at = self.remembered.pop(0)
         return self.shown(self.at)
 
@@ -48,7 +58,7 @@ class Session:
         if word == "*00":
             return f"AGAIN {id_text(self.at)}"
         if word == "*09":
-            return self.shown(self.at)
+            return self.refused(self.at) or self.shown(self.at)
         if word == "*#":
             return self.previous()
         return self.next() if word == "#" else self.route(word)

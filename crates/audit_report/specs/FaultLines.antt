@@ -1,8 +1,9 @@
 -- The lines on standard error.
-use Rattle.std.specs.Prelude.{ℕ, List, ◌++◌, Option, Some, None, codes, decimal}
+use Rattle.std.specs.Prelude.{ℕ, List, [], ◌++◌, Option, Some, None, codes, decimal}
 use Rattle.page_ids.specs.Ids.{page_text}
 use Rattle.base_text.specs.declared.fault.Field.{Field}
 use Rattle.base_text.specs.declared.fault.Field.TheVariants as field
+use Rattle.base_text.specs.declared.fault.BaseFault.{BaseFault}
 use Rattle.base_text.specs.declared.fault.Cause.{Cause}
 use Rattle.base_text.specs.declared.fault.Cause.TheVariants as cause
 use Rattle.cert_text.specs.declared.fault.LineCause.{LineCause}
@@ -63,18 +64,27 @@ line_cause_text line_cause.Count = codes "Count"
 line_cause_text line_cause.Tail = codes "Tail"
 line_cause_text line_cause.Truncated = codes "Truncated"
 
-abbrev pub cert_fault_text : ReadFault → List ℕ
-cert_fault_text (read.Line n c) = (codes "certificate: line " ++ decimal n) ++ (codes ": " ++ line_cause_text c)
-cert_fault_text read.Failed = codes "certificate: failed"
-cert_fault_text read.Memory = codes "memory refused"
+-- what is wrong with a base's text, behind a word for its edition; none for the old or only one
+abbrev pub base_fault_text : List ℕ → BaseFault → List ℕ
+base_fault_text edition fault = edition ++ (base_place_text fault.frame ++ base_cause_text fault.cause)
+
+-- what is wrong with a certificate's text, behind the same
+abbrev pub cert_fault_text : List ℕ → ReadFault → List ℕ
+cert_fault_text edition (read.Line n c) = edition ++ ((codes "certificate: line " ++ decimal n) ++ (codes ": " ++ line_cause_text c))
+cert_fault_text edition read.Failed = edition ++ codes "certificate: failed"
+cert_fault_text edition read.Memory = codes "memory refused"
 
 abbrev pub fault_words : RunFault → List ℕ
-fault_words (run.Base fault) = base_place_text fault.frame ++ base_cause_text fault.cause
-fault_words (run.Cert fault) = cert_fault_text fault
+fault_words (run.Base fault) = base_fault_text [] fault
+fault_words (run.Cert fault) = cert_fault_text [] fault
+fault_words (run.NewBase fault) = base_fault_text (codes "new ") fault
+fault_words (run.NewCert fault) = cert_fault_text (codes "new ") fault
 fault_words run.Groups = codes "groups: I4 BadGroups"
 fault_words (run.Keys offset) = codes "keys: I3 BadKey " ++ decimal offset
 fault_words run.ReadBase = codes "base: read failed"
 fault_words run.ReadCert = codes "certificate: read failed"
+fault_words run.ReadNewBase = codes "new base: read failed"
+fault_words run.ReadNewCert = codes "new certificate: read failed"
 fault_words (run.Write wrote) = (codes "output: write failed after " ++ decimal wrote) ++ codes " bytes"
 fault_words run.Memory = codes "memory refused"
 

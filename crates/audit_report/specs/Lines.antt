@@ -6,6 +6,8 @@ use Rattle.session_machine.specs.declared.reply.Reply.{Reply}
 use Rattle.session_machine.specs.declared.reply.Reply.TheVariants.{Shown, Again, NotOffered, Missing, Closed, Gone}
 use Rattle.checker.specs.declared.verdict.Cause.{Cause}
 use Rattle.checker.specs.declared.verdict.Cause.TheVariants as cause
+use Rattle.checker.specs.declared.change.ChangeVerdict.{ChangeVerdict}
+use Rattle.checker.specs.declared.change.ChangeVerdict.TheVariants as change
 use Rattle.checker.specs.declared.verdict.Verdict.{Verdict}
 use Rattle.checker.specs.declared.verdict.Verdict.TheVariants as verdict
 
@@ -46,6 +48,18 @@ verdict_words (verdict.Refused c) = cause_text c
 -- the line of a verdict
 abbrev pub verdict_text : Verdict → List ℕ
 verdict_text v = line (verdict_words v)
+
+-- why a change of edition is refused, or that it isn't
+abbrev pub change_words : ChangeVerdict → List ℕ
+change_words change.Cleared = codes "CLEARED"
+change_words (change.Old c) = codes "OLD " ++ cause_text c
+change_words (change.New c) = codes "NEW " ++ cause_text c
+change_words change.EntryMoved = codes "REFUSED E1 EntryMoved"
+change_words (change.NoLongerCovered id) = with_id (codes "REFUSED E2 NoLongerCovered ") id
+
+-- the line of a change's verdict
+abbrev pub change_text : ChangeVerdict → List ℕ
+change_text v = line (change_words v)
 
 -- one reply
 abbrev pub reply_text : Reply → List ℕ

@@ -1,5 +1,5 @@
 ghost use Rattle.std.specs.Prelude.{◌≡◌, ◌++◌, IfOk, OnOk, decimal};
-ghost use Rattle.audit_report.specs.FaultLines.{field_text, base_cause_text, base_place_text, line_cause_text, cert_fault_text, fault_words, fault_text};
+ghost use Rattle.audit_report.specs.FaultLines.{field_text, base_cause_text, base_place_text, base_fault_text, line_cause_text, cert_fault_text, fault_words, fault_text};
 
 use crate::push::{push_id, push_page, push_words_number};
 use crate::run_fault::RunFault;
@@ -75,9 +75,10 @@ fn push_base_place(out: &mut Vec<u8>, frame: Option<u32>) -> Result<(), AllocErr
 }
 
 #[tactic(auto, using(std::proofs::Common::append_assoc))]
-fn push_base_fault(out: &mut Vec<u8>, fault: &BaseFault) -> Result<(), AllocError>
-    ensures { OnOk result (out.new.items ≡ out.old.items ++ (base_place_text fault.now.frame ++ base_cause_text fault.now.cause)) }
+fn push_base_fault(out: &mut Vec<u8>, edition: &[u8], fault: &BaseFault) -> Result<(), AllocError>
+    ensures { OnOk result (out.new.items ≡ out.old.items ++ base_fault_text edition.now fault.now) }
 {
+    out.extend_from_slice(edition)?;
     push_base_place(out, fault.frame)?;
     push_base_cause(out, fault.cause)?;
     Ok(())
@@ -100,9 +101,15 @@ fn cause_name(cause: LineCause) -> &'static [u8]
 }
 
 #[tactic(auto, using(std::proofs::Common::append_assoc))]
-fn push_line_fault(out: &mut Vec<u8>, number: u32, cause: LineCause) -> Result<(), AllocError>
-    ensures { OnOk result (out.new.items ≡ out.old.items ++ cert_fault_text (ReadFault.Line number cause)) }
+fn push_line_fault(
+    out: &mut Vec<u8>,
+    edition: &[u8],
+    number: u32,
+    cause: LineCause,
+) -> Result<(), AllocError>
+    ensures { OnOk result (out.new.items ≡ out.old.items ++ cert_fault_text edition.now (ReadFault.Line number cause)) }
 {
+    out.extend_from_slice(edition)?;
     out.extend_from_slice(b"certificate: line ")?;
     push_number(out, u64::from(number))?;
     out.extend_from_slice(b": ")?;
@@ -110,12 +117,22 @@ fn push_line_fault(out: &mut Vec<u8>, number: u32, cause: LineCause) -> Result<(
     Ok(())
 }
 
-fn push_cert_fault(out: &mut Vec<u8>, fault: ReadFault) -> Result<(), AllocError>
-    ensures { OnOk result (out.new.items ≡ out.old.items ++ cert_fault_text fault) }
+// The reader's own refusal of a certificate that it has refused before.
+#[tactic(auto, using(std::proofs::Common::append_assoc))]
+fn push_failed(out: &mut Vec<u8>, edition: &[u8]) -> Result<(), AllocError>
+    ensures { OnOk result (out.new.items ≡ out.old.items ++ cert_fault_text edition.now ReadFault.Failed) }
+{
+    out.extend_from_slice(edition)?;
+    out.extend_from_slice(b"certificate: failed")?;
+    Ok(())
+}
+
+fn push_cert_fault(out: &mut Vec<u8>, edition: &[u8], fault: ReadFault) -> Result<(), AllocError>
+    ensures { OnOk result (out.new.items ≡ out.old.items ++ cert_fault_text edition.now fault) }
 {
     match fault {
-        ReadFault::Line(number, cause) => push_line_fault(out, number, cause),
-        ReadFault::Failed => out.extend_from_slice(b"certificate: failed"),
+        ReadFault::Line(number, cause) => push_line_fault(out, edition, number, cause),
+        ReadFault::Failed => push_failed(out, edition),
         ReadFault::Memory => out.extend_from_slice(b"memory refused"),
     }
 }
@@ -134,12 +151,16 @@ fn push_fault(out: &mut Vec<u8>, fault: &RunFault) -> Result<(), AllocError>
     ensures { OnOk result (out.new.items ≡ out.old.items ++ fault_words fault.now) }
 {
     match fault {
-        RunFault::Base(fault) => push_base_fault(out, fault),
-        RunFault::Cert(fault) => push_cert_fault(out, *fault),
+        RunFault::Base(fault) => push_base_fault(out, b"", fault),
+        RunFault::Cert(fault) => push_cert_fault(out, b"", *fault),
+        RunFault::NewBase(fault) => push_base_fault(out, b"new ", fault),
+        RunFault::NewCert(fault) => push_cert_fault(out, b"new ", *fault),
         RunFault::Groups => out.extend_from_slice(b"groups: I4 BadGroups"),
         RunFault::Keys(offset) => push_words_number(out, b"keys: I3 BadKey ", *offset as u64),
         RunFault::ReadBase => out.extend_from_slice(b"base: read failed"),
         RunFault::ReadCert => out.extend_from_slice(b"certificate: read failed"),
+        RunFault::ReadNewBase => out.extend_from_slice(b"new base: read failed"),
+        RunFault::ReadNewCert => out.extend_from_slice(b"new certificate: read failed"),
         RunFault::Write(wrote) => {
             push_count(out, b"output: write failed after ", *wrote, b" bytes")
         }

@@ -1,6 +1,6 @@
 //! Every printed line.
 //!
-//! - [`report`], [`verdict_text`], [`walk_text`], [`entry_text`], [`fault_text`]: each printed text, byte for byte as it is
+//! - [`report`], [`verdict_text`], [`change_text`], [`walk_text`], [`entry_text`], [`fault_text`]: each printed text, byte for byte as it is
 //!   defined.
 //! - [`RunFault`]: why a run ends without its work done.
 //!
@@ -20,7 +20,7 @@ pub use devices::{
 pub use fault_line::fault_text;
 pub use report_lines::report;
 pub use run_fault::RunFault;
-pub use verdict_line::verdict_text;
+pub use verdict_line::{change_text, verdict_text};
 pub use walk_lines::{entry_text, walk_text};
 
 #[cfg(test)]

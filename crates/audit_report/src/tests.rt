@@ -1,9 +1,9 @@
 //! Each printed line, beside the words that the program's formats give.
 
-use crate::{RunFault, entry_text, fault_text, verdict_text, walk_text};
+use crate::{RunFault, change_text, entry_text, fault_text, verdict_text, walk_text};
 use base_text::{BaseFault, Cause as BaseCause, Field};
 use cert_text::{LineCause, ReadFault};
-use checker::{Cause, Verdict};
+use checker::{Cause, ChangeVerdict, Verdict};
 use frame_records::Pence;
 use page_ids::{Digit, FrameId, PageNo};
 use session_machine::Reply;
@@ -51,6 +51,35 @@ fn a_verdict_is_one_line(rt: HostRuntime) -> Result<(), Fail> {
     for (verdict, line) in rows {
         assert_eq!(rt;
             verdict_text(rt.alloc(), &verdict)?.as_slice(),
+            line.as_bytes(),
+            "{line}"
+        );
+    }
+    Ok(())
+}
+
+#[test]
+fn a_verdict_on_a_change_is_one_line(rt: HostRuntime) -> Result<(), Fail> {
+    let id = FrameId::read("1231b")?;
+    let rows: [(ChangeVerdict, &str); 5] = [
+        (ChangeVerdict::Cleared, "CLEARED\n"),
+        (
+            ChangeVerdict::Old(Cause::CeilingAbove),
+            "OLD REFUSED K2 CeilingAbove\n",
+        ),
+        (
+            ChangeVerdict::New(Cause::Price(id)),
+            "NEW REFUSED K7 Price 1231b\n",
+        ),
+        (ChangeVerdict::EntryMoved, "REFUSED E1 EntryMoved\n"),
+        (
+            ChangeVerdict::NoLongerCovered(id),
+            "REFUSED E2 NoLongerCovered 1231b\n",
+        ),
+    ];
+    for (verdict, line) in rows {
+        assert_eq!(rt;
+            change_text(rt.alloc(), &verdict)?.as_slice(),
             line.as_bytes(),
             "{line}"
         );
@@ -124,7 +153,7 @@ fn a_fault_is_one_line(rt: HostRuntime) -> Result<(), Fail> {
         frame: Some(65_534),
         cause: BaseCause::Range(Field::Price),
     };
-    let rows: [(RunFault, &str); 13] = [
+    let rows: [(RunFault, &str); 19] = [
         (RunFault::Base(range), "base: frame 2: X6 Range body\n"),
         (RunFault::Base(last), "base: frame 65534: X6 Range price\n"),
         (RunFault::Base(unknown), "base: X3 UnknownKey\n"),
@@ -142,6 +171,21 @@ fn a_fault_is_one_line(rt: HostRuntime) -> Result<(), Fail> {
         (RunFault::Keys(1), "keys: I3 BadKey 1\n"),
         (RunFault::ReadBase, "base: read failed\n"),
         (RunFault::ReadCert, "certificate: read failed\n"),
+        (
+            RunFault::NewBase(range),
+            "new base: frame 2: X6 Range body\n",
+        ),
+        (RunFault::NewBase(unknown), "new base: X3 UnknownKey\n"),
+        (
+            RunFault::NewCert(ReadFault::Line(10, LineCause::Tail)),
+            "new certificate: line 10: Tail\n",
+        ),
+        (
+            RunFault::NewCert(ReadFault::Failed),
+            "new certificate: failed\n",
+        ),
+        (RunFault::ReadNewBase, "new base: read failed\n"),
+        (RunFault::ReadNewCert, "new certificate: read failed\n"),
         (RunFault::Write(3), "output: write failed after 3 bytes\n"),
         (RunFault::Memory, "memory refused\n"),
     ];

@@ -1,8 +1,8 @@
 ghost use Rattle.std.specs.Prelude.{◌≡◌, ◌++◌, IfOk, OnOk};
-ghost use Rattle.audit_report.specs.Lines.{cause_text, verdict_words, verdict_text};
+ghost use Rattle.audit_report.specs.Lines.{cause_text, verdict_words, verdict_text, change_words, change_text};
 
 use crate::push::{push_id, push_id_number};
-use checker::{Cause, Verdict};
+use checker::{Cause, ChangeVerdict, Verdict};
 use std::alloc::{AllocError, Global};
 
 // Code, name and argument of a cause.
@@ -49,6 +49,39 @@ pub fn verdict_text(alloc: Global, verdict: &Verdict) -> Result<Vec<u8>, AllocEr
 {
     let mut text = Vec::new(alloc);
     push_verdict(&mut text, verdict)?;
+    text.push(b'\n')?;
+    Ok(text)
+}
+
+// The edition that is refused, and why.
+#[tactic(auto, using(std::proofs::Common::append_assoc))]
+fn push_edition(out: &mut Vec<u8>, edition: &[u8], cause: Cause) -> Result<(), AllocError>
+    ensures { OnOk result (out.new.items ≡ out.old.items ++ (edition.now ++ cause_text cause)) }
+{
+    out.extend_from_slice(edition)?;
+    push_cause(out, cause)?;
+    Ok(())
+}
+
+fn push_change(out: &mut Vec<u8>, verdict: &ChangeVerdict) -> Result<(), AllocError>
+    ensures { OnOk result (out.new.items ≡ out.old.items ++ change_words verdict.now) }
+{
+    match verdict {
+        ChangeVerdict::Cleared => out.extend_from_slice(b"CLEARED"),
+        ChangeVerdict::Old(cause) => push_edition(out, b"OLD ", *cause),
+        ChangeVerdict::New(cause) => push_edition(out, b"NEW ", *cause),
+        ChangeVerdict::EntryMoved => out.extend_from_slice(b"REFUSED E1 EntryMoved"),
+        ChangeVerdict::NoLongerCovered(id) => { push_id(out, b"REFUSED E2 NoLongerCovered ", *id) }
+    }
+}
+
+/// The line of the verdict on a change of edition.
+#[tactic(auto, using(std::proofs::Common::append_assoc))]
+pub fn change_text(alloc: Global, verdict: &ChangeVerdict) -> Result<Vec<u8>, AllocError>
+    ensures { IfOk result (λ text. text.items ≡ change_text verdict.now) }
+{
+    let mut text = Vec::new(alloc);
+    push_change(&mut text, verdict)?;
     text.push(b'\n')?;
     Ok(text)
 }

@@ -17,11 +17,11 @@ use Rattle.checker.specs.declared.verdict.Verdict.TheVariants as verdicts
 use Rattle.checker.specs.declared.change.ChangeVerdict.{ChangeVerdict}
 use Rattle.checker.specs.declared.change.ChangeVerdict.TheVariants.{Cleared, EntryMoved}
 use Rattle.checker.specs.Good.{Good, is_covered}
-use Rattle.checker.specs.Safe.{HasRows}
+use Rattle.checker.specs.Safe.{Safe, HasRows}
 use Rattle.checker.specs.Verdict.{verdict}
 use Rattle.checker.specs.Change.{lost_id, unless_lost, unless_old, unless_new, keeps_covered, change_verdict}
-use Rattle.checker.specs.Editions.{Edition, IsFoundFor, AreHeldFound, IsSafeFrom, AreCleared, HoldsOverChanges}
-use Rattle.checker.proofs.Steps.{some_there, row_is, covered_found, rows_after, fair_replies, clean_replies, regains_at}
+use Rattle.checker.specs.Editions.{Edition, IsFoundFor, AreHeldFound, IsSafeFrom, AreCleared, HoldsOverChanges, IsSafeChange, edition}
+use Rattle.checker.proofs.Steps.{some_there, row_is, covered_found, rows_after, fair_replies, clean_replies, regains_at, safe}
 use Rattle.checker.proofs.Clears.{cleared_good}
 
 -- from each state whose frames have rows, a good certificate makes the base safe
@@ -66,8 +66,8 @@ cleared_change policy old old_cert new new_cert e =
     let both = both_cleared (verdict old policy old_cert) (verdict new policy new_cert) (keeps_covered old old_cert new new_cert) e in
     record {
       old_good = cleared_good old policy old_cert both.0;
-      new_good = cleared_good new policy new_cert both.1.0;
-      kept = none_lost (old.entry == new.entry) (lost_id old_cert.rows new_cert.rows) both.1.1;
+      new_good = cleared_good new policy new_cert both.1;
+      kept = none_lost (old.entry == new.entry) (lost_id old_cert.rows new_cert.rows) both.2;
     }
 
 -- where no id is lost, each id with an old row has a new one
@@ -134,4 +134,14 @@ over_changes policy e (f ∷ more) state apart good cleared rows =
       each = (safe_here policy e state apart.0 good rows, rest.each);
       fair = fair_here policy e state apart.0 good rows _ rest.fair;
       rows = rest.rows;
+    }
+
+-- one change, from every state whose frames have rows in the old edition
+pub safe_change : (policy : Policy) (old : BaseView) (old_cert : CertView) (new : BaseView) (new_cert : CertView) → AreApart old → AreApart new → change_verdict policy old old_cert new new_cert ≡ Cleared → IsSafeChange policy old old_cert new new_cert
+safe_change policy old old_cert new new_cert apart new_apart cleared =
+    let change = cleared_change policy old old_cert new new_cert cleared in
+    record {
+      safe = subst (λ (groups : List ℕ). Safe groups old old_cert.ceiling old_cert.keyings) (sym change.old_good.groups) (safe old policy old_cert apart change.old_good);
+      opened = (change.old_good.covered, tt);
+      crossed = λ state keys more rows. over_changes policy (edition old old_cert keys) (edition new new_cert more ∷ []) state (apart, (new_apart, tt)) change.old_good (cleared, tt) rows;
     }

@@ -174,7 +174,7 @@ module _ (base : BaseView) (policy : Policy) (cert : CertView) (apart : AreApart
         entry = ap (λ (x : Outcome). present (state_after cert.groups base x.0 rest.keys)) step.0 ∙ rest.entry;
       }
 
-  regains_at : (s : SessionState) → HasRows cert.rows s → LeftOrRegains cert.groups base cert.keyings s
+  pub regains_at : (s : SessionState) → HasRows cert.rows s → LeftOrRegains cert.groups base cert.keyings s
   regains_at (Left page) h = tt
   regains_at (At id remembered) h =
       let r = good_row id h.0 in

@@ -7,6 +7,7 @@ use Rattle.frame_records.specs.declared.base.Sought.TheVariants.{Found}
 use Rattle.frame_records.specs.BaseView.{BaseView, AreApart}
 use Rattle.frame_records.specs.Seek.{seek}
 use Rattle.session_machine.specs.State.{SessionState, At, Left}
+use Rattle.session_machine.specs.Open.{opening}
 use Rattle.session_machine.specs.Runs.{state_after, replies_to}
 use Rattle.session_machine.specs.Editions.{Part, state_over, replies_over}
 use Rattle.session_machine.specs.Safe.{IsFairReply, LeftOrRegains}
@@ -15,7 +16,7 @@ use Rattle.cert_table.specs.CertView.{CertView}
 use Rattle.checker.specs.declared.policy.Policy.{Policy}
 use Rattle.checker.specs.declared.change.ChangeVerdict.TheVariants.{Cleared}
 use Rattle.checker.specs.Change.{change_verdict}
-use Rattle.checker.specs.Safe.{IsCleanReply, HasRows}
+use Rattle.checker.specs.Safe.{Safe, IsCleanReply, HasRows}
 
 -- a base with its certificate, and the keys that are pressed while it stands
 pub record Edition : Type 0 where
@@ -80,6 +81,9 @@ pub record HoldsOverChanges (policy : Policy) (state : SessionState) (first : Ed
 abbrev pub ChangesAreSafe : Type 0
 ChangesAreSafe = (policy : Policy) (first second : Edition) (more : List Edition) (state : SessionState) → AllByRecursion (λ e. AreApart e.base) (first ∷ second ∷ more) → AreCleared policy (first ∷ second ∷ more) → HasRows first.cert.rows state → HoldsOverChanges policy state first (second ∷ more)
 
--- of one change: from every such state, after any keys in the old edition and any in the new one
-abbrev pub IsSafeChange : Policy → BaseView → CertView → BaseView → CertView → Type 0
-IsSafeChange policy old old_cert new new_cert = (state : SessionState) (keys more : List Key) → HasRows old_cert.rows state → HoldsOverChanges policy state (edition old old_cert keys) (edition new new_cert more ∷ [])
+-- of one change: callers are safe in the old edition, where sessions open; and from every such state, the opening one too,
+-- after any keys in the old edition and any in the new one
+pub record IsSafeChange (policy : Policy) (old : BaseView) (old_cert : CertView) (new : BaseView) (new_cert : CertView) : Type 0 where
+  pub safe : Safe policy.groups old old_cert.ceiling old_cert.keyings
+  pub opened : HasRows old_cert.rows (opening old)
+  pub crossed : (state : SessionState) (keys more : List Key) → HasRows old_cert.rows state → HoldsOverChanges policy state (edition old old_cert keys) (edition new new_cert more ∷ [])

@@ -62,24 +62,16 @@ fn lost_id<C: Cover + Drop>(old: &C, new: &C) -> Option<FrameId>
     None
 }
 
-/// Checks whether a new edition may take an old one's place while callers of the policy's groups are inside. Takes no memory.
-///
-/// Both editions are checked against their own certificates first. Their tables are then gone through once, side by side.
-pub fn check_change<C: Cover + Drop>(
+// The first condition that fails of a change.
+fn judge_change<C: Cover + Drop>(
     old: &Base,
     old_cert: &Certificate<C>,
     new: &Base,
     new_cert: &Certificate<C>,
     policy: &Policy,
 ) -> ChangeVerdict
-    ensures verdict { result ≡ change_verdict policy.now old.now old_cert.now new.now new_cert.now }
-
-    // From every state whose frames have rows in the old certificate, the opening one too, after any keys in either edition:
-    // nothing sought is missing or closed, the change itself included.
-    ensures safe { result ≡ ChangeVerdict.Cleared → IsSafeChange policy.now old.now old_cert.now new.now new_cert.now }
+    ensures { result ≡ change_verdict policy.now old.now old_cert.now new.now new_cert.now }
 {
-    let _old_frames = old.frames();
-    let _new_frames = new.frames();
     if let Verdict::Refused(cause) = check(old, policy, old_cert) {
         return ChangeVerdict::Old(cause);
     }
@@ -93,4 +85,25 @@ pub fn check_change<C: Cover + Drop>(
         None => ChangeVerdict::Cleared,
         Some(id) => ChangeVerdict::NoLongerCovered(id),
     }
+}
+
+/// Checks whether a new edition may take an old one's place while callers of the policy's groups are inside. Takes no memory.
+///
+/// Both editions are checked against their own certificates first. Their tables are then gone through once, side by side.
+pub fn check_change<C: Cover + Drop>(
+    old: &Base,
+    old_cert: &Certificate<C>,
+    new: &Base,
+    new_cert: &Certificate<C>,
+    policy: &Policy,
+) -> ChangeVerdict
+    ensures verdict { result ≡ change_verdict policy.now old.now old_cert.now new.now new_cert.now }
+
+    // From every state whose frames have rows in the old certificate, the opening one too, after any keys in either edition:
+    // nothing sought is missing or closed, over the change too.
+    ensures safe { result ≡ ChangeVerdict.Cleared → IsSafeChange policy.now old.now old_cert.now new.now new_cert.now }
+{
+    let _old = old.frames();
+    let _new = new.frames();
+    judge_change(old, old_cert, new, new_cert, policy)
 }

@@ -27,3 +27,7 @@ report_failed base_file out base policy outcome (Err (run.Keys offset)) read is 
 report_failed base_file out base policy outcome (Err run.Groups) read is written = absurd written
 report_failed base_file out base policy outcome (Err run.ReadBase) read is written = absurd written
 report_failed base_file out base policy outcome (Err run.ReadCert) read is written = absurd written
+report_failed base_file out base policy outcome (Err (run.NewBase fault)) read is written = absurd written
+report_failed base_file out base policy outcome (Err (run.NewCert fault)) read is written = absurd written
+report_failed base_file out base policy outcome (Err run.ReadNewBase) read is written = absurd written
+report_failed base_file out base policy outcome (Err run.ReadNewCert) read is written = absurd written

@@ -3,5 +3,6 @@ pub mod Device
 pub mod Files
 pub mod FileFaults
 pub mod CheckRun
+pub mod ChangeRun
 pub mod WalkRun
 pub mod AuditRun

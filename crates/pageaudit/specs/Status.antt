@@ -13,6 +13,10 @@ fault_number run.Groups = 2
 fault_number (run.Keys offset) = 2
 fault_number run.ReadBase = 3
 fault_number run.ReadCert = 3
+fault_number (run.NewBase fault) = 3
+fault_number (run.NewCert fault) = 3
+fault_number run.ReadNewBase = 3
+fault_number run.ReadNewCert = 3
 fault_number (run.Write wrote) = 3
 fault_number run.Memory = 4
 

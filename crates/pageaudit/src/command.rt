@@ -70,6 +70,16 @@ fn check_command<'a>(alloc: Global) -> Result<Command<'a>, AllocError> {
     with_policy(alloc, command)
 }
 
+fn change_command<'a>(alloc: Global) -> Result<Command<'a>, AllocError> {
+    let command = Command::new(alloc, "change")
+        .about("Checks whether a new edition may take an old one's place while callers are inside")
+        .arg(place(alloc, "OLD", "the base that stands, a TOML file"))?
+        .arg(place(alloc, "OLDCERT", "its certificate"))?
+        .arg(place(alloc, "NEW", "the base that takes its place"))?
+        .arg(place(alloc, "NEWCERT", "the certificate of that one"))?;
+    with_policy(alloc, command)
+}
+
 fn walk_command<'a>(alloc: Global) -> Result<Command<'a>, AllocError> {
     let command = Command::new(alloc, "walk")
         .about("Shows what a caller sees who presses keys from the entry page")
@@ -84,6 +94,7 @@ fn whole_command<'a>(alloc: Global) -> Result<Command<'a>, AllocError> {
         .subcommand_required(true)
         .subcommand(audit_command(alloc)?)?
         .subcommand(check_command(alloc)?)?
+        .subcommand(change_command(alloc)?)?
         .subcommand(walk_command(alloc)?)
 }
 
@@ -112,6 +123,14 @@ pub enum Request<'a> {
     Check {
         base: &'a str,
         cert: &'a str,
+        policy: Policy,
+    },
+    /// The verdict on a change from one edition to another.
+    Change {
+        old: &'a str,
+        old_cert: &'a str,
+        new: &'a str,
+        new_cert: &'a str,
         policy: Policy,
     },
     /// What a caller of these groups sees who presses these keys.
@@ -154,6 +173,13 @@ pub fn asked_for<'a>(matches: &'a ArgMatches, groups: Groups) -> Option<Request<
         ("check", words) => Some(Request::Check {
             base: words.get_str("BASE")?,
             cert: words.get_str("CERT")?,
+            policy: policy_of(words, groups)?,
+        }),
+        ("change", words) => Some(Request::Change {
+            old: words.get_str("OLD")?,
+            old_cert: words.get_str("OLDCERT")?,
+            new: words.get_str("NEW")?,
+            new_cert: words.get_str("NEWCERT")?,
             policy: policy_of(words, groups)?,
         }),
         ("walk", words) => Some(Request::Walk {

@@ -1,12 +1,14 @@
 //! pageaudit: audits the page base of a viewdata information provider.
 //!
-//! `audit`, `check` and `walk` open their files in the order of the words and hand them to `run_audit`, `run_check` and
-//! `run_walk`, which are proved over any reader and writer; what stands here only opens, prints and picks the exit status.
+//! `audit`, `check`, `change` and `walk` open their files in the order of the words and hand them to `run_audit`,
+//! `run_check`, `run_change` and `run_walk`, which are proved over any reader and writer; what stands here only opens, prints and picks the exit status.
 #![tactic(auto)]
 
 mod audit_run;
+mod change_run;
 mod check_run;
 mod command;
+mod edition;
 mod file_fault;
 mod input;
 mod output;
@@ -17,6 +19,7 @@ mod walk_run;
 
 use audit_report::{FromRead, IntoWrite, RunFault, fault_text};
 use audit_run::run_audit;
+use change_run::run_change;
 use check_run::run_check;
 use checker::Policy;
 use clap::ArgMatches;
@@ -75,6 +78,13 @@ fn answer<R: Files + Print + AllocGlobal>(rt: &R, request: &Request) -> Result<S
     match request {
         Request::Audit { base, policy } => audit_file(rt, base, policy),
         Request::Check { base, cert, policy } => check_files(rt, base, cert, policy),
+        Request::Change {
+            old,
+            old_cert,
+            new,
+            new_cert,
+            policy,
+        } => change_files(rt, [old, old_cert, new, new_cert], policy),
         Request::Walk { base, keys, groups } => walk_file(rt, base, keys, groups),
     }
 }
@@ -113,6 +123,33 @@ fn check_files<R: Files + Print + AllocGlobal>(
     let mut cert = FromRead::new(cert);
     let mut out = IntoWrite::new(io::writer(rt));
     run_check(rt.alloc(), &mut base, &mut cert, &mut out, policy)
+}
+
+// The paths are those of the old base, its certificate, the new base and its certificate.
+fn change_files<R: Files + Print + AllocGlobal>(
+    rt: &R,
+    paths: [&str; 4],
+    policy: &Policy,
+) -> Result<Status, RunFault> {
+    let [old, old_cert, new, new_cert] = paths;
+    let old = fs::open(rt, old).map_err(|_| RunFault::ReadBase)?;
+    let old_cert = fs::open(rt, old_cert).map_err(|_| RunFault::ReadCert)?;
+    let new = fs::open(rt, new).map_err(|_| RunFault::ReadNewBase)?;
+    let new_cert = fs::open(rt, new_cert).map_err(|_| RunFault::ReadNewCert)?;
+    let mut old = FromRead::new(old);
+    let mut old_cert = FromRead::new(old_cert);
+    let mut new = FromRead::new(new);
+    let mut new_cert = FromRead::new(new_cert);
+    let mut out = IntoWrite::new(io::writer(rt));
+    run_change(
+        rt.alloc(),
+        &mut old,
+        &mut old_cert,
+        &mut new,
+        &mut new_cert,
+        &mut out,
+        policy,
+    )
 }
 
 fn walk_file<R: Files + Print + AllocGlobal>(

@@ -1,4 +1,5 @@
 mod audit;
+mod change;
 mod check;
 mod walk;
 
@@ -30,6 +31,8 @@ fn statuses_are_told_apart(rt: HostRuntime) {
     assert_eq!(rt; status_of(&Err(RunFault::Groups)), 2);
     assert_eq!(rt; status_of(&Err(RunFault::Keys(0))), 2);
     assert_eq!(rt; status_of(&Err(RunFault::ReadBase)), 3);
+    assert_eq!(rt; status_of(&Err(RunFault::ReadNewBase)), 3);
+    assert_eq!(rt; status_of(&Err(RunFault::ReadNewCert)), 3);
     assert_eq!(rt; status_of(&Err(RunFault::Write(0))), 3);
     assert_eq!(rt; status_of(&Err(RunFault::Memory)), 4);
 }

@@ -1,3 +1,4 @@
+use Rattle.std.proofs.Common.{◌∷◌}
 use Rattle.checker.proofs.Editions.{cleared_change, over_changes}
 use Rattle.checker.proofs.laws.changes_are_safe.Goals as goal
 

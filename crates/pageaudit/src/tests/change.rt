@@ -1,0 +1,155 @@
+//! Changes of edition.
+
+use super::policy;
+use crate::change_run::run_change;
+use crate::status::{Status, status_of};
+use audit_report::RunFault;
+use base_text::{BaseFault, Cause, Field};
+use cert_text::{LineCause, ReadFault};
+use checker::Policy;
+use demo_texts::{CERT, DEMO};
+use fake_devices::{FakeSink, FakeSource};
+use std::alloc::Global;
+use std::test::Fail;
+
+// DEMO without its last frame, and the certificate of that.
+const SHORTER: &str =
+    "entry = 123\noutside = [0]\n[[frame]]\nid = \"123a\"\nrows = [\"WELCOME\"]\nroutes = { 0 = 0, 1 = 1231 }\n[[frame]]\nid = \"1231a\"\nprice = 5\nrows = [\"PART ONE\"]\nroutes = { 0 = 123 }\n";
+
+const SHORTER_CERT: &str =
+    "PBC1\nentry 123\nceiling 5\nkeyings 1\nrows 2\n123a 0 s80\n1231a 1 s80\nend\n";
+
+// The certificate of DEMO with 1231 as its entry page.
+const MOVED_CERT: &str =
+    "PBC1\nentry 1231\nceiling 5\nkeyings 2\nrows 3\n123a 1 s80\n1231a 0 s80\n1231b 2 s48\nend\n";
+
+// What a change from DEMO to a new edition answers, and what it writes.
+fn changed(
+    alloc: Global,
+    new: &str,
+    new_cert: &str,
+    policy: &Policy,
+) -> (Result<Status, RunFault>, Vec<u8>) {
+    let mut old = FakeSource::of(DEMO.as_bytes(), 7);
+    let mut old_cert = FakeSource::of(CERT.as_bytes(), 7);
+    let mut new = FakeSource::of(new.as_bytes(), 7);
+    let mut new_cert = FakeSource::of(new_cert.as_bytes(), 7);
+    let mut out = FakeSink::of(alloc, 1_000);
+    let answer = run_change(
+        alloc,
+        &mut old,
+        &mut old_cert,
+        &mut new,
+        &mut new_cert,
+        &mut out,
+        policy,
+    );
+    (answer, out.taken)
+}
+
+#[test]
+fn a_change_that_keeps_all_is_cleared(rt: HostRuntime) -> Result<(), Fail> {
+    let alloc = rt.alloc();
+    let dearer = DEMO.replacen(alloc, "lead = \"keep\"", "price = 7\nlead = \"keep\"", 1)?;
+    let dearer_cert = CERT.replacen(alloc, "ceiling 5", "ceiling 7", 1)?;
+    for (new, new_cert) in [(DEMO, CERT), (dearer.as_str(), dearer_cert.as_str())] {
+        let (answer, text) = changed(alloc, new, new_cert, &policy(50, 3)?);
+        assert_eq!(rt; answer, Ok(Status::Clear), "{new_cert}");
+        assert_eq!(rt; text.as_slice(), b"CLEARED\n".as_slice(), "{new_cert}");
+    }
+    Ok(())
+}
+
+#[test]
+fn the_first_condition_that_fails_is_told(rt: HostRuntime) -> Result<(), Fail> {
+    let alloc = rt.alloc();
+    let moved = DEMO.replacen(alloc, "entry = 123", "entry = 1231", 1)?;
+    let dear = DEMO.replacen(alloc, "lead = \"keep\"", "price = 60\nlead = \"keep\"", 1)?;
+    let over = CERT.replacen(alloc, "ceiling 5", "ceiling 60", 1)?;
+    let short = CERT.replacen(alloc, "ceiling 5", "ceiling 50", 1)?;
+    let rows: [(&str, &str, u16, &str); 5] = [
+        (
+            SHORTER,
+            SHORTER_CERT,
+            50,
+            "REFUSED E2 NoLongerCovered 1231b\n",
+        ),
+        (moved.as_str(), MOVED_CERT, 50, "REFUSED E1 EntryMoved\n"),
+        (
+            dear.as_str(),
+            over.as_str(),
+            50,
+            "NEW REFUSED K2 CeilingAbove\n",
+        ),
+        (
+            dear.as_str(),
+            short.as_str(),
+            50,
+            "NEW REFUSED K7 Price 1231b\n",
+        ),
+        (DEMO, CERT, 4, "OLD REFUSED K2 CeilingAbove\n"),
+    ];
+    for (new, new_cert, ceiling, wanted) in rows {
+        let (answer, text) = changed(alloc, new, new_cert, &policy(ceiling, 3)?);
+        assert_eq!(rt; answer, Ok(Status::Faulty), "{wanted}");
+        assert_eq!(rt; text.as_slice(), wanted.as_bytes(), "{wanted}");
+    }
+    Ok(())
+}
+
+// What a change answers where one of its four files, the k-th, is another text, or breaks behind its first bytes; how often
+// the file behind it was asked, and how much was written.
+fn faulty(
+    alloc: Global,
+    k: usize,
+    text: &str,
+    kept: Option<usize>,
+    policy: &Policy,
+) -> (Result<Status, RunFault>, usize, usize) {
+    let mut sources = [DEMO, CERT, DEMO, CERT].map(|text| FakeSource::of(text.as_bytes(), 4_096));
+    sources[k] = match kept {
+        Some(kept) => FakeSource::broken(text.as_bytes(), 4_096, kept),
+        None => FakeSource::of(text.as_bytes(), 4_096),
+    };
+    let [mut old, mut old_cert, mut new, mut new_cert] = sources;
+    let mut out = FakeSink::of(alloc, 1_000);
+    let answer = run_change(
+        alloc,
+        &mut old,
+        &mut old_cert,
+        &mut new,
+        &mut new_cert,
+        &mut out,
+        policy,
+    );
+    let behind = [old_cert.calls, new.calls, new_cert.calls, 0];
+    (answer, behind[k], out.taken.len())
+}
+
+#[test]
+fn the_first_file_at_fault_ends_the_run(rt: HostRuntime) -> Result<(), Fail> {
+    let alloc = rt.alloc();
+    let absent = BaseFault {
+        frame: None,
+        cause: Cause::Absent(Field::Entry),
+    };
+    let magic = ReadFault::Line(1, LineCause::Magic);
+    let rows: [(usize, &str, Option<usize>, RunFault); 8] = [
+        (0, "", None, RunFault::Base(absent)),
+        (0, DEMO, Some(3), RunFault::ReadBase),
+        (1, "PBC3\n", None, RunFault::Cert(magic)),
+        (1, CERT, Some(4), RunFault::ReadCert),
+        (2, "", None, RunFault::NewBase(absent)),
+        (2, DEMO, Some(3), RunFault::ReadNewBase),
+        (3, "PBC3\n", None, RunFault::NewCert(magic)),
+        (3, CERT, Some(4), RunFault::ReadNewCert),
+    ];
+    for (k, text, kept, fault) in rows {
+        let (answer, behind, wrote) = faulty(alloc, k, text, kept, &policy(50, 3)?);
+        assert_eq!(rt; answer, Err(fault), "{k}");
+        assert_eq!(rt; status_of(&answer), 3, "{k}");
+        assert_eq!(rt; behind, 0, "{k}");
+        assert_eq!(rt; wrote, 0, "{k}");
+    }
+    Ok(())
+}
