@@ -1,7 +1,7 @@
 """Random bases, certificates, groups and keys: mostly right, some of them with a few things wrong."""
 
 from .audit import discover, outcome, ranks_of
-from .base import id_in, id_text
+from .base import Refused, base_of, id_in, id_text
 from .screen import paint
 from .session import unopened
 
@@ -181,6 +181,65 @@ class Inputs:
         if self.chance(0.4):
             self.break_tree(tree)
         return self.text(tree)
+
+    def next_tree(self, tree):
+        """The next edition of a base: the same, or with a few things changed as a provider would, some of them wrong."""
+        tree = {**tree, "frame": [{**table, "routes": dict(table.get("routes", {}))} for table in tree["frame"]]}
+        for _ in range(self.pick([0, 1, 1, 2, 3])):
+            self.change_tree(tree)
+        return tree
+
+    def change_tree(self, tree):
+        frames, share = tree["frame"], self.random.random()
+        table = self.pick(frames)
+        if share < 0.25:
+            table["price"] = self.pick([0, 1, 5, 50, 9_999])
+        elif share < 0.4:
+            table.pop("rows", None)
+            table["body"] = self.body(self.chance(0.1))
+        elif share < 0.6 and len(frames) > 1:
+            frames.remove(table)
+            if self.chance(0.8):
+                self.forget(frames, *id_in(table["id"]))
+        elif share < 0.72:
+            page = self.pick(PAGES)
+            if page not in tree["outside"] and not any(old["id"] == f"{page}a" for old in frames):
+                frames.append({"id": f"{page}a", "routes": {"0": tree["entry"]}, "rows": ["NEW"]})
+                table["routes"][self.pick("0123456789")] = page
+        elif share < 0.8:
+            table["group"] = self.pick(GROUPS)
+        elif share < 0.9:
+            tree["entry"] = int(table["id"][:-1])
+        else:
+            table["routes"] = {}
+
+    def forget(self, frames, page, letter):
+        """No route and no `next` leads to the frame any more."""
+        for table in frames:
+            if letter == "a":
+                table["routes"] = {digit: to for digit, to in table["routes"].items() if to != page}
+            if table["id"] == f"{page}{chr(ord(letter) - 1)}":
+                table["next"] = False
+
+    def safe_tree(self, groups):
+        """A base that is safe for a caller of these groups, if one comes up soon."""
+        for _ in range(8):
+            tree = self.tree()
+            try:
+                if outcome(base_of(self.text(tree)), (9_999, 65_535, groups))[1] == 0:
+                    break
+            except Refused:
+                pass
+        return tree
+
+    def editions(self, groups):
+        """Two bases, the second of which takes the place of the first."""
+        tree = self.safe_tree(groups)
+        old, new = self.text(tree), self.text(self.next_tree(tree))
+        return old, self.base_text() if self.chance(0.05) else new
+
+    def crossed_keys(self):
+        return [[self.pick(KEYS) for _ in range(self.random.randrange(15))] for _ in range(2)]
 
     def keys(self):
         words = [self.pick(KEYS) for _ in range(self.random.randrange(40))]

@@ -1,6 +1,6 @@
 -- Two tables in the order of ids, gone through side by side.
-use Rattle.std.proofs.Common.{◌≡◌, ℕ, ◌+◌, ◌<◌, ◌≤◌, Bool, true, false, cond, List, ◌∷◌, length, get_or, drop, Some, None, inl, inr, refl, sym, ap, ◌∙◌, subst, arith}
-use Rattle.std.specs.Prelude.{slice_get, is_some, ◌==◌}
+use Rattle.std.proofs.Common.{◌≡◌, ℕ, ◌+◌, ◌<◌, ◌≤◌, Bool, true, false, cond, List, length, get_or, drop, Some, None, inl, inr, refl, sym, ap, ◌∙◌, subst, arith}
+use Rattle.std.specs.Prelude.{slice_get, is_some}
 use Rattle.std.specs.Ordering.{is_lt}
 use Rattle.std.specs.List.Sorted.{IsSortedByKey}
 use Rattle.std.specs.declared.cmp.Ordering.{Ordering}
@@ -15,7 +15,7 @@ use Rattle.page_ids.specs.Ids.{id_cmp, id_eq}
 use Rattle.page_ids.specs.IdLaws.{id_cmp_total}
 use Rattle.frame_records.proofs.Finds.{find_first, find_none}
 use Rattle.cert_table.specs.declared.row.Row.{Row}
-use Rattle.cert_table.specs.Rows.{AreRows, row_among}
+use Rattle.cert_table.specs.Rows.{AreRows}
 use Rattle.checker.specs.Good.{is_covered}
 use Rattle.checker.specs.Change.{lost_id}
 use Rattle.checker.specs.Places.{AreBelow, IsPlaceOf}

@@ -1,5 +1,5 @@
 -- The laws of the check, of every caller, base, policy and certificate.
-use Rattle.std.specs.Prelude.{◌≡◌, ◌↔◌, ℕ, List}
+use Rattle.std.specs.Prelude.{◌≡◌, ◌↔◌, List}
 use Rattle.page_ids.specs.declared.key.Key.{Key}
 use Rattle.frame_records.specs.BaseView.{BaseView, AreApart}
 use Rattle.session_machine.specs.Open.{opening}

@@ -1,5 +1,6 @@
 //! The program's words, read by clap: one level of subcommands, required options.
 
+use crate::help;
 use audit_report::RunFault;
 use cert_table::MOST_RANK;
 use checker::Policy;
@@ -58,6 +59,7 @@ fn with_policy<'a>(alloc: Global, command: Command<'a>) -> Result<Command<'a>, A
 fn audit_command<'a>(alloc: Global) -> Result<Command<'a>, AllocError> {
     let command = Command::new(alloc, "audit")
         .about("Finds a base's certificate, or lists its faults with the keys that show them")
+        .after_help(help::AUDIT)
         .arg(place(alloc, "BASE", "the base, a TOML file"))?;
     with_policy(alloc, command)
 }
@@ -65,6 +67,7 @@ fn audit_command<'a>(alloc: Global) -> Result<Command<'a>, AllocError> {
 fn check_command<'a>(alloc: Global) -> Result<Command<'a>, AllocError> {
     let command = Command::new(alloc, "check")
         .about("Checks a certificate against a base, without any search")
+        .after_help(help::CHECK)
         .arg(place(alloc, "BASE", "the base, a TOML file"))?
         .arg(place(alloc, "CERT", "the certificate"))?;
     with_policy(alloc, command)
@@ -73,6 +76,7 @@ fn check_command<'a>(alloc: Global) -> Result<Command<'a>, AllocError> {
 fn change_command<'a>(alloc: Global) -> Result<Command<'a>, AllocError> {
     let command = Command::new(alloc, "change")
         .about("Checks whether a new edition may take an old one's place while callers are inside")
+        .after_help(help::CHANGE)
         .arg(place(alloc, "OLD", "the base that stands, a TOML file"))?
         .arg(place(alloc, "OLDCERT", "its certificate"))?
         .arg(place(alloc, "NEW", "the base that takes its place"))?
@@ -83,6 +87,7 @@ fn change_command<'a>(alloc: Global) -> Result<Command<'a>, AllocError> {
 fn walk_command<'a>(alloc: Global) -> Result<Command<'a>, AllocError> {
     let command = Command::new(alloc, "walk")
         .about("Shows what a caller sees who presses keys from the entry page")
+        .after_help(help::WALK)
         .arg(place(alloc, "BASE", "the base, a TOML file"))?
         .arg(place(alloc, "KEYS", "keys in one word, as 1#*#*00*09"))?;
     with_groups(alloc, command)
@@ -91,6 +96,7 @@ fn walk_command<'a>(alloc: Global) -> Result<Command<'a>, AllocError> {
 fn whole_command<'a>(alloc: Global) -> Result<Command<'a>, AllocError> {
     Command::new(alloc, "pageaudit")
         .about("Audits the page base of a viewdata information provider")
+        .version(help::VERSION)
         .subcommand_required(true)
         .subcommand(audit_command(alloc)?)?
         .subcommand(check_command(alloc)?)?

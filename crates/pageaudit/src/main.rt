@@ -10,6 +10,7 @@ mod check_run;
 mod command;
 mod edition;
 mod file_fault;
+mod help;
 mod input;
 mod output;
 mod status;
