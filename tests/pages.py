@@ -1,4 +1,4 @@
-"""The pages of docs/ whose blocks are run: what tests/codes-page and tests/guide-page share.
+"""The pages whose blocks are run: what tests/codes-page, tests/guide-page and tests/examples-page share.
 
 Of the fenced blocks, one with a name behind its language is a file of that name, one in `sh` without a name is commands, and one
 in `text` without a name is what the commands before it print. The line of words before the commands' output tells what isn't
@@ -7,6 +7,7 @@ plain: `standard error` where it is printed there, `status N` where the status i
 
 import os
 import re
+import shutil
 import subprocess
 import tempfile
 from dataclasses import dataclass, field
@@ -121,12 +122,14 @@ def wrong_in(run, folder, env):
     return None if found == wanted else f"line {run.line}: wanted {wanted}, found {found}"
 
 
-def tried(blocks):
-    """Goes through blocks in one fresh folder: for each run what is wrong, or None."""
+def tried(blocks, given=()):
+    """Goes through blocks in one fresh folder that holds copies of the given files: for each run what is wrong, or None."""
     with tempfile.TemporaryDirectory() as whole:
         env = surroundings(Path(whole))
         folder = Path(whole) / "work"
         folder.mkdir()
+        for file in given:
+            shutil.copy(file, folder)
         for block in blocks:
             if isinstance(block, File):
                 (folder / block.name).write_text(block.text, "utf-8")
