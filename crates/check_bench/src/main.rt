@@ -2,7 +2,7 @@
 //!
 //! It prints to standard error, for each shape, the least processor times of three runs each, in turns: `toml` making its
 //! tree and letting it go, the base read and let go (a walk of no keys), and the whole check, with what the check compared and
-//! painted; then the check's time for each row of 8,192 and of 65,535; then the check and the audit for a caller of 16 groups,
+//! painted; then a change from the base to an edition like it, against two such checks; then the check's time for each row of 8,192 and of 65,535; then the check and the audit for a caller of 16 groups,
 //! to which all frames belong, against those for a caller outside every group on texts as long. It prints `ok` where each
 //! certificate was cleared.
 #![tactic(auto)]
@@ -14,7 +14,7 @@ use audit_report::{FromRead, read_whole, report};
 use base_text::base_read;
 use cert_table::Certificate;
 use cert_text::CertReader;
-use checker::{Count, Policy, Verdict, check_counted};
+use checker::{ChangeVerdict, Count, Policy, Verdict, check_change, check_counted};
 use fault_scripts::audit;
 use frame_records::{Base, Groups, Pence};
 use shape::{Mark, Shape};
@@ -121,6 +121,24 @@ fn check_time(
     Ok((rt.thread_cpu_time()?.saturating_sub(start), count))
 }
 
+// Two editions of the same texts are read, the change between them is checked, and all is let go.
+fn change_time(rt: &HostRuntime, text: &[u8], cert: &[u8], policy: &Policy) -> Result<Duration> {
+    let start = rt.thread_cpu_time()?;
+    let is_cleared = is_change_cleared(rt.alloc(), text, cert, policy)?;
+    let time = rt.thread_cpu_time()?.saturating_sub(start);
+    if !is_cleared {
+        bail!("the change is refused");
+    }
+    Ok(time)
+}
+
+fn is_change_cleared(alloc: Global, text: &[u8], cert: &[u8], policy: &Policy) -> Result<bool> {
+    let (old, old_cert) = (read_base(alloc, text)?, read_cert(alloc, cert)?);
+    let (new, new_cert) = (read_base(alloc, text)?, read_cert(alloc, cert)?);
+    let verdict = check_change(&old, &old_cert, &new, &new_cert, policy);
+    Ok(verdict == ChangeVerdict::Cleared)
+}
+
 // The base is read, audited, and its certificate written and let go.
 fn audit_time(rt: &HostRuntime, text: &[u8], policy: &Policy) -> Result<Duration> {
     let start = rt.thread_cpu_time()?;
@@ -170,6 +188,27 @@ fn row_time(rt: &HostRuntime, shape: Shape, frames: u32) -> Result<u128> {
         least = least.min(check_time(rt, text.as_slice(), cert.as_slice(), &policy)?.0);
     }
     Ok(least.as_nanos() / u128::from(frames.max(1)))
+}
+
+// What a change takes against two checks, the least of some runs in turns.
+fn measure_change(rt: &HostRuntime, shape: Shape) -> Result<()> {
+    let policy = policy(Mark::None)?;
+    let text = shape.full_text(rt.alloc())?;
+    let cert = cert_text(rt.alloc(), text.as_slice(), &policy)?;
+    let (text, cert) = (text.as_slice(), cert.as_slice());
+    let mut check = check_time(rt, text, cert, &policy)?.0;
+    let mut change = change_time(rt, text, cert, &policy)?;
+    for _ in 1..RUNS {
+        check = check.min(check_time(rt, text, cert, &policy)?.0);
+        change = change.min(change_time(rt, text, cert, &policy)?);
+    }
+    eprintln!(rt;
+        "{}: change {} ms or {} percent of two checks",
+        shape.name(),
+        change.as_millis(),
+        percent(change, check.saturating_add(check))
+    )?;
+    Ok(())
 }
 
 // How much more a row takes among many than among few.
@@ -235,6 +274,9 @@ fn measure_groups(rt: &HostRuntime, shape: Shape) -> Result<()> {
 fn main(rt: HostRuntime) -> Result<()> {
     for shape in SHAPES {
         measure(&rt, shape)?;
+    }
+    for shape in SHAPES {
+        measure_change(&rt, shape)?;
     }
     for shape in [Shape::Tree, Shape::Scattered, Shape::Chain] {
         measure_growth(&rt, shape)?;
