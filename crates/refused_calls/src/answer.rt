@@ -7,7 +7,7 @@ use cert_table::Certificate;
 use cert_text::{CertReader, ReadFault, cert_write};
 use checker::Verdict;
 use demo_texts::CERT;
-use fault_scripts::{FaultList, Outcome, Replayed};
+use fault_scripts::{Outcome, Replayed};
 use finder::Found;
 use frame_records::{Base, Body};
 use page_ids::{FrameId, IdFault, KeyList, keys_text};
@@ -35,7 +35,7 @@ pub enum Answer {
     Replied(Replayed),
     /// A text that is refused, or a device that failed.
     Refused(RunFault),
-    /// A session that isn't opened: its entry frame, and whether the base has it.
+    /// A session that isn't opened: its entry frame, and whether that is closed and not missing.
     Unopened(FrameId, bool),
     /// No answer of the call.
     Strange,

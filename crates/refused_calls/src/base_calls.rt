@@ -1,10 +1,11 @@
-//! The calls that look into a base.
+//! The calls that look into a base, each with the words that it takes.
 
 use crate::answer::Answer;
 use crate::call::Call;
 use crate::files::{base_of, bytes_of};
 use crate::words::Words;
-use anyhow::{Result, bail};
+use anyhow::Result;
+use audit_report::RunFault;
 use checker::{InputFault, Policy, check_bytes};
 use fault_scripts::{Outcome, audit, faults, replay};
 use finder::{Found, find, script_to};
@@ -63,8 +64,8 @@ impl Call for CheckBytes {
             &self.policy,
         ) {
             Ok(verdict) => Answer::Judged(verdict),
-            Err(InputFault::Base(fault)) => Answer::of_base_fault(fault),
-            Err(InputFault::Cert(fault)) => Answer::of_read_fault(fault),
+            Err(InputFault::Base(fault)) => Answer::Refused(RunFault::Base(fault)),
+            Err(InputFault::Cert(fault)) => Answer::Refused(RunFault::Cert(fault)),
             Err(InputFault::Memory) => Answer::Memory,
         }
     }

@@ -1,4 +1,4 @@
-//! The calls that give lines to be printed.
+//! The calls that give lines to be printed, each with the words that it takes.
 
 use crate::answer::Answer;
 use crate::call::Call;

@@ -1,9 +1,9 @@
 //! Makes one call that takes memory, on the input that the words name, and shows what it answered.
 //!
 //! `refused_calls CALL WORD..` makes the input, tells on standard error where the call begins and where it has ended, and
-//! prints the answer: `Memory` where a growth was refused, else its text. Behind an empty line and the line `again` stands the answer of the
-//! same call made once more with what was lent to it before. The words that a call takes are named beside it; files are
-//! named by their paths, and `-` stands for no groups.
+//! prints the answer: `Memory` where a growth was refused, else its text. Behind an empty line and the line `again` stands
+//! the answer of the same call made once more with what was lent to it before. The words that a call takes are named
+//! beside it; files are named by their paths, and `-` stands for no groups.
 //!
 //! The program refuses no request for memory by itself: `tests/refuse-calls` does, between the two lines on standard error.
 #![tactic(auto)]

@@ -1,4 +1,4 @@
-//! The calls that read a text or write one.
+//! The calls that read a text or write one, each with the words that it takes.
 
 use crate::answer::Answer;
 use crate::call::Call;
