@@ -13,12 +13,12 @@ use Rattle.frame_records.specs.WayLaws.{offered_place}
 use Rattle.frame_records.specs.Ways.{sought, destination_of, destination_by, destination, Leads}
 use Rattle.finder.specs.Targets.{id_at}
 use Rattle.finder.specs.declared.graph.Graph.{Graph}
-use Rattle.finder.specs.declared.table.Target.TheVariants.{NotOffered}
+use Rattle.finder.specs.declared.target.Target.TheVariants.{NotOffered}
 use Rattle.finder.specs.Graph.{target, NodeWalk, IsNodeRank}
 use Rattle.finder.specs.Survey.{aim_of}
 use Rattle.finder.specs.Walks.{Walk, IsRank}
-use Rattle.finder.proofs.Places.{same_place, frame_here}
-use Rattle.finder.proofs.Within.{id_stands, found_place, offered, leads_on}
+use Rattle.finder.proofs.Places.{same_place, frame_here, id_stands}
+use Rattle.finder.proofs.Within.{found_place, offered, leads_on}
 
 -- an id stands at one place
 pub one_place : (frames : List Frame) (i j : ℕ) (id : Id) → IsAscending frames → id_at frames i ≡ Some id

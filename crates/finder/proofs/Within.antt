@@ -13,11 +13,12 @@ use Rattle.frame_records.specs.WayLaws.{found_sought}
 use Rattle.frame_records.specs.Ways.{sought, offered_by, destination_of}
 use Rattle.finder.specs.declared.aim.Aim.TheVariants as aim
 use Rattle.finder.specs.declared.graph.Graph.{Graph}
-use Rattle.finder.specs.declared.table.Target.{Target}
-use Rattle.finder.specs.declared.table.Target.TheVariants.{NotOffered, Found, Closed, Missing, Outside}
+use Rattle.finder.specs.declared.target.Target.{Target}
+use Rattle.finder.specs.declared.target.Target.TheVariants.{NotOffered, Found, Closed, Missing, Outside}
 use Rattle.finder.specs.Survey.{aim_of}
 use Rattle.finder.specs.Targets.{aim_at, place_of, id_at}
 use Rattle.finder.specs.Graph.{target}
+use Rattle.finder.proofs.Places.{id_stands}
 
 pub place_found : (t : Target) (j : ℕ) → place_of t ≡ Some j → t ≡ Found j
 place_found NotOffered j e = absurd cc
@@ -52,15 +53,6 @@ offered caller base f way e = by (sought f way) refl where
       let d = aimed (destination_of caller base f way) e in
       let same = found_sought base way to (seek caller base to) d.0 d.1 (sym (ap (offered_by caller base way) is) ∙ d.2) in
       (to, d.1, is, d.2 ∙ ap (λ g. destination.Found g d.1) (sym same.0))
-
--- the frame at a place
-pub id_stands : (frames : List Frame) (j : ℕ) (to : Id) → id_at frames j ≡ Some to
-    → (f : Frame) × (slice_get frames j ≡ Some f) × (f.id ≡ to)
-id_stands frames j to e = by (slice_get frames j) refl e where
-  by : (o : Option Frame) → slice_get frames j ≡ o → option_map (λ (f : Frame). f.id) o ≡ Some to
-      → (f : Frame) × (slice_get frames j ≡ Some f) × (f.id ≡ to)
-  by None is e = absurd cc
-  by (Some f) is e = (f, is, same_Some f.id to e)
 
 -- what a way of a graph that leads somewhere says of its frames
 pub record LeadsOn (graph : Graph) (f way g : ℕ) : Type 0 where

@@ -1,18 +1,15 @@
 -- What the ways of a base's frames come to, the frames by their places in the base.
-use Rattle.std.specs.Prelude.{◌≡◌, ◌<◌, ◌+◌, ◌*◌, ℕ, List, Option, Some, None, option_map, is_some, true, length, get_or, slice_get, if◌then◌else◌}
-use Rattle.std.specs.Map.{lookup}
+use Rattle.std.specs.Prelude.{◌≡◌, ◌<◌, ◌+◌, ◌*◌, ℕ, List, Option, Some, None, option_map, length, get_or, slice_get}
 use Rattle.page_ids.specs.Id.{Id}
-use Rattle.page_ids.specs.Ids.{id_eq}
 use Rattle.page_ids.specs.declared.way.Way.{Way}
 use Rattle.page_ids.specs.Ways.{way_at}
 use Rattle.frame_records.specs.declared.frame.Frame.{Frame}
-use Rattle.frame_records.specs.BaseView.{BaseView, frame_among}
-use Rattle.frame_records.specs.Seek.{is_open}
+use Rattle.frame_records.specs.BaseView.{BaseView}
 use Rattle.frame_records.specs.Ways.{sought, destination_of}
 use Rattle.finder.specs.declared.aim.Aim.{Aim}
 use Rattle.finder.specs.declared.aim.Aim.TheVariants as aim
-use Rattle.finder.specs.declared.table.Target.{Target}
-use Rattle.finder.specs.declared.table.Target.TheVariants.{NotOffered, Found, Closed, Missing, Outside}
+use Rattle.finder.specs.declared.target.Target.{Target}
+use Rattle.finder.specs.declared.target.Target.TheVariants.{NotOffered, Found, Closed, Missing, Outside}
 use Rattle.finder.specs.Survey.{aim_of}
 
 -- a target without its place
@@ -34,24 +31,6 @@ place_of Outside = None
 -- the id of the frame at a place
 abbrev pub id_at : List Frame → ℕ → Option Id
 id_at frames place = option_map (λ f. f.id) (slice_get frames place)
-
--- the frame at a place, where it is sought
-abbrev pub target_at : List ℕ → ℕ → Frame → Target
-target_at caller place f = if is_open caller f then Found place else Closed
-
--- what seeking the frame comes to
-abbrev pub aim_to : List ℕ → Frame → Aim
-aim_to caller f = if is_open caller f then aim.Found else aim.Closed
-
--- what some frames come to, where they are sought by their ids, and where those stand that are found; the first ones are among
--- them
-pub record AreNumbered (caller : List ℕ) (frames : List Frame) (done : ℕ) (entries : List (Id × Target)) : Type 0 where
-  pub aims : (id : Id) (target : Target) → lookup (id_eq id) entries ≡ Some target
-      → option_map (aim_to caller) (frame_among frames id) ≡ Some (aim_at target)
-  pub places : (id : Id) (target : Target) (j : ℕ) → lookup (id_eq id) entries ≡ Some target → place_of target ≡ Some j
-      → id_at frames j ≡ Some id
-  pub whole : (i : ℕ) (f : Frame) → i < done → slice_get frames i ≡ Some f
-      → is_some (lookup (id_eq f.id) entries) ≡ true
 
 -- what a way of a frame comes to, and where the frame stands that it finds
 pub record IsTarget (caller : List ℕ) (base : BaseView) (f : Frame) (way : Way) (target : Target) : Type 0 where
