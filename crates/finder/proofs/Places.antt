@@ -1,10 +1,10 @@
 -- The places of ascending frames, and their ids.
-use Rattle.std.proofs.Common.{◌≡◌, ◌<◌, ℕ, List, Option, Some, None, option_map, slice_get, get_or, length, refl, sym, ◌∙◌, ap, ⊎_elim}
+use Rattle.std.proofs.Common.{◌≡◌, ◌<◌, ℕ, List, Option, Some, None, option_map, slice_get, get_or, refl, sym, ◌∙◌, ap, ⊎_elim}
 use Rattle.std.proofs.lemmas.Bool.{cases_order}
 use Rattle.std.proofs.lemmas.Option.{same_Some, slice_get_within, get_or_from_slice_get}
 use Rattle.page_ids.specs.Id.{Id}
 use Rattle.page_ids.specs.Ids.{id_eq}
-use Rattle.page_ids.specs.IdLaws.{id_eq_same, id_eq_refl}
+use Rattle.page_ids.specs.IdLaws.{id_eq_refl}
 use Rattle.frame_records.specs.declared.frame.Frame.{Frame}
 use Rattle.frame_records.specs.BaseView.{IsAscending, frame_among}
 use Rattle.finder.specs.Targets.{id_at}

@@ -1,12 +1,9 @@
 -- What a way comes to, by the look-up of the frame that it seeks.
-use Rattle.std.proofs.Common.{◌≡◌, ◌+◌, ℕ, cond, List, Some, slice_get, sym, ◌∙◌, ap, ⊎_elim, arith, ◌<◌, ◌*◌, Bool, true, false, [], ◌∷◌, ◌++◌, Option, None, option_map, is_some, if◌then◌else◌, length, get_or, refl, subst, length-append}
-use Rattle.std.specs.Map.{lookup}
+use Rattle.std.proofs.Common.{◌≡◌, ◌+◌, ℕ, List, Some, slice_get, sym, ◌∙◌, ap, ⊎_elim, arith, ◌<◌, ◌*◌, Bool, true, false, [], ◌∷◌, ◌++◌, None, option_map, if◌then◌else◌, get_or, refl, subst, length-append}
 use Rattle.std.proofs.lemmas.Bool.{cases_lt}
-use Rattle.std.proofs.lemmas.Option.{same_Some, slice_get_within}
+use Rattle.std.proofs.lemmas.Option.{same_Some}
 use Rattle.std.proofs.lemmas.List.{get_or_append_left, get_or_push}
 use Rattle.page_ids.specs.Id.{Id}
-use Rattle.page_ids.specs.Ids.{id_eq}
-use Rattle.page_ids.specs.IdLaws.{id_eq_same, id_eq_refl}
 use Rattle.page_ids.specs.declared.way.Way.{Way}
 use Rattle.page_ids.specs.Ways.{way_at}
 use Rattle.frame_records.specs.declared.base.Sought.TheVariants as seeking
@@ -15,7 +12,6 @@ use Rattle.frame_records.specs.BaseView.{IsAscending, BaseView, frame_at, frame_
 use Rattle.frame_records.specs.Seek.{is_open, sought_of}
 use Rattle.frame_records.specs.Ways.{sought, missing_by, sought_by, offered_by}
 use Rattle.finder.specs.declared.target.Target.{Target}
-use Rattle.finder.specs.declared.aim.Aim.TheVariants as aim
 use Rattle.finder.specs.Notes.{IsSeen, IsSought, target_at}
 use Rattle.finder.specs.Targets.{aim_at, place_of, id_at, IsTarget, AreTargets}
 use Rattle.finder.specs.declared.target.Target.TheVariants.{NotOffered}

@@ -1,9 +1,8 @@
 -- What a survey says.
-use Rattle.std.proofs.Common.{◌≡◌, ℕ, Bool, true, false, List, Option, Some, None, option_map, if◌then◌else◌, length, refl, sym, ◌∙◌, ap, ◌<◌, ◌+◌, ◌*◌, [], map, slice_get, get_or, arith, ◌≤◌}
-use Rattle.std.specs.Map.{lookup, values_of}
+use Rattle.std.proofs.Common.{◌≡◌, ℕ, Bool, true, false, List, Some, None, if◌then◌else◌, length, refl, sym, ◌∙◌, ap, ◌<◌, ◌+◌, ◌*◌, [], map, slice_get, get_or, arith, ◌≤◌}
+use Rattle.std.specs.Map.{values_of}
 use Rattle.std.proofs.lemmas.Option.{same_Some, slice_get_within}
 use Rattle.page_ids.specs.Id.{Id}
-use Rattle.page_ids.specs.Ids.{id_eq}
 use Rattle.page_ids.specs.declared.way.Way.{Way}
 use Rattle.page_ids.specs.Ways.{way_at}
 use Rattle.frame_records.specs.declared.base.Sought.TheVariants as sought_is
@@ -14,8 +13,6 @@ use Rattle.frame_records.specs.Ways.{destination_of, destination_by, destination
 use Rattle.finder.specs.declared.target.Target.{Target}
 use Rattle.finder.specs.declared.target.Target.TheVariants.{NotOffered}
 use Rattle.finder.specs.Entries.{IsEntryPlace, discovered_of}
-use Rattle.finder.specs.declared.aim.Aim.{Aim}
-use Rattle.finder.specs.declared.aim.Aim.TheVariants as aim
 use Rattle.finder.specs.Notes.{IsSought, target_at}
 use Rattle.finder.specs.Targets.{place_of, id_at, aim_at, AreTargets}
 use Rattle.finder.specs.declared.discover.Reached.{Reached}
@@ -26,7 +23,6 @@ use Rattle.finder.specs.Finds.{FindsReached, RanksAreLeast, IsFinding}
 use Rattle.finder.specs.Walks.{EntryIsFound}
 use Rattle.finder.proofs.Places.{frame_here, id_stands}
 use Rattle.finder.proofs.Lists.{image_at, at_image}
-use Rattle.finder.proofs.Within.{place_found, found_place}
 use Rattle.finder.proofs.Targeted.{SeenFrame, seen_frame}
 use Rattle.finder.proofs.Scripted.{listed_at, scripts_lead}
 

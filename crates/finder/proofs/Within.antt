@@ -1,6 +1,6 @@
 -- Each way that leads somewhere is one of a frame, and leads to a frame.
-use Rattle.std.proofs.Common.{◌≡◌, ◌<◌, ◌+◌, ◌*◌, ℕ, refl, List, [], ◌∷◌, zero, suc, Option, Some, None, option_map, length, slice_get, get_or, sym, ◌∙◌, ap, arith}
-use Rattle.std.proofs.lemmas.Option.{same_Some, slice_get_within}
+use Rattle.std.proofs.Common.{◌≡◌, ◌<◌, ◌+◌, ◌*◌, ℕ, refl, List, [], ◌∷◌, zero, suc, Option, Some, None, length, slice_get, get_or, sym, ◌∙◌, ap, arith}
+use Rattle.std.proofs.lemmas.Option.{slice_get_within}
 use Rattle.page_ids.specs.Id.{Id}
 use Rattle.page_ids.specs.declared.way.Way.{Way}
 use Rattle.page_ids.specs.Ways.{way_at}
@@ -16,7 +16,7 @@ use Rattle.finder.specs.declared.graph.Graph.{Graph}
 use Rattle.finder.specs.declared.target.Target.{Target}
 use Rattle.finder.specs.declared.target.Target.TheVariants.{NotOffered, Found, Closed, Missing, Outside}
 use Rattle.finder.specs.Survey.{aim_of}
-use Rattle.finder.specs.Targets.{aim_at, place_of, id_at}
+use Rattle.finder.specs.Targets.{aim_at, place_of}
 use Rattle.finder.specs.Graph.{target}
 use Rattle.finder.proofs.Places.{id_stands}
 

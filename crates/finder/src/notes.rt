@@ -69,11 +69,10 @@ impl Note {
     }
 }
 
-// The slot that an id tells, among so many: pages in a row and letters of one page are spread over all.
+// The slot that an id tells, among a power of two of them: pages in a row are noted in a row, each letter elsewhere.
 fn slot_of(id: &FrameId, slots: usize) -> usize {
-    let key = id.page.get() as u64 * 32 + id.letter.get() as u64;
-    let spread = key.wrapping_mul(0x9E37_79B9_7F4A_7C15) >> 32;
-    (spread.wrapping_mul(slots as u64) >> 32) as usize
+    let apart = (id.letter.get() as u32).wrapping_mul(0x9E37_79B1);
+    id.page.get().wrapping_add(apart) as usize & slots.wrapping_sub(1)
 }
 
 // A blank near the slot that an id tells.
@@ -112,13 +111,14 @@ pub struct Notes<'a> {
 }
 
 impl<'a> Notes<'a> {
-    // All the frames of a base, as far as there are blanks near their slots: there are twice as many slots as frames.
+    // All the frames of a base, as far as there are blanks near their slots: there are at least twice as many slots as frames.
     pub fn of(alloc: Global, base: &'a Base, groups: &'a Groups) -> Result<Notes<'a>, AllocError>
         ensures base { IfOk result (λ m. m.base.now ≡ base.now) }
         ensures groups { IfOk result (λ m. m.groups.now ≡ groups.now) }
     {
         let frames = base.frames();
-        let mut notes = vec![in alloc; Note::BLANK; frames.len() * 2]?;
+        let slots = (frames.len() * 2).next_power_of_two();
+        let mut notes = vec![in alloc; Note::BLANK; slots]?;
         for place in 0..frames.len() as u16 {
             add_note(&mut notes, frames, groups, place);
         }
@@ -144,6 +144,7 @@ impl<'a> Notes<'a> {
     }
 
     // What the frame of an id comes to, by halves.
+    #[cold]
     fn searched_target(&self, id: &FrameId) -> Option<Target>
         ensures { IsSought self.now.groups.now self.now.base.now.frames id.now result }
     {

@@ -1,14 +1,14 @@
 //! What each way of each frame of a base comes to. Each is looked up once.
 
-ghost use Rattle.std.specs.Prelude.{◌≡◌, ◌<◌, ◌+◌, ◌*◌, OnOk, IfOk, length, get_or};
+ghost use Rattle.std.specs.Prelude.{◌≡◌, ◌<◌, ◌+◌, ◌*◌, OnOk, IfOk, map, length, get_or};
 ghost use Rattle.frame_records.specs.BaseView.{IsBase};
 ghost use Rattle.finder.specs.Targets.{AreTargets};
 ghost use Rattle.finder.specs.declared.target.Target.TheVariants.{NotOffered};
 
 use crate::notes::Notes;
 use crate::target::Target;
-use frame_records::{Base, Groups};
-use page_ids::Way;
+use frame_records::{Base, Frame, Groups};
+use page_ids::{FrameId, Way};
 use std::alloc::{AllocError, Global};
 
 /// What each way of each frame of a base comes to for a caller of the groups: eleven a frame, in the order of the
@@ -18,10 +18,24 @@ pub struct Table<'a> {
     pub base: &'a Base,
     pub groups: &'a Groups,
     pub count: u16,
+    // The id of each frame, close together.
+    pub ids: Vec<FrameId>,
     pub targets: Vec<Target>,
     pub ghost nodes: { count ≡ length base.now.frames },
+    pub ghost named: { ids.items ≡ map (λ f. f.id) base.now.frames },
     pub ghost valid: { IsBase base.now },
     pub ghost whole: { AreTargets groups.now base.now (count * 11) targets.items },
+}
+
+// The ids of frames.
+fn ids_of(alloc: Global, frames: &[Frame]) -> Result<Vec<FrameId>, AllocError>
+    ensures { IfOk result (λ ids. ids.items ≡ map (λ f. f.id) frames.now) }
+{
+    let mut ids = Vec::with_capacity(alloc, frames.len())?;
+    for frame in frames {
+        ids.push(frame.id)?;
+    }
+    Ok(ids)
 }
 
 // Adds what each way of the frame at a place comes to.
@@ -45,6 +59,7 @@ impl<'a> Table<'a> {
     {
         let base = notes.base;
         let count = base.frames().len() as u16;
+        let ids = ids_of(alloc, base.frames())?;
         let mut targets = Vec::with_capacity(alloc, count as usize * 11)?;
         for place in 0..count {
             add_targets(&mut targets, notes, place)?;
@@ -53,6 +68,7 @@ impl<'a> Table<'a> {
             base,
             groups: notes.groups,
             count,
+            ids,
             targets,
         })
     }

@@ -1,4 +1,4 @@
-use Rattle.std.proofs.Common.{Ok, Err, rules, refl, sym, ◌∙◌, ap, subst, arith, length, List}
+use Rattle.std.proofs.Common.{Ok, Err, rules, refl, sym, ◌∙◌, ap, subst}
 use Rattle.std.specs.List.Sorted.{IsBinarySearchResult}
 use Rattle.std.proofs.lemmas.Option.{slice_get_read}
 use Rattle.page_ids.specs.Ids.{id_cmp}
