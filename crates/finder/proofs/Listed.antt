@@ -1,23 +1,8 @@
 -- One more way of a listed frame is tried.
 use Rattle.std.proofs.Common.{◌≡◌, ◌<◌, ◌+◌, ◌*◌, inl, inr, ℕ, zero, suc, List, [], ◌∷◌, ◌++◌, Option, Some, None, slice_get, length, refl, sym, ◌∙◌, ap, subst, ⊎_elim, arith, Any}
-use Rattle.std.proofs.lemmas.Bool.{cases_lt, cases_order}
-use Rattle.std.proofs.lemmas.List.Elements.{All-nil, All-push}
-use Rattle.std.proofs.lemmas.List.Quantifiers.{all_pairs_push, Any-push}
-use Rattle.std.proofs.lemmas.Option.{slice_get_within, same_Some, slice_get-get_or}
-use Rattle.page_ids.specs.Id.{Id}
-use Rattle.page_ids.specs.WayLaws.{place_at}
-use Rattle.page_ids.specs.Ways.{way_at, way_place, way_key}
-use Rattle.page_ids.specs.declared.way.Way.{Way}
+use Rattle.finder.proofs.Words.{cases_lt, cases_order, All-nil, All-push, all_pairs_push, Any-push, slice_get_within, same_Some, slice_get-get_or, Id, place_at, way_at, way_place, way_key, Way, BaseView, entry_of, going, offered_place, Leads, Discovered, place, IsDiscovery, Pair, HasPair, PairLeads, IsBefore, HasFirstPair, FindsReached, Walk, IsRank, EntryIsFound}
 use Rattle.page_ids.specs.declared.way.Way.TheVariants.{Route, Next}
 use Rattle.frame_records.specs.declared.ways.Destination.TheVariants.{Found}
-use Rattle.frame_records.specs.BaseView.{BaseView}
-use Rattle.frame_records.specs.Seek.{entry_of}
-use Rattle.frame_records.specs.WayLaws.{going, offered_place}
-use Rattle.frame_records.specs.Ways.{Leads}
-use Rattle.finder.specs.declared.found.Discovered.{Discovered}
-use Rattle.finder.specs.Discovery.{place, IsDiscovery}
-use Rattle.finder.specs.Finds.{Pair, HasPair, PairLeads, IsBefore, HasFirstPair, FindsReached}
-use Rattle.finder.specs.Walks.{Walk, IsRank, EntryIsFound}
 use Rattle.finder.proofs.Lists.{at_push, push_at, all_at, any_at, any_of, any_grown}
 
 -- the order of pairs is that of their places

@@ -1,7 +1,6 @@
 -- What stands in a list with one more at its end, and in a list with one changed.
 use Rattle.std.proofs.Common.{◌≡◌, ◌<◌, ◌≤◌, ◌⊎◌, inl, inr, ℕ, zero, suc, Bool, true, false, List, [], ◌∷◌, ◌++◌, Option, Some, None, map, option_map, slice_get, length, get_or, set, All, AllPairs, Any, sym, ◌∙◌, ap, subst, refl, length-append, arith}
-use Rattle.std.proofs.lemmas.List.{get_or-set_other, get_or_append_left}
-use Rattle.std.proofs.lemmas.Option.{same_Some, slice_get-map, slice_get_within, slice_get_read, get_or_from_slice_get}
+use Rattle.finder.proofs.Words.{get_or-set_other, get_or_append_left, same_Some, slice_get-map, slice_get_within, slice_get_read, get_or_from_slice_get}
 
 pub at_push : {X : Type 0} (xs : List X) (y : X) (j : ℕ) (x : X) → slice_get (xs ++ y ∷ []) j ≡ Some x
     → (slice_get xs j ≡ Some x) ⊎ ((j ≡ length xs) × (y ≡ x))

@@ -1,26 +1,7 @@
 -- Which nodes are marked, and what a way of a listed frame's node does.
 use Rattle.std.proofs.Common.{◌≡◌, ◌<◌, ◌≤◌, ◌+◌, ◌*◌, ℕ, Bool, true, false, List, [], ◌∷◌, ◌++◌, Option, Some, None, map, slice_get, length, get_or, set, refl, sym, ◌∙◌, ap, subst, ⊎_elim, length-append, replicate, arith, Any}
-use Rattle.std.specs.Map.{lookup, values_of}
-use Rattle.std.proofs.lemmas.Bool.{cases_eq}
-use Rattle.std.proofs.lemmas.Grind.{common_steps, get_or-set_at}
-use Rattle.std.proofs.lemmas.Map.Entries.{place_from_lookup}
-use Rattle.std.proofs.lemmas.List.{get_or-set_other, get_or-replicate, length-replicate, map_push}
+use Rattle.finder.proofs.Words.{lookup, values_of, cases_eq, common_steps, get_or-set_at, place_from_lookup, get_or-set_other, get_or-replicate, length-replicate, map_push, All-nil, All-push, Any-push, sum_by-set, sum_by-le, same_Some, Id, id_eq, id_eq_same, entry_of, Reached, Discovered, Graph, one_if_true, IsDiscovery, AreMarked, IsListed, discovered_of, target, IsNodeRank, id_at}
 use Rattle.std.proofs.lemmas.List.Folds.{sum_by-replicate}
-use Rattle.std.proofs.lemmas.List.Elements.{All-nil, All-push}
-use Rattle.std.proofs.lemmas.List.Quantifiers.{Any-push}
-use Rattle.std.proofs.lemmas.List.Sums.{sum_by-set, sum_by-le}
-use Rattle.std.proofs.lemmas.Option.{same_Some}
-use Rattle.page_ids.specs.Id.{Id}
-use Rattle.page_ids.specs.Ids.{id_eq}
-use Rattle.page_ids.specs.IdLaws.{id_eq_same}
-use Rattle.frame_records.specs.Seek.{entry_of}
-use Rattle.finder.specs.declared.discover.Reached.{Reached}
-use Rattle.finder.specs.declared.found.Discovered.{Discovered}
-use Rattle.finder.specs.declared.graph.Graph.{Graph}
-use Rattle.finder.specs.Discovery.{one_if_true, IsDiscovery, AreMarked, IsListed}
-use Rattle.finder.specs.Entries.{discovered_of}
-use Rattle.finder.specs.Graph.{target, IsNodeRank}
-use Rattle.finder.specs.Targets.{id_at}
 use Rattle.finder.proofs.Within.{to_within}
 use Rattle.finder.proofs.Listed.{passed, pushed, started}
 use Rattle.finder.proofs.Lists.{at_push, all_at, any_at, any_of, set_kept, any_grown, true_within, image_at, at_image}

@@ -1,23 +1,10 @@
 -- What is noted of frames, and what seeking them comes to.
 use Rattle.std.proofs.Common.{◌≡◌, ◌<◌, ℕ, Bool, false, List, Some, None, Ok, Err, option_map, slice_get, get_or, length, set, replicate, sym, ◌∙◌, ap, ⊎_elim, arith}
-use Rattle.std.specs.List.Sorted.{IsBinarySearchResult}
+use Rattle.finder.proofs.Words.{IsBinarySearchResult, cases_lt, All-set, All-replicate, Id, id_cmp, id_eq, id_cmp_total, id_eq_same, Frame, IsAscending, frame_among, is_open, frame_id, find_none, ascending_sorted, found_at, IsNote, AreNotes, IsSeen, id_at}
 use Rattle.std.specs.declared.cmp.Ordering.TheVariants.{Less, Greater}
-use Rattle.std.proofs.lemmas.Bool.{cases_lt}
 use Rattle.std.proofs.lemmas.Bool.Decides.{nat_tests}
-use Rattle.std.proofs.lemmas.List.Elements.{All-set, All-replicate}
 use Rattle.std.proofs.lemmas.List.Sorted.{searchable_from_sorted}
-use Rattle.page_ids.specs.Id.{Id}
-use Rattle.page_ids.specs.Ids.{id_cmp, id_eq}
-use Rattle.page_ids.specs.IdLaws.{id_cmp_total, id_eq_same}
-use Rattle.frame_records.specs.declared.frame.Frame.{Frame}
-use Rattle.frame_records.specs.BaseView.{IsAscending, frame_among}
-use Rattle.frame_records.specs.Seek.{is_open}
-use Rattle.frame_records.specs.WayLaws.{frame_id}
-use Rattle.frame_records.proofs.Finds.{find_none}
-use Rattle.frame_records.proofs.SortedFrames.{ascending_sorted, found_at}
 use Rattle.finder.specs.declared.notes.Note.{Note}
-use Rattle.finder.specs.Notes.{IsNote, AreNotes, IsSeen}
-use Rattle.finder.specs.Targets.{id_at}
 
 same_id : (a b : Id) → a.page ≡ b.page → a.letter ≡ b.letter → a ≡ b
 same_id a b page letter = id_eq_same a b (grind (arith, nat_tests))

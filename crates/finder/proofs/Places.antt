@@ -1,15 +1,6 @@
 -- The places of ascending frames, and their ids.
 use Rattle.std.proofs.Common.{◌≡◌, ◌<◌, ℕ, List, Option, Some, None, option_map, slice_get, get_or, refl, sym, ◌∙◌, ap, ⊎_elim}
-use Rattle.std.proofs.lemmas.Bool.{cases_order}
-use Rattle.std.proofs.lemmas.Option.{same_Some, slice_get_within, get_or_from_slice_get}
-use Rattle.page_ids.specs.Id.{Id}
-use Rattle.page_ids.specs.Ids.{id_eq}
-use Rattle.page_ids.specs.IdLaws.{id_eq_refl}
-use Rattle.frame_records.specs.declared.frame.Frame.{Frame}
-use Rattle.frame_records.specs.BaseView.{IsAscending, frame_among}
-use Rattle.finder.specs.Targets.{id_at}
-use Rattle.frame_records.proofs.Finds.{find_first}
-use Rattle.frame_records.proofs.SortedFrames.{apart_at}
+use Rattle.finder.proofs.Words.{cases_order, same_Some, slice_get_within, get_or_from_slice_get, Id, id_eq, id_eq_refl, Frame, IsAscending, frame_among, id_at, find_first, apart_at}
 
 module _ (frames : List Frame) (up : IsAscending frames) where
   no_later : (i j : ℕ) (f g : Frame) → slice_get frames i ≡ Some f → slice_get frames j ≡ Some g → f.id ≡ g.id → i < j

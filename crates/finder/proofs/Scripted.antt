@@ -1,21 +1,7 @@
 -- The scripts of a list of the reached frames lead to them.
 use Rattle.std.proofs.Common.{◌≡◌, ◌<◌, ◌+◌, ◌-◌, ℕ, zero, suc, List, [], ◌∷◌, ◌++◌, Option, Some, None, refl, sym, ◌∙◌, ap, append_assoc, arith, ◌≤◌, inl, add-one, slice_get, get_or, subst, ⊎_elim, length, reverse}
-use Rattle.std.proofs.lemmas.List.{append-nil}
+use Rattle.finder.proofs.Words.{append-nil, cases_lt, cases_order, same_Some, slice_get_within, slice_get-get_or, reverse_onto, Key, Id, Way, way_key, BaseView, entry_of, Leads, Discovered, parent_of, keys_along, keys_back, parent_by, script, ScriptsLead, Pair, HasPair, PairLeads, IsBefore, HasFirstPair, FindsReached, Walk, IsReached, KeysLead}
 use Rattle.std.specs.Prelude.{slice_get}
-use Rattle.std.proofs.lemmas.Bool.{cases_lt, cases_order}
-use Rattle.std.proofs.lemmas.Option.{same_Some, slice_get_within, slice_get-get_or}
-use Rattle.std.proofs.lemmas.Grind.{reverse_onto}
-use Rattle.page_ids.specs.declared.key.Key.{Key}
-use Rattle.page_ids.specs.Id.{Id}
-use Rattle.page_ids.specs.declared.way.Way.{Way}
-use Rattle.page_ids.specs.Ways.{way_key}
-use Rattle.frame_records.specs.BaseView.{BaseView}
-use Rattle.frame_records.specs.Seek.{entry_of}
-use Rattle.frame_records.specs.Ways.{Leads}
-use Rattle.finder.specs.declared.found.Discovered.{Discovered}
-use Rattle.finder.specs.Scripts.{parent_of, keys_along, keys_back, parent_by, script, ScriptsLead}
-use Rattle.finder.specs.Finds.{Pair, HasPair, PairLeads, IsBefore, HasFirstPair, FindsReached}
-use Rattle.finder.specs.Walks.{Walk, IsReached, KeysLead}
 use Rattle.finder.proofs.Lists.{any_at, any_of, pairs_at}
 
 -- without a parent there is no key

@@ -1,18 +1,7 @@
 -- The search back from the entry frame.
 use Rattle.std.proofs.Common.{◌≡◌, ◌<◌, ◌≤◌, ◌+◌, ℕ, zero, suc, List, [], ◌∷◌, ◌++◌, Option, Some, None, is_some, false, true, slice_get, length, get_or, set, Contains, refl, sym, ◌∙◌, ap, subst, ⊎_elim, add-one, length-append, arith, ◌*◌, All}
-use Rattle.std.proofs.lemmas.Bool.{cases_eq}
-use Rattle.std.proofs.lemmas.Grind.{common_steps, get_or-set_at}
-use Rattle.std.proofs.lemmas.List.{get_or-set_other, get_or_append_left, get_or_default}
-use Rattle.std.proofs.lemmas.List.Elements.{All-push, All-contains, Contains-push, Contains-append_left, AllWithin-more}
-use Rattle.std.proofs.lemmas.List.Quantifiers.{all_pairs_push}
-use Rattle.std.proofs.lemmas.List.Sums.{sum_by-set, sum_by-le}
-use Rattle.std.proofs.lemmas.Option.{slice_get_within, same_Some, get_or_from_slice_get}
-use Rattle.smallvec.specs.SmallVec.{SmallVec}
-use Rattle.finder.specs.declared.graph.Graph.{Graph}
+use Rattle.finder.proofs.Words.{cases_eq, common_steps, get_or-set_at, get_or-set_other, get_or_append_left, get_or_default, All-push, All-contains, Contains-push, Contains-append_left, AllWithin-more, all_pairs_push, sum_by-set, sum_by-le, slice_get_within, same_Some, get_or_from_slice_get, SmallVec, Graph, target, NodeWalk, IsNodeRank, LeadsTo, AreTurned, IsSourceList, HasRank, one_if_some, IsSearch, IsClosed}
 use Rattle.finder.specs.declared.ranks.Ranked.{Ranked}
-use Rattle.finder.specs.Graph.{target, NodeWalk, IsNodeRank}
-use Rattle.finder.specs.Turned.{LeadsTo, AreTurned, IsSourceList}
-use Rattle.finder.specs.Search.{HasRank, one_if_some, IsSearch, IsClosed}
 use Rattle.finder.proofs.Within.{from_within}
 use Rattle.finder.proofs.Lists.{at_push, push_at, all_at, set_kept}
 

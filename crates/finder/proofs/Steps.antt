@@ -1,22 +1,7 @@
 -- Ids of nodes, and the ways between them.
 use Rattle.std.proofs.Common.{◌≡◌, ℕ, List, Option, Some, None, option_map, get_or, refl, sym, ◌∙◌, ap, ◌<◌, ◌+◌, ◌*◌, zero, suc, subst, arith}
-use Rattle.std.proofs.lemmas.Option.{same_Some, slice_get_within}
-use Rattle.page_ids.specs.Id.{Id}
-use Rattle.page_ids.specs.declared.way.Way.{Way}
-use Rattle.page_ids.specs.WayLaws.{place_at}
-use Rattle.page_ids.specs.Ways.{way_at, way_place}
+use Rattle.finder.proofs.Words.{same_Some, slice_get_within, Id, Way, place_at, way_at, way_place, Frame, IsAscending, BaseView, entry_of, offered_place, sought, destination_of, destination_by, destination, Leads, id_at, Graph, NotOffered, target, NodeWalk, IsNodeRank, aim_of, Walk, IsRank}
 use Rattle.frame_records.specs.declared.ways.Destination.TheVariants as destination_is
-use Rattle.frame_records.specs.declared.frame.Frame.{Frame}
-use Rattle.frame_records.specs.BaseView.{IsAscending, BaseView}
-use Rattle.frame_records.specs.Seek.{entry_of}
-use Rattle.frame_records.specs.WayLaws.{offered_place}
-use Rattle.frame_records.specs.Ways.{sought, destination_of, destination_by, destination, Leads}
-use Rattle.finder.specs.Targets.{id_at}
-use Rattle.finder.specs.declared.graph.Graph.{Graph}
-use Rattle.finder.specs.declared.target.Target.TheVariants.{NotOffered}
-use Rattle.finder.specs.Graph.{target, NodeWalk, IsNodeRank}
-use Rattle.finder.specs.Survey.{aim_of}
-use Rattle.finder.specs.Walks.{Walk, IsRank}
 use Rattle.finder.proofs.Places.{same_place, frame_here, id_stands}
 use Rattle.finder.proofs.Within.{found_place, offered, leads_on}
 

@@ -1,21 +1,7 @@
 -- What a way comes to, by the look-up of the frame that it seeks.
 use Rattle.std.proofs.Common.{◌≡◌, ◌+◌, ℕ, List, Some, slice_get, sym, ◌∙◌, ap, ⊎_elim, arith, ◌<◌, ◌*◌, Bool, true, false, [], ◌∷◌, ◌++◌, None, option_map, if◌then◌else◌, get_or, refl, subst, length-append}
-use Rattle.std.proofs.lemmas.Bool.{cases_lt}
-use Rattle.std.proofs.lemmas.Option.{same_Some}
-use Rattle.std.proofs.lemmas.List.{get_or_append_left, get_or_push}
-use Rattle.page_ids.specs.Id.{Id}
-use Rattle.page_ids.specs.declared.way.Way.{Way}
-use Rattle.page_ids.specs.Ways.{way_at}
+use Rattle.finder.proofs.Words.{cases_lt, same_Some, get_or_append_left, get_or_push, Id, Way, way_at, Frame, IsAscending, BaseView, frame_at, frame_among, is_open, sought_of, sought, missing_by, sought_by, offered_by, Target, IsSeen, IsSought, target_at, aim_at, place_of, id_at, IsTarget, AreTargets, NotOffered, aim_of}
 use Rattle.frame_records.specs.declared.base.Sought.TheVariants as seeking
-use Rattle.frame_records.specs.declared.frame.Frame.{Frame}
-use Rattle.frame_records.specs.BaseView.{IsAscending, BaseView, frame_at, frame_among}
-use Rattle.frame_records.specs.Seek.{is_open, sought_of}
-use Rattle.frame_records.specs.Ways.{sought, missing_by, sought_by, offered_by}
-use Rattle.finder.specs.declared.target.Target.{Target}
-use Rattle.finder.specs.Notes.{IsSeen, IsSought, target_at}
-use Rattle.finder.specs.Targets.{aim_at, place_of, id_at, IsTarget, AreTargets}
-use Rattle.finder.specs.declared.target.Target.TheVariants.{NotOffered}
-use Rattle.finder.specs.Survey.{aim_of}
 use Rattle.finder.proofs.Places.{frame_here, id_stands}
 
 -- the frame of an id that is seen

@@ -1,26 +1,7 @@
 -- What a survey says.
 use Rattle.std.proofs.Common.{◌≡◌, ℕ, Bool, true, false, List, Some, None, if◌then◌else◌, length, refl, sym, ◌∙◌, ap, ◌<◌, ◌+◌, ◌*◌, [], map, slice_get, get_or, arith, ◌≤◌}
-use Rattle.std.specs.Map.{values_of}
-use Rattle.std.proofs.lemmas.Option.{same_Some, slice_get_within}
-use Rattle.page_ids.specs.Id.{Id}
-use Rattle.page_ids.specs.declared.way.Way.{Way}
-use Rattle.page_ids.specs.Ways.{way_at}
+use Rattle.finder.proofs.Words.{values_of, same_Some, slice_get_within, Id, Way, way_at, Frame, BaseView, IsAscending, frame_at, entry_of, seek_entry, is_open, sought_of, destination_of, destination_by, destination, Target, NotOffered, IsEntryPlace, discovered_of, IsSought, target_at, place_of, id_at, aim_at, AreTargets, Reached, Discovered, AreNamed, aim_of, FindsReached, RanksAreLeast, IsFinding, EntryIsFound}
 use Rattle.frame_records.specs.declared.base.Sought.TheVariants as sought_is
-use Rattle.frame_records.specs.declared.frame.Frame.{Frame}
-use Rattle.frame_records.specs.BaseView.{BaseView, IsAscending, frame_at}
-use Rattle.frame_records.specs.Seek.{entry_of, seek_entry, is_open, sought_of}
-use Rattle.frame_records.specs.Ways.{destination_of, destination_by, destination}
-use Rattle.finder.specs.declared.target.Target.{Target}
-use Rattle.finder.specs.declared.target.Target.TheVariants.{NotOffered}
-use Rattle.finder.specs.Entries.{IsEntryPlace, discovered_of}
-use Rattle.finder.specs.Notes.{IsSought, target_at}
-use Rattle.finder.specs.Targets.{place_of, id_at, aim_at, AreTargets}
-use Rattle.finder.specs.declared.discover.Reached.{Reached}
-use Rattle.finder.specs.declared.found.Discovered.{Discovered}
-use Rattle.finder.specs.Discovery.{AreNamed}
-use Rattle.finder.specs.Survey.{aim_of}
-use Rattle.finder.specs.Finds.{FindsReached, RanksAreLeast, IsFinding}
-use Rattle.finder.specs.Walks.{EntryIsFound}
 use Rattle.finder.proofs.Places.{frame_here, id_stands}
 use Rattle.finder.proofs.Lists.{image_at, at_image}
 use Rattle.finder.proofs.Targeted.{SeenFrame, seen_frame}

@@ -1,23 +1,10 @@
 -- Each way that leads somewhere is one of a frame, and leads to a frame.
 use Rattle.std.proofs.Common.{◌≡◌, ◌<◌, ◌+◌, ◌*◌, ℕ, refl, List, [], ◌∷◌, zero, suc, Option, Some, None, length, slice_get, get_or, sym, ◌∙◌, ap, arith}
-use Rattle.std.proofs.lemmas.Option.{slice_get_within}
-use Rattle.page_ids.specs.Id.{Id}
-use Rattle.page_ids.specs.declared.way.Way.{Way}
-use Rattle.page_ids.specs.Ways.{way_at}
-use Rattle.frame_records.specs.declared.frame.Frame.{Frame}
+use Rattle.finder.proofs.Words.{slice_get_within, Id, Way, way_at, Frame, BaseView, seek, found_sought, sought, offered_by, destination_of, Graph, Target, NotOffered, Closed, Missing, Outside, aim_of, aim_at, place_of, target}
 use Rattle.frame_records.specs.declared.ways.Destination.{Destination}
 use Rattle.frame_records.specs.declared.ways.Destination.TheVariants as destination
-use Rattle.frame_records.specs.BaseView.{BaseView}
-use Rattle.frame_records.specs.Seek.{seek}
-use Rattle.frame_records.specs.WayLaws.{found_sought}
-use Rattle.frame_records.specs.Ways.{sought, offered_by, destination_of}
 use Rattle.finder.specs.declared.aim.Aim.TheVariants as aim
-use Rattle.finder.specs.declared.graph.Graph.{Graph}
-use Rattle.finder.specs.declared.target.Target.{Target}
-use Rattle.finder.specs.declared.target.Target.TheVariants.{NotOffered, Found, Closed, Missing, Outside}
-use Rattle.finder.specs.Survey.{aim_of}
-use Rattle.finder.specs.Targets.{aim_at, place_of}
-use Rattle.finder.specs.Graph.{target}
+use Rattle.finder.specs.declared.target.Target.TheVariants.{Found}
 use Rattle.finder.proofs.Places.{id_stands}
 
 pub place_found : (t : Target) (j : ℕ) → place_of t ≡ Some j → t ≡ Found j

@@ -1,8 +1,5 @@
-use Rattle.std.specs.Map.{values_of}
+use Rattle.finder.proofs.Words.{values_of, length-map, length-values_of, discovered_of}
 use Rattle.std.proofs.Common.{sym, ◌∙◌, arith}
-use Rattle.std.proofs.lemmas.List.{length-map}
-use Rattle.std.proofs.lemmas.Map.Entries.{length-values_of}
-use Rattle.finder.specs.Entries.{discovered_of}
 use Rattle.finder.proofs.Lists.{none_past}
 use Rattle.finder.proofs.Listed.{finds_reached}
 use Rattle.finder.proofs.Marked.{few}

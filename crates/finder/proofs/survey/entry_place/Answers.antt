@@ -1,6 +1,5 @@
 use Rattle.std.proofs.Common.{Some, sym, ◌∙◌, ap, subst}
-use Rattle.frame_records.specs.BaseView.{frame_at}
-use Rattle.finder.specs.Notes.{IsSought}
+use Rattle.finder.proofs.Words.{frame_at, IsSought}
 use Rattle.finder.proofs.Whole.{entry_by, entry_missing}
 use Rattle.finder.proofs.survey.entry_place.Goals as goal
 

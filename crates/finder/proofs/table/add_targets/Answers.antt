@@ -1,6 +1,5 @@
 use Rattle.std.proofs.Common.{◌≡◌, subst, refl, arith, ap, Some, slice_get, length}
-use Rattle.std.proofs.lemmas.Option.{slice_get_read}
-use Rattle.finder.specs.Targets.{IsTarget, AreTargets}
+use Rattle.finder.proofs.Words.{slice_get_read, IsTarget, AreTargets}
 use Rattle.finder.proofs.Targeted.{targets_more}
 use Rattle.finder.proofs.table.add_targets.Goals as goal
 

@@ -1,11 +1,6 @@
 use Rattle.std.proofs.Common.{Ok, Err, rules, refl, sym, ◌∙◌, ap, subst}
-use Rattle.std.specs.List.Sorted.{IsBinarySearchResult}
-use Rattle.std.proofs.lemmas.Option.{slice_get_read}
-use Rattle.page_ids.specs.Ids.{id_cmp}
-use Rattle.frame_records.specs.declared.frame.Frame.{Frame}
-use Rattle.frame_records.specs.BaseView.{IsAscending, frame_among}
+use Rattle.finder.proofs.Words.{IsBinarySearchResult, slice_get_read, id_cmp, Frame, IsAscending, frame_among, IsSeen}
 use Rattle.frame_records.proofs.SortedKeys.{by_key}
-use Rattle.finder.specs.Notes.{IsSeen}
 use Rattle.finder.proofs.Noted.{seen_at, searched, unsearched}
 use Rattle.finder.proofs.notes.Notes.searched_target.Goals as goal
 

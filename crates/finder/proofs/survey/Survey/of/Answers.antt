@@ -1,10 +1,5 @@
 use Rattle.std.proofs.Common.{◌≡◌, Some, None, sym, subst, arith}
-use Rattle.std.proofs.lemmas.Option.{slice_get_within}
-use Rattle.frame_records.specs.BaseView.{BaseView}
-use Rattle.frame_records.specs.Seek.{entry_of}
-use Rattle.finder.specs.Entries.{IsEntryPlace}
-use Rattle.finder.specs.Finds.{IsFinding}
-use Rattle.finder.specs.Targets.{id_at}
+use Rattle.finder.proofs.Words.{slice_get_within, BaseView, entry_of, IsEntryPlace, IsFinding, id_at}
 use Rattle.finder.proofs.Places.{id_stands}
 use Rattle.finder.proofs.Whole.{nothing}
 use Rattle.finder.proofs.survey.Survey.of.Goals as goal

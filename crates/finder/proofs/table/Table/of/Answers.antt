@@ -1,6 +1,5 @@
 use Rattle.std.proofs.Common.{◌*◌, map, ◌∙◌, ap, subst, arith}
-use Rattle.frame_records.specs.declared.frame.Frame.{Frame}
-use Rattle.finder.specs.Targets.{AreTargets}
+use Rattle.finder.proofs.Words.{Frame, AreTargets}
 use Rattle.finder.proofs.table.Table.of.Goals as goal
 
 pub invariant_of-result-clause-whole : goal.invariant_of-result-clause-whole
