@@ -1,8 +1,9 @@
 -- One more way of a listed frame is tried.
 use Rattle.std.proofs.Common.{◌≡◌, ◌<◌, ◌+◌, ◌*◌, inl, inr, ℕ, zero, suc, List, [], ◌∷◌, ◌++◌, Option, Some, None, slice_get, length, refl, sym, ◌∙◌, ap, subst, ⊎_elim, arith, Any}
-use Rattle.finder.proofs.Words.{cases_lt, cases_order, All-nil, All-push, all_pairs_push, Any-push, slice_get_within, same_Some, slice_get-get_or, Id, place_at, way_at, way_place, way_key, Way, BaseView, entry_of, going, offered_place, Leads, Discovered, place, IsDiscovery, Pair, HasPair, PairLeads, IsBefore, HasFirstPair, FindsReached, Walk, IsRank, EntryIsFound}
+use Rattle.finder.proofs.Words.{cases_lt, cases_order, All-nil, All-push, all_pairs_push, Any-push, slice_get_within, same_Some, slice_get-get_or, Id, place_at, way_at, way_place, way_key, Way, BaseView, entry_of, Leads, Discovered, place, IsDiscovery, Pair, HasPair, PairLeads, IsBefore, HasFirstPair, FindsReached, Walk, IsRank, EntryIsFound}
 use Rattle.page_ids.specs.declared.way.Way.TheVariants.{Route, Next}
 use Rattle.frame_records.specs.declared.ways.Destination.TheVariants.{Found}
+use Rattle.finder.proofs.Within.{known_way}
 use Rattle.finder.proofs.Lists.{at_push, push_at, all_at, any_at, any_of, any_grown}
 
 -- the order of pairs is that of their places
@@ -31,9 +32,7 @@ module _ (caller : List ℕ) (base : BaseView) where
 
   pub way_known : (found : List Discovered) (p : Pair) (g : Id) → PairLeads caller base found p g
       → (way_place p.1 < 11) × (way_at (way_place p.1) ≡ p.1)
-  way_known found p g l =
-      let is = going caller base l.from.id p.1 (Found g l.leads.price) l.leads.found (λ same. absurd cc) in
-      offered_place is.frame p.1 is.to is.offered
+  way_known found p g l = known_way caller base l.from.id p.1 g l.leads
 
   module _ (found : List Discovered) (e : Discovered) (p : Pair) (g : Id) where
     grown : PairLeads caller base found p g → PairLeads caller base (found ++ e ∷ []) p g

@@ -1,6 +1,7 @@
 -- The places of ascending frames, and their ids.
-use Rattle.std.proofs.Common.{◌≡◌, ◌<◌, ℕ, List, Option, Some, None, option_map, slice_get, get_or, refl, sym, ◌∙◌, ap, ⊎_elim}
-use Rattle.finder.proofs.Words.{cases_order, same_Some, slice_get_within, get_or_from_slice_get, Id, id_eq, id_eq_refl, Frame, IsAscending, frame_among, id_at, find_first, apart_at}
+use Rattle.std.proofs.Common.{◌≡◌, ◌<◌, ℕ, List, Some, slice_get, get_or, sym, ◌∙◌, ap, ⊎_elim}
+use Rattle.finder.proofs.Words.{cases_order, slice_get_within, get_or_from_slice_get, Id, id_eq, id_eq_refl, Frame, IsAscending, frame_among, id_at, find_first, apart_at}
+use Rattle.finder.proofs.Lists.{mapped}
 
 module _ (frames : List Frame) (up : IsAscending frames) where
   no_later : (i j : ℕ) (f g : Frame) → slice_get frames i ≡ Some f → slice_get frames j ≡ Some g → f.id ≡ g.id → i < j
@@ -28,8 +29,4 @@ module _ (frames : List Frame) (up : IsAscending frames) where
 -- the frame at a place
 pub id_stands : (frames : List Frame) (j : ℕ) (to : Id) → id_at frames j ≡ Some to
     → (f : Frame) × (slice_get frames j ≡ Some f) × (f.id ≡ to)
-id_stands frames j to e = by (slice_get frames j) refl e where
-  by : (o : Option Frame) → slice_get frames j ≡ o → option_map (λ (f : Frame). f.id) o ≡ Some to
-      → (f : Frame) × (slice_get frames j ≡ Some f) × (f.id ≡ to)
-  by None is e = absurd cc
-  by (Some f) is e = (f, is, same_Some f.id to e)
+id_stands frames j to e = mapped (λ (f : Frame). f.id) (slice_get frames j) to e

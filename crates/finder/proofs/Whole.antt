@@ -1,9 +1,10 @@
 -- What a survey says.
 use Rattle.std.proofs.Common.{◌≡◌, ℕ, Bool, true, false, List, Some, None, if◌then◌else◌, length, refl, sym, ◌∙◌, ap, ◌<◌, ◌+◌, ◌*◌, [], map, slice_get, get_or, arith, ◌≤◌}
-use Rattle.finder.proofs.Words.{values_of, same_Some, slice_get_within, Id, Way, way_at, Frame, BaseView, IsAscending, frame_at, entry_of, seek_entry, is_open, sought_of, destination_of, destination_by, destination, Target, NotOffered, IsEntryPlace, discovered_of, IsSought, target_at, place_of, id_at, aim_at, AreTargets, Reached, Discovered, AreNamed, aim_of, FindsReached, RanksAreLeast, IsFinding, EntryIsFound}
+use Rattle.finder.proofs.Words.{values_of, same_Some, slice_get_within, Id, Way, way_at, Frame, BaseView, IsAscending, frame_at, entry_of, seek_entry, is_open, sought_of, sought, destination_of, destination_by, destination, Target, NotOffered, IsEntryPlace, discovered_of, IsSought, target_at, place_of, id_at, aim_at, AreTargets, Reached, Discovered, AreNamed, aim_of, FindsReached, RanksAreLeast, IsFinding, EntryIsFound}
 use Rattle.frame_records.specs.declared.base.Sought.TheVariants as sought_is
 use Rattle.finder.proofs.Places.{frame_here, id_stands}
 use Rattle.finder.proofs.Lists.{image_at, at_image}
+use Rattle.finder.proofs.Within.{aim_is}
 use Rattle.finder.proofs.Targeted.{SeenFrame, seen_frame}
 use Rattle.finder.proofs.Scripted.{listed_at, scripts_lead}
 
@@ -50,7 +51,7 @@ module _ (caller : List ℕ) (base : BaseView) (entries : List (Id × Reached)) 
   aim_told targets way place found d are small is_way is there =
       let inside : r.node * 11 + place < length base.frames * 11 = omega (arith, node_within, small) in
       let f = stands in
-      (are.right r.node place f.0 inside small f.1).aim ∙ ap (λ w. aim_of (destination_of caller base f.0 w)) is_way ∙ ap (λ o. aim_of (destination_by caller base way o)) (sym (f.2 found d is there))
+      aim_is base.frames (sought f.0 (way_at place)) (get_or targets (r.node * 11 + place) NotOffered) (destination_of caller base f.0 (way_at place)) (are.right r.node place f.0 inside small f.1).is ∙ ap (λ w. aim_of (destination_of caller base f.0 w)) is_way ∙ ap (λ o. aim_of (destination_by caller base way o)) (sym (f.2 found d is there))
 
 -- where the entry frame is found it is listed
 not_empty : (caller : List ℕ) (base : BaseView) (found : List Discovered) → FindsReached caller base found → found ≡ []

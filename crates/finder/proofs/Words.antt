@@ -6,7 +6,7 @@ pub use Rattle.std.proofs.lemmas.List.Elements.{All-contains, All-nil, All-push,
 pub use Rattle.std.proofs.lemmas.List.Quantifiers.{Any-push, all_pairs_push}
 pub use Rattle.std.proofs.lemmas.List.Sums.{sum_by-le, sum_by-set}
 pub use Rattle.std.proofs.lemmas.Map.Entries.{length-values_of, place_from_lookup}
-pub use Rattle.std.proofs.lemmas.Option.{get_or_from_slice_get, same_Some, slice_get-get_or, slice_get-map, slice_get_read, slice_get_within}
+pub use Rattle.std.proofs.lemmas.Option.{slice_get_cases, get_or_from_slice_get, same_Some, slice_get-get_or, slice_get-map, slice_get_read, slice_get_within}
 pub use Rattle.std.specs.List.Sorted.{IsBinarySearchResult}
 pub use Rattle.std.specs.Map.{lookup, values_of}
 pub use Rattle.page_ids.specs.Id.{Id}
@@ -32,7 +32,7 @@ pub use Rattle.finder.specs.Notes.{AreNotes, IsNote, IsSeen, IsSought, target_at
 pub use Rattle.finder.specs.Scripts.{ScriptsLead, keys_along, keys_back, parent_by, parent_of, script}
 pub use Rattle.finder.specs.Search.{HasRank, IsClosed, IsSearch, one_if_some}
 pub use Rattle.finder.specs.Survey.{SurveyView, aim_of}
-pub use Rattle.finder.specs.Targets.{AreTargets, IsTarget, aim_at, id_at, place_of}
+pub use Rattle.finder.specs.Targets.{AreTargets, IsTarget, aim_at, id_at, place_of, told}
 pub use Rattle.finder.specs.Turned.{AreTurned, IsSourceList, LeadsTo}
 pub use Rattle.finder.specs.Walks.{EntryIsFound, IsRank, IsReached, KeysLead, Walk}
 pub use Rattle.finder.specs.declared.discover.Reached.{Reached}

@@ -6,11 +6,12 @@ use Rattle.page_ids.specs.Ways.{way_at}
 use Rattle.frame_records.specs.declared.frame.Frame.{Frame}
 use Rattle.frame_records.specs.BaseView.{BaseView}
 use Rattle.frame_records.specs.Ways.{sought, destination_of}
+use Rattle.frame_records.specs.declared.ways.Destination.{Destination}
+use Rattle.frame_records.specs.declared.ways.Destination.TheVariants as destination
 use Rattle.finder.specs.declared.aim.Aim.{Aim}
 use Rattle.finder.specs.declared.aim.Aim.TheVariants as aim
 use Rattle.finder.specs.declared.target.Target.{Target}
 use Rattle.finder.specs.declared.target.Target.TheVariants.{NotOffered, Found, Closed, Missing, Outside}
-use Rattle.finder.specs.Survey.{aim_of}
 
 -- a target without its place
 abbrev pub aim_at : Target → Aim
@@ -32,10 +33,17 @@ place_of Outside = None
 abbrev pub id_at : List Frame → ℕ → Option Id
 id_at frames place = option_map (λ f. f.id) (slice_get frames place)
 
--- what a way of a frame comes to, and where the frame stands that it finds
+-- the destination that a target tells, where an id is sought
+abbrev pub told : List Frame → Option Id → Target → Option Destination
+told frames to NotOffered = Some destination.NotOffered
+told frames to (Found place) = option_map (λ f. destination.Found f.id f.price) (slice_get frames place)
+told frames to Closed = option_map destination.Closed to
+told frames to Missing = option_map destination.Missing to
+told frames to Outside = option_map (λ id. destination.Outside id.page) to
+
+-- what a way of a frame comes to
 pub record IsTarget (caller : List ℕ) (base : BaseView) (f : Frame) (way : Way) (target : Target) : Type 0 where
-  pub aim : aim_at target ≡ aim_of (destination_of caller base f way)
-  pub place : (j : ℕ) → place_of target ≡ Some j → id_at base.frames j ≡ sought f way
+  pub is : told base.frames (sought f way) target ≡ Some (destination_of caller base f way)
 
 -- what the ways of the first places come to, eleven for each frame
 pub record AreTargets (caller : List ℕ) (base : BaseView) (done : ℕ) (targets : List Target) : Type 0 where

@@ -6,8 +6,7 @@ ghost use Rattle.frame_records.specs.BaseView.{IsBase};
 ghost use Rattle.frame_records.specs.Seek.{is_open};
 ghost use Rattle.frame_records.specs.Ways.{missing_by};
 ghost use Rattle.finder.specs.Notes.{target_at, IsOf, AreNotes, IsSought};
-ghost use Rattle.finder.specs.Survey.{aim_of};
-ghost use Rattle.finder.specs.Targets.{aim_at, place_of, IsTarget};
+ghost use Rattle.finder.specs.Targets.{told, IsTarget};
 
 use crate::target::Target;
 use frame_records::{Base, Frame, Groups};
@@ -167,8 +166,7 @@ impl<'a> Notes<'a> {
 
     // A frame that a way seeks and the base lacks.
     fn missing(&self, way: &Way, id: &FrameId) -> Target
-        ensures aim { aim_at result ≡ aim_of (missing_by self.now.base.now way.now id.now) }
-        ensures place { place_of result ≡ None }
+        ensures { told self.now.base.now.frames (Some id.now) result ≡ Some (missing_by self.now.base.now way.now id.now) }
     {
         match way {
             Way::Route(_) if self.base.is_outside(id.page) => Target::Outside,
