@@ -18,8 +18,8 @@ abbrev pub one_if_some : Option ℕ → ℕ
 one_if_some None = 0
 one_if_some (Some n) = 1
 
--- nodes wait in a queue in the order of their ranks; the first of them are done
-pub record IsSearch (graph : Graph) (done : ℕ) (queue : List Ranked) (ranks : List (Option ℕ)) : Type 0 where
+-- the nodes that have a rank stand in a queue in the order of their ranks
+pub record AreRanked (graph : Graph) (queue : List Ranked) (ranks : List (Option ℕ)) : Type 0 where
   pub nodes : length ranks ≡ graph.table.count
   pub entry_is : get_or ranks graph.entry None ≡ Some 0
   pub queued : (f n : ℕ) → get_or ranks f None ≡ Some n → Contains queue (record { node = f; rank = n })
@@ -28,5 +28,9 @@ pub record IsSearch (graph : Graph) (done : ℕ) (queue : List Ranked) (ranks : 
   pub walks : All (λ e. NodeWalk graph e.node graph.entry e.rank) queue
   pub ascend : AllPairs (λ d e. d.rank ≤ e.rank) queue
   pub low : (i : ℕ) (e : Ranked) → slice_get queue i ≡ Some e → e.rank ≤ i
+
+-- the first of them are done
+pub record IsSearch (graph : Graph) (done : ℕ) (queue : List Ranked) (ranks : List (Option ℕ)) : Type 0 where
+  pub ranked : AreRanked graph queue ranks
   pub near : (e : Ranked) → slice_get queue done ≡ Some e → All (λ d. d.rank ≤ e.rank + 1) queue
   pub closed : AllWithin (IsClosed graph ranks) queue 0 done

@@ -13,7 +13,7 @@ returns-in_default c =
     let past = none_past (values_of order) c.loop-index.index (sym c.at.ensures ∙ c.in_default.is) in
     record {
       reached = finds_reached _ _ _ _ listed.found (omega (arith, past, length-values_of order, length-map order discovered_of)) c.requires;
-      ranks = listed.found.ranks;
+      ranks = listed.found.listing.ranks;
       named = listed.marked.named;
       few = few _ _ _ listed.marked;
     }
@@ -24,7 +24,7 @@ returns c =
     let listed = c.loop-index.invariant in
     record {
       reached = finds_reached _ _ _ _ listed.found (omega (arith, few _ _ _ listed.marked, length-map order discovered_of, c.loop-index-test.false)) c.requires;
-      ranks = listed.found.ranks;
+      ranks = listed.found.listing.ranks;
       named = listed.marked.named;
       few = few _ _ _ listed.marked;
     }
