@@ -1,6 +1,6 @@
 -- The search back from the entry frame.
-use Rattle.std.proofs.Common.{◌≡◌, ◌<◌, ◌≤◌, ◌+◌, ℕ, zero, suc, List, [], ◌∷◌, ◌++◌, Option, Some, None, is_some, false, true, slice_get, length, get_or, set, Contains, refl, sym, ◌∙◌, ap, subst, ⊎_elim, add-one, length-append, arith, ◌*◌, All}
-use Rattle.finder.proofs.Words.{cases_eq, common_steps, get_or-set_at, get_or-set_other, get_or_append_left, get_or_default, All-push, All-contains, Contains-push, Contains-append_left, AllWithin-more, all_pairs_push, sum_by-set, sum_by-le, slice_get_within, same_Some, get_or_from_slice_get, SmallVec, Graph, target, NodeWalk, IsNodeRank, LeadsTo, AreTurned, IsSourceList, HasRank, one_if_some, IsSearch, IsClosed}
+use Rattle.std.proofs.Common.{◌≡◌, ◌<◌, ◌≤◌, ◌+◌, ℕ, zero, suc, List, [], ◌∷◌, ◌++◌, Option, Some, None, is_some, cond, false, true, slice_get, length, get_or, set, Contains, refl, sym, ◌∙◌, ap, subst, ⊎_elim, add-one, length-append, arith, ◌*◌, All}
+use Rattle.finder.proofs.Words.{cases_eq, common_steps, get_or-set_at, get_or-set_other, get_or_append_left, get_or_default, All-push, All-contains, Contains-push, Contains-append_left, AllWithin-more, all_pairs_push, sum_by-set, count_by-le-length, slice_get_within, same_Some, get_or_from_slice_get, SmallVec, Graph, target, NodeWalk, IsNodeRank, LeadsTo, AreTurned, IsSourceList, HasRank, IsSearch, IsClosed}
 use Rattle.finder.specs.declared.ranks.Ranked.{Ranked}
 use Rattle.finder.proofs.Within.{from_within}
 use Rattle.finder.proofs.Lists.{at_push, push_at, all_at, set_kept}
@@ -19,13 +19,9 @@ some_of : {X : Type 0} (o : Option X) → true ≡ is_some o → (x : X) × (o �
 some_of None h = absurd cc
 some_of (Some x) h = (x, refl)
 
-one_le : (o : Option ℕ) → one_if_some o ≤ 1
-one_le None = omega arith
-one_le (Some n) = omega arith
-
 pub few : (graph : Graph) (done : ℕ) (queue : List Ranked) (ranks : List (Option ℕ)) → IsSearch graph done queue ranks
     → length queue ≤ graph.table.count
-few graph done queue ranks is = omega (arith, is.ranked.count, is.ranked.nodes, sum_by-le one_if_some 1 ranks (λ k d lt. one_le (get_or ranks k d)))
+few graph done queue ranks is = omega (arith, is.ranked.count, is.ranked.nodes, count_by-le-length is_some ranks)
 
 pub kept : (ranks : List (Option ℕ)) (f r g n : ℕ) → get_or ranks f None ≡ None → get_or ranks g None ≡ Some n
     → get_or (set ranks f (Some r)) g None ≡ Some n
@@ -60,7 +56,7 @@ module _ (graph : Graph) (done : ℕ) (queue : List Ranked) (ranks : List (Optio
               let rank : to.rank + 1 ≡ n = cc in
               let is_e : e ≡ record { node = g; rank = n } = cc in
               subst (Contains (queue ++ e ∷ [])) is_e (Contains-push queue e)) (λ other. Contains-append_left queue (e ∷ []) (record { node = g; rank = n }) (is.ranked.queued g n (sym (get_or-set_other ranks f g (Some (to.rank + 1)) None other) ∙ h))) (cases_eq g f);
-          count = omega (arith, sum_by-set one_if_some ranks f (Some (to.rank + 1)) None inside, ap one_if_some new, is.ranked.count, length-append queue (e ∷ []));
+          count = omega (arith, sum_by-set (λ o. cond (is_some o) 1 0) ranks f (Some (to.rank + 1)) None inside, ap {B = ℕ} (λ o. cond (is_some o) 1 0) new, is.ranked.count, length-append queue (e ∷ []));
           inside = All-push (λ d. d.node < graph.table.count) queue e is.ranked.inside (omega (arith, inside, is.ranked.nodes));
           walks = All-push (λ d. NodeWalk graph d.node graph.entry d.rank) queue e is.ranked.walks (rw add-one (step_back graph f leads.0 to.node graph.entry to.rank leads.1 leads.2 walk));
           ascend = all_pairs_push (λ d b. d.rank ≤ b.rank) queue e is.ranked.ascend (is.near to waits);

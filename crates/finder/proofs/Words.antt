@@ -4,7 +4,7 @@ pub use Rattle.std.proofs.lemmas.Grind.{common_steps, get_or-set_at, reverse_ont
 pub use Rattle.std.proofs.lemmas.List.{append-nil, get_or-replicate, get_or-set_other, get_or_append_left, get_or_default, get_or_push, length-map, length-replicate, map_push}
 pub use Rattle.std.proofs.lemmas.List.Elements.{All-contains, All-nil, All-push, All-replicate, All-set, AllWithin-more, Contains-append_left, Contains-push}
 pub use Rattle.std.proofs.lemmas.List.Quantifiers.{Any-push, all_pairs_push}
-pub use Rattle.std.proofs.lemmas.List.Sums.{sum_by-le, sum_by-set}
+pub use Rattle.std.proofs.lemmas.List.Sums.{count_by-le-length, sum_by-set}
 pub use Rattle.std.proofs.lemmas.Map.Entries.{length-values_of, place_from_lookup}
 pub use Rattle.std.proofs.lemmas.Option.{slice_get_cases, get_or_from_slice_get, same_Some, slice_get-get_or, slice_get-map, slice_get_read, slice_get_within}
 pub use Rattle.std.specs.List.Sorted.{IsBinarySearchResult}
@@ -24,13 +24,13 @@ pub use Rattle.frame_records.specs.WayLaws.{found_sought, frame_id, going, offer
 pub use Rattle.frame_records.specs.Ways.{Leads, destination, destination_by, destination_of, missing_by, offered_by, sought, sought_by}
 pub use Rattle.frame_records.specs.declared.frame.Frame.{Frame}
 pub use Rattle.smallvec.specs.SmallVec.{SmallVec}
-pub use Rattle.finder.specs.Discovery.{AreMarked, AreNamed, IsDiscovery, IsListed, one_if_true, place}
+pub use Rattle.finder.specs.Discovery.{AreMarked, AreNamed, IsDiscovery, IsListed, place}
 pub use Rattle.finder.specs.Entries.{IsEntryPlace, discovered_of}
 pub use Rattle.finder.specs.Finds.{FindsReached, HasFirstPair, HasPair, IsBefore, IsFinding, Pair, PairLeads, RanksAreLeast}
 pub use Rattle.finder.specs.Graph.{IsNodeRank, NodeWalk, target}
 pub use Rattle.finder.specs.Notes.{AreNotes, IsNote, IsSeen, IsSought, target_at}
 pub use Rattle.finder.specs.Scripts.{ScriptsLead, keys_along, keys_back, parent_by, parent_of, script}
-pub use Rattle.finder.specs.Search.{HasRank, IsClosed, IsSearch, one_if_some}
+pub use Rattle.finder.specs.Search.{HasRank, IsClosed, IsSearch}
 pub use Rattle.finder.specs.Survey.{SurveyView, aim_of}
 pub use Rattle.finder.specs.Targets.{AreTargets, IsTarget, aim_at, id_at, place_of, told}
 pub use Rattle.finder.specs.Turned.{AreTurned, IsSourceList, LeadsTo}
