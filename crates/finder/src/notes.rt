@@ -1,5 +1,5 @@
-//! What seeking a frame comes to. Frames are noted by their ids, each near the slot that its id tells; one that finds no free slot
-//! there is searched by halves.
+//! What seeking a frame comes to. Frames are noted by their ids, each near the slot that its id tells; one that finds no
+//! blank there is searched by halves. A look-up rests on each note being true, not on where it stands.
 
 ghost use Rattle.std.specs.Prelude.{◌≡◌, ◌<◌, IsTrue, IfSome, IfOk, length};
 ghost use Rattle.frame_records.specs.BaseView.{IsBase};
@@ -110,7 +110,8 @@ pub struct Notes<'a> {
 }
 
 impl<'a> Notes<'a> {
-    // All the frames of a base, as far as there are blanks near their slots: there are at least twice as many slots as frames.
+    // All the frames of a base, as far as there are blanks near their slots. There are at least twice as many slots as
+    // frames.
     pub fn of(alloc: Global, base: &'a Base, groups: &'a Groups) -> Result<Notes<'a>, AllocError>
         ensures base { IfOk result (λ m. m.base.now ≡ base.now) }
         ensures groups { IfOk result (λ m. m.groups.now ≡ groups.now) }

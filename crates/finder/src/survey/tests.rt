@@ -113,7 +113,8 @@ fn closed_frames_are_not_listed(rt: HostRuntime) -> Result<(), Fail> {
     Ok(())
 }
 
-// Pages in steps of 64, each with a route to the next one: 20 frames for which there are 64 slots, so that all begin at one.
+// Pages in steps of 64, each with a route to the next one: 20 frames, for which there are 64 slots, so that all begin at
+// one slot.
 #[test]
 fn frames_of_one_slot_are_all_found(rt: HostRuntime) -> Result<(), Fail> {
     let mut frames = Vec::new(rt.alloc());
