@@ -58,7 +58,14 @@ BASES = {
     "touches": changed(DEMO, ("\\u001E\\u000APART TWO", "A")),
     "entry_closed": changed(DEMO, ('id = "123a"\n', 'id = "123a"\ngroup = 7\n')),
     "no_entry": "entry = 0\n",
+    "moved": changed(DEMO, ("entry = 123\n", "entry = 1231\n")),
+    "shorter": changed(DEMO[: DEMO.index("[[frame]]\n" + LAST)], ("next = true\n", "")),
 }
+MOVED = changed(
+    CERT, ("entry 123\n", "entry 1231\n"), ("keyings 1", "keyings 2"), ("\n123a 0", "\n123a 1"), ("1231a 1", "1231a 0"),
+    ("1231b 1", "1231b 2"),
+)
+SHORTER = changed(CERT, ("rows 3", "rows 2"), ("1231b 1 s48\n", ""))
 BAD_BASES = {
     "X4 Absent entry": "",
     "X6 Range entry": "entry = 1000000000\n",
@@ -175,6 +182,18 @@ def verdict_cases():
         yield Case(f"{call} touches cert 5 1 -", "REFUSED K9 Touches 1231b 0\n")
         yield Case(f"{call} missing cert 5 1 -", "REFUSED K11 RouteNotCovered 1231b 9\n")
         yield Case(f"{call} no_return cert 5 1 -", "REFUSED K14 NoWayDown 1231b\n")
+
+
+def change_cases():
+    for words, answer in {
+        "demo cert demo cert 50 3 -": "CLEARED",
+        "closed grouped closed grouped 50 3 7": "CLEARED",
+        "demo cert demo cert 4 1 -": "OLD REFUSED K2 CeilingAbove",
+        "demo cert missing cert 50 3 -": "NEW REFUSED K11 RouteNotCovered 1231b 9",
+        "demo cert moved moved_cert 50 3 -": "REFUSED E1 EntryMoved",
+        "demo cert shorter shorter_cert 50 3 -": "REFUSED E2 NoLongerCovered 1231b",
+    }.items():
+        yield Case(f"change_text {words}", f"{answer}\n")
 
 
 def audit_cases():
@@ -298,6 +317,7 @@ def large_cases(files):
 
 def small_files():
     files = {**BASES, "cert": CERT, "grouped": GROUPED, "truncated": TRUNCATED}
+    files.update(moved_cert=MOVED, shorter_cert=SHORTER)
     files.update((f"bad_base_{place}", text) for place, text in enumerate(BAD_BASES.values()))
     files.update((f"bad_cert_{place}", text) for place, text in enumerate(BAD_CERTS.values()))
     return files
@@ -308,7 +328,7 @@ def cases(folder):
     large = large_files()
     for name, text in {**small_files(), **large}.items():
         (folder / name).write_text(text, "ascii")
-    for part in key_cases, base_cases, cert_cases, session_cases, verdict_cases, audit_cases:
+    for part in key_cases, base_cases, cert_cases, session_cases, verdict_cases, change_cases, audit_cases:
         yield from part()
     for case in large_cases(large):
         case.is_large = True

@@ -5,11 +5,11 @@ use crate::call::Call;
 use crate::files::{base_of, bytes_of, cert_of};
 use crate::words::Words;
 use anyhow::{Result, bail};
-use audit_report::{entry_text, fault_text, report, verdict_text, walk_text};
+use audit_report::{change_text, entry_text, fault_text, report, verdict_text, walk_text};
 use base_text::base_read;
 use cert_table::Certificate;
 use cert_text::cert_read;
-use checker::{Policy, check};
+use checker::{Policy, check, check_change};
 use fault_scripts::{Outcome, audit};
 use frame_records::Base;
 use page_ids::{FrameId, keys_read};
@@ -93,6 +93,41 @@ impl Call for VerdictText {
     fn answer(&self, alloc: Global) -> Answer {
         let verdict = check(&self.base, &self.policy, &self.cert);
         Answer::of_bytes(verdict_text(alloc, &verdict))
+    }
+}
+
+/// `change_text OLD OLDCERT NEW NEWCERT CEILING KEYINGS GROUPS`; the check itself takes no memory
+#[derive(Drop)]
+pub struct ChangeText {
+    old: Base,
+    old_cert: Certificate,
+    new: Base,
+    new_cert: Certificate,
+    policy: Policy,
+}
+
+impl ChangeText {
+    pub fn of(rt: &HostRuntime, words: &mut Words) -> Result<ChangeText> {
+        let old = base_of(rt, words.word()?)?;
+        let old_cert = cert_of(rt, words.word()?)?;
+        let new = base_of(rt, words.word()?)?;
+        let new_cert = cert_of(rt, words.word()?)?;
+        let policy = words.policy()?;
+        Ok(ChangeText {
+            old,
+            old_cert,
+            new,
+            new_cert,
+            policy,
+        })
+    }
+}
+
+impl Call for ChangeText {
+    fn answer(&self, alloc: Global) -> Answer {
+        let (old_cert, new_cert) = (&self.old_cert, &self.new_cert);
+        let verdict = check_change(&self.old, old_cert, &self.new, new_cert, &self.policy);
+        Answer::of_bytes(change_text(alloc, &verdict))
     }
 }
 

@@ -41,7 +41,7 @@ fn run(rt: &HostRuntime, name: &str, words: &mut Words) -> Result<()> {
         | "cert_write"
         | "feed"
         | "read_whole" => text_call(rt, name, words),
-        "walk_text" | "entry_text" | "verdict_text" | "report" | "fault_text" => {
+        "walk_text" | "entry_text" | "verdict_text" | "change_text" | "report" | "fault_text" => {
             line_call(rt, name, words)
         }
         _ => base_call(rt, name, words),
@@ -68,6 +68,7 @@ fn line_call(rt: &HostRuntime, name: &str, words: &mut Words) -> Result<()> {
         "walk_text" => tried(rt, line_calls::WalkText::of(rt, words)?),
         "entry_text" => tried(rt, line_calls::EntryText::of(rt, words)?),
         "verdict_text" => tried(rt, line_calls::VerdictText::of(rt, words)?),
+        "change_text" => tried(rt, line_calls::ChangeText::of(rt, words)?),
         "report" => tried(rt, line_calls::Report::of(rt, words)?),
         _ => tried(rt, line_calls::FaultText::of(rt, words)?),
     }
