@@ -115,8 +115,8 @@ module _ (old new : List Row) (are : AreRows old) (i : ℕ) (row : Row) (here : 
   beside_next at next beside covered place = record {
     right = sym (is_kept covered) ∙ beside.right;
     below = λ j d le lt k e before within.
-      still_below (get_or new k e).id row.id (get_or old j d).id (place.below k e before within)
-      (subst (λ (r : Row). is_lt (id_cmp (get_or old j d).id r.id) ≡ false) (row_is d) (far old are i j d (omega (arith, le)) lt));
+        still_below (get_or new k e).id row.id (get_or old j d).id (place.below k e before within)
+        (subst (λ (r : Row). is_lt (id_cmp (get_or old j d).id r.id) ≡ false) (row_is d) (far old are i j d (omega (arith, le)) lt));
   }
 
 pub none_lost : (old new : List Row) (i at : ℕ) → AreBeside old new i at → length old ≤ i → None ≡ lost_id old new

@@ -9,8 +9,7 @@ use cert_table::{Certificate, Cover, RowList};
 use cert_text::{LineCause, ReadFault, cert_read};
 use demo_texts::{CERT, DEMO};
 use frame_records::{Groups, Pence};
-use page_ids::{Digit, FrameId, Key};
-use session_machine::{Reply, Session};
+use page_ids::{Digit, FrameId};
 use std::alloc::Global;
 use std::test::Fail;
 
@@ -377,44 +376,5 @@ fn a_change_is_cleared_where_each_old_row_has_a_new_one(rt: HostRuntime) -> Resu
         changed(alloc, DEMO, dear.as_str(), &policy)?,
         ChangeVerdict::New(Cause::CeilingAbove)
     );
-    Ok(())
-}
-
-#[test]
-fn a_session_crosses_a_change(rt: HostRuntime) -> Result<(), Fail> {
-    let alloc = rt.alloc();
-    let a = FrameId::read("1231a")?;
-    let b = FrameId::read("1231b")?;
-    let old = base_read(alloc, DEMO.as_bytes())?;
-    let dearer = DEMO.replacen(alloc, "lead = \"keep\"", "price = 7\nlead = \"keep\"", 1)?;
-    let new = base_read(alloc, dearer.as_str().as_bytes())?;
-    let (mut session, _) = Session::open(alloc, &old, &Groups::none())?;
-    session.key(&old, Key::Route(Digit::new(1).ok_or("one")?));
-    session.key(&old, Key::Next);
-    let seven = Pence::new(7).ok_or("seven")?;
-    let five = Pence::new(5).ok_or("five")?;
-    assert_eq!(rt; session.key(&new, Key::Update), Reply::Shown(b, seven));
-    assert_eq!(rt; session.key(&new, Key::Prev), Reply::Shown(a, five));
-    Ok(())
-}
-
-#[test]
-fn a_session_is_lost_over_a_change_that_is_refused(rt: HostRuntime) -> Result<(), Fail> {
-    let alloc = rt.alloc();
-    let a = FrameId::read("1231a")?;
-    let b = FrameId::read("1231b")?;
-    let old = base_read(alloc, DEMO.as_bytes())?;
-    let shorter = base_read(
-        alloc,
-        b"entry = 123\noutside = [0]\n[[frame]]\nid = \"123a\"\nroutes = { 0 = 0, 1 = 1231 }\n[[frame]]\nid = \"1231a\"\nprice = 5\nroutes = { 0 = 123 }\n",
-    )?;
-    let (mut session, _) = Session::open(alloc, &old, &Groups::none())?;
-    session.key(&old, Key::Route(Digit::new(1).ok_or("one")?));
-    session.key(&old, Key::Next);
-    let zero = Key::Route(Digit::new(0).ok_or("zero")?);
-    let five = Pence::new(5).ok_or("five")?;
-    assert_eq!(rt; session.key(&shorter, Key::Update), Reply::Missing(b));
-    assert_eq!(rt; session.key(&shorter, zero), Reply::NotOffered);
-    assert_eq!(rt; session.key(&shorter, Key::Prev), Reply::Shown(a, five));
     Ok(())
 }

@@ -105,7 +105,7 @@ fn faulty(
     text: &str,
     kept: Option<usize>,
     policy: &Policy,
-) -> (Result<Status, RunFault>, usize, usize) {
+) -> (Result<Status, RunFault>, u32, usize) {
     let mut sources = [DEMO, CERT, DEMO, CERT].map(|text| FakeSource::of(text.as_bytes(), 4_096));
     sources[k] = match kept {
         Some(kept) => FakeSource::broken(text.as_bytes(), 4_096, kept),

@@ -207,6 +207,22 @@ fn a_frame_of_the_callers_group_is_open(rt: HostRuntime) -> Result<(), Fail> {
     Ok(())
 }
 
+// The present frame has another price in the new base, and the remembered one is found there.
+#[test]
+fn a_session_crosses_a_change(rt: HostRuntime) -> Result<(), Fail> {
+    let old = demo(&rt, rt.alloc());
+    let entry = frame(&rt, rt.alloc(), "123a", 0, &[(0, 0), (1, 1231)]);
+    let first = frame(&rt, rt.alloc(), "1231a", 5, &[(0, 123)]);
+    let second = frame(&rt, rt.alloc(), "1231b", 7, &[(0, 123)]);
+    let new = base_of(&rt, rt.alloc(), vec![in rt.alloc(); entry, first, second]?);
+    let (mut session, _) = Session::open(rt.alloc(), &old, &Groups::none())?;
+    let before = [shown(&rt, "1231a", 5), shown(&rt, "1231b", 0)];
+    presses(&rt, rt.alloc(), &mut session, &old, "1#", &before);
+    let after = [shown(&rt, "1231b", 7), shown(&rt, "1231a", 5)];
+    presses(&rt, rt.alloc(), &mut session, &new, "*09*#", &after);
+    Ok(())
+}
+
 // The new base lacks the present frame.
 #[test]
 fn keys_look_into_the_base_of_the_moment(rt: HostRuntime) -> Result<(), Fail> {

@@ -1,0 +1,315 @@
+"""The calls that take memory, each on inputs whose answers are known: what tests/refuse-calls refuses memory to.
+
+The answers of the small inputs are worked by hand from the rules; those of the large ones are the second reading's.
+"""
+
+import sys
+from dataclasses import dataclass
+from pathlib import Path
+
+sys.path.insert(0, str(Path(__file__).resolve().parent))
+from second_reading import audit, base, session
+from second_reading.certificate import KEYS
+
+TOP = Path(__file__).resolve().parent.parent
+DEMO = (TOP / "examples" / "demo.toml").read_text("ascii")
+CERT = (TOP / "examples" / "demo.cert").read_text("ascii")
+MEMORY = "Memory\n"
+FAILED = "Failed\n" * 4
+
+
+@dataclass
+class Case:
+    """A call with its words, its answer where no memory is refused, and what want of memory looks like."""
+
+    words: str
+    answer: str
+    memory: str = MEMORY
+    is_large: bool = False
+
+    @property
+    def call(self):
+        return self.words.split(" ")[0]
+
+
+def changed(text, *changes):
+    """The text with each part replaced by another; a part has to stand there once."""
+    for old, new in changes:
+        assert text.count(old) == 1, old
+        text = text.replace(old, new)
+    return text
+
+
+def line_of(number, line):
+    """The certificate with another line, counted from 1, in the place of one."""
+    lines = CERT.splitlines()
+    lines[number - 1] = line
+    return "\n".join(lines) + "\n"
+
+
+LAST = 'id = "1231b"\n'
+GROUPED = changed(CERT, ("PBC1", "PBC2"), ("rows 3", "groups 7\nrows 3"))
+# Beside the name of each base that can be read stands nothing; beside that of one that can't be read, its fault.
+BASES = {
+    "demo": DEMO,
+    "closed": changed(DEMO, (LAST, LAST + "group = 7\n")),
+    "missing": changed(DEMO, ("TWO\"\nroutes = { 0 = 123 }", "TWO\"\nroutes = { 0 = 123, 9 = 555 }")),
+    "no_return": changed(DEMO, ("TWO\"\nroutes = { 0 = 123 }", "TWO\"\nroutes = { 0 = 0 }")),
+    "touches": changed(DEMO, ("\\u001E\\u000APART TWO", "A")),
+    "entry_closed": changed(DEMO, ('id = "123a"\n', 'id = "123a"\ngroup = 7\n')),
+    "no_entry": "entry = 0\n",
+}
+BAD_BASES = {
+    "X4 Absent entry": "",
+    "X6 Range entry": "entry = 1000000000\n",
+    "X5 WrongKind entry": 'entry = "1"\n',
+    "X2 NotToml": "entry = \n",
+    "X3 UnknownKey": "entry = 1\nname = 2\n",
+    "B1 Duplicate 123a": changed(DEMO, ('id = "1231a"', 'id = "123a"')),
+    "B2 OutsideInside 123": changed(DEMO, ("outside = [0]", "outside = [123]")),
+    "B3 NextAfterZ 1231z": changed(DEMO, (LAST, 'id = "1231z"\nnext = true\n')),
+    "B5 BodyTooLong 1231b": changed(DEMO, ("\\u001E\\u000APART TWO", "A" * 4_097)),
+    "frame 2: X6 Range body": changed(DEMO, ("\\u001E\\u000APART TWO", "\\u0100")),
+    "frame 2: X7 BodyAndRows": changed(DEMO, (LAST, LAST + "rows = []\n")),
+    "frame 0: X8 RowTooLong": changed(DEMO, ("WELCOME", "W" * 41)),
+    "frame 0: X9 RowCode": changed(DEMO, ("WELCOME", "\\u001B")),
+    "frame 0: I2 BadFrame": changed(DEMO, ('"123a"', '"0123a"')),
+}
+BAD_CERTS = {
+    "line 1: Magic": line_of(1, "PBC3"),
+    "line 2: Word": line_of(2, "Entry 123"),
+    "line 2: Number": line_of(2, "entry 0123"),
+    "line 5: Range": line_of(5, "rows 65536"),
+    "line 7: Number": line_of(7, "1231a 01 s80"),
+    "line 7: Cursor": line_of(7, "1231a 1 s960"),
+    "line 8: Order": line_of(8, "1231a 1 s80"),
+    "line 8: Count": line_of(5, "rows 2"),
+    "line 9: Count": line_of(5, "rows 4"),
+    "line 10: Tail": CERT + "X",
+}
+TRUNCATED = CERT[:80]
+DEMO_LINES = """\
+entry 123
+frame 123a price 0 group - last clear 0=0! 1=1231 body 1e 0a 57 45 4c 43 4f 4d 45 0d 0a
+frame 1231a price 5 group - next clear 0=123 body 1e 0a 50 41 52 54 20 4f 4e 45 0d 0a
+frame 1231b price 0 group - last keep 0=123 body 1e 0a 50 41 52 54 20 54 57 4f
+"""
+FOUND = """\
+123a rank 0 parent - key -
+1231a rank 1 parent 0 key 1
+1231b rank {} parent 1 key #
+"""
+REPLIES = "SHOWN 123a 0\n" + "SHOWN 1231a 5\nSHOWN 123a 0\n" * 3 + "SHOWN 1231a 5\nNOTOFFERED\n"
+STRICT = "FAULTS 3\nPRICE 1231a 5 SCRIPT 1\nNORETURN 1231a SCRIPT 1\nNORETURN 1231b SCRIPT 1#\n"
+# Of an audit up to 50 pence and 3 keyings.
+FAULTS = {
+    "closed": "FAULTS 1\nCLOSED 1231b AT 1231a KEY # SCRIPT 1#\n",
+    "missing": "FAULTS 1\nMISSING 555a AT 1231b KEY 9 SCRIPT 1#9\n",
+    "no_return": "FAULTS 1\nNORETURN 1231b SCRIPT 1#\n",
+    "touches": "FAULTS 1\nTOUCHES 1231b BYTE 0 START 0 SCRIPT 1#\n",
+    "entry_closed": "FAULTS 1\nENTRYCLOSED 123a\n",
+    "no_entry": "FAULTS 1\nENTRYMISSING 0a\n",
+}
+
+
+def key_cases():
+    for keys in "1#*#*00*09", "1010*#*#*#*#", "":
+        yield Case(f"keys_read {keys}", keys)
+        yield Case(f"keys_text {keys}", keys)
+    yield Case("keys_read *0", "keys: I3 BadKey 0\n")
+    yield Case("keys_read 1*5#", "keys: I3 BadKey 1\n")
+
+
+def base_cases():
+    yield Case("base_read demo", DEMO_LINES)
+    yield Case("base_read no_entry", "entry 0\n")
+    for name in ("closed", "missing", "no_return", "touches", "entry_closed"):
+        yield Case(f"base_read {name}", base_lines(base.base_of(BASES[name].encode())))
+    for place, fault in enumerate(BAD_BASES):
+        yield Case(f"base_read bad_base_{place}", f"base: {fault}\n")
+        yield Case(f"check_bytes bad_base_{place} cert 5 1 -", f"base: {fault}\n")
+        yield Case(f"fault_text base bad_base_{place}", f"base: {fault}\n")
+    yield Case("body_of_rows", "body 1e 0a\n")
+    yield Case("body_of_rows WELCOME", "body 1e 0a 57 45 4c 43 4f 4d 45 0d 0a\n")
+
+
+def cert_cases():
+    for name, text in ("cert", CERT), ("grouped", GROUPED):
+        yield Case(f"cert_read {name}", text)
+        yield Case(f"cert_write {name}", text)
+        for piece in 1, 2, 3, 7, 4_096:
+            yield Case(f"feed {name} {piece}", text, MEMORY + FAILED)
+    for place, fault in enumerate(BAD_CERTS):
+        line = f"certificate: {fault}\n"
+        yield Case(f"cert_read bad_cert_{place}", line)
+        yield Case(f"check_bytes demo bad_cert_{place} 5 1 -", line)
+        yield Case(f"fault_text cert bad_cert_{place}", line)
+        for piece in 1, 4_096:
+            yield Case(f"feed bad_cert_{place} {piece}", line + FAILED, MEMORY + FAILED)
+    yield Case("cert_read truncated", "certificate: line 9: Truncated\n")
+    yield Case("feed truncated 7", "certificate: line 9: Truncated\n", MEMORY + FAILED)
+
+
+def session_cases():
+    yield Case("session_open demo -", "SHOWN 123a 0\nat 123a\n")
+    yield Case("session_open entry_closed 7,9", "SHOWN 123a 0\nat 123a\n")
+    for call in "session_open", "entry_text":
+        yield Case(f"{call} entry_closed -", "ENTRYCLOSED 123a\n")
+        yield Case(f"{call} no_entry -", "ENTRYMISSING 0a\n")
+    yield Case("walk_text demo - 1010*#*#*#*#", REPLIES)
+    yield Case("walk_text demo - 01*00", "SHOWN 123a 0\nGONE 0\nNOTOFFERED\nNOTOFFERED\n")
+    yield Case("replay closed - 1#", "CLOSED 1231b\nat 1231a\n")
+    yield Case("replay closed 7 1#", "SHOWN 1231b 0\nat 1231b\n")
+    yield Case("replay demo - 0", "GONE 0\nleft\n")
+    yield Case("replay demo - ", "SHOWN 123a 0\nat 123a\n")
+    yield Case("replay no_entry - 1", "ENTRYMISSING 0a\n")
+
+
+def verdict_cases():
+    for call in "check_bytes", "verdict_text":
+        yield Case(f"{call} demo cert 5 1 -", "CLEARED\n")
+        yield Case(f"{call} demo cert 4 1 -", "REFUSED K2 CeilingAbove\n")
+        yield Case(f"{call} demo cert 5 0 -", "REFUSED K3 KeyingsAbove\n")
+        yield Case(f"{call} closed grouped 5 1 7", "CLEARED\n")
+        yield Case(f"{call} closed grouped 5 1 -", "REFUSED K15 GroupsDiffer\n")
+        yield Case(f"{call} touches cert 5 1 -", "REFUSED K9 Touches 1231b 0\n")
+        yield Case(f"{call} missing cert 5 1 -", "REFUSED K11 RouteNotCovered 1231b 9\n")
+        yield Case(f"{call} no_return cert 5 1 -", "REFUSED K14 NoWayDown 1231b\n")
+
+
+def audit_cases():
+    yield Case("find demo -", FOUND.format(1))
+    yield Case("find no_return -", FOUND.format("-"))
+    yield Case("find no_entry -", "")
+    for place, keys in enumerate(["", "1", "1#"]):
+        yield Case(f"script_to demo - {place}", keys)
+    for call in "audit", "report":
+        yield Case(f"{call} demo 50 3 -", CERT)
+        yield Case(f"{call} closed 50 3 7", GROUPED)
+    for call in "audit", "report", "faults":
+        yield Case(f"{call} demo 4 0 -", STRICT)
+        for name, faults in FAULTS.items():
+            yield Case(f"{call} {name} 50 3 -", faults)
+    yield Case("faults demo 50 3 -", "FAULTS 0\n")
+    yield Case("fault_text keys 1*5#", "keys: I3 BadKey 1\n")
+    for piece in 7, 4_096:
+        yield Case(f"read_whole demo {piece}", DEMO)
+
+
+# The large base: pages in a tree of nine routes down and one up, every seventh with a second frame, every hundredth in
+# group 7.
+PAGES = 4_000
+BODIES = ['rows = ["FIRST", "", "THIRD"]', 'body = "SHORT"', 'rows = []', 'lead = "keep"\nbody = "\\u001E\\u000AKEPT"']
+
+
+def large_frame(page, letter, routes, page_fields):
+    lines = ["[[frame]]", f'id = "{page}{letter}"', *page_fields]
+    lines.append("routes = { " + ", ".join(f"{digit} = {to}" for digit, to in routes) + " }")
+    return "\n".join(lines) + "\n"
+
+
+def large_base():
+    texts = ["entry = 100000\noutside = [5]\n"]
+    for number in range(PAGES):
+        page, up = 100_000 + number, 100_000 + max(number - 1, 0) // 9
+        down = [(digit, 100_000 + 9 * number + digit) for digit in range(1, 10) if 9 * number + digit < PAGES]
+        fields = [f"price = {number % 10}", BODIES[number % len(BODIES)]]
+        if number % 100 == 99:
+            fields.append("group = 7")
+        if number % 7 == 3:
+            texts.append(large_frame(page, "b", [(0, up), (9, 5)], fields))
+            fields.append("next = true")
+        texts.append(large_frame(page, "a", [(0, up), *down], fields))
+    return "".join(texts)
+
+
+def frame_line(whole, frame):
+    group = "-" if frame.group is None else frame.group
+    routes = "".join(
+        f" {digit}={page}{'!' if page in whole.outside else ''}" for digit, page in sorted(frame.routes.items())
+    )
+    return (
+        f"frame {base.id_text(frame.id)} price {frame.price} group {group} {'next' if frame.next else 'last'}"
+        f" {'keep' if frame.keep else 'clear'}{routes} body{''.join(f' {byte:02x}' for byte in frame.body)}\n"
+    )
+
+
+def base_lines(whole):
+    """A base as the program prints it."""
+    frames = (whole.frames[id] for id in sorted(whole.frames))
+    return f"entry {whole.entry}\n" + "".join(frame_line(whole, frame) for frame in frames)
+
+
+def found_lines(whole, groups):
+    """The discovered frames as the program prints them."""
+    scripts = audit.discover(whole, groups)
+    ranks = audit.ranks_of(whole, scripts)
+    places = {script: place for place, script in enumerate(scripts.values())}
+    for id, script in scripts.items():
+        parent, key = (places[script[:-1]], script[-1]) if script else ("-", "-")
+        assert key in [*KEYS, "-"]
+        yield f"{base.id_text(id)} rank {ranks.get(id, '-')} parent {parent} key {key}\n"
+
+
+def large_files():
+    text = large_base()
+    whole = base.base_of(text.encode())
+    cert, status = audit.outcome(whole, (9, 9, [7]))
+    assert status == 0
+    return {"large": text, "large_cert": cert, "large_tail": cert + "X", "large_bad": text + "unknown = 1\n"}
+
+
+def large_cases(files):
+    text, cert = files["large"], files["large_cert"]
+    whole = base.base_of(text.encode())
+    scripts = list(audit.discover(whole, [7]).values())
+    faults, _ = audit.outcome(whole, (4, 2, []))
+    tail = f"certificate: line {cert.count(chr(10)) + 1}: Tail\n"
+    unknown = f"base: frame {text.count('[[frame]]') - 1}: X3 UnknownKey\n"
+    keys = "10" * 2_000
+    yield from [
+        Case(f"keys_read {keys}", keys),
+        Case(f"keys_text {keys}", keys),
+        Case("base_read large", base_lines(whole)),
+        Case("base_read large_bad", unknown),
+        Case("body_of_rows" + f" {'W' * 40}" * 22, "body 1e 0a" + " 57" * 880 + "\n"),
+        Case("session_open large -", "SHOWN 100000a 0\nat 100000a\n"),
+        Case(f"walk_text large - {keys}", session.walk(text.encode(), keys)[0]),
+        Case(f"replay large - {keys}", "SHOWN 100000a 0\nat 100000a\n"),
+        Case("cert_read large_cert", cert),
+        Case("cert_write large_cert", cert),
+        Case("cert_read large_tail", tail),
+        Case("feed large_cert 4096", cert, MEMORY + FAILED),
+        Case("feed large_tail 4096", tail + FAILED, MEMORY + FAILED),
+        Case("check_bytes large large_cert 9 9 7", "CLEARED\n"),
+        Case("check_bytes large large_tail 9 9 7", tail),
+        Case("check_bytes large_bad large_cert 9 9 7", unknown),
+        Case("find large 7", "".join(found_lines(whole, [7]))),
+        Case("find large -", "".join(found_lines(whole, []))),
+        Case(f"script_to large 7 {len(scripts) - 1}", scripts[-1]),
+        Case("audit large 9 9 7", cert),
+        Case("report large 9 9 7", cert),
+        Case("audit large 4 2 -", faults),
+        Case("faults large 4 2 -", faults),
+        Case("report large 4 2 -", faults),
+        Case("read_whole large 4096", text),
+    ]
+
+
+def small_files():
+    files = {**BASES, "cert": CERT, "grouped": GROUPED, "truncated": TRUNCATED}
+    files.update((f"bad_base_{place}", text) for place, text in enumerate(BAD_BASES.values()))
+    files.update((f"bad_cert_{place}", text) for place, text in enumerate(BAD_CERTS.values()))
+    return files
+
+
+def cases(folder):
+    """Writes the files into the folder; each case."""
+    large = large_files()
+    for name, text in {**small_files(), **large}.items():
+        (folder / name).write_text(text, "ascii")
+    for part in key_cases, base_cases, cert_cases, session_cases, verdict_cases, audit_cases:
+        yield from part()
+    for case in large_cases(large):
+        case.is_large = True
+        yield case
