@@ -1,23 +1,9 @@
 -- One more way of a listed frame is tried.
 use Rattle.std.proofs.Common.{◌≡◌, ◌<◌, ◌+◌, ◌*◌, inl, inr, ℕ, zero, suc, List, [], ◌∷◌, ◌++◌, Option, Some, None, slice_get, length, refl, sym, ◌∙◌, ap, subst, ⊎_elim, arith, Any}
-use Rattle.std.proofs.lemmas.Bool.{cases_lt, cases_order}
-use Rattle.std.proofs.lemmas.List.Elements.{All-nil, All-push}
-use Rattle.std.proofs.lemmas.List.Quantifiers.{all_pairs_push, Any-push}
-use Rattle.std.proofs.lemmas.Option.{slice_get_within, same_Some, slice_get-get_or}
-use Rattle.page_ids.specs.Id.{Id}
-use Rattle.page_ids.specs.WayLaws.{place_at}
-use Rattle.page_ids.specs.Ways.{way_at, way_place, way_key}
-use Rattle.page_ids.specs.declared.way.Way.{Way}
+use Rattle.finder.proofs.Words.{cases_lt, cases_order, All-nil, All-push, all_pairs_push, Any-push, slice_get_within, same_Some, slice_get-get_or, Id, place_at, way_at, way_place, way_key, Way, BaseView, entry_of, Leads, Discovered, place, IsDiscovery, Pair, HasPair, PairLeads, IsBefore, HasFirstPair, FindsReached, Walk, IsRank, EntryIsFound}
 use Rattle.page_ids.specs.declared.way.Way.TheVariants.{Route, Next}
 use Rattle.frame_records.specs.declared.ways.Destination.TheVariants.{Found}
-use Rattle.frame_records.specs.BaseView.{BaseView}
-use Rattle.frame_records.specs.Seek.{entry_of}
-use Rattle.frame_records.specs.WayLaws.{going, offered_place}
-use Rattle.frame_records.specs.Ways.{Leads}
-use Rattle.finder.specs.declared.found.Discovered.{Discovered}
-use Rattle.finder.specs.Discovery.{place, IsDiscovery}
-use Rattle.finder.specs.Finds.{Pair, HasPair, PairLeads, IsBefore, HasFirstPair, FindsReached}
-use Rattle.finder.specs.Walks.{Walk, IsRank, EntryIsFound}
+use Rattle.finder.proofs.Within.{known_way}
 use Rattle.finder.proofs.Lists.{at_push, push_at, all_at, any_at, any_of, any_grown}
 
 -- the order of pairs is that of their places
@@ -46,9 +32,7 @@ module _ (caller : List ℕ) (base : BaseView) where
 
   pub way_known : (found : List Discovered) (p : Pair) (g : Id) → PairLeads caller base found p g
       → (way_place p.1 < 11) × (way_at (way_place p.1) ≡ p.1)
-  way_known found p g l =
-      let is = going caller base l.from.id p.1 (Found g l.leads.price) l.leads.found (λ same. absurd cc) in
-      offered_place is.frame p.1 is.to is.offered
+  way_known found p g l = known_way caller base l.from.id p.1 g l.leads
 
   module _ (found : List Discovered) (e : Discovered) (p : Pair) (g : Id) where
     grown : PairLeads caller base found p g → PairLeads caller base (found ++ e ∷ []) p g
@@ -80,13 +64,7 @@ module _ (caller : List ℕ) (base : BaseView) where
     pub passed : ((g : Id) → Leads caller base from.id (way_at way) g → Any (λ d. d.id ≡ g) found)
         → IsDiscovery caller base (index * 11 + way + 1) found
     passed here = record {
-      first = is.first;
-      entry = is.entry;
-      walked = is.walked;
-      ranks = is.ranks;
-      once = is.once;
-      pairs = is.pairs;
-      ascend = is.ascend;
+      listing = is.listing;
       before = λ k d lt p h. omega (arith, is.before k d lt p h);
       closed = closed_more found (λ g. Any (λ d. d.id ≡ g) found) index way from small stands is.closed here;
     }
@@ -130,13 +108,15 @@ module _ (caller : List ℕ) (base : BaseView) where
 
       pub pushed : IsDiscovery caller base (index * 11 + way + 1) more
       pushed = record {
-        first = λ d at. ⊎_elim (is.first d) (λ end. absurd (omega (arith, end.0, inside))) (at_push found e 0 d at);
-        entry = any_grown (λ d. d.id ≡ entry_of base) found e is.entry;
-        walked = All-push (λ d. (n : ℕ) × Walk caller base (entry_of base) d.id n) found e is.walked (let walk = all_at (λ d. (n : ℕ) × Walk caller base (entry_of base) d.id n) found index from is.walked stands in (suc walk.0, (from.id, way_at way, walk.1, leads)));
-        ranks = All-push (λ d. IsRank caller base d.id d.rank) found e is.ranks ranked;
-        once = all_pairs_push (λ d b. d.id ≡ b.id → ⊥) found e is.once (λ k d lt same. new (any_of (λ d. d.id ≡ id) found k _ (slice_get-get_or found k d lt) same));
-        pairs = λ i d at. ⊎_elim (λ old. kept d (is.pairs i d old)) (λ end. subst (HasFirstPair caller base more) end.1 first_pair) (at_push found e (i + 1) d at);
-        ascend = all_pairs_push (λ d b. (p q : Pair) → HasPair d p → HasPair b q → IsBefore p q) found e is.ascend (λ k d lt p q hp hq. let last = own q hq in place_before p q (omega (arith, last.1, small)) (omega (arith, is.before k d lt p hp, last.0, last.1)));
+        listing = record {
+          first = λ d at. ⊎_elim (is.listing.first d) (λ end. absurd (omega (arith, end.0, inside))) (at_push found e 0 d at);
+          entry = any_grown (λ d. d.id ≡ entry_of base) found e is.listing.entry;
+          walked = All-push (λ d. (n : ℕ) × Walk caller base (entry_of base) d.id n) found e is.listing.walked (let walk = all_at (λ d. (n : ℕ) × Walk caller base (entry_of base) d.id n) found index from is.listing.walked stands in (suc walk.0, (from.id, way_at way, walk.1, leads)));
+          ranks = All-push (λ d. IsRank caller base d.id d.rank) found e is.listing.ranks ranked;
+          once = all_pairs_push (λ d b. d.id ≡ b.id → ⊥) found e is.listing.once (λ k d lt same. new (any_of (λ d. d.id ≡ id) found k _ (slice_get-get_or found k d lt) same));
+          pairs = λ i d at. ⊎_elim (λ old. kept d (is.listing.pairs i d old)) (λ end. subst (HasFirstPair caller base more) end.1 first_pair) (at_push found e (i + 1) d at);
+          ascend = all_pairs_push (λ d b. (p q : Pair) → HasPair d p → HasPair b q → IsBefore p q) found e is.listing.ascend (λ k d lt p q hp hq. let last = own q hq in place_before p q (omega (arith, last.1, small)) (omega (arith, is.before k d lt p hp, last.0, last.1)));
+        };
         before = All-push (λ d. (p : Pair) → HasPair d p → place p < index * 11 + way + 1) found e (λ k d lt p h. omega (arith, is.before k d lt p h)) (λ p h. let last = own p h in omega (arith, last.0, last.1));
         closed = closed_more more (λ g. Any (λ d. d.id ≡ g) more) index way from small (push_at found e index from stands) (λ p g l lt. any_grown (λ d. d.id ≡ g) found e (is.closed p g (ungrown found e p g (omega (arith, lt, small, inside)) l) lt)) (λ g l. Any-push (λ d. d.id ≡ g) found e (one_end from.id (way_at way) id g leads l));
       }
@@ -147,20 +127,22 @@ module _ (caller : List ℕ) (base : BaseView) where
   started rank ranked =
       let e : Discovered = record { id = entry_of base; rank = rank; parent = None; key = None } in
       record {
-        first = λ d at. let same : e ≡ d = same_Some e d at in (ap (λ (x : Discovered). x.id) (sym same), ap (λ (x : Discovered). x.parent) (sym same), ap (λ (x : Discovered). x.key) (sym same));
-        entry = Any-push (λ d. d.id ≡ entry_of base) [] e refl;
-        walked = All-push (λ d. (n : ℕ) × Walk caller base (entry_of base) d.id n) [] e (All-nil _) (0, refl);
-        ranks = All-push (λ d. IsRank caller base d.id d.rank) [] e (All-nil _) ranked;
-        once = λ i j d lt end. absurd (omega (arith, lt, end));
-        pairs = λ i d at. absurd (omega (arith, slice_get_within (e ∷ []) (i + 1) d at));
-        ascend = λ i j d lt end. absurd (omega (arith, lt, end));
+        listing = record {
+          first = λ d at. let same : e ≡ d = same_Some e d at in (ap (λ (x : Discovered). x.id) (sym same), ap (λ (x : Discovered). x.parent) (sym same), ap (λ (x : Discovered). x.key) (sym same));
+          entry = Any-push (λ d. d.id ≡ entry_of base) [] e refl;
+          walked = All-push (λ d. (n : ℕ) × Walk caller base (entry_of base) d.id n) [] e (All-nil _) (0, refl);
+          ranks = All-push (λ d. IsRank caller base d.id d.rank) [] e (All-nil _) ranked;
+          once = λ i j d lt end. absurd (omega (arith, lt, end));
+          pairs = λ i d at. absurd (omega (arith, slice_get_within (e ∷ []) (i + 1) d at));
+          ascend = λ i j d lt end. absurd (omega (arith, lt, end));
+        };
         before = All-push (λ d. (p : Pair) → HasPair d p → place p < 0) [] e (All-nil _) (λ p h. let none = h.parent in absurd cc);
         closed = λ p g l lt. absurd (omega (arith, lt));
       }
 
   module _ (index : ℕ) (found : List Discovered) (is : IsDiscovery caller base (index * 11) found) (full : length found < index + 1) where
     listed : (n : ℕ) (g : Id) → Walk caller base (entry_of base) g n → Any (λ d. d.id ≡ g) found
-    listed zero g same = subst (λ x. Any (λ d. d.id ≡ x) found) same is.entry
+    listed zero g same = subst (λ x. Any (λ d. d.id ≡ x) found) same is.listing.entry
     listed (suc n) g walk =
         let there = any_at (λ d. d.id ≡ walk.0) found (listed n walk.0 walk.2) in
         let pair : Pair = (there.0, walk.1) in
@@ -170,15 +152,15 @@ module _ (caller : List ℕ) (base : BaseView) where
     -- then all are listed that are reached
     pub finds_reached : EntryIsFound caller base → FindsReached caller base found
     finds_reached entry = record {
-      first = is.first;
+      first = is.listing.first;
       reached = λ id. (
         (λ r. listed r.steps id r.walk),
         (λ some.
             let there = any_at (λ d. d.id ≡ id) found some in
-            let walk = all_at (λ d. (n : ℕ) × Walk caller base (entry_of base) d.id n) found there.0 there.1 is.walked there.2 in
+            let walk = all_at (λ d. (n : ℕ) × Walk caller base (entry_of base) d.id n) found there.0 there.1 is.listing.walked there.2 in
             record { steps = walk.0; entry = entry; walk = subst (λ x. Walk caller base (entry_of base) x walk.0) there.3 walk.1 }),
       );
-      once = is.once;
-      pairs = is.pairs;
-      ascend = is.ascend;
+      once = is.listing.once;
+      pairs = is.listing.pairs;
+      ascend = is.listing.ascend;
     }

@@ -1,7 +1,6 @@
 -- What stands in a list with one more at its end, and in a list with one changed.
-use Rattle.std.proofs.Common.{◌≡◌, ◌<◌, ◌≤◌, ◌⊎◌, inl, inr, ℕ, zero, suc, Bool, true, false, List, [], ◌∷◌, ◌++◌, Option, Some, None, map, option_map, slice_get, length, get_or, set, All, AllPairs, Any, sym, ◌∙◌, ap, subst, refl, length-append, arith}
-use Rattle.std.proofs.lemmas.List.{get_or-set_other, get_or_append_left}
-use Rattle.std.proofs.lemmas.Option.{same_Some, slice_get-map, slice_get_within, slice_get_read, get_or_from_slice_get}
+use Rattle.std.proofs.Common.{◌≡◌, ◌<◌, ◌≤◌, ◌⊎◌, inl, inr, ℕ, zero, suc, Bool, true, false, List, [], ◌∷◌, ◌++◌, Option, Some, None, map, option_map, slice_get, length, get_or, set, All, AllPairs, Any, sym, ◌∙◌, ap, subst, refl, ⊎_elim, length-append, arith}
+use Rattle.finder.proofs.Words.{get_or-set_other, get_or_append_left, same_Some, slice_get-map, slice_get_cases, slice_get_within, slice_get_read, get_or_from_slice_get}
 
 pub at_push : {X : Type 0} (xs : List X) (y : X) (j : ℕ) (x : X) → slice_get (xs ++ y ∷ []) j ≡ Some x
     → (slice_get xs j ≡ Some x) ⊎ ((j ≡ length xs) × (y ≡ x))
@@ -21,9 +20,10 @@ push_at (z ∷ zs) y zero x h = h
 push_at (z ∷ zs) y (suc j) x h = push_at zs y j x h
 
 pub none_past : {X : Type 0} (xs : List X) (j : ℕ) → slice_get xs j ≡ None → length xs ≤ j
-none_past [] j none = omega arith
-none_past (z ∷ zs) zero none = absurd cc
-none_past (z ∷ zs) (suc j) none = omega (arith, none_past zs j none)
+none_past xs j none = ⊎_elim (λ inside. let some = inside.2 in absurd cc) (λ past. past.0) (slice_get_cases xs j).1
+
+pub at_within : {X : Type 0} (xs : List X) (j : ℕ) → j < length xs → (x : X) × (slice_get xs j ≡ Some x)
+at_within xs j lt = ⊎_elim (λ inside. (inside.0, inside.2)) (λ past. absurd (omega (arith, past.0, lt))) (slice_get_cases xs j).1
 
 -- what holds of each holds of the one at an index
 pub all_at : {X : Type 0} (P : X → Type 0) (xs : List X) (j : ℕ) (x : X) → All P xs → slice_get xs j ≡ Some x → P x
@@ -54,13 +54,15 @@ pub pairs_at : {X : Type 0} (R : X → X → Type 0) (xs : List X) (i j : ℕ) (
     → slice_get xs i ≡ Some x → slice_get xs j ≡ Some y → R x y
 pairs_at R xs i j x y all lt at there = subst (R x) (get_or_from_slice_get xs j y x there) (subst (λ z. R z (get_or xs j x)) (get_or_from_slice_get xs i x x at) (all i j x lt (slice_get_within xs j y there)))
 
+pub mapped : {X Y : Type 0} (f : X → Y) (o : Option X) (y : Y) → option_map f o ≡ Some y
+    → (x : X) × (o ≡ Some x) × (f x ≡ y)
+mapped f None y e = absurd cc
+mapped f (Some x) y e = (x, refl, same_Some (f x) y e)
+
 -- what stands in a list of images
 pub image_at : {X Y : Type 0} (f : X → Y) (xs : List X) (i : ℕ) (y : Y) → slice_get (map f xs) i ≡ Some y
     → (x : X) × (slice_get xs i ≡ Some x) × (f x ≡ y)
-image_at {X} f xs i y e = by (slice_get xs i) refl (sym (slice_get-map f xs i) ∙ e) where
-  by : (o : Option X) → slice_get xs i ≡ o → option_map f o ≡ Some y → (x : X) × (slice_get xs i ≡ Some x) × (f x ≡ y)
-  by None is e = absurd cc
-  by (Some x) is e = (x, is, same_Some (f x) y e)
+image_at f xs i y e = mapped f (slice_get xs i) y (sym (slice_get-map f xs i) ∙ e)
 
 pub at_image : {X Y : Type 0} (f : X → Y) (xs : List X) (i : ℕ) (x : X) → slice_get xs i ≡ Some x
     → slice_get (map f xs) i ≡ Some (f x)

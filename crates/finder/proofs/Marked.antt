@@ -1,38 +1,15 @@
 -- Which nodes are marked, and what a way of a listed frame's node does.
-use Rattle.std.proofs.Common.{◌≡◌, ◌<◌, ◌≤◌, ◌+◌, ◌*◌, ℕ, Bool, true, false, List, [], ◌∷◌, ◌++◌, Option, Some, None, map, slice_get, length, get_or, set, refl, sym, ◌∙◌, ap, subst, ⊎_elim, length-append, replicate, arith, Any}
-use Rattle.std.specs.Map.{lookup, values_of}
-use Rattle.std.proofs.lemmas.Bool.{cases_eq}
-use Rattle.std.proofs.lemmas.Grind.{common_steps, get_or-set_at}
-use Rattle.std.proofs.lemmas.Map.Entries.{place_from_lookup}
-use Rattle.std.proofs.lemmas.List.{get_or-set_other, get_or-replicate, length-replicate, map_push}
+use Rattle.std.proofs.Common.{◌≡◌, ◌<◌, ◌≤◌, ◌+◌, ◌*◌, ℕ, Bool, true, false, cond, List, [], ◌∷◌, ◌++◌, Option, Some, None, map, slice_get, length, get_or, set, refl, sym, ◌∙◌, ap, subst, ⊎_elim, length-append, replicate, arith, Any}
+use Rattle.finder.proofs.Words.{lookup, values_of, cases_eq, common_steps, get_or-set_at, place_from_lookup, get_or-set_other, get_or-replicate, length-replicate, map_push, All-nil, All-push, Any-push, sum_by-set, count_by-le-length, same_Some, Id, id_eq, id_eq_same, entry_of, Reached, Discovered, Graph, IsDiscovery, AreMarked, IsListed, discovered_of, target, IsNodeRank, id_at}
 use Rattle.std.proofs.lemmas.List.Folds.{sum_by-replicate}
-use Rattle.std.proofs.lemmas.List.Elements.{All-nil, All-push}
-use Rattle.std.proofs.lemmas.List.Quantifiers.{Any-push}
-use Rattle.std.proofs.lemmas.List.Sums.{sum_by-set, sum_by-le}
-use Rattle.std.proofs.lemmas.Option.{same_Some}
-use Rattle.page_ids.specs.Id.{Id}
-use Rattle.page_ids.specs.Ids.{id_eq}
-use Rattle.page_ids.specs.IdLaws.{id_eq_same}
-use Rattle.frame_records.specs.Seek.{entry_of}
-use Rattle.finder.specs.declared.discover.Reached.{Reached}
-use Rattle.finder.specs.declared.found.Discovered.{Discovered}
-use Rattle.finder.specs.declared.graph.Graph.{Graph}
-use Rattle.finder.specs.Discovery.{one_if_true, IsDiscovery, AreMarked, IsListed}
-use Rattle.finder.specs.Entries.{discovered_of}
-use Rattle.finder.specs.Graph.{target, IsNodeRank}
-use Rattle.finder.specs.Targets.{id_at}
 use Rattle.finder.proofs.Within.{to_within}
 use Rattle.finder.proofs.Listed.{passed, pushed, started}
 use Rattle.finder.proofs.Lists.{at_push, all_at, any_at, any_of, set_kept, any_grown, true_within, image_at, at_image}
 use Rattle.finder.proofs.Steps.{one_place, leads_id, leads_to, rank_ids}
 
-one_le : (b : Bool) → one_if_true b ≤ 1
-one_le false = omega arith
-one_le true = omega arith
-
 module _ (graph : Graph) (entries : List (Id × Reached)) (listed : List Bool) (are : AreMarked graph entries listed) where
   pub few : length entries ≤ graph.table.count
-  few = omega (arith, are.count, are.nodes, sum_by-le one_if_true 1 listed (λ k d lt. one_le (get_or listed k d)))
+  few = omega (arith, are.count, are.nodes, count_by-le-length (λ b. b) listed)
 
   module _ (node : ℕ) (id : Id) (at : id_at graph.table.base.now.frames node ≡ Some id) where
     -- the frame of a marked node is listed
@@ -72,7 +49,7 @@ module _ (graph : Graph) (entries : List (Id × Reached)) (listed : List Bool) (
             named = λ i e there. ⊎_elim (λ old. are.named i e old) (λ last. ap (λ (x : Id × Reached). id_at graph.table.base.now.frames x.1.node) (sym last.1) ∙ ap (id_at graph.table.base.now.frames) node_is ∙ at ∙ ap (λ (x : Id × Reached). Some x.0) last.1) (at_push entries (id, r) i e there);
             marked = λ g h. ⊎_elim (λ same. Any-push (λ e. e.1.node ≡ g) entries (id, r) (node_is ∙ sym same)) (λ other. any_grown (λ e. e.1.node ≡ g) entries (id, r) (are.marked g (sym (get_or-set_other listed node g true false other) ∙ h))) (cases_eq g node);
             marks = All-push (λ e. get_or (set listed node true) e.1.node false ≡ true) entries (id, r) (λ k d lt. kept (get_or entries k d).1.node (are.marks k d lt)) (get_or-set_at listed node r.node true false node_is inside);
-            count = omega (arith, sum_by-set one_if_true listed node true false inside, ap one_if_true new, are.count, length-append entries ((id, r) ∷ []));
+            count = omega (arith, sum_by-set (λ b. cond b 1 0) listed node true false inside, ap {B = ℕ} (λ b. cond b 1 0) new, are.count, length-append entries ((id, r) ∷ []));
           }
 
 -- no node
@@ -82,7 +59,7 @@ marked_none graph = record {
   named = λ i e there. absurd cc;
   marked = λ g h. let past = get_or-replicate graph.table.count g false false (omega (arith, true_within (replicate graph.table.count false) g h, length-replicate graph.table.count false)) in absurd cc;
   marks = All-nil _;
-  count = sum_by-replicate one_if_true graph.table.count false ∙ omega arith;
+  count = sum_by-replicate (λ b. cond b 1 0) graph.table.count false ∙ omega arith;
 }
 
 pub entry_listed : (graph : Graph) (id : Id) (rank : Option ℕ) → id_at graph.table.base.now.frames graph.entry ≡ Some id

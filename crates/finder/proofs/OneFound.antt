@@ -1,17 +1,7 @@
 -- Two lists of the reached frames with their ranks are one.
 use Rattle.std.proofs.Common.{◌≡◌, ◌<◌, ◌≤◌, ℕ, zero, suc, add-one, List, [], ◌∷◌, Option, Some, None, slice_get, refl, sym, ◌∙◌, ap, subst, ⊎_elim, arith}
-use Rattle.std.proofs.lemmas.Bool.{cases_lt}
-use Rattle.std.proofs.lemmas.Option.{same_Some, slice_get_within}
-use Rattle.page_ids.specs.Id.{Id}
-use Rattle.page_ids.specs.declared.key.Key.{Key}
-use Rattle.page_ids.specs.Ways.{way_at, way_key}
-use Rattle.frame_records.specs.BaseView.{BaseView}
-use Rattle.frame_records.specs.Ways.{Leads}
-use Rattle.finder.specs.declared.found.Discovered.{Discovered}
-use Rattle.finder.specs.Discovery.{place}
-use Rattle.finder.specs.Finds.{Pair, HasPair, PairLeads, IsBefore, HasFirstPair, FindsReached, RanksAreLeast}
+use Rattle.finder.proofs.Words.{cases_lt, same_Some, slice_get_within, Id, Key, way_at, way_key, BaseView, Leads, Discovered, place, Pair, HasPair, PairLeads, IsBefore, HasFirstPair, FindsReached, RanksAreLeast, IsRank}
 use Rattle.finder.specs.FoundLaws.{FoundIsOne}
-use Rattle.finder.specs.Walks.{IsRank}
 use Rattle.finder.proofs.Lists.{all_at, pairs_at, none_past}
 use Rattle.finder.proofs.Listed.{place_before, before_place, one_end, way_known}
 use Rattle.finder.proofs.Scripted.{one_index, listed_at, reached_at, earlier}

@@ -1,14 +1,7 @@
 -- The places of ascending frames, and their ids.
-use Rattle.std.proofs.Common.{◌≡◌, ◌<◌, ℕ, List, Some, slice_get, get_or, length, refl, sym, ◌∙◌, ap, ⊎_elim}
-use Rattle.std.proofs.lemmas.Bool.{cases_order}
-use Rattle.std.proofs.lemmas.Option.{slice_get_within, slice_get_read, get_or_from_slice_get}
-use Rattle.page_ids.specs.Id.{Id}
-use Rattle.page_ids.specs.Ids.{id_eq}
-use Rattle.page_ids.specs.IdLaws.{id_eq_same, id_eq_refl}
-use Rattle.frame_records.specs.declared.frame.Frame.{Frame}
-use Rattle.frame_records.specs.BaseView.{IsAscending, frame_among}
-use Rattle.frame_records.proofs.Finds.{first_found, find_first}
-use Rattle.frame_records.proofs.SortedFrames.{apart_at}
+use Rattle.std.proofs.Common.{◌≡◌, ◌<◌, ℕ, List, Some, slice_get, get_or, sym, ◌∙◌, ap, ⊎_elim}
+use Rattle.finder.proofs.Words.{cases_order, slice_get_within, get_or_from_slice_get, Id, id_eq, id_eq_refl, Frame, IsAscending, frame_among, id_at, find_first, apart_at}
+use Rattle.finder.proofs.Lists.{mapped}
 
 module _ (frames : List Frame) (up : IsAscending frames) where
   no_later : (i j : ℕ) (f g : Frame) → slice_get frames i ≡ Some f → slice_get frames j ≡ Some g → f.id ≡ g.id → i < j
@@ -33,9 +26,7 @@ module _ (frames : List Frame) (up : IsAscending frames) where
       let inside = slice_get_within frames i f at in
       find_first (λ g. id_eq g.id f.id) frames i f inside here (id_eq_refl f.id) (λ k lt. ap (λ (g : Frame). id_eq (get_or frames k f).id g.id) (sym here) ∙ apart_at frames i k f up lt inside)
 
--- the frame of an id stands at a place
-pub place_there : (frames : List Frame) (id : Id) (f : Frame) → frame_among frames id ≡ Some f
-    → (i : ℕ) × (slice_get frames i ≡ Some f) × (f.id ≡ id)
-place_there frames id f e =
-    let first = first_found (λ g. id_eq g.id id) frames f e in
-    (first.0, slice_get_read frames (length frames) first.0 f refl first.1.within (sym (first.1.at f)), id_eq_same f.id id first.1.passes)
+-- the frame at a place
+pub id_stands : (frames : List Frame) (j : ℕ) (to : Id) → id_at frames j ≡ Some to
+    → (f : Frame) × (slice_get frames j ≡ Some f) × (f.id ≡ to)
+id_stands frames j to e = mapped (λ (f : Frame). f.id) (slice_get frames j) to e

@@ -1,21 +1,7 @@
 -- The scripts of a list of the reached frames lead to them.
 use Rattle.std.proofs.Common.{◌≡◌, ◌<◌, ◌+◌, ◌-◌, ℕ, zero, suc, List, [], ◌∷◌, ◌++◌, Option, Some, None, refl, sym, ◌∙◌, ap, append_assoc, arith, ◌≤◌, inl, add-one, slice_get, get_or, subst, ⊎_elim, length, reverse}
-use Rattle.std.proofs.lemmas.List.{append-nil}
+use Rattle.finder.proofs.Words.{append-nil, cases_lt, cases_order, same_Some, slice_get_within, slice_get-get_or, reverse_onto, Key, Id, Way, way_key, BaseView, entry_of, Leads, Discovered, parent_of, keys_along, keys_back, parent_by, script, ScriptsLead, Pair, HasPair, PairLeads, IsBefore, HasFirstPair, FindsReached, Walk, IsReached, KeysLead}
 use Rattle.std.specs.Prelude.{slice_get}
-use Rattle.std.proofs.lemmas.Bool.{cases_lt, cases_order}
-use Rattle.std.proofs.lemmas.Option.{same_Some, slice_get_within, slice_get-get_or}
-use Rattle.std.proofs.lemmas.Grind.{reverse_onto}
-use Rattle.page_ids.specs.declared.key.Key.{Key}
-use Rattle.page_ids.specs.Id.{Id}
-use Rattle.page_ids.specs.declared.way.Way.{Way}
-use Rattle.page_ids.specs.Ways.{way_key}
-use Rattle.frame_records.specs.BaseView.{BaseView}
-use Rattle.frame_records.specs.Seek.{entry_of}
-use Rattle.frame_records.specs.Ways.{Leads}
-use Rattle.finder.specs.declared.found.Discovered.{Discovered}
-use Rattle.finder.specs.Scripts.{parent_of, keys_along, keys_back, parent_by, script, ScriptsLead}
-use Rattle.finder.specs.Finds.{Pair, HasPair, PairLeads, IsBefore, HasFirstPair, FindsReached}
-use Rattle.finder.specs.Walks.{Walk, IsReached, KeysLead}
 use Rattle.finder.proofs.Lists.{any_at, any_of, pairs_at}
 
 -- without a parent there is no key
@@ -126,22 +112,13 @@ module _ (caller : List ℕ) (base : BaseView) (found : List Discovered) (finds 
         let same : (h.pair.0, way_key h.pair.1) ≡ p = same_Some (h.pair.0, way_key h.pair.1) p (sym (ap (λ a. parent_by a d.key) h.has.parent ∙ ap (parent_by (Some h.pair.0)) h.has.key) ∙ e) in
         subst (IsChild (suc i)) same (record { d = d; stands = is; way = h.pair.1; key = refl; leads = h.leads; before = earlier caller base found finds (suc i) d h.pair is h.has })
 
-  -- the first frame has no parent
-  alone : parent_of (slice_get found 0) ≡ None
-  alone = by (slice_get found 0) refl where
-    by : (o : Option Discovered) → slice_get found 0 ≡ o → parent_of o ≡ None
-    by None is = refl
-    by (Some d) is = ap (λ a. parent_by a d.key) (finds.first d is).1
-
-  -- so many turns are enough
-  enough : (n m i : ℕ) → i ≤ n → i ≤ m → keys_back found n i ≡ keys_back found m i
-  enough zero zero i low less = refl
-  enough zero (suc m) i low less = let first : i ≡ 0 = omega (arith, low) in sym (ap (λ k. keys_along (keys_back found m) (parent_of (slice_get found k))) first ∙ ap (keys_along (keys_back found m)) alone)
-  enough (suc n) zero i low less = let first : i ≡ 0 = omega (arith, less) in ap (λ k. keys_along (keys_back found n) (parent_of (slice_get found k))) first ∙ ap (keys_along (keys_back found n)) alone
-  enough (suc n) (suc m) i low less = by (λ p is. let child = child_at i p is in enough n m p.0 (omega (arith, child.before, low)) (omega (arith, child.before, less))) (parent_of (slice_get found i)) refl where
-    by : ((p : ℕ × Key) → parent_of (slice_get found i) ≡ Some p → keys_back found n p.0 ≡ keys_back found m p.0)
+  -- each turn more changes nothing, where there are enough
+  steady : (n i : ℕ) → i < n → keys_back found n i ≡ keys_back found (suc n) i
+  steady zero i lt = absurd (omega (arith, lt))
+  steady (suc n) i lt = by (λ p is. steady n p.0 (omega (arith, (child_at i p is).before, lt))) (parent_of (slice_get found i)) refl where
+    by : ((p : ℕ × Key) → parent_of (slice_get found i) ≡ Some p → keys_back found n p.0 ≡ keys_back found (suc n) p.0)
         → (o : Option (ℕ × Key)) → parent_of (slice_get found i) ≡ o
-        → keys_along (keys_back found n) o ≡ keys_along (keys_back found m) o
+        → keys_along (keys_back found n) o ≡ keys_along (keys_back found (suc n)) o
     by rest None is = refl
     by rest (Some p) is = ap (λ (keys : List Key). p.1 ∷ keys) (rest p is)
 
@@ -149,10 +126,10 @@ module _ (caller : List ℕ) (base : BaseView) (found : List Discovered) (finds 
       → script found i ≡ script found p.0 ++ p.1 ∷ []
   one_more i p is =
       let child = child_at i p is in
-      let inside = slice_get_within found i child.d child.stands in
-      let back = enough (length found) (suc i) i (omega (arith, inside)) (omega arith) in
-      let rest = enough i (length found) p.0 (omega (arith, child.before)) (omega (arith, child.before, inside)) in
-      ap reverse (back ∙ ap (keys_along (keys_back found i)) is ∙ ap (λ (keys : List Key). p.1 ∷ keys) rest) ∙ reverse_onto (keys_back found (length found) p.0) p.1 []
+      let last = length found - 1 in
+      let full : length found ≡ suc last = omega (arith, slice_get_within found i child.d child.stands) in
+      let rest = steady last p.0 (omega (arith, child.before, full, slice_get_within found i child.d child.stands)) ∙ ap (λ n. keys_back found n p.0) (sym full) in
+      ap reverse (ap (λ n. keys_back found n i) full ∙ ap (keys_along (keys_back found last)) is ∙ ap (λ (keys : List Key). p.1 ∷ keys) rest) ∙ reverse_onto (keys_back found (length found) p.0) p.1 []
 
   none_back : (i : ℕ) → parent_of (slice_get found i) ≡ None → script found i ≡ []
   none_back i none = ap reverse (back_none found (length found) i none)

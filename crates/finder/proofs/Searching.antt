@@ -1,18 +1,7 @@
 -- The search back from the entry frame.
-use Rattle.std.proofs.Common.{◌≡◌, ◌<◌, ◌≤◌, ◌+◌, ℕ, zero, suc, List, [], ◌∷◌, ◌++◌, Option, Some, None, is_some, false, true, slice_get, length, get_or, set, Contains, refl, sym, ◌∙◌, ap, subst, ⊎_elim, add-one, length-append, arith, ◌*◌, All}
-use Rattle.std.proofs.lemmas.Bool.{cases_eq}
-use Rattle.std.proofs.lemmas.Grind.{common_steps, get_or-set_at}
-use Rattle.std.proofs.lemmas.List.{get_or-set_other, get_or_append_left, get_or_default}
-use Rattle.std.proofs.lemmas.List.Elements.{All-push, All-contains, Contains-push, Contains-append_left, AllWithin-more}
-use Rattle.std.proofs.lemmas.List.Quantifiers.{all_pairs_push}
-use Rattle.std.proofs.lemmas.List.Sums.{sum_by-set, sum_by-le}
-use Rattle.std.proofs.lemmas.Option.{slice_get_within, same_Some, get_or_from_slice_get}
-use Rattle.smallvec.specs.SmallVec.{SmallVec}
-use Rattle.finder.specs.declared.graph.Graph.{Graph}
+use Rattle.std.proofs.Common.{◌≡◌, ◌<◌, ◌≤◌, ◌+◌, ℕ, zero, suc, List, [], ◌∷◌, ◌++◌, Option, Some, None, is_some, cond, false, true, slice_get, length, get_or, set, Contains, refl, sym, ◌∙◌, ap, subst, ⊎_elim, add-one, length-append, arith, ◌*◌, All}
+use Rattle.finder.proofs.Words.{cases_eq, common_steps, get_or-set_at, get_or-set_other, get_or_append_left, get_or_default, All-push, All-contains, Contains-push, Contains-append_left, AllWithin-more, all_pairs_push, sum_by-set, count_by-le-length, slice_get_within, same_Some, get_or_from_slice_get, SmallVec, Graph, target, NodeWalk, IsNodeRank, LeadsTo, AreTurned, IsSourceList, HasRank, IsSearch, IsClosed}
 use Rattle.finder.specs.declared.ranks.Ranked.{Ranked}
-use Rattle.finder.specs.Graph.{target, NodeWalk, IsNodeRank}
-use Rattle.finder.specs.Turned.{LeadsTo, AreTurned, IsSourceList}
-use Rattle.finder.specs.Search.{HasRank, one_if_some, IsSearch, IsClosed}
 use Rattle.finder.proofs.Within.{from_within}
 use Rattle.finder.proofs.Lists.{at_push, push_at, all_at, set_kept}
 
@@ -30,13 +19,9 @@ some_of : {X : Type 0} (o : Option X) → true ≡ is_some o → (x : X) × (o �
 some_of None h = absurd cc
 some_of (Some x) h = (x, refl)
 
-one_le : (o : Option ℕ) → one_if_some o ≤ 1
-one_le None = omega arith
-one_le (Some n) = omega arith
-
 pub few : (graph : Graph) (done : ℕ) (queue : List Ranked) (ranks : List (Option ℕ)) → IsSearch graph done queue ranks
     → length queue ≤ graph.table.count
-few graph done queue ranks is = omega (arith, is.count, is.nodes, sum_by-le one_if_some 1 ranks (λ k d lt. one_le (get_or ranks k d)))
+few graph done queue ranks is = omega (arith, is.ranked.count, is.ranked.nodes, count_by-le-length is_some ranks)
 
 pub kept : (ranks : List (Option ℕ)) (f r g n : ℕ) → get_or ranks f None ≡ None → get_or ranks g None ≡ Some n
     → get_or (set ranks f (Some r)) g None ≡ Some n
@@ -47,34 +32,36 @@ module _ (graph : Graph) (done : ℕ) (queue : List Ranked) (ranks : List (Optio
   pub is_near : true ≡ is_some (get_or ranks f None) → HasRank ranks f (to.rank + 1)
   is_near h =
       let some = some_of (get_or ranks f None) h in
-      (some.0, some.1, All-contains (λ d. d.rank ≤ to.rank + 1) queue (record { node = f; rank = some.0 }) (is.near to waits) (is.queued f some.0 some.1))
+      (some.0, some.1, All-contains (λ d. d.rank ≤ to.rank + 1) queue (record { node = f; rank = some.0 }) (is.near to waits) (is.ranked.queued f some.0 some.1))
 
   pub fits : to.rank + 1 ≤ graph.table.count
-  fits = omega (arith, is.low done to waits, slice_get_within queue done to waits, few graph done queue ranks is)
+  fits = omega (arith, is.ranked.low done to waits, slice_get_within queue done to waits, few graph done queue ranks is)
 
   pub inside : f < length ranks
-  inside = omega (arith, from_within graph f leads.0 to.node leads.1 leads.2, is.nodes)
+  inside = omega (arith, from_within graph f leads.0 to.node leads.1 leads.2, is.ranked.nodes)
 
   pub marked : get_or ranks f None ≡ None
       → IsSearch graph done (queue ++ record { node = f; rank = to.rank + 1 } ∷ []) (set ranks f (Some (to.rank + 1)))
   marked new =
       let e : Ranked = record { node = f; rank = to.rank + 1 } in
-      let walk : NodeWalk graph to.node graph.entry to.rank = all_at (λ d. NodeWalk graph d.node graph.entry d.rank) queue done to is.walks waits in
+      let walk : NodeWalk graph to.node graph.entry to.rank = all_at (λ d. NodeWalk graph d.node graph.entry d.rank) queue done to is.ranked.walks waits in
       record {
-        nodes = grind (arith, common_steps);
-        entry_is = kept ranks f (to.rank + 1) graph.entry 0 new is.entry_is;
-        queued = λ g n h.
-            ⊎_elim (λ same.
-            let here : Some n ≡ Some (to.rank + 1) = sym h ∙ get_or-set_at ranks f g (Some (to.rank + 1)) None same inside in
-            let node : f ≡ g = sym same in
-            let rank : to.rank + 1 ≡ n = cc in
-            let is_e : e ≡ record { node = g; rank = n } = cc in
-            subst (Contains (queue ++ e ∷ [])) is_e (Contains-push queue e)) (λ other. Contains-append_left queue (e ∷ []) (record { node = g; rank = n }) (is.queued g n (sym (get_or-set_other ranks f g (Some (to.rank + 1)) None other) ∙ h))) (cases_eq g f);
-        count = omega (arith, sum_by-set one_if_some ranks f (Some (to.rank + 1)) None inside, ap one_if_some new, is.count, length-append queue (e ∷ []));
-        inside = All-push (λ d. d.node < graph.table.count) queue e is.inside (omega (arith, inside, is.nodes));
-        walks = All-push (λ d. NodeWalk graph d.node graph.entry d.rank) queue e is.walks (rw add-one (step_back graph f leads.0 to.node graph.entry to.rank leads.1 leads.2 walk));
-        ascend = all_pairs_push (λ d b. d.rank ≤ b.rank) queue e is.ascend (is.near to waits);
-        low = λ i b at. ⊎_elim (λ old. is.low i b old) (λ end. let rank : to.rank + 1 ≡ b.rank = ap (λ (d : Ranked). d.rank) end.1 in omega (arith, end.0, rank, is.low done to waits, slice_get_within queue done to waits)) (at_push queue e i b at);
+        ranked = record {
+          nodes = grind (arith, common_steps);
+          entry_is = kept ranks f (to.rank + 1) graph.entry 0 new is.ranked.entry_is;
+          queued = λ g n h.
+              ⊎_elim (λ same.
+              let here : Some n ≡ Some (to.rank + 1) = sym h ∙ get_or-set_at ranks f g (Some (to.rank + 1)) None same inside in
+              let node : f ≡ g = sym same in
+              let rank : to.rank + 1 ≡ n = cc in
+              let is_e : e ≡ record { node = g; rank = n } = cc in
+              subst (Contains (queue ++ e ∷ [])) is_e (Contains-push queue e)) (λ other. Contains-append_left queue (e ∷ []) (record { node = g; rank = n }) (is.ranked.queued g n (sym (get_or-set_other ranks f g (Some (to.rank + 1)) None other) ∙ h))) (cases_eq g f);
+          count = omega (arith, sum_by-set (λ o. cond (is_some o) 1 0) ranks f (Some (to.rank + 1)) None inside, ap {B = ℕ} (λ o. cond (is_some o) 1 0) new, is.ranked.count, length-append queue (e ∷ []));
+          inside = All-push (λ d. d.node < graph.table.count) queue e is.ranked.inside (omega (arith, inside, is.ranked.nodes));
+          walks = All-push (λ d. NodeWalk graph d.node graph.entry d.rank) queue e is.ranked.walks (rw add-one (step_back graph f leads.0 to.node graph.entry to.rank leads.1 leads.2 walk));
+          ascend = all_pairs_push (λ d b. d.rank ≤ b.rank) queue e is.ranked.ascend (is.near to waits);
+          low = λ i b at. ⊎_elim (λ old. is.ranked.low i b old) (λ end. let rank : to.rank + 1 ≡ b.rank = ap (λ (d : Ranked). d.rank) end.1 in omega (arith, end.0, rank, is.ranked.low done to waits, slice_get_within queue done to waits)) (at_push queue e i b at);
+        };
         near = λ b at.
             let to_is : to ≡ b = same_Some to b (sym (push_at queue e done to waits) ∙ at) in
             All-push (λ d. d.rank ≤ b.rank + 1) queue e (is.near b (waits ∙ ap Some to_is)) (subst (λ (d : Ranked). to.rank + 1 ≤ d.rank + 1) to_is (omega arith));
@@ -88,25 +75,18 @@ pub finished : (graph : Graph) (done : ℕ) (queue : List Ranked) (ranks : List 
     → IsSearch graph done queue ranks → slice_get queue done ≡ Some to → IsClosed graph ranks to
     → IsSearch graph (done + 1) queue ranks
 finished graph done queue ranks to is waits closed = record {
-  nodes = is.nodes;
-  entry_is = is.entry_is;
-  queued = is.queued;
-  count = is.count;
-  inside = is.inside;
-  walks = is.walks;
-  ascend = is.ascend;
-  low = is.low;
+  ranked = is.ranked;
   near = λ e next k d lt.
       let here = get_or_from_slice_get queue done to d waits in
       let there = get_or_from_slice_get queue (done + 1) e d next in
-      let up = is.ascend done (done + 1) d (omega arith) (slice_get_within queue (done + 1) e next) in
+      let up = is.ranked.ascend done (done + 1) d (omega arith) (slice_get_within queue (done + 1) e next) in
       omega (arith, is.near to waits k d lt, ap (λ (x : Ranked). x.rank) here, ap (λ (x : Ranked). x.rank) there, up);
   closed = AllWithin-more (IsClosed graph ranks) queue 0 done is.closed (λ d. subst (IsClosed graph ranks) (sym (get_or_from_slice_get queue done to d waits)) closed);
 }
 
 pub node_inside : (graph : Graph) (done : ℕ) (queue : List Ranked) (ranks : List (Option ℕ)) (to : Ranked)
     → IsSearch graph done queue ranks → slice_get queue done ≡ Some to → to.node < graph.table.count
-node_inside graph done queue ranks to is waits = subst (λ (d : Ranked). d.node < graph.table.count) (get_or_from_slice_get queue done to to waits) (is.inside done to (slice_get_within queue done to waits))
+node_inside graph done queue ranks to is waits = subst (λ (d : Ranked). d.node < graph.table.count) (get_or_from_slice_get queue done to to waits) (is.ranked.inside done to (slice_get_within queue done to waits))
 
 -- each node that leads to the one at hand is among its sources
 pub all_ranked : (graph : Graph) (sources : List (SmallVec ℕ)) (fs : List ℕ) (ranks : List (Option ℕ)) (to : Ranked)
@@ -131,7 +111,7 @@ module _ (graph : Graph) (done : ℕ) (queue : List Ranked) (ranks : List (Optio
   step : (f h way m : ℕ) → way < 11 → target graph f way ≡ Some h → HasRank ranks h m → HasRank ranks f (m + 1)
   step f h way m small leads has =
       let e : Ranked = record { node = h; rank = has.0 } in
-      let there : Contains queue e = is.queued h has.0 has.1 in
+      let there : Contains queue e = is.ranked.queued h has.0 has.1 in
       let closed : IsClosed graph ranks e = subst (IsClosed graph ranks) there.2 (is.closed there.0 e (omega arith) (omega (arith, there.1, full))) in
       let next = closed f (way, small, leads) in
       (next.0, next.1, omega (arith, next.2, has.2))
@@ -143,12 +123,12 @@ module _ (graph : Graph) (done : ℕ) (queue : List Ranked) (ranks : List (Optio
       (before.0, before.1, omega (arith, before.2))
 
   at_most : (f m : ℕ) → NodeWalk graph f graph.entry m → HasRank ranks f (0 + m)
-  at_most f m walk = back m f graph.entry 0 walk (0, is.entry_is, omega arith)
+  at_most f m walk = back m f graph.entry 0 walk (0, is.ranked.entry_is, omega arith)
 
   is_rank : (f : ℕ) (rank : Option ℕ) → get_or ranks f None ≡ rank → IsNodeRank graph f rank
   is_rank f None none = λ m walk. let has = at_most f m walk in let some = has.1 in absurd cc
   is_rank f (Some n) some = record {
-    walk = All-contains (λ e. NodeWalk graph e.node graph.entry e.rank) queue (record { node = f; rank = n }) is.walks (is.queued f n some);
+    walk = All-contains (λ e. NodeWalk graph e.node graph.entry e.rank) queue (record { node = f; rank = n }) is.ranked.walks (is.ranked.queued f n some);
     least = λ m walk. let has = at_most f m walk in omega (arith, has.2, same_Some n has.0 (sym some ∙ has.1));
   }
 

@@ -1,24 +1,9 @@
 -- Ids of nodes, and the ways between them.
 use Rattle.std.proofs.Common.{◌≡◌, ℕ, List, Option, Some, None, option_map, get_or, refl, sym, ◌∙◌, ap, ◌<◌, ◌+◌, ◌*◌, zero, suc, subst, arith}
-use Rattle.std.proofs.lemmas.Option.{same_Some, slice_get_within}
-use Rattle.page_ids.specs.Id.{Id}
-use Rattle.page_ids.specs.declared.way.Way.{Way}
-use Rattle.page_ids.specs.WayLaws.{place_at}
-use Rattle.page_ids.specs.Ways.{way_at, way_place}
+use Rattle.finder.proofs.Words.{same_Some, slice_get_within, Id, Way, place_at, way_at, way_place, Frame, IsAscending, BaseView, entry_of, sought, destination_of, destination_by, destination, Leads, id_at, Graph, NotOffered, target, NodeWalk, IsNodeRank, Walk, IsRank}
 use Rattle.frame_records.specs.declared.ways.Destination.TheVariants as destination_is
-use Rattle.frame_records.specs.declared.frame.Frame.{Frame}
-use Rattle.frame_records.specs.BaseView.{IsAscending, BaseView}
-use Rattle.frame_records.specs.Seek.{entry_of}
-use Rattle.frame_records.specs.WayLaws.{offered_place}
-use Rattle.frame_records.specs.Ways.{sought, destination_of, destination_by, destination, Leads}
-use Rattle.finder.specs.Targets.{id_at}
-use Rattle.finder.specs.declared.graph.Graph.{Graph}
-use Rattle.finder.specs.declared.table.Target.TheVariants.{NotOffered}
-use Rattle.finder.specs.Graph.{target, NodeWalk, IsNodeRank}
-use Rattle.finder.specs.Survey.{aim_of}
-use Rattle.finder.specs.Walks.{Walk, IsRank}
-use Rattle.finder.proofs.Places.{same_place, frame_here}
-use Rattle.finder.proofs.Within.{id_stands, found_place, offered, leads_on}
+use Rattle.finder.proofs.Places.{same_place, frame_here, id_stands}
+use Rattle.finder.proofs.Within.{leads_on, known_way, found_node}
 
 -- an id stands at one place
 pub one_place : (frames : List Frame) (i j : ℕ) (id : Id) → IsAscending frames → id_at frames i ≡ Some id
@@ -46,8 +31,8 @@ module _ (graph : Graph) where
       let from : l.from.id ≡ a = same_Some l.from.id a (sym (ap (option_map (λ (h : Frame). h.id)) l.stands) ∙ at) in
       let to : l.to.id ≡ b = same_Some l.to.id b (sym (ap (option_map (λ (h : Frame). h.id)) l.there) ∙ there) in
       record {
-        price = l.price;
-        found = ap (λ id. destination caller base id (way_at way)) (sym from) ∙ ap (destination_by caller base (way_at way)) (frame_here base.frames graph.table.valid.ascending f l.from l.stands) ∙ l.found ∙ ap (λ id. destination_is.Found id l.price) to;
+        price = l.to.price;
+        found = ap (λ id. destination caller base id (way_at way)) (sym from) ∙ ap (destination_by caller base (way_at way)) (frame_here base.frames graph.table.valid.ascending f l.from l.stands) ∙ l.found ∙ ap (λ id. destination_is.Found id l.to.price) to;
       }
 
   record LeadsTo (f : ℕ) (way : Way) (b : Id) : Type 0 where
@@ -61,22 +46,11 @@ module _ (graph : Graph) where
   leads_node f way a b at l =
       let from = id_stands base.frames f a at in
       let here : destination_of caller base from.0 way ≡ destination_is.Found b l.price = sym (ap (λ id. destination caller base id way) (sym from.2) ∙ ap (destination_by caller base way) (frame_here base.frames graph.table.valid.ascending f from.0 from.1)) ∙ l.found in
-      let to = offered caller base from.0 way (ap aim_of here) in
-      let known = offered_place from.0 way to.0 to.2 in
+      let known = known_way caller base a way b l in
       let inside : f * 11 + way_place way < graph.table.count * 11 = omega (arith, slice_get_within base.frames f from.0 from.1, graph.table.nodes, known.0) in
-      let is = graph.table.whole.right f (way_place way) from.0 inside known.0 from.1 in
-      let same : to.0 ≡ b = same_to to.0 b to.1 l.price (sym to.3 ∙ here) in
-      let node = found_place (get_or graph.table.targets.items (f * 11 + way_place way) NotOffered) (is.aim ∙ ap (λ w. aim_of (destination_of caller base from.0 w)) known.1 ∙ ap aim_of here) in
-      record {
-        node = node.0;
-        is_of = is.place node.0 node.1 ∙ ap (sought from.0) known.1 ∙ to.2 ∙ ap Some same;
-        small = known.0;
-        is_way = known.1;
-        leads = node.1;
-      }
-    where
-      same_to : (c d : Id) (p q : ℕ) → destination_is.Found c p ≡ destination_is.Found d q → c ≡ d
-      same_to c d p q e = cc
+      let is = (graph.table.whole.right f (way_place way) from.0 inside known.0 from.1).is in
+      let node = found_node base.frames (sought from.0 (way_at (way_place way))) (get_or graph.table.targets.items (f * 11 + way_place way) NotOffered) b l.price (is ∙ ap (λ w. Some (destination_of caller base from.0 w)) known.1 ∙ ap Some here) in
+      record { node = node.0; is_of = node.2; small = known.0; is_way = known.1; leads = node.1 }
 
   pub leads_to : (f way : ℕ) (a g : Id) → way < 11 → IsOf f a → Leads caller base a (way_at way) g
       → (node : ℕ) × IsOf node g × (target graph f way ≡ Some node)

@@ -1,14 +1,6 @@
 -- One more way is turned round.
 use Rattle.std.proofs.Common.{◌≡◌, ◌<◌, ◌+◌, ◌*◌, ℕ, List, [], ◌∷◌, ◌++◌, Some, None, get_or, set, All, Contains, sym, ◌∙◌, ap, subst, ⊎_elim, arith}
-use Rattle.std.proofs.lemmas.Bool.{cases_eq, cases_lt}
-use Rattle.std.proofs.lemmas.Grind.{common_steps, get_or-set_at}
-use Rattle.std.proofs.lemmas.List.{get_or-set_other}
-use Rattle.std.proofs.lemmas.List.Elements.{All-push, Contains-push, Contains-append_left}
-use Rattle.std.proofs.lemmas.Option.{same_Some}
-use Rattle.smallvec.specs.SmallVec.{SmallVec}
-use Rattle.finder.specs.declared.graph.Graph.{Graph}
-use Rattle.finder.specs.Graph.{target}
-use Rattle.finder.specs.Turned.{LeadsTo, AreTurned}
+use Rattle.finder.proofs.Words.{cases_eq, cases_lt, common_steps, get_or-set_at, get_or-set_other, All-push, Contains-push, Contains-append_left, same_Some, SmallVec, Graph, target, LeadsTo, AreTurned}
 use Rattle.finder.proofs.Within.{to_within}
 
 module _ (graph : Graph) (node way : ℕ) (sources : List (SmallVec ℕ)) (small : way < 11) (are : AreTurned graph (node * 11 + way) sources) where

@@ -1,67 +1,31 @@
 -- What a survey says.
-use Rattle.std.proofs.Common.{◌≡◌, ℕ, Bool, true, false, List, Option, Some, None, option_map, if◌then◌else◌, length, refl, sym, ◌∙◌, ap, ◌<◌, ◌+◌, ◌*◌, [], map, slice_get, get_or, arith, ◌≤◌}
-use Rattle.std.specs.Map.{lookup, values_of}
-use Rattle.std.proofs.lemmas.Option.{same_Some, slice_get_within}
-use Rattle.page_ids.specs.Id.{Id}
-use Rattle.page_ids.specs.Ids.{id_eq}
-use Rattle.page_ids.specs.declared.way.Way.{Way}
-use Rattle.page_ids.specs.Ways.{way_at}
+use Rattle.std.proofs.Common.{◌≡◌, ℕ, Bool, true, false, List, Some, None, if◌then◌else◌, length, refl, sym, ◌∙◌, ap, ◌<◌, ◌+◌, ◌*◌, [], map, slice_get, get_or, arith, ◌≤◌}
+use Rattle.finder.proofs.Words.{values_of, same_Some, slice_get_within, Id, Way, way_at, Frame, BaseView, IsAscending, frame_at, entry_of, seek_entry, is_open, sought_of, sought, destination_of, destination_by, destination, Target, NotOffered, IsEntryPlace, discovered_of, IsSought, target_at, place_of, id_at, aim_at, AreTargets, Reached, Discovered, AreNamed, aim_of, FindsReached, RanksAreLeast, IsFinding, EntryIsFound}
 use Rattle.frame_records.specs.declared.base.Sought.TheVariants as sought_is
-use Rattle.frame_records.specs.declared.frame.Frame.{Frame}
-use Rattle.frame_records.specs.BaseView.{BaseView, IsAscending, frame_at}
-use Rattle.frame_records.specs.Seek.{entry_of, is_open, sought_of}
-use Rattle.frame_records.specs.Ways.{destination_of, destination_by, destination}
-use Rattle.finder.specs.declared.table.Target.{Target}
-use Rattle.finder.specs.declared.table.Target.TheVariants.{NotOffered}
-use Rattle.finder.specs.Entries.{IsEntryPlace, discovered_of}
-use Rattle.finder.specs.declared.aim.Aim.{Aim}
-use Rattle.finder.specs.declared.aim.Aim.TheVariants as aim
-use Rattle.finder.specs.Targets.{place_of, id_at, aim_to, AreNumbered, aim_at, AreTargets}
-use Rattle.finder.specs.declared.discover.Reached.{Reached}
-use Rattle.finder.specs.declared.found.Discovered.{Discovered}
-use Rattle.finder.specs.Discovery.{AreNamed}
-use Rattle.finder.specs.Survey.{aim_of}
-use Rattle.finder.specs.Finds.{FindsReached, RanksAreLeast, IsFinding}
-use Rattle.finder.specs.Walks.{EntryIsFound}
-use Rattle.finder.proofs.Places.{frame_here}
+use Rattle.finder.proofs.Places.{frame_here, id_stands}
 use Rattle.finder.proofs.Lists.{image_at, at_image}
-use Rattle.finder.proofs.Within.{id_stands, place_found, found_place}
-use Rattle.finder.proofs.Targeted.{absent}
+use Rattle.finder.proofs.Within.{aim_is}
+use Rattle.finder.proofs.Targeted.{SeenFrame, seen_frame}
 use Rattle.finder.proofs.Scripted.{listed_at, scripts_lead}
 
-module _ (caller : List ℕ) (base : BaseView) (entries : List (Id × Target)) (are : AreNumbered caller base.frames (length base.frames) entries) where
-  -- a frame is found where that is its aim
-  entry_found : (aimed : Aim) → aimed ≡ aim.Found → (o : Option Frame) → option_map (aim_to caller) o ≡ Some aimed
-      → (price : ℕ) × (sought_of caller o ≡ sought_is.Found price)
-  entry_found aimed is None e = absurd cc
-  entry_found aimed is (Some f) e = by (is_open caller f) (same_Some (aim_to caller f) aimed e ∙ is) where
-    by : (b : Bool) → (if b then aim.Found else aim.Closed) ≡ aim.Found
-        → (price : ℕ) × ((if b then sought_is.Found f.price else sought_is.Closed) ≡ sought_is.Found price)
-    by true e = (f.price, refl)
-    by false e = absurd cc
+-- whether the entry frame is found, and where it stands
+module _ (caller : List ℕ) (base : BaseView) where
+  pub entry_missing : frame_at base (entry_of base) ≡ None → IsEntryPlace caller base None
+  entry_missing none entry = let gone = sym (ap (sought_of caller) none) ∙ entry.1 in absurd cc
 
-  -- and where it is found that is its aim
-  aim_found : (o : Option Frame) (aimed : Aim) (price : ℕ) → option_map (aim_to caller) o ≡ Some aimed
-      → sought_of caller o ≡ sought_is.Found price → aimed ≡ aim.Found
-  aim_found None aimed price e found = absurd cc
-  aim_found (Some f) aimed price e found = sym (same_Some (aim_to caller f) aimed e) ∙ by (is_open caller f) found where
-    by : (b : Bool) → (if b then sought_is.Found f.price else sought_is.Closed) ≡ sought_is.Found price
-        → (if b then aim.Found else aim.Closed) ≡ aim.Found
-    by true found = refl
-    by false found = absurd cc
-
-  pub entry_missing : None ≡ lookup (id_eq (entry_of base)) entries → IsEntryPlace caller base None
-  entry_missing none entry = let gone = sym (ap (sought_of caller) (absent caller base entries (entry_of base) are none)) ∙ entry.1 in absurd cc
-
-  pub entry_by : (target : Target) → Some target ≡ lookup (id_eq (entry_of base)) entries
+  pub entry_by : (target : Target) → IsAscending base.frames → IsSought caller base.frames (entry_of base) (Some target)
       → IsEntryPlace caller base (place_of target)
-  entry_by target there = by (place_of target) refl where
-    aims : option_map (aim_to caller) (frame_at base (entry_of base)) ≡ Some (aim_at target)
-    aims = are.aims (entry_of base) target (sym there)
+  entry_by target up s = rw s.3 (by s.1 g.admits) where
+    g : SeenFrame caller base.frames (entry_of base) s.0 s.1
+    g = seen_frame caller base.frames (entry_of base) s.0 s.1 up s.2
 
-    by : (o : Option ℕ) → place_of target ≡ o → IsEntryPlace caller base o
-    by (Some place) is = (entry_found (aim_at target) (ap aim_at (place_found target place is)) (frame_at base (entry_of base)) aims, are.places (entry_of base) target place (sym there) is)
-    by None is = λ entry. let some = found_place target (aim_found (frame_at base (entry_of base)) (aim_at target) entry.0 aims entry.1) in let clash = sym is ∙ some.1 in absurd cc
+    comes : (b : Bool) → is_open caller g.frame ≡ b
+        → seek_entry caller base ≡ (if b then sought_is.Found g.frame.price else sought_is.Closed)
+    comes b e = ap (sought_of caller) g.among ∙ ap (λ b. if b then sought_is.Found g.frame.price else sought_is.Closed) e
+
+    by : (b : Bool) → is_open caller g.frame ≡ b → IsEntryPlace caller base (place_of (target_at s.0 b))
+    by true e = ((g.frame.price, comes true e), s.2.stands)
+    by false e = λ entry. let closed = sym (comes false e) ∙ entry.1 in absurd cc
 
 module _ (caller : List ℕ) (base : BaseView) (entries : List (Id × Reached)) (i : ℕ) (r : Reached) (up : IsAscending base.frames) (named : AreNamed base.frames entries) (at : slice_get (values_of entries) i ≡ Some r) where
   -- the frame of its node stands in the base
@@ -87,7 +51,7 @@ module _ (caller : List ℕ) (base : BaseView) (entries : List (Id × Reached)) 
   aim_told targets way place found d are small is_way is there =
       let inside : r.node * 11 + place < length base.frames * 11 = omega (arith, node_within, small) in
       let f = stands in
-      (are.right r.node place f.0 inside small f.1).aim ∙ ap (λ w. aim_of (destination_of caller base f.0 w)) is_way ∙ ap (λ o. aim_of (destination_by caller base way o)) (sym (f.2 found d is there))
+      aim_is base.frames (sought f.0 (way_at place)) (get_or targets (r.node * 11 + place) NotOffered) (destination_of caller base f.0 (way_at place)) (are.right r.node place f.0 inside small f.1).is ∙ ap (λ w. aim_of (destination_of caller base f.0 w)) is_way ∙ ap (λ o. aim_of (destination_by caller base way o)) (sym (f.2 found d is there))
 
 -- where the entry frame is found it is listed
 not_empty : (caller : List ℕ) (base : BaseView) (found : List Discovered) → FindsReached caller base found → found ≡ []

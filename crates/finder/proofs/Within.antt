@@ -1,23 +1,11 @@
 -- Each way that leads somewhere is one of a frame, and leads to a frame.
-use Rattle.std.proofs.Common.{◌≡◌, ◌<◌, ◌+◌, ◌*◌, ℕ, refl, List, [], ◌∷◌, zero, suc, Option, Some, None, option_map, length, slice_get, get_or, sym, ◌∙◌, ap, arith}
-use Rattle.std.proofs.lemmas.Option.{same_Some, slice_get_within}
-use Rattle.page_ids.specs.Id.{Id}
-use Rattle.page_ids.specs.declared.way.Way.{Way}
-use Rattle.page_ids.specs.Ways.{way_at}
-use Rattle.frame_records.specs.declared.frame.Frame.{Frame}
+use Rattle.std.proofs.Common.{◌≡◌, ◌<◌, ◌+◌, ◌*◌, ℕ, refl, List, [], ◌∷◌, zero, suc, Option, Some, option_map, length, slice_get, get_or, sym, ◌∙◌, ap, arith}
+use Rattle.finder.proofs.Words.{slice_get_within, Id, Way, way_at, Frame, BaseView, going, offered_place, Leads, sought, destination_of, same_Some, way_place, id_at, Graph, Target, NotOffered, Closed, Missing, Outside, aim_of, aim_at, place_of, target, told}
 use Rattle.frame_records.specs.declared.ways.Destination.{Destination}
 use Rattle.frame_records.specs.declared.ways.Destination.TheVariants as destination
-use Rattle.frame_records.specs.BaseView.{BaseView}
-use Rattle.frame_records.specs.Seek.{seek}
-use Rattle.frame_records.specs.WayLaws.{found_sought}
-use Rattle.frame_records.specs.Ways.{sought, offered_by, destination_of}
 use Rattle.finder.specs.declared.aim.Aim.TheVariants as aim
-use Rattle.finder.specs.declared.graph.Graph.{Graph}
-use Rattle.finder.specs.declared.table.Target.{Target}
-use Rattle.finder.specs.declared.table.Target.TheVariants.{NotOffered, Found, Closed, Missing, Outside}
-use Rattle.finder.specs.Survey.{aim_of}
-use Rattle.finder.specs.Targets.{aim_at, place_of, id_at}
-use Rattle.finder.specs.Graph.{target}
+use Rattle.finder.specs.declared.target.Target.TheVariants.{Found}
+use Rattle.finder.proofs.Lists.{mapped, at_within}
 
 pub place_found : (t : Target) (j : ℕ) → place_of t ≡ Some j → t ≡ Found j
 place_found NotOffered j e = absurd cc
@@ -26,41 +14,33 @@ place_found Closed j e = absurd cc
 place_found Missing j e = absurd cc
 place_found Outside j e = absurd cc
 
-pub found_place : (t : Target) → aim_at t ≡ aim.Found → (j : ℕ) × (place_of t ≡ Some j)
-found_place NotOffered e = absurd cc
-found_place (Found i) e = (i, cc)
-found_place Closed e = absurd cc
-found_place Missing e = absurd cc
-found_place Outside e = absurd cc
+-- the aim of a destination that is told
+pub aim_is : (frames : List Frame) (to : Option Id) (t : Target) (d : Destination) → told frames to t ≡ Some d → aim_at t ≡ aim_of d
+aim_is frames to NotOffered d e = ap aim_of (same_Some destination.NotOffered d e)
+aim_is frames to (Found j) d e = ap aim_of (mapped (λ (f : Frame). destination.Found f.id f.price) (slice_get frames j) d e).2
+aim_is frames to Closed d e = ap aim_of (mapped destination.Closed to d e).2
+aim_is frames to Missing d e = ap aim_of (mapped destination.Missing to d e).2
+aim_is frames to Outside d e = ap aim_of (mapped (λ (id : Id). destination.Outside id.page) to d e).2
 
--- a way that finds a frame seeks it
-pub offered : (caller : List ℕ) (base : BaseView) (f : Frame) (way : Way)
-    → aim_of (destination_of caller base f way) ≡ aim.Found
-    → (to : Id) × (price : ℕ) × (sought f way ≡ Some to) × (destination_of caller base f way ≡ destination.Found to price)
-offered caller base f way e = by (sought f way) refl where
-  aimed : (d : Destination) → aim_of d ≡ aim.Found → (g : Id) × (price : ℕ) × (d ≡ destination.Found g price)
-  aimed destination.NotOffered e = absurd cc
-  aimed (destination.Found g price) e = (g, price, refl)
-  aimed (destination.Closed g) e = absurd cc
-  aimed (destination.Missing g) e = absurd cc
-  aimed (destination.Outside page) e = absurd cc
+-- the place of a frame that is found
+pub found_node : (frames : List Frame) (to : Option Id) (t : Target) (g : Id) (price : ℕ)
+    → told frames to t ≡ Some (destination.Found g price) → (j : ℕ) × (place_of t ≡ Some j) × (id_at frames j ≡ Some g)
+found_node frames to t g price e = by t e (aim_is frames to t (destination.Found g price) e) where
+  same_to : (c d : Id) (p q : ℕ) → destination.Found c p ≡ destination.Found d q → c ≡ d
+  same_to c d p q e = cc
 
-  by : (o : Option Id) → sought f way ≡ o
-      → (to : Id) × (price : ℕ) × (sought f way ≡ Some to) × (destination_of caller base f way ≡ destination.Found to price)
-  by None is = let none = ap (λ x. aim_of (offered_by caller base way x)) is in absurd cc
-  by (Some to) is =
-      let d = aimed (destination_of caller base f way) e in
-      let same = found_sought base way to (seek caller base to) d.0 d.1 (sym (ap (offered_by caller base way) is) ∙ d.2) in
-      (to, d.1, is, d.2 ∙ ap (λ g. destination.Found g d.1) (sym same.0))
+  by : (t : Target) → told frames to t ≡ Some (destination.Found g price) → aim_at t ≡ aim.Found
+      → (j : ℕ) × (place_of t ≡ Some j) × (id_at frames j ≡ Some g)
+  by NotOffered e is = absurd cc
+  by (Found j) e is = let h = mapped (λ (f : Frame). destination.Found f.id f.price) (slice_get frames j) (destination.Found g price) e in (j, refl, ap (option_map (λ (f : Frame). f.id)) h.1 ∙ ap Some (same_to h.0.id g h.0.price price h.2))
+  by Closed e is = absurd cc
+  by Missing e is = absurd cc
+  by Outside e is = absurd cc
 
--- the frame at a place
-pub id_stands : (frames : List Frame) (j : ℕ) (to : Id) → id_at frames j ≡ Some to
-    → (f : Frame) × (slice_get frames j ≡ Some f) × (f.id ≡ to)
-id_stands frames j to e = by (slice_get frames j) refl e where
-  by : (o : Option Frame) → slice_get frames j ≡ o → option_map (λ (f : Frame). f.id) o ≡ Some to
-      → (f : Frame) × (slice_get frames j ≡ Some f) × (f.id ≡ to)
-  by None is e = absurd cc
-  by (Some f) is e = (f, is, same_Some f.id to e)
+-- a way that leads is one of the eleven
+pub known_way : (caller : List ℕ) (base : BaseView) (f : Id) (way : Way) (g : Id) → Leads caller base f way g
+    → (way_place way < 11) × (way_at (way_place way) ≡ way)
+known_way caller base f way g l = let is = going caller base f way (destination.Found g l.price) l.found (λ same. absurd cc) in offered_place is.frame way is.to is.offered
 
 -- what a way of a graph that leads somewhere says of its frames
 pub record LeadsOn (graph : Graph) (f way g : ℕ) : Type 0 where
@@ -68,30 +48,23 @@ pub record LeadsOn (graph : Graph) (f way g : ℕ) : Type 0 where
   pub stands : slice_get graph.table.base.now.frames f ≡ Some from
   pub to : Frame
   pub there : slice_get graph.table.base.now.frames g ≡ Some to
-  pub price : ℕ
-  pub found : destination_of graph.table.groups.now graph.table.base.now from (way_at way) ≡ destination.Found to.id price
+  pub found : destination_of graph.table.groups.now graph.table.base.now from (way_at way) ≡ destination.Found to.id to.price
 
 pub leads_on : (graph : Graph) (f way g : ℕ) → way < 11 → target graph f way ≡ Some g → LeadsOn graph f way g
 leads_on graph f way g small leads =
     let base = graph.table.base.now in
-    let place : f * 11 + way < length graph.table.targets.items = some_target graph.table.targets.items (f * 11 + way) leads in
-    let inside : f * 11 + way < graph.table.count * 11 = omega (arith, place, graph.table.whole.room) in
-    let from = some_at base.frames f (omega (arith, inside, small, graph.table.nodes)) in
-    let is = graph.table.whole.right f way from.0 inside small from.1 in
-    let aim = ap aim_at (sym (place_found (get_or graph.table.targets.items (f * 11 + way) NotOffered) g leads)) in
-    let to = offered graph.table.groups.now base from.0 (way_at way) (sym is.aim ∙ sym aim) in
-    let there = id_stands base.frames g to.0 (is.place g leads ∙ to.2) in
-    record { from = from.0; stands = from.1; to = there.0; there = there.1; price = to.1; found = to.3 ∙ ap (λ id. destination.Found id to.1) (sym there.2) }
+    let targets = graph.table.targets.items in
+    let inside : f * 11 + way < graph.table.count * 11 = omega (arith, some_target targets (f * 11 + way) leads, graph.table.whole.room) in
+    let from = at_within base.frames f (omega (arith, inside, small, graph.table.nodes)) in
+    let is = (graph.table.whole.right f way from.0 inside small from.1).is in
+    let tells = ap (told base.frames (sought from.0 (way_at way))) (sym (place_found (get_or targets (f * 11 + way) NotOffered) g leads)) ∙ is in
+    let to = mapped (λ (h : Frame). destination.Found h.id h.price) (slice_get base.frames g) (destination_of graph.table.groups.now base from.0 (way_at way)) tells in
+    record { from = from.0; stands = from.1; to = to.0; there = to.1; found = sym to.2 }
   where
     some_target : (targets : List Target) (i : ℕ) → place_of (get_or targets i NotOffered) ≡ Some g → i < length targets
     some_target [] i e = absurd cc
     some_target (t ∷ ts) zero e = omega arith
     some_target (t ∷ ts) (suc i) e = omega (arith, some_target ts i e)
-
-    some_at : (frames : List Frame) (i : ℕ) → i < length frames → (h : Frame) × (slice_get frames i ≡ Some h)
-    some_at [] i lt = absurd (omega (arith, lt))
-    some_at (h ∷ hs) zero lt = (h, refl)
-    some_at (h ∷ hs) (suc i) lt = some_at hs i (omega (arith, lt))
 
 -- both are nodes
 pub from_within : (graph : Graph) (f way g : ℕ) → way < 11 → target graph f way ≡ Some g → f < graph.table.count

@@ -1,7 +1,7 @@
 -- Where the ways lead, the frames by their places: what walks there are.
 use Rattle.std.specs.Prelude.{◌≡◌, ◌<◌, ◌≤◌, ◌+◌, ◌*◌, ℕ, zero, suc, Option, Some, None, get_or}
 use Rattle.finder.specs.declared.graph.Graph.{Graph}
-use Rattle.finder.specs.declared.table.Target.TheVariants.{NotOffered}
+use Rattle.finder.specs.declared.target.Target.TheVariants.{NotOffered}
 use Rattle.finder.specs.Targets.{place_of}
 
 -- the node to which a way of a node leads

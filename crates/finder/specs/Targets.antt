@@ -1,19 +1,17 @@
 -- What the ways of a base's frames come to, the frames by their places in the base.
-use Rattle.std.specs.Prelude.{◌≡◌, ◌<◌, ◌+◌, ◌*◌, ℕ, List, Option, Some, None, option_map, is_some, true, length, get_or, slice_get, if◌then◌else◌}
-use Rattle.std.specs.Map.{lookup}
+use Rattle.std.specs.Prelude.{◌≡◌, ◌<◌, ◌+◌, ◌*◌, ℕ, List, Option, Some, None, option_map, length, get_or, slice_get}
 use Rattle.page_ids.specs.Id.{Id}
-use Rattle.page_ids.specs.Ids.{id_eq}
 use Rattle.page_ids.specs.declared.way.Way.{Way}
 use Rattle.page_ids.specs.Ways.{way_at}
 use Rattle.frame_records.specs.declared.frame.Frame.{Frame}
-use Rattle.frame_records.specs.BaseView.{BaseView, frame_among}
-use Rattle.frame_records.specs.Seek.{is_open}
+use Rattle.frame_records.specs.BaseView.{BaseView}
 use Rattle.frame_records.specs.Ways.{sought, destination_of}
+use Rattle.frame_records.specs.declared.ways.Destination.{Destination}
+use Rattle.frame_records.specs.declared.ways.Destination.TheVariants as destination
 use Rattle.finder.specs.declared.aim.Aim.{Aim}
 use Rattle.finder.specs.declared.aim.Aim.TheVariants as aim
-use Rattle.finder.specs.declared.table.Target.{Target}
-use Rattle.finder.specs.declared.table.Target.TheVariants.{NotOffered, Found, Closed, Missing, Outside}
-use Rattle.finder.specs.Survey.{aim_of}
+use Rattle.finder.specs.declared.target.Target.{Target}
+use Rattle.finder.specs.declared.target.Target.TheVariants.{NotOffered, Found, Closed, Missing, Outside}
 
 -- a target without its place
 abbrev pub aim_at : Target → Aim
@@ -35,28 +33,17 @@ place_of Outside = None
 abbrev pub id_at : List Frame → ℕ → Option Id
 id_at frames place = option_map (λ f. f.id) (slice_get frames place)
 
--- the frame at a place, where it is sought
-abbrev pub target_at : List ℕ → ℕ → Frame → Target
-target_at caller place f = if is_open caller f then Found place else Closed
+-- the destination that a target tells, where an id is sought
+abbrev pub told : List Frame → Option Id → Target → Option Destination
+told frames to NotOffered = Some destination.NotOffered
+told frames to (Found place) = option_map (λ f. destination.Found f.id f.price) (slice_get frames place)
+told frames to Closed = option_map destination.Closed to
+told frames to Missing = option_map destination.Missing to
+told frames to Outside = option_map (λ id. destination.Outside id.page) to
 
--- what seeking the frame comes to
-abbrev pub aim_to : List ℕ → Frame → Aim
-aim_to caller f = if is_open caller f then aim.Found else aim.Closed
-
--- what some frames come to, where they are sought by their ids, and where those stand that are found; the first ones are among
--- them
-pub record AreNumbered (caller : List ℕ) (frames : List Frame) (done : ℕ) (entries : List (Id × Target)) : Type 0 where
-  pub aims : (id : Id) (target : Target) → lookup (id_eq id) entries ≡ Some target
-      → option_map (aim_to caller) (frame_among frames id) ≡ Some (aim_at target)
-  pub places : (id : Id) (target : Target) (j : ℕ) → lookup (id_eq id) entries ≡ Some target → place_of target ≡ Some j
-      → id_at frames j ≡ Some id
-  pub whole : (i : ℕ) (f : Frame) → i < done → slice_get frames i ≡ Some f
-      → is_some (lookup (id_eq f.id) entries) ≡ true
-
--- what a way of a frame comes to, and where the frame stands that it finds
+-- what a way of a frame comes to
 pub record IsTarget (caller : List ℕ) (base : BaseView) (f : Frame) (way : Way) (target : Target) : Type 0 where
-  pub aim : aim_at target ≡ aim_of (destination_of caller base f way)
-  pub place : (j : ℕ) → place_of target ≡ Some j → id_at base.frames j ≡ sought f way
+  pub is : told base.frames (sought f way) target ≡ Some (destination_of caller base f way)
 
 -- what the ways of the first places come to, eleven for each frame
 pub record AreTargets (caller : List ℕ) (base : BaseView) (done : ℕ) (targets : List Target) : Type 0 where

@@ -35,6 +35,6 @@ impl Graph<'_> {
         requires { node < self.now.table.count }
         ensures { id_at self.now.table.base.now.frames node ≡ Some result }
     {
-        self.table.base.frames()[node as usize].id
+        self.table.ids[node as usize]
     }
 }

@@ -25,10 +25,12 @@ mod discover;
 mod found;
 mod graph;
 mod laws;
+mod notes;
 mod ranks;
 mod script;
 mod survey;
 mod table;
+mod target;
 mod turned;
 
 pub use aim::Aim;

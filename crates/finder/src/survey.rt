@@ -13,7 +13,8 @@ use crate::aim::Aim;
 use crate::discover::{Order, discover};
 use crate::found::Found;
 use crate::graph::Graph;
-use crate::table::{Numbers, Table};
+use crate::notes::Notes;
+use crate::table::Table;
 use frame_records::{Base, Frame, Groups};
 use indexmap::IndexMap;
 use page_ids::Way;
@@ -43,10 +44,10 @@ impl<'a> Model for Survey<'a> {
 }
 
 // The place of the entry frame, where it is found.
-fn entry_place(numbers: &Numbers<'_>) -> Option<u16>
-    ensures { IsEntryPlace numbers.now.groups.now numbers.now.base.now result }
+fn entry_place(notes: &Notes<'_>) -> Option<u16>
+    ensures { IsEntryPlace notes.now.groups.now notes.now.base.now result }
 {
-    match numbers.target_by_id(&numbers.base.entry_frame()) {
+    match notes.target_by_id(&notes.base.entry_frame()) {
         Some(target) => target.place(),
         None => None,
     }
@@ -101,12 +102,12 @@ impl<'a> Survey<'a> {
         ensures groups { IfOk result (λ s. s.groups ≡ groups.now) }
         ensures found { IfOk result (λ s. IsFinding groups.now base.now s.found) }
     {
-        let numbers = Numbers::of(alloc, base, groups)?;
-        let table = Table::of(alloc, &numbers)?;
-        let Some(entry) = entry_place(&numbers) else {
+        let notes = Notes::of(alloc, base, groups)?;
+        let table = Table::of(alloc, &notes)?;
+        let Some(entry) = entry_place(&notes) else {
             return Ok(Survey::empty(alloc, table));
         };
-        drop(numbers);
+        drop(notes);
         Survey::of_graph(alloc, Graph { table, entry })
     }
 

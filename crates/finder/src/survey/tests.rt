@@ -113,6 +113,29 @@ fn closed_frames_are_not_listed(rt: HostRuntime) -> Result<(), Fail> {
     Ok(())
 }
 
+// Pages in steps of 64, each with a route to the next one: 20 frames, for which there are 64 slots, so that all begin at
+// one slot.
+#[test]
+fn frames_of_one_slot_are_all_found(rt: HostRuntime) -> Result<(), Fail> {
+    let mut frames = Vec::new(rt.alloc());
+    for number in 0..20u32 {
+        let mut linked = frame(&rt, rt.alloc(), "0a", false, &[(9, 64 * number + 64)]);
+        linked.id = FrameId::first(page(&rt, 64 * number));
+        frames.push(linked)?;
+    }
+    let base = Base::build(page(&rt, 0), Vec::new(rt.alloc()), frames).expect(&rt, "a base");
+    let nobody = Groups::none();
+    let survey = Survey::of(rt.alloc(), &base, &nobody)?;
+    assert_eq!(rt; survey.found().as_slice().len(), 20);
+    for (index, listed) in survey.found().as_slice().iter().enumerate() {
+        assert_eq!(rt; listed.id.page.get() as usize, index * 64);
+    }
+    let nine = Way::Route(Digit::new(9).ok_or("a digit")?);
+    assert_eq!(rt; survey.aim(18, &nine), Aim::Found);
+    assert_eq!(rt; survey.aim(19, &nine), Aim::Missing);
+    Ok(())
+}
+
 #[test]
 fn frames_of_the_callers_groups_are_listed(rt: HostRuntime) -> Result<(), Fail> {
     let base = demo(&rt, rt.alloc(), 7, &[(0, 123)]);

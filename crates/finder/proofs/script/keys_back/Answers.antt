@@ -1,6 +1,5 @@
 use Rattle.std.proofs.Common.{◌-◌, ◌<◌, ◌∙◌, sym, subst, length, List}
-use Rattle.finder.specs.declared.found.Discovered.{Discovered}
-use Rattle.finder.specs.Scripts.{keys_back}
+use Rattle.finder.proofs.Words.{Discovered, keys_back}
 use Rattle.finder.proofs.Scripted.{back_turn, back_end}
 use Rattle.finder.proofs.script.keys_back.Goals as goal
 

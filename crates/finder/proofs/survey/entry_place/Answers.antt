@@ -1,16 +1,14 @@
-use Rattle.std.proofs.Common.{sym, ◌∙◌, ap, subst}
-use Rattle.std.specs.Map.{lookup}
-use Rattle.page_ids.specs.Ids.{id_eq}
-use Rattle.finder.specs.Entries.{IsEntryPlace}
+use Rattle.std.proofs.Common.{Some, sym, ◌∙◌, ap, subst}
+use Rattle.finder.proofs.Words.{frame_at, IsSought}
 use Rattle.finder.proofs.Whole.{entry_by, entry_missing}
 use Rattle.finder.proofs.survey.entry_place.Goals as goal
 
 pub returns-in-Some : goal.returns-in-Some
 returns-in-Some c =
-    let numbers = c.args.numbers.now in
-    subst (IsEntryPlace numbers.groups.now numbers.base.now) (sym c.place.ensures) (entry_by numbers.groups.now numbers.base.now numbers.targets.entries numbers.whole c.in-Some.target (sym c.in-Some.is ∙ c.target_by_id.ensures ∙ ap (λ id. lookup (id_eq id) numbers.targets.entries) c.entry_frame.ensures))
+    let notes = c.args.notes.now in
+    rw c.place.ensures (entry_by notes.groups.now notes.base.now c.in-Some.target notes.valid.ascending (subst (λ id. IsSought notes.groups.now notes.base.now.frames id (Some c.in-Some.target)) c.entry_frame.ensures c.in-Some.ensures))
 
 pub returns-in-None : goal.returns-in-None
 returns-in-None c =
-    let numbers = c.args.numbers.now in
-    entry_missing numbers.groups.now numbers.base.now numbers.targets.entries numbers.whole (sym c.in-None.is ∙ c.target_by_id.ensures ∙ ap (λ id. lookup (id_eq id) numbers.targets.entries) c.entry_frame.ensures)
+    let notes = c.args.notes.now in
+    entry_missing notes.groups.now notes.base.now (ap (frame_at notes.base.now) (sym c.entry_frame.ensures) ∙ c.in-None.ensures)

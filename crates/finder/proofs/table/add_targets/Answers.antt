@@ -1,6 +1,5 @@
 use Rattle.std.proofs.Common.{◌≡◌, subst, refl, arith, ap, Some, slice_get, length}
-use Rattle.std.proofs.lemmas.Option.{slice_get_read}
-use Rattle.finder.specs.Targets.{IsTarget, AreTargets}
+use Rattle.finder.proofs.Words.{slice_get_read, IsTarget, AreTargets}
 use Rattle.finder.proofs.Targeted.{targets_more}
 use Rattle.finder.proofs.table.add_targets.Goals as goal
 
@@ -8,7 +7,7 @@ pub loop-way-preserved : goal.loop-way-preserved
 loop-way-preserved c =
     let f = c.index-frames-place.result in
     let stands = subst (λ fs. slice_get fs c.args.place ≡ Some f) c.frames.ensures.all (slice_get_read c.frames.result.now _ c.args.place f refl (omega (arith, c.requires.inside, ap length c.frames.ensures.all)) c.index-frames-place.is) in
-    rw c.in_ok-push.ensures.items (targets_more _ _ _ c.loop-way.way f _ _ c.loop-way-test.true stands (subst (λ w. IsTarget c.args.numbers.now.groups.now c.args.numbers.now.base.now f w c.target_of.result) c.at.ensures c.target_of.ensures) c.loop-way.invariant)
+    rw c.in_ok-push.ensures.items (targets_more _ _ _ c.loop-way.way f _ _ c.loop-way-test.true stands (subst (λ w. IsTarget c.args.notes.now.groups.now c.args.notes.now.base.now f w c.target_of.result) c.at.ensures c.target_of.ensures) c.loop-way.invariant)
 
 pub returns : goal.returns
-returns c = subst (λ n. AreTargets c.args.numbers.now.groups.now c.args.numbers.now.base.now n c.loop-way.targets.items) (omega arith) c.loop-way.invariant
+returns c = subst (λ n. AreTargets c.args.notes.now.groups.now c.args.notes.now.base.now n c.loop-way.targets.items) (omega arith) c.loop-way.invariant

@@ -1,8 +1,5 @@
-use Rattle.std.specs.Map.{values_of}
+use Rattle.finder.proofs.Words.{values_of, map_push, same_Some, IsNodeRank}
 use Rattle.std.proofs.Common.{◌≡◌, get_or, false, sym, ◌∙◌, ap, subst}
-use Rattle.std.proofs.lemmas.List.{map_push}
-use Rattle.std.proofs.lemmas.Option.{same_Some}
-use Rattle.finder.specs.Graph.{IsNodeRank}
 use Rattle.finder.proofs.Lists.{push_at}
 use Rattle.finder.proofs.Marked.{node_inside, unlisted, way_passed, way_led}
 use Rattle.finder.proofs.discover.Discovery.try_way.Goals as goal

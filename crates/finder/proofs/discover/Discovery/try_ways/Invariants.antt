@@ -1,6 +1,5 @@
-use Rattle.std.specs.Map.{values_of}
+use Rattle.finder.proofs.Words.{values_of, IsListed}
 use Rattle.std.proofs.Common.{◌≡◌, ◌+◌, ◌*◌, Some, slice_get}
-use Rattle.finder.specs.Discovery.{IsListed}
 use Rattle.finder.proofs.discover.Discovery.try_ways.Given as goal
 
 abbrev pub invariant-loop-way : goal.invariant-loop-way

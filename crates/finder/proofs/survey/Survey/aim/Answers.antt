@@ -1,7 +1,5 @@
 use Rattle.std.proofs.Common.{◌≡◌, ◌*◌, Some, slice_get, ◌∙◌, ap, subst, arith}
-use Rattle.frame_records.specs.Ways.{destination}
-use Rattle.finder.specs.Survey.{SurveyView, aim_of}
-use Rattle.finder.specs.Targets.{aim_at, AreTargets}
+use Rattle.finder.proofs.Words.{destination, SurveyView, aim_of, aim_at, AreTargets}
 use Rattle.finder.proofs.Whole.{node_within, aim_told}
 use Rattle.finder.proofs.survey.Survey.aim.Goals as goal
 

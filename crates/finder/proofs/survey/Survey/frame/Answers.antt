@@ -1,7 +1,5 @@
 use Rattle.std.proofs.Common.{◌≡◌, Some, slice_get, get_or, length, sym, ◌∙◌, ap, arith}
-use Rattle.std.proofs.lemmas.Option.{get_or_from_slice_get}
-use Rattle.frame_records.specs.BaseView.{frame_at}
-use Rattle.finder.specs.Survey.{SurveyView}
+use Rattle.finder.proofs.Words.{get_or_from_slice_get, frame_at, SurveyView}
 use Rattle.finder.proofs.Whole.{stands, node_within}
 use Rattle.finder.proofs.survey.Survey.frame.Goals as goal
 

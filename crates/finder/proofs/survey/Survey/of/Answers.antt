@@ -1,19 +1,14 @@
 use Rattle.std.proofs.Common.{◌≡◌, Some, None, sym, subst, arith}
-use Rattle.std.proofs.lemmas.Option.{slice_get_within}
-use Rattle.frame_records.specs.BaseView.{BaseView}
-use Rattle.frame_records.specs.Seek.{entry_of}
-use Rattle.finder.specs.Entries.{IsEntryPlace}
-use Rattle.finder.specs.Finds.{IsFinding}
-use Rattle.finder.specs.Targets.{id_at}
+use Rattle.finder.proofs.Words.{slice_get_within, BaseView, entry_of, IsEntryPlace, IsFinding, id_at}
+use Rattle.finder.proofs.Places.{id_stands}
 use Rattle.finder.proofs.Whole.{nothing}
-use Rattle.finder.proofs.Within.{id_stands}
 use Rattle.finder.proofs.survey.Survey.of.Goals as goal
 
 pub returns-in_default-clause-found : goal.returns-in_default-clause-found
 returns-in_default-clause-found c =
-    let numbers = c.in_ok-numbers in
-    let here = subst (λ b. IsEntryPlace numbers.numbers.groups.now b None) numbers.ensures.base c.in_default.ensures in
-    subst (IsFinding c.args.groups.now c.args.base.now) (sym c.empty.ensures.found) (nothing c.args.groups.now c.args.base.now (subst (λ g. IsEntryPlace g c.args.base.now None) numbers.ensures.groups here))
+    let notes = c.in_ok-notes in
+    let here = subst (λ b. IsEntryPlace notes.notes.groups.now b None) notes.ensures.base c.in_default.ensures in
+    subst (IsFinding c.args.groups.now c.args.base.now) (sym c.empty.ensures.found) (nothing c.args.groups.now c.args.base.now (subst (λ g. IsEntryPlace g c.args.base.now None) notes.ensures.groups here))
 
 pub invariant_of-of_graph : goal.invariant_of-of_graph
 invariant_of-of_graph c =

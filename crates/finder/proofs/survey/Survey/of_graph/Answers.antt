@@ -1,6 +1,5 @@
 use Rattle.std.proofs.Common.{arith}
-use Rattle.std.proofs.lemmas.List.{length-map}
-use Rattle.finder.specs.Entries.{discovered_of}
+use Rattle.finder.proofs.Words.{length-map, discovered_of}
 use Rattle.finder.proofs.Whole.{whole}
 use Rattle.finder.proofs.survey.Survey.of_graph.Goals as goal
 

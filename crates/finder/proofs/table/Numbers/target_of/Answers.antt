@@ -1,8 +1,0 @@
-use Rattle.finder.proofs.Targeted.{targeted, missed}
-use Rattle.finder.proofs.table.Numbers.target_of.Goals as goal
-
-pub returns-in-Some-target_by_id : goal.returns-in-Some-target_by_id
-returns-in-Some-target_by_id c = targeted _ _ _ _ _ c.args.self.now.whole c.in-Some.id c.in-Some.ensures c.in-Some-target_by_id.target c.in-Some-target_by_id.ensures
-
-pub returns-in-None : goal.returns-in-None
-returns-in-None c = missed _ _ _ _ _ c.args.self.now.whole c.in-Some.id c.in-Some.ensures c.missing.result c.in-None.ensures c.missing.ensures.aim c.missing.ensures.place

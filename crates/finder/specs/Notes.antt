@@ -1,0 +1,37 @@
+-- What seeking frames comes to, and what is noted of them.
+use Rattle.std.specs.Prelude.{◌≡◌, ◌<◌, ℕ, Bool, List, Option, Some, None, All, option_map, slice_get, if◌then◌else◌}
+use Rattle.page_ids.specs.Id.{Id}
+use Rattle.frame_records.specs.declared.frame.Frame.{Frame}
+use Rattle.frame_records.specs.BaseView.{frame_among}
+use Rattle.frame_records.specs.Seek.{is_open}
+use Rattle.finder.specs.declared.notes.Note.{Note}
+use Rattle.finder.specs.declared.target.Target.{Target}
+use Rattle.finder.specs.declared.target.Target.TheVariants.{Found, Closed}
+use Rattle.finder.specs.Targets.{id_at}
+
+-- the frame of an id stands at a place, and is open to the caller or isn't
+pub record IsSeen (caller : List ℕ) (frames : List Frame) (id : Id) (place : ℕ) (admitted : Bool) : Type 0 where
+  pub stands : id_at frames place ≡ Some id
+  pub admits : option_map (is_open caller) (slice_get frames place) ≡ Some admitted
+
+-- what seeking it comes to
+abbrev pub target_at : ℕ → Bool → Target
+target_at place admitted = if admitted then Found place else Closed
+
+-- what seeking an id comes to; none where no frame has it
+abbrev pub IsSought : List ℕ → List Frame → Id → Option Target → Type 0
+IsSought caller frames id None = frame_among frames id ≡ None
+IsSought caller frames id (Some target) = (place : ℕ) × (admitted : Bool) × IsSeen caller frames id place admitted × (target ≡ target_at place admitted)
+
+-- a note of the frame of an id
+pub record IsOf (note : Note) (id : Id) : Type 0 where
+  pub page : note.page ≡ id.page
+  pub letter : note.letter ≡ id.letter
+  pub named : 0 < note.letter
+
+-- what is noted is so
+abbrev pub IsNote : List ℕ → List Frame → Note → Type 0
+IsNote caller frames note = (id : Id) → IsOf note id → IsSeen caller frames id note.place note.is_open
+
+pub record AreNotes (caller : List ℕ) (frames : List Frame) (notes : List Note) : Type 0 where
+  pub each : All (IsNote caller frames) notes

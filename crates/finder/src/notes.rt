@@ -1,0 +1,190 @@
+//! What seeking a frame comes to. Frames are noted by their ids, each near the slot that its id tells; one that finds no
+//! blank there is searched by halves. A look-up rests on each note being true, not on where it stands.
+
+ghost use Rattle.std.specs.Prelude.{◌≡◌, ◌<◌, IsTrue, IfSome, IfOk, length};
+ghost use Rattle.frame_records.specs.BaseView.{IsBase};
+ghost use Rattle.frame_records.specs.Seek.{is_open};
+ghost use Rattle.frame_records.specs.Ways.{missing_by};
+ghost use Rattle.finder.specs.Notes.{target_at, IsOf, AreNotes, IsSought};
+ghost use Rattle.finder.specs.Targets.{told, IsTarget};
+
+use crate::target::Target;
+use frame_records::{Base, Frame, Groups};
+use page_ids::{FrameId, Way};
+use std::alloc::{AllocError, Global};
+
+// A frame that is noted; a blank has the letter 0.
+#[derive(Debug, Clone, Copy, PartialEq, Eq)]
+pub struct Note {
+    pub page: u32,
+    // Its place in the base.
+    pub place: u16,
+    pub letter: u8,
+    pub is_open: bool,
+}
+
+// How many slots are tried, from the one that an id tells.
+const TRIES: usize = 8;
+
+impl Note {
+    const BLANK: Note = Note {
+        page: 0,
+        place: 0,
+        letter: 0,
+        is_open: false,
+    };
+
+    // The frame at a place, as a caller of the groups finds it.
+    fn of(frame: &Frame, place: u16, groups: &Groups) -> Note
+        ensures page { result.page ≡ frame.now.id.page }
+        ensures letter { result.letter ≡ frame.now.id.letter }
+        ensures place { result.place ≡ place }
+        ensures is_open { result.is_open ≡ is_open groups.now frame.now }
+    {
+        Note {
+            page: frame.id.page.get(),
+            place,
+            letter: frame.id.letter.get(),
+            is_open: frame.is_open(groups),
+        }
+    }
+
+    // Whether it notes the frame of an id.
+    fn is_of(&self, id: &FrameId) -> bool
+        ensures { IsTrue result → IsOf self.now id.now }
+    {
+        self.page == id.page.get() && self.letter == id.letter.get()
+    }
+
+    // What seeking its frame comes to.
+    fn target(&self) -> Target
+        ensures { result ≡ target_at self.now.place self.now.is_open }
+    {
+        if self.is_open {
+            Target::Found(self.place)
+        } else {
+            Target::Closed
+        }
+    }
+}
+
+// The slot that an id tells, among a power of two of them: pages in a row are noted in a row, each letter elsewhere.
+fn slot_of(id: &FrameId, slots: usize) -> usize {
+    let apart = (id.letter.get() as u32).wrapping_mul(0x9E37_79B1);
+    id.page.get().wrapping_add(apart) as usize & slots.wrapping_sub(1)
+}
+
+// A blank near the slot that an id tells.
+fn blank_near(notes: &[Note], id: &FrameId) -> Option<usize>
+    ensures { IfSome result (λ i. i < length notes.now) }
+{
+    let first = slot_of(id, notes.len());
+    for slot in first..first.saturating_add(TRIES) {
+        if notes.get(slot)?.letter == 0 {
+            return Some(slot);
+        }
+    }
+    None
+}
+
+// Notes the frame at a place, where there is a blank for it.
+fn add_note(notes: &mut Vec<Note>, frames: &[Frame], groups: &Groups, place: u16)
+    requires inside { place < length frames.now }
+    requires noted { AreNotes groups.now frames.now notes.old.items }
+    ensures { AreNotes groups.now frames.now notes.new.items }
+{
+    let frame = &frames[place as usize];
+    if let Some(slot) = blank_near(notes.as_slice(), &frame.id) {
+        notes[slot] = Note::of(frame, place, groups);
+    }
+}
+
+// The noted frames of a base, as a caller of the groups finds them.
+#[derive(Drop)]
+pub struct Notes<'a> {
+    pub base: &'a Base,
+    pub groups: &'a Groups,
+    pub notes: Vec<Note>,
+    pub ghost valid: { IsBase base.now },
+    pub ghost noted: { AreNotes groups.now base.now.frames notes.items },
+}
+
+impl<'a> Notes<'a> {
+    // All the frames of a base, as far as there are blanks near their slots. There are at least twice as many slots as
+    // frames.
+    pub fn of(alloc: Global, base: &'a Base, groups: &'a Groups) -> Result<Notes<'a>, AllocError>
+        ensures base { IfOk result (λ m. m.base.now ≡ base.now) }
+        ensures groups { IfOk result (λ m. m.groups.now ≡ groups.now) }
+    {
+        let frames = base.frames();
+        let slots = (frames.len() * 2).next_power_of_two();
+        let mut notes = vec![in alloc; Note::BLANK; slots]?;
+        for place in 0..frames.len() as u16 {
+            add_note(&mut notes, frames, groups, place);
+        }
+        Ok(Notes {
+            base,
+            groups,
+            notes,
+        })
+    }
+
+    // What the frame of an id comes to, where it is noted.
+    fn noted_target(&self, id: &FrameId) -> Option<Target>
+        ensures { IfSome result (λ t. IsSought self.now.groups.now self.now.base.now.frames id.now (Some t)) }
+    {
+        let first = slot_of(id, self.notes.len());
+        for slot in first..first.saturating_add(TRIES) {
+            let note = self.notes.get(slot)?;
+            if note.is_of(id) {
+                return Some(note.target());
+            }
+        }
+        None
+    }
+
+    // What the frame of an id comes to, by halves.
+    #[cold]
+    fn searched_target(&self, id: &FrameId) -> Option<Target>
+        ensures { IsSought self.now.groups.now self.now.base.now.frames id.now result }
+    {
+        let frames = self.base.frames();
+        match frames.binary_search_by_key(id, |frame| frame.id) {
+            Ok(place) => Some(Note::of(&frames[place], place as u16, self.groups).target()),
+            Err(_) => None,
+        }
+    }
+
+    // What the frame of an id comes to; `None` where the base lacks it.
+    pub fn target_by_id(&self, id: &FrameId) -> Option<Target>
+        ensures { IsSought self.now.groups.now self.now.base.now.frames id.now result }
+    {
+        match self.noted_target(id) {
+            Some(target) => Some(target),
+            None => self.searched_target(id),
+        }
+    }
+
+    // A frame that a way seeks and the base lacks.
+    fn missing(&self, way: &Way, id: &FrameId) -> Target
+        ensures { told self.now.base.now.frames (Some id.now) result ≡ Some (missing_by self.now.base.now way.now id.now) }
+    {
+        match way {
+            Way::Route(_) if self.base.is_outside(id.page) => Target::Outside,
+            _ => Target::Missing,
+        }
+    }
+
+    // What a way of a frame comes to.
+    pub fn target_of(&self, frame: &Frame, way: Way) -> Target
+        ensures { IsTarget self.now.groups.now self.now.base.now frame.now way result }
+    {
+        let Some(id) = frame.sought(way) else {
+            return Target::NotOffered;
+        };
+        match self.target_by_id(&id) {
+            Some(target) => target,
+            None => self.missing(&way, &id),
+        }
+    }
+}
