@@ -7,9 +7,10 @@
 //!
 //! ```
 //! let policy = Policy { ceiling, keyings: 3, groups: Groups::none() };
-//! match check_bytes(alloc, base, cert, &policy)? {
-//!     Verdict::Cleared => {} // every session is safe
-//!     Verdict::Refused(cause) => {} // the first condition that fails
+//! match check_bytes(alloc, base, cert, &policy) {
+//!     Ok(Verdict::Cleared) => {} // every session is safe
+//!     Ok(Verdict::Refused(cause)) => {} // the first condition that fails
+//!     Err(fault) => {} // a text is at fault, or memory was refused
 //! }
 //! ```
 //!
