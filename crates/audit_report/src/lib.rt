@@ -1,5 +1,10 @@
 //! Every printed line.
 //!
+//! ```
+//! verdict_text(alloc, &Verdict::Refused(Cause::CeilingAbove))? // b"REFUSED K2 CeilingAbove\n"
+//! fault_text(alloc, &RunFault::ReadBase)? // b"base: read failed\n"
+//! ```
+//!
 //! - [`report`], [`verdict_text`], [`change_text`], [`walk_text`], [`entry_text`], [`fault_text`]: each printed text, byte for byte as it is
 //!   defined.
 //! - [`RunFault`]: why a run ends without its work done.

@@ -21,6 +21,11 @@
 //! | `body` | string | exactly one of these two | code points 0 to FF, one byte each |
 //! | `rows` | array of strings | | at most 22, each of at most 40 code points, 20 to 7F or 80 to 9F |
 //!
+//! ```
+//! base_read(alloc, b"entry = 1\noutside = [0]\n") // a base without frames
+//! base_read(alloc, b"outside = [0]\n") // Absent(Entry) (X4), without an index
+//! ```
+//!
 //! - [`BaseFault`], [`Cause`], [`Field`]: where a text is refused, why, and the name of the key.
 //! - [`RowCells`], [`body_of_rows`]: a row of a screen, and the body that paints rows.
 //!

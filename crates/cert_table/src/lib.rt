@@ -4,6 +4,12 @@
 //! [`Row`] with its return rank and the cursor after its painting. Contracts see a certificate as those numbers and the
 //! list of its rows, in the order of their ids, whatever [`Cover`] holds them.
 //!
+//! ```
+//! let cert: Certificate = Certificate::build(entry, ceiling, keyings, groups, rows)?; // rows in the order of their ids
+//! cert.cover().row_of(id) // the frame's row, or None
+//! cert.cover().rank_of(id) // its rank alone
+//! ```
+//!
 //! - [`Row`]: a covered frame.
 //! - [`Cover`], [`RowTable`], [`RowList`]: a finite map from ids to rows, one that is searched by halves, and one from the front.
 //! - [`Certificate`], [`TableFault`]: made by `build` alone, or refused by name.

@@ -5,6 +5,12 @@
 //! groups begins with `PBC2`, and has a line `groups 7 9` behind the keyings. A certificate is read from just its own
 //! text.
 //!
+//! ```
+//! let cert = cert_read(alloc, text)?;
+//! cert_write(alloc, &cert)? // the same bytes
+//! cert_read(alloc, b"PBC3\n") // Line(1, Magic)
+//! ```
+//!
 //! - [`cert_write`]: the text of a certificate.
 //! - [`cert_read`], [`ReadFault`], [`LineCause`]: the certificate of a text, or the first line at fault and why.
 //! - [`CertReader`]: the same from a text that comes in pieces; the cuts don't matter.

@@ -5,6 +5,17 @@
 //! price above the certificate's ceiling, to a frame that paints over the service rows, or to a place from which the entry
 //! page can't be regained within the certificate's keyings. Who made the certificate doesn't matter.
 //!
+//! ```
+//! let policy = Policy { ceiling, keyings: 3, groups: Groups::none() };
+//! match check_bytes(alloc, base, cert, &policy) {
+//!     Ok(Verdict::Cleared) => {} // every session is safe
+//!     Ok(Verdict::Refused(cause)) => {} // the first condition that fails
+//!     Err(fault) => {} // a text is at fault, or memory was refused
+//! }
+//! ```
+//!
+//! A caller's own proved function, and what memory the calls take: `docs/CHECKER.md`.
+//!
 //! - [`Policy`]: what a centre asks of its bases.
 //! - [`check_bytes`], [`InputFault`]: the same of two texts; the headline stands on this call.
 //! - [`Verdict`], [`Cause`]: the first condition that fails, in one order.

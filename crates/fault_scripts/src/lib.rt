@@ -1,6 +1,13 @@
 //! The audit of a base: a certificate exactly where every session is safe within a policy, else every fault with the keys that
 //! show it.
 //!
+//! ```
+//! match audit(alloc, &base, &policy)? {
+//!     Outcome::Certified(cert) => {} // the check clears it
+//!     Outcome::Faulty(faults) => {} // every fault, with the keys that lead to it
+//! }
+//! ```
+//!
 //! - [`audit`], [`Outcome`]: the certificate of the frames that can be reached, or the faults.
 //! - [`faults`], [`FaultList`], [`Fault`], [`FaultKind`]: what is wrong with a base, frame by frame in the order of discovery.
 //! - [`replay`], [`Replayed`]: what a session of a fault's keys comes to.

@@ -4,6 +4,12 @@
 //! The entry frame is first. Then for each listed frame in turn the keys `0` to `9` and `#` are tried, and each open frame
 //! found that isn't yet listed goes last. So each has a parent, and the keys along the parents lead to it.
 //!
+//! ```
+//! let found = find(alloc, &base, &Groups::none())?;
+//! found.as_slice() // the frames, each with its rank, its parent's place and the key pressed there
+//! script_to(alloc, &found, 2)? // the keys from the entry frame to the third of them, as 1#
+//! ```
+//!
 //! - [`Survey`]: the list of a base, with the record of each listed frame and what each of its ways came to ([`Aim`]). Each
 //!   way is looked up once, and nothing is sought again.
 //! - [`find`], [`Found`], [`Discovered`]: the list alone.

@@ -3,6 +3,12 @@
 //! A [`Base`] is built from lists in any order, or refused by name. Contracts see it as its entry page, its outside pages
 //! and its frames, both ascending; `find` and `seek` answer by that list of frames as by a map from ids.
 //!
+//! ```
+//! let base = Base::build(entry, outside, frames)?; // two lists, each in any order
+//! base.find(id) // the frame, or None
+//! base.seek(id, &Groups::read("7,9")?) // Found with its price, Closed or Missing
+//! ```
+//!
 //! - [`Pence`], [`GroupNo`]: numbers within the limits of this profile.
 //! - [`Groups`], [`GroupsFault`], [`GroupFlaw`]: the closed user groups of a caller, and why a text lists none.
 //! - [`cut`]: what stands before a separator, and behind it.

@@ -3,6 +3,13 @@
 //! A page number is 0 to 999,999,999, written in decimal without leading zeros. A frame id is a page number and a
 //! letter `a` to `z`, as `1231a`. Each is read from just its own text, and back.
 //!
+//! ```
+//! FrameId::read("1231a")?.following() // 1231b
+//! FrameId::read("01a") // BadFrame: a leading zero
+//! keys_read(alloc, "1#*#")? // the route 1, next, previous
+//! keys_read(alloc, "1*5#") // BadKey(1): what begins at byte 1 is no key
+//! ```
+//!
 //! - [`PageNo`], [`Letter`], [`Digit`], [`FrameId`]: small copied values; contracts see numbers, and a pair of numbers.
 //! - [`Key`], [`KeyList`], [`keys_read`], [`keys_text`]: the keys of a caller, as `1#*#*00*09`.
 //! - [`Way`]: the ways on from a frame, by a route or by `#`.

@@ -3,6 +3,12 @@
 //! A [`Session`] is at a frame, with at most three remembered ones, or has left for an outside page. Each key looks into
 //! the base that is handed in with it. `Session::key` is the table of keys, which stands in `specs/Step.antt`.
 //!
+//! ```
+//! let (mut session, opening) = Session::open(alloc, &base, &Groups::none())?;
+//! session.key(&base, Key::Next) // what the frame that follows comes to, or NotOffered
+//! session.key(&next_edition, Key::Prev) // the frame before, sought in another base
+//! ```
+//!
 //! - [`Session`], [`OpenFault`]: the session, and why none is opened.
 //! - [`Reply`]: what the centre answers to a key.
 //! - [`runs_in_turn`], [`remembers_few`], [`left_stays`], [`shows_what_is_found`]: laws over whole lists of keys.
