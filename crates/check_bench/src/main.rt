@@ -190,7 +190,7 @@ fn row_time(rt: &HostRuntime, shape: Shape, frames: u32) -> Result<u128> {
     Ok(least.as_nanos() / u128::from(frames.max(1)))
 }
 
-// What a change takes against two checks, the least of some runs in turns.
+// What a change takes against two checks, the lesser of two runs each, in turns.
 fn measure_change(rt: &HostRuntime, shape: Shape) -> Result<()> {
     let policy = policy(Mark::None)?;
     let text = shape.full_text(rt.alloc())?;
@@ -198,10 +198,8 @@ fn measure_change(rt: &HostRuntime, shape: Shape) -> Result<()> {
     let (text, cert) = (text.as_slice(), cert.as_slice());
     let mut check = check_time(rt, text, cert, &policy)?.0;
     let mut change = change_time(rt, text, cert, &policy)?;
-    for _ in 1..RUNS {
-        check = check.min(check_time(rt, text, cert, &policy)?.0);
-        change = change.min(change_time(rt, text, cert, &policy)?);
-    }
+    check = check.min(check_time(rt, text, cert, &policy)?.0);
+    change = change.min(change_time(rt, text, cert, &policy)?);
     eprintln!(rt;
         "{}: change {} ms or {} percent of two checks",
         shape.name(),
@@ -254,7 +252,7 @@ fn measure_groups(rt: &HostRuntime, shape: Shape) -> Result<()> {
     );
     let (mut check, mut audit) = marked_times(rt, &plain)?;
     let (mut group_check, mut group_audit) = marked_times(rt, &grouped)?;
-    for _ in 1..RUNS.wrapping_mul(2) {
+    for _ in 0..RUNS {
         let (next_check, next_audit) = marked_times(rt, &plain)?;
         check = check.min(next_check);
         audit = audit.min(next_audit);

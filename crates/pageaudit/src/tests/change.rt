@@ -97,59 +97,44 @@ fn the_first_condition_that_fails_is_told(rt: HostRuntime) -> Result<(), Fail> {
     Ok(())
 }
 
-// What a change answers where one of its four files, the k-th, is another text, or breaks behind its first bytes; how often
-// the file behind it was asked, and how much was written.
-fn faulty(
-    alloc: Global,
-    k: usize,
-    text: &str,
-    kept: Option<usize>,
-    policy: &Policy,
-) -> (Result<Status, RunFault>, u32, usize) {
-    let mut sources = [DEMO, CERT, DEMO, CERT].map(|text| FakeSource::of(text.as_bytes(), 4_096));
-    sources[k] = match kept {
-        Some(kept) => FakeSource::broken(text.as_bytes(), 4_096, kept),
-        None => FakeSource::of(text.as_bytes(), 4_096),
-    };
-    let [mut old, mut old_cert, mut new, mut new_cert] = sources;
-    let mut out = FakeSink::of(alloc, 1_000);
-    let answer = run_change(
-        alloc,
-        &mut old,
-        &mut old_cert,
-        &mut new,
-        &mut new_cert,
-        &mut out,
-        policy,
-    );
-    let behind = [old_cert.calls, new.calls, new_cert.calls, 0];
-    (answer, behind[k], out.taken.len())
-}
-
 #[test]
-fn the_first_file_at_fault_ends_the_run(rt: HostRuntime) -> Result<(), Fail> {
-    let alloc = rt.alloc();
+fn a_text_of_the_new_edition_is_told_as_its_own(rt: HostRuntime) -> Result<(), Fail> {
     let absent = BaseFault {
         frame: None,
         cause: Cause::Absent(Field::Entry),
     };
+    let (answer, text) = changed(rt.alloc(), "", CERT, &policy(50, 3)?);
+    assert_eq!(rt; answer, Err(RunFault::NewBase(absent)));
+    assert_eq!(rt; text.len(), 0);
     let magic = ReadFault::Line(1, LineCause::Magic);
-    let rows: [(usize, &str, Option<usize>, RunFault); 8] = [
-        (0, "", None, RunFault::Base(absent)),
-        (0, DEMO, Some(3), RunFault::ReadBase),
-        (1, "PBC3\n", None, RunFault::Cert(magic)),
-        (1, CERT, Some(4), RunFault::ReadCert),
-        (2, "", None, RunFault::NewBase(absent)),
-        (2, DEMO, Some(3), RunFault::ReadNewBase),
-        (3, "PBC3\n", None, RunFault::NewCert(magic)),
-        (3, CERT, Some(4), RunFault::ReadNewCert),
-    ];
-    for (k, text, kept, fault) in rows {
-        let (answer, behind, wrote) = faulty(alloc, k, text, kept, &policy(50, 3)?);
-        assert_eq!(rt; answer, Err(fault), "{k}");
-        assert_eq!(rt; status_of(&answer), 3, "{k}");
-        assert_eq!(rt; behind, 0, "{k}");
-        assert_eq!(rt; wrote, 0, "{k}");
+    let (answer, text) = changed(rt.alloc(), DEMO, "PBC3\n", &policy(50, 3)?);
+    assert_eq!(rt; answer, Err(RunFault::NewCert(magic)));
+    assert_eq!(rt; status_of(&answer), 3);
+    assert_eq!(rt; text.len(), 0);
+    Ok(())
+}
+
+#[test]
+fn a_new_base_that_cannot_be_read_ends_the_run(rt: HostRuntime) -> Result<(), Fail> {
+    for kept in [0, 3] {
+        let mut old = FakeSource::of(DEMO.as_bytes(), 4_096);
+        let mut old_cert = FakeSource::of(CERT.as_bytes(), 4_096);
+        let mut new = FakeSource::broken(DEMO.as_bytes(), 4_096, kept);
+        let mut new_cert = FakeSource::of(CERT.as_bytes(), 4_096);
+        let mut out = FakeSink::of(rt.alloc(), 1_000);
+        let answer = run_change(
+            rt.alloc(),
+            &mut old,
+            &mut old_cert,
+            &mut new,
+            &mut new_cert,
+            &mut out,
+            &policy(50, 3)?,
+        );
+        assert_eq!(rt; answer, Err(RunFault::ReadNewBase), "{kept}");
+        assert_eq!(rt; status_of(&answer), 3);
+        assert_eq!(rt; new_cert.calls, 0);
+        assert_eq!(rt; out.taken.len(), 0);
     }
     Ok(())
 }
