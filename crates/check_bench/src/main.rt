@@ -2,9 +2,10 @@
 //!
 //! It prints to standard error, for each shape, the least processor times of three runs each, in turns: `toml` making its
 //! tree and letting it go, the base read and let go (a walk of no keys), and the whole check, with what the check compared and
-//! painted; then a change from the base to an edition like it, against two such checks; then the check's time for each row of 8,192 and of 65,535; then the check and the audit for a caller of 16 groups,
-//! to which all frames belong, against those for a caller outside every group on texts as long. It prints `ok` where each
-//! certificate was cleared.
+//! painted; a change from the base to an edition like it, against two such checks; then the check's time for each row of
+//! 8,192 and of 65,535; then the check and the audit for a caller of 16 groups, to which all frames belong, against those
+//! for a caller outside every group on texts as long, of a quarter of the frames. It prints `ok` where each certificate was
+//! cleared.
 #![tactic(auto)]
 
 mod shape;
@@ -151,7 +152,7 @@ fn percent(part: Duration, whole: Duration) -> u128 {
     part.as_micros().saturating_mul(100) / whole.as_micros().max(1)
 }
 
-// The three times of a shape, the least of some runs in turns.
+// The four times of a shape, the least of some runs in turns.
 fn measure(rt: &HostRuntime, shape: Shape) -> Result<()> {
     let policy = policy(Mark::None)?;
     let text = shape.full_text(rt.alloc())?;
@@ -159,10 +160,12 @@ fn measure(rt: &HostRuntime, shape: Shape) -> Result<()> {
     let (text, cert) = (text.as_slice(), cert.as_slice());
     let (mut tree, mut walk) = (tree_time(rt, text)?, walk_time(rt, text)?);
     let (mut check, count) = check_time(rt, text, cert, &policy)?;
+    let mut change = change_time(rt, text, cert, &policy)?;
     for _ in 1..RUNS {
         tree = tree.min(tree_time(rt, text)?);
         walk = walk.min(walk_time(rt, text)?);
         check = check.min(check_time(rt, text, cert, &policy)?.0);
+        change = change.min(change_time(rt, text, cert, &policy)?);
     }
     eprintln!(rt;
         "{}: TOML alone {} ms, walk {} ms or {} percent, check {} ms or {} percent, {} probes, {} steps",
@@ -174,6 +177,12 @@ fn measure(rt: &HostRuntime, shape: Shape) -> Result<()> {
         percent(check, tree),
         count.probes,
         count.steps
+    )?;
+    eprintln!(rt;
+        "{}: change {} ms or {} percent of two checks",
+        shape.name(),
+        change.as_millis(),
+        percent(change, check.saturating_add(check))
     )?;
     Ok(())
 }
@@ -188,25 +197,6 @@ fn row_time(rt: &HostRuntime, shape: Shape, frames: u32) -> Result<u128> {
         least = least.min(check_time(rt, text.as_slice(), cert.as_slice(), &policy)?.0);
     }
     Ok(least.as_nanos() / u128::from(frames.max(1)))
-}
-
-// What a change takes against two checks, the lesser of two runs each, in turns.
-fn measure_change(rt: &HostRuntime, shape: Shape) -> Result<()> {
-    let policy = policy(Mark::None)?;
-    let text = shape.full_text(rt.alloc())?;
-    let cert = cert_text(rt.alloc(), text.as_slice(), &policy)?;
-    let (text, cert) = (text.as_slice(), cert.as_slice());
-    let mut check = check_time(rt, text, cert, &policy)?.0;
-    let mut change = change_time(rt, text, cert, &policy)?;
-    check = check.min(check_time(rt, text, cert, &policy)?.0);
-    change = change.min(change_time(rt, text, cert, &policy)?);
-    eprintln!(rt;
-        "{}: change {} ms or {} percent of two checks",
-        shape.name(),
-        change.as_millis(),
-        percent(change, check.saturating_add(check))
-    )?;
-    Ok(())
 }
 
 // How much more a row takes among many than among few.
@@ -231,7 +221,7 @@ struct Marked {
 
 fn with_mark(rt: &HostRuntime, shape: Shape, mark: Mark) -> Result<Marked> {
     let policy = policy(mark)?;
-    let text = shape.marked_text(rt.alloc(), shape.most() / 16 * 15, mark)?;
+    let text = shape.marked_text(rt.alloc(), shape.most() / 4, mark)?;
     let cert = cert_text(rt.alloc(), text.as_slice(), &policy)?;
     Ok(Marked { text, cert, policy })
 }
@@ -272,9 +262,6 @@ fn measure_groups(rt: &HostRuntime, shape: Shape) -> Result<()> {
 fn main(rt: HostRuntime) -> Result<()> {
     for shape in SHAPES {
         measure(&rt, shape)?;
-    }
-    for shape in SHAPES {
-        measure_change(&rt, shape)?;
     }
     for shape in [Shape::Tree, Shape::Scattered, Shape::Chain] {
         measure_growth(&rt, shape)?;
