@@ -215,6 +215,54 @@ def audit_cases():
         yield Case(f"read_whole demo {piece}", DEMO)
 
 
+def ran(status, text="", fault=""):
+    """What a run answers: its fault's line, its status, and what it wrote."""
+    return f"{fault and fault + chr(10)}status {status}\n{text}"
+
+
+UNWRITTEN = "output: write failed after {} bytes"
+# The words of each run between its name and its output, its words behind the output, its status and its text.
+RUNS = [
+    ("run_audit demo {}", "50 3 -", 0, CERT),
+    ("run_audit closed {}", "50 3 7", 0, GROUPED),
+    ("run_audit closed {}", "50 3 -", 1, FAULTS["closed"]),
+    ("run_audit no_entry {}", "50 3 -", 1, FAULTS["no_entry"]),
+    ("run_check demo {0} cert {0}", "5 1 -", 0, "CLEARED\n"),
+    ("run_check missing {0} cert {0}", "5 1 -", 1, "REFUSED K11 RouteNotCovered 1231b 9\n"),
+    ("run_change demo {0} cert {0} demo {0} cert {0}", "50 3 -", 0, "CLEARED\n"),
+    ("run_change demo {0} cert {0} shorter {0} shorter_cert {0}", "50 3 -", 1, "REFUSED E2 NoLongerCovered 1231b\n"),
+    ("run_walk demo {} 1010*#*#*#*#", "-", 0, REPLIES),
+    ("run_walk entry_closed {} 1", "-", 1, "ENTRYCLOSED 123a\n"),
+]
+
+
+def run_cases():
+    for front, behind, status, text in RUNS:
+        for piece in 1, 4_096:
+            yield Case(f"{front.format(piece)} whole {behind}", ran(status, text))
+        for room in 0, 1, len(text) - 1:
+            fault = UNWRITTEN.format(room)
+            for output in "full", "stalling":
+                yield Case(f"{front.format(7)} {output}/{room} {behind}", ran(3, text[:room], fault))
+        yield Case(f"{front.format(7)} unflushed {behind}", ran(3, text, UNWRITTEN.format(len(text))))
+    for kept in 0, 100, len(DEMO):
+        unread = ran(3, fault="base: read failed")
+        yield Case(f"run_audit demo 7/{kept} whole 50 3 -", unread)
+        yield Case(f"run_check demo 7/{kept} cert 7 whole 5 1 -", unread)
+        yield Case(f"run_walk demo 7/{kept} 1# whole -", unread)
+        yield Case(f"run_change demo 7/{kept} cert 7 demo 7 cert 7 whole 50 3 -", unread)
+        new = ran(3, fault="new base: read failed")
+        yield Case(f"run_change demo 7 cert 7 demo 7/{kept} cert 7 whole 50 3 -", new)
+    for kept in 0, 40, len(CERT):
+        yield Case(f"run_check demo 7 cert 7/{kept} whole 5 1 -", ran(3, fault="certificate: read failed"))
+        words = f"run_change demo 7 cert 7 demo 7 cert 7/{kept} whole 50 3 -"
+        yield Case(words, ran(3, fault="new certificate: read failed"))
+    yield Case("run_walk demo 7 1*5# whole -", ran(2, fault="keys: I3 BadKey 1"))
+    yield Case("run_audit bad_base_4 7 whole 50 3 -", ran(3, fault="base: X3 UnknownKey"))
+    yield Case("run_check demo 7 bad_cert_9 7 whole 5 1 -", ran(3, fault="certificate: line 10: Tail"))
+    yield Case("run_change demo 7 cert 7 bad_base_4 7 cert 7 whole 50 3 -", ran(3, fault="new base: X3 UnknownKey"))
+
+
 # The large base: pages in a tree of nine routes down and one up, every seventh with a second frame, every hundredth in
 # group 7.
 PAGES = 4_000
@@ -328,7 +376,7 @@ def cases(folder):
     large = large_files()
     for name, text in {**small_files(), **large}.items():
         (folder / name).write_text(text, "ascii")
-    for part in key_cases, base_cases, cert_cases, session_cases, verdict_cases, change_cases, audit_cases:
+    for part in key_cases, base_cases, cert_cases, session_cases, verdict_cases, change_cases, audit_cases, run_cases:
         yield from part()
     for case in large_cases(large):
         case.is_large = True

@@ -14,7 +14,7 @@ from dataclasses import dataclass, field
 from pathlib import Path
 
 TOP = Path(__file__).resolve().parent.parent
-PROGRAM = TOP / "crates" / "pageaudit" / "out" / "pageaudit"
+PROGRAM = TOP / "crates" / "command_line" / "out" / "command_line"
 
 
 @dataclass

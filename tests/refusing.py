@@ -10,7 +10,7 @@ from tempfile import TemporaryDirectory
 
 HERE = Path(__file__).resolve().parent
 TOP = HERE.parent
-PROGRAM = TOP / "crates" / "pageaudit" / "out" / "pageaudit"
+PROGRAM = TOP / "crates" / "command_line" / "out" / "command_line"
 
 
 @dataclass(frozen=True)

@@ -1,87 +1,26 @@
-//! Audits a safe base text of the greatest length and number of frames, and measures it against its TOML alone; then a chain
-//! of 20,000 frames of which each is too dear, so that the scripts come to 200 million keys.
+//! Audits safe base texts of full size in four shapes, and measures that and their reading against `toml` alone; then a
+//! chain of 20,000 frames of which each is too dear, so that the scripts come to 200 million keys.
 //!
-//! It prints the processor times, the greatest memory so far and the ratios to standard error, and `ok` where both audits
-//! came out as they must.
+//! It prints the least processor times of five runs each, in turns, the greatest memory and the ratios to standard error, and
+//! `ok` where the audits came out as they must.
 #![tactic(auto)]
 
 use anyhow::{Result, bail};
 use audit_report::report;
 use base_text::base_read;
+use bench_tools::{SHAPES, Shape, forget_peak, peak_memory, percent, tree_time};
 use checker::Policy;
 use fault_scripts::{Outcome, audit};
 use frame_records::{Base, Body, Frame, Groups, Lead, Pence};
-use itoa::Buffer;
 use page_ids::{FrameId, PageNo};
-use std::alloc::{AllocError, Global};
+use std::alloc::Global;
 use std::time::{CpuClock, Duration};
 
-const FRAMES: u32 = 65_535;
-
-const LENGTH: usize = 16_777_216;
+const RUNS: u32 = 5;
 
 const FIRST_PAGE: u32 = 100_000;
 
 const CHAIN: u32 = 20_000;
-
-fn push_number(text: &mut Vec<u8>, number: u32) -> Result<(), AllocError> {
-    let mut buffer = Buffer::new();
-    text.extend_from_slice(buffer.format(number).as_bytes())
-}
-
-// A frame of about 250 bytes on a page of its own, with routes back to the entry page and on to two other pages.
-fn push_frame(text: &mut Vec<u8>, number: u32) -> Result<(), AllocError> {
-    text.extend_from_slice(b"[[frame]]\nid = \"")?;
-    push_number(text, FIRST_PAGE.wrapping_add(number))?;
-    text.extend_from_slice(b"a\"\nprice = 5\nroutes = { 0 = 100000, 1 = ")?;
-    push_number(
-        text,
-        FIRST_PAGE.wrapping_add(number.wrapping_add(1) % FRAMES),
-    )?;
-    text.extend_from_slice(b", 9 = ")?;
-    push_number(
-        text,
-        FIRST_PAGE.wrapping_add(number.wrapping_mul(7) % FRAMES),
-    )?;
-    text.extend_from_slice(b" }\nbody = \"")?;
-    text.extend_from_slice(&[b'x'; 160])?;
-    text.extend_from_slice(b"\"\n")
-}
-
-// The text, filled up by a comment.
-fn large_text(alloc: Global) -> Result<Vec<u8>, AllocError> {
-    let mut text = Vec::with_capacity(alloc, LENGTH)?;
-    text.extend_from_slice(b"entry = 100000\n")?;
-    for number in 0..FRAMES {
-        push_frame(&mut text, number)?;
-    }
-    text.resize(LENGTH, b'#')?;
-    Ok(text)
-}
-
-// The kilobytes of a line as `VmHWM:  1024 kB`.
-fn kilobytes(line: &str) -> Result<u64> {
-    match line.split_ascii_whitespace().nth(1) {
-        Some(number) => Ok(number.parse::<u64>()?),
-        None => bail!("a line without a number"),
-    }
-}
-
-// The greatest memory of the process so far in kilobytes, as Linux tells it.
-fn peak_memory(rt: &HostRuntime) -> Result<u64> {
-    let status = std::fs::read_to_string(rt, "/proc/self/status")?;
-    for line in status.as_str().lines() {
-        if line.starts_with("VmHWM:") {
-            return kilobytes(line);
-        }
-    }
-    bail!("no peak of memory is told")
-}
-
-// How many hundredths of the whole a part is.
-fn percent(part: u128, whole: u128) -> u128 {
-    part.saturating_mul(100) / whole.max(1)
-}
 
 fn policy(ceiling: u16) -> Result<Policy> {
     match Pence::new(ceiling) {
@@ -94,34 +33,72 @@ fn policy(ceiling: u16) -> Result<Policy> {
     }
 }
 
-// The tree is made and let go.
-fn tree_time(rt: &HostRuntime, text: &[u8]) -> Result<Duration> {
+// The base is read and let go.
+fn read_time(rt: &HostRuntime, text: &[u8]) -> Result<Duration> {
     let start = rt.thread_cpu_time()?;
-    let is_toml = toml::table_from_slice(rt.alloc(), text).is_ok();
+    let is_base = base_read(rt.alloc(), text).is_ok();
     let time = rt.thread_cpu_time()?.saturating_sub(start);
-    if !is_toml {
-        bail!("the text is no TOML");
+    if !is_base {
+        bail!("the text is no base");
     }
     Ok(time)
 }
 
-// Reading the base, and then auditing it and writing the certificate.
-fn safe_times(rt: &HostRuntime, text: &[u8]) -> Result<(Duration, Duration)> {
-    let policy = policy(5)?;
+// The base is read and audited, its certificate is written, and all is let go.
+fn audit_time(rt: &HostRuntime, text: &[u8]) -> Result<Duration> {
     let start = rt.thread_cpu_time()?;
-    let Ok(base) = base_read(rt.alloc(), text) else {
-        bail!("the text is not read");
-    };
-    let read = rt.thread_cpu_time()?;
-    let outcome = audit(rt.alloc(), &base, &policy)?;
-    let printed = report(rt.alloc(), &outcome)?;
-    let end = rt.thread_cpu_time()?;
-    match outcome {
-        Outcome::Certified(_) if printed.as_slice().starts_with(b"PBC1\n") => {
-            Ok((read.saturating_sub(start), end.saturating_sub(read)))
-        }
-        _ => bail!("the base is not certified"),
+    let is_certified = is_certified(rt.alloc(), text)?;
+    let time = rt.thread_cpu_time()?.saturating_sub(start);
+    if !is_certified {
+        bail!("the base is not certified");
     }
+    Ok(time)
+}
+
+fn is_certified(alloc: Global, text: &[u8]) -> Result<bool> {
+    let Ok(base) = base_read(alloc, text) else {
+        bail!("the text is no base");
+    };
+    let outcome = audit(alloc, &base, &policy(5)?)?;
+    let printed = report(alloc, &outcome)?;
+    Ok(printed.as_slice().starts_with(b"PBC1\n"))
+}
+
+// The greatest memory of each of the three, in their order.
+fn peaks(rt: &HostRuntime, text: &[u8]) -> Result<[u64; 3]> {
+    forget_peak(rt)?;
+    tree_time(rt, text)?;
+    let tree = peak_memory(rt)?;
+    forget_peak(rt)?;
+    read_time(rt, text)?;
+    let read = peak_memory(rt)?;
+    forget_peak(rt)?;
+    audit_time(rt, text)?;
+    Ok([tree, read, peak_memory(rt)?])
+}
+
+// What a shape takes, and how much more than `toml` alone that is.
+fn measure(rt: &HostRuntime, shape: Shape) -> Result<()> {
+    let text = shape.full_text(rt.alloc())?;
+    let text = text.as_slice();
+    let [tree_peak, read_peak, audit_peak] = peaks(rt, text)?;
+    let (mut tree, mut read) = (tree_time(rt, text)?, read_time(rt, text)?);
+    let mut audit = audit_time(rt, text)?;
+    for _ in 1..RUNS {
+        tree = tree.min(tree_time(rt, text)?);
+        read = read.min(read_time(rt, text)?);
+        audit = audit.min(audit_time(rt, text)?);
+    }
+    eprintln!(rt;
+        "{}: TOML alone {} ms and {tree_peak} kB, base_read {} percent of the time and {} of the memory, audit {} and {}",
+        shape.name(),
+        tree.as_millis(),
+        percent(read.as_micros(), tree.as_micros()),
+        percent(read_peak.into(), tree_peak.into()),
+        percent(audit.as_micros(), tree.as_micros()),
+        percent(audit_peak.into(), tree_peak.into())
+    )?;
+    Ok(())
 }
 
 fn page_of(number: u32) -> Result<PageNo> {
@@ -173,23 +150,25 @@ fn faults_time(rt: &HostRuntime, base: &Base) -> Result<(Duration, usize)> {
     Ok((time, printed.as_slice().len()))
 }
 
-fn main(rt: HostRuntime) -> Result<()> {
-    let text = large_text(rt.alloc())?;
-    let tree = tree_time(&rt, text.as_slice())?.as_millis();
-    let (read, audited) = safe_times(&rt, text.as_slice())?;
-    let (read, audited) = (read.as_millis(), audited.as_millis());
-    eprintln!(rt;
-        "TOML alone {tree} ms, base_read {read} ms, audit and report {audited} ms, together {} percent",
-        percent(read.saturating_add(audited), tree)
-    )?;
+// The faults of the chain.
+fn measure_faults(rt: &HostRuntime) -> Result<()> {
     let base = chain(rt.alloc())?;
-    let (time, length) = faults_time(&rt, &base)?;
-    let peak = peak_memory(&rt)?;
+    forget_peak(rt)?;
+    let (time, length) = faults_time(rt, &base)?;
+    let peak = peak_memory(rt)?;
     eprintln!(rt;
         "20000 faults, {length} bytes of text in {} ms, {} percent of the text in memory",
         time.as_millis(),
         percent(u128::from(peak).saturating_mul(1024), length as u128)
     )?;
+    Ok(())
+}
+
+fn main(rt: HostRuntime) -> Result<()> {
+    for shape in SHAPES {
+        measure(&rt, shape)?;
+    }
+    measure_faults(&rt)?;
     println!(rt; "ok")?;
     Ok(())
 }

@@ -8,17 +8,15 @@
 //! cleared.
 #![tactic(auto)]
 
-mod shape;
-
 use anyhow::{Result, bail};
 use audit_report::{FromRead, read_whole, report};
 use base_text::base_read;
+use bench_tools::{Mark, SHAPES, Shape, percent, tree_time};
 use cert_table::Certificate;
 use cert_text::CertReader;
 use checker::{ChangeVerdict, Count, Policy, Verdict, check_change, check_counted};
 use fault_scripts::audit;
 use frame_records::{Base, Groups, Pence};
-use shape::{Mark, Shape};
 use std::alloc::Global;
 use std::time::{CpuClock, Duration};
 
@@ -26,8 +24,6 @@ const RUNS: u32 = 3;
 
 // What the program asks of a certificate's file at once.
 const PIECE: usize = 4_096;
-
-const SHAPES: [Shape; 4] = [Shape::Tree, Shape::Scattered, Shape::Chain, Shape::Bodies];
 
 // Up to 16 pence and any keyings, for a caller of the groups that a mark gives.
 fn policy(mark: Mark) -> Result<Policy> {
@@ -77,17 +73,6 @@ fn cert_text(alloc: Global, text: &[u8], policy: &Policy) -> Result<Vec<u8>> {
         bail!("the base is not certified");
     }
     Ok(printed)
-}
-
-// The tree is made and let go.
-fn tree_time(rt: &HostRuntime, text: &[u8]) -> Result<Duration> {
-    let start = rt.thread_cpu_time()?;
-    let is_toml = toml::table_from_slice(rt.alloc(), text).is_ok();
-    let time = rt.thread_cpu_time()?.saturating_sub(start);
-    if !is_toml {
-        bail!("the text is no TOML");
-    }
-    Ok(time)
 }
 
 // The base is read and let go.
@@ -147,9 +132,9 @@ fn audit_time(rt: &HostRuntime, text: &[u8], policy: &Policy) -> Result<Duration
     Ok(rt.thread_cpu_time()?.saturating_sub(start))
 }
 
-// How many hundredths of the whole a part is.
-fn percent(part: Duration, whole: Duration) -> u128 {
-    part.as_micros().saturating_mul(100) / whole.as_micros().max(1)
+// How many hundredths of a time another one is.
+fn share(part: Duration, whole: Duration) -> u128 {
+    percent(part.as_micros(), whole.as_micros())
 }
 
 // The four times of a shape, the least of some runs in turns.
@@ -172,9 +157,9 @@ fn measure(rt: &HostRuntime, shape: Shape) -> Result<()> {
         shape.name(),
         tree.as_millis(),
         walk.as_millis(),
-        percent(walk, tree),
+        share(walk, tree),
         check.as_millis(),
-        percent(check, tree),
+        share(check, tree),
         count.probes,
         count.steps
     )?;
@@ -182,7 +167,7 @@ fn measure(rt: &HostRuntime, shape: Shape) -> Result<()> {
         "{}: change {} ms or {} percent of two checks",
         shape.name(),
         change.as_millis(),
-        percent(change, check.saturating_add(check))
+        share(change, check.saturating_add(check))
     )?;
     Ok(())
 }
@@ -253,8 +238,8 @@ fn measure_groups(rt: &HostRuntime, shape: Shape) -> Result<()> {
     eprintln!(rt;
         "{}: 16 groups, check {} percent, audit {} percent of those without",
         shape.name(),
-        percent(group_check, check),
-        percent(group_audit, audit)
+        share(group_check, check),
+        share(group_audit, audit)
     )?;
     Ok(())
 }

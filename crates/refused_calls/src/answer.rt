@@ -10,7 +10,8 @@ use demo_texts::CERT;
 use fault_scripts::{Outcome, Replayed};
 use finder::Found;
 use frame_records::{Base, Body};
-use page_ids::{FrameId, IdFault, KeyList, keys_text};
+use page_ids::{FrameId, IdFault, KeyList, keys_text, push_number};
+use pageaudit::{Status, status_of};
 use session_machine::{OpenFault, Reply, Session};
 use std::alloc::{AllocError, Global};
 
@@ -33,6 +34,8 @@ pub enum Answer {
     Discovered(Found),
     Audited(Outcome),
     Replied(Replayed),
+    /// A run, and what it wrote.
+    Ran(Result<Status, RunFault>, Vec<u8>),
     /// A text that is refused, or a device that failed.
     Refused(RunFault),
     /// A session that isn't opened: its entry frame, and whether that is closed and not missing.
@@ -111,6 +114,7 @@ impl Answer {
             Answer::Discovered(found) => found_text(alloc, &found),
             Answer::Audited(outcome) => report(alloc, &outcome),
             Answer::Replied(replayed) => replayed_text(alloc, replayed),
+            Answer::Ran(run, taken) => run_text(alloc, run, taken.as_slice()),
             _ => line(alloc, b"no answer of this call"),
         }
     }
@@ -176,5 +180,25 @@ fn session_text(alloc: Global, session: &Session, reply: Reply) -> Result<Vec<u8
 fn replayed_text(alloc: Global, replayed: Replayed) -> Result<Vec<u8>, AllocError> {
     let mut text = walk_text(alloc, &[replayed.last])?;
     push_place(&mut text, replayed.at)?;
+    Ok(text)
+}
+
+// The status, the fault's line where there is one, and what was written. A run that found no memory has written nothing.
+fn run_text(
+    alloc: Global,
+    run: Result<Status, RunFault>,
+    taken: &[u8],
+) -> Result<Vec<u8>, AllocError> {
+    let status = status_of(&run);
+    let mut text = Vec::new(alloc);
+    match run {
+        Err(RunFault::Memory) if taken.is_empty() => return line(alloc, b"Memory"),
+        Err(fault) => text.extend_from_slice(fault_text(alloc, &fault)?.as_slice())?,
+        Ok(_) => {}
+    }
+    text.extend_from_slice(b"status ")?;
+    push_number(&mut text, u64::from(status))?;
+    text.extend_from_slice(b"\n")?;
+    text.extend_from_slice(taken)?;
     Ok(text)
 }

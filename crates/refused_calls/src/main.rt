@@ -14,6 +14,7 @@ mod base_lines;
 mod call;
 mod files;
 mod line_calls;
+mod run_calls;
 mod text_calls;
 mod words;
 
@@ -44,6 +45,7 @@ fn run(rt: &HostRuntime, name: &str, words: &mut Words) -> Result<()> {
         "walk_text" | "entry_text" | "verdict_text" | "change_text" | "report" | "fault_text" => {
             line_call(rt, name, words)
         }
+        "run_audit" | "run_check" | "run_change" | "run_walk" => run_call(rt, name, words),
         _ => base_call(rt, name, words),
     }
 }
@@ -85,5 +87,15 @@ fn base_call(rt: &HostRuntime, name: &str, words: &mut Words) -> Result<()> {
         "faults" => tried(rt, base_calls::Faults::of(rt, words)?),
         "replay" => tried(rt, base_calls::Replay::of(rt, words)?),
         _ => bail!("no such call: {name}"),
+    }
+}
+
+// A run of the program on files, with devices that fail where the words say so.
+fn run_call(rt: &HostRuntime, name: &str, words: &mut Words) -> Result<()> {
+    match name {
+        "run_audit" => tried(rt, run_calls::RunAudit::of(rt, words)?),
+        "run_check" => tried(rt, run_calls::RunCheck::of(rt, words)?),
+        "run_change" => tried(rt, run_calls::RunChange::of(rt, words)?),
+        _ => tried(rt, run_calls::RunWalk::of(rt, words)?),
     }
 }

@@ -179,7 +179,7 @@ fn a_certificate_that_is_cut_is_truncated_in_its_last_line(rt: HostRuntime) -> R
 
 #[test]
 fn a_line_at_fault_is_named_whatever_the_pieces(rt: HostRuntime) -> Result<(), Fail> {
-    let rows: [(&str, &str, u32, LineCause); 12] = [
+    let rows: [(&str, &str, u32, LineCause); 14] = [
         ("PBC1", "PBC3", 1, LineCause::Magic),
         ("entry 123", "Entry 123", 2, LineCause::Word),
         ("entry 123", "entry 0123", 2, LineCause::Number),
@@ -192,6 +192,18 @@ fn a_line_at_fault_is_named_whatever_the_pieces(rt: HostRuntime) -> Result<(), F
         ("end\n", "end\nX", 10, LineCause::Tail),
         ("end\n", "end\nPBC1\nentry 123\n", 10, LineCause::Tail),
         ("keyings 1\n", "", 4, LineCause::Word),
+        (
+            "entry 123\nceiling 5",
+            "ceiling 5\nentry 123",
+            2,
+            LineCause::Word,
+        ),
+        (
+            "1231a 1 s80\n1231b 1 s48",
+            "1231b 1 s48\n1231a 1 s80",
+            8,
+            LineCause::Order,
+        ),
     ];
     let policy = policy(5, 1)?;
     for (old, new, line, cause) in rows {
@@ -200,6 +212,21 @@ fn a_line_at_fault_is_named_whatever_the_pieces(rt: HostRuntime) -> Result<(), F
             let answer = judged(rt.alloc(), cert.as_bytes(), step, &policy);
             let wanted = RunFault::Cert(ReadFault::Line(line, cause));
             assert_eq!(rt; answer, Err(wanted), "{new} {step}");
+        }
+    }
+    Ok(())
+}
+
+#[test]
+fn bytes_behind_a_whole_certificate_are_its_tail(rt: HostRuntime) -> Result<(), Fail> {
+    let policy = policy(5, 1)?;
+    let twice = format!(in rt.alloc(); "{CERT}{CERT}")?;
+    let longer = format!(in rt.alloc(); "{CERT}X")?;
+    for text in [twice.as_str(), longer.as_str()] {
+        for step in PIECES {
+            let answer = judged(rt.alloc(), text.as_bytes(), step, &policy);
+            let tail = RunFault::Cert(ReadFault::Line(10, LineCause::Tail));
+            assert_eq!(rt; answer, Err(tail), "{step}");
         }
     }
     Ok(())
@@ -234,7 +261,7 @@ fn nothing_is_asked_behind_an_end(rt: HostRuntime) -> Result<(), Fail> {
 
 #[test]
 fn a_reader_that_fails_once_is_its_read_fault(rt: HostRuntime) -> Result<(), Fail> {
-    for kept in [0, 1, 100] {
+    for kept in 0..DEMO.len() + 1 {
         let mut base = FakeSource::broken(DEMO.as_bytes(), 7, kept);
         let mut cert = FakeSource::of(CERT.as_bytes(), 7);
         let mut out = FakeSink::of(rt.alloc(), 1_000);
@@ -250,6 +277,7 @@ fn a_reader_that_fails_once_is_its_read_fault(rt: HostRuntime) -> Result<(), Fai
         let mut out = FakeSink::of(rt.alloc(), 1_000);
         let answer = run_check(rt.alloc(), &mut base, &mut cert, &mut out, &policy(5, 1)?);
         assert_eq!(rt; answer, Err(RunFault::ReadCert), "{kept}");
+        assert_eq!(rt; status_of(&answer), 3);
         assert_eq!(rt; out.taken.len(), 0, "{kept}");
     }
     Ok(())
@@ -257,7 +285,7 @@ fn a_reader_that_fails_once_is_its_read_fault(rt: HostRuntime) -> Result<(), Fai
 
 #[test]
 fn a_writer_that_fails_is_told_with_what_it_took(rt: HostRuntime) -> Result<(), Fail> {
-    for room in [0, 3, 7] {
+    for room in 0..8usize {
         let mut base = FakeSource::of(DEMO.as_bytes(), 7);
         let mut cert = FakeSource::of(CERT.as_bytes(), 7);
         let mut out = FakeSink::full(rt.alloc(), 1_000, room);

@@ -1,36 +1,21 @@
-//! pageaudit: audits the page base of a viewdata information provider.
+//! The program: audits the page base of a viewdata information provider.
 //!
-//! `audit`, `check`, `change` and `walk` open their files in the order of the words and hand them to `run_audit`,
-//! `run_check`, `run_change` and `run_walk`, which are proved over any reader and writer; what stands here only opens, prints and picks the exit status.
+//! `audit`, `check`, `change` and `walk` open their files in the order of the words and hand them to the runs of the crate
+//! `pageaudit`, which are proved over any reader and writer; what stands here only opens, prints and picks the exit status.
 #![tactic(auto)]
 
-mod audit_run;
-mod change_run;
-mod check_run;
 mod command;
-mod edition;
-mod file_fault;
 mod help;
-mod input;
-mod output;
-mod status;
-#[cfg(test)]
-mod tests;
-mod walk_run;
 
 use audit_report::{FromRead, IntoWrite, RunFault, fault_text};
-use audit_run::run_audit;
-use change_run::run_change;
-use check_run::run_check;
 use checker::Policy;
 use clap::ArgMatches;
 use command::{Request, asked_for, groups_of, matches, refused_status, words};
 use frame_records::Groups;
-use status::{Status, status_of};
+use pageaudit::{Status, run_audit, run_change, run_check, run_walk, status_of};
 use std::process::ExitCode;
 use std::rt::{Env, Files};
 use std::{fs, io};
-use walk_run::run_walk;
 
 fn main(rt: HostRuntime) -> ExitCode {
     ExitCode::from(run(&rt))

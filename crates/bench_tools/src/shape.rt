@@ -10,6 +10,9 @@ const FIRST_PAGE: u32 = 100_000;
 // What a base may have in bytes.
 const LENGTH: usize = 16_777_216;
 
+/// Each shape.
+pub const SHAPES: [Shape; 4] = [Shape::Tree, Shape::Scattered, Shape::Chain, Shape::Bodies];
+
 /// How the frames of a base hang together, and what they show.
 #[derive(Debug, Clone, Copy, PartialEq, Eq)]
 pub enum Shape {
