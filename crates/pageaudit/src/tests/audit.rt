@@ -3,7 +3,7 @@
 use super::{front, policy};
 use crate::audit_run::run_audit;
 use crate::status::{Status, status_of};
-use audit_report::{FromRead, IntoWrite, RunFault};
+use audit_report::RunFault;
 use base_text::{BaseFault, Cause};
 use checker::Policy;
 use demo_texts::{CERT, DEMO};
@@ -97,26 +97,6 @@ fn an_entry_frame_that_is_missing_is_the_one_fault(rt: HostRuntime) -> Result<()
 }
 
 #[test]
-fn a_base_that_is_cut_is_a_base_or_has_its_fault(rt: HostRuntime) -> Result<(), Fail> {
-    let policy = policy(50, 3)?;
-    for kept in 0..DEMO.len() {
-        let mut base = FakeSource::of(front(DEMO, kept), 4_096);
-        let mut out = FakeSink::of(rt.alloc(), 1_000);
-        match run_audit(rt.alloc(), &mut base, &mut out, &policy) {
-            Ok(_) => assert!(rt; !out.taken.is_empty(), "{kept}"),
-            Err(RunFault::Base(_)) => assert!(rt; out.taken.is_empty(), "{kept}"),
-            _ => assert!(rt; false, "{kept}"),
-        }
-    }
-    for cut in ["entry = 123\noutside = [0]\n", "entry = 123\noutside = [0]"] {
-        let (answer, text) = audited(rt.alloc(), cut, 1, &policy);
-        assert_eq!(rt; answer, Ok(Status::Faulty));
-        assert_eq!(rt; text.as_slice(), b"FAULTS 1\nENTRYMISSING 123a\n".as_slice());
-    }
-    Ok(())
-}
-
-#[test]
 fn an_audit_that_fails_writes_nothing(rt: HostRuntime) -> Result<(), Fail> {
     let unknown = BaseFault {
         frame: None,
@@ -137,7 +117,6 @@ fn a_base_that_cannot_be_read_writes_nothing_wherever_it_fails(
         let mut out = FakeSink::of(rt.alloc(), 1_000);
         let answer = run_audit(rt.alloc(), &mut base, &mut out, &policy(50, 3)?);
         assert_eq!(rt; answer, Err(RunFault::ReadBase), "{kept}");
-        assert_eq!(rt; status_of(&answer), 3, "{kept}");
         assert_eq!(rt; out.taken.len(), 0, "{kept}");
     }
     Ok(())
@@ -159,28 +138,5 @@ fn a_report_that_is_not_taken_whole_is_told_with_what_was(rt: HostRuntime) -> Re
     let answer = run_audit(rt.alloc(), &mut base, &mut out, &policy(50, 3)?);
     assert_eq!(rt; answer, Err(RunFault::Write(81)));
     assert_eq!(rt; out.flushes, 1);
-    Ok(())
-}
-
-// As the devices of std: the reader fails, and the writer takes none behind so many bytes.
-#[test]
-fn readers_and_writers_of_std_that_fail_are_told(rt: HostRuntime) -> Result<(), Fail> {
-    let policy = policy(50, 3)?;
-    for kept in 0..DEMO.len() + 1 {
-        let mut base = FromRead::new(FakeSource::broken(DEMO.as_bytes(), 4_096, kept));
-        let mut out = FakeSink::of(rt.alloc(), 1_000);
-        let answer = run_audit(rt.alloc(), &mut base, &mut out, &policy);
-        assert_eq!(rt; answer, Err(RunFault::ReadBase), "{kept}");
-        assert_eq!(rt; out.taken.len(), 0, "{kept}");
-    }
-    for room in 0..81usize {
-        let mut base = FakeSource::of(DEMO.as_bytes(), 4_096);
-        let mut writer = FakeSink::stalling(rt.alloc(), 1_000, room);
-        let mut out = IntoWrite::new(&mut writer);
-        let answer = run_audit(rt.alloc(), &mut base, &mut out, &policy);
-        assert_eq!(rt; answer, Err(RunFault::Write(room as u64)), "{room}");
-        assert_eq!(rt; status_of(&answer), 3, "{room}");
-        assert_eq!(rt; writer.taken.as_slice(), front(CERT, room), "{room}");
-    }
     Ok(())
 }

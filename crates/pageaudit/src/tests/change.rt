@@ -114,59 +114,27 @@ fn a_text_of_the_new_edition_is_told_as_its_own(rt: HostRuntime) -> Result<(), F
     Ok(())
 }
 
-// A file of a change, which fails behind so many bytes where it is the broken one.
-fn source(text: &str, is_broken: bool, kept: usize) -> FakeSource {
-    if is_broken {
-        FakeSource::broken(text.as_bytes(), 4_096, kept)
-    } else {
-        FakeSource::of(text.as_bytes(), 4_096)
-    }
-}
-
-// What a change from DEMO to itself answers where one of its files fails: 0 the old base, 1 its certificate, 2 the new base,
-// 3 its certificate. Then what was written, and how often that last file was asked.
-fn broken(
-    alloc: Global,
-    place: usize,
-    kept: usize,
-    policy: &Policy,
-) -> (Result<Status, RunFault>, Vec<u8>, u32) {
-    let mut old = source(DEMO, place == 0, kept);
-    let mut old_cert = source(CERT, place == 1, kept);
-    let mut new = source(DEMO, place == 2, kept);
-    let mut new_cert = source(CERT, place == 3, kept);
-    let mut out = FakeSink::of(alloc, 1_000);
-    let answer = run_change(
-        alloc,
-        &mut old,
-        &mut old_cert,
-        &mut new,
-        &mut new_cert,
-        &mut out,
-        policy,
-    );
-    (answer, out.taken, new_cert.calls)
-}
-
 #[test]
-fn a_file_that_cannot_be_read_ends_the_run(rt: HostRuntime) -> Result<(), Fail> {
-    let policy = policy(50, 3)?;
-    for kept in 0..DEMO.len() + 1 {
-        for (place, fault) in [(0, RunFault::ReadBase), (2, RunFault::ReadNewBase)] {
-            let (answer, text, calls) = broken(rt.alloc(), place, kept, &policy);
-            assert_eq!(rt; answer, Err(fault), "{place} {kept}");
-            assert_eq!(rt; status_of(&answer), 3);
-            assert_eq!(rt; calls, 0);
-            assert_eq!(rt; text.len(), 0);
-        }
-    }
-    for kept in 0..82usize {
-        for (place, fault) in [(1, RunFault::ReadCert), (3, RunFault::ReadNewCert)] {
-            let (answer, text, _) = broken(rt.alloc(), place, kept, &policy);
-            assert_eq!(rt; answer, Err(fault), "{place} {kept}");
-            assert_eq!(rt; status_of(&answer), 3);
-            assert_eq!(rt; text.len(), 0);
-        }
+fn a_new_base_that_cannot_be_read_ends_the_run(rt: HostRuntime) -> Result<(), Fail> {
+    for kept in [0, 3] {
+        let mut old = FakeSource::of(DEMO.as_bytes(), 4_096);
+        let mut old_cert = FakeSource::of(CERT.as_bytes(), 4_096);
+        let mut new = FakeSource::broken(DEMO.as_bytes(), 4_096, kept);
+        let mut new_cert = FakeSource::of(CERT.as_bytes(), 4_096);
+        let mut out = FakeSink::of(rt.alloc(), 1_000);
+        let answer = run_change(
+            rt.alloc(),
+            &mut old,
+            &mut old_cert,
+            &mut new,
+            &mut new_cert,
+            &mut out,
+            &policy(50, 3)?,
+        );
+        assert_eq!(rt; answer, Err(RunFault::ReadNewBase), "{kept}");
+        assert_eq!(rt; status_of(&answer), 3);
+        assert_eq!(rt; new_cert.calls, 0);
+        assert_eq!(rt; out.taken.len(), 0);
     }
     Ok(())
 }
