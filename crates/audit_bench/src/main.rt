@@ -1,5 +1,6 @@
-//! Audits safe base texts of full size in four shapes, and measures that and their reading against `toml` alone; then a
-//! chain of 20,000 frames of which each is too dear, so that the scripts come to 200 million keys.
+//! Audits safe base texts in four shapes, and measures that and their reading against `toml` alone. With the word `full` they
+//! are of full size, else of a sixteenth of the frames. Then a chain of 20,000 frames of which each is too dear, so that the
+//! scripts come to 200 million keys.
 //!
 //! It prints the least processor times of five runs each, in turns, the greatest memory and the ratios to standard error, and
 //! `ok` where the audits came out as they must.
@@ -8,7 +9,7 @@
 use anyhow::{Result, bail};
 use audit_report::report;
 use base_text::base_read;
-use bench_tools::{SHAPES, Shape, forget_peak, peak_memory, percent, tree_time};
+use bench_tools::{SHAPES, Shape, Size, forget_peak, peak_memory, percent, tree_time};
 use checker::Policy;
 use fault_scripts::{Outcome, audit};
 use frame_records::{Base, Body, Frame, Groups, Lead, Pence};
@@ -78,8 +79,8 @@ fn peaks(rt: &HostRuntime, text: &[u8]) -> Result<[u64; 3]> {
 }
 
 // What a shape takes, and how much more than `toml` alone that is.
-fn measure(rt: &HostRuntime, shape: Shape) -> Result<()> {
-    let text = shape.full_text(rt.alloc())?;
+fn measure(rt: &HostRuntime, shape: Shape, size: Size) -> Result<()> {
+    let text = shape.text_of(rt.alloc(), size)?;
     let text = text.as_slice();
     let [tree_peak, read_peak, audit_peak] = peaks(rt, text)?;
     let (mut tree, mut read) = (tree_time(rt, text)?, read_time(rt, text)?);
@@ -165,8 +166,9 @@ fn measure_faults(rt: &HostRuntime) -> Result<()> {
 }
 
 fn main(rt: HostRuntime) -> Result<()> {
+    let size = Size::asked(&rt)?;
     for shape in SHAPES {
-        measure(&rt, shape)?;
+        measure(&rt, shape, size)?;
     }
     measure_faults(&rt)?;
     println!(rt; "ok")?;

@@ -1,5 +1,6 @@
 //! Texts of safe bases, in four shapes. Each frame stands on a page of its own.
 
+use crate::size::Size;
 use anyhow::{Result, bail};
 use itoa::Buffer;
 use std::alloc::{AllocError, Global};
@@ -145,10 +146,12 @@ impl Shape {
         self.marked_text(alloc, frames, Mark::None)
     }
 
-    /// The text of a base with the most frames, filled up by a comment.
-    pub fn full_text(self, alloc: Global) -> Result<Vec<u8>> {
-        let mut text = self.text(alloc, self.most())?;
-        text.resize(LENGTH, b'#')?;
+    /// The text of a base of a size; that of full size is filled up by a comment.
+    pub fn text_of(self, alloc: Global, size: Size) -> Result<Vec<u8>> {
+        let mut text = self.text(alloc, size.of(self.most()))?;
+        if size == Size::Full {
+            text.resize(LENGTH, b'#')?;
+        }
         Ok(text)
     }
 }

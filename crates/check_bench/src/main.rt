@@ -1,9 +1,10 @@
-//! Checks safe bases of full size in four shapes, both files read, and measures that against `toml` alone on the base's text.
+//! Checks safe bases in four shapes, both files read, and measures that against `toml` alone on the base's text. With the word
+//! `full` the bases are of full size, else of a sixteenth of the frames.
 //!
 //! It prints to standard error, for each shape, the least processor times of three runs each, in turns: `toml` making its
 //! tree and letting it go, the base read and let go (a walk of no keys), and the whole check, with what the check compared and
 //! painted; a change from the base to an edition like it, against two such checks; then the check's time for each row of
-//! 8,192 and of 65,535; then the check and the audit for a caller of 16 groups, to which all frames belong, against those
+//! an eighth of the frames and of all; then the check and the audit for a caller of 16 groups, to which all frames belong, against those
 //! for a caller outside every group on texts as long, of a quarter of the frames. It prints `ok` where each certificate was
 //! cleared.
 #![tactic(auto)]
@@ -11,7 +12,7 @@
 use anyhow::{Result, bail};
 use audit_report::{FromRead, read_whole, report};
 use base_text::base_read;
-use bench_tools::{Mark, SHAPES, Shape, percent, tree_time};
+use bench_tools::{Mark, SHAPES, Shape, Size, percent, tree_time};
 use cert_table::Certificate;
 use cert_text::CertReader;
 use checker::{ChangeVerdict, Count, Policy, Verdict, check_change, check_counted};
@@ -138,9 +139,9 @@ fn share(part: Duration, whole: Duration) -> u128 {
 }
 
 // The four times of a shape, the least of some runs in turns.
-fn measure(rt: &HostRuntime, shape: Shape) -> Result<()> {
+fn measure(rt: &HostRuntime, shape: Shape, size: Size) -> Result<()> {
     let policy = policy(Mark::None)?;
-    let text = shape.full_text(rt.alloc())?;
+    let text = shape.text_of(rt.alloc(), size)?;
     let cert = cert_text(rt.alloc(), text.as_slice(), &policy)?;
     let (text, cert) = (text.as_slice(), cert.as_slice());
     let (mut tree, mut walk) = (tree_time(rt, text)?, walk_time(rt, text)?);
@@ -185,12 +186,14 @@ fn row_time(rt: &HostRuntime, shape: Shape, frames: u32) -> Result<u128> {
 }
 
 // How much more a row takes among many than among few.
-fn measure_growth(rt: &HostRuntime, shape: Shape) -> Result<()> {
-    let few = row_time(rt, shape, 8_192)?;
-    let many = row_time(rt, shape, 65_535)?;
+fn measure_growth(rt: &HostRuntime, shape: Shape, size: Size) -> Result<()> {
+    let frames = size.of(shape.most());
+    let few = row_time(rt, shape, frames / 8)?;
+    let many = row_time(rt, shape, frames)?;
     eprintln!(rt;
-        "{}: {few} ns a row of 8192, {many} ns a row of 65535, {} percent",
+        "{}: {few} ns a row of {}, {many} ns a row of {frames}, {} percent",
         shape.name(),
+        frames / 8,
         many.saturating_mul(100) / few.max(1)
     )?;
     Ok(())
@@ -204,9 +207,9 @@ struct Marked {
     policy: Policy,
 }
 
-fn with_mark(rt: &HostRuntime, shape: Shape, mark: Mark) -> Result<Marked> {
+fn with_mark(rt: &HostRuntime, shape: Shape, size: Size, mark: Mark) -> Result<Marked> {
     let policy = policy(mark)?;
-    let text = shape.marked_text(rt.alloc(), shape.most() / 4, mark)?;
+    let text = shape.marked_text(rt.alloc(), size.of(shape.most()) / 4, mark)?;
     let cert = cert_text(rt.alloc(), text.as_slice(), &policy)?;
     Ok(Marked { text, cert, policy })
 }
@@ -220,10 +223,10 @@ fn marked_times(rt: &HostRuntime, marked: &Marked) -> Result<(Duration, Duration
 
 // The check and the audit for a caller of 16 groups, against those for a caller outside every group, the least of some
 // runs in turns.
-fn measure_groups(rt: &HostRuntime, shape: Shape) -> Result<()> {
+fn measure_groups(rt: &HostRuntime, shape: Shape, size: Size) -> Result<()> {
     let (plain, grouped) = (
-        with_mark(rt, shape, Mark::Price)?,
-        with_mark(rt, shape, Mark::Group)?,
+        with_mark(rt, shape, size, Mark::Price)?,
+        with_mark(rt, shape, size, Mark::Group)?,
     );
     let (mut check, mut audit) = marked_times(rt, &plain)?;
     let (mut group_check, mut group_audit) = marked_times(rt, &grouped)?;
@@ -245,14 +248,15 @@ fn measure_groups(rt: &HostRuntime, shape: Shape) -> Result<()> {
 }
 
 fn main(rt: HostRuntime) -> Result<()> {
+    let size = Size::asked(&rt)?;
     for shape in SHAPES {
-        measure(&rt, shape)?;
+        measure(&rt, shape, size)?;
     }
     for shape in [Shape::Tree, Shape::Scattered, Shape::Chain] {
-        measure_growth(&rt, shape)?;
+        measure_growth(&rt, shape, size)?;
     }
     for shape in SHAPES {
-        measure_groups(&rt, shape)?;
+        measure_groups(&rt, shape, size)?;
     }
     println!(rt; "ok")?;
     Ok(())
