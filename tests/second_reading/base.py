@@ -2,6 +2,7 @@
 
 import tomllib
 from dataclasses import dataclass
+from functools import lru_cache
 
 MOST_BYTES = 16_777_216
 MOST_PAGE = 999_999_999
@@ -226,6 +227,7 @@ def fits_64_bits(value):
     return not is_integer(value) or -(2**63) <= value < 2**63
 
 
+@lru_cache(maxsize=8)
 def base_of(text):
     """The base of the bytes; Refused with the first fault."""
     if len(text) > MOST_BYTES:

@@ -71,10 +71,16 @@ def cursor_text(states):
 
 
 @cache
+def behind(lead):
+    """The states behind a lead, from each state."""
+    return frozenset(run(state, lead) for state in STATES)
+
+
+@cache
 def paint(keep, body):
     """The cursor behind a clean body and None, or None and the offset and least start of its first touch."""
     lead = b"" if keep else CLEAR
-    states = {run(state, lead) for state in STATES}
+    states = behind(lead)
     for offset, byte in enumerate(body):
         if any(touches(state, byte) for state in states):
             before = lead + body[:offset]
