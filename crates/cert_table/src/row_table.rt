@@ -1,11 +1,11 @@
-ghost use Rattle.std.specs.Prelude.{◌≡◌, ◌<◌, ◌≤◌, length, map};
+ghost use Rattle.std.specs.Prelude.{◌≡◌, ◌<◌, ◌≤◌, length};
 ghost use Rattle.std.specs.Option.{option_copied};
 ghost use Rattle.page_ids.specs.Ids.{id_cmp};
 ghost use Rattle.cert_table.specs.Rows.{AreRows, row_among};
 
 use crate::cover::Cover;
 use crate::row::Row;
-use frame_records::{Probe, search};
+use frame_records::{Entry, find_by_halves};
 use page_ids::FrameId;
 use std::cmp::Ordering;
 use std::marker::Model;
@@ -29,52 +29,11 @@ impl Model for RowTable {
     ghost invariant = { λ t. AreRows t.rows.items };
 }
 
-// Rows that are compared with an id.
-#[derive(Drop)]
-struct RowProbe<'a> {
-    rows: &'a [Row],
-    wanted: &'a FrameId,
-    asked: u32,
-}
+impl Entry<FrameId> for Row {
+    ghost against = { λ row id. id_cmp row.id id };
 
-impl<'a> Model for RowProbe<'a> {
-    ghost use Rattle.std.specs.Prelude.{map};
-    ghost use Rattle.page_ids.specs.Ids.{id_cmp};
-    ghost use Rattle.frame_records.specs.Orderings.{ProbeView};
-
-    ghost Value = { ProbeView };
-
-    ghost view = { λ p. record { orderings = map (λ r. id_cmp r.id p.wanted.now) p.rows.now; count = p.asked } };
-}
-
-impl Probe for RowProbe<'_> {
-    ghost orderings = { λ p. p.orderings };
-
-    ghost count = { λ p. p.count };
-
-    fn len(&self) -> usize {
-        self.rows.len()
-    }
-
-    fn asked(&self) -> u32 {
-        self.asked
-    }
-
-    fn ask(&mut self, i: usize) -> Ordering {
-        self.asked += 1;
-        self.rows[i].id.cmp(self.wanted)
-    }
-}
-
-// The rows beside the id that is wanted of them.
-fn rows_beside<'a>(rows: &'a [Row], wanted: &'a FrameId) -> RowProbe<'a>
-    ensures orderings { result.orderings ≡ map (λ r. id_cmp r.id wanted.now) rows.now }
-    ensures fresh { result.count ≡ 0 }
-{
-    RowProbe {
-        rows,
-        wanted,
-        asked: 0,
+    fn against(&self, wanted: &FrameId) -> Ordering {
+        self.id.cmp(wanted)
     }
 }
 
@@ -85,11 +44,7 @@ fn row_in(rows: &[Row], id: FrameId) -> (Option<&Row>, u32)
     ensures most { result.1 ≤ 16 }
     ensures least { 0 < length rows.now → 1 ≤ result.1 }
 {
-    let mut probe = rows_beside(rows, &id);
-    match search(&mut probe) {
-        Some(at) => (Some(&rows[at]), probe.asked()),
-        None => (None, probe.asked()),
-    }
+    find_by_halves(rows, &id)
 }
 
 impl Cover for RowTable {

@@ -1,6 +1,6 @@
 -- A list that ascends by a key can be searched by halves, and what is found is what a search from the front finds.
-use Rattle.std.proofs.Common.{◌≡◌, ◌≢◌, ℕ, zero, suc, ◌+◌, ◌-◌, ◌<◌, Bool, true, false, List, [], ◌∷◌, length, get_or, Some, None, refl, sym, ap, ◌∙◌, arith, subst, ◌==◌}
-use Rattle.std.specs.Prelude.{find, map, slice_get, option_map}
+use Rattle.std.proofs.Common.{◌≡◌, ◌≢◌, ℕ, zero, suc, ◌+◌, ◌-◌, ◌<◌, Bool, true, false, List, [], ◌∷◌, length, get_or, Option, Some, None, Bor, refl, sym, ap, ◌∙◌, arith, subst, cond, ◌==◌}
+use Rattle.std.specs.Prelude.{find, map, slice_get, option_map, is_some, ◌||◌}
 use Rattle.std.specs.List.{AllAdjacentBelow}
 use Rattle.std.specs.Ordering.{is_eq, nat_cmp}
 use Rattle.std.specs.List.Sorted.{IsStrictlyIncreasing}
@@ -10,9 +10,10 @@ use Rattle.std.proofs.lemmas.Bool.Decides.{nat_tests}
 use Rattle.std.proofs.lemmas.List.{get_or-map, get_or_default, length-map}
 use Rattle.std.proofs.lemmas.Option.{slice_get-map, slice_get_within, get_or_from_slice_get, slice_get-get_or}
 use Rattle.page_ids.specs.Id.{Id}
-use Rattle.page_ids.specs.Ids.{id_cmp, id_eq}
+use Rattle.page_ids.specs.Ids.{id_cmp}
 use Rattle.frame_records.specs.Orderings.{MayFollow, IsSearchable}
-use Rattle.std.proofs.lemmas.List.Folds.{list_any_at, list_any_none}
+use Rattle.std.specs.List.{list_any}
+use Rattle.std.specs.Option.{option_copied}
 use Rattle.frame_records.specs.BaseView.{lists_page}
 use Rattle.frame_records.proofs.Finds.{find_first, find_none}
 
@@ -48,21 +49,35 @@ module _ {K A : Type 0} (cmp : K → K → Ordering) (trans : (a b c : K) → cm
   searchable [] wanted up = λ i j before lt. absurd (omega (arith, lt))
   searchable (x ∷ xs) wanted up = from_first (x ∷ xs) wanted x up
 
--- a test that passes just where the comparison is Equal
-module _ {A : Type 0} (compare : A → Ordering) (test : A → Bool) (same : (a : A) → test a ≡ is_eq (compare a)) where
-  pub found_is : (xs : List A) (i : ℕ) (x : A) → IsSearchable (map compare xs) → slice_get (map compare xs) i ≡ Some Equal → i < length xs → get_or xs i x ≡ x → find test xs ≡ Some x
-  found_is xs i x up e lt at =
+-- what a search finds among entries of which it saw how each compares
+module _ {A : Type 0} (compare : A → Ordering) (xs : List A) where
+  pub place_within : (i : ℕ) → slice_get (map compare xs) i ≡ Some Equal → i < length xs
+  place_within i e = omega (arith, length-map xs compare, slice_get_within (map compare xs) i Equal e)
+
+  pub found_is : (i : ℕ) (x : A) → IsSearchable (map compare xs) → slice_get (map compare xs) i ≡ Some Equal → get_or xs i x ≡ x → find (λ a. is_eq (compare a)) xs ≡ Some x
+  found_is i x up e at =
+      let lt = place_within i e in
       let is : get_or (map compare xs) i Less ≡ Equal = get_or_from_slice_get (map compare xs) i Equal Less e in
       let many : length (map compare xs) ≡ length xs = length-map xs compare in
       let equal : compare x ≡ Equal = ap compare (sym at) ∙ sym (get_or-map compare xs i x Less lt) ∙ is in
-      find_first test xs i x lt at (same x ∙ ap is_eq equal) (λ k before.
+      find_first (λ (a : A). is_eq (compare a)) xs i x lt at (ap is_eq equal) (λ k before.
       let first : get_or (map compare xs) k Less ≡ compare (get_or xs k x) = get_or-map compare xs k x Less (omega (arith, lt, before)) in
       let follows : MayFollow (get_or (map compare xs) k Less) (get_or (map compare xs) i Less) = up k i before (omega (arith, lt, many)) in
-      same (get_or xs k x) ∙ before_equal (compare (get_or xs k x)) (subst (λ (o : Ordering). MayFollow o Equal) first (subst (λ (o : Ordering). MayFollow (get_or (map compare xs) k Less) o) is follows)))
+      before_equal (compare (get_or xs k x)) (subst (λ (o : Ordering). MayFollow o Equal) first (subst (λ (o : Ordering). MayFollow (get_or (map compare xs) k Less) o) is follows)))
 
-  pub none_is : (xs : List A) → ((i : ℕ) → slice_get (map compare xs) i ≢ Some Equal) → find test xs ≡ None
-  none_is xs never = find_none test xs (λ k d lt. same (get_or xs k d) ∙ not_equal (compare (get_or xs k d)) (λ e.
+  pub none_is : ((i : ℕ) → slice_get (map compare xs) i ≢ Some Equal) → find (λ a. is_eq (compare a)) xs ≡ None
+  none_is never = find_none (λ (a : A). is_eq (compare a)) xs (λ k d lt. not_equal (compare (get_or xs k d)) (λ e.
       never k (slice_get-map compare xs k ∙ ap (option_map compare) (slice_get-get_or xs k d lt) ∙ ap Some e)))
+
+-- where one test passes, some element is found by another that agrees
+any_same : {A : Type 0} (p q : A → Bool) → ((a : A) → p a ≡ q a) → (xs : List A) → is_some (find p xs) ≡ list_any q xs
+any_same p q same [] = refl
+any_same p q same (x ∷ xs) = by (p x) (q x) (same x) (any_same p q same xs) where
+  by : (a b : Bool) → a ≡ b → is_some (find p xs) ≡ list_any q xs → is_some (cond a (Some x) (find p xs)) ≡ (b || list_any q xs)
+  by true true e rest = refl
+  by false false e rest = rest
+  by true false e rest = absurd cc
+  by false true e rest = absurd cc
 
 -- the order of ids, and that of numbers
 id_behind : (a b w : Id) (o p : Ordering) → id_cmp a b ≡ Less → id_cmp a w ≡ o → id_cmp b w ≡ p → MayFollow o p
@@ -79,9 +94,6 @@ id_trans a b c h k = grind (arith, nat_tests)
 
 pub ids_searchable : {A : Type 0} (key : A → Id) (xs : List A) (wanted : Id) → AllAdjacentBelow (λ a b. id_cmp (key a) (key b) ≡ Less) xs (length xs) → IsSearchable (map (λ a. id_cmp (key a) wanted) xs)
 ids_searchable key = searchable id_cmp id_trans (λ a b w lt. id_behind a b w (id_cmp a w) (id_cmp b w) lt refl refl) key
-
-pub same_ids : (a b : Id) → id_eq a b ≡ is_eq (id_cmp a b)
-same_ids a b = grind (arith, nat_tests)
 
 page_behind : (a b w : ℕ) (o p : Ordering) → nat_cmp a b ≡ Less → nat_cmp a w ≡ o → nat_cmp b w ≡ p → MayFollow o p
 page_behind a b w Less p lt e f = tt
@@ -107,43 +119,10 @@ pages_ascend xs up k d lt =
 pub pages_searchable : (xs : List ℕ) (wanted : ℕ) → IsStrictlyIncreasing xs → IsSearchable (map (λ p. nat_cmp p wanted) xs)
 pages_searchable xs wanted up = searchable nat_cmp page_trans (λ a b w lt. page_behind a b w (nat_cmp a w) (nat_cmp b w) lt refl refl) (λ p. p) xs wanted (pages_ascend xs up)
 
-pub same_pages_of : (a b : ℕ) → (a == b) ≡ is_eq (nat_cmp a b)
-same_pages_of a b = grind (arith, nat_tests)
-
-equal_number : (a b : ℕ) → nat_cmp a b ≡ Equal → (a == b) ≡ true
-equal_number a b e = grind (arith, nat_tests)
-
-other_number : (a b : ℕ) → nat_cmp a b ≢ Equal → (a == b) ≡ false
-other_number a b other = same_pages_of a b ∙ not_equal (nat_cmp a b) other
+same_pages : (a b : ℕ) → is_eq (nat_cmp a b) ≡ (a == b)
+same_pages a b = grind (arith, nat_tests)
 
 -- a page that is found is listed, and one that isn't is not
-pub any_equal : (xs : List ℕ) (wanted i : ℕ) → slice_get (map (λ p. nat_cmp p wanted) xs) i ≡ Some Equal → lists_page xs wanted ≡ true
-any_equal xs wanted i e =
-    let compare = λ (p : ℕ). nat_cmp p wanted in
-    let many : length (map compare xs) ≡ length xs = length-map xs compare in
-    let lt : i < length xs = omega (arith, many, slice_get_within (map compare xs) i Equal e) in
-    let is : get_or (map compare xs) i Less ≡ Equal = get_or_from_slice_get (map compare xs) i Equal Less e in
-    list_any_at (λ p. p == wanted) xs i 0 lt (equal_number (get_or xs i 0) wanted (sym (get_or-map compare xs i 0 Less lt) ∙ is))
-
-pub none_equal : (xs : List ℕ) (wanted : ℕ) → ((i : ℕ) → slice_get (map (λ p. nat_cmp p wanted) xs) i ≢ Some Equal) → lists_page xs wanted ≡ false
-none_equal xs wanted never =
-    let compare = λ (p : ℕ). nat_cmp p wanted in
-    list_any_none (λ p. p == wanted) xs (λ k d lt. other_number (get_or xs k d) wanted (λ e. never k (slice_get-map compare xs k ∙ ap (option_map compare) (slice_get-get_or xs k d lt) ∙ ap Some e)))
-
--- what a search of entries by their ids says, where it saw how each compares with the wanted one
-module _ {A : Type 0} (key : A → Id) (xs : List A) (wanted : Id) (seen : List Ordering) (as_seen : seen ≡ map (λ a. id_cmp (key a) wanted) xs) where
-  equal_at : (i : ℕ) → slice_get seen i ≡ Some Equal → slice_get (map (λ a. id_cmp (key a) wanted) xs) i ≡ Some Equal
-  equal_at i e = subst (λ (os : List Ordering). slice_get os i ≡ Some Equal) as_seen e
-
-  pub place_within : (i : ℕ) → slice_get seen i ≡ Some Equal → i < length xs
-  place_within i e =
-      let compare = λ (a : A). id_cmp (key a) wanted in
-      let many : length (map compare xs) ≡ length xs = length-map xs compare in
-      omega (arith, many, slice_get_within (map compare xs) i Equal (equal_at i e))
-
-  pub found_by_id : (i : ℕ) (x : A) → AllAdjacentBelow (λ a b. id_cmp (key a) (key b) ≡ Less) xs (length xs) → slice_get seen i ≡ Some Equal → get_or xs i x ≡ x → find (λ a. id_eq (key a) wanted) xs ≡ Some x
-  found_by_id i x up e at =
-      found_is (λ (a : A). id_cmp (key a) wanted) (λ (a : A). id_eq (key a) wanted) (λ a. same_ids (key a) wanted) xs i x (ids_searchable key xs wanted up) (equal_at i e) (place_within i e) at
-
-  pub none_by_id : ((i : ℕ) → slice_get seen i ≢ Some Equal) → find (λ a. id_eq (key a) wanted) xs ≡ None
-  none_by_id never = none_is (λ (a : A). id_cmp (key a) wanted) (λ (a : A). id_eq (key a) wanted) (λ a. same_ids (key a) wanted) xs (λ i e. never i (subst (λ (os : List Ordering). slice_get os i ≡ Some Equal) (sym as_seen) e))
+pub listed_by_page : (found : Option (Bor ℕ)) (xs : List ℕ) (wanted : ℕ) → option_copied found ≡ find (λ p. is_eq (nat_cmp p wanted)) xs → is_some found ≡ lists_page xs wanted
+listed_by_page None xs wanted e = ap is_some e ∙ any_same (λ (p : ℕ). is_eq (nat_cmp p wanted)) (λ (p : ℕ). p == wanted) (λ p. same_pages p wanted) xs
+listed_by_page (Some page) xs wanted e = ap is_some e ∙ any_same (λ (p : ℕ). is_eq (nat_cmp p wanted)) (λ (p : ℕ). p == wanted) (λ p. same_pages p wanted) xs

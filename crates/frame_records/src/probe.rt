@@ -1,4 +1,4 @@
-//! The one binary search, which counts what it compares.
+//! The binary search that counts what it compares.
 
 ghost use Rattle.std.specs.Prelude.{◌≡◌, ◌≢◌, ℕ, ◌<◌, ◌≤◌, ◌+◌, List, length, slice_get, IfSome, IfNone, Some};
 ghost use Rattle.std.specs.declared.cmp.Ordering.TheVariants.{Equal};

@@ -1,12 +1,13 @@
-//! The base's two lists, searched by halves.
+//! Lists in order, searched by halves.
 
-ghost use Rattle.std.specs.Prelude.{◌≡◌, ◌<◌, ◌≤◌, length, map};
-ghost use Rattle.std.specs.Ordering.{nat_cmp};
+ghost use Rattle.std.specs.Prelude.{◌≡◌, ◌<◌, ◌≤◌, find, length, map};
+ghost use Rattle.std.specs.Ordering.{is_eq, nat_cmp};
 ghost use Rattle.page_ids.specs.Ids.{id_cmp};
 ghost use Rattle.std.specs.Option.{option_copied};
 ghost use Rattle.std.specs.List.Sorted.{IsStrictlyIncreasing};
 ghost use Rattle.frame_records.specs.declared.limits.TheConstants.{MOST_LISTED};
 ghost use Rattle.frame_records.specs.BaseView.{IsAscending, frame_among, lists_page};
+ghost use Rattle.frame_records.specs.Orderings.{IsSearchable};
 
 use crate::frame::Frame;
 use crate::probe::{Probe, search};
@@ -14,31 +15,42 @@ use page_ids::{FrameId, PageNo};
 use std::cmp::Ordering;
 use std::marker::Model;
 
-// Frames that are compared with an id.
+/// An entry of a list that can be searched by halves for a key.
+pub trait Entry<K> {
+    ghost use Rattle.std.specs.declared.cmp.Ordering.{Ordering as Comparison};
+
+    /// How an entry compares with a key.
+    ghost against: { Self → K → Comparison };
+
+    /// How the entry compares with a key.
+    fn against(&self, wanted: &K) -> Ordering
+        ensures { result ≡ against self.now wanted.now };
+}
+
+// Entries that are compared with a key.
 #[derive(Drop)]
-struct FrameProbe<'a> {
-    frames: &'a [Frame],
-    wanted: &'a FrameId,
+struct EntryProbe<'a, E: Entry<K>, K> {
+    entries: &'a [E],
+    wanted: &'a K,
     asked: u32,
 }
 
-impl<'a> Model for FrameProbe<'a> {
+impl<'a, E: Entry<K>, K> Model for EntryProbe<'a, E, K> {
     ghost use Rattle.std.specs.Prelude.{map};
-    ghost use Rattle.page_ids.specs.Ids.{id_cmp};
     ghost use Rattle.frame_records.specs.Orderings.{ProbeView};
 
     ghost Value = { ProbeView };
 
-    ghost view = { λ p. record { orderings = map (λ f. id_cmp f.id p.wanted.now) p.frames.now; count = p.asked } };
+    ghost view = { λ p. record { orderings = map (λ e. E.against e p.wanted.now) p.entries.now; count = p.asked } };
 }
 
-impl Probe for FrameProbe<'_> {
+impl<E: Entry<K>, K> Probe for EntryProbe<'_, E, K> {
     ghost orderings = { λ p. p.orderings };
 
     ghost count = { λ p. p.count };
 
     fn len(&self) -> usize {
-        self.frames.len()
+        self.entries.len()
     }
 
     fn asked(&self) -> u32 {
@@ -47,19 +59,50 @@ impl Probe for FrameProbe<'_> {
 
     fn ask(&mut self, i: usize) -> Ordering {
         self.asked += 1;
-        self.frames[i].id.cmp(self.wanted)
+        self.entries[i].against(self.wanted)
     }
 }
 
-// The frames beside the id that is wanted of them.
-fn frames_beside<'a>(frames: &'a [Frame], wanted: &'a FrameId) -> FrameProbe<'a>
-    ensures orderings { result.orderings ≡ map (λ f. id_cmp f.id wanted.now) frames.now }
+// The entries beside the key that is wanted of them.
+fn entries_beside<'a, E: Entry<K>, K>(entries: &'a [E], wanted: &'a K) -> EntryProbe<'a, E, K>
+    ensures orderings { result.orderings ≡ map (λ e. E.against e wanted.now) entries.now }
     ensures fresh { result.count ≡ 0 }
 {
-    FrameProbe {
-        frames,
+    EntryProbe {
+        entries,
         wanted,
         asked: 0,
+    }
+}
+
+/// The entry that is equal to a key, by halves, and how many entries were compared with it: at most 16. Takes no memory.
+pub fn find_by_halves<'a, E: Entry<K>, K>(entries: &'a [E], wanted: &K) -> (Option<&'a E>, u32)
+    requires few { length entries.now ≤ MOST_LISTED }
+    requires searchable { IsSearchable (map (λ e. E.against e wanted.now) entries.now) }
+    ensures value { option_copied result.0 ≡ find (λ e. is_eq (E.against e wanted.now)) entries.now }
+    ensures most { result.1 ≤ 16 }
+    ensures least { 0 < length entries.now → 1 ≤ result.1 }
+{
+    let mut probe = entries_beside(entries, wanted);
+    match search(&mut probe) {
+        Some(at) => (Some(&entries[at]), probe.asked()),
+        None => (None, probe.asked()),
+    }
+}
+
+impl Entry<FrameId> for Frame {
+    ghost against = { λ frame id. id_cmp frame.id id };
+
+    fn against(&self, wanted: &FrameId) -> Ordering {
+        self.id.cmp(wanted)
+    }
+}
+
+impl Entry<PageNo> for PageNo {
+    ghost against = { nat_cmp };
+
+    fn against(&self, wanted: &PageNo) -> Ordering {
+        self.cmp(wanted)
     }
 }
 
@@ -71,60 +114,7 @@ pub fn find_among(frames: &[Frame], id: FrameId) -> (Option<&Frame>, u32)
     ensures most { result.1 ≤ 16 }
     ensures least { 0 < length frames.now → 1 ≤ result.1 }
 {
-    let mut probe = frames_beside(frames, &id);
-    match search(&mut probe) {
-        Some(at) => (Some(&frames[at]), probe.asked()),
-        None => (None, probe.asked()),
-    }
-}
-
-// Pages that are compared with one.
-#[derive(Drop)]
-struct PageProbe<'a> {
-    pages: &'a [PageNo],
-    wanted: &'a PageNo,
-    asked: u32,
-}
-
-impl<'a> Model for PageProbe<'a> {
-    ghost use Rattle.std.specs.Prelude.{map};
-    ghost use Rattle.std.specs.Ordering.{nat_cmp};
-    ghost use Rattle.frame_records.specs.Orderings.{ProbeView};
-
-    ghost Value = { ProbeView };
-
-    ghost view = { λ p. record { orderings = map (λ q. nat_cmp q p.wanted.now) p.pages.now; count = p.asked } };
-}
-
-impl Probe for PageProbe<'_> {
-    ghost orderings = { λ p. p.orderings };
-
-    ghost count = { λ p. p.count };
-
-    fn len(&self) -> usize {
-        self.pages.len()
-    }
-
-    fn asked(&self) -> u32 {
-        self.asked
-    }
-
-    fn ask(&mut self, i: usize) -> Ordering {
-        self.asked += 1;
-        self.pages[i].cmp(self.wanted)
-    }
-}
-
-// The pages beside the one that is wanted of them.
-fn pages_beside<'a>(pages: &'a [PageNo], wanted: &'a PageNo) -> PageProbe<'a>
-    ensures orderings { result.orderings ≡ map (λ q. nat_cmp q wanted.now) pages.now }
-    ensures fresh { result.count ≡ 0 }
-{
-    PageProbe {
-        pages,
-        wanted,
-        asked: 0,
-    }
+    find_by_halves(frames, &id)
 }
 
 // Whether a page is among pages that ascend, and how many of them were compared with it.
@@ -135,9 +125,6 @@ pub fn is_among(pages: &[PageNo], page: PageNo) -> (bool, u32)
     ensures most { result.1 ≤ 16 }
     ensures least { 0 < length pages.now → 1 ≤ result.1 }
 {
-    let mut probe = pages_beside(pages, &page);
-    match search(&mut probe) {
-        Some(_) => (true, probe.asked()),
-        None => (false, probe.asked()),
-    }
+    let (found, asked) = find_by_halves(pages, &page);
+    (found.is_some(), asked)
 }
