@@ -9,15 +9,13 @@ pub struct Count {
     pub steps: u64,
 }
 
-impl Count {
-    // Both together.
-    pub fn with(self, more: Count) -> Count
-        ensures probes { self.probes + more.probes ≤ 18446744073709551615 → result.probes ≡ self.probes + more.probes }
-        ensures steps { self.steps + more.steps ≤ 18446744073709551615 → result.steps ≡ self.steps + more.steps }
-    {
-        Count {
-            probes: self.probes.saturating_add(more.probes),
-            steps: self.steps.saturating_add(more.steps),
-        }
+// Both together.
+pub fn together(some: Count, more: Count) -> Count
+    ensures probes { some.probes + more.probes ≤ 18446744073709551615 → result.probes ≡ some.probes + more.probes }
+    ensures steps { some.steps + more.steps ≤ 18446744073709551615 → result.steps ≡ some.steps + more.steps }
+{
+    Count {
+        probes: some.probes.saturating_add(more.probes),
+        steps: some.steps.saturating_add(more.steps),
     }
 }

@@ -8,7 +8,7 @@ ghost use Rattle.checker.specs.Good.{Good};
 ghost use Rattle.checker.specs.Safe.{Safe, HasRows};
 ghost use Rattle.checker.specs.Verdict.{verdict, verdict_of, same_cursor, paint_fault, frame_fault, ways_fault, found_fault, row_fault, rows_fault, head_fault};
 
-use crate::count::Count;
+use crate::count::{Count, together};
 use crate::cover::seek_row;
 use crate::policy::Policy;
 use crate::rank::ways_cause;
@@ -142,7 +142,7 @@ fn judge_rows<C: Cover + Drop>(base: &Base, cert: &Certificate<C>) -> (Option<Ca
     };
     for i in 0..cover.len() {
         let (cause, count) = judge_row(base, cert, cover.row_at(i));
-        total = total.with(count);
+        total = together(total, count);
         if let Some(cause) = cause {
             return (Some(cause), total);
         }
@@ -198,7 +198,7 @@ fn first_cause<C: Cover + Drop>(
         return (Some(cause), head);
     }
     let (cause, count) = judge_rows(base, cert);
-    (cause, count.with(head))
+    (cause, together(count, head))
 }
 
 /// Checks a certificate against a base, for a caller of the policy's groups, and tells what that took. Takes no memory.

@@ -7,4 +7,4 @@ returns-clause-count g c =
     let head = c.judge_head-cause.ensures in
     let is = c.judge_rows-cause.ensures.count in
     let none = c.in_default.is in
-    all_counted c.args.base.now (g.C.Cover.most_among (length c.args.cert.now.rows)) c.args.cert.now.rows c.judge_rows-cause.result.0 c.judge_rows-cause.result.1 c.with.result c.from.result is (omega (arith, c.from.ensures, head.most)) (omega (arith, c.from.ensures, head.least none)) (c.with.ensures.probes (omega (arith, c.from.ensures, head.small, is.small))) (c.with.ensures.steps (omega (arith, is.short)))
+    all_counted c.args.base.now (g.C.Cover.most_among (length c.args.cert.now.rows)) c.args.cert.now.rows c.judge_rows-cause.result.0 c.judge_rows-cause.result.1 c.together.result c.from.result is (omega (arith, c.from.ensures, head.most)) (omega (arith, c.from.ensures, head.least none)) (c.together.ensures.probes (omega (arith, c.from.ensures, head.small, is.small))) (c.together.ensures.steps (omega (arith, is.short)))

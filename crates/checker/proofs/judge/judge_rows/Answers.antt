@@ -21,8 +21,8 @@ returns-in-Some-clause-count g c =
     let at : slice_get rows c.loop-i.i ≡ Some row = subst (λ (xs : List Row). slice_get xs c.loop-i.i ≡ Some row) c.cover-cover.ensures.rows c.row_at.ensures in
     let few : length rows ≤ 65535 = subst (λ (xs : List Row). length xs ≤ 65535) c.cover-cover.ensures.rows c.len-i-end.ensures.valid.few in
     let is = subst (λ (o : Option Cause). IsRowCount c.args.base.now m rows row o c.judge_row-cause.result.1) c.in-Some.is c.judge_row-cause.ensures.count in
-    let sums = fit c.args.base.now m rows c.loop-i.i row at c.loop-i.total c.with-total.result c.judge_row-cause.result.1 c.loop-i.invariant.counted (Some c.in-Some.cause) few is in
-    counted_last c.args.base.now m rows c.loop-i.i row at c.loop-i.total c.with-total.result c.judge_row-cause.result.1 c.loop-i.invariant.counted c.in-Some.cause few is (c.with-total.ensures.probes sums.0) (c.with-total.ensures.steps sums.1)
+    let sums = fit c.args.base.now m rows c.loop-i.i row at c.loop-i.total c.together-total.result c.judge_row-cause.result.1 c.loop-i.invariant.counted (Some c.in-Some.cause) few is in
+    counted_last c.args.base.now m rows c.loop-i.i row at c.loop-i.total c.together-total.result c.judge_row-cause.result.1 c.loop-i.invariant.counted c.in-Some.cause few is (c.together-total.ensures.probes sums.0) (c.together-total.ensures.steps sums.1)
 
 pub loop-i-preserved : goal.loop-i-preserved
 loop-i-preserved g c =
@@ -32,8 +32,8 @@ loop-i-preserved g c =
     let at : slice_get rows c.loop-i.i ≡ Some row = subst (λ (xs : List Row). slice_get xs c.loop-i.i ≡ Some row) c.cover-cover.ensures.rows c.row_at.ensures in
     let few : length rows ≤ 65535 = subst (λ (xs : List Row). length xs ≤ 65535) c.cover-cover.ensures.rows c.len-i-end.ensures.valid.few in
     let is = subst (λ (o : Option Cause). IsRowCount c.args.base.now m rows row o c.judge_row-cause.result.1) c.in_default.is c.judge_row-cause.ensures.count in
-    let sums = fit c.args.base.now m rows c.loop-i.i row at c.loop-i.total c.with-total.result c.judge_row-cause.result.1 c.loop-i.invariant.counted None few is in
+    let sums = fit c.args.base.now m rows c.loop-i.i row at c.loop-i.total c.together-total.result c.judge_row-cause.result.1 c.loop-i.invariant.counted None few is in
     record {
       right = next_row c.args.cert.now.groups c.args.base.now c.args.cert.now rows c.loop-i.i row at (sym c.judge_row-cause.ensures.cause ∙ c.in_default.is) ∙ c.loop-i.invariant.right;
-      counted = counted_more c.args.base.now m rows c.loop-i.i row at c.loop-i.total c.with-total.result c.judge_row-cause.result.1 c.loop-i.invariant.counted is c.requires.some (c.with-total.ensures.probes sums.0) (c.with-total.ensures.steps sums.1);
+      counted = counted_more c.args.base.now m rows c.loop-i.i row at c.loop-i.total c.together-total.result c.judge_row-cause.result.1 c.loop-i.invariant.counted is c.requires.some (c.together-total.ensures.probes sums.0) (c.together-total.ensures.steps sums.1);
     }
