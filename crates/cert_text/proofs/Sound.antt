@@ -9,7 +9,7 @@ use Rattle.std.proofs.Math.ListN.{get_or-append}
 use Rattle.std.proofs.Math.Seq.{get_or-append_seam}
 use Rattle.std.proofs.lemmas.Bool.{cases_lt}
 use Rattle.page_ids.specs.Id.{Id}
-use Rattle.page_ids.specs.Ids.{id_cmp}
+use Rattle.page_ids.specs.Ids.{id_cmp, IsPageNumber}
 use Rattle.frame_records.specs.Groups.{AreGroups}
 use Rattle.cert_table.specs.declared.row.Row.{Row}
 use Rattle.cert_text.specs.Grammar.{IsRow}
@@ -65,47 +65,25 @@ most_small Ceiling = omega arith
 most_small Keyings = omega arith
 most_small Count = omega arith
 
+-- other numbers and groups beside the same rows
+same_rows : (s t : Said) → IsSound s → t.rows ≡ s.rows → IsPageNumber t.entry → t.ceiling ≤ 9999 → t.keyings ≤ 65535
+    → AreGroups t.groups → t.count ≤ 65535 → IsSound t
+same_rows s t is same entry ceiling keyings groups count =
+    record {
+      entry = entry;
+      ceiling = ceiling;
+      keyings = keyings;
+      groups = groups;
+      count = count;
+      rows = rw same is.rows;
+      each = rw same is.each;
+    }
+
 pub put_sound : (f : Field) (n : ℕ) (s : Said) → IsSound s → n ≤ most_of f → IsSound (put f n s)
-put_sound Entry n s is le =
-    record {
-      entry = le;
-      ceiling = is.ceiling;
-      keyings = is.keyings;
-      groups = is.groups;
-      count = is.count;
-      rows = is.rows;
-      each = is.each;
-    }
-put_sound Ceiling n s is le =
-    record {
-      entry = is.entry;
-      ceiling = le;
-      keyings = is.keyings;
-      groups = is.groups;
-      count = is.count;
-      rows = is.rows;
-      each = is.each;
-    }
-put_sound Keyings n s is le =
-    record {
-      entry = is.entry;
-      ceiling = is.ceiling;
-      keyings = le;
-      groups = is.groups;
-      count = is.count;
-      rows = is.rows;
-      each = is.each;
-    }
-put_sound Count n s is le =
-    record {
-      entry = is.entry;
-      ceiling = is.ceiling;
-      keyings = is.keyings;
-      groups = is.groups;
-      count = le;
-      rows = is.rows;
-      each = is.each;
-    }
+put_sound Entry n s is le = same_rows s _ is refl le is.ceiling is.keyings is.groups is.count
+put_sound Ceiling n s is le = same_rows s _ is refl is.entry le is.keyings is.groups is.count
+put_sound Keyings n s is le = same_rows s _ is refl is.entry is.ceiling le is.groups is.count
+put_sound Count n s is le = same_rows s _ is refl is.entry is.ceiling is.keyings is.groups le
 
 abbrev pub with_grouped : Said → Bool → Said
 with_grouped s q = record s { grouped = q }
@@ -114,28 +92,10 @@ abbrev pub with_groups : Said → List ℕ → Said
 with_groups s groups = record s { groups = groups }
 
 pub grouped_sound : (q : Bool) (s : Said) → IsSound s → IsSound (with_grouped s q)
-grouped_sound q s is =
-    record {
-      entry = is.entry;
-      ceiling = is.ceiling;
-      keyings = is.keyings;
-      groups = is.groups;
-      count = is.count;
-      rows = is.rows;
-      each = is.each;
-    }
+grouped_sound q s is = same_rows s _ is refl is.entry is.ceiling is.keyings is.groups is.count
 
 pub groups_sound : (groups : List ℕ) (s : Said) → IsSound s → AreGroups groups → IsSound (with_groups s groups)
-groups_sound groups s is valid =
-    record {
-      entry = is.entry;
-      ceiling = is.ceiling;
-      keyings = is.keyings;
-      groups = valid;
-      count = is.count;
-      rows = is.rows;
-      each = is.each;
-    }
+groups_sound groups s is valid = same_rows s _ is refl is.entry is.ceiling is.keyings valid is.count
 
 pub row_sound : (s : Said) (line : List ℕ) (r : Row) (rows : List Row) → IsSound s → length s.rows + 1 ≤ s.count
     → row_in s.rows line ≡ Ok r

@@ -1,6 +1,5 @@
 -- Keys in turn.
 use Rattle.std.proofs.Common.{◌≡◌, ℕ, List, [], ◌∷◌, ◌++◌, refl, sym, ◌∙◌, ap, append_assoc}
-use Rattle.std.proofs.lemmas.List.{append-nil}
 use Rattle.std.specs.List.{AllByRecursion}
 use Rattle.page_ids.specs.declared.key.Key.{Key}
 use Rattle.frame_records.specs.BaseView.{BaseView}
@@ -27,21 +26,10 @@ pub away_replies : (caller : List ℕ) (base : BaseView) (page : ℕ) (keys : Li
 away_replies caller base page [] = tt
 away_replies caller base page (key ∷ keys) = (refl, away_replies caller base page keys)
 
-pub parts_state : (caller : List ℕ) (from : SessionState) (parts more : List Part) → state_over caller from (parts ++ more) ≡ state_over caller (state_over caller from parts) more
-parts_state caller from [] more = refl
-parts_state caller from (part ∷ parts) more = parts_state caller (state_after caller part.base from part.keys) parts more
+pub parts_state : (caller : List ℕ) (parts : List Part) (from : SessionState) (more : List Part) → state_over caller from (parts ++ more) ≡ state_over caller (state_over caller from parts) more
+parts_state caller [] from more = refl
+parts_state caller (part ∷ parts) from more = parts_state caller parts _ more
 
-pub parts_replies : (caller : List ℕ) (from : SessionState) (parts more : List Part) → replies_over caller from (parts ++ more) ≡ replies_over caller from parts ++ replies_over caller (state_over caller from parts) more
-parts_replies caller from [] more = refl
-parts_replies caller from (part ∷ parts) more =
-    let after = state_after caller part.base from part.keys in
-    let here = replies_to caller part.base from part.keys in
-    ap (λ (rest : List Reply). here ++ rest) (parts_replies caller after parts more)
-    ∙ sym (append_assoc here (replies_over caller after parts) (replies_over caller (state_over caller after parts) more))
-
--- a change to the same base is none
-pub same_replies : (caller : List ℕ) (base : BaseView) (from : SessionState) (keys more : List Key) → replies_over caller from (record { base = base; keys = keys } ∷ record { base = base; keys = more } ∷ []) ≡ replies_to caller base from (keys ++ more)
-same_replies caller base from keys more =
-    let there = replies_to caller base (state_after caller base from keys) more in
-    ap (λ (rest : List Reply). replies_to caller base from keys ++ rest) (append-nil there)
-    ∙ sym (replies_in_turn caller base from keys more)
+pub parts_replies : (caller : List ℕ) (parts : List Part) (from : SessionState) (more : List Part) → replies_over caller from (parts ++ more) ≡ replies_over caller from parts ++ replies_over caller (state_over caller from parts) more
+parts_replies caller [] from more = refl
+parts_replies caller (part ∷ parts) from more = ap (λ (rest : List Reply). replies_to caller part.base from part.keys ++ rest) (parts_replies caller parts _ more) ∙ sym (append_assoc (replies_to caller part.base from part.keys) _ _)
