@@ -1,12 +1,12 @@
-ghost use Rattle.std.specs.Prelude.{◌≡◌, ◌<◌, ◌+◌, ◌*◌, OnOk, IfOk, length};
+ghost use Rattle.std.specs.Prelude.{◌≡◌, ◌<◌, ◌+◌, ◌*◌, IsTrue, OnOk, IfOk, length};
 ghost use Rattle.smallvec.specs.SmallVec.{SmallVec};
-ghost use Rattle.finder.specs.Turned.{AreTurned, IsSourceList};
+ghost use Rattle.finder.specs.Turned.{AreTurned, HasSource, IsSourceList};
 
 use crate::graph::Graph;
 use smallvec::SmallVec;
 use std::alloc::{AllocError, Global};
 
-// The nodes from which a way leads to a node: most are few, and lie in place.
+// The nodes from which a way leads to a node, each once: most are few, and lie in place.
 pub type Sources = SmallVec<u16, 12>;
 
 // The ways turned round: for each node its sources.
@@ -16,6 +16,17 @@ pub struct Turned {
 }
 
 impl Turned {
+    // Whether the source of a node that was added last is this one.
+    fn has_last(&self, to: u16, node: u16) -> bool
+        requires { to < length self.now.sources.items }
+        ensures { IsTrue result → HasSource self.now.sources.items to node }
+    {
+        match self.sources_of(to).last() {
+            Some(last) => *last == node,
+            None => false,
+        }
+    }
+
     // Turns one more way round.
     fn add(&mut self, graph: &Graph<'_>, node: u16, way: u8) -> Result<(), AllocError>
         requires is_node { node < graph.now.table.count }
@@ -26,6 +37,9 @@ impl Turned {
         let Some(to) = graph.target(node, way) else {
             return Ok(());
         };
+        if self.has_last(to, node) {
+            return Ok(());
+        }
         self.sources[to as usize].push(node)?;
         Ok(())
     }
