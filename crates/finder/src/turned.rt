@@ -1,12 +1,13 @@
-ghost use Rattle.std.specs.Prelude.{◌≡◌, ◌<◌, ◌+◌, ◌*◌, IsTrue, OnOk, IfOk, length};
+ghost use Rattle.std.specs.Prelude.{◌≡◌, ◌<◌, ◌+◌, ◌-◌, ◌*◌, IsTrue, OnOk, IfOk, length};
 ghost use Rattle.smallvec.specs.SmallVec.{SmallVec};
-ghost use Rattle.finder.specs.Turned.{AreTurned, HasSource, IsSourceList};
+ghost use Rattle.finder.specs.Graph.{Goes};
+ghost use Rattle.finder.specs.Turned.{AreTurned, IsSourceList};
 
 use crate::graph::Graph;
 use smallvec::SmallVec;
 use std::alloc::{AllocError, Global};
 
-// The nodes from which a way leads to a node, each once: most are few, and lie in place.
+// The nodes from which a way leads to a node: most are few, and lie in place.
 pub type Sources = SmallVec<u16, 12>;
 
 // The ways turned round: for each node its sources.
@@ -15,18 +16,22 @@ pub struct Turned {
     pub sources: Vec<Sources>,
 }
 
-impl Turned {
-    // Whether the source of a node that was added last is this one.
-    fn has_last(&self, to: u16, node: u16) -> bool
-        requires { to < length self.now.sources.items }
-        ensures { IsTrue result → HasSource self.now.sources.items to node }
-    {
-        match self.sources_of(to).last() {
-            Some(last) => *last == node,
-            None => false,
-        }
+// Whether the way before leads to the same node.
+fn repeats(graph: &Graph<'_>, node: u16, way: u8, to: u16) -> bool
+    requires is_node { node < graph.now.table.count }
+    requires is_way { way < 11 }
+    ensures { IsTrue result → (0 < way) × Goes graph.now node (way - 1) to }
+{
+    if way == 0 {
+        return false;
     }
+    match graph.target(node, way - 1) {
+        Some(before) => before == to,
+        None => false,
+    }
+}
 
+impl Turned {
     // Turns one more way round.
     fn add(&mut self, graph: &Graph<'_>, node: u16, way: u8) -> Result<(), AllocError>
         requires is_node { node < graph.now.table.count }
@@ -37,7 +42,7 @@ impl Turned {
         let Some(to) = graph.target(node, way) else {
             return Ok(());
         };
-        if self.has_last(to, node) {
+        if repeats(graph, node, way, to) {
             return Ok(());
         }
         self.sources[to as usize].push(node)?;
