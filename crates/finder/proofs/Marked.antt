@@ -1,6 +1,6 @@
 -- Which nodes are marked, and what a way of a listed frame's node does.
-use Rattle.std.proofs.Common.{◌≡◌, ◌<◌, ◌≤◌, ◌+◌, ◌*◌, ◌⊎◌, ℕ, Bool, true, false, cond, List, [], ◌∷◌, ◌++◌, Option, Some, None, slice_get, length, get_or, set, refl, sym, ◌∙◌, ap, subst, ⊎_elim, length-append, replicate, arith, Any, Contains}
-use Rattle.finder.proofs.Words.{cases_eq, common_steps, get_or-set_at, slice_get_within, get_or-set_other, get_or-replicate, length-replicate, All-nil, All-push, All-contains, Contains-push, Contains-append_left, sum_by-set, count_by-le-length, same_Some, Id, entry_of, Leads, Frame, IsAscending, Discovered, Discovery, Graph, Goes, IsDiscovery, AreMarked, AreNamed, IsListed, FindsReached, EntryIsFound, Walk, IsNodeRank, way_at, way_key, id_at}
+use Rattle.std.proofs.Common.{◌≡◌, ◌<◌, ◌≤◌, ◌+◌, ◌*◌, ◌⊎◌, ℕ, Bool, true, false, cond, List, [], ◌∷◌, ◌++◌, Some, None, slice_get, length, get_or, set, refl, sym, ◌∙◌, ap, subst, ⊎_elim, length-append, replicate, arith, Any, Contains}
+use Rattle.finder.proofs.Words.{cases_eq, common_steps, get_or-set_at, slice_get_within, get_or-set_other, get_or-replicate, length-replicate, All-nil, All-push, All-contains, Contains-push, Contains-append_left, sum_by-set, count_by-le-length, same_Some, Id, entry_of, Frame, IsAscending, Discovered, Discovery, Graph, Goes, AreMarked, AreNamed, IsListed, FindsReached, EntryIsFound, IsNodeRank, way_at, way_key, id_at}
 use Rattle.std.proofs.lemmas.List.Folds.{sum_by-replicate}
 use Rattle.finder.proofs.Listed.{listed, finds_reached, passed, pushed, started}
 use Rattle.finder.proofs.Lists.{at_push, at_within, any_at, any_of, at_contains, contains_at, full_at, set_kept, true_within}

@@ -1,8 +1,6 @@
 -- The places of ascending frames, and their ids.
-use Rattle.std.proofs.Common.{◌≡◌, ◌<◌, ℕ, List, Some, ◌≤◌, ◌||◌, Bool, true, false, refl, length, slice_get, get_or, sym, ◌∙◌, ap, ⊎_elim, arith}
-use Rattle.std.specs.Prelude.{nat_lt}
-use Rattle.finder.proofs.Words.{cases_order, slice_get_within, get_or_from_slice_get, Id, id_eq, id_eq_refl, Frame, IsAscending, BaseView, IsBase, frame_among, id_at, find_first, apart_at}
-use Rattle.std.proofs.lemmas.Bool.Decides.{nat_tests}
+use Rattle.std.proofs.Common.{◌≡◌, ◌<◌, ℕ, List, Some, slice_get, get_or, sym, ◌∙◌, ap, ⊎_elim}
+use Rattle.finder.proofs.Words.{cases_order, slice_get_within, get_or_from_slice_get, Id, id_eq, id_eq_refl, Frame, IsAscending, frame_among, id_at, find_first, apart_at}
 use Rattle.finder.proofs.Lists.{mapped}
 
 module _ (frames : List Frame) (up : IsAscending frames) where
@@ -32,10 +30,3 @@ module _ (frames : List Frame) (up : IsAscending frames) where
 pub id_stands : (frames : List Frame) (j : ℕ) (to : Id) → id_at frames j ≡ Some to
     → (f : Frame) × (slice_get frames j ≡ Some f) × (f.id ≡ to)
 id_stands frames j to e = mapped (λ (f : Frame). f.id) (slice_get frames j) to e
-
--- there are few of a base
-pub few_frames : (base : BaseView) → IsBase base → length base.frames ≤ 65535
-few_frames base is = by (nat_lt 65535 (length base.frames)) (nat_lt 65535 (length base.outside)) refl is.few where
-  by : (b c : Bool) → nat_lt 65535 (length base.frames) ≡ b → (b || c) ≡ false → length base.frames ≤ 65535
-  by true c is e = absurd cc
-  by false c is e = grind (arith, nat_tests)

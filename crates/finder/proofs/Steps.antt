@@ -1,5 +1,5 @@
 -- Ids of nodes, and the ways between them.
-use Rattle.std.proofs.Common.{◌≡◌, ℕ, List, Option, Some, None, option_map, length, slice_get, refl, sym, ◌∙◌, ap, ⊎_elim, ◌<◌, ◌+◌, zero, suc, subst, arith}
+use Rattle.std.proofs.Common.{◌≡◌, ℕ, List, Option, Some, None, option_map, length, slice_get, refl, sym, ◌∙◌, ap, ⊎_elim, ◌<◌, zero, suc, subst, arith}
 use Rattle.finder.proofs.Words.{cases_lt, same_Some, slice_get_within, Id, Way, place_at, way_at, way_place, Frame, IsAscending, BaseView, entry_of, destination_of, destination_by, destination, aim_of, Leads, id_at, Graph, Goes, NodeWalk, IsNodeRank, Walk, IsRank}
 use Rattle.frame_records.specs.declared.ways.Destination.TheVariants as destination_is
 use Rattle.finder.proofs.Places.{same_place, frame_here, id_stands}

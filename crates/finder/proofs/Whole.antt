@@ -1,5 +1,5 @@
 -- What a survey says.
-use Rattle.std.proofs.Common.{◌≡◌, ℕ, Bool, true, false, List, Some, None, if◌then◌else◌, length, refl, sym, ◌∙◌, ap, ◌<◌, ◌+◌, ◌*◌, [], option_map, ⊎_elim, slice_get, get_or, arith, ◌≤◌}
+use Rattle.std.proofs.Common.{◌≡◌, ℕ, Bool, true, false, List, Some, None, if◌then◌else◌, length, refl, sym, ◌∙◌, ap, ◌<◌, ◌+◌, ◌*◌, [], ⊎_elim, slice_get, get_or, arith, ◌≤◌}
 use Rattle.finder.proofs.Words.{cases_lt, same_Some, slice_get_within, Way, way_at, Frame, BaseView, IsAscending, frame_at, entry_of, seek_entry, is_open, sought_of, destination_of, destination_by, destination, Target, IsEntryPlace, IsSought, target_at, place_of, Discovered, AreNamed, aim_of, FindsReached, RanksAreLeast, IsFinding, EntryIsFound}
 use Rattle.frame_records.specs.declared.base.Sought.TheVariants as sought_is
 use Rattle.finder.proofs.Places.{frame_here, id_stands}

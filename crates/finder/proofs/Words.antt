@@ -17,7 +17,7 @@ pub use Rattle.page_ids.specs.declared.key.Key.{Key}
 pub use Rattle.page_ids.specs.declared.way.Way.{Way}
 pub use Rattle.frame_records.proofs.Finds.{find_first, find_none}
 pub use Rattle.frame_records.proofs.SortedFrames.{apart_at, ascending_sorted, found_at}
-pub use Rattle.frame_records.specs.BaseView.{BaseView, IsAscending, IsBase, frame_among, frame_at}
+pub use Rattle.frame_records.specs.BaseView.{BaseView, IsAscending, frame_among, frame_at}
 pub use Rattle.frame_records.specs.Seek.{entry_of, is_open, seek, seek_entry, sought_of}
 pub use Rattle.frame_records.specs.WayLaws.{found_sought, frame_id, going, offered_place}
 pub use Rattle.frame_records.specs.Ways.{Leads, destination, destination_by, destination_of, missing_by, offered_by, sought, sought_by}

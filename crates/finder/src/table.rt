@@ -41,6 +41,7 @@ impl Targets {
 
     // Adds what each way of the frame at a place comes to.
     fn add_frame(&mut self, notes: &Notes<'_>, place: u16) -> Result<(), AllocError>
+        requires few { length notes.now.base.now.frames ≤ 65535 }
         requires inside { place < length notes.now.base.now.frames }
         requires targets { AreTargets notes.now.groups.now notes.now.base.now (place * 11) self.old }
         ensures { OnOk result (AreTargets notes.now.groups.now notes.now.base.now ((place + 1) * 11) self.new) }

@@ -1,4 +1,4 @@
-use Rattle.std.proofs.Common.{◌≡◌, Some, get_or, false, refl, sym, ◌∙◌, ap, subst}
+use Rattle.std.proofs.Common.{Some, get_or, false, refl, sym, ◌∙◌, ap, subst}
 use Rattle.finder.proofs.Words.{IsNodeRank}
 use Rattle.finder.specs.Entries.{discovered_of}
 use Rattle.finder.proofs.Lists.{push_at}
