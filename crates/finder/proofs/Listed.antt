@@ -1,5 +1,5 @@
 -- One more way of a listed frame is tried.
-use Rattle.std.proofs.Common.{◌≡◌, ◌<◌, ◌+◌, ◌*◌, inl, inr, ℕ, zero, suc, List, [], ◌∷◌, ◌++◌, Option, Some, None, slice_get, length, refl, sym, ◌∙◌, ap, subst, ⊎_elim, arith, Any}
+use Rattle.std.proofs.Common.{◌≡◌, ◌<◌, ◌+◌, ◌*◌, inl, inr, ℕ, zero, suc, List, [], ◌∷◌, ◌++◌, Some, None, slice_get, length, ◌≤◌, refl, sym, ◌∙◌, ap, subst, ⊎_elim, arith, Any}
 use Rattle.finder.proofs.Words.{cases_lt, cases_order, All-nil, All-push, all_pairs_push, Any-push, slice_get_within, same_Some, slice_get-get_or, Id, place_at, way_at, way_place, way_key, Way, BaseView, entry_of, Leads, Discovered, place, IsDiscovery, Pair, HasPair, PairLeads, IsBefore, HasFirstPair, FindsReached, Walk, IsRank, EntryIsFound}
 use Rattle.page_ids.specs.declared.way.Way.TheVariants.{Route, Next}
 use Rattle.frame_records.specs.declared.ways.Destination.TheVariants.{Found}
@@ -70,10 +70,7 @@ module _ (caller : List ℕ) (base : BaseView) where
     }
 
     -- it leads to a frame that isn't listed, and that goes last
-    module _ (id : Id) (rank : Option ℕ) (leads : Leads caller base from.id (way_at way) id) (new : Any (λ d. d.id ≡ id) found → ⊥) (ranked : IsRank caller base id rank) where
-      abbrev e : Discovered
-      e = record { id = id; rank = rank; parent = Some index; key = Some (way_key (way_at way)) }
-
+    module _ (e : Discovered) (parent : e.parent ≡ Some index) (key : e.key ≡ Some (way_key (way_at way))) (leads : Leads caller base from.id (way_at way) e.id) (new : Any (λ d. d.id ≡ e.id) found → ⊥) (ranked : IsRank caller base e.id e.rank) where
       abbrev more : List Discovered
       more = found ++ e ∷ []
 
@@ -85,9 +82,9 @@ module _ (caller : List ℕ) (base : BaseView) where
 
       -- its one pair
       own : (p : Pair) → HasPair e p → (p.0 ≡ index) × (way_place p.1 ≡ way)
-      own p h = (sym (same_Some index p.0 h.parent), ap way_place (sym (same_way (way_at way) p.1 (same_Some (way_key (way_at way)) (way_key p.1) h.key))) ∙ place_at way small)
+      own p h = (sym (same_Some index p.0 (sym parent ∙ h.parent)), ap way_place (sym (same_way (way_at way) p.1 (same_Some (way_key (way_at way)) (way_key p.1) (sym key ∙ h.key)))) ∙ place_at way small)
 
-      leads_on : PairLeads caller base more pair id
+      leads_on : PairLeads caller base more pair e.id
       leads_on = record { from = from; stands = push_at found e index from stands; leads = leads }
 
       kept : (d : Discovered) → HasFirstPair caller base found d → HasFirstPair caller base more d
@@ -101,9 +98,9 @@ module _ (caller : List ℕ) (base : BaseView) where
       first_pair : HasFirstPair caller base more e
       first_pair = record {
         pair = pair;
-        has = record { parent = refl; key = refl };
+        has = record { parent = parent; key = key };
         leads = leads_on;
-        none_before = λ other l before. new (is.closed other id (ungrown found e other id (omega (arith, row_of other pair before, inside)) l) (omega (arith, before_place other pair (way_known more other id l).0 before, place_at way small)));
+        none_before = λ other l before. new (is.closed other e.id (ungrown found e other e.id (omega (arith, row_of other pair before, inside)) l) (omega (arith, before_place other pair (way_known more other e.id l).0 before, place_at way small)));
       }
 
       pub pushed : IsDiscovery caller base (index * 11 + way + 1) more
@@ -113,48 +110,49 @@ module _ (caller : List ℕ) (base : BaseView) where
           entry = any_grown (λ d. d.id ≡ entry_of base) found e is.listing.entry;
           walked = All-push (λ d. (n : ℕ) × Walk caller base (entry_of base) d.id n) found e is.listing.walked (let walk = all_at (λ d. (n : ℕ) × Walk caller base (entry_of base) d.id n) found index from is.listing.walked stands in (suc walk.0, (from.id, way_at way, walk.1, leads)));
           ranks = All-push (λ d. IsRank caller base d.id d.rank) found e is.listing.ranks ranked;
-          once = all_pairs_push (λ d b. d.id ≡ b.id → ⊥) found e is.listing.once (λ k d lt same. new (any_of (λ d. d.id ≡ id) found k _ (slice_get-get_or found k d lt) same));
+          once = all_pairs_push (λ d b. d.id ≡ b.id → ⊥) found e is.listing.once (λ k d lt same. new (any_of (λ d. d.id ≡ e.id) found k _ (slice_get-get_or found k d lt) same));
           pairs = λ i d at. ⊎_elim (λ old. kept d (is.listing.pairs i d old)) (λ end. subst (HasFirstPair caller base more) end.1 first_pair) (at_push found e (i + 1) d at);
           ascend = all_pairs_push (λ d b. (p q : Pair) → HasPair d p → HasPair b q → IsBefore p q) found e is.listing.ascend (λ k d lt p q hp hq. let last = own q hq in place_before p q (omega (arith, last.1, small)) (omega (arith, is.before k d lt p hp, last.0, last.1)));
         };
         before = All-push (λ d. (p : Pair) → HasPair d p → place p < index * 11 + way + 1) found e (λ k d lt p h. omega (arith, is.before k d lt p h)) (λ p h. let last = own p h in omega (arith, last.0, last.1));
-        closed = closed_more more (λ g. Any (λ d. d.id ≡ g) more) index way from small (push_at found e index from stands) (λ p g l lt. any_grown (λ d. d.id ≡ g) found e (is.closed p g (ungrown found e p g (omega (arith, lt, small, inside)) l) lt)) (λ g l. Any-push (λ d. d.id ≡ g) found e (one_end from.id (way_at way) id g leads l));
+        closed = closed_more more (λ g. Any (λ d. d.id ≡ g) more) index way from small (push_at found e index from stands) (λ p g l lt. any_grown (λ d. d.id ≡ g) found e (is.closed p g (ungrown found e p g (omega (arith, lt, small, inside)) l) lt)) (λ g l. Any-push (λ d. d.id ≡ g) found e (one_end from.id (way_at way) e.id g leads l));
       }
 
   -- the entry frame alone
-  pub started : (rank : Option ℕ) → IsRank caller base (entry_of base) rank
-      → IsDiscovery caller base 0 (record { id = entry_of base; rank = rank; parent = None; key = None } ∷ [])
-  started rank ranked =
-      let e : Discovered = record { id = entry_of base; rank = rank; parent = None; key = None } in
-      record {
-        listing = record {
-          first = λ d at. let same : e ≡ d = same_Some e d at in (ap (λ (x : Discovered). x.id) (sym same), ap (λ (x : Discovered). x.parent) (sym same), ap (λ (x : Discovered). x.key) (sym same));
-          entry = Any-push (λ d. d.id ≡ entry_of base) [] e refl;
-          walked = All-push (λ d. (n : ℕ) × Walk caller base (entry_of base) d.id n) [] e (All-nil _) (0, refl);
-          ranks = All-push (λ d. IsRank caller base d.id d.rank) [] e (All-nil _) ranked;
-          once = λ i j d lt end. absurd (omega (arith, lt, end));
-          pairs = λ i d at. absurd (omega (arith, slice_get_within (e ∷ []) (i + 1) d at));
-          ascend = λ i j d lt end. absurd (omega (arith, lt, end));
-        };
-        before = All-push (λ d. (p : Pair) → HasPair d p → place p < 0) [] e (All-nil _) (λ p h. let none = h.parent in absurd cc);
-        closed = λ p g l lt. absurd (omega (arith, lt));
-      }
+  pub started : (e : Discovered) → e.id ≡ entry_of base → e.parent ≡ None → e.key ≡ None → IsRank caller base e.id e.rank
+      → IsDiscovery caller base 0 (e ∷ [])
+  started e same parent key ranked = record {
+    listing = record {
+      first = λ d at. subst (λ (x : Discovered). (x.id ≡ entry_of base) × (x.parent ≡ None) × (x.key ≡ None)) (same_Some e d at) (same, parent, key);
+      entry = Any-push (λ d. d.id ≡ entry_of base) [] e same;
+      walked = All-push (λ d. (n : ℕ) × Walk caller base (entry_of base) d.id n) [] e (All-nil _) (0, sym same);
+      ranks = All-push (λ d. IsRank caller base d.id d.rank) [] e (All-nil _) ranked;
+      once = λ i j d lt end. absurd (omega (arith, lt, end));
+      pairs = λ i d at. absurd (omega (arith, slice_get_within (e ∷ []) (i + 1) d at));
+      ascend = λ i j d lt end. absurd (omega (arith, lt, end));
+    };
+    before = All-push (λ d. (p : Pair) → HasPair d p → place p < 0) [] e (All-nil _) (λ p h. let none = sym parent ∙ h.parent in absurd cc);
+    closed = λ p g l lt. absurd (omega (arith, lt));
+  }
 
-  module _ (index : ℕ) (found : List Discovered) (is : IsDiscovery caller base (index * 11) found) (full : length found < index + 1) where
-    listed : (n : ℕ) (g : Id) → Walk caller base (entry_of base) g n → Any (λ d. d.id ≡ g) found
-    listed zero g same = subst (λ x. Any (λ d. d.id ≡ x) found) same is.listing.entry
-    listed (suc n) g walk =
-        let there = any_at (λ d. d.id ≡ walk.0) found (listed n walk.0 walk.2) in
+  module _ (index : ℕ) (found : List Discovered) (is : IsDiscovery caller base (index * 11) found) where
+    -- where the ways of all are tried, no way leads to another
+    pub listed : length found ≤ index → (n : ℕ) (g : Id) → Walk caller base (entry_of base) g n
+        → Any (λ d. d.id ≡ g) found
+    listed all zero g same = subst (λ x. Any (λ d. d.id ≡ x) found) same is.listing.entry
+    listed all (suc n) g walk =
+        let there = any_at (λ d. d.id ≡ walk.0) found (listed all n walk.0 walk.2) in
         let pair : Pair = (there.0, walk.1) in
         let l : PairLeads caller base found pair g = record { from = there.1; stands = there.2; leads = subst (λ x. Leads caller base x walk.1 g) (sym there.3) walk.3 } in
-        is.closed pair g l (omega (arith, slice_get_within found there.0 there.1 there.2, full, (way_known found pair g l).0))
+        is.closed pair g l (omega (arith, slice_get_within found there.0 there.1 there.2, all, (way_known found pair g l).0))
 
-    -- then all are listed that are reached
-    pub finds_reached : EntryIsFound caller base → FindsReached caller base found
-    finds_reached entry = record {
+    -- all are listed that are reached
+    pub finds_reached : ((n : ℕ) (g : Id) → Walk caller base (entry_of base) g n → Any (λ d. d.id ≡ g) found)
+        → EntryIsFound caller base → FindsReached caller base found
+    finds_reached all entry = record {
       first = is.listing.first;
       reached = λ id. (
-        (λ r. listed r.steps id r.walk),
+        (λ r. all r.steps id r.walk),
         (λ some.
             let there = any_at (λ d. d.id ≡ id) found some in
             let walk = all_at (λ d. (n : ℕ) × Walk caller base (entry_of base) d.id n) found there.0 there.1 is.listing.walked there.2 in

@@ -1,6 +1,11 @@
 -- What stands in a list with one more at its end, and in a list with one changed.
-use Rattle.std.proofs.Common.{◌≡◌, ◌<◌, ◌≤◌, ◌⊎◌, inl, inr, ℕ, zero, suc, Bool, true, false, List, [], ◌∷◌, ◌++◌, Option, Some, None, map, option_map, slice_get, length, get_or, set, All, AllPairs, Any, sym, ◌∙◌, ap, subst, refl, ⊎_elim, length-append, arith}
-use Rattle.finder.proofs.Words.{get_or-set_other, get_or_append_left, same_Some, slice_get-map, slice_get_cases, slice_get_within, slice_get_read, get_or_from_slice_get}
+use Rattle.std.proofs.Common.{◌≡◌, ◌<◌, ◌≤◌, ◌⊎◌, inl, inr, ℕ, zero, suc, Bool, true, false, List, [], ◌∷◌, ◌++◌, Option, Some, None, option_map, slice_get, length, get_or, set, All, AllPairs, Any, Contains, cond, count_by, sym, ◌∙◌, ap, subst, refl, ⊎_elim, length-append, arith}
+use Rattle.std.specs.Prelude.{nat_eq}
+use Rattle.std.specs.List.{list_any}
+use Rattle.std.proofs.lemmas.Bool.Decides.{nat_tests}
+use Rattle.indexmap.specs.IndexSet.{insert_key}
+use Rattle.indexmap.proofs.CallerLemmas.{Contains-list_any}
+use Rattle.finder.proofs.Words.{count_by-le-length, sum_by-set, length-set, get_or-set_other, get_or_append_left, same_Some, slice_get_cases, slice_get_within, slice_get_read, get_or_from_slice_get}
 
 pub at_push : {X : Type 0} (xs : List X) (y : X) (j : ℕ) (x : X) → slice_get (xs ++ y ∷ []) j ≡ Some x
     → (slice_get xs j ≡ Some x) ⊎ ((j ≡ length xs) × (y ≡ x))
@@ -59,11 +64,27 @@ pub mapped : {X Y : Type 0} (f : X → Y) (o : Option X) (y : Y) → option_map 
 mapped f None y e = absurd cc
 mapped f (Some x) y e = (x, refl, same_Some (f x) y e)
 
--- what stands in a list of images
-pub image_at : {X Y : Type 0} (f : X → Y) (xs : List X) (i : ℕ) (y : Y) → slice_get (map f xs) i ≡ Some y
-    → (x : X) × (slice_get xs i ≡ Some x) × (f x ≡ y)
-image_at f xs i y e = mapped f (slice_get xs i) y (sym (slice_get-map f xs i) ∙ e)
+-- where each element is counted, each passes the test
+pub full_at : {X : Type 0} (p : X → Bool) (xs : List X) (i : ℕ) (y d : X) → p y ≡ true → length xs ≤ count_by p xs
+    → i < length xs → p (get_or xs i d) ≡ true
+full_at p xs i y d passes full lt = by (p (get_or xs i d)) refl where
+  by : (b : Bool) → p (get_or xs i d) ≡ b → b ≡ true
+  by true e = refl
+  by false e = absurd (omega (arith, sum_by-set (λ x. cond (p x) 1 0) xs i y d lt, ap {B = ℕ} (λ b. cond b 1 0) e, ap {B = ℕ} (λ b. cond b 1 0) passes, count_by-le-length p (set xs i y), length-set xs i y, full))
 
-pub at_image : {X Y : Type 0} (f : X → Y) (xs : List X) (i : ℕ) (x : X) → slice_get xs i ≡ Some x
-    → slice_get (map f xs) i ≡ Some (f x)
-at_image f xs i x at = slice_get-map f xs i ∙ ap (option_map f) at
+-- an element stands at an index
+pub contains_at : {X : Type 0} (xs : List X) (x : X) → Contains xs x → (i : ℕ) × (slice_get xs i ≡ Some x)
+contains_at xs x there = (there.0, slice_get_read xs (length xs) there.0 x refl there.1 (sym there.2))
+
+pub at_contains : {X : Type 0} (xs : List X) (i : ℕ) (x : X) → slice_get xs i ≡ Some x → Contains xs x
+at_contains xs i x at = (i, slice_get_within xs i x at, get_or_from_slice_get xs i x x at)
+
+pub same_number : (a b : ℕ) → nat_eq a b ≡ true → a ≡ b
+same_number a b e = grind (arith, nat_tests)
+
+-- a new key goes last
+pub insert_new : (keys : List ℕ) (key : ℕ) → (Contains keys key → ⊥) → insert_key nat_eq keys key ≡ keys ++ key ∷ []
+insert_new keys key new = by (list_any (nat_eq key) keys) refl where
+  by : (b : Bool) → list_any (nat_eq key) keys ≡ b → cond b keys (keys ++ key ∷ []) ≡ keys ++ key ∷ []
+  by true e = absurd (new (Contains-list_any nat_eq same_number keys key e))
+  by false e = refl

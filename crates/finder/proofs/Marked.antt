@@ -1,107 +1,114 @@
 -- Which nodes are marked, and what a way of a listed frame's node does.
-use Rattle.std.proofs.Common.{◌≡◌, ◌<◌, ◌≤◌, ◌+◌, ◌*◌, ℕ, Bool, true, false, cond, List, [], ◌∷◌, ◌++◌, Option, Some, None, map, slice_get, length, get_or, set, refl, sym, ◌∙◌, ap, subst, ⊎_elim, length-append, replicate, arith, Any}
-use Rattle.finder.proofs.Words.{lookup, values_of, cases_eq, common_steps, get_or-set_at, place_from_lookup, get_or-set_other, get_or-replicate, length-replicate, map_push, All-nil, All-push, Any-push, sum_by-set, count_by-le-length, same_Some, Id, id_eq, id_eq_same, entry_of, Reached, Discovered, Graph, IsDiscovery, AreMarked, IsListed, discovered_of, target, IsNodeRank, id_at}
+use Rattle.std.proofs.Common.{◌≡◌, ◌<◌, ◌≤◌, ◌+◌, ◌*◌, ◌⊎◌, ℕ, Bool, true, false, cond, List, [], ◌∷◌, ◌++◌, Some, None, slice_get, length, get_or, set, refl, sym, ◌∙◌, ap, subst, ⊎_elim, length-append, replicate, arith, Any, Contains}
+use Rattle.finder.proofs.Words.{cases_eq, common_steps, get_or-set_at, slice_get_within, get_or-set_other, get_or-replicate, length-replicate, All-nil, All-push, All-contains, Contains-push, Contains-append_left, sum_by-set, count_by-le-length, same_Some, Id, entry_of, Frame, IsAscending, Discovered, Discovery, Graph, Goes, AreMarked, AreNamed, IsListed, FindsReached, EntryIsFound, IsNodeRank, way_at, way_key, id_at}
 use Rattle.std.proofs.lemmas.List.Folds.{sum_by-replicate}
-use Rattle.finder.proofs.Within.{to_within}
-use Rattle.finder.proofs.Listed.{passed, pushed, started}
-use Rattle.finder.proofs.Lists.{at_push, all_at, any_at, any_of, set_kept, any_grown, true_within, image_at, at_image}
-use Rattle.finder.proofs.Steps.{one_place, leads_id, leads_to, rank_ids}
+use Rattle.finder.proofs.Listed.{listed, finds_reached, passed, pushed, started}
+use Rattle.finder.proofs.Lists.{at_push, at_within, any_at, any_of, at_contains, contains_at, full_at, set_kept, true_within}
+use Rattle.finder.proofs.Places.{id_stands}
+use Rattle.finder.proofs.Steps.{one_place, leads_id, leads_to, rank_ids, walk_nodes}
 
-module _ (graph : Graph) (entries : List (Id × Reached)) (listed : List Bool) (are : AreMarked graph entries listed) where
-  pub few : length entries ≤ graph.table.count
-  few = omega (arith, are.count, are.nodes, count_by-le-length (λ b. b) listed)
+module _ (graph : Graph) (nodes : List ℕ) (listed : List Bool) (are : AreMarked graph nodes listed) where
+  pub few : length nodes ≤ graph.table.count
+  few = omega (arith, are.count, are.room, count_by-le-length (λ b. b) listed)
 
-  module _ (node : ℕ) (id : Id) (at : id_at graph.table.base.now.frames node ≡ Some id) where
-    -- the frame of a marked node is listed
-    is_listed : get_or listed node false ≡ true → Any (λ d. d.id ≡ id) (map discovered_of entries)
-    is_listed marked =
-        let e = any_at (λ e. e.1.node ≡ node) entries (are.marked node marked) in
-        any_of (λ d. d.id ≡ id) (map discovered_of entries) e.0 (discovered_of e.1) (at_image discovered_of entries e.0 e.1 e.2) (same_Some e.1.0 id (sym (are.named e.0 e.1 e.2) ∙ ap (id_at graph.table.base.now.frames) e.3 ∙ at))
+  module _ (node : ℕ) (new : get_or listed node false ≡ false) where
+    pub not_listed : Contains nodes node → ⊥
+    not_listed there = let marked = All-contains (λ g. get_or listed g false ≡ true) nodes node are.marks there in absurd cc
 
-    module _ (new : get_or listed node false ≡ false) where
-      -- and that of another one isn't
-      not_listed : (i : ℕ) (e : Id × Reached) → slice_get entries i ≡ Some e → e.0 ≡ id → ⊥
-      not_listed i e there same =
-          let place = one_place graph.table.base.now.frames e.1.node node id graph.table.valid.ascending (are.named i e there ∙ ap Some same) at in
-          let marked = all_at (λ e. get_or listed e.1.node false ≡ true) entries i e are.marks there in
-          let here = ap (λ n. get_or listed n false) place in
-          absurd cc
+    marked_more : node < graph.table.count → AreMarked graph (nodes ++ node ∷ []) (set listed node true)
+    marked_more lt =
+        let inside : node < length listed = omega (arith, lt, are.room) in
+        record {
+          room = grind (arith, common_steps, are.room);
+          marked = λ g h. ⊎_elim (λ same. subst (Contains (nodes ++ node ∷ [])) (sym same) (Contains-push nodes node)) (λ other. Contains-append_left nodes (node ∷ []) g (are.marked g (sym (get_or-set_other listed node g true false other) ∙ h))) (cases_eq g node);
+          marks = All-push (λ g. get_or (set listed node true) g false ≡ true) nodes node (λ k d lt. set_kept listed node (get_or nodes k d) true false true (are.marks k d lt) (λ there. absurd cc)) (get_or-set_at listed node node true false refl inside);
+          count = omega (arith, sum_by-set (λ b. cond b 1 0) listed node true false inside, ap {B = ℕ} (λ b. cond b 1 0) new, are.count, length-append nodes (node ∷ []));
+        }
 
-      pub unlisted : lookup (id_eq id) entries ≡ None
-      unlisted = by (lookup (id_eq id) entries) refl where
-        by : (o : Option Reached) → lookup (id_eq id) entries ≡ o → o ≡ None
-        by None e = refl
-        by (Some r) e = let p = place_from_lookup (id_eq id) entries r e in absurd (not_listed p.0 (p.1, r) p.2 (sym (id_eq_same id p.1 p.3)))
+module _ (frames : List Frame) (nodes : List ℕ) (found : List Discovered) (named : AreNamed frames nodes found) where
+  -- the frame at an index, and its node
+  pub frame_listed : (i node : ℕ) → slice_get nodes i ≡ Some node
+      → (d : Discovered) × (slice_get found i ≡ Some d) × (id_at frames node ≡ Some d.id)
+  frame_listed i node at = let d = at_within found i (omega (arith, slice_get_within nodes i node at, named.as_many)) in (d.0, d.1, named.each i node d.0 at d.1)
 
-      none_found : Any (λ d. d.id ≡ id) (map discovered_of entries) → ⊥
-      none_found some =
-          let d = any_at (λ d. d.id ≡ id) (map discovered_of entries) some in
-          let e = image_at discovered_of entries d.0 d.1 d.2 in
-          not_listed d.0 e.0 e.1 (ap (λ (x : Discovered). x.id) e.2 ∙ d.3)
+  listed_of : (node : ℕ) (id : Id) → id_at frames node ≡ Some id → Contains nodes node → Any (λ d. d.id ≡ id) found
+  listed_of node id at there =
+      let i = contains_at nodes node there in
+      let d = frame_listed i.0 node i.1 in
+      any_of (λ d. d.id ≡ id) found i.0 d.0 d.1 (same_Some d.0.id id (sym d.2 ∙ at))
 
-      marked_more : (r : Reached) → r.node ≡ node → node < graph.table.count
-          → AreMarked graph (entries ++ (id, r) ∷ []) (set listed node true)
-      marked_more r node_is lt =
-          let inside : node < length listed = omega (arith, lt, are.nodes) in
-          let kept : (g : ℕ) → get_or listed g false ≡ true → get_or (set listed node true) g false ≡ true = λ g h. set_kept listed node g true false true h (λ there. absurd cc) in
-          record {
-            nodes = grind (arith, common_steps, are.nodes);
-            named = λ i e there. ⊎_elim (λ old. are.named i e old) (λ last. ap (λ (x : Id × Reached). id_at graph.table.base.now.frames x.1.node) (sym last.1) ∙ ap (id_at graph.table.base.now.frames) node_is ∙ at ∙ ap (λ (x : Id × Reached). Some x.0) last.1) (at_push entries (id, r) i e there);
-            marked = λ g h. ⊎_elim (λ same. Any-push (λ e. e.1.node ≡ g) entries (id, r) (node_is ∙ sym same)) (λ other. any_grown (λ e. e.1.node ≡ g) entries (id, r) (are.marked g (sym (get_or-set_other listed node g true false other) ∙ h))) (cases_eq g node);
-            marks = All-push (λ e. get_or (set listed node true) e.1.node false ≡ true) entries (id, r) (λ k d lt. kept (get_or entries k d).1.node (are.marks k d lt)) (get_or-set_at listed node r.node true false node_is inside);
-            count = omega (arith, sum_by-set (λ b. cond b 1 0) listed node true false inside, ap {B = ℕ} (λ b. cond b 1 0) new, are.count, length-append entries ((id, r) ∷ []));
-          }
+  node_of : (node : ℕ) (id : Id) → IsAscending frames → id_at frames node ≡ Some id → Any (λ d. d.id ≡ id) found
+      → Contains nodes node
+  node_of node id up at some =
+      let d = any_at (λ d. d.id ≡ id) found some in
+      let n = at_within nodes d.0 (omega (arith, slice_get_within found d.0 d.1 d.2, named.as_many)) in
+      at_contains nodes d.0 node (n.1 ∙ ap Some (one_place frames n.0 node id up (named.each d.0 n.0 d.1 n.1 d.2 ∙ ap Some d.3) at))
+
+  named_more : (node : ℕ) (d : Discovered) → id_at frames node ≡ Some d.id
+      → AreNamed frames (nodes ++ node ∷ []) (found ++ d ∷ [])
+  named_more node d is = record {
+    each = λ i n e at there. ⊎_elim (λ old. ⊎_elim (λ known. named.each i n e old known) (λ last. absurd (omega (arith, last.0, slice_get_within nodes i n old, named.as_many))) (at_push found d i e there)) (λ last. ⊎_elim (λ known. absurd (omega (arith, last.0, slice_get_within found i e known, named.as_many))) (λ end. ap (id_at frames) (sym last.1) ∙ is ∙ ap (λ (x : Discovered). Some x.id) end.1) (at_push found d i e there)) (at_push nodes node i n at);
+    as_many = omega (arith, named.as_many, length-append nodes (node ∷ []), length-append found (d ∷ []));
+  }
 
 -- no node
 marked_none : (graph : Graph) → AreMarked graph [] (replicate graph.table.count false)
 marked_none graph = record {
-  nodes = length-replicate graph.table.count false;
-  named = λ i e there. absurd cc;
+  room = length-replicate graph.table.count false;
   marked = λ g h. let past = get_or-replicate graph.table.count g false false (omega (arith, true_within (replicate graph.table.count false) g h, length-replicate graph.table.count false)) in absurd cc;
   marks = All-nil _;
   count = sum_by-replicate (λ b. cond b 1 0) graph.table.count false ∙ omega arith;
 }
 
-pub entry_listed : (graph : Graph) (id : Id) (rank : Option ℕ) → id_at graph.table.base.now.frames graph.entry ≡ Some id
-    → IsNodeRank graph graph.entry rank
-    → IsListed graph 0 ((id, record { node = graph.entry; rank = rank; origin = None }) ∷ []) (set (replicate graph.table.count false) graph.entry true)
-entry_listed graph id rank at ranked =
-    let base = graph.table.base.now in
-    let same : entry_of base ≡ id = same_Some (entry_of base) id (sym graph.entry_is ∙ at) in
-    record {
-      marked = marked_more graph [] (replicate graph.table.count false) (marked_none graph) graph.entry id at (get_or-replicate graph.table.count graph.entry false false graph.entered) (record { node = graph.entry; rank = rank; origin = None }) refl graph.entered;
-      found = subst (λ x. IsDiscovery graph.table.groups.now base 0 (record { id = x; rank = rank; parent = None; key = None } ∷ [])) same (started graph.table.groups.now base rank (rank_ids graph graph.entry (entry_of base) rank graph.entry_is ranked));
-    }
+module _ (graph : Graph) (d : Discovery) (frame : Discovered) where
+  -- the entry node alone
+  pub entry_listed : d.order.keys ≡ graph.entry ∷ [] → d.found ≡ frame ∷ []
+      → d.listed.items ≡ set (replicate graph.table.count false) graph.entry true
+      → id_at graph.table.base.now.frames graph.entry ≡ Some frame.id → frame.parent ≡ None → frame.key ≡ None
+      → IsNodeRank graph graph.entry frame.rank → IsListed graph 0 d
+  entry_listed order found listed at parent key ranked =
+      let same : frame.id ≡ entry_of graph.table.base.now = same_Some frame.id (entry_of graph.table.base.now) (sym at ∙ graph.entry_is) in
+      record {
+        named = rw (order, found) (named_more graph.table.base.now.frames [] [] (record { each = λ i n e at there. absurd cc; as_many = refl }) graph.entry frame at);
+        marked = rw (order, listed) (marked_more graph [] (replicate graph.table.count false) (marked_none graph) graph.entry (get_or-replicate graph.table.count graph.entry false false graph.entered) graph.entered);
+        found = rw found (started graph.table.groups.now graph.table.base.now frame same parent key (rank_ids graph graph.entry frame.id frame.rank at ranked));
+      }
 
-module _ (graph : Graph) (index way : ℕ) (from : Reached) (entries : List (Id × Reached)) (listed : List Bool) (small : way < 11) (stands : slice_get (values_of entries) index ≡ Some from) (is : IsListed graph (index * 11 + way) entries listed) where
-  e : (e : Id × Reached) × (slice_get entries index ≡ Some e) × (e.1 ≡ from)
-  e = image_at (λ x. x.1) entries index from stands
+module _ (graph : Graph) (index way from : ℕ) (d : Discovery) (small : way < 11) (stands : slice_get d.order.keys index ≡ Some from) (is : IsListed graph (index * 11 + way) d) where
+  abbrev e : (e : Discovered) × (slice_get d.found index ≡ Some e) × (id_at graph.table.base.now.frames from ≡ Some e.id)
+  e = frame_listed graph.table.base.now.frames d.order.keys d.found is.named index from stands
 
-  at : id_at graph.table.base.now.frames from.node ≡ Some e.0.0
-  at = ap (λ (r : Reached). id_at graph.table.base.now.frames r.node) (sym e.2) ∙ is.marked.named index e.0 e.1
-
-  there : slice_get (map discovered_of entries) index ≡ Some (discovered_of e.0)
-  there = at_image discovered_of entries index e.0 e.1
-
-  pub node_inside : from.node < graph.table.count
-  node_inside = omega (arith, is.marked.nodes, true_within listed from.node (ap (λ (r : Reached). get_or listed r.node false) (sym e.2) ∙ all_at (λ e. get_or listed e.1.node false ≡ true) entries index e.0 is.marked.marks e.1))
+  pub node_inside : from < graph.table.count
+  node_inside = omega (arith, is.marked.room, true_within d.listed.items from (All-contains (λ g. get_or d.listed.items g false ≡ true) d.order.keys from is.marked.marks (at_contains d.order.keys index from stands)))
 
   -- the way leads to no node, or to a marked one
-  pub way_passed : ((node : ℕ) → target graph from.node way ≡ Some node → get_or listed node false ≡ true)
-      → IsListed graph (index * 11 + way + 1) entries listed
+  pub way_passed : ((node : ℕ) → Goes graph from way node → get_or d.listed.items node false ≡ true)
+      → IsListed graph (index * 11 + way + 1) d
   way_passed old = record {
+    named = is.named;
     marked = is.marked;
-    found = passed graph.table.groups.now graph.table.base.now index way (discovered_of e.0) (map discovered_of entries) small there is.found (λ g l. let to = leads_to graph from.node way e.0.0 g small at l in is_listed graph entries listed is.marked to.0 g to.1 (old to.0 to.2));
+    found = passed graph.table.groups.now graph.table.base.now index way e.0 d.found small e.1 is.found (λ g l. let to = leads_to graph from way e.0.id g small e.2 l in listed_of graph.table.base.now.frames d.order.keys d.found is.named to.0 g to.1 (is.marked.marked to.0 (old to.0 to.2)));
   }
 
   -- it leads to a node that isn't marked
-  pub way_led : (node : ℕ) (id : Id) (rank : Option ℕ) → target graph from.node way ≡ Some node
-      → id_at graph.table.base.now.frames node ≡ Some id → get_or listed node false ≡ false → IsNodeRank graph node rank
-      → IsListed graph (index * 11 + way + 1) (entries ++ (id, record { node = node; rank = rank; origin = Some (index, way) }) ∷ []) (set listed node true)
-  way_led node id rank leads named new ranked =
-      let r : Reached = record { node = node; rank = rank; origin = Some (index, way) } in
-      let found = pushed graph.table.groups.now graph.table.base.now index way (discovered_of e.0) (map discovered_of entries) small there is.found id rank (leads_id graph from.node way node e.0.0 id small leads at named) (none_found graph entries listed is.marked node id named new) (rank_ids graph node id rank named ranked) in
-      record {
-        marked = marked_more graph entries listed is.marked node id named new r refl (to_within graph from.node way node small leads);
-        found = subst (IsDiscovery graph.table.groups.now graph.table.base.now (index * 11 + way + 1)) (sym (map_push discovered_of entries (id, r))) found;
-      }
+  pub way_led : (node : ℕ) (frame : Discovered) (new : Discovery) → Goes graph from way node
+      → id_at graph.table.base.now.frames node ≡ Some frame.id → get_or d.listed.items node false ≡ false
+      → IsNodeRank graph node frame.rank → frame.parent ≡ Some index → frame.key ≡ Some (way_key (way_at way))
+      → new.order.keys ≡ d.order.keys ++ node ∷ [] → new.found ≡ d.found ++ frame ∷ []
+      → new.listed.items ≡ set d.listed.items node true → IsListed graph (index * 11 + way + 1) new
+  way_led node frame new goes named blank ranked parent key order found listed = record {
+    named = rw (order, found) (named_more graph.table.base.now.frames d.order.keys d.found is.named node frame named);
+    marked = rw (order, listed) (marked_more graph d.order.keys d.listed.items is.marked node blank goes.to);
+    found = rw found (pushed graph.table.groups.now graph.table.base.now index way e.0 d.found small e.1 is.found frame parent key (leads_id graph from way node e.0.id frame.id goes e.2 named) (λ some. not_listed graph d.order.keys d.listed.items is.marked node blank (node_of graph.table.base.now.frames d.order.keys d.found is.named node frame.id graph.table.valid.ascending named some)) (rank_ids graph node frame.id frame.rank named ranked));
+  }
+
+-- all frames are listed that are reached
+module _ (graph : Graph) (index : ℕ) (d : Discovery) (is : IsListed graph (index * 11) d) where
+  pub discovered : (length d.order.keys ≤ index) ⊎ (graph.table.count ≤ length d.order.keys)
+      → EntryIsFound graph.table.groups.now graph.table.base.now
+      → FindsReached graph.table.groups.now graph.table.base.now d.found
+  discovered end = finds_reached graph.table.groups.now graph.table.base.now index d.found is.found (⊎_elim (λ past. listed graph.table.groups.now graph.table.base.now index d.found is.found (omega (arith, past, is.named.as_many))) (λ full n g walk.
+      let to = walk_nodes graph n graph.entry (entry_of graph.table.base.now) g graph.entry_is walk in
+      let there = id_stands graph.table.base.now.frames to.0 g to.1 in
+      let inside = slice_get_within graph.table.base.now.frames to.0 there.0 there.1 in
+      listed_of graph.table.base.now.frames d.order.keys d.found is.named to.0 g to.1 (is.marked.marked to.0 (full_at (λ b. b) d.listed.items to.0 true false refl (omega (arith, full, is.marked.count, is.marked.room)) (omega (arith, inside, graph.table.nodes, is.marked.room))))) end)

@@ -1,15 +1,13 @@
 -- The search back from the entry frame.
-use Rattle.std.proofs.Common.{◌≡◌, ◌<◌, ◌≤◌, ◌+◌, ℕ, zero, suc, List, [], ◌∷◌, ◌++◌, Option, Some, None, is_some, cond, false, true, slice_get, length, get_or, set, Contains, refl, sym, ◌∙◌, ap, subst, ⊎_elim, add-one, length-append, arith, ◌*◌, All}
-use Rattle.finder.proofs.Words.{cases_eq, common_steps, get_or-set_at, get_or-set_other, get_or_append_left, get_or_default, All-push, All-contains, Contains-push, Contains-append_left, AllWithin-more, all_pairs_push, sum_by-set, count_by-le-length, slice_get_within, same_Some, get_or_from_slice_get, SmallVec, Graph, target, NodeWalk, IsNodeRank, LeadsTo, AreTurned, IsSourceList, HasRank, IsSearch, IsClosed}
+use Rattle.std.proofs.Common.{◌≡◌, ◌<◌, ◌≤◌, ◌+◌, ℕ, zero, suc, List, [], ◌∷◌, ◌++◌, Option, Some, None, is_some, cond, false, true, slice_get, length, get_or, set, Contains, refl, sym, ◌∙◌, ap, subst, ⊎_elim, ◌⊎◌, add-one, length-append, arith, ◌*◌, All}
+use Rattle.finder.proofs.Words.{AllWithin, cases_eq, cases_lt, common_steps, get_or-set_at, get_or-set_other, get_or_append_left, get_or_default, All-push, All-contains, Contains-push, Contains-append_left, AllWithin-more, all_pairs_push, sum_by-set, count_by-le-length, slice_get_within, same_Some, get_or_from_slice_get, SmallVec, Graph, Goes, NodeWalk, IsNodeRank, LeadsTo, AreTurned, IsSourceList, HasRank, IsSearch, IsClosed}
 use Rattle.finder.specs.declared.ranks.Ranked.{Ranked}
-use Rattle.finder.proofs.Within.{from_within}
-use Rattle.finder.proofs.Lists.{at_push, push_at, all_at, set_kept}
+use Rattle.finder.proofs.Lists.{at_push, push_at, all_at, at_within, full_at, set_kept}
 
 -- a walk with one more way in front
-step_back : (graph : Graph) (f way h g n : ℕ) → way < 11 → target graph f way ≡ Some h → NodeWalk graph h g n
-    → NodeWalk graph f g (suc n)
-step_back graph f way h g zero small leads walk = (f, way, refl, small, leads ∙ ap Some walk)
-step_back graph f way h g (suc n) small leads walk = (walk.0, walk.1, step_back graph f way h walk.0 n small leads walk.2, walk.3, walk.4)
+step_back : (graph : Graph) (f way h g n : ℕ) → Goes graph f way h → NodeWalk graph h g n → NodeWalk graph f g (suc n)
+step_back graph f way h g zero goes walk = (f, way, refl, subst (Goes graph f way) walk goes)
+step_back graph f way h g (suc n) goes walk = (walk.0, walk.1, step_back graph f way h walk.0 n goes walk.2, walk.3)
 
 pub none_of : {X : Type 0} (o : Option X) → false ≡ is_some o → o ≡ None
 none_of None h = refl
@@ -38,7 +36,7 @@ module _ (graph : Graph) (done : ℕ) (queue : List Ranked) (ranks : List (Optio
   fits = omega (arith, is.ranked.low done to waits, slice_get_within queue done to waits, few graph done queue ranks is)
 
   pub inside : f < length ranks
-  inside = omega (arith, from_within graph f leads.0 to.node leads.1 leads.2, is.ranked.nodes)
+  inside = omega (arith, leads.1.from, is.ranked.nodes)
 
   pub marked : get_or ranks f None ≡ None
       → IsSearch graph done (queue ++ record { node = f; rank = to.rank + 1 } ∷ []) (set ranks f (Some (to.rank + 1)))
@@ -58,7 +56,7 @@ module _ (graph : Graph) (done : ℕ) (queue : List Ranked) (ranks : List (Optio
               subst (Contains (queue ++ e ∷ [])) is_e (Contains-push queue e)) (λ other. Contains-append_left queue (e ∷ []) (record { node = g; rank = n }) (is.ranked.queued g n (sym (get_or-set_other ranks f g (Some (to.rank + 1)) None other) ∙ h))) (cases_eq g f);
           count = omega (arith, sum_by-set (λ o. cond (is_some o) 1 0) ranks f (Some (to.rank + 1)) None inside, ap {B = ℕ} (λ o. cond (is_some o) 1 0) new, is.ranked.count, length-append queue (e ∷ []));
           inside = All-push (λ d. d.node < graph.table.count) queue e is.ranked.inside (omega (arith, inside, is.ranked.nodes));
-          walks = All-push (λ d. NodeWalk graph d.node graph.entry d.rank) queue e is.ranked.walks (rw add-one (step_back graph f leads.0 to.node graph.entry to.rank leads.1 leads.2 walk));
+          walks = All-push (λ d. NodeWalk graph d.node graph.entry d.rank) queue e is.ranked.walks (rw add-one (step_back graph f leads.0 to.node graph.entry to.rank leads.1 walk));
           ascend = all_pairs_push (λ d b. d.rank ≤ b.rank) queue e is.ranked.ascend (is.near to waits);
           low = λ i b at. ⊎_elim (λ old. is.ranked.low i b old) (λ end. let rank : to.rank + 1 ≡ b.rank = ap (λ (d : Ranked). d.rank) end.1 in omega (arith, end.0, rank, is.ranked.low done to waits, slice_get_within queue done to waits)) (at_push queue e i b at);
         };
@@ -94,8 +92,7 @@ pub all_ranked : (graph : Graph) (sources : List (SmallVec ℕ)) (fs : List ℕ)
     → ((k : ℕ) → k < length fs → HasRank ranks (get_or fs k 0) (to.rank + 1)) → IsClosed graph ranks to
 all_ranked graph sources fs ranks to turned is passed f leads =
     let d : SmallVec ℕ = record { items = []; capacity = 0 } in
-    let inside = from_within graph f leads.0 to.node leads.1 leads.2 in
-    let there : Contains fs f = subst (λ xs. Contains xs f) (is d) (turned.whole f leads.0 to.node d (omega (arith, inside, leads.1)) leads.1 leads.2) in
+    let there : Contains fs f = subst (λ xs. Contains xs f) (is d) (turned.whole f leads.0 to.node (omega (arith, leads.1.from, leads.1.is_way)) leads.1 d) in
     subst (λ g. HasRank ranks g (to.rank + 1)) (get_or_default fs there.0 0 f there.1 ∙ there.2) (passed there.0 there.1)
 
 -- and each of those leads to it
@@ -107,19 +104,31 @@ sources_lead graph sources fs to k turned is inside lt =
     let all : All (λ f. LeadsTo graph f to) fs = subst (All (λ f. LeadsTo graph f to)) (is d) (turned.lead to d inside) in
     all k 0 lt
 
-module _ (graph : Graph) (done : ℕ) (queue : List Ranked) (ranks : List (Option ℕ)) (is : IsSearch graph done queue ranks) (full : length queue ≤ done) where
-  step : (f h way m : ℕ) → way < 11 → target graph f way ≡ Some h → HasRank ranks h m → HasRank ranks f (m + 1)
-  step f h way m small leads has =
-      let e : Ranked = record { node = h; rank = has.0 } in
-      let there : Contains queue e = is.ranked.queued h has.0 has.1 in
-      let closed : IsClosed graph ranks e = subst (IsClosed graph ranks) there.2 (is.closed there.0 e (omega arith) (omega (arith, there.1, full))) in
-      let next = closed f (way, small, leads) in
+module _ (graph : Graph) (done : ℕ) (queue : List Ranked) (ranks : List (Option ℕ)) (is : IsSearch graph done queue ranks) where
+  -- where each node has a rank, nothing is left to do
+  all_closed : graph.table.count ≤ length queue → AllWithin (IsClosed graph ranks) queue 0 (length queue)
+  all_closed full k e low lt f leads =
+      ⊎_elim (λ before. is.closed k e low before f leads) (λ from.
+      let some = some_of (get_or ranks f None) (sym (full_at is_some ranks f (Some 0) None refl (omega (arith, full, is.ranked.count, is.ranked.nodes)) (omega (arith, leads.1.from, is.ranked.nodes)))) in
+      let first = at_within queue done (omega (arith, from, lt)) in
+      let near = All-contains (λ d. d.rank ≤ first.0.rank + 1) queue (record { node = f; rank = some.0 }) (is.near first.0 first.1) (is.ranked.queued f some.0 some.1) in
+      let first_is : get_or queue done e ≡ first.0 = get_or_from_slice_get queue done first.0 e first.1 in
+      let up : (get_or queue done e).rank ≤ (get_or queue k e).rank = ⊎_elim (λ less. is.ranked.ascend done k e less lt) (λ last. let same : done ≡ k = omega (arith, last, from) in subst (λ j. (get_or queue done e).rank ≤ (get_or queue j e).rank) same (omega arith)) (cases_lt done k) in
+      (some.0, some.1, omega (arith, near, up, ap (λ (d : Ranked). d.rank) first_is))) (cases_lt k done)
+
+  closed_at : (e : Ranked) → Contains queue e → (length queue ≤ done) ⊎ (graph.table.count ≤ length queue) → IsClosed graph ranks e
+  closed_at e there end = subst (IsClosed graph ranks) there.2 (⊎_elim (λ past. is.closed there.0 e (omega arith) (omega (arith, there.1, past))) (λ full. all_closed full there.0 e (omega arith) there.1) end)
+
+module _ (graph : Graph) (done : ℕ) (queue : List Ranked) (ranks : List (Option ℕ)) (is : IsSearch graph done queue ranks) (end : (length queue ≤ done) ⊎ (graph.table.count ≤ length queue)) where
+  step : (f h way m : ℕ) → Goes graph f way h → HasRank ranks h m → HasRank ranks f (m + 1)
+  step f h way m goes has =
+      let next = closed_at graph done queue ranks is (record { node = h; rank = has.0 }) (is.ranked.queued h has.0 has.1) end f (way, goes) in
       (next.0, next.1, omega (arith, next.2, has.2))
 
   back : (m f h r : ℕ) → NodeWalk graph f h m → HasRank ranks h r → HasRank ranks f (r + m)
   back zero f h r walk has = (has.0, ap (λ g. get_or ranks g None) walk ∙ has.1, omega (arith, has.2))
   back (suc m) f h r walk has =
-      let before = back m f walk.0 (r + 1) walk.2 (step walk.0 h walk.1 r walk.3 walk.4 has) in
+      let before = back m f walk.0 (r + 1) walk.2 (step walk.0 h walk.1 r walk.3 has) in
       (before.0, before.1, omega (arith, before.2))
 
   at_most : (f m : ℕ) → NodeWalk graph f graph.entry m → HasRank ranks f (0 + m)

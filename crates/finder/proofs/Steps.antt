@@ -1,9 +1,10 @@
 -- Ids of nodes, and the ways between them.
-use Rattle.std.proofs.Common.{◌≡◌, ℕ, List, Option, Some, None, option_map, get_or, refl, sym, ◌∙◌, ap, ◌<◌, ◌+◌, ◌*◌, zero, suc, subst, arith}
-use Rattle.finder.proofs.Words.{same_Some, slice_get_within, Id, Way, place_at, way_at, way_place, Frame, IsAscending, BaseView, entry_of, sought, destination_of, destination_by, destination, Leads, id_at, Graph, NotOffered, target, NodeWalk, IsNodeRank, Walk, IsRank}
+use Rattle.std.proofs.Common.{◌≡◌, ℕ, List, Option, Some, None, option_map, length, slice_get, refl, sym, ◌∙◌, ap, ⊎_elim, ◌<◌, zero, suc, subst, arith}
+use Rattle.finder.proofs.Words.{cases_lt, same_Some, slice_get_within, Id, Way, place_at, way_at, way_place, Frame, IsAscending, BaseView, entry_of, destination_of, destination_by, destination, aim_of, Leads, id_at, Graph, Goes, NodeWalk, IsNodeRank, Walk, IsRank}
 use Rattle.frame_records.specs.declared.ways.Destination.TheVariants as destination_is
 use Rattle.finder.proofs.Places.{same_place, frame_here, id_stands}
-use Rattle.finder.proofs.Within.{leads_on, known_way, found_node}
+use Rattle.finder.proofs.Within.{place_to, told, leads_on, known_way}
+use Rattle.finder.proofs.Lists.{mapped}
 
 -- an id stands at one place
 pub one_place : (frames : List Frame) (i j : ℕ) (id : Id) → IsAscending frames → id_at frames i ≡ Some id
@@ -24,10 +25,9 @@ module _ (graph : Graph) where
   abbrev IsOf : ℕ → Id → Type 0
   IsOf node id = id_at base.frames node ≡ Some id
 
-  pub leads_id : (f way g : ℕ) (a b : Id) → way < 11 → target graph f way ≡ Some g → IsOf f a → IsOf g b
-      → Leads caller base a (way_at way) b
-  leads_id f way g a b small leads at there =
-      let l = leads_on graph f way g small leads in
+  pub leads_id : (f way g : ℕ) (a b : Id) → Goes graph f way g → IsOf f a → IsOf g b → Leads caller base a (way_at way) b
+  leads_id f way g a b goes at there =
+      let l = leads_on graph f way g goes in
       let from : l.from.id ≡ a = same_Some l.from.id a (sym (ap (option_map (λ (h : Frame). h.id)) l.stands) ∙ at) in
       let to : l.to.id ≡ b = same_Some l.to.id b (sym (ap (option_map (λ (h : Frame). h.id)) l.there) ∙ there) in
       record {
@@ -35,40 +35,40 @@ module _ (graph : Graph) where
         found = ap (λ id. destination caller base id (way_at way)) (sym from) ∙ ap (destination_by caller base (way_at way)) (frame_here base.frames graph.table.valid.ascending f l.from l.stands) ∙ l.found ∙ ap (λ id. destination_is.Found id l.to.price) to;
       }
 
-  record LeadsTo (f : ℕ) (way : Way) (b : Id) : Type 0 where
-    pub node : ℕ
-    pub is_of : IsOf node b
-    pub small : way_place way < 11
-    pub is_way : way_at (way_place way) ≡ way
-    pub leads : target graph f (way_place way) ≡ Some node
-
-  leads_node : (f : ℕ) (way : Way) (a b : Id) → IsOf f a → Leads caller base a way b → LeadsTo f way b
+  leads_node : (f : ℕ) (way : Way) (a b : Id) → IsOf f a → Leads caller base a way b
+      → (node : ℕ) × IsOf node b × Goes graph f (way_place way) node
   leads_node f way a b at l =
       let from = id_stands base.frames f a at in
-      let here : destination_of caller base from.0 way ≡ destination_is.Found b l.price = sym (ap (λ id. destination caller base id way) (sym from.2) ∙ ap (destination_by caller base way) (frame_here base.frames graph.table.valid.ascending f from.0 from.1)) ∙ l.found in
       let known = known_way caller base a way b l in
-      let inside : f * 11 + way_place way < graph.table.count * 11 = omega (arith, slice_get_within base.frames f from.0 from.1, graph.table.nodes, known.0) in
-      let is = (graph.table.whole.right f (way_place way) from.0 inside known.0 from.1).is in
-      let node = found_node base.frames (sought from.0 (way_at (way_place way))) (get_or graph.table.targets.items (f * 11 + way_place way) NotOffered) b l.price (is ∙ ap (λ w. Some (destination_of caller base from.0 w)) known.1 ∙ ap Some here) in
-      record { node = node.0; is_of = node.2; small = known.0; is_way = known.1; leads = node.1 }
+      let inside : f < graph.table.count = omega (arith, slice_get_within base.frames f from.0 from.1, graph.table.nodes) in
+      let found : destination_of caller base from.0 (way_at (way_place way)) ≡ destination_is.Found b l.price = ap (destination_of caller base from.0) known.1 ∙ sym (ap (λ id. destination caller base id way) (sym from.2) ∙ ap (destination_by caller base way) (frame_here base.frames graph.table.valid.ascending f from.0 from.1)) ∙ l.found in
+      let is = told graph f (way_place way) from.0 inside known.0 from.1 in
+      ⊎_elim (λ within.
+      let to = mapped (λ (h : Frame). destination_is.Found h.id h.price) (slice_get base.frames (place_to graph f (way_place way))) _ (is.found within) in
+      (_, ap (option_map (λ (h : Frame). h.id)) to.1 ∙ ap Some (by to.0.id b to.0.price l.price (to.2 ∙ found)), record { is_way = known.0; from = inside; to = omega (arith, within, graph.table.nodes); target = refl })) (λ past.
+      let lost = is.lost past in
+      absurd (lost.1 (lost.0 ∙ ap aim_of found))) (cases_lt (place_to graph f (way_place way)) (length base.frames))
+    where
+      by : (c d : Id) (p q : ℕ) → destination_is.Found c p ≡ destination_is.Found d q → c ≡ d
+      by c d p q e = cc
 
   pub leads_to : (f way : ℕ) (a g : Id) → way < 11 → IsOf f a → Leads caller base a (way_at way) g
-      → (node : ℕ) × IsOf node g × (target graph f way ≡ Some node)
-  leads_to f way a g small at l = let to = leads_node f (way_at way) a g at l in (to.node, to.is_of, ap (target graph f) (sym (place_at way small)) ∙ to.leads)
+      → (node : ℕ) × IsOf node g × Goes graph f way node
+  leads_to f way a g small at l = let to = leads_node f (way_at way) a g at l in (to.0, to.1, subst (λ w. Goes graph f w to.0) (place_at way small) to.2)
 
   walk_ids : (n f g : ℕ) (a b : Id) → IsOf f a → IsOf g b → NodeWalk graph f g n → Walk caller base a b n
   walk_ids zero f g a b at there same = same_Some a b (sym at ∙ ap (id_at base.frames) same ∙ there)
   walk_ids (suc n) f g a b at there walk =
-      let l = leads_on graph walk.0 walk.1 g walk.3 walk.4 in
+      let l = leads_on graph walk.0 walk.1 g walk.3 in
       let h : IsOf walk.0 l.from.id = ap (option_map (λ (k : Frame). k.id)) l.stands in
-      (l.from.id, way_at walk.1, walk_ids n f walk.0 a l.from.id at h walk.2, leads_id walk.0 walk.1 g l.from.id b walk.3 walk.4 h there)
+      (l.from.id, way_at walk.1, walk_ids n f walk.0 a l.from.id at h walk.2, leads_id walk.0 walk.1 g l.from.id b walk.3 h there)
 
-  walk_nodes : (n f : ℕ) (a b : Id) → IsOf f a → Walk caller base a b n → (g : ℕ) × IsOf g b × NodeWalk graph f g n
+  pub walk_nodes : (n f : ℕ) (a b : Id) → IsOf f a → Walk caller base a b n → (g : ℕ) × IsOf g b × NodeWalk graph f g n
   walk_nodes zero f a b at same = (f, at ∙ ap Some same, refl)
   walk_nodes (suc n) f a b at walk =
       let before = walk_nodes n f a walk.0 at walk.2 in
       let to = leads_node before.0 walk.1 walk.0 b before.1 walk.3 in
-      (to.node, to.is_of, (before.0, way_place walk.1, before.2, to.small, to.leads))
+      (to.0, to.1, (before.0, way_place walk.1, before.2, to.2))
 
   -- a walk to the entry frame
   to_entry : (f m : ℕ) (a : Id) → IsOf f a → Walk caller base a (entry_of base) m → NodeWalk graph f graph.entry m

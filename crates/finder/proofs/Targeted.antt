@@ -1,9 +1,14 @@
 -- What a way comes to, by the look-up of the frame that it seeks.
-use Rattle.std.proofs.Common.{◌≡◌, ◌+◌, ℕ, List, Some, slice_get, sym, ◌∙◌, ap, ⊎_elim, arith, ◌<◌, ◌*◌, Bool, true, false, [], ◌∷◌, ◌++◌, None, option_map, if◌then◌else◌, get_or, subst, length-append}
-use Rattle.finder.proofs.Words.{cases_lt, same_Some, get_or_append_left, get_or_push, Id, Way, way_at, Frame, IsAscending, BaseView, frame_at, frame_among, is_open, sought_of, sought, missing_by, sought_by, offered_by, Target, IsSeen, IsSought, target_at, IsTarget, AreTargets, NotOffered, told}
+use Rattle.std.proofs.Common.{◌≡◌, ◌+◌, ℕ, List, Some, slice_get, refl, sym, ◌∙◌, ap, ⊎_elim, arith, ◌<◌, ◌≤◌, ◌*◌, Bool, true, false, [], ◌∷◌, None, Option, option_map, if◌then◌else◌, get_or, subst, length, length-append}
+use Rattle.finder.proofs.Words.{cases_lt, same_Some, slice_get_within, get_or-set_at, get_or-set_other, get_or_append_left, get_or_push, length-set, Id, Way, way_at, Frame, IsAscending, BaseView, frame_at, frame_among, is_open, sought_of, sought, missing_by, sought_by, offered_by, destination_of, Target, IsSeen, IsSought, target_at, IsTarget, AreTargets, NotOffered, Closed, Missing, Outside, aim_of, aim_at, place_of}
 use Rattle.frame_records.specs.declared.base.Sought.TheVariants as seeking
 use Rattle.frame_records.specs.declared.ways.Destination.TheVariants as destination
+use Rattle.finder.specs.declared.aim.Aim.TheVariants as aim
+use Rattle.finder.specs.declared.table.Targets.{Targets}
+use Rattle.finder.specs.declared.target.Target.TheVariants.{Found}
+use Rattle.finder.specs.Targets.{IsFoundAt, IsTold, IsAdded}
 use Rattle.finder.proofs.Places.{frame_here, id_stands}
+use Rattle.finder.proofs.Lists.{mapped}
 
 -- the frame of an id that is seen
 pub record SeenFrame (caller : List ℕ) (frames : List Frame) (id : Id) (place : ℕ) (admitted : Bool) : Type 0 where
@@ -29,29 +34,87 @@ module _ (caller : List ℕ) (base : BaseView) (f : Frame) (way : Way) (to : Id)
   -- the base has the frame
   pub targeted : (target : Target) → IsAscending base.frames → IsSought caller base.frames to (Some target)
       → IsTarget caller base f way target
-  targeted target up s =
-      let g = seen_frame caller base.frames to s.0 s.1 up s.2 in
-      record { is = ap (told base.frames (sought f way)) s.3 ∙ ap (λ o. told base.frames o (target_at s.0 s.1)) (sym seeks) ∙ comes s.0 g.frame g.stands g.is_of s.1 g.admits ∙ ap (λ o. Some (sought_by base way to (sought_of caller o))) (sym g.among) ∙ ap (λ o. Some (offered_by caller base way o)) seeks }
-    where
-      comes : (place : ℕ) (g : Frame) → slice_get base.frames place ≡ Some g → g.id ≡ to → (b : Bool) → is_open caller g ≡ b
-          → told base.frames (Some to) (target_at place b) ≡ Some (sought_by base way to (sought_of caller (Some g)))
-      comes place g at same true e = ap (option_map (λ (h : Frame). destination.Found h.id h.price)) at ∙ ap (λ id. Some (destination.Found id g.price)) same ∙ ap (λ b. Some (sought_by base way to (if b then seeking.Found g.price else seeking.Closed))) (sym e)
-      comes place g at same false e = ap (λ b. Some (sought_by base way to (if b then seeking.Found g.price else seeking.Closed))) (sym e)
+  targeted target up s = rw s.3 (by s.1 g.admits) where
+    g : SeenFrame caller base.frames to s.0 s.1
+    g = seen_frame caller base.frames to s.0 s.1 up s.2
+
+    comes : (b : Bool) → is_open caller g.frame ≡ b
+        → destination_of caller base f way ≡ sought_by base way to (if b then seeking.Found g.frame.price else seeking.Closed)
+    comes b e = ap (offered_by caller base way) (sym seeks) ∙ ap (λ o. sought_by base way to (sought_of caller o)) g.among ∙ ap (λ b. sought_by base way to (if b then seeking.Found g.frame.price else seeking.Closed)) e
+
+    by : (b : Bool) → is_open caller g.frame ≡ b → IsTarget caller base f way (target_at s.0 b)
+    by true e = record {
+      aim = ap aim_of (sym (comes true e));
+      found = λ place is. ap (λ p. option_map (λ (h : Frame). destination.Found h.id h.price) (slice_get base.frames p)) (sym (same_Some s.0 place is)) ∙ ap (option_map (λ (h : Frame). destination.Found h.id h.price)) g.stands ∙ ap (λ id. Some (destination.Found id g.frame.price)) g.is_of ∙ ap Some (sym (comes true e));
+    }
+    by false e = record { aim = ap aim_of (sym (comes false e)); found = λ place is. absurd cc }
 
   -- it lacks the frame
-  pub missed : (target : Target) → frame_at base to ≡ None
-      → told base.frames (Some to) target ≡ Some (missing_by base way to) → IsTarget caller base f way target
-  missed target none tells = record { is = ap (λ o. told base.frames o target) (sym seeks) ∙ tells ∙ ap (λ o. Some (sought_by base way to (sought_of caller o))) (sym none) ∙ ap (λ o. Some (offered_by caller base way o)) seeks }
+  pub missed : (target : Target) → frame_at base to ≡ None → aim_at target ≡ aim_of (missing_by base way to)
+      → place_of target ≡ None → IsTarget caller base f way target
+  missed target none is nowhere = record {
+    aim = is ∙ ap aim_of (sym (ap (offered_by caller base way) (sym seeks) ∙ ap (λ o. sought_by base way to (sought_of caller o)) none));
+    found = λ place some. let no = sym nowhere ∙ some in absurd cc;
+  }
+
+-- it isn't offered
+pub unoffered : (caller : List ℕ) (base : BaseView) (f : Frame) (way : Way) → None ≡ sought f way
+    → IsTarget caller base f way NotOffered
+unoffered caller base f way none = record { aim = ap (λ o. aim_of (offered_by caller base way o)) none; found = λ place is. absurd cc }
+
+not_found : (t : Target) → place_of t ≡ None → aim_at t ≡ aim.Found → ⊥
+not_found NotOffered none e = absurd cc
+not_found (Found place) none e = absurd cc
+not_found Closed none e = absurd cc
+not_found Missing none e = absurd cc
+not_found Outside none e = absurd cc
 
 -- one more way
-pub targets_more : (caller : List ℕ) (base : BaseView) (place way : ℕ) (f : Frame) (target : Target) (targets : List Target) → way < 11 → slice_get base.frames place ≡ Some f → IsTarget caller base f (way_at way) target → AreTargets caller base (place * 11 + way) targets → AreTargets caller base (place * 11 + (way + 1)) (targets ++ target ∷ [])
-targets_more caller base place way f target targets small at is are = record {
-  room = omega (arith, length-append targets (target ∷ []), are.room);
-  right = λ i k g lt is_way there.
-      ⊎_elim (λ less. subst (IsTarget caller base g (way_at k)) (sym (get_or_append_left targets (target ∷ []) NotOffered (i * 11 + k) (omega (arith, less, are.room)))) (are.right i k g less is_way there)) (λ more.
-      let row : place ≡ i = omega (arith, more, lt, is_way, small) in
-      let column : way ≡ k = omega (arith, more, lt, row) in
-      let same : f ≡ g = same_Some f g (sym at ∙ ap (slice_get base.frames) row ∙ there) in
-      let last : get_or (targets ++ target ∷ []) (i * 11 + k) NotOffered ≡ target = get_or_push targets target NotOffered (i * 11 + k) (omega (arith, more, lt, are.room)) in
-      rw last (subst (λ n. IsTarget caller base g (way_at n) target) column (subst (λ h. IsTarget caller base h (way_at way) target) same is))) (cases_lt (i * 11 + k) (place * 11 + way));
-}
+module _ (caller : List ℕ) (base : BaseView) (place way : ℕ) (f : Frame) (target : Target) (old new : Targets) (small : way < 11) (few : length base.frames ≤ 65535) (at : slice_get base.frames place ≡ Some f) (is : IsTarget caller base f (way_at way) target) (added : IsAdded old new target) (are : AreTargets caller base (place * 11 + way) old) where
+  abbrev last : ℕ
+  last = length old.places.items
+
+  record AreAdded : Type 0 where
+    told : IsTold caller base f (way_at way) added.place (get_or new.aims.items last aim.NotOffered)
+    slots : length new.aims.items ≡ length old.aims.items
+    kept : (k : ℕ) → k < last → get_or new.aims.items k aim.NotOffered ≡ get_or old.aims.items k aim.NotOffered
+
+  stands : (p : ℕ) → IsFoundAt caller base f (way_at way) p → (g : Frame) × (slice_get base.frames p ≡ Some g)
+  stands p found = let g = mapped (λ (h : Frame). destination.Found h.id h.price) (slice_get base.frames p) _ found in (g.0, g.1)
+
+  are_added : (o : Option ℕ) → place_of target ≡ o → AreAdded
+  are_added (Some p) e =
+      let there = is.found p e in
+      let same = added.found p e in
+      record {
+        told = record { found = λ lt. rw same.0 there; lost = λ past. absurd (omega (arith, same.0, past, slice_get_within base.frames p (stands p there).0 (stands p there).1)) };
+        slots = ap length same.1;
+        kept = λ k lt. ap (λ l. get_or l k aim.NotOffered) same.1;
+      }
+  are_added None e =
+      let none = added.lost e in
+      let within : last < length old.aims.items = omega (arith, are.room, are.slots, slice_get_within base.frames place f at, small) in
+      let aim_is : get_or new.aims.items last aim.NotOffered ≡ aim_at target = ap (λ l. get_or l last aim.NotOffered) none.1 ∙ get_or-set_at old.aims.items last last (aim_at target) aim.NotOffered refl within in
+      record {
+        told = record { found = λ lt. absurd (omega (arith, lt, few, none.0)); lost = λ past. (aim_is ∙ is.aim, λ found. not_found target e (sym aim_is ∙ found)) };
+        slots = ap length none.1 ∙ length-set old.aims.items last (aim_at target);
+        kept = λ k lt. ap (λ l. get_or l k aim.NotOffered) none.1 ∙ get_or-set_other old.aims.items last k (aim_at target) aim.NotOffered (λ same. omega (arith, same, lt));
+      }
+
+  pub targets_more : AreTargets caller base (place * 11 + (way + 1)) new
+  targets_more =
+      let more = are_added (place_of target) refl in
+      record {
+        room = ap length added.places ∙ omega (arith, length-append old.places.items (added.place ∷ []), are.room);
+        slots = more.slots ∙ are.slots;
+        right = λ i k g lt is_way there.
+            ⊎_elim (λ less.
+            let inside : i * 11 + k < last = omega (arith, less, are.room) in
+            subst (λ p. IsTold caller base g (way_at k) p (get_or new.aims.items (i * 11 + k) aim.NotOffered)) (sym (ap (λ l. get_or l (i * 11 + k) 0) added.places ∙ get_or_append_left old.places.items (added.place ∷ []) 0 (i * 11 + k) inside)) (rw (more.kept (i * 11 + k) inside) (are.right i k g less is_way there))) (λ past.
+            let row : place ≡ i = omega (arith, past, lt, is_way, small) in
+            let column : way ≡ k = omega (arith, past, lt, row) in
+            let same : f ≡ g = same_Some f g (sym at ∙ ap (slice_get base.frames) row ∙ there) in
+            let here : last ≡ i * 11 + k = omega (arith, row, column, are.room) in
+            let place_is : added.place ≡ get_or new.places.items (i * 11 + k) 0 = sym (ap (λ l. get_or l (i * 11 + k) 0) added.places ∙ get_or_push old.places.items added.place 0 (i * 11 + k) here) in
+            subst (λ p. IsTold caller base g (way_at k) p (get_or new.aims.items (i * 11 + k) aim.NotOffered)) place_is (subst (λ j. IsTold caller base g (way_at k) added.place (get_or new.aims.items j aim.NotOffered)) here (subst (λ w. IsTold caller base g (way_at w) added.place (get_or new.aims.items last aim.NotOffered)) column (subst (λ h. IsTold caller base h (way_at way) added.place (get_or new.aims.items last aim.NotOffered)) same more.told)))) (cases_lt (i * 11 + k) (place * 11 + way));
+      }

@@ -1,10 +1,14 @@
 -- What a survey says.
-use Rattle.std.proofs.Common.{◌≡◌, ℕ, Bool, true, false, List, Some, None, if◌then◌else◌, length, refl, sym, ◌∙◌, ap, ◌<◌, ◌+◌, ◌*◌, [], map, slice_get, get_or, arith, ◌≤◌}
-use Rattle.finder.proofs.Words.{values_of, same_Some, slice_get_within, Id, Way, way_at, Frame, BaseView, IsAscending, frame_at, entry_of, seek_entry, is_open, sought_of, sought, destination_of, destination_by, destination, Target, NotOffered, IsEntryPlace, discovered_of, IsSought, target_at, place_of, id_at, aim_at, AreTargets, Reached, Discovered, AreNamed, aim_of, FindsReached, RanksAreLeast, IsFinding, EntryIsFound}
+use Rattle.std.proofs.Common.{◌≡◌, ℕ, Bool, true, false, List, Some, None, if◌then◌else◌, length, refl, sym, ◌∙◌, ap, ◌<◌, ◌+◌, ◌*◌, [], ⊎_elim, slice_get, get_or, arith, ◌≤◌}
+use Rattle.finder.proofs.Words.{cases_lt, same_Some, slice_get_within, Way, way_at, Frame, BaseView, IsAscending, frame_at, entry_of, seek_entry, is_open, sought_of, destination_of, destination_by, destination, Target, IsEntryPlace, IsSought, target_at, place_of, Discovered, AreNamed, aim_of, FindsReached, RanksAreLeast, IsFinding, EntryIsFound}
 use Rattle.frame_records.specs.declared.base.Sought.TheVariants as sought_is
 use Rattle.finder.proofs.Places.{frame_here, id_stands}
-use Rattle.finder.proofs.Lists.{image_at, at_image}
-use Rattle.finder.proofs.Within.{aim_is}
+use Rattle.frame_records.specs.declared.ways.Destination.TheVariants as destination_is
+use Rattle.finder.proofs.Lists.{mapped}
+use Rattle.finder.specs.declared.aim.Aim.{Aim}
+use Rattle.finder.specs.declared.aim.Aim.TheVariants.{NotOffered, Found}
+use Rattle.finder.specs.declared.table.Table.{Table}
+use Rattle.finder.proofs.Marked.{frame_listed}
 use Rattle.finder.proofs.Targeted.{SeenFrame, seen_frame}
 use Rattle.finder.proofs.Scripted.{listed_at, scripts_lead}
 
@@ -27,31 +31,37 @@ module _ (caller : List ℕ) (base : BaseView) where
     by true e = ((g.frame.price, comes true e), s.2.stands)
     by false e = λ entry. let closed = sym (comes false e) ∙ entry.1 in absurd cc
 
-module _ (caller : List ℕ) (base : BaseView) (entries : List (Id × Reached)) (i : ℕ) (r : Reached) (up : IsAscending base.frames) (named : AreNamed base.frames entries) (at : slice_get (values_of entries) i ≡ Some r) where
-  -- the frame of its node stands in the base
-  pub stands : (f : Frame) × (slice_get base.frames r.node ≡ Some f) × ((found : List Discovered) (d : Discovered) → found ≡ map discovered_of entries → slice_get found i ≡ Some d → frame_at base d.id ≡ Some f)
-  stands =
-      let e = image_at (λ x. x.1) entries i r at in
-      let f = id_stands base.frames r.node e.0.0 (ap (λ (x : Reached). id_at base.frames x.node) (sym e.2) ∙ named i e.0 e.1) in (
-        f.0,
-        f.1,
-        λ found d is there.
-            let same : discovered_of e.0 ≡ d = same_Some (discovered_of e.0) d (sym (at_image discovered_of entries i e.0 e.1) ∙ ap (λ l. slice_get l i) (sym is) ∙ there) in
-            ap (frame_at base) (sym (f.2 ∙ ap (λ (x : Discovered). x.id) same)) ∙ frame_here base.frames up r.node f.0 f.1,
-      )
+-- the frame of a listed node stands in the base
+pub stands : (base : BaseView) (nodes : List ℕ) (found : List Discovered) (i node : ℕ) → IsAscending base.frames
+    → AreNamed base.frames nodes found → slice_get nodes i ≡ Some node
+    → (f : Frame) × (slice_get base.frames node ≡ Some f) × ((d : Discovered) → slice_get found i ≡ Some d → frame_at base d.id ≡ Some f)
+stands base nodes found i node up named at =
+    let e = frame_listed base.frames nodes found named i node at in
+    let f = id_stands base.frames node e.0.id e.2 in (
+      f.0,
+      f.1,
+      λ d there. ap (frame_at base) (sym (f.2 ∙ ap (λ (x : Discovered). x.id) (same_Some e.0 d (sym e.1 ∙ there)))) ∙ frame_here base.frames up node f.0 f.1,
+    )
 
-  pub node_within : r.node < length base.frames
-  node_within = slice_get_within base.frames r.node stands.0 stands.1
+pub node_within : (base : BaseView) (nodes : List ℕ) (found : List Discovered) (i node : ℕ) → IsAscending base.frames
+    → AreNamed base.frames nodes found → slice_get nodes i ≡ Some node → node < length base.frames
+node_within base nodes found i node up named at = let f = stands base nodes found i node up named at in slice_get_within base.frames node f.0 f.1
 
-  -- what its ways come to
-  pub aim_told : (targets : List Target) (way : Way) (place : ℕ) (found : List Discovered) (d : Discovered)
-      → AreTargets caller base (length base.frames * 11) targets → place < 11 → way_at place ≡ way
-      → found ≡ map discovered_of entries → slice_get found i ≡ Some d
-      → aim_at (get_or targets (r.node * 11 + place) NotOffered) ≡ aim_of (destination caller base d.id way)
-  aim_told targets way place found d are small is_way is there =
-      let inside : r.node * 11 + place < length base.frames * 11 = omega (arith, node_within, small) in
-      let f = stands in
-      aim_is base.frames (sought f.0 (way_at place)) (get_or targets (r.node * 11 + place) NotOffered) (destination_of caller base f.0 (way_at place)) (are.right r.node place f.0 inside small f.1).is ∙ ap (λ w. aim_of (destination_of caller base f.0 w)) is_way ∙ ap (λ o. aim_of (destination_by caller base way o)) (sym (f.2 found d is there))
+-- what its ways come to
+pub aim_told : (table : Table) (nodes : List ℕ) (found : List Discovered) (i node place : ℕ) (way : Way) (aim : Aim) (d : Discovered)
+    → AreNamed table.base.now.frames nodes found → slice_get nodes i ≡ Some node → slice_get found i ≡ Some d
+    → place < 11 → way_at place ≡ way
+    → (get_or table.targets.places.items (node * 11 + place) 0 < table.count → aim ≡ Found)
+    → (table.count ≤ get_or table.targets.places.items (node * 11 + place) 0 → aim ≡ get_or table.targets.aims.items (node * 11 + place) NotOffered)
+    → aim ≡ aim_of (destination table.groups.now table.base.now d.id way)
+aim_told table nodes found i node place way aim d named at there small is_way is_found is_lost =
+    let caller = table.groups.now in
+    let base = table.base.now in
+    let f = stands base nodes found i node table.valid.ascending named at in
+    let inside = slice_get_within base.frames node f.0 f.1 in
+    let told = table.whole.right node place f.0 (omega (arith, inside, small, table.nodes)) small f.1 in
+    let here : aim_of (destination_of caller base f.0 (way_at place)) ≡ aim_of (destination caller base d.id way) = ap (λ w. aim_of (destination_of caller base f.0 w)) is_way ∙ ap (λ o. aim_of (destination_by caller base way o)) (sym (f.2 d there)) in
+    ⊎_elim (λ lt. is_found (omega (arith, lt, table.nodes)) ∙ ap aim_of (mapped (λ (h : Frame). destination_is.Found h.id h.price) (slice_get base.frames _) _ (told.found lt)).2 ∙ here) (λ past. is_lost (omega (arith, past, table.nodes)) ∙ (told.lost past).0 ∙ here) (cases_lt (get_or table.targets.places.items (node * 11 + place) 0) (length base.frames))
 
 -- where the entry frame is found it is listed
 not_empty : (caller : List ℕ) (base : BaseView) (found : List Discovered) → FindsReached caller base found → found ≡ []

@@ -1,14 +1,13 @@
 -- The names that the finder's proofs cite, passed on from one place. Declares nothing.
 pub use Rattle.std.proofs.lemmas.Bool.{cases_eq, cases_lt, cases_order}
 pub use Rattle.std.proofs.lemmas.Grind.{common_steps, get_or-set_at, reverse_onto}
-pub use Rattle.std.proofs.lemmas.List.{append-nil, get_or-replicate, get_or-set_other, get_or_append_left, get_or_default, get_or_push, length-map, length-replicate, map_push}
+pub use Rattle.std.proofs.lemmas.List.{append-nil, get_or-replicate, get_or-set_other, get_or_append_left, get_or_default, get_or_push, length-map, length-replicate, length-set}
 pub use Rattle.std.proofs.lemmas.List.Elements.{All-contains, All-nil, All-push, All-replicate, All-set, AllWithin-more, Contains-append_left, Contains-push}
 pub use Rattle.std.proofs.lemmas.List.Quantifiers.{Any-push, all_pairs_push}
 pub use Rattle.std.proofs.lemmas.List.Sums.{count_by-le-length, sum_by-set}
-pub use Rattle.std.proofs.lemmas.Map.Entries.{length-values_of, place_from_lookup}
 pub use Rattle.std.proofs.lemmas.Option.{slice_get_cases, get_or_from_slice_get, same_Some, slice_get-get_or, slice_get-map, slice_get_read, slice_get_within}
 pub use Rattle.std.specs.List.Sorted.{IsBinarySearchResult}
-pub use Rattle.std.specs.Map.{lookup, values_of}
+pub use Rattle.std.specs.List.{AllWithin}
 pub use Rattle.page_ids.specs.Id.{Id}
 pub use Rattle.page_ids.specs.IdLaws.{id_cmp_total, id_eq_refl, id_eq_same}
 pub use Rattle.page_ids.specs.Ids.{id_cmp, id_eq}
@@ -25,17 +24,17 @@ pub use Rattle.frame_records.specs.Ways.{Leads, destination, destination_by, des
 pub use Rattle.frame_records.specs.declared.frame.Frame.{Frame}
 pub use Rattle.smallvec.specs.SmallVec.{SmallVec}
 pub use Rattle.finder.specs.Discovery.{AreMarked, AreNamed, IsDiscovery, IsListed, place}
-pub use Rattle.finder.specs.Entries.{IsEntryPlace, discovered_of}
+pub use Rattle.finder.specs.Entries.{IsEntryPlace}
 pub use Rattle.finder.specs.Finds.{FindsReached, HasFirstPair, HasPair, IsBefore, IsFinding, Pair, PairLeads, RanksAreLeast}
-pub use Rattle.finder.specs.Graph.{IsNodeRank, NodeWalk, target}
+pub use Rattle.finder.specs.Graph.{Goes, IsNodeRank, NodeWalk}
 pub use Rattle.finder.specs.Notes.{AreNotes, IsNote, IsSeen, IsSought, target_at}
 pub use Rattle.finder.specs.Scripts.{ScriptsLead, keys_along, keys_back, parent_by, parent_of, script}
 pub use Rattle.finder.specs.Search.{HasRank, IsClosed, IsSearch}
 pub use Rattle.finder.specs.Survey.{SurveyView, aim_of}
-pub use Rattle.finder.specs.Targets.{AreTargets, IsTarget, aim_at, id_at, place_of, told}
-pub use Rattle.finder.specs.Turned.{AreTurned, IsSourceList, LeadsTo}
+pub use Rattle.finder.specs.Targets.{AreTargets, IsTarget, aim_at, id_at, place_of}
+pub use Rattle.finder.specs.Turned.{AreTurned, HasSource, IsSourceList, LeadsTo}
 pub use Rattle.finder.specs.Walks.{EntryIsFound, IsRank, IsReached, KeysLead, Walk}
-pub use Rattle.finder.specs.declared.discover.Reached.{Reached}
+pub use Rattle.finder.specs.declared.discover.Discovery.{Discovery}
 pub use Rattle.finder.specs.declared.found.Discovered.{Discovered}
 pub use Rattle.finder.specs.declared.graph.Graph.{Graph}
 pub use Rattle.finder.specs.declared.target.Target.{Target}

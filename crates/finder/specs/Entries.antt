@@ -1,17 +1,16 @@
--- The discovered frames, told by their ids, and the entry frame among all.
+-- A discovered frame, and the entry frame among all.
 use Rattle.std.specs.Prelude.{◌≡◌, ℕ, List, Option, Some, None, option_map}
 use Rattle.page_ids.specs.Id.{Id}
 use Rattle.page_ids.specs.Ways.{way_at, way_key}
 use Rattle.frame_records.specs.BaseView.{BaseView}
 use Rattle.frame_records.specs.Seek.{entry_of}
-use Rattle.finder.specs.declared.discover.Reached.{Reached}
 use Rattle.finder.specs.declared.found.Discovered.{Discovered}
 use Rattle.finder.specs.Targets.{id_at}
 use Rattle.finder.specs.Walks.{EntryIsFound}
 
--- a listed frame, with its rank, its parent and the key that led from it
-abbrev pub discovered_of : Id × Reached → Discovered
-discovered_of e = record { id = e.0; rank = e.1.rank; parent = option_map (λ o. o.0) e.1.origin; key = option_map (λ o. way_key (way_at o.1)) e.1.origin }
+-- a listed frame, with its rank, and with its parent and the key that led from it
+abbrev pub discovered_of : Id → Option ℕ → Option (ℕ × ℕ) → Discovered
+discovered_of id rank origin = record { id = id; rank = rank; parent = option_map (λ o. o.0) origin; key = option_map (λ o. way_key (way_at o.1)) origin }
 
 -- the place of the entry frame, where it is found
 abbrev pub IsEntryPlace : List ℕ → BaseView → Option ℕ → Type 0

@@ -1,17 +1,18 @@
 -- Where the ways lead, the frames by their places: what walks there are.
 use Rattle.std.specs.Prelude.{◌≡◌, ◌<◌, ◌≤◌, ◌+◌, ◌*◌, ℕ, zero, suc, Option, Some, None, get_or}
 use Rattle.finder.specs.declared.graph.Graph.{Graph}
-use Rattle.finder.specs.declared.target.Target.TheVariants.{NotOffered}
-use Rattle.finder.specs.Targets.{place_of}
 
--- the node to which a way of a node leads
-abbrev pub target : Graph → ℕ → ℕ → Option ℕ
-target graph f way = place_of (get_or graph.table.targets.items (f * 11 + way) NotOffered)
+-- a way of the node f leads to the node g
+pub record Goes (graph : Graph) (f way g : ℕ) : Type 0 where
+  pub is_way : way < 11
+  pub from : f < graph.table.count
+  pub to : g < graph.table.count
+  pub target : get_or graph.table.targets.places.items (f * 11 + way) 0 ≡ g
 
 -- n ways lead from f to g
 abbrev pub NodeWalk : Graph → ℕ → ℕ → ℕ → Type 0
 NodeWalk graph f g zero = f ≡ g
-NodeWalk graph f g (suc n) = (h : ℕ) × (way : ℕ) × NodeWalk graph f h n × (way < 11) × (target graph h way ≡ Some g)
+NodeWalk graph f g (suc n) = (h : ℕ) × (way : ℕ) × NodeWalk graph f h n × Goes graph h way g
 
 -- a walk of n ways leads back to the entry node, and none of fewer
 pub record IsNodeDistance (graph : Graph) (f n : ℕ) : Type 0 where

@@ -6,8 +6,8 @@ use Rattle.frame_records.specs.BaseView.{frame_among}
 use Rattle.frame_records.specs.Seek.{is_open}
 use Rattle.finder.specs.declared.notes.Note.{Note}
 use Rattle.finder.specs.declared.target.Target.{Target}
-use Rattle.finder.specs.declared.target.Target.TheVariants.{Found, Closed}
 use Rattle.finder.specs.Targets.{id_at}
+use Rattle.finder.specs.declared.target.Target.TheVariants.{Found, Closed}
 
 -- the frame of an id stands at a place, and is open to the caller or isn't
 pub record IsSeen (caller : List ℕ) (frames : List Frame) (id : Id) (place : ℕ) (admitted : Bool) : Type 0 where

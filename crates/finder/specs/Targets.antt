@@ -1,15 +1,16 @@
 -- What the ways of a base's frames come to, the frames by their places in the base.
-use Rattle.std.specs.Prelude.{◌≡◌, ◌<◌, ◌+◌, ◌*◌, ℕ, List, Option, Some, None, option_map, length, get_or, slice_get}
+use Rattle.std.specs.Prelude.{◌≡◌, ◌≢◌, ◌<◌, ◌≤◌, ◌+◌, ◌*◌, ◌++◌, ◌∷◌, [], ℕ, List, Option, Some, None, option_map, length, get_or, set, slice_get}
 use Rattle.page_ids.specs.Id.{Id}
 use Rattle.page_ids.specs.declared.way.Way.{Way}
 use Rattle.page_ids.specs.Ways.{way_at}
 use Rattle.frame_records.specs.declared.frame.Frame.{Frame}
 use Rattle.frame_records.specs.BaseView.{BaseView}
-use Rattle.frame_records.specs.Ways.{sought, destination_of}
-use Rattle.frame_records.specs.declared.ways.Destination.{Destination}
+use Rattle.frame_records.specs.Ways.{destination_of}
 use Rattle.frame_records.specs.declared.ways.Destination.TheVariants as destination
+use Rattle.finder.specs.Survey.{aim_of}
 use Rattle.finder.specs.declared.aim.Aim.{Aim}
 use Rattle.finder.specs.declared.aim.Aim.TheVariants as aim
+use Rattle.finder.specs.declared.table.Targets.{Targets}
 use Rattle.finder.specs.declared.target.Target.{Target}
 use Rattle.finder.specs.declared.target.Target.TheVariants.{NotOffered, Found, Closed, Missing, Outside}
 
@@ -33,20 +34,30 @@ place_of Outside = None
 abbrev pub id_at : List Frame → ℕ → Option Id
 id_at frames place = option_map (λ f. f.id) (slice_get frames place)
 
--- the destination that a target tells, where an id is sought
-abbrev pub told : List Frame → Option Id → Target → Option Destination
-told frames to NotOffered = Some destination.NotOffered
-told frames to (Found place) = option_map (λ f. destination.Found f.id f.price) (slice_get frames place)
-told frames to Closed = option_map destination.Closed to
-told frames to Missing = option_map destination.Missing to
-told frames to Outside = option_map (λ id. destination.Outside id.page) to
+-- a way finds the frame at a place
+abbrev pub IsFoundAt : List ℕ → BaseView → Frame → Way → ℕ → Type 0
+IsFoundAt caller base f way place = option_map (λ to. destination.Found to.id to.price) (slice_get base.frames place) ≡ Some (destination_of caller base f way)
 
 -- what a way of a frame comes to
 pub record IsTarget (caller : List ℕ) (base : BaseView) (f : Frame) (way : Way) (target : Target) : Type 0 where
-  pub is : told base.frames (sought f way) target ≡ Some (destination_of caller base f way)
+  pub aim : aim_at target ≡ aim_of (destination_of caller base f way)
+  pub found : (place : ℕ) → place_of target ≡ Some place → IsFoundAt caller base f way place
+
+-- the same, told by the place of the frame that is found, which no frame has where none is, and then by the aim
+pub record IsTold (caller : List ℕ) (base : BaseView) (f : Frame) (way : Way) (place : ℕ) (other : Aim) : Type 0 where
+  pub found : place < length base.frames → IsFoundAt caller base f way place
+  pub lost : length base.frames ≤ place → (other ≡ aim_of (destination_of caller base f way)) × (other ≢ aim.Found)
 
 -- what the ways of the first places come to, eleven for each frame
-pub record AreTargets (caller : List ℕ) (base : BaseView) (done : ℕ) (targets : List Target) : Type 0 where
-  pub room : length targets ≡ done
+pub record AreTargets (caller : List ℕ) (base : BaseView) (done : ℕ) (targets : Targets) : Type 0 where
+  pub room : length targets.places.items ≡ done
+  pub slots : length targets.aims.items ≡ length base.frames * 11
   pub right : (i way : ℕ) (f : Frame) → i * 11 + way < done → way < 11 → slice_get base.frames i ≡ Some f
-      → IsTarget caller base f (way_at way) (get_or targets (i * 11 + way) NotOffered)
+      → IsTold caller base f (way_at way) (get_or targets.places.items (i * 11 + way) 0) (get_or targets.aims.items (i * 11 + way) aim.NotOffered)
+
+-- one more way comes to the target
+pub record IsAdded (old new : Targets) (target : Target) : Type 0 where
+  pub place : ℕ
+  pub places : new.places.items ≡ old.places.items ++ place ∷ []
+  pub found : (at : ℕ) → place_of target ≡ Some at → (place ≡ at) × (new.aims.items ≡ old.aims.items)
+  pub lost : place_of target ≡ None → (place ≡ 65535) × (new.aims.items ≡ set old.aims.items (length old.places.items) (aim_at target))

@@ -1,58 +1,48 @@
-ghost use Rattle.std.specs.Prelude.{◌≡◌, ◌<◌, ◌≤◌, ◌+◌, ◌*◌, ◌++◌, ◌∷◌, [], ℕ, Some, None, false, OnOk, IfOk, map, slice_get, length, get_or};
-ghost use Rattle.std.specs.Map.{lookup, values_of};
-ghost use Rattle.page_ids.specs.Ids.{id_eq};
+ghost use Rattle.std.specs.Prelude.{◌≡◌, ◌<◌, ◌≤◌, ◌+◌, ◌*◌, ◌⊎◌, ◌++◌, ◌∷◌, [], ℕ, Some, None, true, false, Contains, OnOk, IfOk, IfSome, IfNone, slice_get, set, length, get_or};
 ghost use Rattle.finder.specs.Discovery.{AreNamed, IsListed};
 ghost use Rattle.finder.specs.Entries.{discovered_of};
 ghost use Rattle.finder.specs.Finds.{FindsReached, RanksAreLeast};
-ghost use Rattle.finder.specs.Graph.{target, IsNodeRank};
+ghost use Rattle.finder.specs.Graph.{IsNodeRank};
 ghost use Rattle.finder.specs.Walks.{EntryIsFound};
 
+use crate::found::Found;
 use crate::graph::Graph;
 use crate::ranks::{rank_at, ranks_of};
-use indexmap::IndexMap;
+use indexmap::IndexSet;
 use page_ids::FrameId;
 use std::alloc::{AllocError, Global};
 
-// A frame that is reached, beside its id.
-#[derive(Debug, Clone, Copy, PartialEq, Eq)]
-pub struct Reached {
-    // Its place in the base.
-    pub node: u16,
-    // The least number of ways that lead back to the entry frame; `None` where none do.
-    pub rank: Option<u16>,
-    // The index of the frame from which it was discovered, and the place of the way that led to it; `None` for the entry
-    // frame.
-    pub origin: Option<(u16, u8)>,
+// The frames that are listed by now, in the order of discovery.
+#[derive(Drop)]
+pub struct Discovery {
+    // Their places in the base.
+    pub order: IndexSet<u16>,
+    pub found: Found,
+    // For each place whether its frame is listed.
+    listed: Vec<bool>,
 }
 
-// The frames that are listed by now, by their ids, in the order of discovery.
-pub type Order = IndexMap<FrameId, Reached>;
-
-// Lists a frame last that isn't listed.
-fn list(order: &mut Order, id: FrameId, reached: Reached) -> Result<(), AllocError>
-    requires { lookup (id_eq id) order.now.entries ≡ None }
-    ensures { OnOk result (order.new.entries ≡ order.old.entries ++ (id, reached) ∷ []) }
+// Enters a node last that isn't there.
+fn enter(order: &mut IndexSet<u16>, node: u16) -> Result<(), AllocError>
+    requires { Contains order.old.keys node → ⊥ }
+    ensures { OnOk result (order.new.keys ≡ order.old.keys ++ node ∷ []) }
 {
-    match order.insert(id, reached) {
+    match order.insert(node) {
         Ok(_) => Ok(()),
         Err(_) => Err(AllocError),
     }
 }
 
-// The listed frames, and for each place whether its frame is listed.
-#[derive(Drop)]
-struct Discovery {
-    order: Order,
-    listed: Vec<bool>,
-}
-
 impl Discovery {
-    // The node that is listed at an index.
-    fn at(&self, index: u16) -> Option<Reached>
-        ensures { result ≡ slice_get (values_of self.now.order.entries) index }
+    // The node at an index, where there is one and not every node is listed.
+    fn waiting(&self, graph: &Graph<'_>, index: u16) -> Option<u16>
+        ensures some { IfSome result (λ node. slice_get self.now.order.keys index ≡ Some node) }
+        ensures none { IfNone result ((length self.now.order.keys ≤ index) ⊎ (graph.now.table.count ≤ length self.now.order.keys)) }
     {
-        let (_, reached) = self.order.get_index(index as usize)?;
-        Some(*reached)
+        if self.order.len() >= graph.table.count as usize {
+            return None;
+        }
+        self.order.get_index(index as usize).copied()
     }
 
     // Whether a node is listed.
@@ -63,39 +53,55 @@ impl Discovery {
         self.listed[node as usize]
     }
 
+    // Lists a node last that isn't listed: its frame's id and rank, and the index of the frame and the place of the way that led
+    // to it.
+    fn list(
+        &mut self,
+        node: u16,
+        id: FrameId,
+        rank: Option<u16>,
+        origin: Option<(u16, u8)>,
+    ) -> Result<(), AllocError>
+        requires within { node < length self.old.listed.items }
+        requires new { Contains self.old.order.keys node → ⊥ }
+        ensures order { OnOk result (self.new.order.keys ≡ self.old.order.keys ++ node ∷ []) }
+        ensures found { OnOk result (self.new.found ≡ self.old.found ++ discovered_of id rank origin ∷ []) }
+        ensures listed { OnOk result (self.new.listed.items ≡ set self.old.listed.items node true) }
+    {
+        self.listed[node as usize] = true;
+        enter(&mut self.order, node)?;
+        self.found.push(id, rank, origin)?;
+        Ok(())
+    }
+
     // Tries a way of the node at an index: the node to which it leads goes last, where it isn't listed.
     fn try_way(
         &mut self,
         graph: &Graph<'_>,
         ranks: &[Option<u16>],
         index: u16,
-        from: Reached,
+        from: u16,
         way: u8,
     ) -> Result<(), AllocError>
         requires is_way { way < 11 }
-        requires stands { slice_get (values_of self.old.order.entries) index ≡ Some from }
+        requires stands { slice_get self.old.order.keys index ≡ Some from }
         requires len { length ranks.now ≡ graph.now.table.count }
         requires ranks { (f : ℕ) → IsNodeRank graph.now f (get_or ranks.now f None) }
-        requires listed { IsListed graph.now (index * 11 + way) self.old.order.entries self.old.listed.items }
-        ensures stands { OnOk result (slice_get (values_of self.new.order.entries) index ≡ Some from) }
-        ensures listed { OnOk result (IsListed graph.now (index * 11 + way + 1) self.new.order.entries self.new.listed.items) }
+        requires listed { IsListed graph.now (index * 11 + way) self.old }
+        ensures stands { OnOk result (slice_get self.new.order.keys index ≡ Some from) }
+        ensures listed { OnOk result (IsListed graph.now (index * 11 + way + 1) self.new) }
     {
-        let Some(node) = graph.target(from.node, way) else {
+        let Some(node) = graph.target(from, way) else {
             return Ok(());
         };
         if self.is_listed(node) {
             return Ok(());
         }
-        let rank = rank_at(ranks, node);
-        self.listed[node as usize] = true;
-        list(
-            &mut self.order,
+        self.list(
+            node,
             graph.id(node),
-            Reached {
-                node,
-                rank,
-                origin: Some((index, way)),
-            },
+            rank_at(ranks, node),
+            Some((index, way)),
         )?;
         Ok(())
     }
@@ -106,13 +112,13 @@ impl Discovery {
         graph: &Graph<'_>,
         ranks: &[Option<u16>],
         index: u16,
-        from: Reached,
+        from: u16,
     ) -> Result<(), AllocError>
-        requires stands { slice_get (values_of self.old.order.entries) index ≡ Some from }
+        requires stands { slice_get self.old.order.keys index ≡ Some from }
         requires len { length ranks.now ≡ graph.now.table.count }
         requires ranks { (f : ℕ) → IsNodeRank graph.now f (get_or ranks.now f None) }
-        requires listed { IsListed graph.now (index * 11) self.old.order.entries self.old.listed.items }
-        ensures { OnOk result (IsListed graph.now ((index + 1) * 11) self.new.order.entries self.new.listed.items) }
+        requires listed { IsListed graph.now (index * 11) self.old }
+        ensures { OnOk result (IsListed graph.now ((index + 1) * 11) self.new) }
     {
         for way in 0..11u8 {
             self.try_way(graph, ranks, index, from, way)?;
@@ -124,40 +130,40 @@ impl Discovery {
     fn new(alloc: Global, graph: &Graph<'_>, ranks: &[Option<u16>]) -> Result<Discovery, AllocError>
         requires len { length ranks.now ≡ graph.now.table.count }
         requires ranks { (f : ℕ) → IsNodeRank graph.now f (get_or ranks.now f None) }
-        ensures { IfOk result (λ d. IsListed graph.now 0 d.order.entries d.listed.items) }
+        ensures { IfOk result (IsListed graph.now 0) }
     {
-        let mut listed = vec![in alloc; false; graph.table.count as usize]?;
-        let mut order = IndexMap::with_capacity(alloc, graph.table.count as usize)?;
-        listed[graph.entry as usize] = true;
-        list(
-            &mut order,
+        let count = graph.table.count as usize;
+        let mut discovery = Discovery {
+            order: IndexSet::with_capacity(alloc, count)?,
+            found: Found::with_capacity(alloc, count)?,
+            listed: vec![in alloc; false; count]?,
+        };
+        discovery.list(
+            graph.entry,
             graph.id(graph.entry),
-            Reached {
-                node: graph.entry,
-                rank: rank_at(ranks, graph.entry),
-                origin: None,
-            },
+            rank_at(ranks, graph.entry),
+            None,
         )?;
-        Ok(Discovery { order, listed })
+        Ok(discovery)
     }
 }
 
 // The frames that are reached from the entry frame, in the order of discovery: the entry frame first; then for each listed
 // frame in turn its ways are tried in order, and each frame found that isn't yet listed goes last.
-pub fn discover(alloc: Global, graph: &Graph<'_>) -> Result<Order, AllocError>
+pub fn discover(alloc: Global, graph: &Graph<'_>) -> Result<Discovery, AllocError>
     requires { EntryIsFound graph.now.table.groups.now graph.now.table.base.now }
-    ensures reached { IfOk result (λ order. FindsReached graph.now.table.groups.now graph.now.table.base.now (map discovered_of order.entries)) }
-    ensures ranks { IfOk result (λ order. RanksAreLeast graph.now.table.groups.now graph.now.table.base.now (map discovered_of order.entries)) }
-    ensures named { IfOk result (λ order. AreNamed graph.now.table.base.now.frames order.entries) }
-    ensures few { IfOk result (λ order. length order.entries ≤ graph.now.table.count) }
+    ensures reached { IfOk result (λ d. FindsReached graph.now.table.groups.now graph.now.table.base.now d.found) }
+    ensures ranks { IfOk result (λ d. RanksAreLeast graph.now.table.groups.now graph.now.table.base.now d.found) }
+    ensures named { IfOk result (λ d. AreNamed graph.now.table.base.now.frames d.order.keys d.found) }
+    ensures few { IfOk result (λ d. length d.found ≤ graph.now.table.count) }
 {
     let ranks = ranks_of(alloc, graph)?;
     let mut discovery = Discovery::new(alloc, graph, ranks.as_slice())?;
     for index in 0..graph.table.count {
-        let Some(from) = discovery.at(index) else {
-            return Ok(discovery.order);
+        let Some(from) = discovery.waiting(graph, index) else {
+            return Ok(discovery);
         };
         discovery.try_ways(graph, ranks.as_slice(), index, from)?;
     }
-    Ok(discovery.order)
+    Ok(discovery)
 }

@@ -1,8 +1,7 @@
-ghost use Rattle.std.specs.Prelude.{◌≡◌, ◌++◌, ◌∷◌, [], OnOk, IfOk, map, option_map};
+ghost use Rattle.std.specs.Prelude.{◌≡◌, ◌++◌, ◌∷◌, [], OnOk, IfOk, option_map};
 ghost use Rattle.page_ids.specs.Ways.{way_at, way_key};
 ghost use Rattle.finder.specs.Entries.{discovered_of};
 
-use crate::discover::{Order, Reached};
 use page_ids::{FrameId, Key, Way};
 use std::alloc::{AllocError, Global};
 use std::marker::Model;
@@ -35,35 +34,20 @@ impl Model for Found {
     ghost view = { λ f. f.frames.items };
 }
 
-impl Reached {
-    // The index of the frame from which it was discovered.
-    fn parent(&self) -> Option<u32>
-        ensures { result ≡ option_map (λ o. o.0) self.now.origin }
-    {
-        let (parent, _) = self.origin?;
-        Some(parent as u32)
-    }
-
-    // The key that led to it from there.
-    fn key(&self) -> Option<Key>
-        ensures { result ≡ option_map (λ o. way_key (way_at o.1)) self.now.origin }
-    {
-        let (_, way) = self.origin?;
-        Some(Way::at(way).key())
-    }
+// The index of the frame from which a frame was discovered.
+fn parent(origin: Option<(u16, u8)>) -> Option<u32>
+    ensures { result ≡ option_map (λ o. o.0) origin }
+{
+    let (parent, _) = origin?;
+    Some(parent as u32)
 }
 
-// Adds a listed frame.
-fn push(frames: &mut Vec<Discovered>, id: FrameId, reached: &Reached) -> Result<(), AllocError>
-    ensures { OnOk result (frames.new.items ≡ frames.old.items ++ discovered_of (id, reached.now) ∷ []) }
+// The key that led to it from there.
+fn key(origin: Option<(u16, u8)>) -> Option<Key>
+    ensures { result ≡ option_map (λ o. way_key (way_at o.1)) origin }
 {
-    frames.push(Discovered {
-        id,
-        rank: reached.rank,
-        parent: reached.parent(),
-        key: reached.key(),
-    })?;
-    Ok(())
+    let (_, way) = origin?;
+    Some(Way::at(way).key())
 }
 
 impl Found {
@@ -76,15 +60,31 @@ impl Found {
         }
     }
 
-    // The listed frames, in their order.
-    pub fn of(alloc: Global, order: &Order) -> Result<Found, AllocError>
-        ensures { IfOk result (λ found. found ≡ map discovered_of order.now.entries) }
+    // No frame, with room for so many.
+    pub fn with_capacity(alloc: Global, most: usize) -> Result<Found, AllocError>
+        ensures { IfOk result (λ found. found ≡ []) }
     {
-        let mut frames = Vec::with_capacity(alloc, order.len())?;
-        for (id, reached) in order {
-            push(&mut frames, *id, reached)?;
-        }
-        Ok(Found { frames })
+        Ok(Found {
+            frames: Vec::with_capacity(alloc, most)?,
+        })
+    }
+
+    // Adds a frame, with the index of the frame from which it was discovered and the place of the way that led to it.
+    pub fn push(
+        &mut self,
+        id: FrameId,
+        rank: Option<u16>,
+        origin: Option<(u16, u8)>,
+    ) -> Result<(), AllocError>
+        ensures { OnOk result (self.new ≡ self.old ++ discovered_of id rank origin ∷ []) }
+    {
+        self.frames.push(Discovered {
+            id,
+            rank,
+            parent: parent(origin),
+            key: key(origin),
+        })?;
+        Ok(())
     }
 
     /// The frames, in the order of discovery.

@@ -1,6 +1,6 @@
 //! The frames that are found as a graph: a node is a frame's place in the base.
 
-ghost use Rattle.std.specs.Prelude.{◌≡◌, ◌<◌, ◌+◌, ◌*◌, Some, IfSome};
+ghost use Rattle.std.specs.Prelude.{◌≡◌, ◌<◌, ℕ, Some, IfSome, IfNone};
 ghost use Rattle.frame_records.specs.Seek.{entry_of};
 ghost use Rattle.finder.specs.Targets.{id_at};
 
@@ -17,17 +17,21 @@ pub struct Graph<'a> {
 }
 
 impl Graph<'_> {
-    ghost use Rattle.finder.specs.Graph.{target};
+    ghost use Rattle.finder.specs.Graph.{Goes};
 
     // The node to which a way of a node leads.
     pub fn target(&self, node: u16, way: u8) -> Option<u16>
         requires is_node { node < self.now.table.count }
         requires is_way { way < 11 }
-        ensures value { result ≡ target self.now node way }
-        ensures within { IfSome result (λ to. to < self.now.table.count) }
+        ensures leads { IfSome result (Goes self.now node way) }
+        ensures lost { IfNone result ((g : ℕ) → Goes self.now node way g → ⊥) }
     {
-        let to = self.table.target(node, way).place()?;
-        Some(to)
+        let to = self.table.place(node, way);
+        if to < self.table.count {
+            Some(to)
+        } else {
+            None
+        }
     }
 
     // The id of a node's frame.

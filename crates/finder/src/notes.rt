@@ -1,12 +1,13 @@
 //! What seeking a frame comes to. Frames are noted by their ids, each near the slot that its id tells; one that finds no
 //! blank there is searched by halves. A look-up rests on each note being true, not on where it stands.
 
-ghost use Rattle.std.specs.Prelude.{◌≡◌, ◌<◌, IsTrue, IfSome, IfOk, length};
+ghost use Rattle.std.specs.Prelude.{◌≡◌, ◌<◌, None, Some, IsTrue, IfSome, IfOk, map, length};
 ghost use Rattle.frame_records.specs.BaseView.{IsBase};
 ghost use Rattle.frame_records.specs.Seek.{is_open};
 ghost use Rattle.frame_records.specs.Ways.{missing_by};
 ghost use Rattle.finder.specs.Notes.{target_at, IsOf, AreNotes, IsSought};
-ghost use Rattle.finder.specs.Targets.{told, IsTarget};
+ghost use Rattle.finder.specs.Survey.{aim_of};
+ghost use Rattle.finder.specs.Targets.{aim_at, place_of, IsTarget};
 
 use crate::target::Target;
 use frame_records::{Base, Frame, Groups};
@@ -104,7 +105,10 @@ fn add_note(notes: &mut Vec<Note>, frames: &[Frame], groups: &Groups, place: u16
 pub struct Notes<'a> {
     pub base: &'a Base,
     pub groups: &'a Groups,
+    // The id of each frame, close together.
+    pub ids: Vec<FrameId>,
     pub notes: Vec<Note>,
+    pub ghost named: { ids.items ≡ map (λ f. f.id) base.now.frames },
     pub ghost valid: { IsBase base.now },
     pub ghost noted: { AreNotes groups.now base.now.frames notes.items },
 }
@@ -119,25 +123,40 @@ impl<'a> Notes<'a> {
         let frames = base.frames();
         let slots = (frames.len() * 2).next_power_of_two();
         let mut notes = vec![in alloc; Note::BLANK; slots]?;
+        let mut ids = Vec::with_capacity(alloc, frames.len())?;
         for place in 0..frames.len() as u16 {
             add_note(&mut notes, frames, groups, place);
+            ids.push(frames[place as usize].id)?;
         }
         Ok(Notes {
             base,
             groups,
+            ids,
             notes,
         })
     }
 
-    // What the frame of an id comes to, where it is noted.
+    // What the frame of an id comes to, where it is noted in a slot.
+    #[inline(always)]
+    fn target_in(&self, slot: usize, id: &FrameId) -> Option<Target>
+        ensures { IfSome result (λ t. IsSought self.now.groups.now self.now.base.now.frames id.now (Some t)) }
+    {
+        let note = self.notes.get(slot)?;
+        if note.is_of(id) {
+            Some(note.target())
+        } else {
+            None
+        }
+    }
+
+    // What the frame of an id comes to, where it is noted near its slot.
     fn noted_target(&self, id: &FrameId) -> Option<Target>
         ensures { IfSome result (λ t. IsSought self.now.groups.now self.now.base.now.frames id.now (Some t)) }
     {
         let first = slot_of(id, self.notes.len());
         for slot in first..first.saturating_add(TRIES) {
-            let note = self.notes.get(slot)?;
-            if note.is_of(id) {
-                return Some(note.target());
+            if let Some(target) = self.target_in(slot, id) {
+                return Some(target);
             }
         }
         None
@@ -155,8 +174,10 @@ impl<'a> Notes<'a> {
         }
     }
 
-    // What the frame of an id comes to; `None` where the base lacks it.
-    pub fn target_by_id(&self, id: &FrameId) -> Option<Target>
+    // What the frame of an id comes to that isn't noted in its own slot.
+    #[cold]
+    #[inline(never)]
+    fn further_target(&self, id: &FrameId) -> Option<Target>
         ensures { IsSought self.now.groups.now self.now.base.now.frames id.now result }
     {
         match self.noted_target(id) {
@@ -165,9 +186,21 @@ impl<'a> Notes<'a> {
         }
     }
 
+    // What the frame of an id comes to; `None` where the base lacks it.
+    #[inline(always)]
+    pub fn target_by_id(&self, id: &FrameId) -> Option<Target>
+        ensures { IsSought self.now.groups.now self.now.base.now.frames id.now result }
+    {
+        match self.target_in(slot_of(id, self.notes.len()), id) {
+            Some(target) => Some(target),
+            None => self.further_target(id),
+        }
+    }
+
     // A frame that a way seeks and the base lacks.
     fn missing(&self, way: &Way, id: &FrameId) -> Target
-        ensures { told self.now.base.now.frames (Some id.now) result ≡ Some (missing_by self.now.base.now way.now id.now) }
+        ensures aim { aim_at result ≡ aim_of (missing_by self.now.base.now way.now id.now) }
+        ensures nowhere { place_of result ≡ None }
     {
         match way {
             Way::Route(_) if self.base.is_outside(id.page) => Target::Outside,

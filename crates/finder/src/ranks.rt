@@ -1,4 +1,4 @@
-ghost use Rattle.std.specs.Prelude.{◌≡◌, ◌<◌, ◌≤◌, ◌+◌, ◌*◌, ℕ, Some, None, is_some, OnOk, IfOk, slice_get, length, get_or};
+ghost use Rattle.std.specs.Prelude.{◌≡◌, ◌<◌, ◌≤◌, ◌+◌, ◌*◌, ◌⊎◌, ℕ, Some, None, is_some, OnOk, IfOk, IfSome, IfNone, slice_get, length, get_or};
 ghost use Rattle.finder.specs.Graph.{IsNodeRank};
 ghost use Rattle.finder.specs.Search.{HasRank, IsSearch};
 ghost use Rattle.finder.specs.Turned.{AreTurned, LeadsTo};
@@ -30,10 +30,14 @@ impl Search {
         self.ranks[node as usize].is_some()
     }
 
-    // The node at an index of the queue.
-    fn waiting(&self, index: u16) -> Option<Ranked>
-        ensures { result ≡ slice_get self.now.queue.items index }
+    // The node at an index of the queue, where there is one and not every node has a rank.
+    fn waiting(&self, graph: &Graph<'_>, index: u16) -> Option<Ranked>
+        ensures some { IfSome result (λ to. slice_get self.now.queue.items index ≡ Some to) }
+        ensures none { IfNone result ((length self.now.queue.items ≤ index) ⊎ (graph.now.table.count ≤ length self.now.queue.items)) }
     {
+        if self.queue.len() >= graph.table.count as usize {
+            return None;
+        }
         self.queue.get(index as usize).copied()
     }
 
@@ -113,7 +117,7 @@ pub fn ranks_of(alloc: Global, graph: &Graph<'_>) -> Result<Vec<Option<u16>>, Al
     let turned = Turned::of(alloc, graph)?;
     let mut search = Search::new(alloc, graph)?;
     for done in 0..graph.table.count {
-        let Some(to) = search.waiting(done) else {
+        let Some(to) = search.waiting(graph, done) else {
             return Ok(search.ranks);
         };
         search.mark_all(graph, &turned, done, to)?;

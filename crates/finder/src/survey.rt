@@ -10,13 +10,13 @@ ghost use Rattle.finder.specs.Survey.{aim_of};
 ghost use Rattle.finder.specs.Walks.{EntryIsFound};
 
 use crate::aim::Aim;
-use crate::discover::{Order, discover};
+use crate::discover::{Discovery, discover};
 use crate::found::Found;
 use crate::graph::Graph;
 use crate::notes::Notes;
 use crate::table::Table;
 use frame_records::{Base, Frame, Groups};
-use indexmap::IndexMap;
+use indexmap::IndexSet;
 use page_ids::Way;
 use std::alloc::{AllocError, Global};
 use std::marker::Model;
@@ -26,21 +26,19 @@ use std::marker::Model;
 #[derive(Drop)]
 pub struct Survey<'a> {
     table: Table<'a>,
-    order: Order,
+    order: IndexSet<u16>,
     found: Found,
 }
 
 impl<'a> Model for Survey<'a> {
-    ghost use Rattle.std.specs.Prelude.{◌≡◌, map};
     ghost use Rattle.finder.specs.Discovery.{AreNamed};
-    ghost use Rattle.finder.specs.Entries.{discovered_of};
     ghost use Rattle.finder.specs.Survey.{SurveyView};
 
     ghost Value = { SurveyView };
 
     ghost view = { λ s. record { base = s.table.base.now; groups = s.table.groups.now; found = s.found } };
 
-    ghost invariant = { λ s. (s.found ≡ map discovered_of s.order.entries) × AreNamed s.table.base.now.frames s.order.entries };
+    ghost invariant = { λ s. AreNamed s.table.base.now.frames s.order.keys s.found };
 }
 
 // The place of the entry frame, where it is found.
@@ -73,7 +71,7 @@ impl<'a> Survey<'a> {
     {
         Survey {
             table,
-            order: IndexMap::new(alloc),
+            order: IndexSet::new(alloc),
             found: Found::empty(alloc),
         }
     }
@@ -85,8 +83,7 @@ impl<'a> Survey<'a> {
         ensures groups { IfOk result (λ s. s.groups ≡ graph.entry.table.groups.now) }
         ensures found { IfOk result (λ s. IsFinding graph.entry.table.groups.now graph.entry.table.base.now s.found) }
     {
-        let order = discover(alloc, &graph)?;
-        let found = Found::of(alloc, &order)?;
+        let Discovery { order, found, .. } = discover(alloc, &graph)?;
         let Graph { table, .. } = graph;
         Ok(Survey {
             table,
@@ -103,11 +100,11 @@ impl<'a> Survey<'a> {
         ensures found { IfOk result (λ s. IsFinding groups.now base.now s.found) }
     {
         let notes = Notes::of(alloc, base, groups)?;
-        let table = Table::of(alloc, &notes)?;
-        let Some(entry) = entry_place(&notes) else {
+        let entry = entry_place(&notes);
+        let table = Table::of(alloc, notes)?;
+        let Some(entry) = entry else {
             return Ok(Survey::empty(alloc, table));
         };
-        drop(notes);
         Survey::of_graph(alloc, Graph { table, entry })
     }
 
@@ -130,7 +127,7 @@ impl<'a> Survey<'a> {
         requires { index < length self.now.found }
         ensures { (d : Discovered) → slice_get self.now.found index ≡ Some d → frame_at self.now.base d.id ≡ Some result.now }
     {
-        &self.table.base.frames()[self.order[index].node as usize]
+        &self.table.base.frames()[self.order[index] as usize]
     }
 
     /// What a way of the discovered frame at an index of the list came to. Nothing is sought.
@@ -138,9 +135,7 @@ impl<'a> Survey<'a> {
         requires { index < length self.now.found }
         ensures { (d : Discovered) → slice_get self.now.found index ≡ Some d → result ≡ aim_of (destination self.now.groups self.now.base d.id way.now) }
     {
-        self.table
-            .target(self.order[index].node, place_of(way))
-            .aim()
+        self.table.aim(self.order[index], place_of(way))
     }
 }
 

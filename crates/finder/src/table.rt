@@ -1,15 +1,58 @@
 //! What each way of each frame of a base comes to. Each is looked up once.
 
-ghost use Rattle.std.specs.Prelude.{◌≡◌, ◌<◌, ◌+◌, ◌*◌, OnOk, IfOk, map, length, get_or};
+ghost use Rattle.std.specs.Prelude.{◌≡◌, ◌<◌, ◌≤◌, ◌+◌, ◌*◌, OnOk, IfOk, map, length, get_or};
 ghost use Rattle.frame_records.specs.BaseView.{IsBase};
-ghost use Rattle.finder.specs.Targets.{AreTargets};
-ghost use Rattle.finder.specs.declared.target.Target.TheVariants.{NotOffered};
+ghost use Rattle.finder.specs.Targets.{AreTargets, IsAdded};
+ghost use Rattle.finder.specs.declared.aim.Aim.TheVariants.{NotOffered, Found};
 
+use crate::aim::Aim;
 use crate::notes::Notes;
 use crate::target::Target;
-use frame_records::{Base, Frame, Groups};
+use frame_records::{Base, Groups};
 use page_ids::{FrameId, Way};
 use std::alloc::{AllocError, Global};
+
+// What ways come to: of each the place of the frame that it finds, and what it came to where it finds none.
+#[derive(Drop)]
+pub struct Targets {
+    pub places: Vec<u16>,
+    pub aims: Vec<Aim>,
+}
+
+// No frame stands here, since a base has at most so many.
+const NOWHERE: u16 = u16::MAX;
+
+impl Targets {
+    // Adds what the next way comes to.
+    fn add(&mut self, target: Target) -> Result<(), AllocError>
+        requires { length self.old.places.items < length self.old.aims.items }
+        ensures { OnOk result (IsAdded self.old self.new target) }
+    {
+        match target.place() {
+            Some(place) => self.places.push(place)?,
+            None => {
+                let way = self.places.len();
+                self.aims[way] = target.aim();
+                self.places.push(NOWHERE)?;
+            }
+        }
+        Ok(())
+    }
+
+    // Adds what each way of the frame at a place comes to.
+    fn add_frame(&mut self, notes: &Notes<'_>, place: u16) -> Result<(), AllocError>
+        requires few { length notes.now.base.now.frames ≤ 65535 }
+        requires inside { place < length notes.now.base.now.frames }
+        requires targets { AreTargets notes.now.groups.now notes.now.base.now (place * 11) self.old }
+        ensures { OnOk result (AreTargets notes.now.groups.now notes.now.base.now ((place + 1) * 11) self.new) }
+    {
+        let frame = &notes.base.frames()[place as usize];
+        for way in 0..11u8 {
+            self.add(notes.target_of(frame, Way::at(way)))?;
+        }
+        Ok(())
+    }
+}
 
 /// What each way of each frame of a base comes to for a caller of the groups: eleven a frame, in the order of the
 /// frames.
@@ -20,65 +63,62 @@ pub struct Table<'a> {
     pub count: u16,
     // The id of each frame, close together.
     pub ids: Vec<FrameId>,
-    pub targets: Vec<Target>,
+    pub targets: Targets,
     pub ghost nodes: { count ≡ length base.now.frames },
     pub ghost named: { ids.items ≡ map (λ f. f.id) base.now.frames },
     pub ghost valid: { IsBase base.now },
-    pub ghost whole: { AreTargets groups.now base.now (count * 11) targets.items },
-}
-
-// The ids of frames.
-fn ids_of(alloc: Global, frames: &[Frame]) -> Result<Vec<FrameId>, AllocError>
-    ensures { IfOk result (λ ids. ids.items ≡ map (λ f. f.id) frames.now) }
-{
-    let mut ids = Vec::with_capacity(alloc, frames.len())?;
-    for frame in frames {
-        ids.push(frame.id)?;
-    }
-    Ok(ids)
-}
-
-// Adds what each way of the frame at a place comes to.
-fn add_targets(targets: &mut Vec<Target>, notes: &Notes<'_>, place: u16) -> Result<(), AllocError>
-    requires inside { place < length notes.now.base.now.frames }
-    requires targets { AreTargets notes.now.groups.now notes.now.base.now (place * 11) targets.old.items }
-    ensures { OnOk result (AreTargets notes.now.groups.now notes.now.base.now ((place + 1) * 11) targets.new.items) }
-{
-    let frame = &notes.base.frames()[place as usize];
-    for way in 0..11u8 {
-        targets.push(notes.target_of(frame, Way::at(way)))?;
-    }
-    Ok(())
+    pub ghost whole: { AreTargets groups.now base.now (count * 11) targets },
 }
 
 impl<'a> Table<'a> {
     // The table of a base.
-    pub fn of(alloc: Global, notes: &Notes<'a>) -> Result<Table<'a>, AllocError>
-        ensures base { IfOk result (λ t. t.base.now ≡ notes.now.base.now) }
-        ensures groups { IfOk result (λ t. t.groups.now ≡ notes.now.groups.now) }
+    pub fn of(alloc: Global, notes: Notes<'a>) -> Result<Table<'a>, AllocError>
+        ensures base { IfOk result (λ t. t.base.now ≡ notes.entry.base.now) }
+        ensures groups { IfOk result (λ t. t.groups.now ≡ notes.entry.groups.now) }
     {
-        let base = notes.base;
-        let count = base.frames().len() as u16;
-        let ids = ids_of(alloc, base.frames())?;
-        let mut targets = Vec::with_capacity(alloc, count as usize * 11)?;
+        let count = notes.base.frames().len() as u16;
+        let mut targets = Targets {
+            places: Vec::with_capacity(alloc, count as usize * 11)?,
+            aims: vec![in alloc; Aim::NotOffered; count as usize * 11]?,
+        };
         for place in 0..count {
-            add_targets(&mut targets, notes, place)?;
+            targets.add_frame(&notes, place)?;
         }
+        let Notes {
+            base,
+            groups,
+            ids,
+            ..
+        } = notes;
         Ok(Table {
             base,
-            groups: notes.groups,
+            groups,
             count,
             ids,
             targets,
         })
     }
 
-    // What a way of the frame at a place comes to.
-    pub fn target(&self, place: u16, way: u8) -> Target
+    // The place of the frame that a way of the frame at a place finds; no frame's place where it finds none.
+    pub fn place(&self, place: u16, way: u8) -> u16
         requires is_place { place < self.now.count }
         requires is_way { way < 11 }
-        ensures { result ≡ get_or self.now.targets.items (place * 11 + way) NotOffered }
+        ensures { result ≡ get_or self.now.targets.places.items (place * 11 + way) 0 }
     {
-        self.targets[place as usize * 11 + way as usize]
+        self.targets.places[place as usize * 11 + way as usize]
+    }
+
+    // What a way of the frame at a place comes to.
+    pub fn aim(&self, place: u16, way: u8) -> Aim
+        requires is_place { place < self.now.count }
+        requires is_way { way < 11 }
+        ensures found { get_or self.now.targets.places.items (place * 11 + way) 0 < self.now.count → result ≡ Found }
+        ensures lost { self.now.count ≤ get_or self.now.targets.places.items (place * 11 + way) 0 → result ≡ get_or self.now.targets.aims.items (place * 11 + way) NotOffered }
+    {
+        if self.place(place, way) < self.count {
+            Aim::Found
+        } else {
+            self.targets.aims[place as usize * 11 + way as usize]
+        }
     }
 }

@@ -1,5 +1,6 @@
-ghost use Rattle.std.specs.Prelude.{◌≡◌, ◌<◌, ◌+◌, ◌*◌, OnOk, IfOk, length};
+ghost use Rattle.std.specs.Prelude.{◌≡◌, ◌<◌, ◌+◌, ◌-◌, ◌*◌, IsTrue, OnOk, IfOk, length};
 ghost use Rattle.smallvec.specs.SmallVec.{SmallVec};
+ghost use Rattle.finder.specs.Graph.{Goes};
 ghost use Rattle.finder.specs.Turned.{AreTurned, IsSourceList};
 
 use crate::graph::Graph;
@@ -15,6 +16,21 @@ pub struct Turned {
     pub sources: Vec<Sources>,
 }
 
+// Whether the way before leads to the same node.
+fn repeats(graph: &Graph<'_>, node: u16, way: u8, to: u16) -> bool
+    requires is_node { node < graph.now.table.count }
+    requires is_way { way < 11 }
+    ensures { IsTrue result → (0 < way) × Goes graph.now node (way - 1) to }
+{
+    if way == 0 {
+        return false;
+    }
+    match graph.target(node, way - 1) {
+        Some(before) => before == to,
+        None => false,
+    }
+}
+
 impl Turned {
     // Turns one more way round.
     fn add(&mut self, graph: &Graph<'_>, node: u16, way: u8) -> Result<(), AllocError>
@@ -26,6 +42,9 @@ impl Turned {
         let Some(to) = graph.target(node, way) else {
             return Ok(());
         };
+        if repeats(graph, node, way, to) {
+            return Ok(());
+        }
         self.sources[to as usize].push(node)?;
         Ok(())
     }

@@ -3,4 +3,4 @@ use Rattle.finder.specs.Discovery.{IsListed}
 use Rattle.finder.proofs.discover.discover.Given as goal
 
 abbrev pub invariant-loop-index : goal.invariant-loop-index
-invariant-loop-index l = IsListed l.graph (l.index * 11) l.discovery.order.entries l.discovery.listed.items
+invariant-loop-index l = IsListed l.graph (l.index * 11) l.discovery

@@ -1,9 +1,9 @@
-use Rattle.finder.proofs.Words.{values_of, IsListed}
+use Rattle.finder.proofs.Words.{IsListed}
 use Rattle.std.proofs.Common.{◌≡◌, ◌+◌, ◌*◌, Some, slice_get}
 use Rattle.finder.proofs.discover.Discovery.try_ways.Given as goal
 
 abbrev pub invariant-loop-way : goal.invariant-loop-way
 invariant-loop-way l = record {
-  stands : slice_get (values_of l.self.order.entries) l.index ≡ Some l.from;
-  listed : IsListed l.graph (l.index * 11 + l.way) l.self.order.entries l.self.listed.items;
+  stands : slice_get l.self.order.keys l.index ≡ Some l.from;
+  listed : IsListed l.graph (l.index * 11 + l.way) l.self;
 }

@@ -1,6 +1,0 @@
-use Rattle.std.proofs.Common.{◌+◌, ◌*◌}
-use Rattle.finder.specs.Targets.{AreTargets}
-use Rattle.finder.proofs.table.add_targets.Given as goal
-
-abbrev pub invariant-loop-way : goal.invariant-loop-way
-invariant-loop-way l = AreTargets l.notes.groups.now l.notes.base.now (l.place * 11 + l.way) l.targets.items
