@@ -40,7 +40,8 @@ fn judged(alloc: Global, base: &Base, policy: &Policy) -> Result<Judge, AllocErr
 {
     keeps_limits(base);
     let survey = Survey::of(alloc, base, &policy.groups)?;
-    judge_all(alloc, &survey, policy)
+    let judge = judge_all(alloc, &survey, policy)?;
+    Ok(judge)
 }
 
 /// Every fault of a base, for a caller of just the policy's groups: in the order of the discovery of the frames, and of
