@@ -1,9 +1,13 @@
 //! The check of a certificate against a base.
 //!
-//! [`check`] reads each row of a certificate once. It runs no key and paints no cell; yet where it answers
-//! [`Verdict::Cleared`], no list of keys whatever leads a caller of the policy's groups to a missing or closed frame, to a
-//! price above the certificate's ceiling, to a frame that paints over the service rows, or to a place from which the entry
-//! page can't be regained within the certificate's keyings. Who made the certificate doesn't matter.
+//! [`check`] reads each row of a certificate once. It runs no key and paints no cell. Yet where it answers
+//! [`Verdict::Cleared`], this holds of a caller of the policy's groups after every list of keys:
+//!
+//! - no frame that was sought was missing or closed;
+//! - each frame shown costs at most the certificate's ceiling, and doesn't paint over the service rows;
+//! - unless the caller left the base, the entry page can be regained within the certificate's keyings.
+//!
+//! Who made the certificate doesn't matter.
 //!
 //! ```
 //! let policy = Policy { ceiling, keyings: 3, groups: Groups::none() };

@@ -2,6 +2,11 @@
 //!
 //! Page 123 is the entry page. It leads by `1` to frame 1231a, which is followed by 1231b; both lead back by `0`. `0` on the
 //! entry page leaves for page 0.
+//!
+//! ```
+//! check_bytes(alloc, DEMO.as_bytes(), CERT.as_bytes(), &policy) // Cleared, by a policy of 5 pence, 1 keying and no groups
+//! let dearer = DEMO.replacen(alloc, "price = 5", "price = 6", 1)?; // the same base but for a price: now K7 at 1231a
+//! ```
 #![tactic(auto)]
 
 /// The base's text.
