@@ -52,7 +52,7 @@ fn key(origin: Option<(u16, u8)>) -> Option<Key>
 
 impl Found {
     // No frame.
-    pub fn empty(alloc: Global) -> Found
+    pub(crate) fn empty(alloc: Global) -> Found
         ensures { result ≡ [] }
     {
         Found {

@@ -55,7 +55,7 @@ pub fn keys_read(alloc: Global, text: &str) -> Result<KeyList, IdFault>
     Ok(KeyList::of(keys))
 }
 
-/// Writes a key's word behind a text.
+/// Writes a key's word behind a text. Where a growth is refused nothing was written.
 pub fn push_key(text: &mut Vec<u8>, key: Key) -> Result<(), AllocError>
     ensures { OnOk result (text.new.items ≡ text.old.items ++ key_word key) }
 {
@@ -69,7 +69,8 @@ pub fn push_key(text: &mut Vec<u8>, key: Key) -> Result<(), AllocError>
     Ok(())
 }
 
-/// Writes the words of the keys behind a text, one behind the other.
+/// Writes the words of the keys behind a text, one behind the other. Where a growth is refused, some of the first words may
+/// have been written.
 pub fn push_keys(text: &mut Vec<u8>, keys: &[Key]) -> Result<(), AllocError>
     ensures { OnOk result (text.new.items ≡ text.old.items ++ keys_text keys.now) }
 {

@@ -1,8 +1,8 @@
 //! The four runs: from files to what is printed of them.
 //!
 //! Each run reads its files in the order of its arguments, decides, and writes one text, or answers why not and writes
-//! nothing. They are proved over any reader and writer that tells its bytes, fake ones included; the program, which opens
-//! files and reads the words of the command line, is the crate `command_line`.
+//! nothing. They take any reader and writer; what is said of bytes speaks of those that tell theirs, as slices and lists of
+//! bytes do. The program, which opens files and reads the words of the command line, is the crate `command_line`.
 //!
 //! ```
 //! let mut base = FromRead::new(base_file);
