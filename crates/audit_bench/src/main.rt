@@ -9,7 +9,7 @@
 use anyhow::{Result, bail};
 use audit_report::report;
 use base_text::base_read;
-use bench_tools::{SHAPES, Shape, Size, forget_peak, peak_memory, percent, tree_time};
+use bench_tools::{Shape, Size, forget_peak, peak_memory, percent, tree_time};
 use checker::Policy;
 use fault_scripts::{Outcome, audit};
 use frame_records::{Base, Body, Frame, Groups, Lead, Pence};
@@ -18,6 +18,9 @@ use std::alloc::Global;
 use std::time::{CpuClock, Duration};
 
 const RUNS: u32 = 5;
+
+// The shapes in the order of the memory that they take: what one leaves with the allocator hides nothing of the next.
+const BY_MEMORY: [Shape; 4] = [Shape::Bodies, Shape::Tree, Shape::Scattered, Shape::Chain];
 
 const FIRST_PAGE: u32 = 100_000;
 
@@ -167,7 +170,7 @@ fn measure_faults(rt: &HostRuntime) -> Result<()> {
 
 fn main(rt: HostRuntime) -> Result<()> {
     let size = Size::asked(&rt)?;
-    for shape in SHAPES {
+    for shape in BY_MEMORY {
         measure(&rt, shape, size)?;
     }
     measure_faults(&rt)?;
