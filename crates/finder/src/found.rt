@@ -61,7 +61,7 @@ impl Found {
     }
 
     // No frame, with room for so many.
-    pub fn with_capacity(alloc: Global, most: usize) -> Result<Found, AllocError>
+    pub(crate) fn with_capacity(alloc: Global, most: usize) -> Result<Found, AllocError>
         ensures { IfOk result (λ found. found ≡ []) }
     {
         Ok(Found {
@@ -70,7 +70,7 @@ impl Found {
     }
 
     // Adds a frame, with the index of the frame from which it was discovered and the place of the way that led to it.
-    pub fn push(
+    pub(crate) fn push(
         &mut self,
         id: FrameId,
         rank: Option<u16>,
