@@ -31,6 +31,3 @@ pub use laws::{
 pub use painting::{Painted, paint};
 pub use plain::{plain_mask, plain_run};
 pub use start::{Start, start_at, start_for};
-
-#[cfg(test)]
-mod tests;

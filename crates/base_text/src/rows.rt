@@ -92,6 +92,3 @@ pub fn read_rows(alloc: Global, value: &Value) -> Result<Body, Cause>
         _ => Err(Cause::WrongKind(Field::Rows)),
     }
 }
-
-#[cfg(test)]
-mod tests;

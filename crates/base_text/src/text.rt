@@ -125,6 +125,3 @@ pub fn base_read(alloc: Global, text: &[u8]) -> Result<Base, BaseFault>
         Err(fault) => Err(top_fault(build_cause(fault))),
     }
 }
-
-#[cfg(test)]
-mod tests;

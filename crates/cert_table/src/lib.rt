@@ -28,6 +28,3 @@ pub use limits::{MOST_RANK, MOST_ROWS};
 pub use row::Row;
 pub use row_list::RowList;
 pub use row_table::RowTable;
-
-#[cfg(test)]
-mod tests;

@@ -30,6 +30,3 @@ pub use fault::{LineCause, ReadFault};
 pub use laws::{lines_are_judged, long_texts_are_decided, texts_are_certificates};
 pub use reader::{CertReader, cert_read};
 pub use writer::cert_write;
-
-#[cfg(test)]
-mod tests;

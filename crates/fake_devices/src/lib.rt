@@ -11,7 +11,7 @@
 //! - [`FakeSource`]: gives its bytes in pieces, then ends or fails. It is a reader of std too.
 //! - [`FakeSink`]: takes bytes in pieces until it is full, or fails at its flush. It is a writer of std too.
 //!
-//! The tests of the crate [`devices`] stand here.
+//! The tests of the crate [`devices`] try it with these: `device_tests`.
 #![tactic(auto)]
 
 mod sink;
@@ -19,6 +19,3 @@ mod source;
 
 pub use sink::FakeSink;
 pub use source::FakeSource;
-
-#[cfg(test)]
-mod tests;

@@ -40,6 +40,3 @@ pub use parts::cut;
 pub use probe::{Probe, search};
 pub use sorted::{Entry, find_by_halves};
 pub use ways::Destination;
-
-#[cfg(test)]
-mod tests;

@@ -59,6 +59,3 @@ pub fn search<P: Probe>(probe: &mut P) -> Option<usize>
     }
     None
 }
-
-#[cfg(test)]
-mod tests;

@@ -36,6 +36,3 @@ pub use limits::MOST_PAGE;
 pub use number::{NumberFault, number_read, numbers_are_texts, push_number};
 pub use page::PageNo;
 pub use way::Way;
-
-#[cfg(test)]
-mod tests;

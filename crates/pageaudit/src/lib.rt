@@ -34,6 +34,3 @@ pub use change_run::run_change;
 pub use check_run::run_check;
 pub use status::{Status, status_of};
 pub use walk_run::run_walk;
-
-#[cfg(test)]
-mod tests;

@@ -208,6 +208,3 @@ impl Session {
         }
     }
 }
-
-#[cfg(test)]
-mod tests;

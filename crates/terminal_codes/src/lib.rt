@@ -25,6 +25,3 @@ pub use laws::{caret_decides, cells_are_writes, starts_decide};
 pub use lead::lead_bytes;
 pub use table::{DOUBLE_HEIGHT, code_written, is_service_position};
 pub use terminal::Terminal;
-
-#[cfg(test)]
-mod tests;

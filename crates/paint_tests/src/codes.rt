@@ -1,0 +1,175 @@
+use assertions::{same, same_in};
+use frame_records::Lead;
+use terminal_codes::{
+    Caret, DOUBLE_HEIGHT, Terminal, code_written, is_service_position, lead_bytes,
+};
+
+fn after(bytes: &[u8]) -> Terminal {
+    let mut terminal = Terminal::new();
+    terminal.run(bytes);
+    terminal
+}
+
+// Bytes, then cells 0, 1 and 959, the position, the pending escape and the visible cursor after them.
+const RUNS: [(&[u8], [u8; 3], u16, bool, bool); 24] = [
+    (&[], [0x20, 0x20, 0x20], 0, false, true),
+    // attributes and letters
+    (&[0x1b, 0x41, 0x48], [0x81, 0x48, 0x20], 2, false, true),
+    (
+        &[0x1b, 0x1b, 0x30, 0x41],
+        [0x41, 0x20, 0x20],
+        1,
+        false,
+        true,
+    ),
+    (&[0x1b, 0x0d, 0x41], [0x41, 0x20, 0x20], 1, false, true),
+    (&[0x1b, 0xc1], [0x41, 0x20, 0x20], 1, false, true),
+    (&[0x1b, 0x5f, 0x40], [0x9f, 0x40, 0x20], 2, false, true),
+    (&[0x1b, 0x60, 0x3f], [0x3f, 0x20, 0x20], 1, false, true),
+    (&[0x1b, 0x7f, 0x7f], [0x7f, 0x20, 0x20], 1, false, true),
+    (&[0x80, 0x9f], [0x80, 0x9f, 0x20], 2, false, true),
+    (&[0xa0, 0xff], [0x20, 0x7f, 0x20], 2, false, true),
+    (&[0x1b], [0x20, 0x20, 0x20], 0, true, true),
+    (&[0x1b, 0x18], [0x20, 0x20, 0x20], 0, false, true),
+    (&[0x1b, 0x0f, 0x41], [0x41, 0x20, 0x20], 1, false, true),
+    // moves, round the screen's ends
+    (&[0x1e, 0x08, 0x41], [0x20, 0x20, 0x41], 0, false, true),
+    (&[0x08, 0x09], [0x20, 0x20, 0x20], 0, false, true),
+    (&[0x0b], [0x20, 0x20, 0x20], 920, false, true),
+    (&[0x0b, 0x0a], [0x20, 0x20, 0x20], 0, false, true),
+    (&[0x0b, 0x09, 0x0d], [0x20, 0x20, 0x20], 920, false, true),
+    (&[0x08, 0x0d], [0x20, 0x20, 0x20], 920, false, true),
+    (&[0x0a, 0x09, 0x1e], [0x20, 0x20, 0x20], 0, false, true),
+    // clear, and the cursor's visibility, which 0C keeps
+    (&[0x41, 0x42, 0x0c], [0x20, 0x20, 0x20], 0, false, true),
+    (&[0x14], [0x20, 0x20, 0x20], 0, false, false),
+    (&[0x14, 0x0c], [0x20, 0x20, 0x20], 0, false, false),
+    (&[0x14, 0x1b, 0x11], [0x20, 0x20, 0x20], 0, false, true),
+];
+
+#[test]
+fn writes_moves_and_shows_by_the_byte_table(rt: HostRuntime) {
+    for (bytes, cells, at, pending, visible) in RUNS {
+        let terminal = after(bytes);
+        let seen = terminal.cells();
+        let seen = [seen[0], seen[1], seen[959]];
+        same_in(&rt, bytes, seen, cells);
+        same_in(&rt, bytes, terminal.at(), at);
+        same_in(&rt, bytes, terminal.is_pending(), pending);
+        same_in(&rt, bytes, terminal.is_visible(), visible);
+    }
+}
+
+#[test]
+fn a_caret_goes_where_the_terminal_goes(rt: HostRuntime) {
+    for (bytes, _, at, pending, _) in RUNS {
+        let home = Caret {
+            at: 0,
+            pending: false,
+        };
+        same_in(&rt, bytes, home.run(bytes), Caret { at, pending });
+    }
+    let last = Caret {
+        at: 959,
+        pending: true,
+    };
+    let row_1 = Caret {
+        at: 40,
+        pending: false,
+    };
+    same(&rt, last.step(0x41).at, 0);
+    same(&rt, last.run(lead_bytes(Lead::Clear)), row_1);
+    same(&rt, last.run(lead_bytes(Lead::Keep)), last);
+}
+
+#[test]
+fn the_service_rows_are_the_first_and_the_last(rt: HostRuntime) {
+    for (at, service) in [
+        (0, true),
+        (39, true),
+        (40, false),
+        (919, false),
+        (920, true),
+        (959, true),
+    ] {
+        let caret = Caret { at, pending: false };
+        same_in(&rt, at, is_service_position(at, 0x41), service);
+        same_in(&rt, at, caret.touches(0x41), service);
+        same_in(&rt, at, caret.touches(0x1b), false);
+        same_in(&rt, at, caret.touches(0x0c), true);
+    }
+}
+
+// Of each position: whether double height, and whether another code, counts as written in a service row there.
+#[test]
+fn double_height_in_row_22_shows_in_a_service_row(rt: HostRuntime) {
+    for (at, double, other) in [
+        (39, true, true),
+        (40, false, false),
+        (879, false, false),
+        (880, true, false),
+        (919, true, false),
+        (920, true, true),
+    ] {
+        same_in(&rt, at, is_service_position(at, DOUBLE_HEIGHT), double);
+        for code in [0x41, 0x4d, 0x8c, 0x8e] {
+            same_in(&rt, (at, code), is_service_position(at, code), other);
+        }
+    }
+}
+
+// 8D stands for itself, 4D is the letter M where no escape is pending, CD is 4D.
+#[test]
+fn the_letter_m_is_no_double_height(rt: HostRuntime) {
+    for (at, double, other) in [
+        (39, true, true),
+        (40, false, false),
+        (879, false, false),
+        (880, true, false),
+        (919, true, false),
+        (920, true, true),
+    ] {
+        let caret = Caret { at, pending: false };
+        same_in(&rt, at, caret.touches(0x8d), double);
+        same_in(&rt, at, caret.touches(0x4d), other);
+        same_in(&rt, at, caret.touches(0xcd), other);
+    }
+}
+
+// After an escape 4D is 8D, 4C is another attribute, and 2D is dropped.
+#[test]
+fn an_escape_makes_double_height(rt: HostRuntime) {
+    for (at, double, other) in [
+        (39, true, true),
+        (40, false, false),
+        (879, false, false),
+        (880, true, false),
+        (919, true, false),
+        (920, true, true),
+    ] {
+        let caret = Caret { at, pending: true };
+        same_in(&rt, at, caret.touches(0x8d), double);
+        same_in(&rt, at, caret.touches(0x4d), double);
+        same_in(&rt, at, caret.touches(0x4c), other);
+        same_in(&rt, at, caret.touches(0x2d), false);
+    }
+}
+
+#[test]
+fn one_byte_has_one_code_and_one_move(rt: HostRuntime) {
+    same(&rt, code_written(false, 0x41), Some(0x41));
+    same(&rt, code_written(true, 0x41), Some(0x81));
+    same(&rt, code_written(true, 0x30), None);
+    same(&rt, code_written(false, 0x0c), None);
+    same(&rt, code_written(true, 0xc1), Some(0x41));
+    let moves = [
+        (41, 0x0b, 1),
+        (0, 0x08, 959),
+        (79, 0x0d, 40),
+        (79, 0x18, 79),
+    ];
+    for (at, byte, to) in moves {
+        let caret = Caret { at, pending: true };
+        same_in(&rt, (at, byte), caret.moved_by(byte), to);
+    }
+}

@@ -1,0 +1,9 @@
+//! Tests of `page_ids` and `frame_records`.
+#![tactic(auto)]
+
+#[cfg(test)]
+mod frames;
+#[cfg(test)]
+mod ids;
+#[cfg(test)]
+mod probes;

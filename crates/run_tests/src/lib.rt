@@ -1,0 +1,15 @@
+//! Tests of the runs of `pageaudit`. `tests/failing-devices` tries the same runs with devices that fail at each byte.
+#![tactic(auto)]
+
+#[cfg(test)]
+mod audit;
+#[cfg(test)]
+mod change;
+#[cfg(test)]
+mod check;
+#[cfg(test)]
+mod status;
+#[cfg(test)]
+mod told;
+#[cfg(test)]
+mod walk;

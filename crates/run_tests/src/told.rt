@@ -1,0 +1,60 @@
+//! What a run answered and wrote, beside what it should have.
+
+use assertions::same_in;
+use audit_report::RunFault;
+use checker::Policy;
+use fake_devices::FakeSink;
+use frame_records::{Groups, Pence};
+use pageaudit::Status;
+use std::process::Abort;
+use std::test::Fail;
+
+pub type Answer = Result<Status, RunFault>;
+
+// What a run answered, and the text that was taken of it.
+#[derive(Drop)]
+pub struct Told {
+    pub answer: Answer,
+    pub taken: Vec<u8>,
+}
+
+impl Told {
+    pub fn of(answer: Answer, out: FakeSink) -> Told {
+        Told {
+            answer,
+            taken: out.taken,
+        }
+    }
+}
+
+#[track_caller]
+pub fn expect(rt: &impl Abort, told: &Told, answer: Answer, text: &str) {
+    same_in(rt, text, told.answer, answer);
+    same_in(rt, text, told.taken.as_slice(), text.as_bytes());
+}
+
+// A report, after which the status is Faulty.
+#[track_caller]
+pub fn expect_faulty(rt: &impl Abort, told: &Told, text: &str) {
+    expect(rt, told, Ok(Status::Faulty), text);
+}
+
+// A fault, after which nothing is written.
+#[track_caller]
+pub fn expect_fault(rt: &impl Abort, told: &Told, fault: RunFault) {
+    expect(rt, told, Err(fault), "");
+}
+
+pub fn policy(ceiling: u16, keyings: u16) -> Result<Policy, Fail> {
+    let ceiling = Pence::new(ceiling).ok_or("ceiling")?;
+    Ok(Policy {
+        ceiling,
+        keyings,
+        groups: Groups::none(),
+    })
+}
+
+// The first bytes of a text.
+pub fn front(text: &str, count: usize) -> &str {
+    text.get(..count).unwrap_or(text)
+}
