@@ -2,29 +2,34 @@
 //! would be proved anew.
 //!
 //! ```
-//! same(&rt, Digit::new(10), None);
-//! same_in(&rt, text, PageNo::read(text), Err(IdFault::BadPage));
+//! same(Digit::new(10), None)?;
+//! same_in(text, PageNo::read(text), Err(IdFault::BadPage))?;
 //! ```
 //!
-//! A comparison that fails ends the test and names the line that called it.
+//! A comparison that fails is a [`Fail`] with both values; a test hands it up by `?`.
 #![tactic(auto)]
 
 use std::fmt::Debug;
-use std::process::Abort;
+use std::test::Fail;
 
-/// Ends the test, with both values, where they differ.
-#[track_caller]
-pub fn same<T: PartialEq + Debug + Drop>(rt: &impl Abort, got: T, wanted: T) {
-    assert_eq!(rt; got, wanted);
+/// Fails, with both values, where they differ.
+pub fn same<T: PartialEq + Debug + Drop>(got: T, wanted: T) -> Result<(), Fail> {
+    if got == wanted {
+        Ok(())
+    } else {
+        Err(Fail::new(format_args!("{got:?} in place of {wanted:?}")))
+    }
 }
 
-/// Ends the test, with both values and the row of the test at which it stands, where they differ.
-#[track_caller]
+/// Fails, with both values and the row of the test at which it stands, where they differ.
 pub fn same_in<T: PartialEq + Debug + Drop>(
-    rt: &impl Abort,
     row: impl Debug + Drop,
     got: T,
     wanted: T,
-) {
-    assert_eq!(rt; got, wanted, "{row:?}");
+) -> Result<(), Fail> {
+    if got == wanted {
+        Ok(())
+    } else {
+        Err(Fail::new(format_args!("{row:?}: {got:?} in place of {wanted:?}")))
+    }
 }

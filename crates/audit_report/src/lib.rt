@@ -27,6 +27,3 @@ pub use report_lines::report;
 pub use run_fault::RunFault;
 pub use verdict_line::{change_text, verdict_text};
 pub use walk_lines::{entry_text, walk_text};
-
-#[cfg(test)]
-mod tests;

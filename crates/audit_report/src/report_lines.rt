@@ -165,6 +165,3 @@ pub fn report(alloc: Global, outcome: &Outcome) -> Result<Vec<u8>, AllocError>
         Outcome::Faulty(faults) => fault_list_text(alloc, faults.as_slice()),
     }
 }
-
-#[cfg(test)]
-mod tests;

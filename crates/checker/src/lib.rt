@@ -47,6 +47,3 @@ pub use judge::{check, check_counted};
 pub use laws::{changes_are_safe, cleared_is_good, good_is_safe, refused_is_first, rows_are_clean};
 pub use policy::Policy;
 pub use verdict::{Cause, Verdict};
-
-#[cfg(test)]
-mod tests;

@@ -9,39 +9,42 @@ const TEXT: &[u8] = b"entry = 0\n";
 fn a_reader_of_std_is_read_whole(rt: HostRuntime) -> Result<(), Fail> {
     let mut source = FromRead::new(TEXT);
     let bytes = read_whole(rt.alloc(), &mut source, 100)?;
-    same(&rt, bytes.as_slice(), TEXT);
-    same(&rt, source.failed(), false);
+    same(bytes.as_slice(), TEXT)?;
+    same(source.failed(), false)?;
     Ok(())
 }
 
 // The reader would go on behind the call that fails.
 #[test]
-fn a_failed_read_is_kept_in_mind(rt: HostRuntime) {
+fn a_failed_read_is_kept_in_mind() -> Result<(), Fail> {
     let mut reader = FakeSource::broken(TEXT, 100, 0);
     let mut source = FromRead::new(&mut reader);
     let mut piece = [0; 4];
     for answer in [Err(Broken), Ok(4)] {
-        same(&rt, source.read(&mut piece), answer);
-        same_in(&rt, "for good", source.failed(), true);
+        same(source.read(&mut piece), answer)?;
+        same_in("for good", source.failed(), true)?;
     }
-    same_in(&rt, "read once more", reader.calls, 2);
+    same_in("read once more", reader.calls, 2)?;
+    Ok(())
 }
 
 #[test]
-fn a_reader_that_fails_is_broken(rt: HostRuntime) {
+fn a_reader_that_fails_is_broken(rt: HostRuntime) -> Result<(), Fail> {
     let mut reader = FakeSource::broken(TEXT, 4, 8);
     let fault = read_whole(rt.alloc(), &mut FromRead::new(&mut reader), 100).err();
-    same(&rt, fault, Some(SourceFault::Broken));
-    same_in(&rt, "read once more", reader.calls, 3);
+    same(fault, Some(SourceFault::Broken))?;
+    same_in("read once more", reader.calls, 3)?;
+    Ok(())
 }
 
 // The reader would give more behind its end.
 #[test]
-fn the_end_of_a_reader_is_taken_for_it(rt: HostRuntime) {
+fn the_end_of_a_reader_is_taken_for_it() -> Result<(), Fail> {
     let mut reader = FakeSource::with_more(b"", 4, b"more");
     let mut source = FromRead::new(&mut reader);
     let mut piece = [0; 4];
-    same(&rt, source.read(&mut piece), Ok(0));
-    same(&rt, source.failed(), false);
-    same_in(&rt, "read once more", reader.calls, 1);
+    same(source.read(&mut piece), Ok(0))?;
+    same(source.failed(), false)?;
+    same_in("read once more", reader.calls, 1)?;
+    Ok(())
 }

@@ -1,6 +1,7 @@
 use assertions::{same, same_in};
 use devices::{Sink, WriteFault, write_whole};
 use fake_devices::FakeSink;
+use std::test::Fail;
 
 const TEXT: &[u8] = b"CLEARED\n";
 
@@ -8,27 +9,29 @@ const TEXT: &[u8] = b"CLEARED\n";
 const STEPS: [(usize, u32); 5] = [(1, 8), (3, 3), (7, 2), (8, 1), (100, 1)];
 
 #[test]
-fn all_is_taken_and_flushed_however_little_a_call_takes(rt: HostRuntime) {
+fn all_is_taken_and_flushed_however_little_a_call_takes(rt: HostRuntime) -> Result<(), Fail> {
     for (step, calls) in STEPS {
         let mut sink = FakeSink::of(rt.alloc(), step);
-        same_in(&rt, step, write_whole(&mut sink, TEXT), Ok(()));
-        same_in(&rt, step, sink.taken.as_slice(), TEXT);
-        same_in(&rt, step, (sink.writes, sink.flushes), (calls, 1));
-        same_in(&rt, "flushed behind the bytes", sink.flushed, 8);
-        same_in(&rt, step, sink.failed(), false);
+        same_in(step, write_whole(&mut sink, TEXT), Ok(()))?;
+        same_in(step, sink.taken.as_slice(), TEXT)?;
+        same_in(step, (sink.writes, sink.flushes), (calls, 1))?;
+        same_in("flushed behind the bytes", sink.flushed, 8)?;
+        same_in(step, sink.failed(), false)?;
     }
+    Ok(())
 }
 
 #[test]
-fn a_text_without_bytes_is_flushed_alone(rt: HostRuntime) {
+fn a_text_without_bytes_is_flushed_alone(rt: HostRuntime) -> Result<(), Fail> {
     let mut sink = FakeSink::of(rt.alloc(), 1);
-    same(&rt, write_whole(&mut sink, b""), Ok(()));
-    same(&rt, (sink.writes, sink.flushes), (0, 1));
+    same(write_whole(&mut sink, b""), Ok(()))?;
+    same((sink.writes, sink.flushes), (0, 1))?;
+    Ok(())
 }
 
 // The sink would go on behind the call that fails.
 #[test]
-fn a_failed_write_ends_it_with_the_bytes_that_were_taken(rt: HostRuntime) {
+fn a_failed_write_ends_it_with_the_bytes_that_were_taken(rt: HostRuntime) -> Result<(), Fail> {
     for (step, calls) in STEPS {
         for call in 1..=calls {
             let wrote = (call as usize - 1).wrapping_mul(step);
@@ -36,34 +39,26 @@ fn a_failed_write_ends_it_with_the_bytes_that_were_taken(rt: HostRuntime) {
             let fault = WriteFault {
                 wrote: wrote as u64,
             };
-            same_in(&rt, (call, step), write_whole(&mut sink, TEXT), Err(fault));
-            same_in(
-                &rt,
-                (call, step),
-                Some(sink.taken.as_slice()),
-                TEXT.get(..wrote),
-            );
-            same_in(
-                &rt,
-                "written once more",
-                (sink.writes, sink.flushes),
-                (call, 0),
-            );
-            same_in(&rt, (call, step), sink.failed(), true);
+            same_in((call, step), write_whole(&mut sink, TEXT), Err(fault))?;
+            same_in((call, step), Some(sink.taken.as_slice()), TEXT.get(..wrote))?;
+            same_in("written once more", (sink.writes, sink.flushes), (call, 0))?;
+            same_in((call, step), sink.failed(), true)?;
         }
     }
+    Ok(())
 }
 
 #[test]
-fn a_failed_flush_comes_after_all_the_bytes(rt: HostRuntime) {
+fn a_failed_flush_comes_after_all_the_bytes(rt: HostRuntime) -> Result<(), Fail> {
     for text in [TEXT, b""] {
         let mut sink = FakeSink::unflushed(rt.alloc(), 3);
         let fault = WriteFault {
             wrote: text.len() as u64,
         };
-        same(&rt, write_whole(&mut sink, text), Err(fault));
-        same(&rt, sink.taken.as_slice(), text);
-        same_in(&rt, "flushed once more", sink.flushes, 1);
-        same(&rt, sink.failed(), true);
+        same(write_whole(&mut sink, text), Err(fault))?;
+        same(sink.taken.as_slice(), text)?;
+        same_in("flushed once more", sink.flushes, 1)?;
+        same(sink.failed(), true)?;
     }
+    Ok(())
 }

@@ -30,6 +30,3 @@ pub use fault::{Fault, FaultKind, FaultList};
 pub use laws::{faults_are_due, faults_are_shown, none_is_safe};
 pub use outcome::Outcome;
 pub use replaying::{Replayed, replay};
-
-#[cfg(test)]
-mod tests;

@@ -154,6 +154,3 @@ pub fn find(alloc: Global, base: &Base, groups: &Groups) -> Result<Found, AllocE
     let survey = Survey::of(alloc, base, groups)?;
     Ok(survey.into_found())
 }
-
-#[cfg(test)]
-mod tests;

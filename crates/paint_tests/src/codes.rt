@@ -1,5 +1,6 @@
 use assertions::{same, same_in};
 use frame_records::Lead;
+use std::test::Fail;
 use terminal_codes::{
     Caret, DOUBLE_HEIGHT, Terminal, code_written, is_service_position, lead_bytes,
 };
@@ -48,26 +49,27 @@ const RUNS: [(&[u8], [u8; 3], u16, bool, bool); 24] = [
 ];
 
 #[test]
-fn writes_moves_and_shows_by_the_byte_table(rt: HostRuntime) {
+fn writes_moves_and_shows_by_the_byte_table() -> Result<(), Fail> {
     for (bytes, cells, at, pending, visible) in RUNS {
         let terminal = after(bytes);
         let seen = terminal.cells();
         let seen = [seen[0], seen[1], seen[959]];
-        same_in(&rt, bytes, seen, cells);
-        same_in(&rt, bytes, terminal.at(), at);
-        same_in(&rt, bytes, terminal.is_pending(), pending);
-        same_in(&rt, bytes, terminal.is_visible(), visible);
+        same_in(bytes, seen, cells)?;
+        same_in(bytes, terminal.at(), at)?;
+        same_in(bytes, terminal.is_pending(), pending)?;
+        same_in(bytes, terminal.is_visible(), visible)?;
     }
+    Ok(())
 }
 
 #[test]
-fn a_caret_goes_where_the_terminal_goes(rt: HostRuntime) {
+fn a_caret_goes_where_the_terminal_goes() -> Result<(), Fail> {
     for (bytes, _, at, pending, _) in RUNS {
         let home = Caret {
             at: 0,
             pending: false,
         };
-        same_in(&rt, bytes, home.run(bytes), Caret { at, pending });
+        same_in(bytes, home.run(bytes), Caret { at, pending })?;
     }
     let last = Caret {
         at: 959,
@@ -77,13 +79,14 @@ fn a_caret_goes_where_the_terminal_goes(rt: HostRuntime) {
         at: 40,
         pending: false,
     };
-    same(&rt, last.step(0x41).at, 0);
-    same(&rt, last.run(lead_bytes(Lead::Clear)), row_1);
-    same(&rt, last.run(lead_bytes(Lead::Keep)), last);
+    same(last.step(0x41).at, 0)?;
+    same(last.run(lead_bytes(Lead::Clear)), row_1)?;
+    same(last.run(lead_bytes(Lead::Keep)), last)?;
+    Ok(())
 }
 
 #[test]
-fn the_service_rows_are_the_first_and_the_last(rt: HostRuntime) {
+fn the_service_rows_are_the_first_and_the_last() -> Result<(), Fail> {
     for (at, service) in [
         (0, true),
         (39, true),
@@ -93,16 +96,17 @@ fn the_service_rows_are_the_first_and_the_last(rt: HostRuntime) {
         (959, true),
     ] {
         let caret = Caret { at, pending: false };
-        same_in(&rt, at, is_service_position(at, 0x41), service);
-        same_in(&rt, at, caret.touches(0x41), service);
-        same_in(&rt, at, caret.touches(0x1b), false);
-        same_in(&rt, at, caret.touches(0x0c), true);
+        same_in(at, is_service_position(at, 0x41), service)?;
+        same_in(at, caret.touches(0x41), service)?;
+        same_in(at, caret.touches(0x1b), false)?;
+        same_in(at, caret.touches(0x0c), true)?;
     }
+    Ok(())
 }
 
 // Of each position: whether double height, and whether another code, counts as written in a service row there.
 #[test]
-fn double_height_in_row_22_shows_in_a_service_row(rt: HostRuntime) {
+fn double_height_in_row_22_shows_in_a_service_row() -> Result<(), Fail> {
     for (at, double, other) in [
         (39, true, true),
         (40, false, false),
@@ -111,16 +115,17 @@ fn double_height_in_row_22_shows_in_a_service_row(rt: HostRuntime) {
         (919, true, false),
         (920, true, true),
     ] {
-        same_in(&rt, at, is_service_position(at, DOUBLE_HEIGHT), double);
+        same_in(at, is_service_position(at, DOUBLE_HEIGHT), double)?;
         for code in [0x41, 0x4d, 0x8c, 0x8e] {
-            same_in(&rt, (at, code), is_service_position(at, code), other);
+            same_in((at, code), is_service_position(at, code), other)?;
         }
     }
+    Ok(())
 }
 
 // 8D stands for itself, 4D is the letter M where no escape is pending, CD is 4D.
 #[test]
-fn the_letter_m_is_no_double_height(rt: HostRuntime) {
+fn the_letter_m_is_no_double_height() -> Result<(), Fail> {
     for (at, double, other) in [
         (39, true, true),
         (40, false, false),
@@ -130,15 +135,16 @@ fn the_letter_m_is_no_double_height(rt: HostRuntime) {
         (920, true, true),
     ] {
         let caret = Caret { at, pending: false };
-        same_in(&rt, at, caret.touches(0x8d), double);
-        same_in(&rt, at, caret.touches(0x4d), other);
-        same_in(&rt, at, caret.touches(0xcd), other);
+        same_in(at, caret.touches(0x8d), double)?;
+        same_in(at, caret.touches(0x4d), other)?;
+        same_in(at, caret.touches(0xcd), other)?;
     }
+    Ok(())
 }
 
 // After an escape 4D is 8D, 4C is another attribute, and 2D is dropped.
 #[test]
-fn an_escape_makes_double_height(rt: HostRuntime) {
+fn an_escape_makes_double_height() -> Result<(), Fail> {
     for (at, double, other) in [
         (39, true, true),
         (40, false, false),
@@ -148,20 +154,21 @@ fn an_escape_makes_double_height(rt: HostRuntime) {
         (920, true, true),
     ] {
         let caret = Caret { at, pending: true };
-        same_in(&rt, at, caret.touches(0x8d), double);
-        same_in(&rt, at, caret.touches(0x4d), double);
-        same_in(&rt, at, caret.touches(0x4c), other);
-        same_in(&rt, at, caret.touches(0x2d), false);
+        same_in(at, caret.touches(0x8d), double)?;
+        same_in(at, caret.touches(0x4d), double)?;
+        same_in(at, caret.touches(0x4c), other)?;
+        same_in(at, caret.touches(0x2d), false)?;
     }
+    Ok(())
 }
 
 #[test]
-fn one_byte_has_one_code_and_one_move(rt: HostRuntime) {
-    same(&rt, code_written(false, 0x41), Some(0x41));
-    same(&rt, code_written(true, 0x41), Some(0x81));
-    same(&rt, code_written(true, 0x30), None);
-    same(&rt, code_written(false, 0x0c), None);
-    same(&rt, code_written(true, 0xc1), Some(0x41));
+fn one_byte_has_one_code_and_one_move() -> Result<(), Fail> {
+    same(code_written(false, 0x41), Some(0x41))?;
+    same(code_written(true, 0x41), Some(0x81))?;
+    same(code_written(true, 0x30), None)?;
+    same(code_written(false, 0x0c), None)?;
+    same(code_written(true, 0xc1), Some(0x41))?;
     let moves = [
         (41, 0x0b, 1),
         (0, 0x08, 959),
@@ -170,6 +177,7 @@ fn one_byte_has_one_code_and_one_move(rt: HostRuntime) {
     ];
     for (at, byte, to) in moves {
         let caret = Caret { at, pending: true };
-        same_in(&rt, (at, byte), caret.moved_by(byte), to);
+        same_in((at, byte), caret.moved_by(byte), to)?;
     }
+    Ok(())
 }

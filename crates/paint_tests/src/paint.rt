@@ -3,6 +3,7 @@ use abstract_paint::{
 };
 use assertions::{same, same_in};
 use frame_records::Lead;
+use std::test::Fail;
 
 fn clean(place: Place, pend: Pend) -> Painted {
     Painted::Clean(AbsCursor { place, pend })
@@ -13,7 +14,7 @@ fn spot(at: u16) -> Painted {
 }
 
 #[test]
-fn paints_short_bodies(rt: HostRuntime) {
+fn paints_short_bodies() -> Result<(), Fail> {
     let rows: [(Lead, &[u8], Painted); 16] = [
         (Lead::Keep, &[], clean(Place::Any, Pend::Maybe)),
         (Lead::Clear, &[], spot(40)),
@@ -36,26 +37,28 @@ fn paints_short_bodies(rt: HostRuntime) {
         (Lead::Clear, &[0x1b, 0x5f], spot(41)),
     ];
     for (lead, body, painted) in rows {
-        same_in(&rt, (lead, body), paint(lead, body), painted);
+        same_in((lead, body), paint(lead, body), painted)?;
     }
+    Ok(())
 }
 
 // Home, one row down, and letters to the end of row 22 and one further.
 #[test]
-fn paints_full_pages(rt: HostRuntime) {
+fn paints_full_pages() -> Result<(), Fail> {
     let mut body = [0x41; 883];
     body[0] = 0x1e;
     body[1] = 0x0a;
     for lead in [Lead::Clear, Lead::Keep] {
-        same(&rt, paint(lead, &body[..881]), spot(919));
-        same(&rt, paint(lead, &body[..882]), spot(920));
-        same(&rt, paint(lead, &body), Painted::Touches(882));
+        same(paint(lead, &body[..881]), spot(919))?;
+        same(paint(lead, &body[..882]), spot(920))?;
+        same(paint(lead, &body), Painted::Touches(882))?;
     }
+    Ok(())
 }
 
 // An attribute at the front of a row, so many rows down. 4D is double height, which shows in the row beneath too.
 #[test]
-fn paints_an_attribute_in_each_row(rt: HostRuntime) {
+fn paints_an_attribute_in_each_row() -> Result<(), Fail> {
     for (letter, last) in [(0x4c, 22), (0x4d, 21), (0x4e, 22)] {
         let mut body = [0x0a; 30];
         body[0] = 0x1e;
@@ -68,20 +71,20 @@ fn paints_an_attribute_in_each_row(rt: HostRuntime) {
                 spot(rows as u16 * 40 + 1)
             };
             same_in(
-                &rt,
                 (rows, letter),
                 paint(Lead::Clear, &body[..rows + 3]),
                 painted,
-            );
+            )?;
             body[rows + 1] = 0x0a;
             body[rows + 2] = 0x0a;
         }
     }
+    Ok(())
 }
 
 // Codes in each column of rows 21 and 22, and behind them, after letters from the start of row 21 on.
 #[test]
-fn paints_double_height_up_to_row_21(rt: HostRuntime) {
+fn paints_double_height_up_to_row_21() -> Result<(), Fail> {
     let mut body = [0x41; 85];
     body[0] = 0x1e;
     body[1] = 0x0b;
@@ -96,18 +99,18 @@ fn paints_double_height_up_to_row_21(rt: HostRuntime) {
                 spot(letters as u16 + 841)
             };
             same_in(
-                &rt,
                 (letters, code),
                 paint(Lead::Keep, &body[..letters + 5]),
                 painted,
-            );
+            )?;
         }
         body[letters + 4] = 0x41;
     }
+    Ok(())
 }
 
 #[test]
-fn finds_the_least_start(rt: HostRuntime) {
+fn finds_the_least_start() -> Result<(), Fail> {
     let start = |at: u16, offset: usize| {
         Some(Start {
             at,
@@ -132,13 +135,14 @@ fn finds_the_least_start(rt: HostRuntime) {
         (Lead::Clear, &[], None),
     ];
     for (lead, body, least) in rows {
-        same_in(&rt, (lead, body), start_for(lead, body), least);
+        same_in((lead, body), start_for(lead, body), least)?;
     }
+    Ok(())
 }
 
 // Of a byte that touches after the first one, of one that never does, and past the body's end.
 #[test]
-fn finds_the_least_start_at_a_byte(rt: HostRuntime) {
+fn finds_the_least_start_at_a_byte() -> Result<(), Fail> {
     let start = |at: u16, offset: usize| {
         Some(Start {
             at,
@@ -155,19 +159,15 @@ fn finds_the_least_start_at_a_byte(rt: HostRuntime) {
         (Lead::Keep, &[0x41], 1, None),
     ];
     for (lead, body, offset, least) in rows {
-        same_in(
-            &rt,
-            (lead, body, offset),
-            start_at(lead, body, offset),
-            least,
-        );
+        same_in((lead, body, offset), start_at(lead, body, offset), least)?;
     }
+    Ok(())
 }
 
 // A body as long as may be. Its 4,095 moves down are 15 rows modulo 24, so the starts that touch are in row 8, which
 // ends in row 23, and in row 9, which ends in row 0.
 #[test]
-fn finds_a_late_start(rt: HostRuntime) {
+fn finds_a_late_start() -> Result<(), Fail> {
     let mut body = [0x0a; 4096];
     body[4095] = 0x41;
     let late = Start {
@@ -175,11 +175,12 @@ fn finds_a_late_start(rt: HostRuntime) {
         pending: false,
         offset: 4095,
     };
-    same(&rt, start_for(Lead::Keep, &body), Some(late));
+    same(start_for(Lead::Keep, &body), Some(late))?;
+    Ok(())
 }
 
 #[test]
-fn stands_for_positions_of_the_screen(rt: HostRuntime) {
+fn stands_for_positions_of_the_screen() -> Result<(), Fail> {
     let rows: [(Place, u16, bool); 14] = [
         (Place::Any, 0, true),
         (Place::Any, 959, true),
@@ -205,59 +206,61 @@ fn stands_for_positions_of_the_screen(rt: HostRuntime) {
         for (pend, not_pending, pending) in pends {
             let cursor = AbsCursor { place, pend };
             same_in(
-                &rt,
                 (cursor, at),
                 cursor.stands(at, false),
                 is_stood_for && not_pending,
-            );
+            )?;
             same_in(
-                &rt,
                 (cursor, at),
                 cursor.stands(at, true),
                 is_stood_for && pending,
-            );
+            )?;
         }
     }
+    Ok(())
 }
 
 #[test]
-fn counts_plain_bytes(rt: HostRuntime) {
-    same(&rt, plain_run(&[]), 0);
-    same(&rt, plain_run(&[0x7f, 0x1f]), 1);
+fn counts_plain_bytes() -> Result<(), Fail> {
+    same(plain_run(&[]), 0)?;
+    same(plain_run(&[0x7f, 0x1f]), 1)?;
     let mut bytes = [0x41; 34];
     bytes[33] = 0x0d;
-    same(&rt, plain_run(&bytes), 33);
+    same(plain_run(&bytes), 33)?;
     bytes[31] = 0x80;
-    same(&rt, plain_run(&bytes[..32]), 31);
+    same(plain_run(&bytes[..32]), 31)?;
+    Ok(())
 }
 
 // Each length, with a byte below the plain ones, one above them, or the last of them at each place.
 #[test]
-fn counts_plain_bytes_of_each_length(rt: HostRuntime) {
+fn counts_plain_bytes_of_each_length() -> Result<(), Fail> {
     let mut bytes = [0x20; 100];
     for length in 0..101 {
-        same(&rt, plain_run(&bytes[..length]), length);
+        same(plain_run(&bytes[..length]), length)?;
         for place in 0..length {
             for (byte, run) in [(0x1f, place), (0x80, place), (0x7f, length)] {
                 bytes[place] = byte;
-                same_in(&rt, (byte, place), plain_run(&bytes[..length]), run);
+                same_in((byte, place), plain_run(&bytes[..length]), run)?;
             }
             bytes[place] = 0x20;
         }
     }
+    Ok(())
 }
 
 #[test]
-fn masks_plain_bytes(rt: HostRuntime) {
+fn masks_plain_bytes() -> Result<(), Fail> {
     let mut bytes = [0x41; 32];
-    same(&rt, plain_mask(&bytes), 4_294_967_295);
+    same(plain_mask(&bytes), 4_294_967_295)?;
     bytes[0] = 0x80;
-    same(&rt, plain_mask(&bytes), 4_294_967_294);
+    same(plain_mask(&bytes), 4_294_967_294)?;
     bytes[0] = 0x41;
     bytes[31] = 0x1f;
-    same(&rt, plain_mask(&bytes), 2_147_483_647);
+    same(plain_mask(&bytes), 2_147_483_647)?;
     bytes[31] = 0x7f;
     bytes[4] = 0xff;
     bytes[17] = 0x00;
-    same(&rt, plain_mask(&bytes), 4_294_967_295 - 16 - 131_072);
+    same(plain_mask(&bytes), 4_294_967_295 - 16 - 131_072)?;
+    Ok(())
 }

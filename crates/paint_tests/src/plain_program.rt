@@ -77,7 +77,7 @@ fn agrees(lead: Lead, body: &[u8]) -> bool {
 
 // Each control byte, first and between moves, letters, escapes and their leads.
 #[test]
-fn agrees_on_each_control_byte(rt: HostRuntime) {
+fn agrees_on_each_control_byte() -> Result<(), Fail> {
     for byte in 0..0x20u8 {
         let bodies: [&[u8]; 9] = [
             &[byte],
@@ -91,15 +91,16 @@ fn agrees_on_each_control_byte(rt: HostRuntime) {
             &[0x1e, 0x0b, 0x08, byte, 0x43],
         ];
         for body in bodies {
-            same_in(&rt, body, agrees(Lead::Clear, body), true);
-            same_in(&rt, body, agrees(Lead::Keep, body), true);
+            same_in(body, agrees(Lead::Clear, body), true)?;
+            same_in(body, agrees(Lead::Keep, body), true)?;
         }
     }
+    Ok(())
 }
 
 // Each two control bytes and a letter.
 #[test]
-fn agrees_on_each_two_control_bytes(rt: HostRuntime) {
+fn agrees_on_each_two_control_bytes() -> Result<(), Fail> {
     for first in 0..0x20u8 {
         for second in 0..0x20u8 {
             let bodies: [&[u8]; 3] = [
@@ -108,16 +109,17 @@ fn agrees_on_each_two_control_bytes(rt: HostRuntime) {
                 &[0x1e, 0x0a, first, second, 0x41],
             ];
             for body in bodies {
-                same_in(&rt, body, agrees(Lead::Clear, body), true);
-                same_in(&rt, body, agrees(Lead::Keep, body), true);
+                same_in(body, agrees(Lead::Clear, body), true)?;
+                same_in(body, agrees(Lead::Keep, body), true)?;
             }
         }
     }
+    Ok(())
 }
 
 // Each byte alone, and after an escape, from any position, a column and a spot.
 #[test]
-fn agrees_on_each_byte_after_an_escape(rt: HostRuntime) {
+fn agrees_on_each_byte_after_an_escape() -> Result<(), Fail> {
     for byte in 0..=255u8 {
         let bodies: [&[u8]; 4] = [
             &[byte],
@@ -126,10 +128,11 @@ fn agrees_on_each_byte_after_an_escape(rt: HostRuntime) {
             &[0x1e, 0x0b, 0x08, 0x1b, byte],
         ];
         for body in bodies {
-            same_in(&rt, body, agrees(Lead::Clear, body), true);
-            same_in(&rt, body, agrees(Lead::Keep, body), true);
+            same_in(body, agrees(Lead::Clear, body), true)?;
+            same_in(body, agrees(Lead::Keep, body), true)?;
         }
     }
+    Ok(())
 }
 
 // The head, so many letters, the middle, and so many letters more.
@@ -167,8 +170,8 @@ fn agrees_on_runs_near_the_service_rows(rt: HostRuntime) -> Result<(), Fail> {
     for head in heads {
         for letters in 0..48 {
             let body = body_of(rt.alloc(), head, letters, &[], 0)?;
-            same_in(&rt, (head, letters), agrees(Lead::Clear, &body), true);
-            same_in(&rt, (head, letters), agrees(Lead::Keep, &body), true);
+            same_in((head, letters), agrees(Lead::Clear, &body), true)?;
+            same_in((head, letters), agrees(Lead::Keep, &body), true)?;
         }
     }
     Ok(())
@@ -188,8 +191,8 @@ fn agrees_on_double_height_near_the_last_row(rt: HostRuntime) -> Result<(), Fail
     for code in codes {
         for letters in [0, 1, 38, 39, 40, 41, 78, 79, 80] {
             let body = body_of(rt.alloc(), &[0x1e, 0x0b, 0x0b, 0x0b], letters, code, 1)?;
-            same_in(&rt, (letters, code), agrees(Lead::Clear, &body), true);
-            same_in(&rt, (letters, code), agrees(Lead::Keep, &body), true);
+            same_in((letters, code), agrees(Lead::Clear, &body), true)?;
+            same_in((letters, code), agrees(Lead::Keep, &body), true)?;
         }
     }
     Ok(())
@@ -200,10 +203,10 @@ fn agrees_on_double_height_near_the_last_row(rt: HostRuntime) -> Result<(), Fail
 fn agrees_on_full_pages(rt: HostRuntime) -> Result<(), Fail> {
     for letters in 878..883 {
         let body = body_of(rt.alloc(), &[0x1e, 0x0a], letters, &[], 0)?;
-        same_in(&rt, letters, agrees(Lead::Clear, &body), true);
-        same_in(&rt, letters, agrees(Lead::Keep, &body), true);
+        same_in(letters, agrees(Lead::Clear, &body), true)?;
+        same_in(letters, agrees(Lead::Keep, &body), true)?;
         let body = body_of(rt.alloc(), &[], letters, &[], 0)?;
-        same_in(&rt, letters, agrees(Lead::Clear, &body), true);
+        same_in(letters, agrees(Lead::Clear, &body), true)?;
     }
     Ok(())
 }
@@ -214,12 +217,12 @@ fn agrees_on_runs_that_are_cut(rt: HostRuntime) -> Result<(), Fail> {
     for letters in [1, 7, 8, 9, 31, 32, 33, 40] {
         for byte in 0..0x20u8 {
             let body = body_of(rt.alloc(), &[0x1e, 0x0a], letters, &[byte], 34)?;
-            same_in(&rt, (letters, byte), agrees(Lead::Clear, &body), true);
-            same_in(&rt, (letters, byte), agrees(Lead::Keep, &body), true);
+            same_in((letters, byte), agrees(Lead::Clear, &body), true)?;
+            same_in((letters, byte), agrees(Lead::Keep, &body), true)?;
         }
         for byte in [0x80, 0x9f, 0xa0, 0xff] {
             let body = body_of(rt.alloc(), &[0x1e, 0x0a], letters, &[byte], 34)?;
-            same_in(&rt, (letters, byte), agrees(Lead::Keep, &body), true);
+            same_in((letters, byte), agrees(Lead::Keep, &body), true)?;
         }
     }
     Ok(())

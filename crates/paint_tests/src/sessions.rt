@@ -55,29 +55,29 @@ fn demo(rt: &impl Abort, alloc: Global) -> Base {
 
 // Presses the keys in turn, and compares each reply.
 fn presses(
-    rt: &impl Abort,
     alloc: Global,
     session: &mut Session,
     base: &Base,
     keys: &str,
     replies: &[Reply],
-) {
-    let list = keys_read(alloc, keys).expect(rt, "keys");
-    same_in(rt, keys, list.as_slice().len(), replies.len());
+) -> Result<(), Fail> {
+    let list = keys_read(alloc, keys)?;
+    same_in(keys, list.as_slice().len(), replies.len())?;
     for (key, reply) in list.as_slice().iter().zip(replies) {
-        same_in(rt, keys, session.key(base, *key), *reply);
+        same_in(keys, session.key(base, *key), *reply)?;
     }
+    Ok(())
 }
 
 #[test]
 fn opens_at_the_entry_frame(rt: HostRuntime) -> Result<(), Fail> {
     let base = demo(&rt, rt.alloc());
     let (session, reply) = Session::open(rt.alloc(), &base, &Groups::none())?;
-    same(&rt, reply, shown(&rt, "123a", 0));
-    same(&rt, session.at(), Some(id(&rt, "123a")));
-    same(&rt, session.left(), None);
-    same(&rt, session.remembered(), 0);
-    same(&rt, session.remembered_at(0), None);
+    same(reply, shown(&rt, "123a", 0))?;
+    same(session.at(), Some(id(&rt, "123a")))?;
+    same(session.left(), None)?;
+    same(session.remembered(), 0)?;
+    same(session.remembered_at(0), None)?;
     Ok(())
 }
 
@@ -96,14 +96,7 @@ fn goes_back_three_frames_at_most(rt: HostRuntime) -> Result<(), Fail> {
         shown(&rt, "1231a", 5),
         Reply::NotOffered,
     ];
-    presses(
-        &rt,
-        rt.alloc(),
-        &mut session,
-        &base,
-        "1010*#*#*#*#",
-        &replies,
-    );
+    presses(rt.alloc(), &mut session, &base, "1010*#*#*#*#", &replies)?;
     Ok(())
 }
 
@@ -116,8 +109,8 @@ fn update_charges_again_and_reprint_does_not(rt: HostRuntime) -> Result<(), Fail
         shown(&rt, "1231a", 5),
         Reply::Again(id(&rt, "1231a")),
     ];
-    presses(&rt, rt.alloc(), &mut session, &base, "1*09*00", &replies);
-    same_in(&rt, "neither is remembered", session.remembered(), 1);
+    presses(rt.alloc(), &mut session, &base, "1*09*00", &replies)?;
+    same_in("neither is remembered", session.remembered(), 1)?;
     Ok(())
 }
 
@@ -126,11 +119,11 @@ fn leaves_for_an_outside_page(rt: HostRuntime) -> Result<(), Fail> {
     let base = demo(&rt, rt.alloc());
     let (mut session, _) = Session::open(rt.alloc(), &base, &Groups::none())?;
     let replies = [Reply::Gone(page(&rt, 0)), Reply::NotOffered];
-    presses(&rt, rt.alloc(), &mut session, &base, "01", &replies);
-    same(&rt, session.at(), None);
-    same(&rt, session.left(), Some(page(&rt, 0)));
-    same(&rt, session.remembered(), 0);
-    same(&rt, session.remembered_at(0), None);
+    presses(rt.alloc(), &mut session, &base, "01", &replies)?;
+    same(session.at(), None)?;
+    same(session.left(), Some(page(&rt, 0)))?;
+    same(session.remembered(), 0)?;
+    same(session.remembered_at(0), None)?;
     Ok(())
 }
 
@@ -139,21 +132,22 @@ fn remembers_the_latest_first(rt: HostRuntime) -> Result<(), Fail> {
     let base = demo(&rt, rt.alloc());
     let (mut session, _) = Session::open(rt.alloc(), &base, &Groups::none())?;
     let replies = [shown(&rt, "1231a", 5), shown(&rt, "1231b", 0)];
-    presses(&rt, rt.alloc(), &mut session, &base, "1#", &replies);
-    same(&rt, session.at(), Some(id(&rt, "1231b")));
-    same(&rt, session.remembered(), 2);
+    presses(rt.alloc(), &mut session, &base, "1#", &replies)?;
+    same(session.at(), Some(id(&rt, "1231b")))?;
+    same(session.remembered(), 2)?;
     let frames = [Some(id(&rt, "1231a")), Some(id(&rt, "123a")), None];
     for (i, frame) in frames.iter().enumerate() {
-        same_in(&rt, i, session.remembered_at(i), *frame);
+        same_in(i, session.remembered_at(i), *frame)?;
     }
     Ok(())
 }
 
 #[test]
-fn opens_no_session_without_an_entry_frame(rt: HostRuntime) {
+fn opens_no_session_without_an_entry_frame(rt: HostRuntime) -> Result<(), Fail> {
     let base = base_of(&rt, rt.alloc(), Vec::new(rt.alloc()));
     let opened = Session::open(rt.alloc(), &base, &Groups::none()).map(|_| ());
-    same(&rt, opened, Err(OpenFault::EntryMissing));
+    same(opened, Err(OpenFault::EntryMissing))?;
+    Ok(())
 }
 
 #[test]
@@ -162,7 +156,7 @@ fn opens_no_session_at_a_closed_entry_frame(rt: HostRuntime) -> Result<(), Fail>
     entry.group = GroupNo::new(7);
     let base = base_of(&rt, rt.alloc(), vec![in rt.alloc(); entry]?);
     let opened = Session::open(rt.alloc(), &base, &Groups::none()).map(|_| ());
-    same(&rt, opened, Err(OpenFault::EntryClosed));
+    same(opened, Err(OpenFault::EntryClosed))?;
     Ok(())
 }
 
@@ -181,9 +175,9 @@ fn closed_and_missing_frames_change_nothing(rt: HostRuntime) -> Result<(), Fail>
         Reply::NotOffered,
         Reply::NotOffered,
     ];
-    presses(&rt, rt.alloc(), &mut session, &base, "19#2*#", &replies);
-    same(&rt, session.at(), Some(id(&rt, "123a")));
-    same(&rt, session.remembered(), 0);
+    presses(rt.alloc(), &mut session, &base, "19#2*#", &replies)?;
+    same(session.at(), Some(id(&rt, "123a")))?;
+    same(session.remembered(), 0)?;
     Ok(())
 }
 
@@ -205,7 +199,7 @@ fn a_frame_of_the_callers_group_is_open(rt: HostRuntime) -> Result<(), Fail> {
         shown(&rt, "1231a", 5),
         shown(&rt, "123a", 0),
     ];
-    presses(&rt, rt.alloc(), &mut session, &base, "21*090*#*#", &replies);
+    presses(rt.alloc(), &mut session, &base, "21*090*#*#", &replies)?;
     Ok(())
 }
 
@@ -219,9 +213,9 @@ fn a_session_crosses_a_change(rt: HostRuntime) -> Result<(), Fail> {
     let new = base_of(&rt, rt.alloc(), vec![in rt.alloc(); entry, first, second]?);
     let (mut session, _) = Session::open(rt.alloc(), &old, &Groups::none())?;
     let before = [shown(&rt, "1231a", 5), shown(&rt, "1231b", 0)];
-    presses(&rt, rt.alloc(), &mut session, &old, "1#", &before);
+    presses(rt.alloc(), &mut session, &old, "1#", &before)?;
     let after = [shown(&rt, "1231b", 7), shown(&rt, "1231a", 5)];
-    presses(&rt, rt.alloc(), &mut session, &new, "*09*#", &after);
+    presses(rt.alloc(), &mut session, &new, "*09*#", &after)?;
     Ok(())
 }
 
@@ -234,13 +228,13 @@ fn keys_look_into_the_base_of_the_moment(rt: HostRuntime) -> Result<(), Fail> {
     let new = base_of(&rt, rt.alloc(), vec![in rt.alloc(); entry, first]?);
     let (mut session, _) = Session::open(rt.alloc(), &old, &Groups::none())?;
     let before = [shown(&rt, "1231a", 5), shown(&rt, "1231b", 0)];
-    presses(&rt, rt.alloc(), &mut session, &old, "1#", &before);
+    presses(rt.alloc(), &mut session, &old, "1#", &before)?;
     let after = [
         Reply::Missing(id(&rt, "1231b")),
         Reply::NotOffered,
         shown(&rt, "1231a", 5),
     ];
-    presses(&rt, rt.alloc(), &mut session, &new, "*090*#", &after);
+    presses(rt.alloc(), &mut session, &new, "*090*#", &after)?;
     Ok(())
 }
 
@@ -261,20 +255,15 @@ fn ring(rt: &impl Abort, alloc: Global, count: u32) -> Result<Base, Fail> {
 fn a_base_of_65_535_frames_is_opened_and_walked(rt: HostRuntime) -> Result<(), Fail> {
     let base = ring(&rt, rt.alloc(), 65_535)?;
     let (mut session, reply) = Session::open(rt.alloc(), &base, &Groups::none())?;
-    same(&rt, reply, shown(&rt, "0a", 0));
+    same(reply, shown(&rt, "0a", 0))?;
     let key = &Key::Route(Digit::new(1).ok_or("a digit")?);
     for number in 1..65_535u32 {
         let first = FrameId::first(page(&rt, number));
         let price = Pence::new((number % 10_000) as u16).ok_or("a price")?;
-        same_in(
-            &rt,
-            number,
-            session.key(&base, *key),
-            Reply::Shown(first, price),
-        );
+        same_in(number, session.key(&base, *key), Reply::Shown(first, price))?;
     }
-    same(&rt, session.key(&base, *key), shown(&rt, "0a", 0));
-    same(&rt, session.remembered(), 3);
-    same(&rt, session.remembered_at(0), Some(id(&rt, "65534a")));
+    same(session.key(&base, *key), shown(&rt, "0a", 0))?;
+    same(session.remembered(), 3)?;
+    same(session.remembered_at(0), Some(id(&rt, "65534a")))?;
     Ok(())
 }

@@ -7,7 +7,6 @@ use frame_records::{
 };
 use page_ids::{FrameId, PageNo, Way};
 use std::alloc::Global;
-use std::process::Abort;
 use std::test::Fail;
 
 fn page(number: u32) -> Result<PageNo, Fail> {
@@ -111,7 +110,7 @@ fn refusals_come_in_order_and_name_the_smallest(rt: HostRuntime) -> Result<(), F
         (&[("124c", false, 0)], &[125, 125, 123], None),
     ];
     for (i, (frames, outside, fault)) in rows.iter().enumerate() {
-        same_in(&rt, i, refusal(rt.alloc(), frames, outside)?, *fault);
+        same_in(i, refusal(rt.alloc(), frames, outside)?, *fault)?;
     }
     Ok(())
 }
@@ -123,7 +122,7 @@ fn outside_pages_count_as_listed(rt: HostRuntime) -> Result<(), Fail> {
         pages.push(page(7)?)?;
     }
     let built = Base::build(page(0)?, pages, Vec::new(rt.alloc()));
-    same(&rt, built.err(), Some(BuildFault::TooMany));
+    same(built.err(), Some(BuildFault::TooMany))?;
     Ok(())
 }
 
@@ -139,14 +138,14 @@ fn grouped_base(alloc: Global) -> Result<Base, Fail> {
 #[test]
 fn a_base_answers_by_its_map(rt: HostRuntime) -> Result<(), Fail> {
     let base = grouped_base(rt.alloc())?;
-    same(&rt, base.entry().get(), 123);
-    same(&rt, base.entry_frame(), FrameId::read("123a")?);
-    same(&rt, base.frames().len(), 3);
+    same(base.entry().get(), 123)?;
+    same(base.entry_frame(), FrameId::read("123a")?)?;
+    same(base.frames().len(), 3)?;
     for (id, is_there) in [("5a", true), ("5c", false)] {
-        same_in(&rt, id, base.find(FrameId::read(id)?).is_some(), is_there);
+        same_in(id, base.find(FrameId::read(id)?).is_some(), is_there)?;
     }
     for (number, is_outside) in [(0, true), (5, false)] {
-        same_in(&rt, number, base.is_outside(page(number)?), is_outside);
+        same_in(number, base.is_outside(page(number)?), is_outside)?;
     }
     Ok(())
 }
@@ -170,7 +169,7 @@ fn a_frame_is_sought_for_the_callers_groups(rt: HostRuntime) -> Result<(), Fail>
         } else {
             Groups::read(groups)?
         };
-        same_in(&rt, id, base.seek(FrameId::read(id)?, &groups), sought);
+        same_in(id, base.seek(FrameId::read(id)?, &groups), sought)?;
     }
     Ok(())
 }
@@ -199,33 +198,34 @@ fn a_way_comes_to_what_it_seeks(rt: HostRuntime) -> Result<(), Fail> {
     ];
     for (place, destination) in rows {
         let comes_to = base.follow(from, Way::at(place), &Groups::none());
-        same_in(&rt, place, comes_to, destination);
+        same_in(place, comes_to, destination)?;
     }
     for (way, sought) in [
         (Way::at(3), Some(FrameId::read("8a")?)),
         (Way::at(9), None),
         (Way::Next, Some(FrameId::read("123b")?)),
     ] {
-        same(&rt, from.sought(way), sought);
+        same(from.sought(way), sought)?;
     }
     Ok(())
 }
 
 #[test]
-fn numbers_end_at_their_limits(rt: HostRuntime) {
+fn numbers_end_at_their_limits() -> Result<(), Fail> {
     for (number, kept) in [(9_999, Some(9_999)), (10_000, None)] {
-        same_in(&rt, number, Pence::new(number).map(Pence::get), kept);
+        same_in(number, Pence::new(number).map(Pence::get), kept)?;
     }
     for (number, kept) in [(65_535, Some(65_535)), (0, None)] {
-        same_in(&rt, number, GroupNo::new(number).map(GroupNo::get), kept);
+        same_in(number, GroupNo::new(number).map(GroupNo::get), kept)?;
     }
+    Ok(())
 }
 
 #[test]
 fn a_body_keeps_its_bytes(rt: HostRuntime) -> Result<(), Fail> {
     let mut bytes = Vec::new(rt.alloc());
     bytes.extend_from_slice(b"\x1e\nWELCOME")?;
-    same(&rt, Body::of(bytes).as_slice(), b"\x1e\nWELCOME".as_slice());
+    same(Body::of(bytes).as_slice(), b"\x1e\nWELCOME".as_slice())?;
     Ok(())
 }
 
@@ -243,11 +243,11 @@ fn odd_pages(alloc: Global, count: u32) -> Result<Base, Fail> {
 }
 
 // Seeks a number among so many odd ones: it is found where it is listed, in at most so many comparisons.
-fn seeks(rt: &impl Abort, base: &Base, count: u32, wanted: u32, most: u32) -> Result<(), Fail> {
+fn seeks(base: &Base, count: u32, wanted: u32, most: u32) -> Result<(), Fail> {
     let (found, asked) = base.is_outside_counted(page(wanted)?);
     let listed = wanted % 2 == 1 && wanted < count.saturating_mul(2);
     let got = (found, asked <= most, asked > 0);
-    same_in(rt, (wanted, count, asked), got, (listed, true, count > 0));
+    same_in((wanted, count, asked), got, (listed, true, count > 0))?;
     Ok(())
 }
 
@@ -256,7 +256,7 @@ fn each_place_is_found_by_halves_and_no_other(rt: HostRuntime) -> Result<(), Fai
     for count in 0..101u32 {
         let base = odd_pages(rt.alloc(), count)?;
         for wanted in 0..count.saturating_mul(2).saturating_add(2) {
-            seeks(&rt, &base, count, wanted, 7)?;
+            seeks(&base, count, wanted, 7)?;
         }
     }
     Ok(())
@@ -266,23 +266,23 @@ fn each_place_is_found_by_halves_and_no_other(rt: HostRuntime) -> Result<(), Fai
 fn the_longest_list_is_searched_in_16_comparisons(rt: HostRuntime) -> Result<(), Fail> {
     let base = odd_pages(rt.alloc(), 65_535)?;
     for wanted in [0, 1, 2, 65_535, 65_536, 131_067, 131_069, 131_070] {
-        seeks(&rt, &base, 65_535, wanted, 16)?;
+        seeks(&base, 65_535, wanted, 16)?;
     }
     Ok(())
 }
 
 #[test]
-fn groups_are_read_from_their_texts(rt: HostRuntime) -> Result<(), Fail> {
+fn groups_are_read_from_their_texts() -> Result<(), Fail> {
     for (text, count) in [
         ("7", 1),
         ("7,9", 2),
         ("1,2,3,4,5,6,7,8,9,10,11,12,13,14,15,65535", 16),
     ] {
-        same_in(&rt, text, Groups::read(text)?.len(), count);
+        same_in(text, Groups::read(text)?.len(), count)?;
     }
     let two = Groups::read("7,9")?;
     for (number, is_among) in [(7, true), (8, false), (9, true)] {
-        same_in(&rt, number, two.has(group(number)?), is_among);
+        same_in(number, two.has(group(number)?), is_among)?;
     }
     for text in [
         "",
@@ -300,13 +300,13 @@ fn groups_are_read_from_their_texts(rt: HostRuntime) -> Result<(), Fail> {
         "1,2,3,4,5,6,7,8,9,10,11,12,13,14,15,16,17",
     ] {
         let fault = Groups::read(text).err();
-        same_in(&rt, text, fault, Some(GroupsFault::BadGroups));
+        same_in(text, fault, Some(GroupsFault::BadGroups))?;
     }
     Ok(())
 }
 
 #[test]
-fn the_first_number_at_fault_is_told(rt: HostRuntime) {
+fn the_first_number_at_fault_is_told() -> Result<(), Fail> {
     let rows: [(&str, Option<GroupFlaw>); 8] = [
         ("7 9", None),
         ("", Some(GroupFlaw::Number)),
@@ -325,31 +325,33 @@ fn the_first_number_at_fault_is_told(rt: HostRuntime) {
     ];
     for (text, flaw) in rows {
         let told = Groups::read_split(text.as_bytes(), b' ').err();
-        same_in(&rt, text, told, flaw);
-    }
-}
-
-#[test]
-fn groups_take_what_is_greater(rt: HostRuntime) -> Result<(), Fail> {
-    let mut groups = Groups::none();
-    for (number, is_taken) in [(7, true), (7, false), (9, true)] {
-        same_in(&rt, number, groups.push(group(number)?), is_taken);
-    }
-    let again = groups.copy();
-    for (text, are_same) in [("7,9", true), ("7", false)] {
-        same_in(&rt, text, again.are_same(&Groups::read(text)?), are_same);
-    }
-    for i in 0..again.len() {
-        let number = if i == 0 { 7 } else { 9 };
-        same_in(&rt, i, again.at(i).get(), number);
+        same_in(text, told, flaw)?;
     }
     Ok(())
 }
 
 #[test]
-fn a_text_is_cut_at_its_first_separator(rt: HostRuntime) {
+fn groups_take_what_is_greater() -> Result<(), Fail> {
+    let mut groups = Groups::none();
+    for (number, is_taken) in [(7, true), (7, false), (9, true)] {
+        same_in(number, groups.push(group(number)?), is_taken)?;
+    }
+    let again = groups.copy();
+    for (text, are_same) in [("7,9", true), ("7", false)] {
+        same_in(text, again.are_same(&Groups::read(text)?), are_same)?;
+    }
+    for i in 0..again.len() {
+        let number = if i == 0 { 7 } else { 9 };
+        same_in(i, again.at(i).get(), number)?;
+    }
+    Ok(())
+}
+
+#[test]
+fn a_text_is_cut_at_its_first_separator() -> Result<(), Fail> {
     let rows: [(&[u8], Option<(&[u8], &[u8])>); 2] = [(b"7,9,", Some((b"7", b"9,"))), (b"7", None)];
     for (text, parts) in rows {
-        same(&rt, cut(text, b','), parts);
+        same(cut(text, b','), parts)?;
     }
+    Ok(())
 }

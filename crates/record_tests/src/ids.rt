@@ -43,26 +43,27 @@ const NO_PAGES: [&str; 9] = [
 ];
 
 #[test]
-fn ids_are_read_from_their_texts(rt: HostRuntime) -> Result<(), Fail> {
+fn ids_are_read_from_their_texts() -> Result<(), Fail> {
     for (text, page, letter) in IDS {
         let id = FrameId::read(text)?;
-        same_in(&rt, text, id.page.get(), page);
-        same_in(&rt, text, id.letter.get(), letter);
-        same_in(&rt, text, id.text().as_str(), text);
-        same_in(&rt, text, FrameId::read_bytes(text.as_bytes()), Some(id));
+        same_in(text, id.page.get(), page)?;
+        same_in(text, id.letter.get(), letter)?;
+        same_in(text, id.text().as_str(), text)?;
+        same_in(text, FrameId::read_bytes(text.as_bytes()), Some(id))?;
     }
     Ok(())
 }
 
 #[test]
-fn other_texts_are_no_ids(rt: HostRuntime) {
+fn other_texts_are_no_ids() -> Result<(), Fail> {
     for text in NO_IDS {
-        same_in(&rt, text, FrameId::read(text), Err(IdFault::BadFrame));
+        same_in(text, FrameId::read(text), Err(IdFault::BadFrame))?;
     }
+    Ok(())
 }
 
 #[test]
-fn pages_are_read_from_their_texts(rt: HostRuntime) -> Result<(), Fail> {
+fn pages_are_read_from_their_texts() -> Result<(), Fail> {
     for (text, number) in [
         ("0", 0),
         ("7", 7),
@@ -70,19 +71,19 @@ fn pages_are_read_from_their_texts(rt: HostRuntime) -> Result<(), Fail> {
         ("999999999", 999_999_999),
     ] {
         let page = PageNo::read(text)?;
-        same_in(&rt, text, page.get(), number);
-        same_in(&rt, text, page.text().as_str(), text);
+        same_in(text, page.get(), number)?;
+        same_in(text, page.text().as_str(), text)?;
     }
     for text in NO_PAGES {
-        same_in(&rt, text, PageNo::read(text), Err(IdFault::BadPage));
+        same_in(text, PageNo::read(text), Err(IdFault::BadPage))?;
     }
     Ok(())
 }
 
 #[test]
-fn numbers_end_at_their_limits(rt: HostRuntime) {
+fn numbers_end_at_their_limits() -> Result<(), Fail> {
     for (number, kept) in [(999_999_999, Some(999_999_999)), (1_000_000_000, None)] {
-        same_in(&rt, number, PageNo::new(number).map(PageNo::get), kept);
+        same_in(number, PageNo::new(number).map(PageNo::get), kept)?;
     }
     for (byte, kept) in [
         (b'a', Some(b'a')),
@@ -90,15 +91,16 @@ fn numbers_end_at_their_limits(rt: HostRuntime) {
         (b'`', None),
         (b'{', None),
     ] {
-        same_in(&rt, byte, Letter::new(byte).map(Letter::get), kept);
+        same_in(byte, Letter::new(byte).map(Letter::get), kept)?;
     }
     for (number, kept) in [(9, Some(9)), (10, None)] {
-        same_in(&rt, number, Digit::new(number).map(Digit::get), kept);
+        same_in(number, Digit::new(number).map(Digit::get), kept)?;
     }
+    Ok(())
 }
 
 #[test]
-fn digits_of_any_length_are_a_number(rt: HostRuntime) {
+fn digits_of_any_length_are_a_number() -> Result<(), Fail> {
     let rows: [(&str, u32, Result<u32, NumberFault>); 9] = [
         ("65535", 65_535, Ok(65_535)),
         ("65536", 65_535, Err(NumberFault::AboveLimit)),
@@ -111,30 +113,31 @@ fn digits_of_any_length_are_a_number(rt: HostRuntime) {
         ("1x", 9, Err(NumberFault::NotNumeral)),
     ];
     for (text, most, number) in rows {
-        same_in(&rt, text, number_read(text.as_bytes(), most), number);
+        same_in(text, number_read(text.as_bytes(), most), number)?;
     }
+    Ok(())
 }
 
 #[test]
-fn a_page_begins_with_its_frame_a(rt: HostRuntime) -> Result<(), Fail> {
+fn a_page_begins_with_its_frame_a() -> Result<(), Fail> {
     let first = FrameId::first(PageNo::read("1231")?);
-    same(&rt, first.text().as_str(), "1231a");
+    same(first.text().as_str(), "1231a")?;
     let rows = [
         (first, Some(FrameId::read("1231b")?)),
         (FrameId::read("1231y")?, Some(FrameId::read("1231z")?)),
         (FrameId::read("1231z")?, None),
     ];
     for (id, following) in rows {
-        same(&rt, id.following(), following);
+        same(id.following(), following)?;
     }
     Ok(())
 }
 
 #[test]
-fn ids_are_ordered_by_number_then_letter(rt: HostRuntime) -> Result<(), Fail> {
+fn ids_are_ordered_by_number_then_letter() -> Result<(), Fail> {
     for (less, greater) in [("9z", "10a"), ("10a", "10b")] {
         let is_less = FrameId::read(less)? < FrameId::read(greater)?;
-        same_in(&rt, less, is_less, true);
+        same_in(less, is_less, true)?;
     }
     Ok(())
 }
@@ -149,9 +152,9 @@ fn keys_are_read_and_written_back(rt: HostRuntime) -> Result<(), Fail> {
         ("*#*#", 2),
     ] {
         let keys = keys_read(rt.alloc(), text)?;
-        same_in(&rt, text, keys.as_slice().len(), count);
+        same_in(text, keys.as_slice().len(), count)?;
         let written = keys_text(rt.alloc(), &keys)?;
-        same_in(&rt, text, written.as_slice(), text.as_bytes());
+        same_in(text, written.as_slice(), text.as_bytes())?;
     }
     Ok(())
 }
@@ -167,12 +170,12 @@ fn each_word_is_its_key(rt: HostRuntime) -> Result<(), Fail> {
         Key::Reprint,
         Key::Update,
     ];
-    same(&rt, keys.as_slice(), wanted.as_slice());
+    same(keys.as_slice(), wanted.as_slice())?;
     Ok(())
 }
 
 #[test]
-fn the_first_word_that_cannot_be_read_is_named(rt: HostRuntime) {
+fn the_first_word_that_cannot_be_read_is_named(rt: HostRuntime) -> Result<(), Fail> {
     for (text, at) in [
         ("*0", 0),
         ("1*5#", 1),
@@ -185,8 +188,9 @@ fn the_first_word_that_cannot_be_read_is_named(rt: HostRuntime) {
         ("*00*0", 3),
     ] {
         let fault = keys_read(rt.alloc(), text).err();
-        same_in(&rt, text, fault, Some(IdFault::BadKey(at)));
+        same_in(text, fault, Some(IdFault::BadKey(at)))?;
     }
+    Ok(())
 }
 
 // Five keys in ten bytes.
@@ -199,13 +203,13 @@ fn a_hundred_thousand_keys_are_read_and_written_back(rt: HostRuntime) -> Result<
         text.push_str(FIVE_KEYS)?;
     }
     let keys = keys_read(rt.alloc(), text.as_str())?;
-    same(&rt, keys.as_slice().len(), 100_000);
+    same(keys.as_slice().len(), 100_000)?;
     let written = keys_text(rt.alloc(), &keys)?;
     // The texts themselves would fill the message with 200,000 bytes each.
-    same(&rt, written.as_slice() == text.as_str().as_bytes(), true);
+    same(written.as_slice() == text.as_str().as_bytes(), true)?;
     text.push_str("*5")?;
     let fault = keys_read(rt.alloc(), text.as_str()).err();
-    same(&rt, fault, Some(IdFault::BadKey(200_000)));
+    same(fault, Some(IdFault::BadKey(200_000)))?;
     Ok(())
 }
 
@@ -215,7 +219,7 @@ fn a_list_of_keys_is_kept(rt: HostRuntime) -> Result<(), Fail> {
     keys.push(Key::Next).map_err(|_| IdFault::Memory)?;
     keys.push(Key::Prev).map_err(|_| IdFault::Memory)?;
     let list = KeyList::of(keys);
-    same(&rt, list.as_slice(), [Key::Next, Key::Prev].as_slice());
+    same(list.as_slice(), [Key::Next, Key::Prev].as_slice())?;
     Ok(())
 }
 
@@ -225,17 +229,17 @@ fn numbers_and_keys_are_written_behind_a_text(rt: HostRuntime) -> Result<(), Fai
     let mut text = Vec::new(rt.alloc());
     push_number(&mut text, 65_535)?;
     push_keys(&mut text, keys.as_slice())?;
-    same(&rt, text.as_slice(), b"655351*#".as_slice());
+    same(text.as_slice(), b"655351*#".as_slice())?;
     Ok(())
 }
 
 #[test]
 fn the_ways_are_the_digits_and_then_next(rt: HostRuntime) -> Result<(), Fail> {
     let keys = keys_read(rt.alloc(), "0123456789#")?;
-    same(&rt, usize::from(Way::COUNT), keys.as_slice().len());
+    same(usize::from(Way::COUNT), keys.as_slice().len())?;
     for place in 0..Way::COUNT {
         let key = keys.as_slice().get(usize::from(place)).ok_or("a key")?;
-        same_in(&rt, place, &Way::at(place).key(), key);
+        same_in(place, &Way::at(place).key(), key)?;
     }
     Ok(())
 }

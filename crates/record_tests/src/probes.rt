@@ -10,7 +10,6 @@ use page_ids::PageNo;
 use std::alloc::Global;
 use std::cmp::Ordering;
 use std::marker::Model;
-use std::process::Abort;
 use std::test::Fail;
 
 // Pages that are compared with one, and how often that was asked.
@@ -98,19 +97,14 @@ fn sought(pages: &[PageNo], wanted: PageNo) -> (Option<usize>, u32)
 }
 
 // Each number up to one behind the last of so many odd ones is sought: those that stand there and those that don't.
-fn seek_each(rt: &(impl Abort + AllocGlobal), count: u32, most: u32) -> Result<(), Fail> {
-    let pages = odd_pages(rt.alloc(), count)?;
+fn seek_each(alloc: Global, count: u32, most: u32) -> Result<(), Fail> {
+    let pages = odd_pages(alloc, count)?;
     for number in 0..count.saturating_mul(2).saturating_add(1) {
         let wanted = PageNo::new(number).ok_or("page")?;
         let (place, questions) = sought(pages.as_slice(), wanted);
         let stands = (number % 2 == 1).then_some(number as usize / 2);
         let got = (place, questions <= most, questions > 0);
-        same_in(
-            rt,
-            (number, count, questions),
-            got,
-            (stands, true, count > 0),
-        );
+        same_in((number, count, questions), got, (stands, true, count > 0))?;
     }
     Ok(())
 }
@@ -119,12 +113,16 @@ fn seek_each(rt: &(impl Abort + AllocGlobal), count: u32, most: u32) -> Result<(
 fn each_place_of_each_short_list_is_found(rt: HostRuntime) -> Result<(), Fail> {
     // A list of fewer than 2, 4, 8 .. entries takes at most 1, 2, 3 .. questions.
     for count in 0..101u32 {
-        seek_each(&rt, count, 32u32.saturating_sub(count.leading_zeros()))?;
+        seek_each(
+            rt.alloc(),
+            count,
+            32u32.saturating_sub(count.leading_zeros()),
+        )?;
     }
     Ok(())
 }
 
 #[test]
 fn each_place_of_the_longest_list_is_found_in_16_questions(rt: HostRuntime) -> Result<(), Fail> {
-    seek_each(&rt, 65_535, 16)
+    seek_each(rt.alloc(), 65_535, 16)
 }

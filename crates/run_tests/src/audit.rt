@@ -23,7 +23,7 @@ fn audited(alloc: Global, base: &str, step: usize, policy: &Policy) -> Told {
 fn a_safe_base_gets_its_certificate_whatever_the_reads_give(rt: HostRuntime) -> Result<(), Fail> {
     for step in [1, 3, 4_096] {
         let told = audited(rt.alloc(), DEMO, step, &policy(50, 3)?);
-        expect(&rt, &told, Ok(Status::Clear), CERT);
+        expect(&told, Ok(Status::Clear), CERT)?;
     }
     Ok(())
 }
@@ -65,7 +65,7 @@ fn a_base_with_faults_gets_their_list(rt: HostRuntime) -> Result<(), Fail> {
     for (old, new, wanted) in rows {
         let base = DEMO.replacen(rt.alloc(), old, new, 1)?;
         let told = audited(rt.alloc(), base.as_str(), 7, &policy(50, 3)?);
-        expect_faulty(&rt, &told, wanted);
+        expect_faulty(&told, wanted)?;
     }
     Ok(())
 }
@@ -74,17 +74,16 @@ fn a_base_with_faults_gets_their_list(rt: HostRuntime) -> Result<(), Fail> {
 fn the_policy_decides_what_is_a_fault(rt: HostRuntime) -> Result<(), Fail> {
     let told = audited(rt.alloc(), DEMO, 7, &policy(4, 0)?);
     expect_faulty(
-        &rt,
         &told,
         "FAULTS 3\nPRICE 1231a 5 SCRIPT 1\nNORETURN 1231a SCRIPT 1\nNORETURN 1231b SCRIPT 1#\n",
-    );
+    )?;
     Ok(())
 }
 
 #[test]
 fn an_entry_frame_that_is_missing_is_the_one_fault(rt: HostRuntime) -> Result<(), Fail> {
     let told = audited(rt.alloc(), "entry = 0\n", 7, &policy(0, 0)?);
-    expect_faulty(&rt, &told, "FAULTS 1\nENTRYMISSING 0a\n");
+    expect_faulty(&told, "FAULTS 1\nENTRYMISSING 0a\n")?;
     Ok(())
 }
 
@@ -95,7 +94,7 @@ fn an_audit_that_fails_writes_nothing(rt: HostRuntime) -> Result<(), Fail> {
         cause: Cause::UnknownKey,
     };
     let told = audited(rt.alloc(), "entry = 1\nname = 2\n", 5, &policy(0, 0)?);
-    expect_fault(&rt, &told, RunFault::Base(unknown));
+    expect_fault(&told, RunFault::Base(unknown))?;
     Ok(())
 }
 
@@ -107,7 +106,7 @@ fn a_base_that_cannot_be_read_writes_nothing_wherever_it_fails(
         let mut base = FakeSource::broken(DEMO.as_bytes(), 4_096, kept);
         let mut out = FakeSink::of(rt.alloc(), 1_000);
         let answer = run_audit(rt.alloc(), &mut base, &mut out, &policy(50, 3)?);
-        expect_fault(&rt, &Told::of(answer, out), RunFault::ReadBase);
+        expect_fault(&Told::of(answer, out), RunFault::ReadBase)?;
     }
     Ok(())
 }
@@ -118,14 +117,14 @@ fn a_report_that_is_not_taken_whole_is_told_with_what_was(rt: HostRuntime) -> Re
         let mut base = FakeSource::of(DEMO.as_bytes(), 4_096);
         let mut out = FakeSink::full(rt.alloc(), 1_000, room);
         let answer = run_audit(rt.alloc(), &mut base, &mut out, &policy(50, 3)?);
-        same(&rt, (status_of(&answer), out.flushes), (3, 0));
+        same((status_of(&answer), out.flushes), (3, 0))?;
         let fault = RunFault::Write(room as u64);
-        expect(&rt, &Told::of(answer, out), Err(fault), front(CERT, room));
+        expect(&Told::of(answer, out), Err(fault), front(CERT, room))?;
     }
     let mut base = FakeSource::of(DEMO.as_bytes(), 4_096);
     let mut out = FakeSink::unflushed(rt.alloc(), 1_000);
     let answer = run_audit(rt.alloc(), &mut base, &mut out, &policy(50, 3)?);
-    same(&rt, out.flushes, 1);
-    expect(&rt, &Told::of(answer, out), Err(RunFault::Write(81)), CERT);
+    same(out.flushes, 1)?;
+    expect(&Told::of(answer, out), Err(RunFault::Write(81)), CERT)?;
     Ok(())
 }

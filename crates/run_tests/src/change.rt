@@ -49,7 +49,7 @@ fn a_change_that_keeps_all_is_cleared(rt: HostRuntime) -> Result<(), Fail> {
     let dearer_cert = CERT.replacen(alloc, "ceiling 5", "ceiling 7", 1)?;
     for (new, new_cert) in [(DEMO, CERT), (dearer.as_str(), dearer_cert.as_str())] {
         let told = changed(alloc, new, new_cert, &policy(50, 3)?);
-        expect(&rt, &told, Ok(Status::Clear), "CLEARED\n");
+        expect(&told, Ok(Status::Clear), "CLEARED\n")?;
     }
     Ok(())
 }
@@ -85,7 +85,7 @@ fn the_first_condition_that_fails_is_told(rt: HostRuntime) -> Result<(), Fail> {
     ];
     for (new, new_cert, ceiling, wanted) in rows {
         let told = changed(alloc, new, new_cert, &policy(ceiling, 3)?);
-        expect_faulty(&rt, &told, wanted);
+        expect_faulty(&told, wanted)?;
     }
     Ok(())
 }
@@ -102,8 +102,8 @@ fn a_text_of_the_new_edition_is_told_as_its_own(rt: HostRuntime) -> Result<(), F
         (DEMO, "PBC3\n", RunFault::NewCert(magic)),
     ] {
         let told = changed(rt.alloc(), new, new_cert, &policy(50, 3)?);
-        expect_fault(&rt, &told, fault);
-        same_in(&rt, new_cert, status_of(&told.answer), 3);
+        expect_fault(&told, fault)?;
+        same_in(new_cert, status_of(&told.answer), 3)?;
     }
     Ok(())
 }
@@ -125,8 +125,8 @@ fn a_new_base_that_cannot_be_read_ends_the_run(rt: HostRuntime) -> Result<(), Fa
             &mut out,
             &policy(50, 3)?,
         );
-        same_in(&rt, kept, (status_of(&answer), new_cert.calls), (3, 0));
-        expect_fault(&rt, &Told::of(answer, out), RunFault::ReadNewBase);
+        same_in(kept, (status_of(&answer), new_cert.calls), (3, 0))?;
+        expect_fault(&Told::of(answer, out), RunFault::ReadNewBase)?;
     }
     Ok(())
 }

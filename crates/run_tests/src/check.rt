@@ -31,7 +31,7 @@ fn the_verdict_is_written_whatever_the_reads_give(rt: HostRuntime) -> Result<(),
     for (ceiling, keyings, status, text) in rows {
         for step in [1, 3, 4_096] {
             let told = checked(rt.alloc(), DEMO, CERT, step, &policy(ceiling, keyings)?);
-            expect(&rt, &told, Ok(status), text);
+            expect(&told, Ok(status), text)?;
         }
     }
     Ok(())
@@ -72,7 +72,7 @@ fn a_changed_certificate_is_refused(rt: HostRuntime) -> Result<(), Fail> {
     for (old, new, wanted) in rows {
         let cert = CERT.replacen(rt.alloc(), old, new, 1)?;
         let told = checked(rt.alloc(), DEMO, cert.as_str(), 7, &policy(5, 1)?);
-        expect_faulty(&rt, &told, wanted);
+        expect_faulty(&told, wanted)?;
     }
     Ok(())
 }
@@ -109,7 +109,7 @@ fn a_changed_base_is_refused(rt: HostRuntime) -> Result<(), Fail> {
     for (old, new, wanted) in rows {
         let base = DEMO.replacen(rt.alloc(), old, new, 1)?;
         let told = checked(rt.alloc(), base.as_str(), CERT, 7, &policy(5, 1)?);
-        expect_faulty(&rt, &told, wanted);
+        expect_faulty(&told, wanted)?;
     }
     Ok(())
 }
@@ -126,8 +126,8 @@ fn the_bases_fault_comes_first_and_the_certificate_is_not_read(
     let mut cert = FakeSource::of(b"PBC3\n", 7);
     let mut out = FakeSink::of(rt.alloc(), 1_000);
     let answer = run_check(rt.alloc(), &mut base, &mut cert, &mut out, &policy(5, 1)?);
-    same(&rt, cert.calls, 0);
-    expect_fault(&rt, &Told::of(answer, out), RunFault::Base(absent));
+    same(cert.calls, 0)?;
+    expect_fault(&Told::of(answer, out), RunFault::Base(absent))?;
     Ok(())
 }
 
@@ -151,7 +151,7 @@ fn a_certificate_that_is_cut_is_truncated_in_its_last_line(rt: HostRuntime) -> R
         for step in PIECES {
             let answer = judged(rt.alloc(), text, step, &policy);
             let wanted = RunFault::Cert(ReadFault::Line(line, LineCause::Truncated));
-            same_in(&rt, (kept, step), answer, Err(wanted));
+            same_in((kept, step), answer, Err(wanted))?;
         }
     }
     Ok(())
@@ -191,7 +191,7 @@ fn a_line_at_fault_is_named_whatever_the_pieces(rt: HostRuntime) -> Result<(), F
         for step in PIECES {
             let answer = judged(rt.alloc(), cert.as_bytes(), step, &policy);
             let wanted = RunFault::Cert(ReadFault::Line(line, cause));
-            same_in(&rt, (new, step), answer, Err(wanted));
+            same_in((new, step), answer, Err(wanted))?;
         }
     }
     Ok(())
@@ -204,8 +204,8 @@ fn nothing_is_asked_behind_a_refused_line(rt: HostRuntime) -> Result<(), Fail> {
     let mut out = FakeSink::of(rt.alloc(), 1_000);
     let answer = run_check(rt.alloc(), &mut base, &mut cert, &mut out, &policy(5, 1)?);
     let magic = RunFault::Cert(ReadFault::Line(1, LineCause::Magic));
-    same(&rt, (cert.calls, cert.failed), (1, false));
-    expect_fault(&rt, &Told::of(answer, out), magic);
+    same((cert.calls, cert.failed), (1, false))?;
+    expect_fault(&Told::of(answer, out), magic)?;
     Ok(())
 }
 
@@ -215,8 +215,8 @@ fn nothing_is_asked_behind_an_end(rt: HostRuntime) -> Result<(), Fail> {
     let mut cert = FakeSource::with_more(CERT.as_bytes(), 4_096, b"x");
     let mut out = FakeSink::of(rt.alloc(), 1_000);
     let answer = run_check(rt.alloc(), &mut base, &mut cert, &mut out, &policy(5, 1)?);
-    same(&rt, (base.calls, cert.calls, out.flushes), (2, 2, 1));
-    expect(&rt, &Told::of(answer, out), Ok(Status::Clear), "CLEARED\n");
+    same((base.calls, cert.calls, out.flushes), (2, 2, 1))?;
+    expect(&Told::of(answer, out), Ok(Status::Clear), "CLEARED\n")?;
     Ok(())
 }
 
@@ -227,15 +227,15 @@ fn a_reader_that_fails_once_is_its_read_fault(rt: HostRuntime) -> Result<(), Fai
         let mut cert = FakeSource::of(CERT.as_bytes(), 7);
         let mut out = FakeSink::of(rt.alloc(), 1_000);
         let answer = run_check(rt.alloc(), &mut base, &mut cert, &mut out, &policy(5, 1)?);
-        same_in(&rt, kept, (status_of(&answer), cert.calls), (3, 0));
-        expect_fault(&rt, &Told::of(answer, out), RunFault::ReadBase);
+        same_in(kept, (status_of(&answer), cert.calls), (3, 0))?;
+        expect_fault(&Told::of(answer, out), RunFault::ReadBase)?;
     }
     for kept in 0..82usize {
         let mut base = FakeSource::of(DEMO.as_bytes(), 4_096);
         let mut cert = FakeSource::broken(CERT.as_bytes(), 4_096, kept);
         let mut out = FakeSink::of(rt.alloc(), 1_000);
         let answer = run_check(rt.alloc(), &mut base, &mut cert, &mut out, &policy(5, 1)?);
-        expect_fault(&rt, &Told::of(answer, out), RunFault::ReadCert);
+        expect_fault(&Told::of(answer, out), RunFault::ReadCert)?;
     }
     Ok(())
 }
@@ -247,20 +247,15 @@ fn a_writer_that_fails_is_told_with_what_it_took(rt: HostRuntime) -> Result<(), 
         let mut cert = FakeSource::of(CERT.as_bytes(), 7);
         let mut out = FakeSink::full(rt.alloc(), 1_000, room);
         let answer = run_check(rt.alloc(), &mut base, &mut cert, &mut out, &policy(5, 1)?);
-        same(&rt, status_of(&answer), 3);
+        same(status_of(&answer), 3)?;
         let fault = RunFault::Write(room as u64);
-        expect(&rt, &Told::of(answer, out), Err(fault), taken);
+        expect(&Told::of(answer, out), Err(fault), taken)?;
     }
     let mut base = FakeSource::of(DEMO.as_bytes(), 7);
     let mut cert = FakeSource::of(CERT.as_bytes(), 7);
     let mut out = FakeSink::unflushed(rt.alloc(), 1_000);
     let answer = run_check(rt.alloc(), &mut base, &mut cert, &mut out, &policy(5, 1)?);
-    same(&rt, out.flushes, 1);
-    expect(
-        &rt,
-        &Told::of(answer, out),
-        Err(RunFault::Write(8)),
-        "CLEARED\n",
-    );
+    same(out.flushes, 1)?;
+    expect(&Told::of(answer, out), Err(RunFault::Write(8)), "CLEARED\n")?;
     Ok(())
 }

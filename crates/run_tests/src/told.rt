@@ -6,7 +6,6 @@ use checker::Policy;
 use fake_devices::FakeSink;
 use frame_records::{Groups, Pence};
 use pageaudit::Status;
-use std::process::Abort;
 use std::test::Fail;
 
 pub type Answer = Result<Status, RunFault>;
@@ -28,21 +27,24 @@ impl Told {
 }
 
 #[track_caller]
-pub fn expect(rt: &impl Abort, told: &Told, answer: Answer, text: &str) {
-    same_in(rt, text, told.answer, answer);
-    same_in(rt, text, told.taken.as_slice(), text.as_bytes());
+pub fn expect(told: &Told, answer: Answer, text: &str) -> Result<(), Fail> {
+    same_in(text, told.answer, answer)?;
+    same_in(text, told.taken.as_slice(), text.as_bytes())?;
+    Ok(())
 }
 
 // A report, after which the status is Faulty.
 #[track_caller]
-pub fn expect_faulty(rt: &impl Abort, told: &Told, text: &str) {
-    expect(rt, told, Ok(Status::Faulty), text);
+pub fn expect_faulty(told: &Told, text: &str) -> Result<(), Fail> {
+    expect(told, Ok(Status::Faulty), text)?;
+    Ok(())
 }
 
 // A fault, after which nothing is written.
 #[track_caller]
-pub fn expect_fault(rt: &impl Abort, told: &Told, fault: RunFault) {
-    expect(rt, told, Err(fault), "");
+pub fn expect_fault(told: &Told, fault: RunFault) -> Result<(), Fail> {
+    expect(told, Err(fault), "")?;
+    Ok(())
 }
 
 pub fn policy(ceiling: u16, keyings: u16) -> Result<Policy, Fail> {

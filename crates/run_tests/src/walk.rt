@@ -19,7 +19,7 @@ fn walked(alloc: Global, base: &str, keys: &str, groups: &Groups) -> Told {
 }
 
 #[test]
-fn a_walk_shows_each_reply(rt: HostRuntime) {
+fn a_walk_shows_each_reply(rt: HostRuntime) -> Result<(), Fail> {
     let rows: [(&str, &str, Status, &str); 6] = [
         (
             DEMO,
@@ -50,8 +50,9 @@ fn a_walk_shows_each_reply(rt: HostRuntime) {
     ];
     for (base, keys, status, text) in rows {
         let told = walked(rt.alloc(), base, keys, &Groups::none());
-        expect(&rt, &told, Ok(status), text);
+        expect(&told, Ok(status), text)?;
     }
+    Ok(())
 }
 
 #[test]
@@ -73,27 +74,28 @@ fn a_walk_is_that_of_the_callers_groups(rt: HostRuntime) -> Result<(), Fail> {
     ];
     for (groups, text) in &rows {
         let told = walked(rt.alloc(), base.as_str(), "1#", groups);
-        expect(&rt, &told, Ok(Status::Clear), text);
+        expect(&told, Ok(Status::Clear), text)?;
     }
     Ok(())
 }
 
 #[test]
-fn bad_keys_come_before_the_base(rt: HostRuntime) {
+fn bad_keys_come_before_the_base(rt: HostRuntime) -> Result<(), Fail> {
     let mut base = FakeSource::broken(DEMO.as_bytes(), 5, 0);
     let mut out = FakeSink::of(rt.alloc(), 1_000);
     let answer = run_walk(rt.alloc(), &mut base, "1*5#", &Groups::none(), &mut out);
-    same(&rt, (status_of(&answer), base.calls), (2, 0));
-    expect_fault(&rt, &Told::of(answer, out), RunFault::Keys(1));
+    same((status_of(&answer), base.calls), (2, 0))?;
+    expect_fault(&Told::of(answer, out), RunFault::Keys(1))?;
+    Ok(())
 }
 
 #[test]
-fn a_device_that_fails_once_is_not_asked_again(rt: HostRuntime) {
+fn a_device_that_fails_once_is_not_asked_again(rt: HostRuntime) -> Result<(), Fail> {
     for kept in [0, 1, 100] {
         let mut base = FakeSource::broken(DEMO.as_bytes(), 4_096, kept);
         let mut out = FakeSink::of(rt.alloc(), 1_000);
         let answer = run_walk(rt.alloc(), &mut base, "1", &Groups::none(), &mut out);
-        expect_fault(&rt, &Told::of(answer, out), RunFault::ReadBase);
+        expect_fault(&Told::of(answer, out), RunFault::ReadBase)?;
     }
     let text = "SHOWN 123a 0\nSHOWN 1231a 5\n";
     for (room, taken) in [
@@ -105,11 +107,12 @@ fn a_device_that_fails_once_is_not_asked_again(rt: HostRuntime) {
         let mut out = FakeSink::full(rt.alloc(), 1_000, room);
         let answer = run_walk(rt.alloc(), &mut base, "1", &Groups::none(), &mut out);
         let fault = RunFault::Write(room as u64);
-        expect(&rt, &Told::of(answer, out), Err(fault), taken);
+        expect(&Told::of(answer, out), Err(fault), taken)?;
     }
     let mut base = FakeSource::of(DEMO.as_bytes(), 7);
     let mut out = FakeSink::unflushed(rt.alloc(), 1_000);
     let answer = run_walk(rt.alloc(), &mut base, "1", &Groups::none(), &mut out);
-    same(&rt, out.flushes, 1);
-    expect(&rt, &Told::of(answer, out), Err(RunFault::Write(27)), text);
+    same(out.flushes, 1)?;
+    expect(&Told::of(answer, out), Err(RunFault::Write(27)), text)?;
+    Ok(())
 }

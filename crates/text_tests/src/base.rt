@@ -52,26 +52,20 @@ fn id(text: &str) -> Result<FrameId, Fail> {
 #[test]
 fn demo_is_read_as_it_stands(rt: HostRuntime) -> Result<(), Fail> {
     let base = base_of(rt.alloc(), &[TOP, FIRST, SECOND, THIRD])?;
-    same(&rt, base.entry().get(), 123);
-    same(&rt, base.is_outside(page(0)?), true);
-    same(&rt, base.is_outside(page(123)?), false);
+    same(base.entry().get(), 123)?;
+    same(base.is_outside(page(0)?), true)?;
+    same(base.is_outside(page(123)?), false)?;
     let frames = base.frames();
     assert_eq!(rt; frames.len(), 3);
     same(
-        &rt,
         frames[0].body.as_slice(),
         b"\x1E\x0AWELCOME\x0D\x0A".as_slice(),
-    );
+    )?;
     same(
-        &rt,
         frames[1].body.as_slice(),
         b"\x1E\x0APART ONE\x0D\x0A".as_slice(),
-    );
-    same(
-        &rt,
-        frames[2].body.as_slice(),
-        b"\x1E\x0APART TWO".as_slice(),
-    );
+    )?;
+    same(frames[2].body.as_slice(), b"\x1E\x0APART TWO".as_slice())?;
     Ok(())
 }
 
@@ -79,34 +73,29 @@ fn demo_is_read_as_it_stands(rt: HostRuntime) -> Result<(), Fail> {
 fn the_fields_of_a_frame_are_its_own_or_their_defaults(rt: HostRuntime) -> Result<(), Fail> {
     let base = base_of(rt.alloc(), &[TOP, FIRST, SECOND, THIRD])?;
     let first = base.find(id("123a")?).ok_or("a frame")?;
-    same(&rt, first.price.get(), 0);
+    same(first.price.get(), 0)?;
     same(
-        &rt,
         first.group.is_none() && !first.next && first.lead == Lead::Clear,
         true,
-    );
+    )?;
     same(
-        &rt,
         first.routes[0] == Some(page(0)?) && first.routes[1] == Some(page(1231)?),
         true,
-    );
+    )?;
     same(
-        &rt,
         first.routes.iter().filter(|route| route.is_some()).count(),
         2,
-    );
+    )?;
     let second = base.find(id("1231a")?).ok_or("a frame")?;
     same(
-        &rt,
         second.price.get() == 5 && second.next && second.lead == Lead::Clear,
         true,
-    );
+    )?;
     let third = base.find(id("1231b")?).ok_or("a frame")?;
     same(
-        &rt,
         third.price.get() == 0 && !third.next && third.lead == Lead::Keep,
         true,
-    );
+    )?;
     Ok(())
 }
 
@@ -116,14 +105,13 @@ fn a_group_and_every_route_are_read(rt: HostRuntime) -> Result<(), Fail> {
         "frame = [{ id = \"7c\", group = 65535, body = \"\", routes = { 9 = 999999999, 5 = 0x5, 4 = 1_000 } }]";
     let base = base_of(rt.alloc(), &["entry = -0\n", frame])?;
     let frame = base.find(id("7c")?).ok_or("a frame")?;
-    same(&rt, base.entry().get(), 0);
-    same(&rt, frame.group.map(|group| group.get()), Some(65535));
-    same(&rt, frame.routes[9], Some(page(999_999_999)?));
+    same(base.entry().get(), 0)?;
+    same(frame.group.map(|group| group.get()), Some(65535))?;
+    same(frame.routes[9], Some(page(999_999_999)?))?;
     same(
-        &rt,
         frame.routes[5] == Some(page(5)?) && frame.routes[4] == Some(page(1000)?),
         true,
-    );
+    )?;
     Ok(())
 }
 
@@ -171,7 +159,7 @@ const TOPS: [(&str, Cause); 24] = [
 fn the_top_is_refused_by_its_first_fault(rt: HostRuntime) -> Result<(), Fail> {
     for (text, cause) in &TOPS {
         let fault = fault_of(rt.alloc(), &[*text])?;
-        same_in(&rt, *text, fault, at(None, *cause));
+        same_in(*text, fault, at(None, *cause))?;
     }
     Ok(())
 }
@@ -303,7 +291,7 @@ const FRAMES: [(&str, Cause); 47] = [
 fn a_frame_is_refused_by_its_first_fault(rt: HostRuntime) -> Result<(), Fail> {
     for (frame, cause) in &FRAMES {
         let alone = fault_of(rt.alloc(), &["entry = 1\nframe = [", *frame, "]"])?;
-        same_in(&rt, *frame, alone, at(Some(0), *cause));
+        same_in(*frame, alone, at(Some(0), *cause))?;
         let second = fault_of(
             rt.alloc(),
             &[
@@ -312,7 +300,7 @@ fn a_frame_is_refused_by_its_first_fault(rt: HostRuntime) -> Result<(), Fail> {
                 "]",
             ],
         )?;
-        same_in(&rt, *frame, second, at(Some(1), *cause));
+        same_in(*frame, second, at(Some(1), *cause))?;
     }
     Ok(())
 }
@@ -387,7 +375,7 @@ fn demo_with_one_change_is_refused_with_the_frames_index(rt: HostRuntime) -> Res
     ];
     for (first, second, third, frame, cause) in &rows {
         let fault = fault_of(rt.alloc(), &[TOP, *first, *second, *third])?;
-        same_in(&rt, *third, fault, at(Some(*frame), *cause));
+        same_in(*third, fault, at(Some(*frame), *cause))?;
     }
     Ok(())
 }
@@ -395,9 +383,9 @@ fn demo_with_one_change_is_refused_with_the_frames_index(rt: HostRuntime) -> Res
 #[test]
 fn a_frame_given_twice_is_a_duplicate(rt: HostRuntime) -> Result<(), Fail> {
     let fault = fault_of(rt.alloc(), &[TOP, FIRST, SECOND, FIRST, THIRD])?;
-    same(&rt, fault, at(None, Cause::Duplicate(id("123a")?)));
+    same(fault, at(None, Cause::Duplicate(id("123a")?)))?;
     let smallest = fault_of(rt.alloc(), &[TOP, THIRD, SECOND, THIRD, SECOND])?;
-    same(&rt, smallest, at(None, Cause::Duplicate(id("1231a")?)));
+    same(smallest, at(None, Cause::Duplicate(id("1231a")?)))?;
     Ok(())
 }
 
@@ -407,18 +395,14 @@ fn an_outside_page_has_no_frame(rt: HostRuntime) -> Result<(), Fail> {
         rt.alloc(),
         &["entry = 123\noutside = [123]\n", FIRST, SECOND, THIRD],
     )?;
-    same(&rt, fault, at(None, Cause::OutsideInside(page(123)?)));
+    same(fault, at(None, Cause::OutsideInside(page(123)?)))?;
     let smallest = fault_of(
         rt.alloc(),
         &["entry = 1\noutside = [1231, 123]\n", FIRST, SECOND],
     )?;
-    same(&rt, smallest, at(None, Cause::OutsideInside(page(123)?)));
+    same(smallest, at(None, Cause::OutsideInside(page(123)?)))?;
     let not_of_letter_a = fault_of(rt.alloc(), &["entry = 1\noutside = [1231]\n", THIRD])?;
-    same(
-        &rt,
-        not_of_letter_a,
-        at(None, Cause::OutsideInside(page(1231)?)),
-    );
+    same(not_of_letter_a, at(None, Cause::OutsideInside(page(1231)?)))?;
     Ok(())
 }
 
@@ -426,7 +410,7 @@ fn an_outside_page_has_no_frame(rt: HostRuntime) -> Result<(), Fail> {
 fn no_frame_follows_z(rt: HostRuntime) -> Result<(), Fail> {
     let last = "[[frame]]\nid = \"1231z\"\nnext = true\nbody = \"\"\n";
     let fault = fault_of(rt.alloc(), &[TOP, FIRST, SECOND, last])?;
-    same(&rt, fault, at(None, Cause::NextAfterZ(id("1231z")?)));
+    same(fault, at(None, Cause::NextAfterZ(id("1231z")?)))?;
     Ok(())
 }
 
@@ -437,25 +421,21 @@ fn the_whole_is_judged_in_one_order(rt: HostRuntime) -> Result<(), Fail> {
     let after_z = ", { id = \"2z\", next = true, body = \"\" }";
     let bad = ", { id = \"1a\", body = 1 }";
     same(
-        &rt,
         fault_of(rt.alloc(), &[outside, "]"])?,
         at(None, Cause::OutsideInside(page(4)?)),
-    );
+    )?;
     same(
-        &rt,
         fault_of(rt.alloc(), &[outside, twice, "]"])?,
         at(None, Cause::Duplicate(id("3a")?)),
-    );
+    )?;
     same(
-        &rt,
         fault_of(rt.alloc(), &[outside, twice, after_z, "]"])?,
         at(None, Cause::NextAfterZ(id("2z")?)),
-    );
+    )?;
     same(
-        &rt,
         fault_of(rt.alloc(), &[outside, twice, after_z, bad, "]"])?,
         at(Some(4), Cause::WrongKind(Field::Body)),
-    );
+    )?;
     Ok(())
 }
 
@@ -467,11 +447,11 @@ fn a_body_has_at_most_4096_bytes(rt: HostRuntime) -> Result<(), Fail> {
     let most = "B".repeat(rt.alloc(), 4096)?;
     let base = base_of(rt.alloc(), &[TOP, FIRST, BODY, most.as_str(), "\""])?;
     let frame = base.find(id("1231b")?).ok_or("a frame")?;
-    same(&rt, frame.body.as_slice().len(), 4096);
+    same(frame.body.as_slice().len(), 4096)?;
     let fault = fault_of(rt.alloc(), &[TOP, FIRST, BODY, most.as_str(), "B\""])?;
-    same(&rt, fault, at(None, Cause::BodyTooLong(id("1231b")?)));
+    same(fault, at(None, Cause::BodyTooLong(id("1231b")?)))?;
     let with_others = fault_of(rt.alloc(), &[TOP, FIRST, FIRST, BODY, most.as_str(), "B\""])?;
-    same(&rt, with_others, at(None, Cause::BodyTooLong(id("1231b")?)));
+    same(with_others, at(None, Cause::BodyTooLong(id("1231b")?)))?;
     Ok(())
 }
 
@@ -490,16 +470,12 @@ fn lengths_and_codes_count_code_points(rt: HostRuntime) -> Result<(), Fail> {
     let frames = base.frames();
     assert_eq!(rt; frames.len(), 3);
     let row = frames[0].body.as_slice();
-    same(&rt, row.len(), 42);
-    same(&rt, row.get(2..), Some([0x80; 40].as_slice()));
+    same(row.len(), 42)?;
+    same(row.get(2..), Some([0x80; 40].as_slice()))?;
     let bytes = frames[1].body.as_slice();
-    same(&rt, bytes.len(), 4096);
-    same(&rt, bytes.last(), Some(&0xFF));
-    same(
-        &rt,
-        frames[2].body.as_slice(),
-        [0x00, 0x80, 0x41].as_slice(),
-    );
+    same(bytes.len(), 4096)?;
+    same(bytes.last(), Some(&0xFF))?;
+    same(frames[2].body.as_slice(), [0x00, 0x80, 0x41].as_slice())?;
     Ok(())
 }
 
@@ -508,36 +484,36 @@ fn what_the_crate_of_toml_takes_is_read(rt: HostRuntime) -> Result<(), Fail> {
     let text =
         "entry = 5\noutside = [5, 5,]\nframe = [{ id = \"1a\",\n  rows = [],\n}, { id = \"1b\", body = \"\\e\\x41\" }]";
     let base = base_of(rt.alloc(), &[text])?;
-    same(&rt, base.is_outside(page(5)?), true);
-    same(&rt, base.find(id("5a")?).is_none(), true);
+    same(base.is_outside(page(5)?), true)?;
+    same(base.find(id("5a")?).is_none(), true)?;
     let frames = base.frames();
     assert_eq!(rt; frames.len(), 2);
-    same(&rt, frames[0].body.as_slice(), [0x1E, 0x0A].as_slice());
-    same(&rt, frames[1].body.as_slice(), [0x1B, 0x41].as_slice());
+    same(frames[0].body.as_slice(), [0x1E, 0x0A].as_slice())?;
+    same(frames[1].body.as_slice(), [0x1B, 0x41].as_slice())?;
     let none = base_of(rt.alloc(), &["entry = 0\nframe = []"])?;
-    same(&rt, none.frames().is_empty(), true);
+    same(none.frames().is_empty(), true)?;
     Ok(())
 }
 
 #[test]
 fn one_byte_order_mark_in_front_is_passed_over(rt: HostRuntime) -> Result<(), Fail> {
     let base = base_of(rt.alloc(), &["\u{FEFF}", TOP, FIRST])?;
-    same(&rt, base.entry().get(), 123);
-    same(&rt, base.frames().len(), 1);
+    same(base.entry().get(), 123)?;
+    same(base.frames().len(), 1)?;
     let twice = fault_of(rt.alloc(), &["\u{FEFF}\u{FEFF}", TOP, FIRST])?;
-    same(&rt, twice, at(None, Cause::NotToml));
+    same(twice, at(None, Cause::NotToml))?;
     let behind = fault_of(rt.alloc(), &[TOP, "\u{FEFF}", FIRST])?;
-    same(&rt, behind, at(None, Cause::NotToml));
+    same(behind, at(None, Cause::NotToml))?;
     Ok(())
 }
 
 #[test]
 fn what_is_no_utf8_or_too_deep_is_no_toml(rt: HostRuntime) -> Result<(), Fail> {
     let fault = base_read(rt.alloc(), b"entry = 1 # \xFF").err();
-    same(&rt, fault, at(None, Cause::NotToml));
+    same(fault, at(None, Cause::NotToml))?;
     let open = "[".repeat(rt.alloc(), 100_000)?;
     let deep = fault_of(rt.alloc(), &["entry = 1\noutside = ", open.as_str()])?;
-    same(&rt, deep, at(None, Cause::NotToml));
+    same(deep, at(None, Cause::NotToml))?;
     Ok(())
 }
 
@@ -545,16 +521,14 @@ fn what_is_no_utf8_or_too_deep_is_no_toml(rt: HostRuntime) -> Result<(), Fail> {
 fn the_length_comes_before_all_else(rt: HostRuntime) -> Result<(), Fail> {
     let most = vec![in rt.alloc(); b'#'; 16_777_216]?;
     same(
-        &rt,
         base_read(rt.alloc(), most.as_slice()).err(),
         at(None, Cause::Absent(Field::Entry)),
-    );
+    )?;
     let more = vec![in rt.alloc(); b'['; 16_777_217]?;
     same(
-        &rt,
         base_read(rt.alloc(), more.as_slice()).err(),
         at(None, Cause::TooLong),
-    );
+    )?;
     Ok(())
 }
 
@@ -562,12 +536,12 @@ fn the_length_comes_before_all_else(rt: HostRuntime) -> Result<(), Fail> {
 fn at_most_65535_outside_pages_are_listed(rt: HostRuntime) -> Result<(), Fail> {
     let pages = "7,".repeat(rt.alloc(), 65_535)?;
     let base = base_of(rt.alloc(), &["entry = 7\noutside = [", pages.as_str(), "]"])?;
-    same(&rt, base.is_outside(page(7)?), true);
+    same(base.is_outside(page(7)?), true)?;
     let fault = fault_of(
         rt.alloc(),
         &["entry = 7\noutside = [", pages.as_str(), "7]"],
     )?;
-    same(&rt, fault, at(None, Cause::TooMany));
+    same(fault, at(None, Cause::TooMany))?;
     Ok(())
 }
 
@@ -578,7 +552,7 @@ fn a_fault_in_the_last_of_65535_frames_has_its_index(rt: HostRuntime) -> Result<
         rt.alloc(),
         &["entry = 7\nframe = [", frames.as_str(), "{id='1b'}]"],
     )?;
-    same(&rt, bad, at(Some(65_534), Cause::Absent(Field::Body)));
+    same(bad, at(Some(65_534), Cause::Absent(Field::Body)))?;
     Ok(())
 }
 
@@ -593,7 +567,7 @@ fn all_frames_are_judged_before_their_number(rt: HostRuntime) -> Result<(), Fail
             "{id='1A',body=''}]",
         ],
     )?;
-    same(&rt, bad, at(Some(65_535), Cause::BadFrame));
+    same(bad, at(Some(65_535), Cause::BadFrame))?;
     let many = fault_of(
         rt.alloc(),
         &[
@@ -602,9 +576,9 @@ fn all_frames_are_judged_before_their_number(rt: HostRuntime) -> Result<(), Fail
             "{id='1a',body=''}]",
         ],
     )?;
-    same(&rt, many, at(None, Cause::TooMany));
+    same(many, at(None, Cause::TooMany))?;
     let twice = fault_of(rt.alloc(), &["entry = 7\nframe = [", frames.as_str(), "]"])?;
-    same(&rt, twice, at(None, Cause::Duplicate(id("1a")?)));
+    same(twice, at(None, Cause::Duplicate(id("1a")?)))?;
     Ok(())
 }
 
@@ -620,13 +594,13 @@ fn hostile_texts_are_answered(rt: HostRuntime) -> Result<(), Fail> {
         rt.alloc(),
         &["entry = 1\noutside = [", arrays.as_str(), "]"],
     )?;
-    same(&rt, deep, at(None, Cause::WrongKind(Field::Outside)));
+    same(deep, at(None, Cause::WrongKind(Field::Outside)))?;
     let many = fault_of(
         rt.alloc(),
         &["entry = 1\noutside = [", numbers.as_str(), "]"],
     )?;
-    same(&rt, many, at(None, Cause::TooMany));
+    same(many, at(None, Cause::TooMany))?;
     let long = fault_of(rt.alloc(), &[key.as_str(), " = 1"])?;
-    same(&rt, long, at(None, Cause::UnknownKey));
+    same(long, at(None, Cause::UnknownKey))?;
     Ok(())
 }

@@ -148,11 +148,11 @@ fn first_wrong(alloc: Global, changes: &[Change<'_>]) -> Result<Option<usize>, A
 #[test]
 fn a_certificate_is_read_and_written_back(rt: HostRuntime) -> Result<(), Fail> {
     let cert = cert_read(rt.alloc(), CERT.as_bytes())?;
-    same(&rt, cert.entry().get(), 123);
-    same(&rt, cert.ceiling().get(), 5);
-    same(&rt, cert.keyings(), 1);
+    same(cert.entry().get(), 123)?;
+    same(cert.ceiling().get(), 5)?;
+    same(cert.keyings(), 1)?;
     let cover = cert.cover();
-    same(&rt, cover.len(), 3);
+    same(cover.len(), 3)?;
     let row = Row {
         id: FrameId::read("1231b")?,
         rank: 1,
@@ -161,9 +161,9 @@ fn a_certificate_is_read_and_written_back(rt: HostRuntime) -> Result<(), Fail> {
             pend: Pend::No,
         },
     };
-    same(&rt, cover.row_of(FrameId::read("1231b")?), Some(&row));
+    same(cover.row_of(FrameId::read("1231b")?), Some(&row))?;
     let text = cert_write(rt.alloc(), &cert)?;
-    same(&rt, text.as_slice(), CERT.as_bytes());
+    same(text.as_slice(), CERT.as_bytes())?;
     Ok(())
 }
 
@@ -173,18 +173,17 @@ fn a_text_that_ends_early_is_truncated_at_its_last_line(rt: HostRuntime) -> Resu
     let mut line = 1;
     for byte in CERT.as_bytes() {
         same_in(
-            &rt,
             line,
             fault_of(rt.alloc(), &text),
             Some(ReadFault::Line(line, LineCause::Truncated)),
-        );
+        )?;
         text.push(*byte)?;
         if *byte == b'\n' && line < 9 {
             line += 1;
         }
     }
-    same(&rt, line, 9);
-    same(&rt, fault_of(rt.alloc(), &text), None);
+    same(line, 9)?;
+    same(fault_of(rt.alloc(), &text), None)?;
     Ok(())
 }
 
@@ -211,7 +210,7 @@ fn head_lines_are_refused(rt: HostRuntime) -> Result<(), Fail> {
             (2, b"entry 1000000000", 2, LineCause::Range),
         ],
     )?;
-    same(&rt, wrong, None);
+    same(wrong, None)?;
     Ok(())
 }
 
@@ -235,7 +234,7 @@ fn numbers_are_refused(rt: HostRuntime) -> Result<(), Fail> {
             (5, b"rows 0", 6, LineCause::Count),
         ],
     )?;
-    same(&rt, wrong, None);
+    same(wrong, None)?;
     Ok(())
 }
 
@@ -267,7 +266,7 @@ fn row_parts_are_refused(rt: HostRuntime) -> Result<(), Fail> {
             (6, b"123a 0 s080", 6, LineCause::Cursor),
         ],
     )?;
-    same(&rt, wrong, None);
+    same(wrong, None)?;
     Ok(())
 }
 
@@ -292,7 +291,7 @@ fn rows_out_of_order_and_lines_at_the_end_are_refused(rt: HostRuntime) -> Result
             (9, b"end\nend", 10, LineCause::Tail),
         ],
     )?;
-    same(&rt, wrong, None);
+    same(wrong, None)?;
     Ok(())
 }
 
@@ -316,7 +315,7 @@ fn every_spelling_of_a_row_is_written_back(rt: HostRuntime) -> Result<(), Fail> 
         let text = with_line(rt.alloc(), 6, row)?;
         let cert = cert_read(rt.alloc(), &text)?;
         let again = cert_write(rt.alloc(), &cert)?;
-        same(&rt, again.as_slice(), text.as_slice());
+        same(again.as_slice(), text.as_slice())?;
     }
     Ok(())
 }
@@ -326,15 +325,13 @@ fn a_line_has_at_most_128_bytes(rt: HostRuntime) -> Result<(), Fail> {
     let longest = repeated(rt.alloc(), b'A', 128)?;
     let longer = repeated(rt.alloc(), b'A', 129)?;
     same(
-        &rt,
         fault_of(rt.alloc(), &longest),
         Some(ReadFault::Line(1, LineCause::Truncated)),
-    );
+    )?;
     same(
-        &rt,
         fault_of(rt.alloc(), &longer),
         Some(ReadFault::Line(1, LineCause::Word)),
-    );
+    )?;
     let wrong = first_wrong(
         rt.alloc(),
         &[
@@ -347,7 +344,7 @@ fn a_line_has_at_most_128_bytes(rt: HostRuntime) -> Result<(), Fail> {
             (9, &longer, 9, LineCause::Word),
         ],
     )?;
-    same(&rt, wrong, None);
+    same(wrong, None)?;
     Ok(())
 }
 
@@ -360,10 +357,9 @@ fn nothing_follows_the_end(rt: HostRuntime) -> Result<(), Fail> {
         text.extend_from_slice(CERT.as_bytes())?;
         text.extend_from_slice(tail)?;
         same(
-            &rt,
             fault_of(rt.alloc(), &text),
             Some(ReadFault::Line(10, LineCause::Tail)),
-        );
+        )?;
     }
     Ok(())
 }
@@ -373,7 +369,7 @@ fn the_cuts_of_a_text_do_not_matter(rt: HostRuntime) -> Result<(), Fail> {
     for size in 1..82 {
         let cert = reading_in_pieces(rt.alloc(), CERT.as_bytes(), size)?;
         let text = cert_write(rt.alloc(), &cert)?;
-        same_in(&rt, size, text.as_slice(), CERT.as_bytes());
+        same_in(size, text.as_slice(), CERT.as_bytes())?;
     }
     Ok(())
 }
@@ -389,15 +385,15 @@ fn a_text_that_ends_early_is_truncated_however_it_is_cut(rt: HostRuntime) -> Res
         for byte in CERT.as_bytes() {
             let read = reading_in_pieces(rt.alloc(), &text, size.max(1));
             let fault = Some(ReadFault::Line(line, LineCause::Truncated));
-            same_in(&rt, size, read.err(), fault);
+            same_in(size, read.err(), fault)?;
             text.push(*byte)?;
             if *byte == b'\n' && line < 9 {
                 line += 1;
             }
         }
-        same(&rt, line, 9);
+        same(line, 9)?;
         let whole = reading_in_pieces(rt.alloc(), &text, size.max(1));
-        same_in(&rt, size, whole.err(), None);
+        same_in(size, whole.err(), None)?;
     }
     Ok(())
 }
@@ -409,7 +405,7 @@ fn a_changed_line_is_refused_however_the_text_is_cut(rt: HostRuntime) -> Result<
             let text = with_line(rt.alloc(), number, line)?;
             let read = reading_in_pieces(rt.alloc(), &text, size.max(1));
             let fault = Some(ReadFault::Line(at, cause));
-            same_in(&rt, size, read.err(), fault);
+            same_in(size, read.err(), fault)?;
         }
     }
     Ok(())
@@ -435,10 +431,9 @@ fn lines_in_another_order_are_refused(rt: HostRuntime) -> Result<(), Fail> {
         ],
     )?;
     same(
-        &rt,
         fault_of(rt.alloc(), &rows),
         Some(ReadFault::Line(8, LineCause::Order)),
-    );
+    )?;
     let head = text_of(
         rt.alloc(),
         &[
@@ -446,19 +441,17 @@ fn lines_in_another_order_are_refused(rt: HostRuntime) -> Result<(), Fail> {
         ],
     )?;
     same(
-        &rt,
         fault_of(rt.alloc(), &head),
         Some(ReadFault::Line(2, LineCause::Word)),
-    );
+    )?;
     let left_out = text_of(
         rt.alloc(),
         &[magic, entry, ceiling, count, first, second, third, end],
     )?;
     same(
-        &rt,
         fault_of(rt.alloc(), &left_out),
         Some(ReadFault::Line(4, LineCause::Word)),
-    );
+    )?;
     Ok(())
 }
 
@@ -466,37 +459,27 @@ fn lines_in_another_order_are_refused(rt: HostRuntime) -> Result<(), Fail> {
 fn a_fault_behind_many_rows_is_told(rt: HostRuntime) -> Result<(), Fail> {
     let row = long_text(rt.alloc(), 65_000, b"1a 0 any")?;
     same(
-        &rt,
         fault_of(rt.alloc(), &row),
         Some(ReadFault::Line(65_000, LineCause::Order)),
-    );
+    )?;
     let end = long_text(rt.alloc(), 65_541, b"END")?;
     same(
-        &rt,
         fault_of(rt.alloc(), &end),
         Some(ReadFault::Line(65_541, LineCause::Count)),
-    );
+    )?;
     Ok(())
 }
 
 #[test]
 fn pieces_of_a_megabyte_are_taken(rt: HostRuntime) -> Result<(), Fail> {
     let text = long_text(rt.alloc(), 0, b"")?;
-    same(&rt, text.len() > 1_048_576, true);
+    same(text.len() > 1_048_576, true)?;
     let cert = reading_in_pieces(rt.alloc(), &text, 1_048_576)?;
-    same(&rt, cert.cover().len(), 65_535);
-    same(
-        &rt,
-        cert_write(rt.alloc(), &cert)?.as_slice(),
-        text.as_slice(),
-    );
+    same(cert.cover().len(), 65_535)?;
+    same(cert_write(rt.alloc(), &cert)?.as_slice(), text.as_slice())?;
     let row = long_text(rt.alloc(), 65_000, b"1a 0 any")?;
     let read = reading_in_pieces(rt.alloc(), &row, 1_048_576);
-    same(
-        &rt,
-        read.err(),
-        Some(ReadFault::Line(65_000, LineCause::Order)),
-    );
+    same(read.err(), Some(ReadFault::Line(65_000, LineCause::Order)))?;
     Ok(())
 }
 
@@ -504,12 +487,11 @@ fn pieces_of_a_megabyte_are_taken(rt: HostRuntime) -> Result<(), Fail> {
 fn a_reader_that_was_refused_has_failed(rt: HostRuntime) -> Result<(), Fail> {
     let mut reader = CertReader::new(rt.alloc());
     same(
-        &rt,
         reader.feed(b"PBC3\n"),
         Err(ReadFault::Line(1, LineCause::Magic)),
-    );
-    same(&rt, reader.feed(b"entry 123\n"), Err(ReadFault::Failed));
-    same(&rt, reader.finish().err(), Some(ReadFault::Failed));
+    )?;
+    same(reader.feed(b"entry 123\n"), Err(ReadFault::Failed))?;
+    same(reader.finish().err(), Some(ReadFault::Failed))?;
     Ok(())
 }
 
@@ -535,12 +517,8 @@ fn the_largest_table_is_written_and_read(rt: HostRuntime) -> Result<(), Fail> {
     };
     let text = cert_write(rt.alloc(), &cert)?;
     let again = cert_read(rt.alloc(), &text)?;
-    same(&rt, again.cover().len(), 65_535);
-    same(
-        &rt,
-        cert_write(rt.alloc(), &again)?.as_slice(),
-        text.as_slice(),
-    );
+    same(again.cover().len(), 65_535)?;
+    same(cert_write(rt.alloc(), &again)?.as_slice(), text.as_slice())?;
     Ok(())
 }
 
@@ -548,16 +526,12 @@ fn the_largest_table_is_written_and_read(rt: HostRuntime) -> Result<(), Fail> {
 fn a_certificate_for_a_group_is_read_and_written_back(rt: HostRuntime) -> Result<(), Fail> {
     let text = text_of(rt.alloc(), &GROUPED)?;
     let cert = cert_read(rt.alloc(), &text)?;
-    same(&rt, cert.groups().len(), 1);
-    same(
-        &rt,
-        cert.groups().has(GroupNo::new(7).ok_or("a group")?),
-        true,
-    );
-    same(&rt, cert.keyings(), 1);
-    same(&rt, cert.cover().len(), 3);
+    same(cert.groups().len(), 1)?;
+    same(cert.groups().has(GroupNo::new(7).ok_or("a group")?), true)?;
+    same(cert.keyings(), 1)?;
+    same(cert.cover().len(), 3)?;
     let again = cert_write(rt.alloc(), &cert)?;
-    same(&rt, again.as_slice(), text.as_slice());
+    same(again.as_slice(), text.as_slice())?;
     Ok(())
 }
 
@@ -576,7 +550,7 @@ fn groups_are_read_however_the_text_is_cut(rt: HostRuntime) -> Result<(), Fail> 
         for size in SIZES {
             let cert = reading_in_pieces(rt.alloc(), &text, size.max(1))?;
             let again = cert_write(rt.alloc(), &cert)?;
-            same_in(&rt, size, again.as_slice(), text.as_slice());
+            same_in(size, again.as_slice(), text.as_slice())?;
         }
     }
     Ok(())
@@ -626,7 +600,7 @@ fn the_line_of_the_groups_is_refused(rt: HostRuntime) -> Result<(), Fail> {
             ),
         ],
     )?;
-    same(&rt, wrong, None);
+    same(wrong, None)?;
     Ok(())
 }
 
@@ -648,22 +622,21 @@ fn lines_behind_the_groups_are_counted_one_further(rt: HostRuntime) -> Result<()
             (10, b"end\nX", 11, LineCause::Tail),
         ],
     )?;
-    same(&rt, wrong, None);
+    same(wrong, None)?;
     let whole = text_of(rt.alloc(), &GROUPED)?;
     let mut text = Vec::new(rt.alloc());
     let mut line = 1;
     for byte in whole.as_slice() {
         same(
-            &rt,
             fault_of(rt.alloc(), &text),
             Some(ReadFault::Line(line, LineCause::Truncated)),
-        );
+        )?;
         text.push(*byte)?;
         if *byte == b'\n' && line < 10 {
             line += 1;
         }
     }
-    same(&rt, line, 10);
+    same(line, 10)?;
     Ok(())
 }
 
@@ -679,12 +652,11 @@ fn line_1_says_whether_groups_come(rt: HostRuntime) -> Result<(), Fail> {
             (1, b"PBC", 1, LineCause::Magic),
         ],
     )?;
-    same(&rt, wrong, None);
+    same(wrong, None)?;
     let no_groups = with_line(rt.alloc(), 1, b"PBC2")?;
     same(
-        &rt,
         fault_of(rt.alloc(), &no_groups),
         Some(ReadFault::Line(5, LineCause::Word)),
-    );
+    )?;
     Ok(())
 }

@@ -3,7 +3,7 @@ use base_text::{RowCells, body_of_rows};
 use std::test::Fail;
 
 #[test]
-fn a_row_has_at_most_40_codes_of_two_ranges(rt: HostRuntime) -> Result<(), Fail> {
+fn a_row_has_at_most_40_codes_of_two_ranges() -> Result<(), Fail> {
     let rows: [&[u8]; 6] = [
         b"",
         b"WELCOME",
@@ -14,11 +14,11 @@ fn a_row_has_at_most_40_codes_of_two_ranges(rt: HostRuntime) -> Result<(), Fail>
     ];
     for codes in rows {
         let row = RowCells::new(codes).ok_or("a row")?;
-        same_in(&rt, codes, row.as_slice(), codes);
+        same_in(codes, row.as_slice(), codes)?;
     }
     let others: [&[u8]; 5] = [&[0x1F], &[0xA0], &[0xFF], &[0x41, 0x0A, 0x41], &[0x41; 41]];
     for codes in others {
-        same_in(&rt, codes, RowCells::new(codes).is_none(), true);
+        same_in(codes, RowCells::new(codes).is_none(), true)?;
     }
     Ok(())
 }
@@ -28,11 +28,11 @@ fn rows_follow_one_another_with_an_end_where_they_are_not_full(
     rt: HostRuntime,
 ) -> Result<(), Fail> {
     let none = body_of_rows(rt.alloc(), &[])?;
-    same(&rt, none.as_slice(), [0x1E, 0x0A].as_slice());
+    same(none.as_slice(), [0x1E, 0x0A].as_slice())?;
 
     let welcome = RowCells::new(b"WELCOME").ok_or("a row")?;
     let body = body_of_rows(rt.alloc(), &[welcome])?;
-    same(&rt, body.as_slice(), b"\x1E\x0AWELCOME\x0D\x0A".as_slice());
+    same(body.as_slice(), b"\x1E\x0AWELCOME\x0D\x0A".as_slice())?;
     Ok(())
 }
 
@@ -48,9 +48,9 @@ fn a_full_row_has_no_end(rt: HostRuntime) -> Result<(), Fail> {
         (42, 47, b"\x0D\x0AC\x0D\x0A"),
     ];
     for (from, to, codes) in parts {
-        same_in(&rt, from, body.as_slice().get(from..to), Some(codes));
+        same_in(from, body.as_slice().get(from..to), Some(codes))?;
     }
-    same(&rt, body.as_slice().len(), 47);
+    same(body.as_slice().len(), 47)?;
     Ok(())
 }
 
@@ -63,8 +63,8 @@ fn a_full_page_has_22_rows_without_an_end(rt: HostRuntime) -> Result<(), Fail> {
     assert_eq!(rt; rows.len(), 22);
     let body = body_of_rows(rt.alloc(), rows.as_slice())?;
     let codes = [0x42; 880];
-    same(&rt, body.as_slice().len(), 882);
-    same(&rt, body.as_slice().get(..2), Some(b"\x1E\x0A".as_slice()));
-    same(&rt, body.as_slice().get(2..), Some(codes.as_slice()));
+    same(body.as_slice().len(), 882)?;
+    same(body.as_slice().get(..2), Some(b"\x1E\x0A".as_slice()))?;
+    same(body.as_slice().get(2..), Some(codes.as_slice()))?;
     Ok(())
 }

@@ -51,21 +51,20 @@ fn a_certificate_has_the_parts_that_it_was_made_of(rt: HostRuntime) -> Result<()
     let Ok(cert) = certificate(rows(rt.alloc(), &DEMO)?) else {
         return Err(Fail::from("refused"));
     };
-    same(&rt, cert.entry().get(), 123);
-    same(&rt, cert.ceiling().get(), 5);
-    same(&rt, cert.keyings(), 1);
-    same(&rt, cert.groups().are_same(&Groups::read("7,9")?), true);
+    same(cert.entry().get(), 123)?;
+    same(cert.ceiling().get(), 5)?;
+    same(cert.keyings(), 1)?;
+    same(cert.groups().are_same(&Groups::read("7,9")?), true)?;
     let cover = cert.cover();
     assert_eq!(rt; cover.len(), 3);
-    same(&rt, cover.row_at(1).id, FrameId::read("1231a")?);
-    same(&rt, cover.rank_of(FrameId::read("1231b")?), Some(1));
-    same(&rt, cover.rank_of(FrameId::read("1231c")?), None);
+    same(cover.row_at(1).id, FrameId::read("1231a")?)?;
+    same(cover.rank_of(FrameId::read("1231b")?), Some(1))?;
+    same(cover.rank_of(FrameId::read("1231c")?), None)?;
     same(
-        &rt,
         cover.row_of(FrameId::read("123a")?).map(|row| row.rank),
         Some(0),
-    );
-    same(&rt, cover.row_of(FrameId::read("124a")?).is_none(), true);
+    )?;
+    same(cover.row_of(FrameId::read("124a")?).is_none(), true)?;
     Ok(())
 }
 
@@ -102,7 +101,7 @@ fn rows_that_make_no_table_are_named(rt: HostRuntime) -> Result<(), Fail> {
         (&[("99z", 0, Place::Any), ("100a", 0, Place::Any)], None),
     ];
     for (i, (list, fault)) in tables.iter().enumerate() {
-        same_in(&rt, i, certificate(rows(rt.alloc(), list)?).err(), *fault);
+        same_in(i, certificate(rows(rt.alloc(), list)?).err(), *fault)?;
     }
     Ok(())
 }
@@ -120,12 +119,11 @@ fn many(alloc: Global, count: u32) -> Result<Vec<Row>, AllocError> {
 
 #[test]
 fn a_table_has_at_most_65_535_rows(rt: HostRuntime) -> Result<(), Fail> {
-    same(&rt, certificate(many(rt.alloc(), 65_535)?).err(), None);
+    same(certificate(many(rt.alloc(), 65_535)?).err(), None)?;
     same(
-        &rt,
         certificate(many(rt.alloc(), 65_536)?).err(),
         Some(TableFault::TooMany),
-    );
+    )?;
     Ok(())
 }
 
@@ -156,32 +154,29 @@ fn a_table_and_a_list_of_rows_answer_alike(rt: HostRuntime) -> Result<(), Fail> 
     for count in [0, 1, 2, 3, 4, 7, 8, 100] {
         let table = covered::<RowTable>(every_third(rt.alloc(), count)?)?;
         let list = covered::<RowList>(every_third(rt.alloc(), count)?)?;
-        same(&rt, table.cover().most(), 16);
-        same(&rt, list.cover().most(), count);
+        same(table.cover().most(), 16)?;
+        same(list.cover().most(), count)?;
         for number in 0..count.saturating_mul(3).saturating_add(3) {
             let id = FrameId::first(PageNo::new(number).ok_or("page")?);
             let (found, asked) = table.cover().row_counted(id);
             let (listed, compared) = list.cover().row_counted(id);
             same_in(
-                &rt,
                 (number, count),
                 found.map(|row| row.rank),
                 listed.map(|row| row.rank),
-            );
+            )?;
             same_in(
-                &rt,
                 (number, count),
                 found.is_some(),
                 number % 3 == 1 && number < count.saturating_mul(3),
-            );
+            )?;
             same_in(
-                &rt,
                 (number, count),
                 table.cover().rank_of(id),
                 list.cover().rank_of(id),
-            );
-            same_in(&rt, (number, count, asked), asked <= 7, true);
-            same_in(&rt, (number, count, compared), compared <= count, true);
+            )?;
+            same_in((number, count, asked), asked <= 7, true)?;
+            same_in((number, count, compared), compared <= count, true)?;
         }
     }
     Ok(())

@@ -1,16 +1,17 @@
 //! One base of three frames and one change at a time. What is wrong with it comes from the rules of the base.
 
-use crate::{Fault, FaultKind, FaultList, Outcome, audit, faults, replay};
+use crate::bases::{base_of, chain, demo};
+use crate::policies::policy;
 use abstract_paint::{AbsCursor, Pend, Place, Start};
-use base_text::base_read;
+use assertions::{same, same_in};
 use cert_table::{Certificate, Cover, Row};
 use checker::Policy;
 use demo_texts::DEMO;
-use frame_records::{Base, Body, Frame, Groups, Lead, Pence};
+use fault_scripts::{Fault, FaultKind, FaultList, Outcome, audit, faults, replay};
+use frame_records::{Base, Groups, Pence};
 use page_ids::{FrameId, Key, KeyList, PageNo, keys_read, keys_text};
 use session_machine::{OpenFault, Reply};
 use std::alloc::Global;
-use std::process::Abort;
 use std::test::Fail;
 
 const LAST: &str = "PART TWO\"\nroutes = { 0 = 123 }";
@@ -19,25 +20,6 @@ const LAST: &str = "PART TWO\"\nroutes = { 0 = 123 }";
 // nowhere; one is closed.
 const ALL_KINDS: &str =
     "entry = 1\noutside = [9]\n[[frame]]\nid = \"1a\"\nrows = []\nroutes = { 4 = 2 }\n[[frame]]\nid = \"2a\"\nprice = 60\nnext = true\nlead = \"keep\"\nbody = \"\\u0009X\"\nroutes = { 3 = 7, 5 = 9, 6 = 8 }\n[[frame]]\nid = \"8a\"\ngroup = 7\nrows = []\n";
-
-fn policy(ceiling: u16, keyings: u16) -> Result<Policy, Fail> {
-    let ceiling = Pence::new(ceiling).ok_or("ceiling")?;
-    Ok(Policy {
-        ceiling,
-        keyings,
-        groups: Groups::none(),
-    })
-}
-
-fn base_of(alloc: Global, text: &str) -> Result<Base, Fail> {
-    Ok(base_read(alloc, text.as_bytes()).ok().ok_or("a base")?)
-}
-
-// The base with one change.
-fn demo(alloc: Global, old: &str, new: &str) -> Result<Base, Fail> {
-    let text = DEMO.replacen(alloc, old, new, 1)?;
-    base_of(alloc, text.as_str())
-}
 
 // The text of a key; empty where there is none.
 fn key_text(alloc: Global, key: Option<Key>) -> Result<Vec<u8>, Fail> {
@@ -49,8 +31,8 @@ fn key_text(alloc: Global, key: Option<Key>) -> Result<Vec<u8>, Fail> {
 }
 
 // The fault has this kind, frame, key, frame sought and script; a key or a frame sought that isn't there is the empty text.
-fn assert_fault(
-    rt: &(impl Abort + AllocGlobal),
+fn is_fault(
+    alloc: Global,
     fault: &Fault,
     kind: FaultKind,
     frame: &str,
@@ -58,27 +40,38 @@ fn assert_fault(
     sought: &str,
     script: &str,
 ) -> Result<(), Fail> {
-    assert_eq!(rt; fault.kind, kind, "{script}");
-    assert_eq!(rt; fault.frame, FrameId::read(frame)?, "{script}");
-    assert_eq!(rt; key_text(rt.alloc(), fault.key)?.as_slice(), key.as_bytes());
-    assert_eq!(rt; fault.sought, FrameId::read(sought).ok(), "{script}");
-    let keys = keys_text(rt.alloc(), &fault.script)?;
-    assert_eq!(rt; keys.as_slice(), script.as_bytes());
+    same_in(script, fault.kind, kind)?;
+    same_in(script, fault.frame, FrameId::read(frame)?)?;
+    same(key_text(alloc, fault.key)?.as_slice(), key.as_bytes())?;
+    same_in(script, fault.sought, FrameId::read(sought).ok())?;
+    let keys = keys_text(alloc, &fault.script)?;
+    same(keys.as_slice(), script.as_bytes())?;
     Ok(())
 }
 
-fn certified(rt: &HostRuntime, base: &Base, policy: &Policy) -> Result<Certificate, Fail> {
-    match audit(rt.alloc(), base, policy)? {
+fn certified(alloc: Global, base: &Base, policy: &Policy) -> Result<Certificate, Fail> {
+    match audit(alloc, base, policy)? {
         Outcome::Certified(cert) => Ok(cert),
         Outcome::Faulty(_) => Err("faults".into()),
     }
 }
 
-fn faulty(rt: &HostRuntime, base: &Base, policy: &Policy) -> Result<FaultList, Fail> {
-    match audit(rt.alloc(), base, policy)? {
+fn faulty(alloc: Global, base: &Base, policy: &Policy) -> Result<FaultList, Fail> {
+    match audit(alloc, base, policy)? {
         Outcome::Certified(_) => Err("no faults".into()),
         Outcome::Faulty(list) => Ok(list),
     }
+}
+
+fn fault_at(list: &FaultList, index: usize) -> Result<&Fault, Fail> {
+    let fault = list.as_slice().get(index).ok_or("a fault")?;
+    Ok(fault)
+}
+
+// The one fault of a list.
+fn only(list: &FaultList) -> Result<&Fault, Fail> {
+    same(list.as_slice().len(), 1)?;
+    fault_at(list, 0)
 }
 
 fn spot(position: u16) -> AbsCursor {
@@ -91,42 +84,50 @@ fn spot(position: u16) -> AbsCursor {
 #[test]
 fn a_safe_base_is_certified(rt: HostRuntime) -> Result<(), Fail> {
     let base = base_of(rt.alloc(), DEMO)?;
-    let cert = certified(&rt, &base, &policy(50, 3)?)?;
-    assert_eq!(rt; cert.entry().get(), 123);
-    assert_eq!(rt; cert.ceiling().get(), 5);
-    assert_eq!(rt; cert.keyings(), 1);
-    assert_eq!(rt; cert.cover().len(), 3);
+    let cert = certified(rt.alloc(), &base, &policy(50, 3)?)?;
+    same(cert.entry().get(), 123)?;
+    same(cert.ceiling().get(), 5)?;
+    same(cert.keyings(), 1)?;
+    same(cert.cover().len(), 3)?;
     let wanted: [(&str, u16, u16); 3] = [("123a", 0, 80), ("1231a", 1, 80), ("1231b", 1, 48)];
     for (id, rank, at) in wanted {
         let id = FrameId::read(id)?;
         let row = cert.cover().row_of(id).ok_or("row")?;
-        assert_eq!(rt;
+        same(
             *row,
             Row {
                 id,
                 rank,
-                cursor: spot(at)
-            }
-        );
+                cursor: spot(at),
+            },
+        )?;
     }
-    assert!(rt;
+    same(
         faults(rt.alloc(), &base, &policy(50, 3)?)?
             .as_slice()
-            .is_empty()
-    );
+            .is_empty(),
+        true,
+    )?;
     Ok(())
 }
 
 #[test]
 fn a_closed_frame_is_told_where_its_key_is_pressed(rt: HostRuntime) -> Result<(), Fail> {
     let base = demo(rt.alloc(), "lead = \"keep\"", "lead = \"keep\"\ngroup = 7")?;
-    let list = faulty(&rt, &base, &policy(50, 3)?)?;
-    assert_eq!(rt; list.as_slice().len(), 1);
-    let fault = &list.as_slice()[0];
-    assert_fault(&rt, fault, FaultKind::Closed, "1231a", "#", "1231b", "1#")?;
+    let list = faulty(rt.alloc(), &base, &policy(50, 3)?)?;
+    let fault = only(&list)?;
+    is_fault(
+        rt.alloc(),
+        fault,
+        FaultKind::Closed,
+        "1231a",
+        "#",
+        "1231b",
+        "1#",
+    )?;
     let end = replay(rt.alloc(), &base, &Groups::none(), &fault.script)?;
-    assert_eq!(rt; end.last, Reply::Closed(FrameId::read("1231b")?));
-    assert_eq!(rt; end.at, Some(FrameId::read("1231a")?));
+    same(end.last, Reply::Closed(FrameId::read("1231b")?))?;
+    same(end.at, Some(FrameId::read("1231a")?))?;
     Ok(())
 }
 
@@ -135,18 +136,25 @@ fn a_base_may_be_safe_for_callers_of_a_group_alone(rt: HostRuntime) -> Result<()
     let base = demo(rt.alloc(), "lead = \"keep\"", "lead = \"keep\"\ngroup = 7")?;
     let mut members = policy(50, 3)?;
     members.groups = Groups::read("7")?;
-    let cert = certified(&rt, &base, &members)?;
-    assert_eq!(rt; cert.entry().get(), 123);
-    assert_eq!(rt; cert.ceiling().get(), 5);
-    assert_eq!(rt; cert.keyings(), 1);
-    assert_eq!(rt; cert.cover().len(), 3);
+    let cert = certified(rt.alloc(), &base, &members)?;
+    same(cert.entry().get(), 123)?;
+    same(cert.ceiling().get(), 5)?;
+    same(cert.keyings(), 1)?;
+    same(cert.cover().len(), 3)?;
     let groups = cert.groups();
-    assert_eq!(rt; groups.len(), 1);
-    assert_eq!(rt; groups.at(0).get(), 7);
-    let list = faulty(&rt, &base, &policy(50, 3)?)?;
-    assert_eq!(rt; list.as_slice().len(), 1);
-    let fault = &list.as_slice()[0];
-    assert_fault(&rt, fault, FaultKind::Closed, "1231a", "#", "1231b", "1#")
+    same(groups.len(), 1)?;
+    same(groups.at(0).get(), 7)?;
+    let list = faulty(rt.alloc(), &base, &policy(50, 3)?)?;
+    let fault = only(&list)?;
+    is_fault(
+        rt.alloc(),
+        fault,
+        FaultKind::Closed,
+        "1231a",
+        "#",
+        "1231b",
+        "1#",
+    )
 }
 
 #[test]
@@ -156,11 +164,11 @@ fn replay_is_by_a_caller_of_the_groups(rt: HostRuntime) -> Result<(), Fail> {
     let last = FrameId::read("1231b")?;
     let free = Pence::new(0).ok_or("price")?;
     let end = replay(rt.alloc(), &base, &Groups::read("7")?, &keys)?;
-    assert_eq!(rt; end.last, Reply::Shown(last, free));
-    assert_eq!(rt; end.at, Some(last));
+    same(end.last, Reply::Shown(last, free))?;
+    same(end.at, Some(last))?;
     let end = replay(rt.alloc(), &base, &Groups::none(), &keys)?;
-    assert_eq!(rt; end.last, Reply::Closed(last));
-    assert_eq!(rt; end.at, Some(FrameId::read("1231a")?));
+    same(end.last, Reply::Closed(last))?;
+    same(end.at, Some(FrameId::read("1231a")?))?;
     Ok(())
 }
 
@@ -168,11 +176,19 @@ fn replay_is_by_a_caller_of_the_groups(rt: HostRuntime) -> Result<(), Fail> {
 fn each_key_to_a_missing_page_is_told(rt: HostRuntime) -> Result<(), Fail> {
     let routes = "PART TWO\"\nroutes = { 0 = 123, 8 = 555, 9 = 555 }";
     let base = demo(rt.alloc(), LAST, routes)?;
-    let list = faulty(&rt, &base, &policy(50, 3)?)?;
-    assert_eq!(rt; list.as_slice().len(), 2);
+    let list = faulty(rt.alloc(), &base, &policy(50, 3)?)?;
+    same(list.as_slice().len(), 2)?;
     let wanted: [(&str, &str); 2] = [("8", "1#8"), ("9", "1#9")];
     for (fault, (key, script)) in list.as_slice().iter().zip(wanted) {
-        assert_fault(&rt, fault, FaultKind::Missing, "1231b", key, "555a", script)?;
+        is_fault(
+            rt.alloc(),
+            fault,
+            FaultKind::Missing,
+            "1231b",
+            key,
+            "555a",
+            script,
+        )?;
     }
     Ok(())
 }
@@ -180,52 +196,58 @@ fn each_key_to_a_missing_page_is_told(rt: HostRuntime) -> Result<(), Fail> {
 #[test]
 fn a_frame_without_a_way_back_is_told(rt: HostRuntime) -> Result<(), Fail> {
     let base = demo(rt.alloc(), LAST, "PART TWO\"\nroutes = { 0 = 0 }")?;
-    let list = faulty(&rt, &base, &policy(50, 3)?)?;
-    assert_eq!(rt; list.as_slice().len(), 1);
-    let fault = &list.as_slice()[0];
-    assert_fault(&rt, fault, FaultKind::NoReturn, "1231b", "", "", "1#")
+    let list = faulty(rt.alloc(), &base, &policy(50, 3)?)?;
+    let fault = only(&list)?;
+    is_fault(
+        rt.alloc(),
+        fault,
+        FaultKind::NoReturn,
+        "1231b",
+        "",
+        "",
+        "1#",
+    )
 }
 
 #[test]
 fn faults_come_in_the_order_of_discovery(rt: HostRuntime) -> Result<(), Fail> {
     let base = base_of(rt.alloc(), DEMO)?;
     let list = faults(rt.alloc(), &base, &policy(4, 0)?)?;
-    assert_eq!(rt; list.as_slice().len(), 3);
+    same(list.as_slice().len(), 3)?;
     let wanted: [(FaultKind, &str, &str); 3] = [
         (FaultKind::Price, "1231a", "1"),
         (FaultKind::NoReturn, "1231a", "1"),
         (FaultKind::NoReturn, "1231b", "1#"),
     ];
     for (fault, (kind, frame, script)) in list.as_slice().iter().zip(wanted) {
-        assert_fault(&rt, fault, kind, frame, "", "", script)?;
+        is_fault(rt.alloc(), fault, kind, frame, "", "", script)?;
     }
-    assert_eq!(rt; list.as_slice()[0].price.get(), 5);
-    assert_eq!(rt; list.as_slice()[1].price.get(), 0);
+    same(fault_at(&list, 0)?.price.get(), 5)?;
+    same(fault_at(&list, 1)?.price.get(), 0)?;
     Ok(())
 }
 
 #[test]
 fn a_touch_is_told_with_its_least_start(rt: HostRuntime) -> Result<(), Fail> {
     let base = demo(rt.alloc(), "\\u001E\\u000APART TWO", "A")?;
-    let list = faulty(&rt, &base, &policy(50, 3)?)?;
-    assert_eq!(rt; list.as_slice().len(), 1);
-    let fault = &list.as_slice()[0];
-    assert_fault(&rt, fault, FaultKind::Touches, "1231b", "", "", "1#")?;
-    assert_eq!(rt;
+    let list = faulty(rt.alloc(), &base, &policy(50, 3)?)?;
+    let fault = only(&list)?;
+    is_fault(rt.alloc(), fault, FaultKind::Touches, "1231b", "", "", "1#")?;
+    same(
         fault.start,
         Some(Start {
             at: 0,
             pending: false,
-            offset: 0
-        })
-    );
+            offset: 0,
+        }),
+    )?;
     Ok(())
 }
 
 #[test]
 fn one_frame_has_a_fault_of_each_kind(rt: HostRuntime) -> Result<(), Fail> {
     let base = base_of(rt.alloc(), ALL_KINDS)?;
-    let list = faulty(&rt, &base, &policy(50, 3)?)?;
+    let list = faulty(rt.alloc(), &base, &policy(50, 3)?)?;
     let wanted: [(FaultKind, &str, &str, &str); 6] = [
         (FaultKind::Price, "", "", "4"),
         (FaultKind::Touches, "", "", "4"),
@@ -234,40 +256,45 @@ fn one_frame_has_a_fault_of_each_kind(rt: HostRuntime) -> Result<(), Fail> {
         (FaultKind::Missing, "#", "2b", "4#"),
         (FaultKind::NoReturn, "", "", "4"),
     ];
-    assert_eq!(rt; list.as_slice().len(), wanted.len());
+    same(list.as_slice().len(), wanted.len())?;
     for (fault, (kind, key, sought, script)) in list.as_slice().iter().zip(wanted) {
-        assert_fault(&rt, fault, kind, "2a", key, sought, script)?;
+        is_fault(rt.alloc(), fault, kind, "2a", key, sought, script)?;
     }
-    assert_eq!(rt; list.as_slice()[0].price.get(), 60);
+    same(fault_at(&list, 0)?.price.get(), 60)?;
     Ok(())
 }
 
 #[test]
 fn an_entry_that_is_not_found_is_the_one_fault(rt: HostRuntime) -> Result<(), Fail> {
     let base = base_of(rt.alloc(), "entry = 0\n")?;
-    let list = faulty(&rt, &base, &policy(0, 0)?)?;
-    assert_eq!(rt; list.as_slice().len(), 1);
-    let fault = &list.as_slice()[0];
-    assert_fault(&rt, fault, FaultKind::EntryMissing, "0a", "", "", "")?;
-    assert_eq!(rt;
+    let list = faulty(rt.alloc(), &base, &policy(0, 0)?)?;
+    let fault = only(&list)?;
+    is_fault(rt.alloc(), fault, FaultKind::EntryMissing, "0a", "", "", "")?;
+    same(
         replay(rt.alloc(), &base, &Groups::none(), &fault.script),
-        Err(OpenFault::EntryMissing)
-    );
+        Err(OpenFault::EntryMissing),
+    )?;
     let base = demo(rt.alloc(), "id = \"123a\"", "id = \"123a\"\ngroup = 7")?;
-    let list = faulty(&rt, &base, &policy(50, 3)?)?;
-    assert_eq!(rt; list.as_slice().len(), 1);
-    let fault = &list.as_slice()[0];
-    assert_fault(&rt, fault, FaultKind::EntryClosed, "123a", "", "", "")
+    let list = faulty(rt.alloc(), &base, &policy(50, 3)?)?;
+    let fault = only(&list)?;
+    is_fault(
+        rt.alloc(),
+        fault,
+        FaultKind::EntryClosed,
+        "123a",
+        "",
+        "",
+        "",
+    )
 }
 
 #[test]
 fn the_entry_frame_may_be_too_dear(rt: HostRuntime) -> Result<(), Fail> {
     let base = demo(rt.alloc(), "id = \"123a\"", "id = \"123a\"\nprice = 51")?;
-    let list = faulty(&rt, &base, &policy(50, 3)?)?;
-    assert_eq!(rt; list.as_slice().len(), 1);
-    let fault = &list.as_slice()[0];
-    assert_fault(&rt, fault, FaultKind::Price, "123a", "", "", "")?;
-    assert_eq!(rt; fault.price.get(), 51);
+    let list = faulty(rt.alloc(), &base, &policy(50, 3)?)?;
+    let fault = only(&list)?;
+    is_fault(rt.alloc(), fault, FaultKind::Price, "123a", "", "", "")?;
+    same(fault.price.get(), 51)?;
     Ok(())
 }
 
@@ -282,16 +309,16 @@ fn replay_tells_the_last_reply_and_the_place(rt: HostRuntime) -> Result<(), Fail
         &keys_read(rt.alloc(), "")?,
     )?;
     let free = Pence::new(0).ok_or("price")?;
-    assert_eq!(rt; opened.last, Reply::Shown(id, free));
-    assert_eq!(rt; opened.at, Some(id));
+    same(opened.last, Reply::Shown(id, free))?;
+    same(opened.at, Some(id))?;
     let left = replay(
         rt.alloc(),
         &base,
         &Groups::none(),
         &keys_read(rt.alloc(), "01")?,
     )?;
-    assert_eq!(rt; left.last, Reply::NotOffered);
-    assert!(rt; left.at.is_none());
+    same(left.last, Reply::NotOffered)?;
+    same(left.at.is_none(), true)?;
     Ok(())
 }
 
@@ -307,52 +334,25 @@ fn replay_presses_20_000_keys(rt: HostRuntime) -> Result<(), Fail> {
     )?;
     let entry = FrameId::read("123a")?;
     let free = Pence::new(0).ok_or("price")?;
-    assert_eq!(rt; end.last, Reply::Shown(entry, free));
-    assert_eq!(rt; end.at, Some(entry));
+    same(end.last, Reply::Shown(entry, free))?;
+    same(end.at, Some(entry))?;
     Ok(())
-}
-
-// A frame `a` on each page from 0 on: route 0 leads to the entry page 0, and route 1 to the following page. Route 5 of the last
-// leads to a page of its own.
-fn chain(alloc: Global, count: u32, last: u32) -> Result<Base, Fail> {
-    let mut frames = Vec::new(alloc);
-    for number in 0..count {
-        let mut routes = [None; 10];
-        routes[0] = PageNo::new(0);
-        if number + 1 < count {
-            routes[1] = PageNo::new(number + 1);
-        } else {
-            routes[5] = PageNo::new(last);
-        }
-        frames.push(Frame {
-            id: FrameId::first(PageNo::new(number).ok_or("page")?),
-            price: Pence::new(0).ok_or("price")?,
-            group: None,
-            next: false,
-            routes,
-            lead: Lead::Clear,
-            body: Body::of(Vec::new(alloc)),
-        })?;
-    }
-    let entry = PageNo::new(0).ok_or("page")?;
-    Ok(Base::build(entry, Vec::new(alloc), frames)?)
 }
 
 #[test]
 fn a_script_has_a_key_for_each_frame_of_a_long_chain(rt: HostRuntime) -> Result<(), Fail> {
-    let base = chain(rt.alloc(), 20_000, 999_999)?;
+    let base = chain(rt.alloc(), 20_000, PageNo::new(0), PageNo::new(999_999))?;
     let way = "1".repeat(rt.alloc(), 19_999)?;
     let script = format!(in rt.alloc(); "{}5", way.as_str())?;
     let policy = policy(0, 1)?;
     let lists = [
-        faulty(&rt, &base, &policy)?,
+        faulty(rt.alloc(), &base, &policy)?,
         faults(rt.alloc(), &base, &policy)?,
     ];
     for list in &lists {
-        assert_eq!(rt; list.as_slice().len(), 1);
-        let fault = &list.as_slice()[0];
-        assert_fault(
-            &rt,
+        let fault = only(list)?;
+        is_fault(
+            rt.alloc(),
             fault,
             FaultKind::Missing,
             "19999a",
@@ -361,18 +361,18 @@ fn a_script_has_a_key_for_each_frame_of_a_long_chain(rt: HostRuntime) -> Result<
             script.as_str(),
         )?;
         let end = replay(rt.alloc(), &base, &Groups::none(), &fault.script)?;
-        assert_eq!(rt; end.last, Reply::Missing(FrameId::read("999999a")?));
-        assert_eq!(rt; end.at, Some(FrameId::read("19999a")?));
+        same(end.last, Reply::Missing(FrameId::read("999999a")?))?;
+        same(end.at, Some(FrameId::read("19999a")?))?;
     }
     Ok(())
 }
 
 #[test]
 fn a_safe_base_of_65_535_frames_is_certified(rt: HostRuntime) -> Result<(), Fail> {
-    let base = chain(rt.alloc(), 65_535, 0)?;
-    let cert = certified(&rt, &base, &policy(0, 1)?)?;
-    assert_eq!(rt; cert.cover().len(), 65_535);
-    assert_eq!(rt; cert.ceiling().get(), 0);
-    assert_eq!(rt; cert.keyings(), 1);
+    let base = chain(rt.alloc(), 65_535, PageNo::new(0), PageNo::new(0))?;
+    let cert = certified(rt.alloc(), &base, &policy(0, 1)?)?;
+    same(cert.cover().len(), 65_535)?;
+    same(cert.ceiling().get(), 0)?;
+    same(cert.keyings(), 1)?;
     Ok(())
 }

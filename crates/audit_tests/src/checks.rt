@@ -1,33 +1,18 @@
 //! One base of three frames, its certificate, and one change at a time. Verdicts come from the list of conditions.
 
-use crate::{
-    Cause, ChangeVerdict, InputFault, Policy, Verdict, check, check_bytes, check_change,
-    check_counted,
-};
+use crate::policies::{policy, policy_for};
+use assertions::{same, same_in};
 use base_text::base_read;
 use cert_table::{Certificate, Cover, RowList};
 use cert_text::{LineCause, ReadFault, cert_read};
+use checker::{
+    Cause, ChangeVerdict, InputFault, Policy, Verdict, check, check_bytes, check_change,
+    check_counted,
+};
 use demo_texts::{CERT, DEMO};
-use frame_records::{Groups, Pence};
 use page_ids::{Digit, FrameId};
 use std::alloc::Global;
 use std::test::Fail;
-
-fn policy(ceiling: u16, keyings: u16) -> Result<Policy, Fail> {
-    let ceiling = Pence::new(ceiling).ok_or("ceiling")?;
-    Ok(Policy {
-        ceiling,
-        keyings,
-        groups: Groups::none(),
-    })
-}
-
-// The same for a caller of groups.
-fn policy_for(ceiling: u16, keyings: u16, groups: &str) -> Result<Policy, Fail> {
-    let mut policy = policy(ceiling, keyings)?;
-    policy.groups = Groups::read(groups)?;
-    Ok(policy)
-}
 
 fn verdict(alloc: Global, base: &str, cert: &str, policy: &Policy) -> Result<Verdict, InputFault> {
     check_bytes(alloc, base.as_bytes(), cert.as_bytes(), policy)
@@ -36,18 +21,18 @@ fn verdict(alloc: Global, base: &str, cert: &str, policy: &Policy) -> Result<Ver
 #[test]
 fn the_policy_bounds_what_is_certified(rt: HostRuntime) -> Result<(), Fail> {
     let alloc = rt.alloc();
-    assert_eq!(rt;
+    same(
         verdict(alloc, DEMO, CERT, &policy(5, 1)?),
-        Ok(Verdict::Cleared)
-    );
-    assert_eq!(rt;
+        Ok(Verdict::Cleared),
+    )?;
+    same(
         verdict(alloc, DEMO, CERT, &policy(4, 1)?),
-        Ok(Verdict::Refused(Cause::CeilingAbove))
-    );
-    assert_eq!(rt;
+        Ok(Verdict::Refused(Cause::CeilingAbove)),
+    )?;
+    same(
         verdict(alloc, DEMO, CERT, &policy(5, 0)?),
-        Ok(Verdict::Refused(Cause::KeyingsAbove))
-    );
+        Ok(Verdict::Refused(Cause::KeyingsAbove)),
+    )?;
     Ok(())
 }
 
@@ -73,11 +58,11 @@ fn one_change_of_the_certificate_is_refused(rt: HostRuntime) -> Result<(), Fail>
     ];
     for (old, new, cause) in rows {
         let cert = CERT.replacen(alloc, old, new, 1)?;
-        assert_eq!(rt;
+        same_in(
+            new,
             verdict(alloc, DEMO, cert.as_str(), &policy(5, 1)?),
             Ok(Verdict::Refused(cause)),
-            "{new}"
-        );
+        )?;
     }
     Ok(())
 }
@@ -109,11 +94,11 @@ fn one_change_of_the_base_is_refused(rt: HostRuntime) -> Result<(), Fail> {
     ];
     for (old, new, cause) in rows {
         let base = DEMO.replacen(alloc, old, new, 1)?;
-        assert_eq!(rt;
+        same_in(
+            new,
             verdict(alloc, base.as_str(), CERT, &policy(5, 1)?),
             Ok(Verdict::Refused(cause)),
-            "{new}"
-        );
+        )?;
     }
     Ok(())
 }
@@ -130,11 +115,11 @@ fn double_height_in_the_last_row_is_refused(rt: HostRuntime) -> Result<(), Fail>
         }
         rows.push_str("\"\\u008D\"")?;
         let base = DEMO.replacen(alloc, "\"WELCOME\"", rows.as_str(), 1)?;
-        assert_eq!(rt;
+        same_in(
+            empty,
             verdict(alloc, base.as_str(), CERT, &policy(5, 1)?),
             Ok(Verdict::Refused(cause)),
-            "{empty}"
-        );
+        )?;
     }
     Ok(())
 }
@@ -144,21 +129,21 @@ fn what_is_not_covered_is_refused(rt: HostRuntime) -> Result<(), Fail> {
     let alloc = rt.alloc();
     let a = FrameId::read("1231a")?;
     let empty = "PBC1\nentry 123\nceiling 0\nkeyings 0\nrows 0\nend\n";
-    assert_eq!(rt;
+    same(
         verdict(alloc, DEMO, empty, &policy(0, 0)?),
-        Ok(Verdict::Refused(Cause::EntryNotCovered))
-    );
+        Ok(Verdict::Refused(Cause::EntryNotCovered)),
+    )?;
     let short = "PBC1\nentry 123\nceiling 5\nkeyings 1\nrows 2\n123a 0 s80\n1231a 1 s80\nend\n";
-    assert_eq!(rt;
+    same(
         verdict(alloc, DEMO, short, &policy(5, 1)?),
-        Ok(Verdict::Refused(Cause::NextNotCovered(a)))
-    );
+        Ok(Verdict::Refused(Cause::NextNotCovered(a))),
+    )?;
     let zero =
         "PBC1\nentry 123\nceiling 5\nkeyings 0\nrows 3\n123a 0 s80\n1231a 0 s80\n1231b 0 s48\nend\n";
-    assert_eq!(rt;
+    same(
         verdict(alloc, DEMO, zero, &policy(5, 0)?),
-        Ok(Verdict::Refused(Cause::RankZero(a)))
-    );
+        Ok(Verdict::Refused(Cause::RankZero(a))),
+    )?;
     Ok(())
 }
 
@@ -172,40 +157,40 @@ fn a_certificate_speaks_for_its_groups_alone(rt: HostRuntime) -> Result<(), Fail
     let cert = CERT.replacen(alloc, "PBC1", "PBC2", 1)?;
     let cert = cert.replacen(alloc, "rows 3", "groups 7\nrows 3", 1)?;
     let refused = |cause| Ok(Verdict::Refused(cause));
-    assert_eq!(rt;
+    same(
         verdict(alloc, base.as_str(), cert.as_str(), &policy_for(5, 1, "7")?),
-        Ok(Verdict::Cleared)
-    );
+        Ok(Verdict::Cleared),
+    )?;
     for groups in ["8", "7,8"] {
-        assert_eq!(rt;
+        same_in(
+            groups,
             verdict(
                 alloc,
                 base.as_str(),
                 cert.as_str(),
-                &policy_for(5, 1, groups)?
+                &policy_for(5, 1, groups)?,
             ),
             refused(Cause::GroupsDiffer),
-            "{groups}"
-        );
+        )?;
     }
-    assert_eq!(rt;
+    same(
         verdict(alloc, base.as_str(), cert.as_str(), &policy(5, 1)?),
-        refused(Cause::GroupsDiffer)
-    );
-    assert_eq!(rt;
+        refused(Cause::GroupsDiffer),
+    )?;
+    same(
         verdict(alloc, DEMO, CERT, &policy_for(5, 1, "7")?),
-        refused(Cause::GroupsDiffer)
-    );
+        refused(Cause::GroupsDiffer),
+    )?;
     let other = cert.replacen(alloc, "groups 7", "groups 8", 1)?;
-    assert_eq!(rt;
+    same(
         verdict(
             alloc,
             base.as_str(),
             other.as_str(),
-            &policy_for(5, 1, "8")?
+            &policy_for(5, 1, "8")?,
         ),
-        refused(Cause::ClosedFrame(FrameId::read("1231b")?))
-    );
+        refused(Cause::ClosedFrame(FrameId::read("1231b")?)),
+    )?;
     Ok(())
 }
 
@@ -220,10 +205,10 @@ fn groups_are_compared_before_the_entry_frame(rt: HostRuntime) -> Result<(), Fai
         (policy_for(0, 1, "7")?, Cause::EntryNotCovered),
     ];
     for (policy, cause) in &rows {
-        assert_eq!(rt;
+        same(
             verdict(alloc, DEMO, empty, policy),
-            Ok(Verdict::Refused(*cause))
-        );
+            Ok(Verdict::Refused(*cause)),
+        )?;
     }
     Ok(())
 }
@@ -232,12 +217,12 @@ fn groups_are_compared_before_the_entry_frame(rt: HostRuntime) -> Result<(), Fai
 fn the_base_text_is_read_first(rt: HostRuntime) -> Result<(), Fail> {
     let alloc = rt.alloc();
     let none = verdict(alloc, "", "PBC3\n", &policy(5, 1)?);
-    assert!(rt; matches!(none, Err(InputFault::Base(_))));
+    same(matches!(none, Err(InputFault::Base(_))), true)?;
     let line = ReadFault::Line(1, LineCause::Magic);
-    assert_eq!(rt;
+    same(
         verdict(alloc, DEMO, "PBC3\n", &policy(5, 1)?),
-        Err(InputFault::Cert(line))
-    );
+        Err(InputFault::Cert(line)),
+    )?;
     Ok(())
 }
 
@@ -249,7 +234,7 @@ fn a_base_and_a_certificate_are_checked_as_they_are(rt: HostRuntime) -> Result<(
     let Ok(cert) = cert_read(rt.alloc(), CERT.as_bytes()) else {
         return Err(Fail::from("certificate"));
     };
-    assert_eq!(rt; check(&base, &policy(5, 1)?, &cert), Verdict::Cleared);
+    same(check(&base, &policy(5, 1)?, &cert), Verdict::Cleared)?;
     Ok(())
 }
 
@@ -278,21 +263,17 @@ fn what_a_check_took_is_counted(rt: HostRuntime) -> Result<(), Fail> {
     let base = base_read(rt.alloc(), DEMO.as_bytes())?;
     let cert = cert_read(rt.alloc(), CERT.as_bytes())?;
     let (verdict, count) = check_counted(&base, &policy(5, 1)?, &cert);
-    assert_eq!(rt; verdict, Verdict::Cleared);
-    assert_eq!(rt; count.steps, 33);
-    assert!(rt;
+    same(verdict, Verdict::Cleared)?;
+    same(count.steps, 33)?;
+    same_in(
+        count.probes,
         count.probes >= 9 && count.probes <= 1_088,
-        "{}",
-        count.probes
-    );
+        true,
+    )?;
     let (verdict, count) = check_counted(&base, &policy(5, 1)?, &as_list(rt.alloc(), &cert)?);
-    assert_eq!(rt; verdict, Verdict::Cleared);
-    assert_eq!(rt; count.steps, 33);
-    assert!(rt;
-        count.probes >= 9 && count.probes <= 646,
-        "{}",
-        count.probes
-    );
+    same(verdict, Verdict::Cleared)?;
+    same(count.steps, 33)?;
+    same_in(count.probes, count.probes >= 9 && count.probes <= 646, true)?;
     Ok(())
 }
 
@@ -336,7 +317,7 @@ fn a_list_of_rows_is_judged_as_a_table(rt: HostRuntime) -> Result<(), Fail> {
             let cert = cert_read(rt.alloc(), text.as_bytes())?;
             let list = as_list(rt.alloc(), &cert)?;
             let wanted = check(&base, &policy, &cert);
-            assert_eq!(rt; check(&base, &policy, &list), wanted, "{new_base} {new}");
+            same_in(new_base, check(&base, &policy, &list), wanted)?;
         }
     }
     Ok(())
@@ -364,17 +345,14 @@ fn a_change_is_cleared_where_each_old_row_has_a_new_one(rt: HostRuntime) -> Resu
     let one = DEMO.replacen(alloc, "next = true\n", "", 1)?;
     let dear = CERT.replacen(alloc, "ceiling 5", "ceiling 60", 1)?;
     let b = FrameId::read("1231b")?;
-    assert_eq!(rt;
-        changed(alloc, DEMO, CERT, &policy)?,
-        ChangeVerdict::Cleared
-    );
-    assert_eq!(rt;
+    same(changed(alloc, DEMO, CERT, &policy)?, ChangeVerdict::Cleared)?;
+    same(
         changed(alloc, one.as_str(), shorter, &policy)?,
-        ChangeVerdict::NoLongerCovered(b)
-    );
-    assert_eq!(rt;
+        ChangeVerdict::NoLongerCovered(b),
+    )?;
+    same(
         changed(alloc, DEMO, dear.as_str(), &policy)?,
-        ChangeVerdict::New(Cause::CeilingAbove)
-    );
+        ChangeVerdict::New(Cause::CeilingAbove),
+    )?;
     Ok(())
 }

@@ -1,6 +1,7 @@
 //! Each printed line, beside the words that the program's formats give.
 
-use crate::{RunFault, change_text, entry_text, fault_text, verdict_text, walk_text};
+use assertions::{same, same_in};
+use audit_report::{RunFault, change_text, entry_text, fault_text, verdict_text, walk_text};
 use base_text::{BaseFault, Cause as BaseCause, Field};
 use cert_text::{LineCause, ReadFault};
 use checker::{Cause, ChangeVerdict, Verdict};
@@ -49,11 +50,11 @@ fn a_verdict_is_one_line(rt: HostRuntime) -> Result<(), Fail> {
         ),
     ];
     for (verdict, line) in rows {
-        assert_eq!(rt;
+        same_in(
+            line,
             verdict_text(rt.alloc(), &verdict)?.as_slice(),
             line.as_bytes(),
-            "{line}"
-        );
+        )?;
     }
     Ok(())
 }
@@ -78,11 +79,11 @@ fn a_verdict_on_a_change_is_one_line(rt: HostRuntime) -> Result<(), Fail> {
         ),
     ];
     for (verdict, line) in rows {
-        assert_eq!(rt;
+        same_in(
+            line,
             change_text(rt.alloc(), &verdict)?.as_slice(),
             line.as_bytes(),
-            "{line}"
-        );
+        )?;
     }
     Ok(())
 }
@@ -101,11 +102,11 @@ fn a_walk_is_a_line_for_each_reply(rt: HostRuntime) -> Result<(), Fail> {
         Reply::Gone(page),
     ];
     let text = "SHOWN 1231a 5\nAGAIN 1231a\nNOTOFFERED\nMISSING 1231a\nCLOSED 1231a\nGONE 0\n";
-    assert_eq!(rt;
+    same(
         walk_text(rt.alloc(), replies.as_slice())?.as_slice(),
-        text.as_bytes()
-    );
-    assert_eq!(rt; walk_text(rt.alloc(), &[])?.len(), 0);
+        text.as_bytes(),
+    )?;
+    same(walk_text(rt.alloc(), &[])?.len(), 0)?;
     Ok(())
 }
 
@@ -117,21 +118,21 @@ fn a_walk_of_100_000_replies_is_printed(rt: HostRuntime) -> Result<(), Fail> {
     replies.resize(100_000, Reply::Shown(id, price))?;
     let lines = "SHOWN 1231a 5\n".repeat(rt.alloc(), 100_000)?;
     let text = walk_text(rt.alloc(), replies.as_slice())?;
-    assert!(rt; text.as_slice() == lines.as_str().as_bytes());
+    same(text.as_slice() == lines.as_str().as_bytes(), true)?;
     Ok(())
 }
 
 #[test]
 fn an_entry_that_is_not_found_is_one_line(rt: HostRuntime) -> Result<(), Fail> {
     let id = FrameId::read("0a")?;
-    assert_eq!(rt;
+    same(
         entry_text(rt.alloc(), id, false)?.as_slice(),
-        b"ENTRYMISSING 0a\n".as_slice()
-    );
-    assert_eq!(rt;
+        b"ENTRYMISSING 0a\n".as_slice(),
+    )?;
+    same(
         entry_text(rt.alloc(), id, true)?.as_slice(),
-        b"ENTRYCLOSED 0a\n".as_slice()
-    );
+        b"ENTRYCLOSED 0a\n".as_slice(),
+    )?;
     Ok(())
 }
 
@@ -190,11 +191,11 @@ fn a_fault_is_one_line(rt: HostRuntime) -> Result<(), Fail> {
         (RunFault::Memory, "memory refused\n"),
     ];
     for (fault, line) in rows {
-        assert_eq!(rt;
+        same_in(
+            line,
             fault_text(rt.alloc(), &fault)?.as_slice(),
             line.as_bytes(),
-            "{line}"
-        );
+        )?;
     }
     Ok(())
 }

@@ -1,0 +1,17 @@
+//! Tests of `finder`, `checker`, `fault_scripts` and `audit_report`.
+#![tactic(auto)]
+
+#[cfg(test)]
+mod bases;
+#[cfg(test)]
+mod checks;
+#[cfg(test)]
+mod finds;
+#[cfg(test)]
+mod lists;
+#[cfg(test)]
+mod policies;
+#[cfg(test)]
+mod reports;
+#[cfg(test)]
+mod scripts;

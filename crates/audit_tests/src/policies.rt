@@ -1,0 +1,22 @@
+//! What callers are told to accept.
+
+use checker::Policy;
+use frame_records::{Groups, Pence};
+use std::test::Fail;
+
+// The policy of a caller outside every group.
+pub fn policy(ceiling: u16, keyings: u16) -> Result<Policy, Fail> {
+    let ceiling = Pence::new(ceiling).ok_or("ceiling")?;
+    Ok(Policy {
+        ceiling,
+        keyings,
+        groups: Groups::none(),
+    })
+}
+
+// The same for a caller of groups.
+pub fn policy_for(ceiling: u16, keyings: u16, groups: &str) -> Result<Policy, Fail> {
+    let mut policy = policy(ceiling, keyings)?;
+    policy.groups = Groups::read(groups)?;
+    Ok(policy)
+}
