@@ -144,7 +144,7 @@ fn frames_of_one_slot_are_all_found(rt: HostRuntime) -> Result<(), Fail> {
     let nobody = Groups::none();
     let survey = Survey::of(rt.alloc(), &base, &nobody)?;
     if survey.found().as_slice().len() != 20 {
-        return Err("other than 20 frames".into());
+        return Err("another number of frames".into());
     }
     for (index, listed) in survey.found().as_slice().iter().enumerate() {
         same(listed.id.page.get() as usize, index * 64)?;
@@ -184,7 +184,7 @@ fn scripts_go_along_the_parents(rt: HostRuntime) -> Result<(), Fail> {
     let base = demo(rt.alloc(), 0, &[(0, 123)])?;
     let found = find(rt.alloc(), &base, &Groups::none())?;
     if found.as_slice().len() != 3 {
-        return Err("other than 3 frames".into());
+        return Err("another number of frames".into());
     }
     let texts: [&[u8]; 3] = [b"", b"1", b"1#"];
     for index in 0..3u32 {
@@ -212,7 +212,7 @@ fn a_script_along_a_page_has_a_key_for_each_frame(rt: HostRuntime) -> Result<(),
     let base = whole_page(rt.alloc())?;
     let found = find(rt.alloc(), &base, &Groups::none())?;
     if found.as_slice().len() != 27 {
-        return Err("other than 27 frames".into());
+        return Err("another number of frames".into());
     }
     let script = script_to(rt.alloc(), &found, 26)?;
     let text = keys_text(rt.alloc(), &script)?;
@@ -228,7 +228,7 @@ fn each_way_of_a_listed_frame_is_told(rt: HostRuntime) -> Result<(), Fail> {
     let groups = Groups::none();
     let survey = Survey::of(rt.alloc(), &base, &groups)?;
     if survey.found().as_slice().len() != 2 {
-        return Err("other than 2 frames".into());
+        return Err("another number of frames".into());
     }
     same(survey.frame(0).id.text().as_str(), "123a")?;
     same(survey.frame(1).id.text().as_str(), "1231a")?;
@@ -247,7 +247,7 @@ fn a_way_to_a_page_without_frames_is_missing(rt: HostRuntime) -> Result<(), Fail
     let groups = Groups::none();
     let survey = Survey::of(rt.alloc(), &base, &groups)?;
     if survey.found().as_slice().len() != 1 {
-        return Err("other than 1 frames".into());
+        return Err("another number of frames".into());
     }
     let nine = route_way(9)?;
     same(survey.aim(0, &nine), Aim::Missing)?;
