@@ -142,7 +142,9 @@ fn a_base_may_be_safe_for_callers_of_a_group_alone(rt: HostRuntime) -> Result<()
     same(cert.keyings(), 1)?;
     same(cert.cover().len(), 3)?;
     let groups = cert.groups();
-    same(groups.len(), 1)?;
+    if groups.len() != 1 {
+        return Err("other groups".into());
+    }
     same(groups.at(0).get(), 7)?;
     let list = faulty(rt.alloc(), &base, &policy(50, 3)?)?;
     let fault = only(&list)?;
@@ -270,10 +272,9 @@ fn an_entry_that_is_not_found_is_the_one_fault(rt: HostRuntime) -> Result<(), Fa
     let list = faulty(rt.alloc(), &base, &policy(0, 0)?)?;
     let fault = only(&list)?;
     is_fault(rt.alloc(), fault, FaultKind::EntryMissing, "0a", "", "", "")?;
-    same(
-        replay(rt.alloc(), &base, &Groups::none(), &fault.script),
-        Err(OpenFault::EntryMissing),
-    )?;
+    if replay(rt.alloc(), &base, &Groups::none(), &fault.script) != Err(OpenFault::EntryMissing) {
+        return Err("a replay".into());
+    }
     let base = demo(rt.alloc(), "id = \"123a\"", "id = \"123a\"\ngroup = 7")?;
     let list = faulty(rt.alloc(), &base, &policy(50, 3)?)?;
     let fault = only(&list)?;

@@ -26,25 +26,23 @@ impl Told {
     }
 }
 
-#[track_caller]
 pub fn expect(told: &Told, answer: Answer, text: &str) -> Result<(), Fail> {
-    same_in(text, told.answer, answer)?;
-    same_in(text, told.taken.as_slice(), text.as_bytes())?;
-    Ok(())
+    let got = told.answer;
+    if got != answer {
+        let why = format_args!("{text}: {got:?} in place of {answer:?}");
+        return Err(Fail::new(why));
+    }
+    same_in(text, told.taken.as_slice(), text.as_bytes())
 }
 
 // A report, after which the status is Faulty.
-#[track_caller]
 pub fn expect_faulty(told: &Told, text: &str) -> Result<(), Fail> {
-    expect(told, Ok(Status::Faulty), text)?;
-    Ok(())
+    expect(told, Ok(Status::Faulty), text)
 }
 
 // A fault, after which nothing is written.
-#[track_caller]
 pub fn expect_fault(told: &Told, fault: RunFault) -> Result<(), Fail> {
-    expect(told, Err(fault), "")?;
-    Ok(())
+    expect(told, Err(fault), "")
 }
 
 pub fn policy(ceiling: u16, keyings: u16) -> Result<Policy, Fail> {
