@@ -1,6 +1,6 @@
 //! The discovered frames of small bases.
 
-use assertions::{same, same_in};
+use assertions::same;
 use finder::{Aim, Found, Survey, find, script_to};
 use frame_records::{Base, Body, Frame, GroupNo, Groups, Lead, Pence};
 use page_ids::{Digit, FrameId, Key, Letter, PageNo, Way, keys_text};
@@ -67,130 +67,104 @@ fn digit(number: u8) -> Result<Digit, Fail> {
     Ok(digit)
 }
 
-// The way of a route, and its key.
-fn route_way(number: u8) -> Result<Way, Fail> {
-    Ok(Way::Route(digit(number)?))
-}
+// The id, rank, parent and key of a discovered frame.
+type Listed<'a> = (&'a str, Option<u16>, Option<u32>, Option<Key>);
 
-fn route_key(number: u8) -> Result<Key, Fail> {
-    Ok(Key::Route(digit(number)?))
-}
-
-// The id, rank, parent and key of each discovered frame, in order.
-fn lists(
-    found: &Found,
-    wanted: &[(&str, Option<u16>, Option<u32>, Option<Key>)],
-) -> Result<(), Fail> {
+// Compares each discovered frame, in order.
+fn lists(found: &Found, wanted: &[Listed<'_>]) -> Result<(), Fail> {
     same(found.as_slice().len(), wanted.len())?;
-    for (frame, (id, rank, parent, key)) in found.as_slice().iter().zip(wanted) {
-        same(frame.id.text().as_str(), *id)?;
-        same_in(id, frame.rank, *rank)?;
-        same_in(id, frame.parent, *parent)?;
-        same_in(id, frame.key, *key)?;
+    for (frame, listed) in found.as_slice().iter().zip(wanted) {
+        let id = frame.id.text();
+        same((id.as_str(), frame.rank, frame.parent, frame.key), *listed)?;
     }
     Ok(())
 }
 
+// The second frame's only route leads to the entry frame, or leaves for the outside page; or it belongs to a group, of
+// which the caller is or isn't.
 #[test]
 fn lists_each_reached_frame_with_its_rank(rt: HostRuntime) -> Result<(), Fail> {
-    let base = demo(rt.alloc(), 0, &[(0, 123)])?;
-    let found = find(rt.alloc(), &base, &Groups::none())?;
-    let wanted = [
-        ("123a", Some(0), None, None),
-        ("1231a", Some(1), Some(0), Some(route_key(1)?)),
-        ("1231b", Some(1), Some(1), Some(Key::Next)),
+    let entry = ("123a", Some(0), None, None);
+    let first = ("1231a", Some(1), Some(0), Some(Key::Route(digit(1)?)));
+    let second = ("1231b", Some(1), Some(1), Some(Key::Next));
+    let stuck = ("1231b", None, Some(1), Some(Key::Next));
+    let [none, seven] = [Groups::none(), Groups::read("7")?];
+    let rows: [(u16, u32, &Groups, &[Listed<'_>]); 4] = [
+        (0, 123, &none, &[entry, first, second]),
+        (0, 0, &none, &[entry, first, stuck]),
+        (7, 123, &none, &[entry, first]),
+        (7, 123, &seven, &[entry, first, second]),
     ];
-    lists(&found, &wanted)?;
+    for (group, back, groups, wanted) in rows {
+        let base = demo(rt.alloc(), group, &[(0, back)])?;
+        let found = find(rt.alloc(), &base, groups)?;
+        lists(&found, wanted)?;
+    }
     Ok(())
 }
 
-// The second frame's only route leaves for the outside page.
-#[test]
-fn a_frame_without_a_way_back_has_no_rank(rt: HostRuntime) -> Result<(), Fail> {
-    let base = demo(rt.alloc(), 0, &[(0, 0)])?;
-    let found = find(rt.alloc(), &base, &Groups::none())?;
-    let wanted = [
-        ("123a", Some(0), None, None),
-        ("1231a", Some(1), Some(0), Some(route_key(1)?)),
-        ("1231b", None, Some(1), Some(Key::Next)),
-    ];
-    lists(&found, &wanted)?;
-    Ok(())
-}
-
-#[test]
-fn closed_frames_are_not_listed(rt: HostRuntime) -> Result<(), Fail> {
-    let base = demo(rt.alloc(), 7, &[(0, 123)])?;
-    let found = find(rt.alloc(), &base, &Groups::none())?;
-    let wanted = [
-        ("123a", Some(0), None, None),
-        ("1231a", Some(1), Some(0), Some(route_key(1)?)),
-    ];
-    lists(&found, &wanted)?;
-    Ok(())
-}
-
-// Pages in steps of 64, each with a route to the next one: 20 frames, for which there are 64 slots, so that all begin at
-// one slot.
-#[test]
-fn frames_of_one_slot_are_all_found(rt: HostRuntime) -> Result<(), Fail> {
-    let mut frames = Vec::new(rt.alloc());
-    for number in 0..20u32 {
-        let mut linked = frame(rt.alloc(), "0a", false, &[(9, 64 * number + 64)])?;
-        linked.id = FrameId::first(page(64 * number)?);
+// Pages in steps of 64, each with a route to the next one.
+fn in_steps(alloc: Global, count: u32) -> Result<Base, Fail> {
+    let mut frames = Vec::new(alloc);
+    for number in 0..count {
+        let mut linked = frame(
+            alloc,
+            "0a",
+            false,
+            &[(9, number.saturating_add(1).saturating_mul(64))],
+        )?;
+        linked.id = FrameId::first(page(number.saturating_mul(64))?);
         frames.push(linked)?;
     }
-    let base = Base::build(page(0)?, Vec::new(rt.alloc()), frames)?;
+    Ok(Base::build(page(0)?, Vec::new(alloc), frames)?)
+}
+
+// For 20 frames there are 64 slots, so that all begin at one slot.
+#[test]
+fn frames_of_one_slot_are_all_found(rt: HostRuntime) -> Result<(), Fail> {
     let nobody = Groups::none();
+    let nine = Way::Route(digit(9)?);
+    let base = in_steps(rt.alloc(), 20)?;
     let survey = Survey::of(rt.alloc(), &base, &nobody)?;
     if survey.found().as_slice().len() != 20 {
         return Err("another number of frames".into());
     }
-    for (index, listed) in survey.found().as_slice().iter().enumerate() {
-        same(listed.id.page.get() as usize, index * 64)?;
-    }
-    let nine = route_way(9)?;
-    same(survey.aim(18, &nine), Aim::Found)?;
-    same(survey.aim(19, &nine), Aim::Missing)?;
-    Ok(())
-}
-
-#[test]
-fn frames_of_the_callers_groups_are_listed(rt: HostRuntime) -> Result<(), Fail> {
-    let base = demo(rt.alloc(), 7, &[(0, 123)])?;
-    let mut groups = Groups::none();
-    same(groups.push(GroupNo::new(7).ok_or("a group")?), true)?;
-    let found = find(rt.alloc(), &base, &groups)?;
-    let wanted = [
-        ("123a", Some(0), None, None),
-        ("1231a", Some(1), Some(0), Some(route_key(1)?)),
-        ("1231b", Some(1), Some(1), Some(Key::Next)),
-    ];
-    lists(&found, &wanted)?;
-    Ok(())
+    let mut pages = survey.found().as_slice().iter().enumerate();
+    let wrong = pages.find(|(index, listed)| listed.id.page.get() as usize != index * 64);
+    same(
+        (
+            wrong.is_none(),
+            survey.aim(18, &nine),
+            survey.aim(19, &nine),
+        ),
+        (true, Aim::Found, Aim::Missing),
+    )
 }
 
 #[test]
 fn nothing_is_listed_without_an_entry_frame(rt: HostRuntime) -> Result<(), Fail> {
     let base = base_of(rt.alloc(), Vec::new(rt.alloc()))?;
     let found = find(rt.alloc(), &base, &Groups::none())?;
-    lists(&found, &[])?;
-    Ok(())
+    lists(&found, &[])
 }
 
-// Scripts to the three frames: none, the key `1`, and `1#`.
+// The text of the script to the frame at an index.
+fn script_text(alloc: Global, found: &Found, index: u32) -> Result<Vec<u8>, Fail> {
+    if found.as_slice().len() <= index as usize {
+        return Err("a frame".into());
+    }
+    let script = script_to(alloc, found, index)?;
+    Ok(keys_text(alloc, &script)?)
+}
+
 #[test]
 fn scripts_go_along_the_parents(rt: HostRuntime) -> Result<(), Fail> {
     let base = demo(rt.alloc(), 0, &[(0, 123)])?;
     let found = find(rt.alloc(), &base, &Groups::none())?;
-    if found.as_slice().len() != 3 {
-        return Err("another number of frames".into());
-    }
-    let texts: [&[u8]; 3] = [b"", b"1", b"1#"];
-    for index in 0..3u32 {
-        let script = script_to(rt.alloc(), &found, index)?;
-        let text = keys_text(rt.alloc(), &script)?;
-        same(text.as_slice(), texts[index as usize])?;
+    let texts: [(u32, &[u8]); 3] = [(0, b""), (1, b"1"), (2, b"1#")];
+    for (index, text) in texts {
+        let script = script_text(rt.alloc(), &found, index)?;
+        same(script.as_slice(), text)?;
     }
     Ok(())
 }
@@ -211,56 +185,63 @@ fn whole_page(alloc: Global) -> Result<Base, Fail> {
 fn a_script_along_a_page_has_a_key_for_each_frame(rt: HostRuntime) -> Result<(), Fail> {
     let base = whole_page(rt.alloc())?;
     let found = find(rt.alloc(), &base, &Groups::none())?;
-    if found.as_slice().len() != 27 {
-        return Err("another number of frames".into());
-    }
-    let script = script_to(rt.alloc(), &found, 26)?;
-    let text = keys_text(rt.alloc(), &script)?;
-    same(text.as_slice(), b"1#########################".as_slice())?;
-    Ok(())
+    let script = script_text(rt.alloc(), &found, 26)?;
+    same(script.as_slice(), b"1#########################".as_slice())
 }
 
-// What the ways of the frames of DEMO came to: route 0 of the entry frame is outside, route 1 is found, and no other way
-// is offered; `#` of the first frame is found or closed.
+// Route 0 of the entry frame is outside, route 1 is found, and no other way is offered; `#` of the first frame is closed.
 #[test]
 fn each_way_of_a_listed_frame_is_told(rt: HostRuntime) -> Result<(), Fail> {
+    let [zero, one, two] = [digit(0)?, digit(1)?, digit(2)?].map(Way::Route);
+    let [entry, first] = [FrameId::read("123a")?, FrameId::read("1231a")?];
     let base = demo(rt.alloc(), 7, &[])?;
     let groups = Groups::none();
     let survey = Survey::of(rt.alloc(), &base, &groups)?;
     if survey.found().as_slice().len() != 2 {
         return Err("another number of frames".into());
     }
-    same(survey.frame(0).id.text().as_str(), "123a")?;
-    same(survey.frame(1).id.text().as_str(), "1231a")?;
-    same(survey.aim(0, &route_way(0)?), Aim::Outside)?;
-    same(survey.aim(0, &route_way(1)?), Aim::Found)?;
-    same(survey.aim(0, &route_way(2)?), Aim::NotOffered)?;
-    same(survey.aim(0, &Way::Next), Aim::NotOffered)?;
-    same(survey.aim(1, &Way::Next), Aim::Closed)?;
-    Ok(())
+    same([survey.frame(0).id, survey.frame(1).id], [entry, first])?;
+    same(
+        [
+            survey.aim(0, &zero),
+            survey.aim(0, &one),
+            survey.aim(0, &two),
+            survey.aim(0, &Way::Next),
+            survey.aim(1, &Way::Next),
+        ],
+        [
+            Aim::Outside,
+            Aim::Found,
+            Aim::NotOffered,
+            Aim::NotOffered,
+            Aim::Closed,
+        ],
+    )
 }
 
 #[test]
 fn a_way_to_a_page_without_frames_is_missing(rt: HostRuntime) -> Result<(), Fail> {
+    let nine = Way::Route(digit(9)?);
+    let groups = Groups::none();
     let entry = frame(rt.alloc(), "123a", true, &[(9, 8)])?;
     let base = base_of(rt.alloc(), vec![in rt.alloc(); entry]?)?;
-    let groups = Groups::none();
     let survey = Survey::of(rt.alloc(), &base, &groups)?;
     if survey.found().as_slice().len() != 1 {
         return Err("another number of frames".into());
     }
-    let nine = route_way(9)?;
-    same(survey.aim(0, &nine), Aim::Missing)?;
-    same(survey.aim(0, &Way::Next), Aim::Missing)?;
-    Ok(())
+    same(
+        [survey.aim(0, &nine), survey.aim(0, &Way::Next)],
+        [Aim::Missing, Aim::Missing],
+    )
 }
 
 #[test]
 fn the_parent_of_a_frame_is_told_with_its_key(rt: HostRuntime) -> Result<(), Fail> {
+    let one = Key::Route(digit(1)?);
     let base = demo(rt.alloc(), 0, &[])?;
     let found = find(rt.alloc(), &base, &Groups::none())?;
-    same(found.parent_of(0), None)?;
-    same(found.parent_of(1), Some((0, route_key(1)?)))?;
-    same(found.parent_of(2), Some((1, Key::Next)))?;
-    Ok(())
+    same(
+        [found.parent_of(0), found.parent_of(1), found.parent_of(2)],
+        [None, Some((0, one)), Some((1, Key::Next))],
+    )
 }

@@ -1,6 +1,6 @@
 use assertions::{same, same_in};
 use base_text::{BaseFault, Cause, Field, base_read};
-use frame_records::{Base, Lead};
+use frame_records::{Base, Frame, Lead};
 use page_ids::{FrameId, PageNo};
 use std::alloc::{AllocError, Global};
 use std::test::Fail;
@@ -49,70 +49,85 @@ fn id(text: &str) -> Result<FrameId, Fail> {
     Ok(id)
 }
 
+// Compares the fault of each text, given in its parts.
+fn are_refused(alloc: Global, rows: &[(&[&str], Option<BaseFault>)]) -> Result<(), Fail> {
+    for (row, (parts, fault)) in rows.iter().enumerate() {
+        same_in(row, fault_of(alloc, parts)?, *fault)?;
+    }
+    Ok(())
+}
+
+// The bodies of a base's frames, one behind the other.
+fn bodies(alloc: Global, base: &Base) -> Result<Vec<u8>, AllocError> {
+    let mut bytes = Vec::new(alloc);
+    for frame in base.frames() {
+        bytes.extend_from_slice(frame.body.as_slice())?;
+    }
+    Ok(bytes)
+}
+
 #[test]
 fn demo_is_read_as_it_stands(rt: HostRuntime) -> Result<(), Fail> {
+    let [outside, entry] = [page(0)?, page(123)?];
     let base = base_of(rt.alloc(), &[TOP, FIRST, SECOND, THIRD])?;
-    same(base.entry().get(), 123)?;
-    same(base.is_outside(page(0)?), true)?;
-    same(base.is_outside(page(123)?), false)?;
-    let frames = base.frames();
-    assert_eq!(rt; frames.len(), 3);
+    let top = (
+        base.entry(),
+        base.is_outside(outside),
+        base.is_outside(entry),
+        base.frames().len(),
+    );
+    same(top, (entry, true, false, 3))?;
     same(
-        frames[0].body.as_slice(),
-        b"\x1E\x0AWELCOME\x0D\x0A".as_slice(),
-    )?;
-    same(
-        frames[1].body.as_slice(),
-        b"\x1E\x0APART ONE\x0D\x0A".as_slice(),
-    )?;
-    same(frames[2].body.as_slice(), b"\x1E\x0APART TWO".as_slice())?;
-    Ok(())
+        bodies(rt.alloc(), &base)?.as_slice(),
+        b"\x1E\x0AWELCOME\x0D\x0A\x1E\x0APART ONE\x0D\x0A\x1E\x0APART TWO".as_slice(),
+    )
+}
+
+// A frame's price, whether it has no group, whether it offers the next, its lead, and how many routes it has.
+fn fields(frame: &Frame) -> (u16, bool, bool, Lead, usize) {
+    (
+        frame.price.get(),
+        frame.group.is_none(),
+        frame.next,
+        frame.lead,
+        frame.routes.iter().filter(|route| route.is_some()).count(),
+    )
 }
 
 #[test]
 fn the_fields_of_a_frame_are_its_own_or_their_defaults(rt: HostRuntime) -> Result<(), Fail> {
+    let [first, second, third] = [id("123a")?, id("1231a")?, id("1231b")?];
+    let routes = [Some(page(0)?), Some(page(1231)?), None];
     let base = base_of(rt.alloc(), &[TOP, FIRST, SECOND, THIRD])?;
-    let first = base.find(id("123a")?).ok_or("a frame")?;
-    same(first.price.get(), 0)?;
+    let frames = [first, second, third].map(|id| base.find(id).map(fields));
     same(
-        first.group.is_none() && !first.next && first.lead == Lead::Clear,
-        true,
+        frames,
+        [
+            Some((0, true, false, Lead::Clear, 2)),
+            Some((5, true, true, Lead::Clear, 1)),
+            Some((0, true, false, Lead::Keep, 1)),
+        ],
     )?;
     same(
-        first.routes[0] == Some(page(0)?) && first.routes[1] == Some(page(1231)?),
-        true,
-    )?;
-    same(
-        first.routes.iter().filter(|route| route.is_some()).count(),
-        2,
-    )?;
-    let second = base.find(id("1231a")?).ok_or("a frame")?;
-    same(
-        second.price.get() == 5 && second.next && second.lead == Lead::Clear,
-        true,
-    )?;
-    let third = base.find(id("1231b")?).ok_or("a frame")?;
-    same(
-        third.price.get() == 0 && !third.next && third.lead == Lead::Keep,
-        true,
-    )?;
-    Ok(())
+        base.find(first).map(|frame| [frame.routes[0], frame.routes[1], frame.routes[2]]),
+        Some(routes),
+    )
 }
 
 #[test]
 fn a_group_and_every_route_are_read(rt: HostRuntime) -> Result<(), Fail> {
     let frame =
         "frame = [{ id = \"7c\", group = 65535, body = \"\", routes = { 9 = 999999999, 5 = 0x5, 4 = 1_000 } }]";
+    let wanted = [Some(page(999_999_999)?), Some(page(5)?), Some(page(1000)?)];
+    let seven = id("7c")?;
     let base = base_of(rt.alloc(), &["entry = -0\n", frame])?;
-    let frame = base.find(id("7c")?).ok_or("a frame")?;
-    same(base.entry().get(), 0)?;
-    same(frame.group.map(|group| group.get()), Some(65535))?;
-    same(frame.routes[9], Some(page(999_999_999)?))?;
+    let frame = base.find(seven).ok_or("a frame")?;
+    let routes = [frame.routes[9], frame.routes[5], frame.routes[4]];
+    let group = frame.group.map(|group| group.get());
     same(
-        frame.routes[5] == Some(page(5)?) && frame.routes[4] == Some(page(1000)?),
-        true,
-    )?;
-    Ok(())
+        (base.entry().get(), group, routes),
+        (0, Some(65535), wanted),
+    )
 }
 
 // Faults of the top, and of texts without frames.
@@ -381,62 +396,51 @@ fn demo_with_one_change_is_refused_with_the_frames_index(rt: HostRuntime) -> Res
 }
 
 #[test]
-fn a_frame_given_twice_is_a_duplicate(rt: HostRuntime) -> Result<(), Fail> {
-    let fault = fault_of(rt.alloc(), &[TOP, FIRST, SECOND, FIRST, THIRD])?;
-    same(fault, at(None, Cause::Duplicate(id("123a")?)))?;
-    let smallest = fault_of(rt.alloc(), &[TOP, THIRD, SECOND, THIRD, SECOND])?;
-    same(smallest, at(None, Cause::Duplicate(id("1231a")?)))?;
-    Ok(())
-}
-
-#[test]
-fn an_outside_page_has_no_frame(rt: HostRuntime) -> Result<(), Fail> {
-    let fault = fault_of(
-        rt.alloc(),
-        &["entry = 123\noutside = [123]\n", FIRST, SECOND, THIRD],
-    )?;
-    same(fault, at(None, Cause::OutsideInside(page(123)?)))?;
-    let smallest = fault_of(
-        rt.alloc(),
-        &["entry = 1\noutside = [1231, 123]\n", FIRST, SECOND],
-    )?;
-    same(smallest, at(None, Cause::OutsideInside(page(123)?)))?;
-    let not_of_letter_a = fault_of(rt.alloc(), &["entry = 1\noutside = [1231]\n", THIRD])?;
-    same(not_of_letter_a, at(None, Cause::OutsideInside(page(1231)?)))?;
-    Ok(())
-}
-
-#[test]
-fn no_frame_follows_z(rt: HostRuntime) -> Result<(), Fail> {
+fn the_faults_of_a_whole_name_the_smallest(rt: HostRuntime) -> Result<(), Fail> {
+    let second_twice = at(None, Cause::Duplicate(id("1231a")?));
+    let first_twice = at(None, Cause::Duplicate(id("123a")?));
+    let outside = at(None, Cause::OutsideInside(page(123)?));
+    let outside_behind = at(None, Cause::OutsideInside(page(1231)?));
+    let after_z = at(None, Cause::NextAfterZ(id("1231z")?));
     let last = "[[frame]]\nid = \"1231z\"\nnext = true\nbody = \"\"\n";
-    let fault = fault_of(rt.alloc(), &[TOP, FIRST, SECOND, last])?;
-    same(fault, at(None, Cause::NextAfterZ(id("1231z")?)))?;
-    Ok(())
+    are_refused(
+        rt.alloc(),
+        &[
+            (&[TOP, FIRST, SECOND, FIRST, THIRD], first_twice),
+            (&[TOP, THIRD, SECOND, THIRD, SECOND], second_twice),
+            (
+                &["entry = 123\noutside = [123]\n", FIRST, SECOND, THIRD],
+                outside,
+            ),
+            (
+                &["entry = 1\noutside = [1231, 123]\n", FIRST, SECOND],
+                outside,
+            ),
+            (&["entry = 1\noutside = [1231]\n", THIRD], outside_behind),
+            (&[TOP, FIRST, SECOND, last], after_z),
+        ],
+    )
 }
 
 #[test]
 fn the_whole_is_judged_in_one_order(rt: HostRuntime) -> Result<(), Fail> {
-    let outside = "entry = 1\noutside = [4]\nframe = [{ id = \"4b\", body = \"\" }";
+    let top = "entry = 1\noutside = [4]\nframe = [{ id = \"4b\", body = \"\" }";
     let twice = ", { id = \"3a\", body = \"\" }, { id = \"3a\", body = \"\" }";
     let after_z = ", { id = \"2z\", next = true, body = \"\" }";
     let bad = ", { id = \"1a\", body = 1 }";
-    same(
-        fault_of(rt.alloc(), &[outside, "]"])?,
-        at(None, Cause::OutsideInside(page(4)?)),
-    )?;
-    same(
-        fault_of(rt.alloc(), &[outside, twice, "]"])?,
-        at(None, Cause::Duplicate(id("3a")?)),
-    )?;
-    same(
-        fault_of(rt.alloc(), &[outside, twice, after_z, "]"])?,
-        at(None, Cause::NextAfterZ(id("2z")?)),
-    )?;
-    same(
-        fault_of(rt.alloc(), &[outside, twice, after_z, bad, "]"])?,
-        at(Some(4), Cause::WrongKind(Field::Body)),
-    )?;
-    Ok(())
+    let outside = at(None, Cause::OutsideInside(page(4)?));
+    let duplicate = at(None, Cause::Duplicate(id("3a")?));
+    let next = at(None, Cause::NextAfterZ(id("2z")?));
+    let kind = at(Some(4), Cause::WrongKind(Field::Body));
+    are_refused(
+        rt.alloc(),
+        &[
+            (&[top, "]"], outside),
+            (&[top, twice, "]"], duplicate),
+            (&[top, twice, after_z, "]"], next),
+            (&[top, twice, after_z, bad, "]"], kind),
+        ],
+    )
 }
 
 // The third frame of DEMO up to its body.
@@ -444,15 +448,21 @@ const BODY: &str = "[[frame]]\nid = \"1231b\"\nbody = \"";
 
 #[test]
 fn a_body_has_at_most_4096_bytes(rt: HostRuntime) -> Result<(), Fail> {
+    let third = id("1231b")?;
+    let long = at(None, Cause::BodyTooLong(third));
     let most = "B".repeat(rt.alloc(), 4096)?;
     let base = base_of(rt.alloc(), &[TOP, FIRST, BODY, most.as_str(), "\""])?;
-    let frame = base.find(id("1231b")?).ok_or("a frame")?;
-    same(frame.body.as_slice().len(), 4096)?;
-    let fault = fault_of(rt.alloc(), &[TOP, FIRST, BODY, most.as_str(), "B\""])?;
-    same(fault, at(None, Cause::BodyTooLong(id("1231b")?)))?;
-    let with_others = fault_of(rt.alloc(), &[TOP, FIRST, FIRST, BODY, most.as_str(), "B\""])?;
-    same(with_others, at(None, Cause::BodyTooLong(id("1231b")?)))?;
-    Ok(())
+    same(
+        base.find(third).map(|frame| frame.body.as_slice().len()),
+        Some(4096),
+    )?;
+    are_refused(
+        rt.alloc(),
+        &[
+            (&[TOP, FIRST, BODY, most.as_str(), "B\""], long),
+            (&[TOP, FIRST, FIRST, BODY, most.as_str(), "B\""], long),
+        ],
+    )
 }
 
 #[test]
@@ -467,44 +477,54 @@ fn lengths_and_codes_count_code_points(rt: HostRuntime) -> Result<(), Fail> {
         "\" }, { id = \"1c\", body = \"\\u0000\\u0080A\" }]",
     ];
     let base = base_of(rt.alloc(), &parts)?;
-    let frames = base.frames();
-    assert_eq!(rt; frames.len(), 3);
-    let row = frames[0].body.as_slice();
-    same(row.len(), 42)?;
-    same(row.get(2..), Some([0x80; 40].as_slice()))?;
-    let bytes = frames[1].body.as_slice();
-    same(bytes.len(), 4096)?;
-    same(bytes.last(), Some(&0xFF))?;
-    same(frames[2].body.as_slice(), [0x00, 0x80, 0x41].as_slice())?;
-    Ok(())
+    let bytes = bodies(rt.alloc(), &base)?;
+    let wanted: [(usize, usize, &[u8]); 4] = [
+        (0, 2, &[0x1E, 0x0A]),
+        (2, 42, &[0x80; 40]),
+        (42, 4138, &[0xFF; 4096]),
+        (4138, 4141, &[0x00, 0x80, 0x41]),
+    ];
+    for (from, to, codes) in wanted {
+        same_in(from, bytes.get(from..to), Some(codes))?;
+    }
+    same(bytes.len(), 4141)
 }
 
 #[test]
 fn what_the_crate_of_toml_takes_is_read(rt: HostRuntime) -> Result<(), Fail> {
     let text =
         "entry = 5\noutside = [5, 5,]\nframe = [{ id = \"1a\",\n  rows = [],\n}, { id = \"1b\", body = \"\\e\\x41\" }]";
+    let five = page(5)?;
     let base = base_of(rt.alloc(), &[text])?;
-    same(base.is_outside(page(5)?), true)?;
-    same(base.find(id("5a")?).is_none(), true)?;
-    let frames = base.frames();
-    assert_eq!(rt; frames.len(), 2);
-    same(frames[0].body.as_slice(), [0x1E, 0x0A].as_slice())?;
-    same(frames[1].body.as_slice(), [0x1B, 0x41].as_slice())?;
-    let none = base_of(rt.alloc(), &["entry = 0\nframe = []"])?;
-    same(none.frames().is_empty(), true)?;
-    Ok(())
+    let top = (
+        base.is_outside(five),
+        base.find(FrameId::first(five)).is_none(),
+        base.frames().len(),
+    );
+    same(top, (true, true, 2))?;
+    same(
+        bodies(rt.alloc(), &base)?.as_slice(),
+        [0x1E, 0x0A, 0x1B, 0x41].as_slice(),
+    )
+}
+
+#[test]
+fn a_base_may_have_no_frame(rt: HostRuntime) -> Result<(), Fail> {
+    let base = base_of(rt.alloc(), &["entry = 0\nframe = []"])?;
+    same(base.frames().is_empty(), true)
 }
 
 #[test]
 fn one_byte_order_mark_in_front_is_passed_over(rt: HostRuntime) -> Result<(), Fail> {
     let base = base_of(rt.alloc(), &["\u{FEFF}", TOP, FIRST])?;
-    same(base.entry().get(), 123)?;
-    same(base.frames().len(), 1)?;
-    let twice = fault_of(rt.alloc(), &["\u{FEFF}\u{FEFF}", TOP, FIRST])?;
-    same(twice, at(None, Cause::NotToml))?;
-    let behind = fault_of(rt.alloc(), &[TOP, "\u{FEFF}", FIRST])?;
-    same(behind, at(None, Cause::NotToml))?;
-    Ok(())
+    same((base.entry().get(), base.frames().len()), (123, 1))?;
+    are_refused(
+        rt.alloc(),
+        &[
+            (&["\u{FEFF}\u{FEFF}", TOP, FIRST], at(None, Cause::NotToml)),
+            (&[TOP, "\u{FEFF}", FIRST], at(None, Cause::NotToml)),
+        ],
+    )
 }
 
 #[test]
@@ -513,73 +533,64 @@ fn what_is_no_utf8_or_too_deep_is_no_toml(rt: HostRuntime) -> Result<(), Fail> {
     same(fault, at(None, Cause::NotToml))?;
     let open = "[".repeat(rt.alloc(), 100_000)?;
     let deep = fault_of(rt.alloc(), &["entry = 1\noutside = ", open.as_str()])?;
-    same(deep, at(None, Cause::NotToml))?;
-    Ok(())
+    same(deep, at(None, Cause::NotToml))
 }
 
 #[test]
 fn the_length_comes_before_all_else(rt: HostRuntime) -> Result<(), Fail> {
     let most = vec![in rt.alloc(); b'#'; 16_777_216]?;
-    same(
-        base_read(rt.alloc(), most.as_slice()).err(),
-        at(None, Cause::Absent(Field::Entry)),
-    )?;
     let more = vec![in rt.alloc(); b'['; 16_777_217]?;
     same(
-        base_read(rt.alloc(), more.as_slice()).err(),
-        at(None, Cause::TooLong),
-    )?;
-    Ok(())
+        [
+            base_read(rt.alloc(), most.as_slice()).err(),
+            base_read(rt.alloc(), more.as_slice()).err(),
+        ],
+        [
+            at(None, Cause::Absent(Field::Entry)),
+            at(None, Cause::TooLong),
+        ],
+    )
 }
 
 #[test]
 fn at_most_65535_outside_pages_are_listed(rt: HostRuntime) -> Result<(), Fail> {
+    let seven = page(7)?;
     let pages = "7,".repeat(rt.alloc(), 65_535)?;
     let base = base_of(rt.alloc(), &["entry = 7\noutside = [", pages.as_str(), "]"])?;
-    same(base.is_outside(page(7)?), true)?;
-    let fault = fault_of(
+    same(base.is_outside(seven), true)?;
+    are_refused(
         rt.alloc(),
-        &["entry = 7\noutside = [", pages.as_str(), "7]"],
-    )?;
-    same(fault, at(None, Cause::TooMany))?;
-    Ok(())
-}
-
-#[test]
-fn a_fault_in_the_last_of_65535_frames_has_its_index(rt: HostRuntime) -> Result<(), Fail> {
-    let frames = "{id='1a',body=''},".repeat(rt.alloc(), 65_534)?;
-    let bad = fault_of(
-        rt.alloc(),
-        &["entry = 7\nframe = [", frames.as_str(), "{id='1b'}]"],
-    )?;
-    same(bad, at(Some(65_534), Cause::Absent(Field::Body)))?;
-    Ok(())
+        &[(
+            &["entry = 7\noutside = [", pages.as_str(), "7]"],
+            at(None, Cause::TooMany),
+        )],
+    )
 }
 
 #[test]
 fn all_frames_are_judged_before_their_number(rt: HostRuntime) -> Result<(), Fail> {
-    let frames = "{id='1a',body=''},".repeat(rt.alloc(), 65_535)?;
-    let bad = fault_of(
+    let duplicate = at(None, Cause::Duplicate(id("1a")?));
+    let frames = "{id='1a',body=''},".repeat(rt.alloc(), 65_534)?;
+    let top = "entry = 7\nframe = [";
+    let one = "{id='1a',body=''},";
+    are_refused(
         rt.alloc(),
         &[
-            "entry = 7\nframe = [",
-            frames.as_str(),
-            "{id='1A',body=''}]",
+            (
+                &[top, frames.as_str(), "{id='1b'}]"],
+                at(Some(65_534), Cause::Absent(Field::Body)),
+            ),
+            (&[top, frames.as_str(), one, "]"], duplicate),
+            (
+                &[top, frames.as_str(), one, "{id='1A',body=''}]"],
+                at(Some(65_535), Cause::BadFrame),
+            ),
+            (
+                &[top, frames.as_str(), one, "{id='1a',body=''}]"],
+                at(None, Cause::TooMany),
+            ),
         ],
-    )?;
-    same(bad, at(Some(65_535), Cause::BadFrame))?;
-    let many = fault_of(
-        rt.alloc(),
-        &[
-            "entry = 7\nframe = [",
-            frames.as_str(),
-            "{id='1a',body=''}]",
-        ],
-    )?;
-    same(many, at(None, Cause::TooMany))?;
-    let twice = fault_of(rt.alloc(), &["entry = 7\nframe = [", frames.as_str(), "]"])?;
-    same(twice, at(None, Cause::Duplicate(id("1a")?)))?;
-    Ok(())
+    )
 }
 
 #[test]
@@ -590,17 +601,16 @@ fn hostile_texts_are_answered(rt: HostRuntime) -> Result<(), Fail> {
     let arrays = array.as_str().repeat(rt.alloc(), 118_900)?;
     let numbers = "0,".repeat(rt.alloc(), 8_000_000)?;
     let key = "k".repeat(rt.alloc(), 1_000_000)?;
-    let deep = fault_of(
+    let outside = "entry = 1\noutside = [";
+    are_refused(
         rt.alloc(),
-        &["entry = 1\noutside = [", arrays.as_str(), "]"],
-    )?;
-    same(deep, at(None, Cause::WrongKind(Field::Outside)))?;
-    let many = fault_of(
-        rt.alloc(),
-        &["entry = 1\noutside = [", numbers.as_str(), "]"],
-    )?;
-    same(many, at(None, Cause::TooMany))?;
-    let long = fault_of(rt.alloc(), &[key.as_str(), " = 1"])?;
-    same(long, at(None, Cause::UnknownKey))?;
-    Ok(())
+        &[
+            (
+                &[outside, arrays.as_str(), "]"],
+                at(None, Cause::WrongKind(Field::Outside)),
+            ),
+            (&[outside, numbers.as_str(), "]"], at(None, Cause::TooMany)),
+            (&[key.as_str(), " = 1"], at(None, Cause::UnknownKey)),
+        ],
+    )
 }

@@ -145,26 +145,41 @@ fn first_wrong(alloc: Global, changes: &[Change<'_>]) -> Result<Option<usize>, A
     first_wrong_among(alloc, &LINES, changes)
 }
 
+// A text, read and written again.
+fn written_again(alloc: Global, text: &[u8]) -> Result<Vec<u8>, Fail> {
+    let cert = cert_read(alloc, text)?;
+    Ok(cert_write(alloc, &cert)?)
+}
+
+// A certificate's entry page, ceiling, keyings, and how many groups and rows it has.
+fn parts(cert: &Certificate) -> (u32, u16, u16, usize, usize) {
+    (
+        cert.entry().get(),
+        cert.ceiling().get(),
+        cert.keyings(),
+        cert.groups().len(),
+        cert.cover().len(),
+    )
+}
+
 #[test]
 fn a_certificate_is_read_and_written_back(rt: HostRuntime) -> Result<(), Fail> {
-    let cert = cert_read(rt.alloc(), CERT.as_bytes())?;
-    same(cert.entry().get(), 123)?;
-    same(cert.ceiling().get(), 5)?;
-    same(cert.keyings(), 1)?;
-    let cover = cert.cover();
-    same(cover.len(), 3)?;
+    let third = FrameId::read("1231b")?;
     let row = Row {
-        id: FrameId::read("1231b")?,
+        id: third,
         rank: 1,
         cursor: AbsCursor {
             place: Place::Spot(48),
             pend: Pend::No,
         },
     };
-    same(cover.row_of(FrameId::read("1231b")?), Some(&row))?;
+    let cert = cert_read(rt.alloc(), CERT.as_bytes())?;
+    same(
+        (parts(&cert), cert.cover().row_of(third)),
+        ((123, 5, 1, 0, 3), Some(&row)),
+    )?;
     let text = cert_write(rt.alloc(), &cert)?;
-    same(text.as_slice(), CERT.as_bytes())?;
-    Ok(())
+    same(text.as_slice(), CERT.as_bytes())
 }
 
 #[test]
@@ -313,8 +328,7 @@ fn every_spelling_of_a_row_is_written_back(rt: HostRuntime) -> Result<(), Fail> 
     ];
     for row in rows {
         let text = with_line(rt.alloc(), 6, row)?;
-        let cert = cert_read(rt.alloc(), &text)?;
-        let again = cert_write(rt.alloc(), &cert)?;
+        let again = written_again(rt.alloc(), &text)?;
         same(again.as_slice(), text.as_slice())?;
     }
     Ok(())
@@ -424,63 +438,63 @@ fn lines_in_another_order_are_refused(rt: HostRuntime) -> Result<(), Fail> {
         third,
         end,
     ] = LINES;
-    let rows = text_of(
-        rt.alloc(),
-        &[
-            magic, entry, ceiling, keyings, count, first, third, second, end,
-        ],
-    )?;
-    same(
-        fault_of(rt.alloc(), &rows),
-        Some(ReadFault::Line(8, LineCause::Order)),
-    )?;
-    let head = text_of(
-        rt.alloc(),
-        &[
-            magic, ceiling, entry, keyings, count, first, second, third, end,
-        ],
-    )?;
-    same(
-        fault_of(rt.alloc(), &head),
-        Some(ReadFault::Line(2, LineCause::Word)),
-    )?;
-    let left_out = text_of(
-        rt.alloc(),
-        &[magic, entry, ceiling, count, first, second, third, end],
-    )?;
-    same(
-        fault_of(rt.alloc(), &left_out),
-        Some(ReadFault::Line(4, LineCause::Word)),
-    )?;
+    let orders: [(&[&[u8]], u32, LineCause); 3] = [
+        (
+            &[
+                magic, entry, ceiling, keyings, count, first, third, second, end,
+            ],
+            8,
+            LineCause::Order,
+        ),
+        (
+            &[
+                magic, ceiling, entry, keyings, count, first, second, third, end,
+            ],
+            2,
+            LineCause::Word,
+        ),
+        (
+            &[magic, entry, ceiling, count, first, second, third, end],
+            4,
+            LineCause::Word,
+        ),
+    ];
+    for (lines, line, cause) in orders {
+        let text = text_of(rt.alloc(), lines)?;
+        let fault = fault_of(rt.alloc(), &text);
+        same_in(line, fault, Some(ReadFault::Line(line, cause)))?;
+    }
     Ok(())
 }
 
 #[test]
 fn a_fault_behind_many_rows_is_told(rt: HostRuntime) -> Result<(), Fail> {
-    let row = long_text(rt.alloc(), 65_000, b"1a 0 any")?;
-    same(
-        fault_of(rt.alloc(), &row),
-        Some(ReadFault::Line(65_000, LineCause::Order)),
-    )?;
-    let end = long_text(rt.alloc(), 65_541, b"END")?;
-    same(
-        fault_of(rt.alloc(), &end),
-        Some(ReadFault::Line(65_541, LineCause::Count)),
-    )?;
+    let rows: [(u32, &[u8], LineCause); 2] = [
+        (65_000, b"1a 0 any", LineCause::Order),
+        (65_541, b"END", LineCause::Count),
+    ];
+    for (number, line, cause) in rows {
+        let text = long_text(rt.alloc(), number, line)?;
+        let fault = fault_of(rt.alloc(), &text);
+        same_in(number, fault, Some(ReadFault::Line(number, cause)))?;
+    }
     Ok(())
 }
 
 #[test]
 fn pieces_of_a_megabyte_are_taken(rt: HostRuntime) -> Result<(), Fail> {
     let text = long_text(rt.alloc(), 0, b"")?;
-    same(text.len() > 1_048_576, true)?;
     let cert = reading_in_pieces(rt.alloc(), &text, 1_048_576)?;
-    same(cert.cover().len(), 65_535)?;
-    same(cert_write(rt.alloc(), &cert)?.as_slice(), text.as_slice())?;
+    let again = cert_write(rt.alloc(), &cert)?;
+    same(text.len() > 1_048_576, true)?;
+    same(again.as_slice(), text.as_slice())
+}
+
+#[test]
+fn a_fault_in_a_piece_of_a_megabyte_is_told(rt: HostRuntime) -> Result<(), Fail> {
     let row = long_text(rt.alloc(), 65_000, b"1a 0 any")?;
     let read = reading_in_pieces(rt.alloc(), &row, 1_048_576);
-    same(read.err(), Some(ReadFault::Line(65_000, LineCause::Order)))?;
-    Ok(())
+    same(read.err(), Some(ReadFault::Line(65_000, LineCause::Order)))
 }
 
 #[test]
@@ -495,10 +509,10 @@ fn a_reader_that_was_refused_has_failed(rt: HostRuntime) -> Result<(), Fail> {
     Ok(())
 }
 
-#[test]
-fn the_largest_table_is_written_and_read(rt: HostRuntime) -> Result<(), Fail> {
-    let mut rows = Vec::new(rt.alloc());
-    for number in 0..65_535 {
+// The rows of so many pages, from 0 on.
+fn rows_of_pages(alloc: Global, count: u32) -> Result<Vec<Row>, Fail> {
+    let mut rows = Vec::new(alloc);
+    for number in 0..count {
         let page = PageNo::new(number).ok_or("a page")?;
         rows.push(Row {
             id: FrameId::first(page),
@@ -509,30 +523,34 @@ fn the_largest_table_is_written_and_read(rt: HostRuntime) -> Result<(), Fail> {
             },
         })?;
     }
+    Ok(rows)
+}
+
+#[test]
+fn the_largest_table_is_written_and_read(rt: HostRuntime) -> Result<(), Fail> {
     let entry = PageNo::new(0).ok_or("a page")?;
     let ceiling = Pence::new(9999).ok_or("a price")?;
+    let rows = rows_of_pages(rt.alloc(), 65_535)?;
     let Ok(cert) = Certificate::<RowTable>::build(entry, ceiling, 65_535, Groups::none(), rows)
     else {
         return Err(Fail::from("refused"));
     };
     let text = cert_write(rt.alloc(), &cert)?;
-    let again = cert_read(rt.alloc(), &text)?;
-    same(again.cover().len(), 65_535)?;
-    same(cert_write(rt.alloc(), &again)?.as_slice(), text.as_slice())?;
-    Ok(())
+    let again = written_again(rt.alloc(), &text)?;
+    same(again.as_slice(), text.as_slice())
 }
 
 #[test]
 fn a_certificate_for_a_group_is_read_and_written_back(rt: HostRuntime) -> Result<(), Fail> {
+    let seven = GroupNo::new(7).ok_or("a group")?;
     let text = text_of(rt.alloc(), &GROUPED)?;
     let cert = cert_read(rt.alloc(), &text)?;
-    same(cert.groups().len(), 1)?;
-    same(cert.groups().has(GroupNo::new(7).ok_or("a group")?), true)?;
-    same(cert.keyings(), 1)?;
-    same(cert.cover().len(), 3)?;
+    same(
+        (parts(&cert), cert.groups().has(seven)),
+        ((123, 5, 1, 1, 3), true),
+    )?;
     let again = cert_write(rt.alloc(), &cert)?;
-    same(again.as_slice(), text.as_slice())?;
-    Ok(())
+    same(again.as_slice(), text.as_slice())
 }
 
 // One group, and the sixteen of the longest line.
