@@ -119,6 +119,34 @@ fn in_steps(alloc: Global, count: u32) -> Result<Base, Fail> {
     Ok(Base::build(page(0)?, Vec::new(alloc), frames)?)
 }
 
+// What a way of the frame at an index came to, where there is one.
+fn aim_of(survey: &Survey<'_>, index: usize, way: &Way) -> Option<Aim> {
+    if index < survey.found().as_slice().len() {
+        Some(survey.aim(index, way))
+    } else {
+        None
+    }
+}
+
+// The id of the frame at an index, where there is one.
+fn id_of(survey: &Survey<'_>, index: usize) -> Option<FrameId> {
+    if index < survey.found().as_slice().len() {
+        Some(survey.frame(index).id)
+    } else {
+        None
+    }
+}
+
+// Whether the frames are of pages in steps of 64.
+fn are_in_steps(found: &Found) -> bool {
+    for (index, listed) in found.as_slice().iter().enumerate() {
+        if listed.id.page.get() as usize != index.saturating_mul(64) {
+            return false;
+        }
+    }
+    true
+}
+
 // For 20 frames there are 64 slots, so that all begin at one slot.
 #[test]
 fn frames_of_one_slot_are_all_found(rt: HostRuntime) -> Result<(), Fail> {
@@ -126,18 +154,14 @@ fn frames_of_one_slot_are_all_found(rt: HostRuntime) -> Result<(), Fail> {
     let nine = Way::Route(digit(9)?);
     let base = in_steps(rt.alloc(), 20)?;
     let survey = Survey::of(rt.alloc(), &base, &nobody)?;
-    if survey.found().as_slice().len() != 20 {
-        return Err("another number of frames".into());
-    }
-    let mut pages = survey.found().as_slice().iter().enumerate();
-    let wrong = pages.find(|(index, listed)| listed.id.page.get() as usize != index * 64);
     same(
         (
-            wrong.is_none(),
-            survey.aim(18, &nine),
-            survey.aim(19, &nine),
+            are_in_steps(survey.found()),
+            aim_of(&survey, 18, &nine),
+            aim_of(&survey, 19, &nine),
+            aim_of(&survey, 20, &nine),
         ),
-        (true, Aim::Found, Aim::Missing),
+        (true, Some(Aim::Found), Some(Aim::Missing), None),
     )
 }
 
@@ -197,26 +221,22 @@ fn each_way_of_a_listed_frame_is_told(rt: HostRuntime) -> Result<(), Fail> {
     let base = demo(rt.alloc(), 7, &[])?;
     let groups = Groups::none();
     let survey = Survey::of(rt.alloc(), &base, &groups)?;
-    if survey.found().as_slice().len() != 2 {
-        return Err("another number of frames".into());
-    }
-    same([survey.frame(0).id, survey.frame(1).id], [entry, first])?;
-    same(
-        [
-            survey.aim(0, &zero),
-            survey.aim(0, &one),
-            survey.aim(0, &two),
-            survey.aim(0, &Way::Next),
-            survey.aim(1, &Way::Next),
-        ],
-        [
-            Aim::Outside,
-            Aim::Found,
-            Aim::NotOffered,
-            Aim::NotOffered,
-            Aim::Closed,
-        ],
-    )
+    let ids = [id_of(&survey, 0), id_of(&survey, 1), id_of(&survey, 2)];
+    let aims = [
+        aim_of(&survey, 0, &zero),
+        aim_of(&survey, 0, &one),
+        aim_of(&survey, 0, &two),
+        aim_of(&survey, 0, &Way::Next),
+        aim_of(&survey, 1, &Way::Next),
+    ];
+    let wanted = [
+        Some(Aim::Outside),
+        Some(Aim::Found),
+        Some(Aim::NotOffered),
+        Some(Aim::NotOffered),
+        Some(Aim::Closed),
+    ];
+    same((ids, aims), ([Some(entry), Some(first), None], wanted))
 }
 
 #[test]
@@ -226,12 +246,13 @@ fn a_way_to_a_page_without_frames_is_missing(rt: HostRuntime) -> Result<(), Fail
     let entry = frame(rt.alloc(), "123a", true, &[(9, 8)])?;
     let base = base_of(rt.alloc(), vec![in rt.alloc(); entry]?)?;
     let survey = Survey::of(rt.alloc(), &base, &groups)?;
-    if survey.found().as_slice().len() != 1 {
-        return Err("another number of frames".into());
-    }
     same(
-        [survey.aim(0, &nine), survey.aim(0, &Way::Next)],
-        [Aim::Missing, Aim::Missing],
+        [
+            aim_of(&survey, 0, &nine),
+            aim_of(&survey, 0, &Way::Next),
+            aim_of(&survey, 1, &nine),
+        ],
+        [Some(Aim::Missing), Some(Aim::Missing), None],
     )
 }
 

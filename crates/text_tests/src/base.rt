@@ -428,19 +428,19 @@ fn the_whole_is_judged_in_one_order(rt: HostRuntime) -> Result<(), Fail> {
     let twice = ", { id = \"3a\", body = \"\" }, { id = \"3a\", body = \"\" }";
     let after_z = ", { id = \"2z\", next = true, body = \"\" }";
     let bad = ", { id = \"1a\", body = 1 }";
-    let outside = at(None, Cause::OutsideInside(page(4)?));
-    let duplicate = at(None, Cause::Duplicate(id("3a")?));
-    let next = at(None, Cause::NextAfterZ(id("2z")?));
-    let kind = at(Some(4), Cause::WrongKind(Field::Body));
-    are_refused(
-        rt.alloc(),
-        &[
-            (&[top, "]"], outside),
-            (&[top, twice, "]"], duplicate),
-            (&[top, twice, after_z, "]"], next),
-            (&[top, twice, after_z, bad, "]"], kind),
-        ],
-    )
+    let faults = [
+        fault_of(rt.alloc(), &[top, "]"])?,
+        fault_of(rt.alloc(), &[top, twice, "]"])?,
+        fault_of(rt.alloc(), &[top, twice, after_z, "]"])?,
+        fault_of(rt.alloc(), &[top, twice, after_z, bad, "]"])?,
+    ];
+    let wanted = [
+        at(None, Cause::OutsideInside(page(4)?)),
+        at(None, Cause::Duplicate(id("3a")?)),
+        at(None, Cause::NextAfterZ(id("2z")?)),
+        at(Some(4), Cause::WrongKind(Field::Body)),
+    ];
+    same(faults, wanted)
 }
 
 // The third frame of DEMO up to its body.
@@ -449,20 +449,22 @@ const BODY: &str = "[[frame]]\nid = \"1231b\"\nbody = \"";
 #[test]
 fn a_body_has_at_most_4096_bytes(rt: HostRuntime) -> Result<(), Fail> {
     let third = id("1231b")?;
-    let long = at(None, Cause::BodyTooLong(third));
     let most = "B".repeat(rt.alloc(), 4096)?;
     let base = base_of(rt.alloc(), &[TOP, FIRST, BODY, most.as_str(), "\""])?;
     same(
         base.find(third).map(|frame| frame.body.as_slice().len()),
         Some(4096),
     )?;
-    are_refused(
-        rt.alloc(),
-        &[
-            (&[TOP, FIRST, BODY, most.as_str(), "B\""], long),
-            (&[TOP, FIRST, FIRST, BODY, most.as_str(), "B\""], long),
-        ],
-    )
+    let longer = fault_of(rt.alloc(), &[TOP, FIRST, BODY, most.as_str(), "B\""])?;
+    same(longer, at(None, Cause::BodyTooLong(third)))
+}
+
+#[test]
+fn a_long_body_is_told_before_a_double_id(rt: HostRuntime) -> Result<(), Fail> {
+    let third = id("1231b")?;
+    let body = "B".repeat(rt.alloc(), 4097)?;
+    let fault = fault_of(rt.alloc(), &[TOP, FIRST, FIRST, BODY, body.as_str(), "\""])?;
+    same(fault, at(None, Cause::BodyTooLong(third)))
 }
 
 #[test]
@@ -567,31 +569,31 @@ fn at_most_65535_outside_pages_are_listed(rt: HostRuntime) -> Result<(), Fail> {
     )
 }
 
+// A text up to its frames, and one of them.
+const OPEN: &str = "entry = 7\nframe = [";
+
+const ONE: &str = "{id='1a',body=''},";
+
 #[test]
 fn all_frames_are_judged_before_their_number(rt: HostRuntime) -> Result<(), Fail> {
     let duplicate = at(None, Cause::Duplicate(id("1a")?));
-    let frames = "{id='1a',body=''},".repeat(rt.alloc(), 65_534)?;
-    let top = "entry = 7\nframe = [";
-    let one = "{id='1a',body=''},";
-    are_refused(
+    let frames = ONE.repeat(rt.alloc(), 65_534)?;
+    let no_body = fault_of(rt.alloc(), &[OPEN, frames.as_str(), "{id='1b'}]"])?;
+    let most = fault_of(rt.alloc(), &[OPEN, frames.as_str(), ONE, "]"])?;
+    let bad_id = fault_of(
         rt.alloc(),
-        &[
-            (
-                &[top, frames.as_str(), "{id='1b'}]"],
-                at(Some(65_534), Cause::Absent(Field::Body)),
-            ),
-            (&[top, frames.as_str(), one, "]"], duplicate),
-            (
-                &[top, frames.as_str(), one, "{id='1A',body=''}]"],
-                at(Some(65_535), Cause::BadFrame),
-            ),
-            (
-                &[top, frames.as_str(), one, "{id='1a',body=''}]"],
-                at(None, Cause::TooMany),
-            ),
-        ],
+        &[OPEN, frames.as_str(), ONE, "{id='1A',body=''}]"],
+    )?;
+    let more = fault_of(rt.alloc(), &[OPEN, frames.as_str(), ONE, ONE, "]"])?;
+    let absent = at(Some(65_534), Cause::Absent(Field::Body));
+    let bad = at(Some(65_535), Cause::BadFrame);
+    same(
+        [no_body, most, bad_id, more],
+        [absent, duplicate, bad, at(None, Cause::TooMany)],
     )
 }
+
+const OUTSIDE: &str = "entry = 1\noutside = [";
 
 #[test]
 fn hostile_texts_are_answered(rt: HostRuntime) -> Result<(), Fail> {
@@ -601,16 +603,13 @@ fn hostile_texts_are_answered(rt: HostRuntime) -> Result<(), Fail> {
     let arrays = array.as_str().repeat(rt.alloc(), 118_900)?;
     let numbers = "0,".repeat(rt.alloc(), 8_000_000)?;
     let key = "k".repeat(rt.alloc(), 1_000_000)?;
-    let outside = "entry = 1\noutside = [";
-    are_refused(
-        rt.alloc(),
-        &[
-            (
-                &[outside, arrays.as_str(), "]"],
-                at(None, Cause::WrongKind(Field::Outside)),
-            ),
-            (&[outside, numbers.as_str(), "]"], at(None, Cause::TooMany)),
-            (&[key.as_str(), " = 1"], at(None, Cause::UnknownKey)),
-        ],
-    )
+    let deep = fault_of(rt.alloc(), &[OUTSIDE, arrays.as_str(), "]"])?;
+    let many = fault_of(rt.alloc(), &[OUTSIDE, numbers.as_str(), "]"])?;
+    let long = fault_of(rt.alloc(), &[key.as_str(), " = 1"])?;
+    let causes = [
+        Cause::WrongKind(Field::Outside),
+        Cause::TooMany,
+        Cause::UnknownKey,
+    ];
+    same([deep, many, long], causes.map(|cause| at(None, cause)))
 }
