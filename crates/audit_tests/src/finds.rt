@@ -73,34 +73,77 @@ type Listed<'a> = (&'a str, Option<u16>, Option<u32>, Option<Key>);
 // Compares each discovered frame, in order.
 fn lists(found: &Found, wanted: &[Listed<'_>]) -> Result<(), Fail> {
     same(found.as_slice().len(), wanted.len())?;
-    for (frame, listed) in found.as_slice().iter().zip(wanted) {
-        let id = frame.id.text();
-        same((id.as_str(), frame.rank, frame.parent, frame.key), *listed)?;
+    for (frame, (id, rank, parent, key)) in found.as_slice().iter().zip(wanted) {
+        let text = frame.id.text();
+        same(
+            (text.as_str(), frame.rank, frame.parent, frame.key),
+            (*id, *rank, *parent, *key),
+        )?;
     }
     Ok(())
 }
 
-// The second frame's only route leads to the entry frame, or leaves for the outside page; or it belongs to a group, of
-// which the caller is or isn't.
+// The same of the base whose second frame belongs to a group and has a route back to a page, for a caller of group 7 or one
+// outside every group.
+fn demo_lists(
+    alloc: Global,
+    group: u16,
+    back: u32,
+    is_member: bool,
+    wanted: &[Listed<'_>],
+) -> Result<(), Fail> {
+    let groups = if is_member {
+        Groups::read("7")?
+    } else {
+        Groups::none()
+    };
+    let base = demo(alloc, group, &[(0, back)])?;
+    let found = find(alloc, &base, &groups)?;
+    lists(&found, wanted)
+}
+
 #[test]
 fn lists_each_reached_frame_with_its_rank(rt: HostRuntime) -> Result<(), Fail> {
-    let entry = ("123a", Some(0), None, None);
-    let first = ("1231a", Some(1), Some(0), Some(Key::Route(digit(1)?)));
-    let second = ("1231b", Some(1), Some(1), Some(Key::Next));
-    let stuck = ("1231b", None, Some(1), Some(Key::Next));
-    let [none, seven] = [Groups::none(), Groups::read("7")?];
-    let rows: [(u16, u32, &Groups, &[Listed<'_>]); 4] = [
-        (0, 123, &none, &[entry, first, second]),
-        (0, 0, &none, &[entry, first, stuck]),
-        (7, 123, &none, &[entry, first]),
-        (7, 123, &seven, &[entry, first, second]),
+    let one = Some(Key::Route(digit(1)?));
+    let wanted = [
+        ("123a", Some(0), None, None),
+        ("1231a", Some(1), Some(0), one),
+        ("1231b", Some(1), Some(1), Some(Key::Next)),
     ];
-    for (group, back, groups, wanted) in rows {
-        let base = demo(rt.alloc(), group, &[(0, back)])?;
-        let found = find(rt.alloc(), &base, groups)?;
-        lists(&found, wanted)?;
-    }
-    Ok(())
+    demo_lists(rt.alloc(), 0, 123, false, &wanted)
+}
+
+// The last frame's only route leaves for the outside page.
+#[test]
+fn a_frame_without_a_way_back_has_no_rank(rt: HostRuntime) -> Result<(), Fail> {
+    let one = Some(Key::Route(digit(1)?));
+    let wanted = [
+        ("123a", Some(0), None, None),
+        ("1231a", Some(1), Some(0), one),
+        ("1231b", None, Some(1), Some(Key::Next)),
+    ];
+    demo_lists(rt.alloc(), 0, 0, false, &wanted)
+}
+
+#[test]
+fn closed_frames_are_not_listed(rt: HostRuntime) -> Result<(), Fail> {
+    let one = Some(Key::Route(digit(1)?));
+    let wanted = [
+        ("123a", Some(0), None, None),
+        ("1231a", Some(1), Some(0), one),
+    ];
+    demo_lists(rt.alloc(), 7, 123, false, &wanted)
+}
+
+#[test]
+fn frames_of_the_callers_groups_are_listed(rt: HostRuntime) -> Result<(), Fail> {
+    let one = Some(Key::Route(digit(1)?));
+    let wanted = [
+        ("123a", Some(0), None, None),
+        ("1231a", Some(1), Some(0), one),
+        ("1231b", Some(1), Some(1), Some(Key::Next)),
+    ];
+    demo_lists(rt.alloc(), 7, 123, true, &wanted)
 }
 
 // Pages in steps of 64, each with a route to the next one.
