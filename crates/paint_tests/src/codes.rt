@@ -54,10 +54,8 @@ fn writes_moves_and_shows_by_the_byte_table() -> Result<(), Fail> {
         let terminal = after(bytes);
         let seen = terminal.cells();
         let seen = [seen[0], seen[1], seen[959]];
-        same_in(bytes, seen, cells)?;
-        same_in(bytes, terminal.at(), at)?;
-        same_in(bytes, terminal.is_pending(), pending)?;
-        same_in(bytes, terminal.is_visible(), visible)?;
+        let state = (terminal.at(), terminal.is_pending(), terminal.is_visible());
+        same_in(bytes, (seen, state), (cells, (at, pending, visible)))?;
     }
     Ok(())
 }
@@ -79,10 +77,11 @@ fn a_caret_goes_where_the_terminal_goes() -> Result<(), Fail> {
         at: 40,
         pending: false,
     };
-    same(last.step(0x41).at, 0)?;
-    same(last.run(lead_bytes(Lead::Clear)), row_1)?;
-    same(last.run(lead_bytes(Lead::Keep)), last)?;
-    Ok(())
+    let leads = [
+        last.run(lead_bytes(Lead::Clear)),
+        last.run(lead_bytes(Lead::Keep)),
+    ];
+    same((last.step(0x41).at, leads), (0, [row_1, last]))
 }
 
 #[test]
@@ -96,10 +95,9 @@ fn the_service_rows_are_the_first_and_the_last() -> Result<(), Fail> {
         (959, true),
     ] {
         let caret = Caret { at, pending: false };
-        same_in(at, is_service_position(at, 0x41), service)?;
-        same_in(at, caret.touches(0x41), service)?;
-        same_in(at, caret.touches(0x1b), false)?;
-        same_in(at, caret.touches(0x0c), true)?;
+        let touches = [0x41, 0x1b, 0x0c].map(|byte| caret.touches(byte));
+        let seen = (is_service_position(at, 0x41), touches);
+        same_in(at, seen, (service, [service, false, true]))?;
     }
     Ok(())
 }
@@ -135,9 +133,8 @@ fn the_letter_m_is_no_double_height() -> Result<(), Fail> {
         (920, true, true),
     ] {
         let caret = Caret { at, pending: false };
-        same_in(at, caret.touches(0x8d), double)?;
-        same_in(at, caret.touches(0x4d), other)?;
-        same_in(at, caret.touches(0xcd), other)?;
+        let touches = [0x8d, 0x4d, 0xcd].map(|byte| caret.touches(byte));
+        same_in(at, touches, [double, other, other])?;
     }
     Ok(())
 }
@@ -154,21 +151,24 @@ fn an_escape_makes_double_height() -> Result<(), Fail> {
         (920, true, true),
     ] {
         let caret = Caret { at, pending: true };
-        same_in(at, caret.touches(0x8d), double)?;
-        same_in(at, caret.touches(0x4d), double)?;
-        same_in(at, caret.touches(0x4c), other)?;
-        same_in(at, caret.touches(0x2d), false)?;
+        let touches = [0x8d, 0x4d, 0x4c, 0x2d].map(|byte| caret.touches(byte));
+        same_in(at, touches, [double, double, other, false])?;
     }
     Ok(())
 }
 
 #[test]
 fn one_byte_has_one_code_and_one_move() -> Result<(), Fail> {
-    same(code_written(false, 0x41), Some(0x41))?;
-    same(code_written(true, 0x41), Some(0x81))?;
-    same(code_written(true, 0x30), None)?;
-    same(code_written(false, 0x0c), None)?;
-    same(code_written(true, 0xc1), Some(0x41))?;
+    same(
+        [
+            code_written(false, 0x41),
+            code_written(true, 0x41),
+            code_written(true, 0x30),
+            code_written(false, 0x0c),
+            code_written(true, 0xc1),
+        ],
+        [Some(0x41), Some(0x81), None, None, Some(0x41)],
+    )?;
     let moves = [
         (41, 0x0b, 1),
         (0, 0x08, 959),
