@@ -175,19 +175,21 @@ fn a_frame_is_sought_for_the_callers_groups(rt: HostRuntime) -> Result<(), Fail>
 }
 
 // A frame whose routes 0 to 3 lead to an open, a closed, a missing and an outside page, and `#` to a missing letter.
-#[test]
-fn a_way_comes_to_what_it_seeks(rt: HostRuntime) -> Result<(), Fail> {
-    let mut from = frame(rt.alloc(), "123a", true, 0)?;
+fn base_of_ways(alloc: Global) -> Result<Base, Fail> {
+    let mut from = frame(alloc, "123a", true, 0)?;
     from.routes[0] = PageNo::new(5);
     from.routes[1] = PageNo::new(6);
     from.routes[2] = PageNo::new(7);
     from.routes[3] = PageNo::new(8);
-    let mut closed = frame(rt.alloc(), "6a", false, 0)?;
+    let mut closed = frame(alloc, "6a", false, 0)?;
     closed.group = GroupNo::new(7);
-    let open = frame(rt.alloc(), "5a", false, 0)?;
-    let frames = vec![in rt.alloc(); from, open, closed]?;
-    let base = base_of(pages(rt.alloc(), &[8])?, frames)?;
-    let from = base.find(FrameId::read("123a")?).ok_or("no frame")?;
+    let open = frame(alloc, "5a", false, 0)?;
+    base_of(pages(alloc, &[8])?, vec![in alloc; from, open, closed]?)
+}
+
+#[test]
+fn a_way_comes_to_what_it_seeks(rt: HostRuntime) -> Result<(), Fail> {
+    let entry = FrameId::read("123a")?;
     let rows: [(u8, Destination); 6] = [
         (0, Destination::Found(FrameId::read("5a")?, price()?)),
         (1, Destination::Closed(FrameId::read("6a")?)),
@@ -196,18 +198,27 @@ fn a_way_comes_to_what_it_seeks(rt: HostRuntime) -> Result<(), Fail> {
         (4, Destination::NotOffered),
         (10, Destination::Missing(FrameId::read("123b")?)),
     ];
+    let base = base_of_ways(rt.alloc())?;
+    let from = base.find(entry).ok_or("no frame")?;
     for (place, destination) in rows {
         let comes_to = base.follow(from, Way::at(place), &Groups::none());
         same_in(place, comes_to, destination)?;
     }
-    for (way, sought) in [
-        (Way::at(3), Some(FrameId::read("8a")?)),
-        (Way::at(9), None),
-        (Way::Next, Some(FrameId::read("123b")?)),
-    ] {
-        same(from.sought(way), sought)?;
-    }
     Ok(())
+}
+
+#[test]
+fn a_way_seeks_the_frame_of_its_route_or_the_next(rt: HostRuntime) -> Result<(), Fail> {
+    let entry = FrameId::read("123a")?;
+    let wanted = [
+        Some(FrameId::read("8a")?),
+        None,
+        Some(FrameId::read("123b")?),
+    ];
+    let base = base_of_ways(rt.alloc())?;
+    let from = base.find(entry).ok_or("no frame")?;
+    let sought = [Way::at(3), Way::at(9), Way::Next].map(|way| from.sought(way));
+    same(sought, wanted)
 }
 
 #[test]
