@@ -1,6 +1,6 @@
 -- The scripts of a list of the reached frames lead to them.
-use Rattle.std.proofs.Common.{◌≡◌, ◌<◌, ◌+◌, ◌-◌, ℕ, zero, suc, List, [], ◌∷◌, ◌++◌, Option, Some, None, refl, sym, ◌∙◌, ap, append_assoc, arith, ◌≤◌, inl, add-one, slice_get, get_or, subst, ⊎_elim, length, reverse}
-use Rattle.finder.proofs.Words.{append-nil, cases_lt, cases_order, same_Some, slice_get_within, slice_get-get_or, reverse_onto, Key, Id, Way, way_key, BaseView, entry_of, Leads, Discovered, parent_of, keys_along, keys_back, parent_by, script, ScriptsLead, Pair, HasPair, PairLeads, IsBefore, HasFirstPair, FindsReached, Walk, IsReached, KeysLead}
+use Rattle.std.proofs.Common.{◌≡◌, ◌<◌, ◌+◌, ◌-◌, ℕ, zero, suc, List, [], ◌∷◌, ◌++◌, Option, Some, None, refl, sym, ◌∙◌, ap, append_assoc, arith, ◌≤◌, add-one, slice_get, subst, ⊎_elim, length, reverse}
+use Rattle.finder.proofs.Words.{append-nil, cases_order, same_Some, slice_get_within, reverse_onto, Key, Id, Way, way_key, BaseView, entry_of, Leads, Discovered, parent_of, keys_along, keys_back, parent_by, script, ScriptsLead, PairLeads, FindsReached, IsReached, KeysLead}
 use Rattle.std.specs.Prelude.{slice_get}
 use Rattle.finder.proofs.Lists.{any_at, any_of, pairs_at}
 
