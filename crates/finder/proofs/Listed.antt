@@ -112,7 +112,6 @@ module _ (caller : List ℕ) (base : BaseView) where
           ranks = All-push (λ d. IsRank caller base d.id d.rank) found e is.listing.ranks ranked;
           once = all_pairs_push (λ d b. d.id ≡ b.id → ⊥) found e is.listing.once (λ k d lt same. new (any_of (λ d. d.id ≡ e.id) found k _ (slice_get-get_or found k d lt) same));
           pairs = λ i d at. ⊎_elim (λ old. kept d (is.listing.pairs i d old)) (λ end. subst (HasFirstPair caller base more) end.1 first_pair) (at_push found e (i + 1) d at);
-          behind = λ i d p at h. ⊎_elim (λ old. is.listing.behind i d p old h) (λ end. omega (arith, end.0, (own p (subst (λ x. HasPair x p) (sym end.1) h)).0, inside)) (at_push found e i d at);
           ascend = all_pairs_push (λ d b. (p q : Pair) → HasPair d p → HasPair b q → IsBefore p q) found e is.listing.ascend (λ k d lt p q hp hq. let last = own q hq in place_before p q (omega (arith, last.1, small)) (omega (arith, is.before k d lt p hp, last.0, last.1)));
         };
         before = All-push (λ d. (p : Pair) → HasPair d p → place p < index * 11 + way + 1) found e (λ k d lt p h. omega (arith, is.before k d lt p h)) (λ p h. let last = own p h in omega (arith, last.0, last.1));
@@ -130,7 +129,6 @@ module _ (caller : List ℕ) (base : BaseView) where
       ranks = All-push (λ d. IsRank caller base d.id d.rank) [] e (All-nil _) ranked;
       once = λ i j d lt end. absurd (omega (arith, lt, end));
       pairs = λ i d at. absurd (omega (arith, slice_get_within (e ∷ []) (i + 1) d at));
-      behind = λ i d p at h. ⊎_elim (λ old. absurd cc) (λ end. let none = sym parent ∙ ap (λ (x : Discovered). x.parent) end.1 ∙ h.parent in absurd cc) (at_push [] e i d at);
       ascend = λ i j d lt end. absurd (omega (arith, lt, end));
     };
     before = All-push (λ d. (p : Pair) → HasPair d p → place p < 0) [] e (All-nil _) (λ p h. let none = sym parent ∙ h.parent in absurd cc);
@@ -162,6 +160,5 @@ module _ (caller : List ℕ) (base : BaseView) where
       );
       once = is.listing.once;
       pairs = is.listing.pairs;
-      behind = is.listing.behind;
       ascend = is.listing.ascend;
     }

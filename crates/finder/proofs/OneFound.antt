@@ -4,7 +4,7 @@ use Rattle.finder.proofs.Words.{cases_lt, same_Some, slice_get_within, Id, Key, 
 use Rattle.finder.specs.FoundLaws.{FoundIsOne}
 use Rattle.finder.proofs.Lists.{all_at, pairs_at, none_past}
 use Rattle.finder.proofs.Listed.{place_before, before_place, one_end, way_known}
-use Rattle.finder.proofs.Scripted.{one_index, listed_at, reached_at}
+use Rattle.finder.proofs.Scripted.{one_index, listed_at, reached_at, earlier}
 
 abbrev frame_of : Id → Option ℕ → Option ℕ → Option Key → Discovered
 frame_of id rank parent key = record { id = id; rank = rank; parent = parent; key = key }
@@ -37,7 +37,7 @@ module _ (caller : List ℕ) (base : BaseView) where
 
     module _ (n : ℕ) (d e : Discovered) (alike : IsAlike a b (suc n)) (at : slice_get a (suc n) ≡ Some d) (there : slice_get b (suc n) ≡ Some e) (h : HasFirstPair caller base a d) (k : HasFirstPair caller base b e) where
       from_there : slice_get b h.pair.0 ≡ Some h.leads.from
-      from_there = sym (alike h.pair.0 (fa.behind (suc n) d h.pair at h.has)) ∙ h.leads.stands
+      from_there = sym (alike h.pair.0 (earlier caller base a fa (suc n) d h.pair at h.has)) ∙ h.leads.stands
 
       -- in the second list the first one's pair leads to the same frame
       low : (x : Discovered) (m : HasFirstPair caller base b x) → x.id ≡ d.id → place m.pair ≤ place h.pair

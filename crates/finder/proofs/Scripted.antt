@@ -1,6 +1,6 @@
 -- The scripts of a list of the reached frames lead to them.
-use Rattle.std.proofs.Common.{◌≡◌, ◌<◌, ◌+◌, ◌-◌, ℕ, zero, suc, List, [], ◌∷◌, ◌++◌, Option, Some, None, refl, sym, ◌∙◌, ap, append_assoc, arith, ◌≤◌, add-one, slice_get, subst, ⊎_elim, length, reverse}
-use Rattle.finder.proofs.Words.{append-nil, cases_order, same_Some, slice_get_within, reverse_onto, Key, Id, Way, way_key, BaseView, entry_of, Leads, Discovered, parent_of, keys_along, keys_back, parent_by, script, ScriptsLead, PairLeads, FindsReached, IsReached, KeysLead}
+use Rattle.std.proofs.Common.{◌≡◌, ◌<◌, ◌+◌, ◌-◌, ℕ, zero, suc, List, [], ◌∷◌, ◌++◌, Option, Some, None, refl, sym, ◌∙◌, ap, append_assoc, arith, ◌≤◌, inl, add-one, slice_get, get_or, subst, ⊎_elim, length, reverse}
+use Rattle.finder.proofs.Words.{append-nil, cases_lt, cases_order, same_Some, slice_get_within, slice_get-get_or, reverse_onto, Key, Id, Way, way_key, BaseView, entry_of, Leads, Discovered, parent_of, keys_along, keys_back, parent_by, script, ScriptsLead, Pair, HasPair, PairLeads, IsBefore, HasFirstPair, FindsReached, Walk, IsReached, KeysLead}
 use Rattle.std.specs.Prelude.{slice_get}
 use Rattle.finder.proofs.Lists.{any_at, any_of, pairs_at}
 
@@ -37,6 +37,54 @@ module _ (caller : List ℕ) (base : BaseView) (found : List Discovered) (finds 
   pub reached_at : (i : ℕ) (d : Discovered) → slice_get found i ≡ Some d → IsReached caller base d.id
   reached_at i d at = (finds.reached d.id).1 (any_of (λ e. e.id ≡ d.id) found i d at refl)
 
+  -- the pair of a frame that isn't the first
+  pub pair_at : (i : ℕ) (d : Discovered) (a : ℕ) → slice_get found i ≡ Some d → d.parent ≡ Some a
+      → HasFirstPair caller base found d
+  pair_at zero d a at parent = let none = (finds.first d at).1 in absurd cc
+  pair_at (suc i) d a at parent = finds.pairs i d (rw add-one at)
+
+  module _ (i : ℕ) (d : Discovered) (at : slice_get found i ≡ Some d) (h : HasFirstPair caller base found d) (late : i ≤ h.pair.0) where
+    -- then no pair before leads to a frame that isn't before
+    low : (j : ℕ) (e : Discovered) (p : Pair) → 0 < i → i ≤ j → slice_get found j ≡ Some e
+        → PairLeads caller base found p e.id → i ≤ p.0
+    low zero e p one le there l = absurd (omega (arith, one, le))
+    low (suc j) e p one le there l =
+        let q = finds.pairs j e (rw add-one there) in
+        let first : q.pair.0 ≤ p.0 = ⊎_elim (λ less. absurd (q.none_before p l (inl less))) (λ more. more) (cases_lt p.0 q.pair.0) in
+        let later : h.pair.0 ≤ q.pair.0 = ⊎_elim (λ less. ⊎_elim (λ before. omega (arith, before)) (λ same. omega (arith, same.0)) (pairs_at (λ x y. (r s : Pair) → HasPair x r → HasPair y s → IsBefore r s) found i (suc j) d e finds.ascend less at there h.pair q.pair h.has q.has)) (λ more.
+        let same : d ≡ e = same_Some d e (sym at ∙ ap (slice_get found) (omega (arith, more, le)) ∙ there) in
+        let parent : h.pair.0 ≡ q.pair.0 = same_Some h.pair.0 q.pair.0 (sym h.has.parent ∙ ap (λ (x : Discovered). x.parent) same ∙ q.has.parent) in
+        omega (arith, parent)) (cases_lt i (suc j)) in
+        omega (arith, late, first, later)
+
+    -- so no walk leads from the entry frame to one of those
+    stays : (n : ℕ) (g : Id) (r : IsReached caller base g) → 0 < i → Walk caller base (entry_of base) g n
+        → (k : ℕ) (e : Discovered) → slice_get found k ≡ Some e → e.id ≡ g → k < i
+    stays zero g r one walk k e there same = ⊎_elim (λ less. less) (λ more.
+        let zeroth : slice_get found 0 ≡ Some (get_or found 0 e) = slice_get-get_or found 0 e (omega (arith, slice_get_within found k e there)) in
+        let id = (finds.first (get_or found 0 e) zeroth).0 in
+        let here : 0 ≡ k = one_index 0 k (get_or found 0 e) e zeroth there (id ∙ walk ∙ sym same) in
+        absurd (omega (arith, here, more, one))) (cases_lt k i)
+    stays (suc n) g r one walk k e there same =
+        let before : IsReached caller base walk.0 = record { steps = n; entry = r.entry; walk = walk.2 } in
+        let h_at = listed_at walk.0 before in
+        let less = stays n walk.0 before one walk.2 h_at.0 h_at.1 h_at.2 h_at.3 in
+        ⊎_elim (λ lt. lt) (λ more.
+        let leads : PairLeads caller base found (h_at.0, walk.1) e.id = record { from = h_at.1; stands = h_at.2; leads = subst (λ x. Leads caller base x walk.1 e.id) (sym h_at.3) (subst (Leads caller base walk.0 walk.1) (sym same) walk.3) } in
+        absurd (omega (arith, less, low k e (h_at.0, walk.1) one more there leads))) (cases_lt k i)
+
+  -- the parent stands before
+  pub earlier : (i : ℕ) (d : Discovered) (p : Pair) → slice_get found i ≡ Some d → HasPair d p → p.0 < i
+  earlier i d p at has = ⊎_elim (λ lt. lt) (λ more.
+      let h = pair_at i d p.0 at has.parent in
+      let same : p.0 ≡ h.pair.0 = same_Some p.0 h.pair.0 (sym has.parent ∙ h.has.parent) in
+      let r = reached_at i d at in
+      absurd (omega (arith, stays i d at h (omega (arith, more, same)) r.steps d.id r (not_first i d p at has) r.walk i d at refl))) (cases_lt p.0 i)
+    where
+      not_first : (i : ℕ) (d : Discovered) (p : Pair) → slice_get found i ≡ Some d → HasPair d p → 0 < i
+      not_first zero d p at has = let none = (finds.first d at).1 in let some = has.parent in absurd cc
+      not_first (suc i) d p at has = omega arith
+
 -- one key more
 lead_more : (caller : List ℕ) (base : BaseView) (keys : List Key) (f h g : Id) (key : Key) (way : Way)
     → key ≡ way_key way → Leads caller base h way g → KeysLead caller base f keys h
@@ -62,7 +110,7 @@ module _ (caller : List ℕ) (base : BaseView) (found : List Discovered) (finds 
     by (suc i) (Some d) is e =
         let h = finds.pairs i d (rw add-one is) in
         let same : (h.pair.0, way_key h.pair.1) ≡ p = same_Some (h.pair.0, way_key h.pair.1) p (sym (ap (λ a. parent_by a d.key) h.has.parent ∙ ap (parent_by (Some h.pair.0)) h.has.key) ∙ e) in
-        subst (IsChild (suc i)) same (record { d = d; stands = is; way = h.pair.1; key = refl; leads = h.leads; before = finds.behind (suc i) d h.pair is h.has })
+        subst (IsChild (suc i)) same (record { d = d; stands = is; way = h.pair.1; key = refl; leads = h.leads; before = earlier caller base found finds (suc i) d h.pair is h.has })
 
   -- each turn more changes nothing, where there are enough
   steady : (n i : ℕ) → i < n → keys_back found n i ≡ keys_back found (suc n) i

@@ -90,7 +90,6 @@ nothing caller base not_found =
       reached = λ id. (λ r. absurd (not_found r.entry), λ some. absurd (omega (arith, some.2)));
       once = λ i j d lt end. absurd (omega (arith, lt, end));
       pairs = λ i d at. absurd cc;
-      behind = λ i d pair at. absurd cc;
       ascend = λ i j d lt end. absurd (omega (arith, lt, end));
     } in
     record {

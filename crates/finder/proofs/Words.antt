@@ -1,11 +1,11 @@
 -- The names that the finder's proofs cite, passed on from one place. Declares nothing.
 pub use Rattle.std.proofs.lemmas.Bool.{cases_eq, cases_lt, cases_order}
 pub use Rattle.std.proofs.lemmas.Grind.{common_steps, get_or-set_at, reverse_onto}
-pub use Rattle.std.proofs.lemmas.List.{append-nil, get_or-replicate, get_or-set_other, get_or_append_left, get_or_default, get_or_push, length-replicate, length-set}
+pub use Rattle.std.proofs.lemmas.List.{append-nil, get_or-replicate, get_or-set_other, get_or_append_left, get_or_default, get_or_push, length-map, length-replicate, length-set}
 pub use Rattle.std.proofs.lemmas.List.Elements.{All-contains, All-nil, All-push, All-replicate, All-set, AllWithin-more, Contains-append_left, Contains-push}
 pub use Rattle.std.proofs.lemmas.List.Quantifiers.{Any-push, all_pairs_push}
 pub use Rattle.std.proofs.lemmas.List.Sums.{count_by-le-length, sum_by-set}
-pub use Rattle.std.proofs.lemmas.Option.{slice_get_cases, get_or_from_slice_get, same_Some, slice_get-get_or, slice_get_read, slice_get_within}
+pub use Rattle.std.proofs.lemmas.Option.{slice_get_cases, get_or_from_slice_get, same_Some, slice_get-get_or, slice_get-map, slice_get_read, slice_get_within}
 pub use Rattle.std.specs.List.Sorted.{IsBinarySearchResult}
 pub use Rattle.std.specs.List.{AllWithin}
 pub use Rattle.page_ids.specs.Id.{Id}
@@ -18,8 +18,8 @@ pub use Rattle.page_ids.specs.declared.way.Way.{Way}
 pub use Rattle.frame_records.proofs.Finds.{find_first, find_none}
 pub use Rattle.frame_records.proofs.SortedFrames.{apart_at, ascending_sorted, found_at}
 pub use Rattle.frame_records.specs.BaseView.{BaseView, IsAscending, frame_among, frame_at}
-pub use Rattle.frame_records.specs.Seek.{entry_of, is_open, seek_entry, sought_of}
-pub use Rattle.frame_records.specs.WayLaws.{frame_id, going, offered_place}
+pub use Rattle.frame_records.specs.Seek.{entry_of, is_open, seek, seek_entry, sought_of}
+pub use Rattle.frame_records.specs.WayLaws.{found_sought, frame_id, going, offered_place}
 pub use Rattle.frame_records.specs.Ways.{Leads, destination, destination_by, destination_of, missing_by, offered_by, sought, sought_by}
 pub use Rattle.frame_records.specs.declared.frame.Frame.{Frame}
 pub use Rattle.smallvec.specs.SmallVec.{SmallVec}

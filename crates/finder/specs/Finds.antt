@@ -47,8 +47,6 @@ pub record FindsReached (caller : List ℕ) (base : BaseView) (found : List Disc
   pub once : AllPairs (λ d e. d.id ≢ e.id) found
   -- each other frame has a pair, the first that leads to it
   pub pairs : (i : ℕ) (d : Discovered) → slice_get found (i + 1) ≡ Some d → HasFirstPair caller base found d
-  -- its parent stands before it
-  pub behind : (i : ℕ) (d : Discovered) (pair : Pair) → slice_get found i ≡ Some d → HasPair d pair → pair.0 < i
   -- the pairs ascend
   pub ascend : AllPairs (λ d e. (p q : Pair) → HasPair d p → HasPair e q → IsBefore p q) found
 
