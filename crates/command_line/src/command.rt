@@ -160,13 +160,16 @@ pub fn groups_of(matches: &ArgMatches) -> Result<Groups, RunFault> {
 
 // What the options ask of bases.
 fn policy_of(words: &ArgMatches, groups: Groups) -> Option<Policy> {
-    let ceiling = Pence::new(words.get_one::<u16>("ceiling")?)?;
+    let price = words.get_one::<u16>("ceiling")?;
     let keyings = words.get_one::<u16>("keyings")?;
-    Some(Policy {
-        ceiling,
-        keyings,
-        groups,
-    })
+    match Pence::new(price) {
+        Some(ceiling) => Some(Policy {
+            ceiling,
+            keyings,
+            groups,
+        }),
+        None => None,
+    }
 }
 
 /// What words ask for that clap has taken, by a caller of these groups: each word that a command requires is there, so that there always is a request.

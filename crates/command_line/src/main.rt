@@ -86,12 +86,20 @@ fn tell<R: Eprint + AllocGlobal>(rt: &R, fault: &RunFault) -> bool {
     true
 }
 
+// A file, or the fault of one that can't be opened.
+fn opened<R: Files>(rt: &R, path: &str, fault: RunFault) -> Result<R::File, RunFault> {
+    match fs::open(rt, path) {
+        Ok(file) => Ok(file),
+        Err(_) => Err(fault),
+    }
+}
+
 fn audit_file<R: Files + Print + AllocGlobal>(
     rt: &R,
     base: &str,
     policy: &Policy,
 ) -> Result<Status, RunFault> {
-    let base = fs::open(rt, base).map_err(|_| RunFault::ReadBase)?;
+    let base = opened(rt, base, RunFault::ReadBase)?;
     let mut base = FromRead::new(base);
     let mut out = IntoWrite::new(io::writer(rt));
     run_audit(rt.alloc(), &mut base, &mut out, policy)
@@ -103,8 +111,8 @@ fn check_files<R: Files + Print + AllocGlobal>(
     cert: &str,
     policy: &Policy,
 ) -> Result<Status, RunFault> {
-    let base = fs::open(rt, base).map_err(|_| RunFault::ReadBase)?;
-    let cert = fs::open(rt, cert).map_err(|_| RunFault::ReadCert)?;
+    let base = opened(rt, base, RunFault::ReadBase)?;
+    let cert = opened(rt, cert, RunFault::ReadCert)?;
     let mut base = FromRead::new(base);
     let mut cert = FromRead::new(cert);
     let mut out = IntoWrite::new(io::writer(rt));
@@ -118,10 +126,10 @@ fn change_files<R: Files + Print + AllocGlobal>(
     policy: &Policy,
 ) -> Result<Status, RunFault> {
     let [old, old_cert, new, new_cert] = paths;
-    let old = fs::open(rt, old).map_err(|_| RunFault::ReadBase)?;
-    let old_cert = fs::open(rt, old_cert).map_err(|_| RunFault::ReadCert)?;
-    let new = fs::open(rt, new).map_err(|_| RunFault::ReadNewBase)?;
-    let new_cert = fs::open(rt, new_cert).map_err(|_| RunFault::ReadNewCert)?;
+    let old = opened(rt, old, RunFault::ReadBase)?;
+    let old_cert = opened(rt, old_cert, RunFault::ReadCert)?;
+    let new = opened(rt, new, RunFault::ReadNewBase)?;
+    let new_cert = opened(rt, new_cert, RunFault::ReadNewCert)?;
     let mut old = FromRead::new(old);
     let mut old_cert = FromRead::new(old_cert);
     let mut new = FromRead::new(new);
@@ -144,7 +152,7 @@ fn walk_file<R: Files + Print + AllocGlobal>(
     keys: &str,
     groups: &Groups,
 ) -> Result<Status, RunFault> {
-    let base = fs::open(rt, base).map_err(|_| RunFault::ReadBase)?;
+    let base = opened(rt, base, RunFault::ReadBase)?;
     let mut base = FromRead::new(base);
     let mut out = IntoWrite::new(io::writer(rt));
     run_walk(rt.alloc(), &mut base, keys, groups, &mut out)
