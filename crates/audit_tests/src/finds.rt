@@ -1,7 +1,7 @@
 //! The discovered frames of small bases.
 
 use crate::bases::{base_of, chain};
-use assertions::{same, same_in};
+use assertions::same;
 use demo_texts::DEMO;
 use finder::{Aim, Found, Survey, find, script_to};
 use frame_records::{Base, Groups};
@@ -39,6 +39,19 @@ fn lists(found: &Found, wanted: &[Listed<'_>]) -> bool {
     is_same
 }
 
+// Whether these frames of such a base are discovered for a caller of groups.
+fn are_listed(
+    alloc: Global,
+    is_grouped: bool,
+    back: &str,
+    groups: &Groups,
+    wanted: &[Listed<'_>],
+) -> Result<bool, Fail> {
+    let base = demo(alloc, is_grouped, back)?;
+    let found = find(alloc, &base, groups)?;
+    Ok(lists(&found, wanted))
+}
+
 // A last frame with a way back, one whose only route leaves for the outside page, and one of group 7, which isn't listed for a
 // caller outside every group.
 #[test]
@@ -54,22 +67,17 @@ fn lists_each_reached_frame_with_its_rank(rt: HostRuntime) -> Result<(), Fail> {
         ("1231b", Some(1), Some(1), Some(Key::Next)),
     ];
     let cut_off = [
-        listed[0],
-        listed[1],
+        ("123a", Some(0), None, None),
+        ("1231a", Some(1), Some(0), one),
         ("1231b", None, Some(1), Some(Key::Next)),
     ];
-    let rows: [(bool, &str, &Groups, &[Listed<'_>]); 4] = [
-        (false, back, &nobody, &listed),
-        (false, away, &nobody, &cut_off),
-        (true, back, &nobody, &listed[..2]),
-        (true, back, &member, &listed),
+    let told = [
+        are_listed(rt.alloc(), false, back, &nobody, &listed)?,
+        are_listed(rt.alloc(), false, away, &nobody, &cut_off)?,
+        are_listed(rt.alloc(), true, back, &nobody, &listed[..2])?,
+        are_listed(rt.alloc(), true, back, &member, &listed)?,
     ];
-    for (i, (is_grouped, back, groups, wanted)) in rows.iter().enumerate() {
-        let base = demo(rt.alloc(), *is_grouped, back)?;
-        let found = find(rt.alloc(), &base, groups)?;
-        same_in(i, lists(&found, wanted), true)?;
-    }
-    Ok(())
+    same(told, [true; 4])
 }
 
 #[test]

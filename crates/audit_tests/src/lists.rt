@@ -7,6 +7,7 @@ use audit_report::report;
 use cert_text::cert_read;
 use demo_texts::{CERT, DEMO};
 use fault_scripts::{Outcome, faults};
+use page_ids::PageNo;
 use std::alloc::{AllocError, Global};
 use std::test::Fail;
 
@@ -32,8 +33,10 @@ fn largest_cert(alloc: Global) -> Result<String, AllocError> {
     let mut text = String::new(alloc);
     text.push_str("PBC1\nentry 0\nceiling 0\nkeyings 0\nrows 65535\n")?;
     for number in 0..65_535u32 {
-        let row = format!(in alloc; "{}a 0 s80\n", 999_000_000 + number)?;
-        text.push_str(row.as_str())?;
+        if let Some(page) = PageNo::new(999_000_000 + number) {
+            text.push_str(page.text().as_str())?;
+            text.push_str("a 0 s80\n")?;
+        }
     }
     text.push_str("end\n")?;
     Ok(text)

@@ -20,13 +20,20 @@ fn ids() -> Result<[FrameId; 3], Fail> {
     ])
 }
 
-fn frame(alloc: Global, id: FrameId, price: Pence, routes: [Option<PageNo>; 10]) -> Frame {
+// A frame with routes of the digits 0 and 1.
+fn frame(
+    alloc: Global,
+    id: FrameId,
+    price: Pence,
+    zero: Option<PageNo>,
+    one: Option<PageNo>,
+) -> Frame {
     Frame {
         id,
         price,
         group: None,
         next: false,
-        routes,
+        routes: [zero, one, None, None, None, None, None, None, None, None],
         lead: Lead::Clear,
         body: Body::of(Vec::new(alloc)),
     }
@@ -38,16 +45,13 @@ fn demo(alloc: Global, next: bool, last: Option<Pence>) -> Result<Base, Fail> {
     let [entry, first, second] = ids()?;
     let [free, five] = [price(0)?, price(5)?];
     let away = PageNo::new(0).ok_or("a page")?;
-    let mut ways = [None; 10];
-    ways[0] = Some(away);
-    ways[1] = Some(first.page);
-    let mut home = [None; 10];
-    home[0] = Some(entry.page);
-    let mut linked = frame(alloc, first, five, home);
+    let mut linked = frame(alloc, first, five, Some(entry.page), None);
     linked.next = next;
-    let mut frames = vec![in alloc; frame(alloc, entry, free, ways), linked]?;
+    let mut frames = Vec::new(alloc);
+    frames.push(frame(alloc, entry, free, Some(away), Some(first.page)))?;
+    frames.push(linked)?;
     if let Some(price) = last {
-        frames.push(frame(alloc, second, price, home))?;
+        frames.push(frame(alloc, second, price, Some(entry.page), None))?;
     }
     Ok(Base::build(entry.page, vec![in alloc; away]?, frames)?)
 }
@@ -118,39 +122,35 @@ fn remembers_the_latest_first(rt: HostRuntime) -> Result<(), Fail> {
     Ok(())
 }
 
-// In the first new base the present frame has another price, and the remembered one is found; the second lacks the present
-// frame.
+// The last replies to keys that are pressed in the base and then, at its last frame, in another one.
+fn crossed(alloc: Global, last: Option<Pence>, keys: &str) -> Result<[Option<Reply>; 6], Fail> {
+    let free = price(0)?;
+    let old = demo(alloc, true, Some(free))?;
+    let new = demo(alloc, false, last)?;
+    let (mut session, _) = Session::open(alloc, &old, &Groups::none())?;
+    let [a, b, c] = pressed(alloc, &mut session, &old, "1#")?;
+    let [d, e, f] = pressed(alloc, &mut session, &new, keys)?;
+    Ok([a, b, c, d, e, f])
+}
+
+// In the first new base the last frame has another price, and the remembered one is found; the second lacks the last frame.
 #[test]
 fn a_session_crosses_a_change(rt: HostRuntime) -> Result<(), Fail> {
     let [_, first, second] = ids()?;
     let [free, five, seven] = [price(0)?, price(5)?, price(7)?];
-    let before = [
-        None,
-        Some(Reply::Shown(first, five)),
-        Some(Reply::Shown(second, free)),
-    ];
-    let back = Some(Reply::Shown(first, five));
-    let rows: [(Option<Pence>, &str, [Option<Reply>; 3]); 2] = [
-        (
-            Some(seven),
-            "*09*#",
-            [None, Some(Reply::Shown(second, seven)), back],
-        ),
-        (
-            None,
-            "*090*#",
-            [Some(Reply::Missing(second)), Some(Reply::NotOffered), back],
-        ),
-    ];
-    let old = demo(rt.alloc(), true, Some(free))?;
-    for (last, keys, after) in rows {
-        let new = demo(rt.alloc(), false, last)?;
-        let (mut session, _) = Session::open(rt.alloc(), &old, &Groups::none())?;
-        let first = pressed(rt.alloc(), &mut session, &old, "1#")?;
-        let second = pressed(rt.alloc(), &mut session, &new, keys)?;
-        same_in(keys, (first, second), (before, after))?;
-    }
-    Ok(())
+    let dearer = crossed(rt.alloc(), Some(seven), "*09*#")?;
+    let fewer = crossed(rt.alloc(), None, "*090*#")?;
+    let shown = |id: FrameId, price: Pence| Some(Reply::Shown(id, price));
+    let [a, b] = [shown(first, five), shown(second, free)];
+    let dear = shown(second, seven);
+    let lost = Some(Reply::Missing(second));
+    same(
+        [dearer, fewer],
+        [
+            [None, a, b, None, dear, a],
+            [None, a, b, lost, Some(Reply::NotOffered), a],
+        ],
+    )
 }
 
 // The number of a page, as its frame's price.
@@ -165,9 +165,8 @@ fn ring(alloc: Global, count: u32, entry: PageNo, free: Pence) -> Result<Base, F
     for number in 0..count {
         let to = if number + 1 < count { number + 1 } else { 0 };
         let page = PageNo::new(number).unwrap_or(entry);
-        let mut routes = [None; 10];
-        routes[1] = PageNo::new(to);
-        frames.push(frame(alloc, FrameId::first(page), price_on(page, free), routes))?;
+        let price = price_on(page, free);
+        frames.push(frame(alloc, FrameId::first(page), price, None, PageNo::new(to)))?;
     }
     Ok(Base::build(entry, Vec::new(alloc), frames)?)
 }
