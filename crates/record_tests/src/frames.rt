@@ -68,7 +68,8 @@ fn a_base_answers_by_its_map(rt: HostRuntime) -> Result<(), Fail> {
 fn a_frame_is_sought_for_the_callers_groups(rt: HostRuntime) -> Result<(), Fail> {
     let price = Pence::new(5).ok_or("price")?;
     let [entry, closed, missing] = [id("123a")?, id("5b")?, id("9a")?];
-    let [member, other] = [Groups::read("6,7,9")?, Groups::read("6,8")?];
+    let member = Groups::read("6,7,9")?;
+    let other = Groups::read("6,8")?;
     let nobody = Groups::none();
     let base = base_of_ways(rt.alloc(), price)?;
     let told = [
@@ -251,7 +252,8 @@ fn the_first_number_at_fault_is_told() -> Result<(), Fail> {
 fn groups_take_what_is_greater() -> Result<(), Fail> {
     let seven = GroupNo::new(7).ok_or("group")?;
     let nine = GroupNo::new(9).ok_or("group")?;
-    let [two, one] = [Groups::read("7,9")?, Groups::read("7")?];
+    let two = Groups::read("7,9")?;
+    let one = Groups::read("7")?;
     let mut groups = Groups::none();
     let taken = [groups.push(seven), groups.push(seven), groups.push(nine)];
     let again = groups.copy();
