@@ -80,9 +80,9 @@ fn a_certificate_that_is_cut_is_truncated_in_its_last_line(rt: HostRuntime) -> R
     let mut line = 1u32;
     for (kept, byte) in CERT.as_bytes().iter().enumerate() {
         let text = front(CERT, kept).as_bytes();
-        let wanted = RunFault::Cert(ReadFault::Line(line, LineCause::Truncated));
         for step in [1, 2, 3, 7, 4_096] {
             let answer = judged(rt.alloc(), text, step, &policy);
+            let wanted = RunFault::Cert(ReadFault::Line(line, LineCause::Truncated));
             same_in((kept, step), answer, Err(wanted))?;
         }
         line = line.saturating_add(u32::from(*byte == b'\n'));
