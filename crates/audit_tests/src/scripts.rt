@@ -1,10 +1,10 @@
-//! Audits of bases that are safe, and the replay of scripts.
+//! Audits of large bases, and the replay of scripts. What the program prints of audits stands in `tests/cases`.
 
-use crate::bases::{base_of, chain, demo};
-use crate::policies::policy_for;
-use abstract_paint::{AbsCursor, Pend, Place};
+use crate::bases::{base_of, chain};
+use crate::policies::policy;
 use assertions::{same, same_in};
-use cert_table::{Certificate, Cover, Row};
+use audit_report::report;
+use cert_table::{Certificate, Cover};
 use checker::Policy;
 use demo_texts::DEMO;
 use fault_scripts::{Outcome, audit, replay};
@@ -21,121 +21,59 @@ fn certified(alloc: Global, base: &Base, policy: &Policy) -> Result<Certificate,
     }
 }
 
-// A certificate's entry page, ceiling, keyings, and how many groups and rows it has.
-fn parts(cert: &Certificate) -> (u32, u16, u16, usize, usize) {
-    (
+#[test]
+fn a_safe_base_of_65_535_frames_is_certified(rt: HostRuntime) -> Result<(), Fail> {
+    let policy = policy(0, 1)?;
+    let base = chain(rt.alloc(), 65_535, 1, PageNo::new(0))?;
+    let cert = certified(rt.alloc(), &base, &policy)?;
+    let parts = (
         cert.entry().get(),
         cert.ceiling().get(),
         cert.keyings(),
         cert.groups().len(),
         cert.cover().len(),
-    )
-}
-
-fn row(id: &str, rank: u16, position: u16) -> Result<Row, Fail> {
-    Ok(Row {
-        id: FrameId::read(id)?,
-        rank,
-        cursor: AbsCursor {
-            place: Place::Spot(position),
-            pend: Pend::No,
-        },
-    })
-}
-
-// 1231b belongs to group 7.
-fn grouped_demo(alloc: Global) -> Result<Base, Fail> {
-    demo(alloc, "lead = \"keep\"", "lead = \"keep\"\ngroup = 7")
-}
-
-#[test]
-fn a_safe_base_is_certified(rt: HostRuntime) -> Result<(), Fail> {
-    let [a, b, c] = [
-        row("123a", 0, 80)?,
-        row("1231a", 1, 80)?,
-        row("1231b", 1, 48)?,
-    ];
-    let policy = policy_for(50, 3, "")?;
-    let base = base_of(rt.alloc(), DEMO)?;
-    let cert = certified(rt.alloc(), &base, &policy)?;
-    let cover = cert.cover();
-    let rows = (
-        cover.row_of(a.id).copied(),
-        cover.row_of(b.id).copied(),
-        cover.row_of(c.id).copied(),
     );
-    same(
-        (parts(&cert), rows),
-        ((123, 5, 1, 0, 3), (Some(a), Some(b), Some(c))),
-    )
-}
-
-#[test]
-fn a_base_may_be_safe_for_callers_of_a_group_alone(rt: HostRuntime) -> Result<(), Fail> {
-    let seven = Groups::read("7")?;
-    let members = policy_for(50, 3, "7")?;
-    let all = policy_for(50, 3, "")?;
-    let base = grouped_demo(rt.alloc())?;
-    let cert = certified(rt.alloc(), &base, &members)?;
-    same(
-        (parts(&cert), cert.groups().are_same(&seven)),
-        ((123, 5, 1, 1, 3), true),
-    )?;
-    let is_faulty = matches!(audit(rt.alloc(), &base, &all)?, Outcome::Faulty(_));
-    same(is_faulty, true)
-}
-
-#[test]
-fn a_safe_base_of_65_535_frames_is_certified(rt: HostRuntime) -> Result<(), Fail> {
-    let policy = policy_for(0, 1, "")?;
-    let base = chain(rt.alloc(), 65_535, PageNo::new(0), PageNo::new(0))?;
-    let cert = certified(rt.alloc(), &base, &policy)?;
-    same(parts(&cert), (0, 0, 1, 0, 65_535))
+    same(parts, (0, 0, 1, 0, 65_535))
 }
 
 // The last reply to keys, and the frame that is held.
 type Replayed = (Reply, Option<FrameId>);
 
-// What a caller of group 7, or one outside every group, is told last.
-fn replayed(alloc: Global, base: &Base, is_member: bool, keys: &str) -> Result<Replayed, Fail> {
-    let groups = if is_member {
-        Groups::read("7")?
-    } else {
-        Groups::none()
-    };
+// What a caller of these groups is told last.
+fn replayed(alloc: Global, base: &Base, groups: &Groups, keys: &str) -> Result<Replayed, Fail> {
     let keys = keys_read(alloc, keys)?;
-    let end = replay(alloc, base, &groups, &keys)?;
+    let end = replay(alloc, base, groups, &keys)?;
     Ok((end.last, end.at))
 }
 
+// 1231b belongs to group 7.
 #[test]
 fn replay_tells_the_last_reply_and_the_place(rt: HostRuntime) -> Result<(), Fail> {
     let entry = FrameId::read("123a")?;
     let first = FrameId::read("1231a")?;
     let last = FrameId::read("1231b")?;
     let free = Pence::new(0).ok_or("price")?;
-    let rows: [(bool, &str, Replayed); 4] = [
-        (false, "", (Reply::Shown(entry, free), Some(entry))),
-        (false, "01", (Reply::NotOffered, None)),
-        (false, "1#", (Reply::Closed(last), Some(first))),
-        (true, "1#", (Reply::Shown(last, free), Some(last))),
+    let member = Groups::read("7")?;
+    let nobody = Groups::none();
+    let many = "10".repeat(rt.alloc(), 10_000)?;
+    let rows: [(&Groups, &str, Replayed); 5] = [
+        (&nobody, "", (Reply::Shown(entry, free), Some(entry))),
+        (&nobody, "01", (Reply::NotOffered, None)),
+        (&nobody, "1#", (Reply::Closed(last), Some(first))),
+        (&member, "1#", (Reply::Shown(last, free), Some(last))),
+        (
+            &nobody,
+            many.as_str(),
+            (Reply::Shown(entry, free), Some(entry)),
+        ),
     ];
-    let base = grouped_demo(rt.alloc())?;
-    for (is_member, keys, end) in rows {
-        let told = replayed(rt.alloc(), &base, is_member, keys)?;
-        same_in(keys, told, end)?;
+    let text = DEMO.replacen(rt.alloc(), "lead", "group = 7\nlead", 1)?;
+    let base = base_of(rt.alloc(), text.as_str())?;
+    for (groups, keys, end) in rows {
+        let told = replayed(rt.alloc(), &base, groups, keys)?;
+        same_in(keys.len(), told, end)?;
     }
     Ok(())
-}
-
-#[test]
-fn replay_presses_20_000_keys(rt: HostRuntime) -> Result<(), Fail> {
-    let entry = FrameId::read("123a")?;
-    let free = Pence::new(0).ok_or("price")?;
-    let keys = "10".repeat(rt.alloc(), 10_000)?;
-    let base = base_of(rt.alloc(), DEMO)?;
-    let told = replayed(rt.alloc(), &base, false, keys.as_str())?;
-    same(told, (Reply::Shown(entry, free), Some(entry)))
 }
 
 #[test]
@@ -147,12 +85,25 @@ fn replay_needs_an_entry_frame(rt: HostRuntime) -> Result<(), Fail> {
     same(is_missing, true)
 }
 
+// What is reported of a base.
+fn report_of(alloc: Global, base: &Base, policy: &Policy) -> Result<Vec<u8>, Fail> {
+    let outcome = audit(alloc, base, policy)?;
+    Ok(report(alloc, &outcome)?)
+}
+
 // The one fault of a chain is a missing frame behind the last of 20,000.
 #[test]
-fn the_script_of_a_fault_replays(rt: HostRuntime) -> Result<(), Fail> {
+fn a_script_of_20_000_keys_is_printed_and_replays(rt: HostRuntime) -> Result<(), Fail> {
     let [last, missing] = [FrameId::read("19999a")?, FrameId::read("999999a")?];
-    let policy = policy_for(0, 1, "")?;
-    let base = chain(rt.alloc(), 20_000, PageNo::new(0), PageNo::new(999_999))?;
+    let policy = policy(0, 1)?;
+    let way = "1".repeat(rt.alloc(), 19_999)?;
+    let line = format!(in rt.alloc();
+        "FAULTS 1\nMISSING 999999a AT 19999a KEY 5 SCRIPT {}5\n",
+        way.as_str()
+    )?;
+    let base = chain(rt.alloc(), 20_000, 1, Some(missing.page))?;
+    let text = report_of(rt.alloc(), &base, &policy)?;
+    same(text.as_slice() == line.as_str().as_bytes(), true)?;
     let Outcome::Faulty(list) = audit(rt.alloc(), &base, &policy)? else {
         return Err("no faults".into());
     };

@@ -13,28 +13,13 @@ fn spot(at: u16) -> Painted {
     clean(Place::Spot(at), Pend::No)
 }
 
+// More of them stand in `tests/cases`.
 #[test]
 fn paints_short_bodies() -> Result<(), Fail> {
-    let rows: [(Lead, &[u8], Painted); 16] = [
+    let rows: [(Lead, &[u8], Painted); 3] = [
         (Lead::Keep, &[], clean(Place::Any, Pend::Maybe)),
-        (Lead::Clear, &[], spot(40)),
-        (Lead::Keep, &[0x41], Painted::Touches(0)),
-        (Lead::Keep, &[0x0d, 0x0a, 0x41], Painted::Touches(2)),
         (Lead::Clear, &[0x1e, 0x0b, 0x41], Painted::Touches(2)),
-        (Lead::Keep, &[0x1b], clean(Place::Any, Pend::Yes)),
-        (Lead::Clear, &[0x41, 0x0c], Painted::Touches(1)),
-        (Lead::Keep, &[0x0d, 0x08], clean(Place::Col(39), Pend::No)),
-        // home, down and letters
-        (Lead::Keep, &[0x1e, 0x0a, 0x41], spot(41)),
-        (Lead::Clear, &[0x1b], clean(Place::Spot(40), Pend::Yes)),
-        // after an escape these are dropped, whatever the position
-        (Lead::Keep, &[0x1b, 0x20], clean(Place::Any, Pend::No)),
-        (Lead::Keep, &[0x1b, 0x3f], clean(Place::Any, Pend::No)),
-        (Lead::Keep, &[0x1b, 0x60], clean(Place::Any, Pend::No)),
-        (Lead::Keep, &[0x1b, 0x7f], clean(Place::Any, Pend::No)),
-        // and these are attributes
         (Lead::Keep, &[0x1b, 0x40], Painted::Touches(1)),
-        (Lead::Clear, &[0x1b, 0x5f], spot(41)),
     ];
     for (lead, body, painted) in rows {
         same_in((lead, body), paint(lead, body), painted)?;
@@ -109,28 +94,21 @@ fn paints_double_height_up_to_row_21() -> Result<(), Fail> {
     Ok(())
 }
 
+// The start, where there is one, isn't pending; more of them stand in `tests/cases`.
+fn start(at: u16, offset: usize) -> Option<Start> {
+    Some(Start {
+        at,
+        pending: false,
+        offset,
+    })
+}
+
 #[test]
 fn finds_the_least_start() -> Result<(), Fail> {
-    let start = |at: u16, offset: usize| {
-        Some(Start {
-            at,
-            pending: false,
-            offset,
-        })
-    };
-    let rows: [(Lead, &[u8], Option<Start>); 12] = [
-        (Lead::Keep, &[0x41], start(0, 0)),
-        (Lead::Keep, &[0x0d, 0x0a, 0x41], start(880, 2)),
-        // double height goes one row down to row 22, other attributes and the letter M to row 23
+    // double height goes one row down to row 22, and an escape may be pending before the body
+    let rows: [(Lead, &[u8], Option<Start>); 4] = [
         (Lead::Keep, &[0x0d, 0x0a, 0x1b, 0x4d], start(840, 3)),
-        (Lead::Keep, &[0x0d, 0x0a, 0x8d], start(840, 2)),
-        (Lead::Keep, &[0x0d, 0x0a, 0x1b, 0x4c], start(880, 3)),
-        (Lead::Keep, &[0x0d, 0x0a, 0x4d], start(880, 2)),
-        // an escape may be pending before the body
         (Lead::Keep, &[0x4d], start(0, 0)),
-        (Lead::Keep, &[0x1b, 0x4d], start(0, 1)),
-        (Lead::Clear, &[0x1e, 0x0b, 0x41], start(0, 2)),
-        (Lead::Clear, &[0x41, 0x0c], start(0, 1)),
         (Lead::Keep, &[0x0d], None),
         (Lead::Clear, &[], None),
     ];
@@ -143,13 +121,6 @@ fn finds_the_least_start() -> Result<(), Fail> {
 // Of a byte that touches after the first one, of one that never does, and past the body's end.
 #[test]
 fn finds_the_least_start_at_a_byte() -> Result<(), Fail> {
-    let start = |at: u16, offset: usize| {
-        Some(Start {
-            at,
-            pending: false,
-            offset,
-        })
-    };
     let rows: [(Lead, &[u8], usize, Option<Start>); 6] = [
         (Lead::Keep, &[0x41, 0x42], 0, start(0, 0)),
         (Lead::Keep, &[0x41, 0x42], 1, start(0, 1)),
@@ -205,16 +176,9 @@ fn stands_for_positions_of_the_screen() -> Result<(), Fail> {
         ];
         for (pend, not_pending, pending) in pends {
             let cursor = AbsCursor { place, pend };
-            same_in(
-                (cursor, at),
-                cursor.stands(at, false),
-                is_stood_for && not_pending,
-            )?;
-            same_in(
-                (cursor, at),
-                cursor.stands(at, true),
-                is_stood_for && pending,
-            )?;
+            let told = (cursor.stands(at, false), cursor.stands(at, true));
+            let wanted = (is_stood_for && not_pending, is_stood_for && pending);
+            same_in((cursor, at), told, wanted)?;
         }
     }
     Ok(())

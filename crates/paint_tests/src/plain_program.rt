@@ -75,6 +75,11 @@ fn agrees(lead: Lead, body: &[u8]) -> bool {
     painted && start_for(lead, body) == least
 }
 
+// The same of both leads.
+fn both_agree(body: &[u8]) -> bool {
+    agrees(Lead::Clear, body) && agrees(Lead::Keep, body)
+}
+
 // Each control byte, first and between moves, letters, escapes and their leads.
 #[test]
 fn agrees_on_each_control_byte() -> Result<(), Fail> {
@@ -91,8 +96,7 @@ fn agrees_on_each_control_byte() -> Result<(), Fail> {
             &[0x1e, 0x0b, 0x08, byte, 0x43],
         ];
         for body in bodies {
-            same_in(body, agrees(Lead::Clear, body), true)?;
-            same_in(body, agrees(Lead::Keep, body), true)?;
+            same_in(body, both_agree(body), true)?;
         }
     }
     Ok(())
@@ -109,8 +113,7 @@ fn agrees_on_each_two_control_bytes() -> Result<(), Fail> {
                 &[0x1e, 0x0a, first, second, 0x41],
             ];
             for body in bodies {
-                same_in(body, agrees(Lead::Clear, body), true)?;
-                same_in(body, agrees(Lead::Keep, body), true)?;
+                same_in(body, both_agree(body), true)?;
             }
         }
     }
@@ -128,8 +131,7 @@ fn agrees_on_each_byte_after_an_escape() -> Result<(), Fail> {
             &[0x1e, 0x0b, 0x08, 0x1b, byte],
         ];
         for body in bodies {
-            same_in(body, agrees(Lead::Clear, body), true)?;
-            same_in(body, agrees(Lead::Keep, body), true)?;
+            same_in(body, both_agree(body), true)?;
         }
     }
     Ok(())
@@ -170,8 +172,7 @@ fn agrees_on_runs_near_the_service_rows(rt: HostRuntime) -> Result<(), Fail> {
     for head in heads {
         for letters in 0..48 {
             let body = body_of(rt.alloc(), head, letters, &[], 0)?;
-            same_in((head, letters), agrees(Lead::Clear, &body), true)?;
-            same_in((head, letters), agrees(Lead::Keep, &body), true)?;
+            same_in((head, letters), both_agree(&body), true)?;
         }
     }
     Ok(())
@@ -191,8 +192,7 @@ fn agrees_on_double_height_near_the_last_row(rt: HostRuntime) -> Result<(), Fail
     for code in codes {
         for letters in [0, 1, 38, 39, 40, 41, 78, 79, 80] {
             let body = body_of(rt.alloc(), &[0x1e, 0x0b, 0x0b, 0x0b], letters, code, 1)?;
-            same_in((letters, code), agrees(Lead::Clear, &body), true)?;
-            same_in((letters, code), agrees(Lead::Keep, &body), true)?;
+            same_in((letters, code), both_agree(&body), true)?;
         }
     }
     Ok(())
@@ -203,8 +203,7 @@ fn agrees_on_double_height_near_the_last_row(rt: HostRuntime) -> Result<(), Fail
 fn agrees_on_full_pages(rt: HostRuntime) -> Result<(), Fail> {
     for letters in 878..883 {
         let body = body_of(rt.alloc(), &[0x1e, 0x0a], letters, &[], 0)?;
-        same_in(letters, agrees(Lead::Clear, &body), true)?;
-        same_in(letters, agrees(Lead::Keep, &body), true)?;
+        same_in(letters, both_agree(&body), true)?;
         let body = body_of(rt.alloc(), &[], letters, &[], 0)?;
         same_in(letters, agrees(Lead::Clear, &body), true)?;
     }
@@ -217,8 +216,7 @@ fn agrees_on_runs_that_are_cut(rt: HostRuntime) -> Result<(), Fail> {
     for letters in [1, 7, 8, 9, 31, 32, 33, 40] {
         for byte in 0..0x20u8 {
             let body = body_of(rt.alloc(), &[0x1e, 0x0a], letters, &[byte], 34)?;
-            same_in((letters, byte), agrees(Lead::Clear, &body), true)?;
-            same_in((letters, byte), agrees(Lead::Keep, &body), true)?;
+            same_in((letters, byte), both_agree(&body), true)?;
         }
         for byte in [0x80, 0x9f, 0xa0, 0xff] {
             let body = body_of(rt.alloc(), &[0x1e, 0x0a], letters, &[byte], 34)?;

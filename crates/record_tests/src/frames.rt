@@ -1,9 +1,9 @@
-//! Bases built by hand; expected refusals come from the order of the limits.
+//! Bases built by hand; those that are refused stand in `tests/cases`.
 
 use assertions::{same, same_in};
 use frame_records::{
-    Base, Body, BuildFault, Destination, Frame, GroupFlaw, GroupNo, Groups, GroupsFault, Lead,
-    Pence, Sought, cut,
+    Base, Body, Destination, Frame, GroupFlaw, GroupNo, Groups, GroupsFault, Lead, Pence, Sought,
+    cut,
 };
 use page_ids::{FrameId, PageNo, Way};
 use std::alloc::Global;
@@ -13,212 +13,120 @@ fn page(number: u32) -> Result<PageNo, Fail> {
     Ok(PageNo::new(number).ok_or("page")?)
 }
 
-fn group(number: u16) -> Result<GroupNo, Fail> {
-    Ok(GroupNo::new(number).ok_or("group")?)
+fn id(text: &str) -> Result<FrameId, Fail> {
+    Ok(FrameId::read(text)?)
 }
 
-// What every frame costs.
-fn price() -> Result<Pence, Fail> {
-    Ok(Pence::new(5).ok_or("price")?)
-}
-
-// An open frame without routes, of a body of so many letters.
-fn frame(alloc: Global, id: &str, next: bool, body: usize) -> Result<Frame, Fail> {
-    let mut bytes = Vec::new(alloc);
-    for _ in 0..body {
-        bytes.push(b'A')?;
-    }
-    Ok(Frame {
-        id: FrameId::read(id)?,
-        price: price()?,
+// An open frame of a price, without a body.
+fn frame(alloc: Global, id: FrameId, price: Pence, routes: [Option<PageNo>; 10]) -> Frame {
+    Frame {
+        id,
+        price,
         group: None,
-        next,
-        routes: [None; 10],
+        next: true,
+        routes,
         lead: Lead::Clear,
-        body: Body::of(bytes),
-    })
-}
-
-fn pages(alloc: Global, numbers: &[u32]) -> Result<Vec<PageNo>, Fail> {
-    let mut pages = Vec::new(alloc);
-    for number in numbers {
-        pages.push(page(*number)?)?;
+        body: Body::of(Vec::new(alloc)),
     }
-    Ok(pages)
 }
 
-// A base of the entry page 123.
-fn base_of(outside: Vec<PageNo>, frames: Vec<Frame>) -> Result<Base, Fail> {
-    Ok(Base::build(page(123)?, outside, frames).ok().ok_or("base")?)
-}
-
-// The refusal of frames, each with an id, `next` and the length of its body, and of outside pages.
-fn refusal(
-    alloc: Global,
-    frames: &[(&str, bool, usize)],
-    outside: &[u32],
-) -> Result<Option<BuildFault>, Fail> {
-    let mut list = Vec::new(alloc);
-    for (id, next, body) in frames {
-        list.push(frame(alloc, id, *next, *body)?)?;
+// A base of an entry frame, whose routes 0 to 3 lead to an open, a closed, a missing and an outside page, and `#` to a missing
+// letter; of an open frame; and of two of the group 7.
+fn base_of_ways(alloc: Global, price: Pence) -> Result<Base, Fail> {
+    let (entry, [a, b, c]) = (id("123a")?, [id("5a")?, id("5b")?, id("6a")?]);
+    let mut routes = [None; 10];
+    for (digit, number) in [(0usize, 5), (1, 6), (2, 7), (3, 8)] {
+        routes[digit] = PageNo::new(number);
     }
-    Ok(Base::build(page(123)?, pages(alloc, outside)?, list).err())
-}
-
-#[test]
-fn refusals_come_in_order_and_name_the_smallest(rt: HostRuntime) -> Result<(), Fail> {
-    let b = FrameId::read("123b")?;
-    let z = FrameId::read("7z")?;
-    let rows: [(&[(&str, bool, usize)], &[u32], Option<BuildFault>); 9] = [
-        (&[], &[], None),
-        (&[("123a", true, 3), ("9z", false, 0)], &[5, 5, 4], None),
-        (
-            &[
-                ("124a", false, 4097),
-                ("123b", false, 4097),
-                ("7z", true, 1),
-            ],
-            &[],
-            Some(BuildFault::BodyTooLong(b)),
-        ),
-        (&[("123b", false, 4096)], &[], None),
-        (
-            &[("9z", true, 0), ("7z", true, 0), ("9z", false, 0)],
-            &[9],
-            Some(BuildFault::NextAfterZ(z)),
-        ),
-        (
-            &[
-                ("124a", false, 0),
-                ("123b", false, 1),
-                ("124a", false, 0),
-                ("123b", false, 2),
-            ],
-            &[124],
-            Some(BuildFault::Duplicate(b)),
-        ),
-        (
-            &[("124c", false, 0), ("123b", false, 0)],
-            &[200, 124, 123],
-            Some(BuildFault::OutsideInside(page(123)?)),
-        ),
-        (
-            &[("124c", false, 0)],
-            &[124],
-            Some(BuildFault::OutsideInside(page(124)?)),
-        ),
-        (&[("124c", false, 0)], &[125, 125, 123], None),
-    ];
-    for (i, (frames, outside, fault)) in rows.iter().enumerate() {
-        same_in(i, refusal(rt.alloc(), frames, outside)?, *fault)?;
-    }
-    Ok(())
-}
-
-#[test]
-fn outside_pages_count_as_listed(rt: HostRuntime) -> Result<(), Fail> {
-    let mut pages = Vec::new(rt.alloc());
-    for _ in 0..65_536 {
-        pages.push(page(7)?)?;
-    }
-    let built = Base::build(page(0)?, pages, Vec::new(rt.alloc()));
-    same(built.err(), Some(BuildFault::TooMany))?;
-    Ok(())
-}
-
-// A base of an entry frame, an open frame and one of the group 7.
-fn grouped_base(alloc: Global) -> Result<Base, Fail> {
-    let mut closed = frame(alloc, "5b", false, 1)?;
-    closed.group = GroupNo::new(7);
-    let entry = frame(alloc, "123a", true, 2)?;
-    let open = frame(alloc, "5a", false, 3)?;
-    base_of(pages(alloc, &[9, 0])?, vec![in alloc; entry, closed, open]?)
+    let mut first_closed = frame(alloc, b, price, [None; 10]);
+    first_closed.group = GroupNo::new(7);
+    let mut second_closed = frame(alloc, c, price, [None; 10]);
+    second_closed.group = GroupNo::new(7);
+    let open = frame(alloc, a, price, [None; 10]);
+    let outside = vec![in alloc; page(8)?, page(0)?]?;
+    let from = frame(alloc, entry, price, routes);
+    let frames = vec![in alloc; from, first_closed, open, second_closed]?;
+    Ok(Base::build(entry.page, outside, frames)?)
 }
 
 #[test]
 fn a_base_answers_by_its_map(rt: HostRuntime) -> Result<(), Fail> {
-    let base = grouped_base(rt.alloc())?;
-    same(base.entry().get(), 123)?;
-    same(base.entry_frame(), FrameId::read("123a")?)?;
-    same(base.frames().len(), 3)?;
-    for (id, is_there) in [("5a", true), ("5c", false)] {
-        same_in(id, base.find(FrameId::read(id)?).is_some(), is_there)?;
-    }
-    for (number, is_outside) in [(0, true), (5, false)] {
-        same_in(number, base.is_outside(page(number)?), is_outside)?;
-    }
-    Ok(())
+    let price = Pence::new(5).ok_or("price")?;
+    let [entry, a, c] = [id("123a")?, id("5a")?, id("5c")?];
+    let pages = [page(0)?, page(5)?];
+    let base = base_of_ways(rt.alloc(), price)?;
+    let top = (base.entry(), base.entry_frame(), base.frames().len());
+    let are_there = [base.find(a).is_some(), base.find(c).is_some()];
+    let are_outside = [base.is_outside(pages[0]), base.is_outside(pages[1])];
+    same(
+        (top, are_there, are_outside),
+        ((entry.page, entry, 4), [true, false], [true, false]),
+    )
 }
 
 #[test]
 fn a_frame_is_sought_for_the_callers_groups(rt: HostRuntime) -> Result<(), Fail> {
-    let base = grouped_base(rt.alloc())?;
-    let found = Sought::Found(price()?);
-    let rows: [(&str, &str, Sought); 7] = [
-        ("123a", "", found),
-        ("5b", "", Sought::Closed),
-        ("6a", "", Sought::Missing),
-        ("123a", "6,7,9", found),
-        ("5b", "6,7,9", found),
-        ("5b", "6,8", Sought::Closed),
-        ("6a", "6,7,9", Sought::Missing),
+    let price = Pence::new(5).ok_or("price")?;
+    let [entry, closed, missing] = [id("123a")?, id("5b")?, id("9a")?];
+    let member = Groups::read("6,7,9")?;
+    let other = Groups::read("6,8")?;
+    let nobody = Groups::none();
+    let base = base_of_ways(rt.alloc(), price)?;
+    let told = [
+        base.seek(entry, &nobody),
+        base.seek(closed, &nobody),
+        base.seek(missing, &nobody),
+        base.seek(entry, &member),
+        base.seek(closed, &member),
+        base.seek(closed, &other),
+        base.seek(missing, &member),
     ];
-    for (id, groups, sought) in rows {
-        let groups = if groups.is_empty() {
-            Groups::none()
-        } else {
-            Groups::read(groups)?
-        };
-        same_in(id, base.seek(FrameId::read(id)?, &groups), sought)?;
-    }
-    Ok(())
-}
-
-// A frame whose routes 0 to 3 lead to an open, a closed, a missing and an outside page, and `#` to a missing letter.
-fn base_of_ways(alloc: Global) -> Result<Base, Fail> {
-    let mut from = frame(alloc, "123a", true, 0)?;
-    from.routes[0] = PageNo::new(5);
-    from.routes[1] = PageNo::new(6);
-    from.routes[2] = PageNo::new(7);
-    from.routes[3] = PageNo::new(8);
-    let mut closed = frame(alloc, "6a", false, 0)?;
-    closed.group = GroupNo::new(7);
-    let open = frame(alloc, "5a", false, 0)?;
-    base_of(pages(alloc, &[8])?, vec![in alloc; from, open, closed]?)
+    let found = Sought::Found(price);
+    same(
+        told,
+        [
+            found,
+            Sought::Closed,
+            Sought::Missing,
+            found,
+            found,
+            Sought::Closed,
+            Sought::Missing,
+        ],
+    )
 }
 
 #[test]
 fn a_way_comes_to_what_it_seeks(rt: HostRuntime) -> Result<(), Fail> {
-    let entry = FrameId::read("123a")?;
-    let rows: [(u8, Destination); 6] = [
-        (0, Destination::Found(FrameId::read("5a")?, price()?)),
-        (1, Destination::Closed(FrameId::read("6a")?)),
-        (2, Destination::Missing(FrameId::read("7a")?)),
-        (3, Destination::Outside(page(8)?)),
-        (4, Destination::NotOffered),
-        (10, Destination::Missing(FrameId::read("123b")?)),
-    ];
-    let base = base_of_ways(rt.alloc())?;
+    let price = Pence::new(5).ok_or("price")?;
+    let entry = id("123a")?;
+    let [open, closed, missing, next] = [id("5a")?, id("6a")?, id("7a")?, id("123b")?];
+    let first = id("8a")?;
+    let nobody = Groups::none();
+    let base = base_of_ways(rt.alloc(), price)?;
     let from = base.find(entry).ok_or("no frame")?;
-    for (place, destination) in rows {
-        let comes_to = base.follow(from, Way::at(place), &Groups::none());
-        same_in(place, comes_to, destination)?;
-    }
-    Ok(())
-}
-
-#[test]
-fn a_way_seeks_the_frame_of_its_route_or_the_next(rt: HostRuntime) -> Result<(), Fail> {
-    let entry = FrameId::read("123a")?;
+    let told = [
+        base.follow(from, Way::at(0), &nobody),
+        base.follow(from, Way::at(1), &nobody),
+        base.follow(from, Way::at(2), &nobody),
+        base.follow(from, Way::at(3), &nobody),
+        base.follow(from, Way::at(4), &nobody),
+        base.follow(from, Way::at(10), &nobody),
+    ];
+    let sought = [
+        from.sought(Way::at(3)),
+        from.sought(Way::at(9)),
+        from.sought(Way::Next),
+    ];
     let wanted = [
-        Some(FrameId::read("8a")?),
-        None,
-        Some(FrameId::read("123b")?),
+        Destination::Found(open, price),
+        Destination::Closed(closed),
+        Destination::Missing(missing),
+        Destination::Outside(first.page),
+        Destination::NotOffered,
+        Destination::Missing(next),
     ];
-    let base = base_of_ways(rt.alloc())?;
-    let from = base.find(entry).ok_or("no frame")?;
-    let sought = [Way::at(3), Way::at(9), Way::Next].map(|way| from.sought(way));
-    same(sought, wanted)
+    same((told, sought), (wanted, [Some(first), None, Some(next)]))
 }
 
 #[test]
@@ -242,44 +150,42 @@ fn a_body_keeps_its_bytes(rt: HostRuntime) -> Result<(), Fail> {
 
 // A base without frames and with so many outside pages: the odd numbers from 1.
 fn odd_pages(alloc: Global, count: u32) -> Result<Base, Fail> {
+    let entry = page(0)?;
     let mut pages = Vec::new(alloc);
     for i in 0..count {
-        pages.push(page(i.saturating_mul(2).saturating_add(1))?)?;
+        let odd = PageNo::new(i.saturating_mul(2).saturating_add(1));
+        pages.push(odd.unwrap_or(entry))?;
     }
-    Ok(
-        Base::build(page(0)?, pages, Vec::new(alloc))
-            .ok()
-            .ok_or("base")?,
-    )
+    Ok(Base::build(entry, pages, Vec::new(alloc))?)
 }
 
-// Seeks a number among so many odd ones: it is found where it is listed, in at most so many comparisons.
-fn seeks(base: &Base, count: u32, wanted: u32, most: u32) -> Result<(), Fail> {
-    let (found, asked) = base.is_outside_counted(page(wanted)?);
+// Whether a number among so many odd ones is found just where it is listed, in at most so many comparisons.
+fn is_sought(base: &Base, count: u32, wanted: u32, most: u32) -> bool {
     let listed = wanted % 2 == 1 && wanted < count.saturating_mul(2);
-    let got = (found, asked <= most, asked > 0);
-    same_in((wanted, count, asked), got, (listed, true, count > 0))?;
-    Ok(())
+    PageNo::new(wanted).is_some_and(|page| {
+        let (found, asked) = base.is_outside_counted(page);
+        found == listed && asked <= most && (asked > 0) == (count > 0)
+    })
 }
 
+// Each number of each short list, and some of the longest.
 #[test]
 fn each_place_is_found_by_halves_and_no_other(rt: HostRuntime) -> Result<(), Fail> {
     for count in 0..101u32 {
         let base = odd_pages(rt.alloc(), count)?;
-        for wanted in 0..count.saturating_mul(2).saturating_add(2) {
-            seeks(&base, count, wanted, 7)?;
-        }
+        let mut numbers = 0..count.saturating_mul(2).saturating_add(2);
+        same_in(
+            count,
+            numbers.find(|wanted| !is_sought(&base, count, *wanted, 7)),
+            None,
+        )?;
     }
-    Ok(())
-}
-
-#[test]
-fn the_longest_list_is_searched_in_16_comparisons(rt: HostRuntime) -> Result<(), Fail> {
     let base = odd_pages(rt.alloc(), 65_535)?;
-    for wanted in [0, 1, 2, 65_535, 65_536, 131_067, 131_069, 131_070] {
-        seeks(&base, 65_535, wanted, 16)?;
-    }
-    Ok(())
+    let numbers = [0, 1, 2, 65_535, 65_536, 131_067, 131_069, 131_070];
+    let wrong = numbers
+        .iter()
+        .find(|wanted| !is_sought(&base, 65_535, **wanted, 16));
+    same(wrong, None)
 }
 
 #[test]
@@ -292,8 +198,9 @@ fn groups_are_read_from_their_texts() -> Result<(), Fail> {
         same_in(text, Groups::read(text)?.len(), count)?;
     }
     let two = Groups::read("7,9")?;
-    for (number, is_among) in [(7, true), (8, false), (9, true)] {
-        same_in(number, two.has(group(number)?), is_among)?;
+    let [seven, eight, nine] = [GroupNo::new(7), GroupNo::new(8), GroupNo::new(9)];
+    for (group, is_among) in [(seven, true), (eight, false), (nine, true)] {
+        same_in(group, group.is_some_and(|group| two.has(group)), is_among)?;
     }
     for text in [
         "",
@@ -343,14 +250,18 @@ fn the_first_number_at_fault_is_told() -> Result<(), Fail> {
 
 #[test]
 fn groups_take_what_is_greater() -> Result<(), Fail> {
+    let seven = GroupNo::new(7).ok_or("group")?;
+    let nine = GroupNo::new(9).ok_or("group")?;
+    let two = Groups::read("7,9")?;
+    let one = Groups::read("7")?;
     let mut groups = Groups::none();
-    for (number, is_taken) in [(7, true), (7, false), (9, true)] {
-        same_in(number, groups.push(group(number)?), is_taken)?;
-    }
+    let taken = [groups.push(seven), groups.push(seven), groups.push(nine)];
     let again = groups.copy();
-    for (text, are_same) in [("7,9", true), ("7", false)] {
-        same_in(text, again.are_same(&Groups::read(text)?), are_same)?;
-    }
+    let are_same = (again.are_same(&two), again.are_same(&one));
+    same(
+        (taken, are_same, again.len()),
+        ([true, false, true], (true, false), 2),
+    )?;
     for i in 0..again.len() {
         let number = if i == 0 { 7 } else { 9 };
         same_in(i, again.at(i).get(), number)?;

@@ -46,16 +46,14 @@ const NO_PAGES: [&str; 9] = [
 fn ids_are_read_from_their_texts() -> Result<(), Fail> {
     for (text, page, letter) in IDS {
         let id = FrameId::read(text)?;
-        same_in(text, id.page.get(), page)?;
-        same_in(text, id.letter.get(), letter)?;
-        same_in(text, id.text().as_str(), text)?;
-        same_in(text, FrameId::read_bytes(text.as_bytes()), Some(id))?;
+        let read = FrameId::read_bytes(text.as_bytes());
+        let parts = (id.page.get(), id.letter.get(), id.text());
+        same_in(
+            text,
+            (parts.0, parts.1, parts.2.as_str(), read),
+            (page, letter, text, Some(id)),
+        )?;
     }
-    Ok(())
-}
-
-#[test]
-fn other_texts_are_no_ids() -> Result<(), Fail> {
     for text in NO_IDS {
         same_in(text, FrameId::read(text), Err(IdFault::BadFrame))?;
     }
@@ -71,8 +69,8 @@ fn pages_are_read_from_their_texts() -> Result<(), Fail> {
         ("999999999", 999_999_999),
     ] {
         let page = PageNo::read(text)?;
-        same_in(text, page.get(), number)?;
-        same_in(text, page.text().as_str(), text)?;
+        let written = page.text();
+        same_in(text, (page.get(), written.as_str()), (number, text))?;
     }
     for text in NO_PAGES {
         same_in(text, PageNo::read(text), Err(IdFault::BadPage))?;
@@ -82,21 +80,17 @@ fn pages_are_read_from_their_texts() -> Result<(), Fail> {
 
 #[test]
 fn numbers_end_at_their_limits() -> Result<(), Fail> {
-    for (number, kept) in [(999_999_999, Some(999_999_999)), (1_000_000_000, None)] {
-        same_in(number, PageNo::new(number).map(PageNo::get), kept)?;
-    }
-    for (byte, kept) in [
-        (b'a', Some(b'a')),
-        (b'z', Some(b'z')),
-        (b'`', None),
-        (b'{', None),
-    ] {
-        same_in(byte, Letter::new(byte).map(Letter::get), kept)?;
-    }
-    for (number, kept) in [(9, Some(9)), (10, None)] {
-        same_in(number, Digit::new(number).map(Digit::get), kept)?;
-    }
-    Ok(())
+    let pages = [999_999_999, 1_000_000_000].map(|number| PageNo::new(number).map(PageNo::get));
+    let letters = [b'a', b'z', b'`', b'{'].map(|byte| Letter::new(byte).map(Letter::get));
+    let digits = [9, 10].map(|number| Digit::new(number).map(Digit::get));
+    same(
+        (pages, letters, digits),
+        (
+            [Some(999_999_999), None],
+            [Some(b'a'), Some(b'z'), None, None],
+            [Some(9), None],
+        ),
+    )
 }
 
 #[test]
@@ -121,25 +115,26 @@ fn digits_of_any_length_are_a_number() -> Result<(), Fail> {
 #[test]
 fn a_page_begins_with_its_frame_a() -> Result<(), Fail> {
     let first = FrameId::first(PageNo::read("1231")?);
-    same(first.text().as_str(), "1231a")?;
-    let rows = [
-        (first, Some(FrameId::read("1231b")?)),
-        (FrameId::read("1231y")?, Some(FrameId::read("1231z")?)),
-        (FrameId::read("1231z")?, None),
-    ];
-    for (id, following) in rows {
-        same(id.following(), following)?;
-    }
-    Ok(())
+    let second = FrameId::read("1231b")?;
+    let [last_but_one, last] = [FrameId::read("1231y")?, FrameId::read("1231z")?];
+    let text = first.text();
+    same(
+        (
+            text.as_str(),
+            [first, last_but_one, last].map(|id| id.following()),
+        ),
+        ("1231a", [Some(second), Some(last), None]),
+    )
 }
 
 #[test]
 fn ids_are_ordered_by_number_then_letter() -> Result<(), Fail> {
-    for (less, greater) in [("9z", "10a"), ("10a", "10b")] {
-        let is_less = FrameId::read(less)? < FrameId::read(greater)?;
-        same_in(less, is_less, true)?;
-    }
-    Ok(())
+    let [nine, ten, next] = [
+        FrameId::read("9z")?,
+        FrameId::read("10a")?,
+        FrameId::read("10b")?,
+    ];
+    same((nine < ten, ten < next), (true, true))
 }
 
 #[test]
@@ -152,17 +147,17 @@ fn keys_are_read_and_written_back(rt: HostRuntime) -> Result<(), Fail> {
         ("*#*#", 2),
     ] {
         let keys = keys_read(rt.alloc(), text)?;
-        same_in(text, keys.as_slice().len(), count)?;
         let written = keys_text(rt.alloc(), &keys)?;
-        same_in(text, written.as_slice(), text.as_bytes())?;
+        let told = (keys.as_slice().len(), written.as_slice());
+        same_in(text, told, (count, text.as_bytes()))?;
     }
     Ok(())
 }
 
 #[test]
 fn each_word_is_its_key(rt: HostRuntime) -> Result<(), Fail> {
-    let keys = keys_read(rt.alloc(), "7#*#*00*09")?;
     let seven = Digit::new(7).ok_or("seven")?;
+    let keys = keys_read(rt.alloc(), "7#*#*00*09")?;
     let wanted = [
         Key::Route(seven),
         Key::Next,
@@ -170,8 +165,7 @@ fn each_word_is_its_key(rt: HostRuntime) -> Result<(), Fail> {
         Key::Reprint,
         Key::Update,
     ];
-    same(keys.as_slice(), wanted.as_slice())?;
-    Ok(())
+    same(keys.as_slice(), wanted.as_slice())
 }
 
 #[test]
@@ -193,34 +187,25 @@ fn the_first_word_that_cannot_be_read_is_named(rt: HostRuntime) -> Result<(), Fa
     Ok(())
 }
 
-// Five keys in ten bytes.
-const FIVE_KEYS: &str = "7#*#*00*09";
-
+// Five keys in ten bytes, so often; the texts themselves would fill a message with 200,000 bytes each.
 #[test]
 fn a_hundred_thousand_keys_are_read_and_written_back(rt: HostRuntime) -> Result<(), Fail> {
-    let mut text = String::new(rt.alloc());
-    for _ in 0..20_000u32 {
-        text.push_str(FIVE_KEYS)?;
-    }
+    let text = "7#*#*00*09".repeat(rt.alloc(), 20_000)?;
+    let bad = [text.as_str(), "*5"].concat(rt.alloc())?;
+    let fault = keys_read(rt.alloc(), bad.as_str()).err();
     let keys = keys_read(rt.alloc(), text.as_str())?;
-    same(keys.as_slice().len(), 100_000)?;
     let written = keys_text(rt.alloc(), &keys)?;
-    // The texts themselves would fill the message with 200,000 bytes each.
-    same(written.as_slice() == text.as_str().as_bytes(), true)?;
-    text.push_str("*5")?;
-    let fault = keys_read(rt.alloc(), text.as_str()).err();
-    same(fault, Some(IdFault::BadKey(200_000)))?;
-    Ok(())
+    let is_same = written.as_slice() == text.as_str().as_bytes();
+    same(
+        (keys.as_slice().len(), is_same, fault),
+        (100_000, true, Some(IdFault::BadKey(200_000))),
+    )
 }
 
 #[test]
 fn a_list_of_keys_is_kept(rt: HostRuntime) -> Result<(), Fail> {
-    let mut keys = Vec::new(rt.alloc());
-    keys.push(Key::Next).map_err(|_| IdFault::Memory)?;
-    keys.push(Key::Prev).map_err(|_| IdFault::Memory)?;
-    let list = KeyList::of(keys);
-    same(list.as_slice(), [Key::Next, Key::Prev].as_slice())?;
-    Ok(())
+    let list = KeyList::of(vec![in rt.alloc(); Key::Next, Key::Prev]?);
+    same(list.as_slice(), [Key::Next, Key::Prev].as_slice())
 }
 
 #[test]
