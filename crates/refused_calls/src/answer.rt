@@ -144,12 +144,12 @@ fn fed_text(alloc: Global, reader: CertReader) -> Result<Vec<u8>, AllocError> {
     }
 }
 
-// Writes what a reader answers to a further piece: `Failed`, or another word.
-fn push_further(text: &mut Vec<u8>, answer: Result<(), ReadFault>) -> Result<(), AllocError> {
-    text.extend_from_slice(match answer {
+// What a reader answers to a further piece: `Failed`, or another word.
+fn further(answer: Result<(), ReadFault>) -> &'static [u8] {
+    match answer {
         Err(ReadFault::Failed) => b"Failed\n",
         _ => b"not Failed\n",
-    })
+    }
 }
 
 // The fault of a reader that refused a piece, and what it answers to further pieces and at the end.
@@ -163,9 +163,9 @@ fn unfed_text(
         _ => fault_text(alloc, &RunFault::Cert(fault))?,
     };
     for piece in [CERT.as_bytes(), b"", b"\n"] {
-        push_further(&mut text, reader.feed(piece))?;
+        text.extend_from_slice(further(reader.feed(piece)))?;
     }
-    push_further(&mut text, reader.finish().map(|_| ()))?;
+    text.extend_from_slice(further(reader.finish().map(|_| ())))?;
     Ok(text)
 }
 

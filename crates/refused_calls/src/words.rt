@@ -1,6 +1,5 @@
-//! The program's words, taken in turn.
+//! The program's words, taken in turn. Where a word is missing or says nothing, there is no answer.
 
-use anyhow::{Result, bail};
 use checker::Policy;
 use frame_records::{Groups, Pence};
 use page_ids::{KeyList, keys_read};
@@ -18,15 +17,11 @@ impl<'a> Words<'a> {
         Words { left: words }
     }
 
-    /// The next word; an error where there is none.
-    pub fn word(&mut self) -> Result<&'a str> {
-        match self.left.split_first() {
-            Some((word, left)) => {
-                self.left = left;
-                Ok(word.as_str())
-            }
-            None => bail!("a word is missing"),
-        }
+    /// The next word.
+    pub fn word(&mut self) -> Option<&'a str> {
+        let (word, left) = self.left.split_first()?;
+        self.left = left;
+        Some(word.as_str())
     }
 
     /// The words that are left.
@@ -35,31 +30,34 @@ impl<'a> Words<'a> {
     }
 
     /// A whole number.
-    pub fn number(&mut self) -> Result<u32> {
-        Ok(self.word()?.parse::<u32>()?)
+    pub fn number(&mut self) -> Option<u32> {
+        self.word()?.parse::<u32>().ok()
+    }
+
+    // A whole number below 65,536.
+    fn small_number(&mut self) -> Option<u16> {
+        self.word()?.parse::<u16>().ok()
     }
 
     /// Groups, as `7,9`; `-` for none.
-    pub fn groups(&mut self) -> Result<Groups> {
+    pub fn groups(&mut self) -> Option<Groups> {
         match self.word()? {
-            "-" => Ok(Groups::none()),
-            list => Ok(Groups::read(list)?),
+            "-" => Some(Groups::none()),
+            list => Groups::read(list).ok(),
         }
     }
 
     /// Keys, as `1#*#`.
-    pub fn keys(&mut self, alloc: Global) -> Result<KeyList> {
-        Ok(keys_read(alloc, self.word()?)?)
+    pub fn keys(&mut self, alloc: Global) -> Option<KeyList> {
+        keys_read(alloc, self.word()?).ok()
     }
 
     /// A ceiling, keyings and groups.
-    pub fn policy(&mut self) -> Result<Policy> {
-        let Some(ceiling) = Pence::new(self.word()?.parse::<u16>()?) else {
-            bail!("no such price");
-        };
-        let keyings = self.word()?.parse::<u16>()?;
+    pub fn policy(&mut self) -> Option<Policy> {
+        let ceiling = Pence::new(self.small_number()?)?;
+        let keyings = self.small_number()?;
         let groups = self.groups()?;
-        Ok(Policy {
+        Some(Policy {
             ceiling,
             keyings,
             groups,
