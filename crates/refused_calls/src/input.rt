@@ -1,7 +1,7 @@
 //! What calls are made on, and how that is made of words.
 
 use crate::answer::Answer;
-use crate::devices::{File, Output};
+use crate::fakes::{File, Output};
 use crate::files::{base_of, bytes_of, cert_of};
 use crate::words::Words;
 use audit_report::RunFault;

@@ -12,7 +12,7 @@ mod answer;
 mod base_calls;
 mod base_lines;
 mod call;
-mod devices;
+mod fakes;
 mod files;
 mod input;
 mod run_calls;

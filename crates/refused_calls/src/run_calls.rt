@@ -1,7 +1,7 @@
 //! The runs, on files and an output that can fail.
 
 use crate::answer::Answer;
-use crate::devices::{File, Output};
+use crate::fakes::{File, Output};
 use audit_report::IntoWrite;
 use checker::Policy;
 use frame_records::Groups;
