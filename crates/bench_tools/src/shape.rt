@@ -1,12 +1,18 @@
-//! Texts of safe bases. Each frame stands on a page of its own.
+//! Texts of safe bases, in four shapes. Each frame stands on a page of its own.
 
 use crate::size::Size;
-use base_text::MOST_TEXT;
+use anyhow::{Result, bail};
 use itoa::Buffer;
 use std::alloc::{AllocError, Global};
 
 // The page of the first frame, which is the entry frame.
 const FIRST_PAGE: u32 = 100_000;
+
+// What a base may have in bytes.
+const LENGTH: usize = 16_777_216;
+
+/// Each shape.
+pub const SHAPES: [Shape; 4] = [Shape::Tree, Shape::Scattered, Shape::Chain, Shape::Bodies];
 
 /// How the frames of a base hang together, and what they show.
 #[derive(Debug, Clone, Copy, PartialEq, Eq)]
@@ -19,14 +25,6 @@ pub enum Shape {
     Chain,
     /// One route on and one back to the entry page, over a body of 4,096 bytes.
     Bodies,
-    /// Ten routes to frames in a row, as in the next three over an empty body: five keys lead from any frame to any other.
-    TenInARow,
-    /// Ten routes to scattered frames; here too five keys do.
-    TenScattered,
-    /// Ten routes, each to the next frame.
-    TenToNext,
-    /// Ten routes to frames that no other frame leads to, as far as there are any, and else to the entry frame.
-    TenInATree,
 }
 
 /// What each frame has beside its routes and what it shows.
@@ -62,10 +60,6 @@ impl Shape {
             Shape::Scattered => "ten scattered routes",
             Shape::Chain => "chain",
             Shape::Bodies => "bodies of 4096 bytes",
-            Shape::TenInARow => "ten routes to frames in a row",
-            Shape::TenScattered => "ten routes to scattered frames",
-            Shape::TenToNext => "ten routes to the next frame",
-            Shape::TenInATree => "ten routes down a tree",
         }
     }
 
@@ -79,9 +73,7 @@ impl Shape {
 
     // The frame to which a digit leads, of so many.
     fn target(self, frames: u32, number: u32, digit: u32) -> Option<u32> {
-        let frames = frames.max(1);
-        let next = number.wrapping_add(1) % frames;
-        let child = number.wrapping_mul(10).wrapping_add(digit.wrapping_add(1));
+        let next = number.wrapping_add(1) % frames.max(1);
         match (self, digit) {
             (Shape::Tree, 0) => Some(number.saturating_sub(1) / 9),
             (Shape::Tree, _) => {
@@ -89,17 +81,13 @@ impl Shape {
             }
             (Shape::Scattered, 0) => Some(0),
             (Shape::Scattered, _) => {
-                let place = number.wrapping_mul(10).wrapping_add(digit) % frames;
-                Some(place.wrapping_mul(40_507) % frames)
+                let place = number.wrapping_mul(10).wrapping_add(digit) % frames.max(1);
+                Some(place.wrapping_mul(40_507) % frames.max(1))
             }
             (Shape::Chain, 1) => Some(next),
             (Shape::Bodies, 0) => Some(0),
             (Shape::Bodies, 1) => Some(next),
-            (Shape::TenInARow, _) => Some(child % frames),
-            (Shape::TenScattered, _) => Some((child % frames).wrapping_mul(40_507) % frames),
-            (Shape::TenToNext, _) => Some(next),
-            (Shape::TenInATree, _) => Some(if child < frames { child } else { 0 }),
-            (Shape::Chain | Shape::Bodies, _) => None,
+            _ => None,
         }
     }
 
@@ -110,9 +98,6 @@ impl Shape {
             Shape::Scattered => text.extend_from_slice(b"body = \"SCATTERED\"\n"),
             Shape::Chain => push_body(text, 150),
             Shape::Bodies => push_long_body(text),
-            Shape::TenInARow | Shape::TenScattered | Shape::TenToNext | Shape::TenInATree => {
-                text.extend_from_slice(b"body = \"\"\n")
-            }
         }
     }
 
@@ -144,20 +129,28 @@ impl Shape {
     }
 
     /// The text of a base with so many frames, each with a mark.
-    pub fn text(self, alloc: Global, frames: u32, mark: Mark) -> Result<Vec<u8>, AllocError> {
+    pub fn marked_text(self, alloc: Global, frames: u32, mark: Mark) -> Result<Vec<u8>> {
         let mut text = Vec::new(alloc);
         text.extend_from_slice(b"entry = 100000\n")?;
         for number in 0..frames {
             self.push_frame(&mut text, frames, number, mark)?;
         }
+        if text.len() > LENGTH {
+            bail!("a text of over 16777216 bytes");
+        }
         Ok(text)
     }
 
+    /// The text of a base with so many frames.
+    pub fn text(self, alloc: Global, frames: u32) -> Result<Vec<u8>> {
+        self.marked_text(alloc, frames, Mark::None)
+    }
+
     /// The text of a base of a size; that of full size is filled up by a comment.
-    pub fn text_of(self, alloc: Global, size: Size) -> Result<Vec<u8>, AllocError> {
-        let mut text = self.text(alloc, size.of(self.most()), Mark::None)?;
+    pub fn text_of(self, alloc: Global, size: Size) -> Result<Vec<u8>> {
+        let mut text = self.text(alloc, size.of(self.most()))?;
         if size == Size::Full {
-            text.resize(MOST_TEXT, b'#')?;
+            text.resize(LENGTH, b'#')?;
         }
         Ok(text)
     }
