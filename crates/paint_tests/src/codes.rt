@@ -102,17 +102,19 @@ fn the_service_rows_are_the_first_and_the_last() -> Result<(), Fail> {
     Ok(())
 }
 
-// Of each position: whether double height, and whether another code, counts as written in a service row there.
+// Positions, and of each whether double height, and whether another code, counts as written in a service row there.
+const PLACES: [(u16, bool, bool); 6] = [
+    (39, true, true),
+    (40, false, false),
+    (879, false, false),
+    (880, true, false),
+    (919, true, false),
+    (920, true, true),
+];
+
 #[test]
 fn double_height_in_row_22_shows_in_a_service_row() -> Result<(), Fail> {
-    for (at, double, other) in [
-        (39, true, true),
-        (40, false, false),
-        (879, false, false),
-        (880, true, false),
-        (919, true, false),
-        (920, true, true),
-    ] {
+    for (at, double, other) in PLACES {
         same_in(at, is_service_position(at, DOUBLE_HEIGHT), double)?;
         for code in [0x41, 0x4d, 0x8c, 0x8e] {
             same_in((at, code), is_service_position(at, code), other)?;
@@ -124,14 +126,7 @@ fn double_height_in_row_22_shows_in_a_service_row() -> Result<(), Fail> {
 // 8D stands for itself, 4D is the letter M where no escape is pending, CD is 4D.
 #[test]
 fn the_letter_m_is_no_double_height() -> Result<(), Fail> {
-    for (at, double, other) in [
-        (39, true, true),
-        (40, false, false),
-        (879, false, false),
-        (880, true, false),
-        (919, true, false),
-        (920, true, true),
-    ] {
+    for (at, double, other) in PLACES {
         let caret = Caret { at, pending: false };
         let touches = [0x8d, 0x4d, 0xcd].map(|byte| caret.touches(byte));
         same_in(at, touches, [double, other, other])?;
@@ -142,14 +137,7 @@ fn the_letter_m_is_no_double_height() -> Result<(), Fail> {
 // After an escape 4D is 8D, 4C is another attribute, and 2D is dropped.
 #[test]
 fn an_escape_makes_double_height() -> Result<(), Fail> {
-    for (at, double, other) in [
-        (39, true, true),
-        (40, false, false),
-        (879, false, false),
-        (880, true, false),
-        (919, true, false),
-        (920, true, true),
-    ] {
+    for (at, double, other) in PLACES {
         let caret = Caret { at, pending: true };
         let touches = [0x8d, 0x4d, 0x4c, 0x2d].map(|byte| caret.touches(byte));
         same_in(at, touches, [double, double, other, false])?;

@@ -1,18 +1,12 @@
-//! Texts of safe bases, in four shapes. Each frame stands on a page of its own.
+//! Texts of safe bases. Each frame stands on a page of its own.
 
 use crate::size::Size;
-use anyhow::{Result, bail};
+use base_text::MOST_TEXT;
 use itoa::Buffer;
 use std::alloc::{AllocError, Global};
 
 // The page of the first frame, which is the entry frame.
 const FIRST_PAGE: u32 = 100_000;
-
-// What a base may have in bytes.
-const LENGTH: usize = 16_777_216;
-
-/// Each shape.
-pub const SHAPES: [Shape; 4] = [Shape::Tree, Shape::Scattered, Shape::Chain, Shape::Bodies];
 
 /// How the frames of a base hang together, and what they show.
 #[derive(Debug, Clone, Copy, PartialEq, Eq)]
@@ -73,7 +67,8 @@ impl Shape {
 
     // The frame to which a digit leads, of so many.
     fn target(self, frames: u32, number: u32, digit: u32) -> Option<u32> {
-        let next = number.wrapping_add(1) % frames.max(1);
+        let frames = frames.max(1);
+        let next = number.wrapping_add(1) % frames;
         match (self, digit) {
             (Shape::Tree, 0) => Some(number.saturating_sub(1) / 9),
             (Shape::Tree, _) => {
@@ -81,13 +76,13 @@ impl Shape {
             }
             (Shape::Scattered, 0) => Some(0),
             (Shape::Scattered, _) => {
-                let place = number.wrapping_mul(10).wrapping_add(digit) % frames.max(1);
-                Some(place.wrapping_mul(40_507) % frames.max(1))
+                let place = number.wrapping_mul(10).wrapping_add(digit) % frames;
+                Some(place.wrapping_mul(40_507) % frames)
             }
             (Shape::Chain, 1) => Some(next),
             (Shape::Bodies, 0) => Some(0),
             (Shape::Bodies, 1) => Some(next),
-            _ => None,
+            (Shape::Chain | Shape::Bodies, _) => None,
         }
     }
 
@@ -129,28 +124,20 @@ impl Shape {
     }
 
     /// The text of a base with so many frames, each with a mark.
-    pub fn marked_text(self, alloc: Global, frames: u32, mark: Mark) -> Result<Vec<u8>> {
+    pub fn text(self, alloc: Global, frames: u32, mark: Mark) -> Result<Vec<u8>, AllocError> {
         let mut text = Vec::new(alloc);
         text.extend_from_slice(b"entry = 100000\n")?;
         for number in 0..frames {
             self.push_frame(&mut text, frames, number, mark)?;
         }
-        if text.len() > LENGTH {
-            bail!("a text of over 16777216 bytes");
-        }
         Ok(text)
     }
 
-    /// The text of a base with so many frames.
-    pub fn text(self, alloc: Global, frames: u32) -> Result<Vec<u8>> {
-        self.marked_text(alloc, frames, Mark::None)
-    }
-
     /// The text of a base of a size; that of full size is filled up by a comment.
-    pub fn text_of(self, alloc: Global, size: Size) -> Result<Vec<u8>> {
-        let mut text = self.text(alloc, size.of(self.most()))?;
+    pub fn text_of(self, alloc: Global, size: Size) -> Result<Vec<u8>, AllocError> {
+        let mut text = self.text(alloc, size.of(self.most()), Mark::None)?;
         if size == Size::Full {
-            text.resize(LENGTH, b'#')?;
+            text.resize(MOST_TEXT, b'#')?;
         }
         Ok(text)
     }

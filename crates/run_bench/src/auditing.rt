@@ -1,0 +1,108 @@
+//! Reading and auditing against `toml` alone, and the faults of a long chain.
+
+use crate::edition::{audited, policy, whole_base};
+use crate::figure::{Figure, tell};
+use crate::memory::{forget_peak, peak};
+use crate::shape::{Mark, Shape};
+use crate::size::Size;
+use crate::work::{Work, least_times};
+use anyhow::{Result, bail};
+use checker::Policy;
+use frame_records::Base;
+use std::alloc::Global;
+use std::time::{CpuClock, Duration};
+
+const RUNS: u32 = 5;
+
+// The shapes in the order of the memory that they take: what one leaves with the allocator hides nothing of the next.
+const SHAPES: [Shape; 4] = [Shape::Bodies, Shape::Tree, Shape::Scattered, Shape::Chain];
+
+// The frames of the chain whose scripts come to 200 million keys.
+const CHAIN: u32 = 20_000;
+
+// The greatest memory of a piece of work, in kilobytes.
+fn peak_of(rt: &HostRuntime, work: &Work) -> Result<u128> {
+    forget_peak(rt)?;
+    work.time(rt)?;
+    Ok(u128::from(peak(rt)?))
+}
+
+// What a text takes, and how much more than `toml` alone that is.
+fn measure_text(rt: &HostRuntime, shape: Shape, text: &[u8], policy: &Policy) -> Result<()> {
+    let works = [
+        Work::Tree(text),
+        Work::Read(text),
+        Work::Audit(text, policy),
+    ];
+    let [tree, read, audit] = &works;
+    let tree_peak = peak_of(rt, tree)?;
+    let read_peak = peak_of(rt, read)?;
+    let audit_peak = peak_of(rt, audit)?;
+    let [tree, read, audit] = least_times::<3>(rt, RUNS, &works)?;
+    let (of_time, of_memory) = ("percent of the time of TOML alone", "percent of its memory");
+    let figures = [
+        Figure::millis("TOML alone", tree),
+        Figure::kilobytes("TOML alone", tree_peak),
+        Figure::share("base_read", read, tree, of_time),
+        Figure::percent("base_read", read_peak, tree_peak, of_memory),
+        Figure::share("audit", audit, tree, of_time),
+        Figure::percent("audit", audit_peak, tree_peak, of_memory),
+    ];
+    tell(rt, shape.name(), &figures)
+}
+
+fn measure_shape(rt: &HostRuntime, shape: Shape, size: Size) -> Result<()> {
+    let Some(policy) = policy(16, Mark::None) else {
+        bail!("no policy");
+    };
+    let text = shape.text_of(rt.alloc(), size)?;
+    measure_text(rt, shape, text.as_slice(), &policy)
+}
+
+// A chain of frames, each with a price.
+fn chain(alloc: Global, frames: u32) -> Option<Base> {
+    let text = Shape::Chain.text(alloc, frames, Mark::Price).ok()?;
+    whole_base(alloc, text.as_slice())
+}
+
+fn lines(text: &[u8]) -> usize {
+    text.iter().filter(|byte| **byte == b'\n').count()
+}
+
+// Auditing a base each of whose frames is too dear and writing its faults; the length of the text too.
+fn faults_time(rt: &HostRuntime, base: &Base, policy: &Policy) -> Result<(Duration, usize)> {
+    let start = rt.thread_cpu_time()?;
+    let printed = audited(rt.alloc(), base, policy).unwrap_or(Vec::new(rt.alloc()));
+    let time = rt.thread_cpu_time()?.saturating_sub(start);
+    if lines(printed.as_slice()) != base.frames().len().saturating_add(1) {
+        bail!("not each frame is told");
+    }
+    Ok((time, printed.len()))
+}
+
+fn measure_faults(rt: &HostRuntime, base: &Base) -> Result<()> {
+    let Some(policy) = policy(0, Mark::Price) else {
+        bail!("no policy");
+    };
+    forget_peak(rt)?;
+    let (time, length) = faults_time(rt, base, &policy)?;
+    let (memory, length) = (u128::from(peak(rt)?).saturating_mul(1024), length as u128);
+    let figures = [
+        Figure::of("faults", base.frames().len() as u128, "frames"),
+        Figure::of("text", length, "bytes"),
+        Figure::millis("audit", time),
+        Figure::percent("memory", memory, length, "percent of the text"),
+    ];
+    tell(rt, "chain of faults", &figures)
+}
+
+/// Measures each shape, and the faults of a chain.
+pub fn measure(rt: &HostRuntime, size: Size) -> Result<()> {
+    for shape in SHAPES {
+        measure_shape(rt, shape, size)?;
+    }
+    match chain(rt.alloc(), size.of(CHAIN)) {
+        Some(base) => measure_faults(rt, &base),
+        None => bail!("no base"),
+    }
+}

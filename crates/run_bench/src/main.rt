@@ -1,0 +1,46 @@
+//! How long audits, checks, walks and changes of safe base texts take, against `toml` alone on the base's text.
+//!
+//! `run_bench audit` measures reading and auditing in four shapes, and the faults of a long chain; `run_bench check` checks,
+//! walks and changes in these shapes, the time of a check for each row of an eighth of the frames and of all, and checks and
+//! audits for a caller of 16 groups. Behind either word `full` measures bases of full size, else it is a sixteenth. Without any
+//! word both measure a sixteenth, to show in seconds that all comes out as it must. The figures go to standard error, of the
+//! least processor times of some runs in turns; `ok` is printed where all came out as it must.
+#![tactic(auto)]
+
+mod auditing;
+mod checking;
+mod edition;
+mod figure;
+mod memory;
+mod shape;
+mod size;
+mod work;
+
+use anyhow::{Result, bail};
+use size::Size;
+use std::env;
+
+fn run_all(rt: &HostRuntime) -> Result<()> {
+    auditing::measure(rt, Size::Part)?;
+    checking::measure(rt, Size::Part)
+}
+
+fn run(rt: &HostRuntime, words: &[String]) -> Result<()> {
+    let Some(word) = words.get(1) else {
+        return run_all(rt);
+    };
+    let is_full = words.get(2).is_some_and(|word| word.as_str() == "full");
+    let size = if is_full { Size::Full } else { Size::Part };
+    match word.as_str() {
+        "audit" => auditing::measure(rt, size),
+        "check" => checking::measure(rt, size),
+        _ => bail!("the words are audit [full] or check [full]"),
+    }
+}
+
+fn main(rt: HostRuntime) -> Result<()> {
+    let words: Vec<String> = env::args(&rt)?.collect(rt.alloc())?;
+    run(&rt, words.as_slice())?;
+    println!(rt; "ok")?;
+    Ok(())
+}
