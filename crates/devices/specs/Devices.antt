@@ -23,10 +23,24 @@ pub record IsWholeRead (limit : ℕ) (old new : Option (List ℕ)) (bytes : List
   pub given : Consumes old new bytes
   pub all : length bytes < limit → IsAtEnd new
 
+-- a read failed behind fewer bytes than the limit
+pub record BrokeWithin (limit : ℕ) (old new : Option (List ℕ)) (failed : Bool) : Type 0 where
+  pub bytes : List ℕ
+  pub within : length bytes < limit
+  pub given : Consumes old new bytes
+  pub broken : failed ≡ true
+
+-- no read failed, and at most so many bytes were taken
+pub record TookWithin (limit : ℕ) (old new : Option (List ℕ)) (failed : Bool) : Type 0 where
+  pub bytes : List ℕ
+  pub within : length bytes ≤ limit
+  pub given : Consumes old new bytes
+  pub unbroken : failed ≡ false
+
 -- a read fault is told exactly where the source failed
-abbrev pub IsSourceFault : SourceFault → Bool → Type 0
-IsSourceFault Broken failed = failed ≡ true
-IsSourceFault Memory failed = failed ≡ false
+abbrev pub IsSourceFault : ℕ → Option (List ℕ) → Option (List ℕ) → Bool → SourceFault → Type 0
+IsSourceFault limit old new failed Broken = BrokeWithin limit old new failed
+IsSourceFault limit old new failed Memory = TookWithin limit old new failed
 
 -- the sink took all of the bytes and hasn't failed
 pub record WroteWhole (old new : Option (List ℕ)) (failed : Bool) (bytes : List ℕ) : Type 0 where

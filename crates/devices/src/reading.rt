@@ -29,7 +29,7 @@ fn read_piece<S: Source>(
     requires open { S.has_failed source.old ≡ false }
     requires some { 0 < most }
     ensures piece { IfOk result (IsPieceRead most (S.left source.old) (S.left source.new) bytes.old.items bytes.new.items) }
-    ensures fault { IfErr result (λ fault. IsSourceFault fault (S.has_failed source.new)) }
+    ensures fault { IfErr result (IsSourceFault most (S.left source.old) (S.left source.new) (S.has_failed source.new)) }
     ensures unbroken { OnOk result (S.has_failed source.new ≡ false) }
 {
     let room = most.min(PIECE);
@@ -45,7 +45,8 @@ fn read_piece<S: Source>(
 /// What a source has left, up to a limit: fewer bytes than the limit are all, and then the source answered its end.
 ///
 /// Reads in pieces of at most 65,536 bytes and never asks for more than the limit; short reads are followed by further ones.
-/// After `Memory` the bytes that were read are lost.
+/// After a fault the bytes that were read are lost: fewer than the limit behind `Broken`, at most as many behind `Memory`.
+#[tactic(auto, using(crate::proofs::Sources::fault_behind))]
 pub fn read_whole<S: Source>(
     alloc: Global,
     source: &mut S,
@@ -55,7 +56,7 @@ pub fn read_whole<S: Source>(
     ensures whole { IfOk result (λ bytes. IsWholeRead limit (S.left source.old) (S.left source.new) bytes.items) }
     ensures known { IfOk result (λ bytes. IfSome (S.left source.old) (λ xs. bytes.items ≡ take limit xs)) }
     ensures unbroken { OnOk result (S.has_failed source.new ≡ false) }
-    ensures fault { IfErr result (λ fault. IsSourceFault fault (S.has_failed source.new)) }
+    ensures fault { IfErr result (IsSourceFault limit (S.left source.old) (S.left source.new) (S.has_failed source.new)) }
 {
     let mut bytes = Vec::new(alloc);
     let mut piece = [0; PIECE];

@@ -17,6 +17,8 @@ use Rattle.pageaudit.specs.declared.file_fault.FileFault.TheVariants as file
 use Rattle.pageaudit.specs.declared.edition.EditionFault.{EditionFault}
 use Rattle.pageaudit.specs.declared.edition.EditionFault.TheVariants as edition
 use Rattle.pageaudit.specs.Device.{device, IsUntouched, IsTextWritten}
+use Rattle.pageaudit.specs.Files.{base_limit, cert_limit}
+use Rattle.pageaudit.proofs.Within.{untouched_within, base_within, cert_within}
 use Rattle.pageaudit.specs.FileFaults.{old_fault, new_fault}
 use Rattle.pageaudit.specs.ChangeRun.{IsEditionOf, IsEditionFault, ChangeDevices, IsChangeRun, HoldsOfChange, IsChangeFault, status_of_change}
 
@@ -28,10 +30,10 @@ module _ (d : ChangeDevices) (policy : Policy) where
   old_failed : (fault : EditionFault) → IsEditionFault d.old d.old_cert fault → IsUntouched d.new → IsUntouched d.new_cert → IsUntouched d.out → IsChangeFault d policy (old_fault fault)
   old_failed (edition.Base (file.Text fault)) h n m out = (h.0, h.1, n, m, out)
   old_failed (edition.Base file.Broken) h n m out = (h.0, h.1, n, m, out)
-  old_failed (edition.Base file.Memory) h n m out = (h.0, h.1.unbroken, n.unbroken, m.unbroken, out)
+  old_failed (edition.Base file.Memory) h n m out = (h.0, untouched_within cert_limit d.old_cert h.1, untouched_within base_limit d.new n, untouched_within cert_limit d.new_cert m, out)
   old_failed (edition.Cert (file.Text fault)) h n m out = record { base = h.0; base_read = h.1; why = (h.2, n, m); nothing = out }
   old_failed (edition.Cert file.Broken) h n m out = record { base = h.0; base_read = h.1; why = (h.2, n, m); nothing = out }
-  old_failed (edition.Cert file.Memory) h n m out = (h.1.read.so_far.unbroken, h.2, n.unbroken, m.unbroken, out)
+  old_failed (edition.Cert file.Memory) h n m out = (base_within d.old h.0 h.1, h.2, untouched_within base_limit d.new n, untouched_within cert_limit d.new_cert m, out)
 
   -- the old edition's files gave none
   pub told_old : (fault : EditionFault) (told : RunFault) → told ≡ old_fault fault → IsEditionFault d.old d.old_cert fault → IsUntouched d.new → IsUntouched d.new_cert → IsUntouched d.out → IsChangeFault d policy told
@@ -41,10 +43,10 @@ module _ (d : ChangeDevices) (policy : Policy) where
     new_failed : (fault : EditionFault) → IsEditionFault d.new d.new_cert fault → IsUntouched d.out → IsChangeFault d policy (new_fault fault)
     new_failed (edition.Base (file.Text fault)) h out = record { old = old; old_cert = old_cert; old_read = old_read; why = (h.0, h.1); nothing = out }
     new_failed (edition.Base file.Broken) h out = record { old = old; old_cert = old_cert; old_read = old_read; why = (h.0, h.1); nothing = out }
-    new_failed (edition.Base file.Memory) h out = (old_read.base_read.read.so_far.unbroken, old_read.cert_read.read.so_far.unbroken, h.0, h.1.unbroken, out)
+    new_failed (edition.Base file.Memory) h out = (base_within d.old old old_read.base_read, cert_within d.old_cert old_cert old_read.cert_read, h.0, untouched_within cert_limit d.new_cert h.1, out)
     new_failed (edition.Cert (file.Text fault)) h out = record { old = old; old_cert = old_cert; old_read = old_read; why = record { base = h.0; base_read = h.1; why = h.2; nothing = out }; nothing = out }
     new_failed (edition.Cert file.Broken) h out = record { old = old; old_cert = old_cert; old_read = old_read; why = record { base = h.0; base_read = h.1; why = h.2; nothing = out }; nothing = out }
-    new_failed (edition.Cert file.Memory) h out = (old_read.base_read.read.so_far.unbroken, old_read.cert_read.read.so_far.unbroken, h.1.read.so_far.unbroken, h.2, out)
+    new_failed (edition.Cert file.Memory) h out = (base_within d.old old old_read.base_read, cert_within d.old_cert old_cert old_read.cert_read, base_within d.new h.0 h.1, h.2, out)
 
     -- the old edition is whole, and the new edition's files gave none
     pub told_new : (fault : EditionFault) (told : RunFault) → told ≡ new_fault fault → IsEditionFault d.new d.new_cert fault → IsUntouched d.out → IsChangeFault d policy told
@@ -61,7 +63,7 @@ module _ (d : ChangeDevices) (policy : Policy) where
       failed : (r : Result Status RunFault) → IsWritten (change_verdict policy old old_cert new new_cert) r → IfErr r (IsChangeFault d policy)
       failed (Ok s) w = tt
       failed (Err (run.Write wrote)) w = record { old = old; old_cert = old_cert; new = new; new_cert = new_cert; old_read = old_read; new_read = new_read; written = w }
-      failed (Err run.Memory) w = (old_read.base_read.read.so_far.unbroken, old_read.cert_read.read.so_far.unbroken, new_read.base_read.read.so_far.unbroken, new_read.cert_read.read.so_far.unbroken, w)
+      failed (Err run.Memory) w = (base_within d.old old old_read.base_read, cert_within d.old_cert old_cert old_read.cert_read, base_within d.new new new_read.base_read, cert_within d.new_cert new_cert new_read.cert_read, w)
       failed (Err (run.Base fault)) w = absurd w
       failed (Err (run.Cert fault)) w = absurd w
       failed (Err (run.Keys offset)) w = absurd w

@@ -1,2 +1,3 @@
+mod Within
 mod Runs
 mod Changes

@@ -11,7 +11,7 @@ use Rattle.audit_report.specs.ReportLines.{report_text}
 use Rattle.pageaudit.specs.declared.status.Status.{Status}
 use Rattle.pageaudit.specs.declared.status.Status.TheVariants as status
 use Rattle.pageaudit.specs.Device.{Device, IsUntouched, IsTextWritten}
-use Rattle.pageaudit.specs.Files.{IsBaseOfFile, IsBaseTextFault}
+use Rattle.pageaudit.specs.Files.{base_limit, IsBaseOfFile, IsBaseTextFault, IsBaseBroken, IsReadWithin}
 
 -- clear exactly where there is a certificate
 abbrev pub status_of_outcome : Outcome → Status
@@ -37,7 +37,7 @@ pub record IsReportRun (base_file out : Device) (policy : Policy) (answer : Resu
 -- why there is no status. Nothing was written but where the output failed
 abbrev pub IsAuditFault : Device → Device → Policy → RunFault → Type 0
 IsAuditFault base_file out policy (run.Base fault) = IsBaseTextFault base_file fault × IsUntouched out
-IsAuditFault base_file out policy run.ReadBase = (base_file.failed ≡ true) × IsUntouched out
+IsAuditFault base_file out policy run.ReadBase = IsBaseBroken base_file × IsUntouched out
 IsAuditFault base_file out policy (run.Write wrote) = IsReportRun base_file out policy (Err (run.Write wrote))
-IsAuditFault base_file out policy run.Memory = (base_file.failed ≡ false) × IsUntouched out
+IsAuditFault base_file out policy run.Memory = IsReadWithin base_limit base_file × IsUntouched out
 IsAuditFault base_file out policy _ = ⊥

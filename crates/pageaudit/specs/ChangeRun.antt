@@ -15,7 +15,7 @@ use Rattle.pageaudit.specs.declared.status.Status.TheVariants.{Clear, Faulty}
 use Rattle.pageaudit.specs.declared.edition.EditionFault.{EditionFault}
 use Rattle.pageaudit.specs.declared.edition.EditionFault.TheVariants as edition
 use Rattle.pageaudit.specs.Device.{Device, IsUntouched, IsTextWritten}
-use Rattle.pageaudit.specs.Files.{IsBaseOfFile, IsCertOfFile, IsBaseTextFault, IsCertTextFault, IsFileFault}
+use Rattle.pageaudit.specs.Files.{base_limit, cert_limit, IsBaseOfFile, IsCertOfFile, IsBaseTextFault, IsCertTextFault, IsBaseBroken, IsCertBroken, IsReadWithin, IsBaseFileFault, IsCertFileFault}
 use Rattle.pageaudit.specs.CheckRun.{IsBehindBase}
 
 -- both files of an edition were read to their ends and are right
@@ -26,8 +26,8 @@ pub record IsEditionOf (base_file cert_file : Device) (base : BaseView) (cert : 
 -- why they give no edition: the base's file comes first, and nothing was read of the certificate's; which comes only behind
 -- a whole base
 abbrev pub IsEditionFault : Device → Device → EditionFault → Type 0
-IsEditionFault base_file cert_file (edition.Base fault) = IsFileFault (IsBaseTextFault base_file) base_file fault × IsUntouched cert_file
-IsEditionFault base_file cert_file (edition.Cert fault) = (base : BaseView) × IsBaseOfFile base_file base × IsFileFault (IsCertTextFault cert_file) cert_file fault
+IsEditionFault base_file cert_file (edition.Base fault) = IsBaseFileFault base_file fault × IsUntouched cert_file
+IsEditionFault base_file cert_file (edition.Cert fault) = (base : BaseView) × IsBaseOfFile base_file base × IsCertFileFault cert_file fault
 
 abbrev pub IsEditionRead : Device → Device → Result (BaseView × CertView) EditionFault → Type 0
 IsEditionRead base_file cert_file (Ok (base, cert)) = IsEditionOf base_file cert_file base cert
@@ -85,13 +85,13 @@ pub record IsBehindOld (d : ChangeDevices) (Why : Type 0) : Type 0 where
 -- output failed
 abbrev pub IsChangeFault : ChangeDevices → Policy → RunFault → Type 0
 IsChangeFault d policy (run.Base fault) = IsBaseTextFault d.old fault × IsUntouched d.old_cert × IsUntouched d.new × IsUntouched d.new_cert × IsUntouched d.out
-IsChangeFault d policy run.ReadBase = (d.old.failed ≡ true) × IsUntouched d.old_cert × IsUntouched d.new × IsUntouched d.new_cert × IsUntouched d.out
+IsChangeFault d policy run.ReadBase = IsBaseBroken d.old × IsUntouched d.old_cert × IsUntouched d.new × IsUntouched d.new_cert × IsUntouched d.out
 IsChangeFault d policy (run.Cert fault) = IsBehindBase d.old d.out (IsCertTextFault d.old_cert fault × IsUntouched d.new × IsUntouched d.new_cert)
-IsChangeFault d policy run.ReadCert = IsBehindBase d.old d.out ((d.old_cert.failed ≡ true) × IsUntouched d.new × IsUntouched d.new_cert)
+IsChangeFault d policy run.ReadCert = IsBehindBase d.old d.out (IsCertBroken d.old_cert × IsUntouched d.new × IsUntouched d.new_cert)
 IsChangeFault d policy (run.NewBase fault) = IsBehindOld d (IsBaseTextFault d.new fault × IsUntouched d.new_cert)
-IsChangeFault d policy run.ReadNewBase = IsBehindOld d ((d.new.failed ≡ true) × IsUntouched d.new_cert)
+IsChangeFault d policy run.ReadNewBase = IsBehindOld d (IsBaseBroken d.new × IsUntouched d.new_cert)
 IsChangeFault d policy (run.NewCert fault) = IsBehindOld d (IsBehindBase d.new d.out (IsCertTextFault d.new_cert fault))
-IsChangeFault d policy run.ReadNewCert = IsBehindOld d (IsBehindBase d.new d.out (d.new_cert.failed ≡ true))
+IsChangeFault d policy run.ReadNewCert = IsBehindOld d (IsBehindBase d.new d.out (IsCertBroken d.new_cert))
 IsChangeFault d policy (run.Write wrote) = IsChangeRun d policy (Err (run.Write wrote))
-IsChangeFault d policy run.Memory = (d.old.failed ≡ false) × (d.old_cert.failed ≡ false) × (d.new.failed ≡ false) × (d.new_cert.failed ≡ false) × IsUntouched d.out
+IsChangeFault d policy run.Memory = IsReadWithin base_limit d.old × IsReadWithin cert_limit d.old_cert × IsReadWithin base_limit d.new × IsReadWithin cert_limit d.new_cert × IsUntouched d.out
 IsChangeFault d policy _ = ⊥

@@ -13,7 +13,7 @@ use Rattle.audit_report.specs.Lines.{verdict_text}
 use Rattle.pageaudit.specs.declared.status.Status.{Status}
 use Rattle.pageaudit.specs.declared.status.Status.TheVariants.{Clear, Faulty}
 use Rattle.pageaudit.specs.Device.{Device, IsUntouched, IsTextWritten}
-use Rattle.pageaudit.specs.Files.{base_limit, cert_limit, WasRead, IsBaseOfFile, IsCertOfFile, IsBaseTextFault, IsCertTextFault}
+use Rattle.pageaudit.specs.Files.{base_limit, cert_limit, WasRead, IsBaseOfFile, IsCertOfFile, IsBaseTextFault, IsCertTextFault, IsBaseBroken, IsCertBroken, IsReadWithin}
 
 -- the status of a verdict: clear exactly for Cleared
 abbrev pub status_of_verdict : Verdict → Status
@@ -48,9 +48,9 @@ pub record IsBehindBase (base_file out : Device) (Why : Type 0) : Type 0 where
 -- the output failed
 abbrev pub IsCheckFault : Device → Device → Device → Policy → RunFault → Type 0
 IsCheckFault base_file cert_file out policy (run.Base fault) = IsBaseTextFault base_file fault × IsUntouched cert_file × IsUntouched out
-IsCheckFault base_file cert_file out policy run.ReadBase = (base_file.failed ≡ true) × IsUntouched cert_file × IsUntouched out
+IsCheckFault base_file cert_file out policy run.ReadBase = IsBaseBroken base_file × IsUntouched cert_file × IsUntouched out
 IsCheckFault base_file cert_file out policy (run.Cert fault) = IsBehindBase base_file out (IsCertTextFault cert_file fault)
-IsCheckFault base_file cert_file out policy run.ReadCert = IsBehindBase base_file out (cert_file.failed ≡ true)
+IsCheckFault base_file cert_file out policy run.ReadCert = IsBehindBase base_file out (IsCertBroken cert_file)
 IsCheckFault base_file cert_file out policy (run.Write wrote) = IsVerdictRun base_file cert_file out policy (Err (run.Write wrote))
-IsCheckFault base_file cert_file out policy run.Memory = (base_file.failed ≡ false) × (cert_file.failed ≡ false) × IsUntouched out
+IsCheckFault base_file cert_file out policy run.Memory = IsReadWithin base_limit base_file × IsReadWithin cert_limit cert_file × IsUntouched out
 IsCheckFault base_file cert_file out policy _ = ⊥

@@ -1,6 +1,7 @@
 -- What a run reads of its files. A file that doesn't tell its bytes is left open.
-use Rattle.std.specs.Prelude.{◌≡◌, ◌≤◌, ◌<◌, ◌++◌, ◌+◌, ℕ, true, false, List, length, Result, Ok, Err}
-use Rattle.std.specs.Io.KnownBytes.{Consumes, IsAtEnd}
+use Rattle.std.specs.Prelude.{◌≡◌, ◌≤◌, ◌<◌, ◌++◌, ◌+◌, ℕ, true, false, List, length, None, Result, Ok, Err}
+use Rattle.std.specs.Io.KnownBytes.{Consumes, IsAtEnd, Keeps}
+use Rattle.devices.specs.Devices.{BrokeWithin, TookWithin}
 use Rattle.frame_records.specs.BaseView.{BaseView}
 use Rattle.base_text.specs.declared.fault.BaseFault.{BaseFault}
 use Rattle.base_text.specs.Whole.{IsTextBase}
@@ -9,7 +10,8 @@ use Rattle.cert_text.specs.declared.fault.LineCause.TheVariants.{Truncated}
 use Rattle.cert_text.specs.declared.fault.ReadFault.{ReadFault}
 use Rattle.cert_text.specs.declared.fault.ReadFault.TheVariants as read
 use Rattle.cert_text.specs.Grammar.{IsCertificateText}
-use Rattle.cert_text.specs.Outcome.{ReaderView, HasRead}
+use Rattle.cert_text.specs.Reading.{cert_fault}
+use Rattle.cert_text.specs.Outcome.{ReaderView, HasRead, lasting}
 use Rattle.checker.specs.Headline.{IsBaseRefused, IsCertRefused}
 use Rattle.base_text.specs.declared.limits.TheConstants.{MOST_TEXT}
 use Rattle.pageaudit.specs.declared.input.TheConstants.{MOST_CERT}
@@ -66,19 +68,38 @@ pub record IsCertTextFault (d : Device) (fault : ReadFault) : Type 0 where
   pub whole : IsTruncated fault → IsAtEnd d.after
   pub first : IsCertRefused text fault
 
--- why a file gives nothing: its text is refused, a read failed, or memory was refused while none had failed
-abbrev pub IsFileFault : {F : Type 0} → (F → Type 0) → Device → FileFault F → Type 0
-IsFileFault IsTextFault d (file.Text fault) = IsTextFault fault
-IsFileFault IsTextFault d file.Broken = d.failed ≡ true
-IsFileFault IsTextFault d file.Memory = d.failed ≡ false
+-- a read of a base's file failed, behind no more bytes than a base may have
+abbrev pub IsBaseBroken : Device → Type 0
+IsBaseBroken d = BrokeWithin base_limit d.before d.after d.failed
+
+-- a read of a certificate's file failed, behind fewer bytes than settle any certificate, which have no line at fault
+pub record IsCertBroken (d : Device) : Type 0 where
+  pub broken : BrokeWithin cert_limit d.before d.after d.failed
+  pub right : lasting (cert_fault broken.bytes) ≡ None
+
+-- no read of a file failed, and no more bytes than the limit were read
+abbrev pub IsReadWithin : ℕ → Device → Type 0
+IsReadWithin limit d = TookWithin limit d.before d.after d.failed
+
+-- why a file gives no base: its text is refused, a read failed, or memory was refused
+abbrev pub IsBaseFileFault : Device → FileFault BaseFault → Type 0
+IsBaseFileFault d (file.Text fault) = IsBaseTextFault d fault
+IsBaseFileFault d file.Broken = IsBaseBroken d
+IsBaseFileFault d file.Memory = IsReadWithin base_limit d
+
+-- or no certificate
+abbrev pub IsCertFileFault : Device → FileFault ReadFault → Type 0
+IsCertFileFault d (file.Text fault) = IsCertTextFault d fault
+IsCertFileFault d file.Broken = IsCertBroken d
+IsCertFileFault d file.Memory = IsReadWithin cert_limit d
 
 abbrev pub IsBaseRead : Device → Result BaseView (FileFault BaseFault) → Type 0
 IsBaseRead d (Ok base) = IsBaseOfFile d base
-IsBaseRead d (Err fault) = IsFileFault (IsBaseTextFault d) d fault
+IsBaseRead d (Err fault) = IsBaseFileFault d fault
 
 abbrev pub IsCertRead : Device → Result CertView (FileFault ReadFault) → Type 0
 IsCertRead d (Ok cert) = IsCertOfFile d cert
-IsCertRead d (Err fault) = IsFileFault (IsCertTextFault d) d fault
+IsCertRead d (Err fault) = IsCertFileFault d fault
 
 -- what a text alone is answered with
 abbrev pub IsBaseAnswer : List ℕ → Result BaseView (FileFault BaseFault) → Type 0
@@ -95,6 +116,7 @@ pub record IsPieceRead (most : ℕ) (d : Device) (stream : List ℕ) (reader : R
   pub given : Consumes d.before d.after piece
   pub whole : count ≡ 0 → IsAtEnd d.after
   pub taken : HasRead reader (stream ++ piece)
+  pub right : lasting (cert_fault (stream ++ piece)) ≡ None
   pub unbroken : d.failed ≡ false
 
 -- the bytes so far have a line at fault, whatever follows
@@ -108,7 +130,9 @@ pub record IsPieceRefused (most : ℕ) (d : Device) (stream : List ℕ) (fault :
 
 abbrev pub IsPieceTaken : ℕ → Device → List ℕ → ReaderView → Result ℕ (FileFault ReadFault) → Type 0
 IsPieceTaken most d stream reader (Ok count) = IsPieceRead most d stream reader count
-IsPieceTaken most d stream reader (Err fault) = IsFileFault (IsPieceRefused most d stream) d fault
+IsPieceTaken most d stream reader (Err (file.Text fault)) = IsPieceRefused most d stream fault
+IsPieceTaken most d stream reader (Err file.Broken) = Keeps d.before d.after × (d.failed ≡ true)
+IsPieceTaken most d stream reader (Err file.Memory) = IsReadWithin most d
 
 -- the first bytes of a certificate's file were taken by its reader, and so many more may be
 pub record IsBeingFed (d : Device) (reader : ReaderView) (room : ℕ) : Type 0 where
@@ -116,6 +140,7 @@ pub record IsBeingFed (d : Device) (reader : ReaderView) (room : ℕ) : Type 0 w
   pub read : WasReadSoFar cert_limit d text
   pub counted : length text + room ≡ cert_limit
   pub taken : HasRead reader text
+  pub right : lasting (cert_fault text) ≡ None
 
 -- all bytes of a certificate's file were taken by its reader
 pub record WasFed (d : Device) (reader : ReaderView) : Type 0 where
@@ -125,4 +150,4 @@ pub record WasFed (d : Device) (reader : ReaderView) : Type 0 where
 
 abbrev pub IsFed : Device → ReaderView → Result (Unit {0}) (FileFault ReadFault) → Type 0
 IsFed d reader (Ok _) = WasFed d reader
-IsFed d reader (Err fault) = IsFileFault (IsCertTextFault d) d fault
+IsFed d reader (Err fault) = IsCertFileFault d fault

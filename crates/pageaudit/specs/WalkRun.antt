@@ -15,7 +15,7 @@ use Rattle.audit_report.specs.Lines.{walk_text, entry_text}
 use Rattle.pageaudit.specs.declared.status.Status.{Status}
 use Rattle.pageaudit.specs.declared.status.Status.TheVariants.{Clear, Faulty}
 use Rattle.pageaudit.specs.Device.{Device, IsUntouched, IsTextWritten}
-use Rattle.pageaudit.specs.Files.{IsBaseOfFile, IsBaseTextFault}
+use Rattle.pageaudit.specs.Files.{base_limit, IsBaseOfFile, IsBaseTextFault, IsBaseBroken, IsReadWithin}
 
 -- what a session prints: a line for each reply, or that of an entry frame that isn't found
 abbrev pub session_text : BaseView → Result (List Reply) OpenFault → List ℕ
@@ -59,9 +59,9 @@ pub record IsBehindKeys (out : Device) (words : List ℕ) (Why : Type 0) : Type 
 abbrev pub IsWalkFault : Device → Device → List ℕ → List ℕ → RunFault → Type 0
 IsWalkFault base_file out caller words (run.Keys offset) = IsUnreadableAt words offset × IsUntouched base_file × IsUntouched out
 IsWalkFault base_file out caller words (run.Base fault) = IsBehindKeys out words (IsBaseTextFault base_file fault)
-IsWalkFault base_file out caller words run.ReadBase = IsBehindKeys out words (base_file.failed ≡ true)
+IsWalkFault base_file out caller words run.ReadBase = IsBehindKeys out words (IsBaseBroken base_file)
 IsWalkFault base_file out caller words (run.Write wrote) = IsSessionRun base_file out caller words (Err (run.Write wrote))
-IsWalkFault base_file out caller words run.Memory = (base_file.failed ≡ false) × IsUntouched out
+IsWalkFault base_file out caller words run.Memory = IsReadWithin base_limit base_file × IsUntouched out
 IsWalkFault base_file out caller words _ = ⊥
 
 -- what the words of keys are answered with

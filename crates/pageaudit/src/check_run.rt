@@ -27,6 +27,7 @@ fn write_verdict<O: Sink>(alloc: Global, out: &mut O, verdict: &Verdict) -> Resu
 /// The base is read whole and judged before anything is asked of the certificate's reader. The certificate is judged as it
 /// comes, in pieces of at most 4,096 bytes, and nothing is read behind its first line at fault. On every fault but `Write`
 /// nothing was written. A device that answered an error isn't asked again.
+#[tactic(auto, using(crate::proofs::Within::base_within, crate::proofs::Within::cert_within))]
 pub fn run_check<B: Source, C: Source, O: Sink>(
     alloc: Global,
     base: &mut B,
