@@ -12,9 +12,9 @@ use frame_records::Lead;
 /// What painting a frame comes to.
 #[derive(Debug, Clone, Copy, PartialEq, Eq)]
 pub enum Painted {
-    /// No service position is written from any start. The cursor stands for just the ends that occur.
+    /// From no start a write counts as one in a service row. The cursor stands for just the ends that occur.
     Clean(AbsCursor),
-    /// The offset of the first body byte that writes a service position from some start.
+    /// The offset of the first body byte whose write counts, from some start, as one in a service row.
     Touches(usize),
 }
 

@@ -38,9 +38,9 @@ pub record LeadsDown (rows : List Row) (f : Frame) (rank : ℕ) : Type 0 where
   pub covered : row_among rows to ≡ Some row
   pub lower : row.rank < rank
 
--- a row is right: its frame is there and open, costs and ranks no more than the certificate says, paints no service cell,
--- and ends where the cursor says; its ways lead outside or to rows; rank 0 is the entry frame's alone, and from any other
--- rank some way leads to a lower one
+-- a row is right: its frame is there and open, costs and ranks no more than the certificate says, writes nothing that counts
+-- as written in a service row, and ends where the cursor says; its ways lead outside or to rows; rank 0 is the entry frame's
+-- alone, and from any other rank some way leads to a lower one
 pub record IsGoodRow (caller : List ℕ) (base : BaseView) (cert : CertView) (id : Id) (rank : ℕ) (cursor : AbsCursor) : Type 0 where
   pub frame : Frame
   pub found : frame_at base id ≡ Some frame

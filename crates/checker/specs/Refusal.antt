@@ -27,7 +27,7 @@ pub record IsFair (caller : List ℕ) (cert : CertView) (row : Row) (f : Frame) 
   pub price : f.price ≤ cert.ceiling
   pub most : row.rank ≤ cert.keyings
 
--- K9 and K10 hold: it paints no service cell, and ends where the cursor says
+-- K9 and K10 hold: it writes nothing that counts as written in a service row, and ends where the cursor says
 pub record IsPaintedAs (row : Row) (f : Frame) : Type 0 where
   pub clean : IsClean f.lead f.body
   pub ends : Ends f.lead f.body row.cursor

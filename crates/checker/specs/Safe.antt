@@ -16,7 +16,7 @@ use Rattle.session_machine.specs.Safe.{SafeSession}
 use Rattle.cert_table.specs.declared.row.Row.{Row}
 use Rattle.checker.specs.Good.{is_covered}
 
--- the base has the frame, and from no state of the terminal its body writes a service cell
+-- the base has the frame, and from no state of the terminal its body writes what counts as written in a service row
 pub record IsCleanAt (base : BaseView) (id : Id) : Type 0 where
   pub frame : Frame
   pub found : frame_at base id ≡ Some frame

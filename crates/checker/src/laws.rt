@@ -21,7 +21,7 @@ pub fn rows_are_clean()
 {}
 
 /// A certificate is refused for a cause exactly where that cause's condition is the first that fails: K9 with the offset of
-/// the first byte that some state of the terminal lets write a service cell, K10 by the ends that occur.
+/// the first byte whose write, from some state of the terminal, counts as one in a service row, K10 by the ends that occur.
 pub fn refused_is_first()
     ensures { RefusedIsFirst }
 {}
