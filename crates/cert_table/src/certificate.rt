@@ -135,14 +135,14 @@ impl<C: Cover + Drop> Certificate<C> {
         self.entry
     }
 
-    /// The most that a covered frame costs.
+    /// The most that a covered frame may cost, as the certificate says, in pence.
     pub fn ceiling(&self) -> Pence
         ensures { result ≡ self.now.ceiling }
     {
         self.ceiling
     }
 
-    /// The most keys that lead from a covered frame back to the entry frame.
+    /// The most keyings that a covered frame may need to regain the entry frame, as the certificate says.
     pub fn keyings(&self) -> u16
         ensures { result ≡ self.now.keyings }
     {

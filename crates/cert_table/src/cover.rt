@@ -31,11 +31,11 @@ pub trait Cover {
         requires { i < length (rows self.now) }
         ensures { slice_get (rows self.now) i ≡ Some result.now };
 
-    /// The row of an id.
+    /// The row of an id; `None` where the id has no row.
     fn row_of(&self, id: FrameId) -> Option<&Row>
         ensures { option_copied result ≡ row_among (rows self.now) id };
 
-    /// The rank of an id's row.
+    /// The rank of an id's row; `None` where the id has no row.
     fn rank_of(&self, id: FrameId) -> Option<u16>
         ensures { result ≡ option_map (λ r. r.rank) (row_among (rows self.now) id) };
 

@@ -21,6 +21,7 @@
 //! A caller's own proved function, and what memory the calls take: `docs/CHECKER.md`.
 //!
 //! - [`Policy`]: what a centre asks of its bases.
+//! - [`check_counted`], [`Count`]: the same verdict, and what the check took.
 //! - [`check_bytes`], [`InputFault`]: the same of two texts; the headline stands on this call.
 //! - [`Verdict`], [`Cause`]: the first condition that fails, in one order.
 //! - [`check_change`], [`ChangeVerdict`]: whether a new edition may take an old one's place while callers are inside; the law

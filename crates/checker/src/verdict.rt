@@ -38,6 +38,8 @@ pub enum Cause {
 /// What the check answers.
 #[derive(Debug, Clone, Copy, PartialEq, Eq)]
 pub enum Verdict {
+    /// Each condition holds.
     Cleared,
+    /// The first condition that fails.
     Refused(Cause),
 }

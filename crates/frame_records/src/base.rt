@@ -66,14 +66,15 @@ impl Base {
         }
     }
 
-    /// The frame of an id.
+    /// The frame of an id; `None` where the base lacks it.
     pub fn find(&self, id: FrameId) -> Option<&Frame>
         ensures { option_copied result ≡ frame_at self.now id }
     {
         self.find_counted(id).0
     }
 
-    /// The frame of an id, and how many frames were compared with it: at most 16. Takes no memory.
+    /// The frame of an id, `None` where the base lacks it, and how many frames were compared with it: at most 16. Takes no
+    /// memory.
     pub fn find_counted(&self, id: FrameId) -> (Option<&Frame>, u32)
         ensures value { option_copied result.0 ≡ frame_at self.now id }
         ensures most { result.1 ≤ 16 }

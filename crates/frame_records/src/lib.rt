@@ -9,7 +9,7 @@
 //! base.seek(id, &Groups::read("7,9")?) // Found with its price, Closed or Missing
 //! ```
 //!
-//! - [`Pence`], [`GroupNo`]: numbers within the limits of this profile.
+//! - [`Pence`], [`GroupNo`]: numbers within their limits.
 //! - [`Groups`], [`GroupsFault`], [`GroupFlaw`]: the closed user groups of a caller, and why a text lists none.
 //! - [`cut`]: what stands before a separator, and behind it.
 //! - [`Frame`], [`Lead`], [`Body`]: a frame's record.

@@ -105,7 +105,7 @@ impl Session {
         }
     }
 
-    /// The outside page for which the caller left.
+    /// The outside page for which the caller left; `None` while the caller is at a frame.
     pub fn left(&self) -> Option<PageNo>
         ensures { result ≡ left_for self.now.state }
     {
@@ -125,7 +125,7 @@ impl Session {
         }
     }
 
-    /// A remembered frame, the latest at 0.
+    /// A remembered frame, the latest at 0; `None` behind the last, and where the caller left.
     pub fn remembered_at(&self, i: usize) -> Option<FrameId>
         ensures { result ≡ slice_get (remembered_of self.now.state) i }
     {

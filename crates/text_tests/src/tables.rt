@@ -1,4 +1,4 @@
-//! Tables built by hand; which rows make none is this profile's own list of refusals.
+//! Tables built by hand; which rows make none is these rules' own list of refusals.
 
 use abstract_paint::{AbsCursor, Pend, Place};
 use assertions::{same, same_in};
