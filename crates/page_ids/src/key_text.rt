@@ -1,4 +1,4 @@
-ghost use Rattle.std.specs.Prelude.{◌≡◌, ◌≤◌, ◌+◌, ◌++◌, IfOk, OnOk, IfSome, length, drop, map};
+ghost use Rattle.std.specs.Prelude.{◌≡◌, ◌≤◌, ◌+◌, ◌++◌, IfOk, OnOk, MatchResult, IfSome, length, drop, map};
 ghost use Rattle.page_ids.specs.declared.key.Key.{Key};
 ghost use Rattle.page_ids.specs.Keys.{key_word, key_at, keys_text, IsRead};
 ghost use Rattle.page_ids.specs.KeyLaws.{KeysAreTexts};
@@ -57,7 +57,7 @@ pub fn keys_read(alloc: Global, text: &str) -> Result<KeyList, IdFault>
 
 /// Writes a key's word behind a text. Where a growth is refused nothing was written.
 pub fn push_key(text: &mut Vec<u8>, key: Key) -> Result<(), AllocError>
-    ensures { OnOk result (text.new.items ≡ text.old.items ++ key_word key) }
+    ensures { MatchResult result (λ _. text.new.items ≡ text.old.items ++ key_word key) (λ _. text.new.items ≡ text.old.items) }
 {
     match key {
         Key::Route(digit) => text.push(b'0' + digit.get())?,

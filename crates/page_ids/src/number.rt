@@ -1,4 +1,4 @@
-ghost use Rattle.std.specs.Prelude.{◌≡◌, ◌≤◌, ◌++◌, IfOk, OnOk, decimal};
+ghost use Rattle.std.specs.Prelude.{◌≡◌, ◌≤◌, ◌++◌, IfOk, MatchResult, decimal};
 ghost use Rattle.std.specs.List.{list_all};
 ghost use Rattle.std.specs.Char.{is_ascii_digit};
 ghost use Rattle.std.specs.Option.{SomeIff};
@@ -74,7 +74,7 @@ pub fn number_read(bytes: &[u8], most: u32) -> Result<u32, NumberFault>
 
 /// Writes a number behind a text, in decimal. Where a growth is refused nothing was written.
 pub fn push_number(text: &mut Vec<u8>, number: u64) -> Result<(), AllocError>
-    ensures { OnOk result (text.new.items ≡ text.old.items ++ decimal number) }
+    ensures { MatchResult result (λ _. text.new.items ≡ text.old.items ++ decimal number) (λ _. text.new.items ≡ text.old.items) }
 {
     let mut buffer = Buffer::new();
     let digits = buffer.format(number);
