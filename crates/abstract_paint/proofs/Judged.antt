@@ -49,9 +49,3 @@ folded_law lead body (b ∷ bs) i x e f =
 
 pub painted_law : (lead : Lead) (body : List ℕ) → IsPainted lead body (paint_of lead body)
 painted_law lead body = folded_law lead body body 0 (lead_end lead) refl (record { ends = nothing_sent lead body; valid = lead_cursor lead; clean = λ j lt h. absurd (omega arith) })
-
--- one byte of the fold
-pub fold_step : (body : List ℕ) (i : ℕ) (x : AbsCursor) → i < length body → paint_from x i (drop i body) ≡ or_touches i (λ y. paint_from y (i + 1) (drop (i + 1) body)) (cursor_step x (get_or body i 0))
-fold_step body i x lt =
-    let cut : drop i body ≡ get_or body i 0 ∷ drop (i + 1) body = rw (add-one, drop-cons body i 0) refl in
-    ap (paint_from x i) cut

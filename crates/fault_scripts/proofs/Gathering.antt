@@ -4,7 +4,7 @@ use Rattle.std.specs.List.{flat_map}
 use Rattle.std.proofs.lemmas.Bool.Decides.{nat_tests}
 use Rattle.std.proofs.lemmas.List.{append-nil, map_push}
 use Rattle.std.proofs.lemmas.List.Concat.{flat_map-append}
-use Rattle.std.proofs.lemmas.List.Elements.{All-nil, All-push, All-weaker, Contains-append_left, Contains-push}
+use Rattle.std.proofs.lemmas.List.Elements.{All-push, All-weaker, Contains-append_left, Contains-push}
 use Rattle.std.proofs.lemmas.Option.{same_Some, slice_get-map}
 use Rattle.frame_records.specs.declared.frame.Frame.{Frame}
 use Rattle.frame_records.specs.BaseView.{BaseView, frame_at}
@@ -14,9 +14,6 @@ use Rattle.finder.specs.declared.found.Discovered.{Discovered}
 use Rattle.fault_scripts.specs.declared.table.Table.{Table}
 use Rattle.fault_scripts.specs.Gathered.{greater, row_of, row_by, row_at, price_at, rank_at, IsMost, IsGathered}
 use Rattle.fault_scripts.proofs.Lists.{of_all, place_of}
-
-pub most_none : IsMost [] 0
-most_none = record { at_most = All-nil (λ (v : ℕ). v ≤ 0); some = inr refl }
 
 most_more : (values : List ℕ) (most value : ℕ) → IsMost values most → IsMost (values ++ value ∷ []) (greater most value)
 most_more values most value is = by (nat_lt most value) refl where
@@ -38,14 +35,6 @@ most_more values most value is = by (nat_lt most value) refl where
   by : (b : Bool) → nat_lt most value ≡ b → IsMost (values ++ value ∷ []) (cond b value most)
   by true e = taken (grind (arith, nat_tests))
   by false e = kept (grind (arith, nat_tests))
-
-pub gathered_none : (base : BaseView) (t : Table) → t.rows.items ≡ [] → t.ceiling ≡ 0 → t.keyings ≡ 0
-    → IsGathered base [] t
-gathered_none base t rows ceiling keyings = record {
-  rows = rows;
-  ceiling = subst (IsMost []) (sym ceiling) most_none;
-  keyings = subst (IsMost []) (sym keyings) most_none;
-}
 
 pub gathered_more : (base : BaseView) (frames : List Discovered) (d : Discovered) (frame : Frame) (old new : Table)
     → frame_at base d.id ≡ Some frame → IsGathered base frames old

@@ -57,11 +57,6 @@ module _ (caller : List ℕ) (base : BaseView) (f : Frame) (way : Way) (to : Id)
     found = λ place some. let no = sym nowhere ∙ some in absurd cc;
   }
 
--- it isn't offered
-pub unoffered : (caller : List ℕ) (base : BaseView) (f : Frame) (way : Way) → None ≡ sought f way
-    → IsTarget caller base f way NotOffered
-unoffered caller base f way none = record { aim = ap (λ o. aim_of (offered_by caller base way o)) none; found = λ place is. absurd cc }
-
 not_found : (t : Target) → place_of t ≡ None → aim_at t ≡ aim.Found → ⊥
 not_found NotOffered none e = absurd cc
 not_found (Found place) none e = absurd cc
