@@ -11,10 +11,10 @@ use Rattle.std.specs.String.{string_cmp}
 use Rattle.toml.specs.Data.{Data, Members, no_members, member, get_member}
 use Rattle.toml.specs.View.{members_view}
 use Rattle.toml.specs.declared.value.Value.{Value}
+use Rattle.frame_records.specs.Steps.{◌>>=◌}
 use Rattle.base_text.specs.declared.fault.Cause.{Cause}
 use Rattle.base_text.specs.declared.fault.Field.TheVariants as field
 use Rattle.base_text.specs.declared.keys.Place.TheVariants as place
-use Rattle.base_text.specs.Outcome.{◌>>=◌}
 use Rattle.base_text.specs.Fields.{page_of}
 use Rattle.base_text.specs.Keys.{digit_key, is_digit_key, has_only_keys}
 use Rattle.base_text.specs.Routes.{digit_of, routes_from, all_routes, no_routes}

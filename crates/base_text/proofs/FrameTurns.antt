@@ -1,10 +1,11 @@
 -- The frames of a text, one by one.
 use Rattle.std.proofs.Common.{◌≡◌, ◌+◌, List, [], ◌∷◌, ◌++◌, length, length-append, refl, ap, sym, ◌∙◌, append_assoc, Result, Ok, Err}
 use Rattle.frame_records.specs.declared.frame.Frame.{Frame}
+use Rattle.frame_records.specs.Steps.{◌>>=◌}
 use Rattle.toml.specs.View.{view, items_view}
 use Rattle.toml.specs.declared.value.Value.{Value}
 use Rattle.base_text.specs.declared.fault.BaseFault.{BaseFault}
-use Rattle.base_text.specs.Outcome.{◌>>=◌, at_index}
+use Rattle.base_text.specs.Outcome.{at_index}
 use Rattle.base_text.specs.Frames.{frame_of}
 use Rattle.base_text.specs.FrameList.{frames_from}
 

@@ -1,11 +1,12 @@
 -- The frames of a text, or the first fault with its index.
 use Rattle.std.specs.Prelude.{ℕ, ◌+◌, List, [], ◌∷◌, Option, Some, None, Result, Ok, Err}
 use Rattle.frame_records.specs.declared.frame.Frame.{Frame}
+use Rattle.frame_records.specs.Steps.{◌>>=◌}
 use Rattle.toml.specs.Data.{Data, array, Items, no_items, item}
 use Rattle.base_text.specs.declared.fault.BaseFault.{BaseFault}
 use Rattle.base_text.specs.declared.fault.Cause.TheVariants.{WrongKind}
 use Rattle.base_text.specs.declared.fault.Field.TheVariants as field
-use Rattle.base_text.specs.Outcome.{◌>>=◌, at_index, top_fault}
+use Rattle.base_text.specs.Outcome.{at_index, top_fault}
 use Rattle.base_text.specs.Frames.{frame_of}
 
 -- frames in turn, the first with this index

@@ -1,6 +1,7 @@
 -- A frame, or its first cause.
 use Rattle.std.specs.Prelude.{if◌then◌else◌, codes, Result, Ok, Err}
 use Rattle.frame_records.specs.declared.frame.Frame.{Frame}
+use Rattle.frame_records.specs.Steps.{◌>>=◌}
 use Rattle.toml.specs.Data.{Data, table, Members, get_member}
 use Rattle.base_text.specs.declared.fault.Cause.{Cause}
 use Rattle.base_text.specs.declared.fault.Cause.TheVariants.{UnknownKey, WrongKind}
@@ -8,7 +9,6 @@ use Rattle.base_text.specs.declared.fault.Field.TheVariants as field
 use Rattle.base_text.specs.declared.frames.Head.{Head}
 use Rattle.base_text.specs.declared.frames.Shown.{Shown}
 use Rattle.base_text.specs.declared.keys.Place.TheVariants as place
-use Rattle.base_text.specs.Outcome.{◌>>=◌}
 use Rattle.base_text.specs.Keys.{has_only_keys}
 use Rattle.base_text.specs.Fields.{id_of, price_of, group_of, next_of, lead_of}
 use Rattle.base_text.specs.Routes.{routes_of}

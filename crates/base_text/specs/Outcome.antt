@@ -4,12 +4,6 @@ use Rattle.base_text.specs.declared.fault.Cause.{Cause}
 use Rattle.base_text.specs.declared.fault.Cause.TheVariants.{Memory}
 use Rattle.base_text.specs.declared.fault.BaseFault.{BaseFault}
 
--- what follows a value; a cause ends it
-infixl 10 ◌>>=◌
-abbrev pub ◌>>=◌ : {A B E : Type 0} → Result A E → (A → Result B E) → Result B E
-(Ok a) >>= f = f a
-(Err c) >>= f = Err c
-
 -- the answer is the outcome, or want of memory
 abbrev pub OrMemory : {A : Type 0} → Result A Cause → Result A Cause → Type 0
 OrMemory o (Ok a) = o ≡ Ok a

@@ -1,11 +1,11 @@
 -- The routes of a frame, in the order of their digits.
 use Rattle.std.specs.Prelude.{ℕ, suc, zero, ◌+◌, ◌-◌, if◌then◌else◌, List, [], ◌∷◌, Option, Some, None, Result, Ok, Err}
 use Rattle.toml.specs.Data.{Data, table, Members, get_member}
+use Rattle.frame_records.specs.Steps.{◌>>=◌}
 use Rattle.base_text.specs.declared.fault.Cause.{Cause}
 use Rattle.base_text.specs.declared.fault.Cause.TheVariants.{UnknownKey, WrongKind}
 use Rattle.base_text.specs.declared.fault.Field.TheVariants as field
 use Rattle.base_text.specs.declared.keys.Place.TheVariants as place
-use Rattle.base_text.specs.Outcome.{◌>>=◌}
 use Rattle.base_text.specs.Keys.{has_only_keys, digit_key}
 use Rattle.base_text.specs.Fields.{page_of}
 

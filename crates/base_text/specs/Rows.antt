@@ -2,11 +2,11 @@
 use Rattle.std.specs.Prelude.{ℕ, ◌+◌, Bool, nat_lt, if◌then◌else◌, List, [], ◌∷◌, ◌++◌, length, Result, Ok, Err}
 use Rattle.std.specs.Str.{chars}
 use Rattle.toml.specs.Data.{Data, string, array, Items, no_items, item}
+use Rattle.frame_records.specs.Steps.{◌>>=◌}
 use Rattle.base_text.specs.declared.fault.Cause.{Cause}
 use Rattle.base_text.specs.declared.fault.Cause.TheVariants.{WrongKind, Range, RowTooLong, RowCode}
 use Rattle.base_text.specs.declared.fault.Field.TheVariants as field
 use Rattle.base_text.specs.RowCodes.{are_row_codes}
-use Rattle.base_text.specs.Outcome.{◌>>=◌}
 
 -- the row of code points that are few enough
 abbrev pub codes_or_cause : List ℕ → Result (List ℕ) Cause

@@ -3,11 +3,12 @@ use Rattle.std.specs.Prelude.{ℕ, List, codes, length, nat_lt, if◌then◌else
 use Rattle.std.specs.Str.{is_utf8}
 use Rattle.toml.specs.Data.{Members, get_member}
 use Rattle.toml.specs.Parse.{parse_document}
+use Rattle.frame_records.specs.Steps.{◌>>=◌}
 use Rattle.base_text.specs.declared.limits.TheConstants.{MOST_TEXT}
 use Rattle.base_text.specs.declared.fault.BaseFault.{BaseFault}
 use Rattle.base_text.specs.declared.fault.Cause.TheVariants.{UnknownKey, TooLong, NotToml}
 use Rattle.base_text.specs.declared.keys.Place.TheVariants as place
-use Rattle.base_text.specs.Outcome.{◌>>=◌, at_top, top_fault}
+use Rattle.base_text.specs.Outcome.{at_top, top_fault}
 use Rattle.base_text.specs.Keys.{has_only_keys}
 use Rattle.base_text.specs.Fields.{entry_of, outside_of}
 use Rattle.base_text.specs.FrameList.{frames_of}

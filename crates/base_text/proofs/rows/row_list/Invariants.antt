@@ -1,7 +1,7 @@
 use Rattle.std.proofs.Common.{◌≡◌, ◌++◌, drop, Ok}
 use Rattle.toml.specs.View.{items_view}
+use Rattle.frame_records.specs.Steps.{◌>>=◌}
 use Rattle.base_text.specs.Rows.{rows_of}
-use Rattle.base_text.specs.Outcome.{◌>>=◌}
 use Rattle.base_text.proofs.rows.row_list.Given as goal
 
 abbrev pub invariant-loop-value : goal.invariant-loop-value
