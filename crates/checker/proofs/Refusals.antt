@@ -231,9 +231,9 @@ module _ (caller : List ℕ) (base : BaseView) (cert : CertView) where
   told_of row f (cause.NextNotCovered id) h =
       past_paint row f (cause.NextNotCovered row.id) h.1 h.2 (here (lost_fault row.id (lost_way base cert.rows f)) _ (cause.NextNotCovered row.id) (ap (lost_fault row.id) (told_way f Next h.3))) ∙ ap (λ (i : Id). Some (cause.NextNotCovered i)) h.0
   told_of row f (cause.RankZero id) h =
-      past_paint row f (cause.RankZero row.id) h.1 h.2 (ways_none row f (rank_fault base cert.rows row f) h.3 (cause.RankZero row.id) (rank_zero row f (row.rank == 0) refl h.4 h.5)) ∙ ap (λ (i : Id). Some (cause.RankZero i)) h.0
+      past_paint row f (cause.RankZero row.id) h.1 h.2 (ways_none row f (rank_fault base row.id row.rank (is_down cert.rows row.rank f)) h.3 (cause.RankZero row.id) (rank_zero row f (row.rank == 0) refl h.4 h.5)) ∙ ap (λ (i : Id). Some (cause.RankZero i)) h.0
   told_of row f (cause.NoWayDown id) h =
-      past_paint row f (cause.NoWayDown row.id) h.1 h.2 (ways_none row f (rank_fault base cert.rows row f) h.3 (cause.NoWayDown row.id) (rank_above row f (row.rank == 0) refl h.4 h.5)) ∙ ap (λ (i : Id). Some (cause.NoWayDown i)) h.0
+      past_paint row f (cause.NoWayDown row.id) h.1 h.2 (ways_none row f (rank_fault base row.id row.rank (is_down cert.rows row.rank f)) h.3 (cause.NoWayDown row.id) (rank_above row f (row.rank == 0) refl h.4 h.5)) ∙ ap (λ (i : Id). Some (cause.NoWayDown i)) h.0
   told_of row f cause.EntryDiffers h = absurd h
   told_of row f cause.CeilingAbove h = absurd h
   told_of row f cause.KeyingsAbove h = absurd h

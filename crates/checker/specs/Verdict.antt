@@ -107,12 +107,12 @@ way_down rows rank f way = offered_down rows rank (sought f way)
 abbrev pub is_down : List Row → ℕ → Frame → Bool
 is_down rows rank f = list_any (way_down rows rank f) ways
 
--- K13 and K14
-abbrev pub rank_fault : BaseView → List Row → Row → Frame → Option Cause
-rank_fault base rows row f =
-    if row.rank == 0
-    then unless (id_eq row.id (entry_of base)) (cause.RankZero row.id)
-    else unless (is_down rows row.rank f) (cause.NoWayDown row.id)
+-- K13 and K14, by whether some way leads down
+abbrev pub rank_fault : BaseView → Id → ℕ → Bool → Option Cause
+rank_fault base id rank down =
+    if rank == 0
+    then unless (id_eq id (entry_of base)) (cause.RankZero id)
+    else unless down (cause.NoWayDown id)
 
 -- K6, K7 and K8: the frame by itself
 abbrev pub frame_fault : List ℕ → CertView → Row → Frame → Option Cause
@@ -130,7 +130,7 @@ paint_fault row (Clean cursor) = unless (same_cursor cursor row.cursor) (cause.C
 abbrev pub ways_fault : BaseView → List Row → Row → Frame → Option Cause
 ways_fault base rows row f =
     lost_fault row.id (lost_way base rows f)
-    otherwise rank_fault base rows row f
+    otherwise rank_fault base row.id row.rank (is_down rows row.rank f)
 
 -- K6 to K14
 abbrev pub found_fault : List ℕ → BaseView → CertView → Row → Frame → Option Cause

@@ -1,8 +1,5 @@
-ghost use Rattle.std.specs.Prelude.{◌≡◌, ◌==◌, if◌then◌else◌};
-ghost use Rattle.page_ids.specs.Ids.{id_eq};
-ghost use Rattle.frame_records.specs.Seek.{entry_of};
-ghost use Rattle.checker.specs.declared.verdict.Cause.TheVariants as cause;
-ghost use Rattle.checker.specs.Verdict.{◌otherwise◌, unless, lost_cause, lost_fault};
+ghost use Rattle.std.specs.Prelude.{◌≡◌};
+ghost use Rattle.checker.specs.Verdict.{◌otherwise◌, lost_cause, lost_fault, rank_fault};
 
 use crate::verdict::Cause;
 use frame_records::Base;
@@ -10,7 +7,7 @@ use page_ids::{FrameId, Way};
 
 // K13 and K14, by whether some way leads down.
 fn rank_cause(base: &Base, id: FrameId, rank: u16, down: bool) -> Option<Cause>
-    ensures { result ≡ (if rank == 0 then unless (id_eq id (entry_of base.now)) (cause.RankZero id) else unless down (cause.NoWayDown id)) }
+    ensures { result ≡ rank_fault base.now id rank down }
 {
     if rank == 0 {
         if id == base.entry_frame() {
@@ -43,7 +40,7 @@ pub fn ways_cause(
     lost: Option<Way>,
     down: bool,
 ) -> Option<Cause>
-    ensures { result ≡ (lost_fault id lost otherwise (if rank == 0 then unless (id_eq id (entry_of base.now)) (cause.RankZero id) else unless down (cause.NoWayDown id))) }
+    ensures { result ≡ (lost_fault id lost otherwise rank_fault base.now id rank down) }
 {
     match lost {
         Some(way) => Some(lost_cause(id, &way)),
