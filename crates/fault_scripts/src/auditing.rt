@@ -1,7 +1,7 @@
-ghost use Rattle.std.specs.Prelude.{◌≡◌, ℕ, ◌∷◌, [], IfOk};
-ghost use Rattle.frame_records.specs.declared.base.Sought.TheVariants as sought;
+ghost use Rattle.std.specs.Prelude.{◌≡◌, ◌∷◌, [], IfOk};
 ghost use Rattle.frame_records.specs.BaseView.{IsBase};
-ghost use Rattle.frame_records.specs.Seek.{entry_of, seek_entry};
+ghost use Rattle.frame_records.specs.Seek.{entry_of};
+ghost use Rattle.finder.specs.Walks.{EntryIsFound};
 ghost use Rattle.fault_scripts.specs.Makers.{plain_fault};
 ghost use Rattle.fault_scripts.specs.Faults.{AreFaults};
 ghost use Rattle.fault_scripts.specs.Judged.{IsWhole};
@@ -81,7 +81,7 @@ fn certificate_of(base: &Base, groups: &Groups, table: Table) -> Certificate
 
 // The outcome of a base whose entry frame is found.
 fn audit_found(alloc: Global, base: &Base, policy: &Policy) -> Result<Outcome, AllocError>
-    requires { (price : ℕ) × (seek_entry policy.now.groups base.now ≡ sought.Found price) }
+    requires { EntryIsFound policy.now.groups base.now }
     ensures { IfOk result (IsOutcome base.now policy.now) }
 {
     let judge = judged(alloc, base, policy)?;
