@@ -1,10 +1,11 @@
 -- The least start is one.
 use Rattle.std.proofs.Common.{◌≡◌, ℕ, ◌+◌, ◌*◌, arith, inl, inr, refl, ap, sym, ◌∙◌, subst, List, Bool, true, false, Some, None}
 use Rattle.std.proofs.lemmas.Bool.{cases_lt}
+use Rattle.std.specs.Int.{from_bool}
 use Rattle.frame_records.specs.declared.frame.Lead.{Lead}
 use Rattle.terminal_codes.specs.Starts.{StartTouches}
 use Rattle.abstract_paint.specs.declared.start.Start.{Start}
-use Rattle.abstract_paint.specs.Start.{caret_at, flag_number, IsLeastStart, StartsAreOne}
+use Rattle.abstract_paint.specs.Start.{caret_at, IsLeastStart, StartsAreOne}
 use Rattle.abstract_paint.proofs.Exact.{first_is_one}
 
 abbrev start : ℕ → Bool → ℕ → Start
@@ -15,7 +16,7 @@ same_start a b e f g =
     ap (λ (p : ℕ). start p a.pending a.offset) e ∙ (ap (λ (q : Bool). start b.at q a.offset) f ∙ ap (λ (i : ℕ). start b.at b.pending i) g)
 
 -- a number is that of one start
-number_is_one : (p r : ℕ) (q s : Bool) → 2 * p + flag_number q ≡ 2 * r + flag_number s → (p ≡ r) × (q ≡ s)
+number_is_one : (p r : ℕ) (q s : Bool) → 2 * p + from_bool q ≡ 2 * r + from_bool s → (p ≡ r) × (q ≡ s)
 number_is_one p r true true e = (omega arith, refl)
 number_is_one p r true false e = absurd (omega arith)
 number_is_one p r false true e = absurd (omega arith)
@@ -24,8 +25,8 @@ number_is_one p r false false e = (omega arith, refl)
 least_is_one : (lead : Lead) (body : List ℕ) (a b : Start) → IsLeastStart lead body a → IsLeastStart lead body b → a ≡ b
 least_is_one lead body a b f g =
     let same : a.offset ≡ b.offset = first_is_one lead body a.offset b.offset f.offset g.offset in
-    let n = 2 * a.at + flag_number a.pending in
-    let m = 2 * b.at + flag_number b.pending in
+    let n = 2 * a.at + from_bool a.pending in
+    let m = 2 * b.at + from_bool b.pending in
     elim (cases_lt n m) [
       | inl l ↦ absurd (g.least (caret_at a.at a.pending) l (subst (λ (i : ℕ). StartTouches lead body i (caret_at a.at a.pending)) same f.touch))
       | inr ge ↦

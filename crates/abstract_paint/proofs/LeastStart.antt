@@ -3,6 +3,7 @@ use Rattle.std.proofs.Common.{◌≡◌, ℕ, zero, suc, ◌+◌, ◌*◌, ◌/�
 use Rattle.std.proofs.Common as std
 use Rattle.std.proofs.lemmas.Bool.Decides.{nat_tests}
 use Rattle.std.proofs.lemmas.List.FromFn.{length-range_with_len, get_or-range_with_len}
+use Rattle.std.specs.Int.{from_bool}
 use Rattle.std.specs.List.{find, range_with_len}
 use Rattle.std.specs.Option.{MatchOption}
 use Rattle.frame_records.specs.declared.frame.Lead.{Lead}
@@ -15,7 +16,7 @@ use Rattle.abstract_paint.specs.declared.start.Start.{Start}
 use Rattle.abstract_paint.specs.declared.painting.Painted.{Painted}
 use Rattle.abstract_paint.specs.declared.painting.Painted.TheVariants.{Clean, Touches}
 use Rattle.abstract_paint.specs.Paint.{paint_of, IsPainted}
-use Rattle.abstract_paint.specs.Start.{flag_number, start_number, IsStart, IsStartAt}
+use Rattle.abstract_paint.specs.Start.{start_number, IsStart, IsStartAt}
 use Rattle.abstract_paint.specs.StartOf.{caret_numbered, start_touches, least_number, start_at, start_of}
 use Rattle.abstract_paint.proofs.Judged.{painted_law}
 use Rattle.abstract_paint.proofs.StepLaw.{caret}
@@ -43,11 +44,11 @@ even_test : (n p : ℕ) → 2 * p + 0 ≡ n → false ≡ (n % 2 == 1)
 even_test n p e = let none : n % 2 ≡ 0 = omega arith in rw none refl
 
 -- a start is that of its number
-caret_by : (n p : ℕ) (q : Bool) → 2 * p + flag_number q ≡ n → caret p q ≡ caret_numbered n
+caret_by : (n p : ℕ) (q : Bool) → 2 * p + from_bool q ≡ n → caret p q ≡ caret_numbered n
 caret_by n p true e = same_caret p (n / 2) true (n % 2 == 1) (omega arith) (odd_test n p e)
 caret_by n p false e = same_caret p (n / 2) false (n % 2 == 1) (omega arith) (even_test n p e)
 
-number_by : (n r : ℕ) → n % 2 ≡ r → 2 * (n / 2) + flag_number (r == 1) ≡ n
+number_by : (n r : ℕ) → n % 2 ≡ r → 2 * (n / 2) + from_bool (r == 1) ≡ n
 number_by n zero e = omega arith
 number_by n (suc zero) e = omega arith
 number_by n (suc (suc r)) e = absurd (omega arith)
@@ -56,7 +57,7 @@ number_by n (suc (suc r)) e = absurd (omega arith)
 number_is : (n : ℕ) → start_number (caret_numbered n) ≡ n
 number_is n = number_by n (n % 2) refl
 
-small : (p : ℕ) (q : Bool) → p < 960 → 2 * p + flag_number q < 1920
+small : (p : ℕ) (q : Bool) → p < 960 → 2 * p + from_bool q < 1920
 small p true lt = omega arith
 small p false lt = omega arith
 

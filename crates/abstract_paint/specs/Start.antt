@@ -1,5 +1,6 @@
 -- The least start that shows why a frame isn't clean.
-use Rattle.std.specs.Prelude.{◌≡◌, ℕ, ◌<◌, ◌+◌, ◌*◌, Bool, true, false, List, Option, Some, None}
+use Rattle.std.specs.Prelude.{◌≡◌, ℕ, ◌<◌, ◌+◌, ◌*◌, Bool, List, Option, Some, None}
+use Rattle.std.specs.Int.{from_bool}
 use Rattle.frame_records.specs.declared.frame.Lead.{Lead}
 use Rattle.terminal_codes.specs.declared.caret.Caret.{Caret}
 use Rattle.terminal_codes.specs.Touch.{IsClean, IsFirstTouch}
@@ -10,14 +11,9 @@ use Rattle.abstract_paint.specs.declared.start.Start.{Start}
 abbrev pub caret_at : ℕ → Bool → Caret
 caret_at p q = record { at = p; pending = q }
 
--- not pending comes before pending
-abbrev pub flag_number : Bool → ℕ
-flag_number false = 0
-flag_number true = 1
-
 -- the starts in order: by position, then not pending before pending
 abbrev pub start_number : Caret → ℕ
-start_number c = 2 * c.at + flag_number c.pending
+start_number c = 2 * c.at + from_bool c.pending
 
 -- the least start that touches at the first offset at which some terminal does
 pub record IsLeastStart (lead : Lead) (body : List ℕ) (s : Start) : Type 0 where

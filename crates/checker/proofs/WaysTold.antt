@@ -2,6 +2,7 @@
 use Rattle.std.proofs.Common.{◌≡◌, ℕ, ◌+◌, Bool, true, false, not, ◌||◌, List, [], ◌∷◌, ◌++◌, Option, Some, None, refl, sym, ◌∙◌, ap, arith, is_some, if◌then◌else◌, cond}
 use Rattle.std.specs.Prelude.{find}
 use Rattle.std.specs.Option.{option_or}
+use Rattle.std.specs.Int.{from_bool}
 use Rattle.std.specs.List.{list_any}
 use Rattle.std.proofs.lemmas.List.Folds.{find-append, list_any-append}
 use Rattle.std.proofs.lemmas.List.FromFn.{map-range_with_len_more, sum_by-map-range_with_len_more}
@@ -14,7 +15,7 @@ use Rattle.cert_table.specs.declared.row.Row.{Row}
 use Rattle.checker.specs.declared.ways.Target.{Target}
 use Rattle.checker.specs.declared.ways.Targets.{Targets}
 use Rattle.checker.specs.Verdict.{way_on, way_down}
-use Rattle.checker.specs.Ways.{one_if, outside_of, first_ways, IsTarget, AreTargets}
+use Rattle.checker.specs.Ways.{outside_of, first_ways, IsTarget, AreTargets}
 
 first_more : (n : ℕ) → first_ways (n + 1) ≡ first_ways n ++ way_at n ∷ []
 first_more n = map-range_with_len_more way_at 0 n n (omega arith)
@@ -36,7 +37,7 @@ module _ (base : BaseView) (rows : List Row) (m rank : ℕ) (f : Frame) (n : ℕ
   next_way before is lost down asked =
       let test = λ (way : Way). not (way_on base rows f way) in
       let outside = sum_by-map-range_with_len_more outside_of way_at 0 n n (omega arith) in
-      let offered = sum_by-map-range_with_len_more (λ (way : Way). one_if (is_some (sought f way))) way_at 0 n n (omega arith) in
+      let offered = sum_by-map-range_with_len_more (λ (way : Way). from_bool (is_some (sought f way))) way_at 0 n n (omega arith) in
       record {
         lost = lost ∙ lost_more seen.lost target.leads_on (way_at n) ∙ rw (before.lost, is.leads_on) (sym (find-append test (first_ways n) (way_at n ∷ []))) ∙ ap (find test) (sym (first_more n));
         down = down ∙ any_more seen.down target.down ∙ rw (before.down, is.down) (sym (list_any-append (way_down rows rank f) (first_ways n) (way_at n ∷ []))) ∙ ap (list_any (way_down rows rank f)) (sym (first_more n));

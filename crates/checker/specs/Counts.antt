@@ -1,5 +1,6 @@
 -- How much a check compares, and how much it paints.
 use Rattle.std.specs.Prelude.{◌≡◌, ◌≤◌, ◌<◌, ◌+◌, ◌*◌, ℕ, List, Option, Some, None, length, is_some, take}
+use Rattle.std.specs.Int.{from_bool}
 use Rattle.std.specs.List.{sum_by}
 use Rattle.page_ids.specs.Ways.{ways}
 use Rattle.frame_records.specs.declared.frame.Frame.{Frame}
@@ -7,14 +8,13 @@ use Rattle.frame_records.specs.BaseView.{BaseView, frame_at}
 use Rattle.frame_records.specs.Ways.{sought}
 use Rattle.cert_table.specs.declared.row.Row.{Row}
 use Rattle.checker.specs.declared.count.Count.{Count}
-use Rattle.checker.specs.Ways.{one_if}
 use Rattle.checker.specs.declared.verdict.Cause.{Cause}
 use Rattle.checker.specs.declared.verdict.Verdict.{Verdict}
 use Rattle.checker.specs.declared.verdict.Verdict.TheVariants.{Cleared}
 
 -- how many ways a frame offers: its routes, and next
 abbrev pub ways_of : Frame → ℕ
-ways_of f = sum_by (λ way. one_if (is_some (sought f way))) ways
+ways_of f = sum_by (λ way. from_bool (is_some (sought f way))) ways
 
 abbrev pub ways_if : Option Frame → ℕ
 ways_if None = 0

@@ -1,5 +1,6 @@
 -- What the ways of a frame come to among the rows, for a row of some rank.
-use Rattle.std.specs.Prelude.{◌≡◌, ◌≤◌, ◌<◌, ◌+◌, ◌*◌, ℕ, Bool, false, not, List, length, is_some, find, map, if◌then◌else◌}
+use Rattle.std.specs.Prelude.{◌≡◌, ◌≤◌, ◌<◌, ◌+◌, ◌*◌, ℕ, Bool, false, not, List, length, is_some, find, map}
+use Rattle.std.specs.Int.{from_bool}
 use Rattle.std.specs.List.{list_any, sum_by, range_with_len}
 use Rattle.page_ids.specs.declared.way.Way.{Way}
 use Rattle.page_ids.specs.declared.way.Way.TheVariants.{Route, Next}
@@ -11,9 +12,6 @@ use Rattle.cert_table.specs.declared.row.Row.{Row}
 use Rattle.checker.specs.declared.ways.Target.{Target}
 use Rattle.checker.specs.declared.ways.Targets.{Targets}
 use Rattle.checker.specs.Verdict.{way_on, way_down}
-
-abbrev pub one_if : Bool → ℕ
-one_if b = if b then 1 else 0
 
 -- the most that is compared among outside pages for a way: next is never sought there
 abbrev pub outside_of : Way → ℕ
@@ -39,7 +37,7 @@ pub record IsTarget (base : BaseView) (rows : List Row) (m rank : ℕ) (f : Fram
   pub down : target.down ≡ way_down rows rank f way
   pub most : target.asked ≤ m + outside_of way
   pub small : target.asked ≤ 8589934590
-  pub least : 0 < length rows → one_if (is_some (sought f way)) ≤ target.asked
+  pub least : 0 < length rows → from_bool (is_some (sought f way)) ≤ target.asked
 
 -- the first n ways
 abbrev pub first_ways : ℕ → List Way
@@ -51,4 +49,4 @@ pub record AreTargets (base : BaseView) (rows : List Row) (m rank : ℕ) (f : Fr
   pub down : seen.down ≡ list_any (way_down rows rank f) (first_ways n)
   pub most : seen.asked ≤ n * m + sum_by outside_of (first_ways n)
   pub small : seen.asked ≤ n * 8589934590
-  pub least : 0 < length rows → sum_by (λ way. one_if (is_some (sought f way))) (first_ways n) ≤ seen.asked
+  pub least : 0 < length rows → sum_by (λ way. from_bool (is_some (sought f way))) (first_ways n) ≤ seen.asked
