@@ -27,9 +27,7 @@ pub faults_due : FaultsAreDue
 faults_due base policy price faults e are =
     let a = along base policy price faults e are in
     record {
-      found = a.found;
-      finding = a.finding;
-      just = a.due.just;
+      along = a;
       once = λ i j d lt few same.
           let x = get_or faults i d in
           let due = (a.due.just x).0 (Contains-get_or faults i d (omega (arith, lt, few))) in
@@ -37,5 +35,4 @@ faults_due base policy price faults e are =
           let q = subst (λ (f : Fault). IsOfPlace a.found due.index f) same p in
           let turn = ap (turn_at due.index) same in
           absurd (omega (arith, a.due.in_order i j d lt few due.index due.index p q, turn));
-      in_order = a.due.in_order;
     }

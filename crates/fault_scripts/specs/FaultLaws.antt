@@ -5,20 +5,14 @@ use Rattle.frame_records.specs.BaseView.{BaseView, AreApart}
 use Rattle.frame_records.specs.Seek.{seek_entry}
 use Rattle.checker.specs.declared.policy.Policy.{Policy}
 use Rattle.checker.specs.Safe.{Safe}
-use Rattle.finder.specs.declared.found.Discovered.{Discovered}
-use Rattle.finder.specs.Finds.{IsFinding}
 use Rattle.fault_scripts.specs.declared.fault.Fault.{Fault}
-use Rattle.fault_scripts.specs.Due.{IsDue, StandsBefore}
-use Rattle.fault_scripts.specs.Faults.{AreFaults}
+use Rattle.fault_scripts.specs.Faults.{AreFaults, AreFaultsAlong}
 use Rattle.fault_scripts.specs.Shows.{Shows}
 
 -- just the faults that are due at the discovered frames, each once and in order
 pub record HasJustTheDue (base : BaseView) (policy : Policy) (faults : List Fault) : Type 0 where
-  pub found : List Discovered
-  pub finding : IsFinding policy.groups base found
-  pub just : (fault : Fault) → Contains faults fault ↔ IsDue base policy found fault
+  pub along : AreFaultsAlong base policy faults
   pub once : AllPairs (λ x y. x ≢ y) faults
-  pub in_order : AllPairs (StandsBefore found) faults
 
 -- where a session can be opened, the list has just the faults that are due, each once, in the order of discovery and
 -- within a frame of their kinds and keys
