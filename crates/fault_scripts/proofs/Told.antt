@@ -16,7 +16,7 @@ use Rattle.checker.specs.declared.policy.Policy.{Policy}
 use Rattle.finder.specs.declared.found.Discovered.{Discovered}
 use Rattle.finder.specs.Finds.{IsFinding}
 use Rattle.finder.specs.Scripts.{script}
-use Rattle.finder.specs.Survey.{SurveyView}
+use Rattle.finder.specs.Survey.{IsFrameAt, SurveyView}
 use Rattle.fault_scripts.specs.declared.fault.Fault.{Fault}
 use Rattle.fault_scripts.specs.declared.flaw.Flaw.{Flaw}
 use Rattle.fault_scripts.specs.declared.flaw.Flaw.TheVariants.{Price, Touches, Missing, Closed, NoReturn}
@@ -24,7 +24,7 @@ use Rattle.fault_scripts.specs.declared.teller.Teller.{Teller}
 use Rattle.fault_scripts.specs.Due.{IsDue, IsOfPlace, StandsBefore, turn_of, turn_at}
 use Rattle.fault_scripts.specs.Faults.{AreDue}
 use Rattle.fault_scripts.specs.Flaws.{fault_of, asked}
-use Rattle.fault_scripts.specs.Judged.{HasScript, IsFrameAt, IsDueBelow, IsTold, IsTelling}
+use Rattle.fault_scripts.specs.Judged.{HasScript, IsDueBelow, IsTold, IsTelling}
 use Rattle.fault_scripts.proofs.Asked.{IsAnswer, asked_due, due_asked}
 use Rattle.fault_scripts.proofs.Discoveries.{listed_frame, listed_once}
 

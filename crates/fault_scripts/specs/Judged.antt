@@ -1,22 +1,16 @@
 -- How far the frames have been judged that a caller of just the policy's groups discovers.
-use Rattle.std.specs.Prelude.{◌≡◌, ◌<◌, ◌*◌, ◌++◌, ◌∷◌, ℕ, List, [], Option, Some, None, slice_get, length, take, All, AllPairs, Contains}
+use Rattle.std.specs.Prelude.{◌≡◌, ◌<◌, ◌*◌, ℕ, List, Option, Some, None, length, take, All, AllPairs, Contains}
 use Rattle.page_ids.specs.declared.key.Key.{Key}
-use Rattle.frame_records.specs.declared.frame.Frame.{Frame}
-use Rattle.frame_records.specs.BaseView.{BaseView, IsBase, frame_at}
+use Rattle.frame_records.specs.BaseView.{BaseView, IsBase}
 use Rattle.checker.specs.declared.policy.Policy.{Policy}
 use Rattle.finder.specs.declared.found.Discovered.{Discovered}
 use Rattle.finder.specs.Finds.{IsFinding}
-use Rattle.finder.specs.Scripts.{script, parent_of}
-use Rattle.finder.specs.Survey.{SurveyView}
+use Rattle.finder.specs.Scripts.{ScriptsExtend, script}
 use Rattle.fault_scripts.specs.declared.fault.Fault.{Fault}
 use Rattle.fault_scripts.specs.declared.frames.Judge.{Judge}
 use Rattle.fault_scripts.specs.declared.teller.Teller.{Teller}
 use Rattle.fault_scripts.specs.Due.{IsDue, StandsBefore, turn_at}
 use Rattle.fault_scripts.specs.Gathered.{IsGathered}
-
--- a frame's script is its parent's and one key more
-abbrev pub ScriptsExtend : List Discovered → Type 0
-ScriptsExtend found = (i : ℕ) (p : ℕ × Key) → parent_of (slice_get found i) ≡ Some p → (p.0 < i) × (script found i ≡ script found p.0 ++ p.1 ∷ [])
 
 -- the keys at hand are the script of the frame for which they are kept
 abbrev pub HasScript : List Discovered → Option ℕ → List Key → Type 0
@@ -28,10 +22,6 @@ pub record CanLead (found : List Discovered) (index : ℕ) (at : Option ℕ) (ke
   pub within : index < length found
   pub extends : ScriptsExtend found
   pub script : HasScript found at keys
-
--- the record of the frame at an index
-abbrev pub IsFrameAt : SurveyView → ℕ → Frame → Type 0
-IsFrameAt survey index frame = (d : Discovered) → slice_get survey.found index ≡ Some d → frame_at survey.base d.id ≡ Some frame
 
 -- a fault that is due before a place in the order of all that is asked
 pub record IsDueBelow (base : BaseView) (policy : Policy) (found : List Discovered) (place : ℕ) (fault : Fault) : Type 0 where

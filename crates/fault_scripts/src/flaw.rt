@@ -2,10 +2,10 @@ ghost use Rattle.std.specs.Prelude.{◌≡◌, ◌<◌, IfOk, length, option_map
 ghost use Rattle.frame_records.specs.Ways.{destination_of};
 ghost use Rattle.abstract_paint.specs.Paint.{paint_of};
 ghost use Rattle.abstract_paint.specs.StartOf.{start_of};
+ghost use Rattle.finder.specs.Survey.{IsFrameAt};
 ghost use Rattle.fault_scripts.specs.declared.flaw.Flaw.TheVariants as flaw;
 ghost use Rattle.fault_scripts.specs.Aims.{sought_flaw, aimed_flaw};
 ghost use Rattle.fault_scripts.specs.Flaws.{fault_of, price_flaw, way_flaw, is_far, return_flaw};
-ghost use Rattle.fault_scripts.specs.Judged.{IsFrameAt};
 
 use crate::fault::{Fault, FaultKind};
 use abstract_paint::{Painted, Start, start_at};

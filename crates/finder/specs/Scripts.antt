@@ -29,10 +29,13 @@ keys_back found (suc turns) at = keys_along (keys_back found turns) (parent_of (
 abbrev pub script : List Discovered → ℕ → List Key
 script found at = reverse (keys_back found (length found) at)
 
+-- a frame's script is its parent's and one key more
+abbrev pub ScriptsExtend : List Discovered → Type 0
+ScriptsExtend found = (i : ℕ) (p : ℕ × Key) → parent_of (slice_get found i) ≡ Some p → (p.0 < i) × (script found i ≡ script found p.0 ++ p.1 ∷ [])
+
 -- a script leads from the entry frame to its frame; it is the parent's script and one key more
 pub record ScriptsLead (caller : List ℕ) (base : BaseView) (found : List Discovered) : Type 0 where
   pub leads : (i : ℕ) (d : Discovered) → slice_get found i ≡ Some d
       → KeysLead caller base (entry_of base) (script found i) d.id
   pub first : (i : ℕ) (d : Discovered) → slice_get found i ≡ Some d → d.parent ≡ None → (i ≡ 0) × (script found i ≡ [])
-  pub extends : (i : ℕ) (p : ℕ × Key) → parent_of (slice_get found i) ≡ Some p
-      → (p.0 < i) × (script found i ≡ script found p.0 ++ p.1 ∷ [])
+  pub extends : ScriptsExtend found

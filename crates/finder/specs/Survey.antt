@@ -1,8 +1,9 @@
 -- The discovered frames of a base, with what their ways came to.
-use Rattle.std.specs.Prelude.{ℕ, List}
+use Rattle.std.specs.Prelude.{◌≡◌, ℕ, List, Some, slice_get}
+use Rattle.frame_records.specs.declared.frame.Frame.{Frame}
 use Rattle.frame_records.specs.declared.ways.Destination.{Destination}
 use Rattle.frame_records.specs.declared.ways.Destination.TheVariants as destination
-use Rattle.frame_records.specs.BaseView.{BaseView}
+use Rattle.frame_records.specs.BaseView.{BaseView, frame_at}
 use Rattle.finder.specs.declared.found.Discovered.{Discovered}
 use Rattle.finder.specs.declared.aim.Aim.{Aim}
 use Rattle.finder.specs.declared.aim.Aim.TheVariants.{NotOffered, Found, Closed, Missing, Outside}
@@ -20,3 +21,7 @@ pub record SurveyView : Type 0 where
   pub base : BaseView
   pub groups : List ℕ
   pub found : List Discovered
+
+-- the record of the frame at an index
+abbrev pub IsFrameAt : SurveyView → ℕ → Frame → Type 0
+IsFrameAt survey index frame = (d : Discovered) → slice_get survey.found index ≡ Some d → frame_at survey.base d.id ≡ Some frame

@@ -1,12 +1,11 @@
 ghost use Rattle.std.specs.Prelude.{◌≡◌, ◌<◌, ◌≤◌, ◌↔◌, [], IfOk, Some, length, slice_get};
 ghost use Rattle.page_ids.specs.Ways.{way_at};
-ghost use Rattle.frame_records.specs.BaseView.{frame_at};
 ghost use Rattle.frame_records.specs.Ways.{destination};
 ghost use Rattle.finder.specs.declared.found.Discovered.{Discovered};
 ghost use Rattle.finder.specs.Entries.{IsEntryPlace};
 ghost use Rattle.finder.specs.Finds.{IsFinding, FindsReached, RanksAreLeast};
 ghost use Rattle.finder.specs.Scripts.{ScriptsLead};
-ghost use Rattle.finder.specs.Survey.{aim_of};
+ghost use Rattle.finder.specs.Survey.{IsFrameAt, aim_of};
 ghost use Rattle.finder.specs.Walks.{EntryIsFound};
 
 use crate::aim::Aim;
@@ -125,7 +124,7 @@ impl<'a> Survey<'a> {
     /// The record of the discovered frame at an index of the list.
     pub fn frame(&self, index: usize) -> &Frame
         requires { index < length self.now.found }
-        ensures { (d : Discovered) → slice_get self.now.found index ≡ Some d → frame_at self.now.base d.id ≡ Some result.now }
+        ensures { IsFrameAt self.now index result.now }
     {
         &self.table.base.frames()[self.order[index] as usize]
     }
