@@ -1,7 +1,7 @@
 -- The parts of a certificate with one frame more.
-use Rattle.std.proofs.Common.{◌≡◌, ◌≤◌, inl, inr, ℕ, nat_lt, Bool, true, false, cond, List, [], ◌∷◌, ◌++◌, Option, Some, None, map, option_map, slice_get, unwrap_or, refl, sym, ◌∙◌, ap, subst, arith}
+use Rattle.std.proofs.Common.{◌≡◌, ◌≤◌, inl, inr, ℕ, max, List, [], ◌∷◌, ◌++◌, Option, Some, None, map, option_map, slice_get, unwrap_or, refl, sym, ◌∙◌, ap, subst, arith}
 use Rattle.std.specs.List.{flat_map}
-use Rattle.std.proofs.lemmas.Bool.Decides.{nat_tests}
+use Rattle.std.proofs.lemmas.Bool.{cases_lt}
 use Rattle.std.proofs.lemmas.List.{append-nil, map_push}
 use Rattle.std.proofs.lemmas.List.Concat.{flat_map-append}
 use Rattle.std.proofs.lemmas.List.Elements.{All-push, All-weaker, Contains-append_left, Contains-push}
@@ -12,34 +12,35 @@ use Rattle.abstract_paint.specs.Paint.{paint_of}
 use Rattle.cert_table.specs.declared.row.Row.{Row}
 use Rattle.finder.specs.declared.found.Discovered.{Discovered}
 use Rattle.fault_scripts.specs.declared.table.Table.{Table}
-use Rattle.fault_scripts.specs.Gathered.{greater, row_of, row_by, row_at, price_at, rank_at, IsMost, IsGathered}
+use Rattle.fault_scripts.specs.Gathered.{row_of, row_by, row_at, price_at, rank_at, IsMost, IsGathered}
 use Rattle.fault_scripts.proofs.Lists.{of_all, place_of}
 
-most_more : (values : List ℕ) (most value : ℕ) → IsMost values most → IsMost (values ++ value ∷ []) (greater most value)
-most_more values most value is = by (nat_lt most value) refl where
-  kept : value ≤ most → IsMost (values ++ value ∷ []) most
-  kept le = record {
-    at_most = All-push (λ (v : ℕ). v ≤ most) values value is.at_most le;
-    some = elim is.some [
-      | inl there ↦ inl (Contains-append_left values (value ∷ []) most there)
-      | inr zeroth ↦ inr zeroth
-    ];
-  }
+most_more : (values : List ℕ) (most value : ℕ) → IsMost values most → IsMost (values ++ value ∷ []) (max most value)
+most_more values most value is =
+    let most_of = IsMost (values ++ value ∷ []) in
+    elim (cases_lt most value) [
+      | inl lt ↦ subst most_of (omega (arith, lt)) (taken (omega (arith, lt)))
+      | inr ge ↦ subst most_of (omega (arith, ge)) (kept ge)
+    ] where
+      kept : value ≤ most → IsMost (values ++ value ∷ []) most
+      kept le = record {
+        at_most = All-push (λ (v : ℕ). v ≤ most) values value is.at_most le;
+        some = elim is.some [
+          | inl there ↦ inl (Contains-append_left values (value ∷ []) most there)
+          | inr zeroth ↦ inr zeroth
+        ];
+      }
 
-  taken : most ≤ value → IsMost (values ++ value ∷ []) value
-  taken le = record {
-    at_most = All-push (λ (v : ℕ). v ≤ value) values value (All-weaker (λ (v : ℕ). v ≤ most) (λ (v : ℕ). v ≤ value) (λ v h. omega (arith, h, le)) values is.at_most) (omega arith);
-    some = inl (Contains-push values value);
-  }
-
-  by : (b : Bool) → nat_lt most value ≡ b → IsMost (values ++ value ∷ []) (cond b value most)
-  by true e = taken (grind (arith, nat_tests))
-  by false e = kept (grind (arith, nat_tests))
+      taken : most ≤ value → IsMost (values ++ value ∷ []) value
+      taken le = record {
+        at_most = All-push (λ (v : ℕ). v ≤ value) values value (All-weaker (λ (v : ℕ). v ≤ most) (λ (v : ℕ). v ≤ value) (λ v h. omega (arith, h, le)) values is.at_most) (omega arith);
+        some = inl (Contains-push values value);
+      }
 
 pub gathered_more : (base : BaseView) (frames : List Discovered) (d : Discovered) (frame : Frame) (old new : Table)
     → frame_at base d.id ≡ Some frame → IsGathered base frames old
     → new.rows.items ≡ old.rows.items ++ row_of d.id d.rank (paint_of frame.lead frame.body)
-    → new.ceiling ≡ greater old.ceiling frame.price → new.keyings ≡ greater old.keyings (unwrap_or d.rank 0)
+    → new.ceiling ≡ max old.ceiling frame.price → new.keyings ≡ max old.keyings (unwrap_or d.rank 0)
     → IsGathered base (frames ++ d ∷ []) new
 gathered_more base frames d frame old new at is rows ceiling keyings =
     let row : row_at base d ≡ row_of d.id d.rank (paint_of frame.lead frame.body) = ap (row_by d) at in
@@ -50,7 +51,7 @@ gathered_more base frames d frame old new at is rows ceiling keyings =
           ∙ ap (λ (r : List Row). r ++ row_of d.id d.rank (paint_of frame.lead frame.body)) is.rows
           ∙ ap (λ (r : List Row). flat_map (row_at base) frames ++ r) (sym row ∙ sym (append-nil (row_at base d)))
           ∙ sym (flat_map-append (row_at base) frames (d ∷ []));
-      ceiling = subst (λ (v : List ℕ). IsMost v new.ceiling) (sym (map_push (price_at base) frames d)) (subst (IsMost (map (price_at base) frames ++ price_at base d ∷ [])) (ap (greater old.ceiling) price ∙ sym ceiling) (most_more (map (price_at base) frames) old.ceiling (price_at base d) is.ceiling));
+      ceiling = subst (λ (v : List ℕ). IsMost v new.ceiling) (sym (map_push (price_at base) frames d)) (subst (IsMost (map (price_at base) frames ++ price_at base d ∷ [])) (ap (max old.ceiling) price ∙ sym ceiling) (most_more (map (price_at base) frames) old.ceiling (price_at base d) is.ceiling));
       keyings = subst (λ (v : List ℕ). IsMost v new.keyings) (sym (map_push rank_at frames d)) (subst (IsMost (map rank_at frames ++ rank_at d ∷ [])) (sym keyings) (most_more (map rank_at frames) old.keyings (rank_at d) is.keyings));
     }
 

@@ -1,5 +1,5 @@
 -- The rows of a certificate, gathered from discovered frames, with the greatest price and the greatest rank.
-use Rattle.std.specs.Prelude.{◌≡◌, ◌≤◌, ◌⊎◌, ℕ, List, [], ◌∷◌, Option, Some, None, map, All, Contains, nat_lt, option_map, unwrap_or, if◌then◌else◌}
+use Rattle.std.specs.Prelude.{◌≡◌, ◌≤◌, ◌⊎◌, ℕ, List, [], ◌∷◌, Option, Some, None, map, All, Contains, option_map, unwrap_or}
 use Rattle.std.specs.List.{flat_map}
 use Rattle.page_ids.specs.Id.{Id}
 use Rattle.frame_records.specs.declared.frame.Frame.{Frame}
@@ -10,10 +10,6 @@ use Rattle.abstract_paint.specs.Paint.{paint_of}
 use Rattle.cert_table.specs.declared.row.Row.{Row}
 use Rattle.finder.specs.declared.found.Discovered.{Discovered}
 use Rattle.fault_scripts.specs.declared.table.Table.{Table}
-
--- the greater of two numbers
-abbrev pub greater : ℕ → ℕ → ℕ
-greater a b = if nat_lt a b then b else a
 
 -- the row of a frame that has a rank and is clean
 abbrev pub row_of : Id → Option ℕ → Painted → List Row

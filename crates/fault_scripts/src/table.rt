@@ -1,5 +1,5 @@
-ghost use Rattle.std.specs.Prelude.{◌≡◌, ◌++◌, [], OnOk, unwrap_or};
-ghost use Rattle.fault_scripts.specs.Gathered.{greater, row_of, IsGathered};
+ghost use Rattle.std.specs.Prelude.{◌≡◌, ◌++◌, [], OnOk, max, unwrap_or};
+ghost use Rattle.fault_scripts.specs.Gathered.{row_of, IsGathered};
 
 use crate::fault::no_price;
 use abstract_paint::Painted;
@@ -18,14 +18,14 @@ pub struct Table {
 
 // The greater of two prices.
 fn dearer(a: Pence, b: Pence) -> Pence
-    ensures { result ≡ greater a b }
+    ensures { result ≡ max a b }
 {
     if a < b { b } else { a }
 }
 
 // The greater of the rank so far and another, if there is one.
 fn farther(keyings: u16, rank: Option<u16>) -> u16
-    ensures { result ≡ greater keyings (unwrap_or rank 0) }
+    ensures { result ≡ max keyings (unwrap_or rank 0) }
 {
     match rank {
         Some(rank) if keyings < rank => rank,
@@ -74,8 +74,8 @@ impl Table {
         painted: Painted,
     ) -> Result<(), AllocError>
         ensures rows { OnOk result (self.new.rows.items ≡ self.old.rows.items ++ row_of id rank painted) }
-        ensures ceiling { OnOk result (self.new.ceiling ≡ greater self.old.ceiling price) }
-        ensures keyings { OnOk result (self.new.keyings ≡ greater self.old.keyings (unwrap_or rank 0)) }
+        ensures ceiling { OnOk result (self.new.ceiling ≡ max self.old.ceiling price) }
+        ensures keyings { OnOk result (self.new.keyings ≡ max self.old.keyings (unwrap_or rank 0)) }
     {
         push_row(&mut self.rows, id, rank, painted)?;
         self.ceiling = dearer(self.ceiling, price);
