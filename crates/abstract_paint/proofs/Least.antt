@@ -28,10 +28,10 @@ least_is_one lead body a b f g =
     let n = 2 * a.at + from_bool a.pending in
     let m = 2 * b.at + from_bool b.pending in
     elim (cases_lt n m) [
-      | inl l ↦ absurd (g.least (caret_at a.at a.pending) l (subst (λ (i : ℕ). StartTouches lead body i (caret_at a.at a.pending)) same f.touch))
+      | inl l ↦ absurd (g.start.least (caret_at a.at a.pending) l (subst (λ (i : ℕ). StartTouches lead body i (caret_at a.at a.pending)) same f.start.touch))
       | inr ge ↦
           elim (cases_lt m n) [
-            | inl l ↦ absurd (f.least (caret_at b.at b.pending) l (subst (λ (i : ℕ). StartTouches lead body i (caret_at b.at b.pending)) (sym same) g.touch))
+            | inl l ↦ absurd (f.start.least (caret_at b.at b.pending) l (subst (λ (i : ℕ). StartTouches lead body i (caret_at b.at b.pending)) (sym same) g.start.touch))
             | inr le ↦
                 let is = number_is_one a.at b.at a.pending b.pending (omega arith) in
                 same_start a b is.0 is.1 same

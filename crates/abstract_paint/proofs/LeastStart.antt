@@ -86,14 +86,16 @@ module _ (lead : Lead) (body : List ℕ) (i : ℕ) where
       let first = first_found test (range_with_len 0 1920) n e in
       let within : first.0 < 1920 = omega (arith, first.1.within, length-range_with_len 0 1920) in
       let same : first.0 ≡ n = sym (numbered 1920 first.0 0 within) ∙ first.1.at 0 in
-      rw e (record {
-        offset = refl;
-        on_screen = omega (arith, same, within);
-        touch = touch_of (caret_numbered n) first.1.passes;
-        least = λ c less h.
-            let below : start_number c < first.0 = omega (arith, less, number_is n, same) in
-            fails_at c (sym (ap test (numbered 1920 (start_number c) 0 (omega (arith, below, within)))) ∙ first.1.before (start_number c) 0 below) h;
-      })
+      rw e (
+        refl,
+        record {
+          on_screen = omega (arith, same, within);
+          touch = touch_of (caret_numbered n) first.1.passes;
+          least = λ c less h.
+              let below : start_number c < first.0 = omega (arith, less, number_is n, same) in
+              fails_at c (sym (ap test (numbered 1920 (start_number c) 0 (omega (arith, below, within)))) ∙ first.1.before (start_number c) 0 below) h;
+        },
+      )
 
 -- what is computed is the least
 pub means_at : (lead : Lead) (body : List ℕ) (i : ℕ) (s : Option Start) → s ≡ start_at lead body i → IsStartAt lead body i s
@@ -103,13 +105,7 @@ means_at lead body i s e = subst (λ (t : Option Start). IsStartAt lead body i t
 at_first : (lead : Lead) (body : List ℕ) (i : ℕ) (s : Option Start) → IsFirstTouch lead body i → IsStartAt lead body i s → IsStart lead body s
 at_first lead body i std.None first h = let w = touch_to_start lead body i first.touch in absurd (h w.0 w.1 w.2)
 at_first lead body i (std.Some s) first h =
-    let same = sym h.offset in
-    record {
-      offset = subst (λ (j : ℕ). IsFirstTouch lead body j) same first;
-      on_screen = h.on_screen;
-      touch = subst (λ (j : ℕ). StartTouches lead body j (caret s.at s.pending)) same h.touch;
-      least = λ c less touch. h.least c less (subst (λ (j : ℕ). StartTouches lead body j c) h.offset touch);
-    }
+    record { offset = subst (λ (j : ℕ). IsFirstTouch lead body j) (sym h.0) first; start = h.1 }
 
 is_start_by : (lead : Lead) (body : List ℕ) (r : Painted) → IsPainted lead body r → IsStart lead body (start_of lead body r)
 is_start_by lead body (Clean x) p = p.0

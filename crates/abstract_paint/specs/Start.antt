@@ -15,29 +15,26 @@ caret_at p q = record { at = p; pending = q }
 abbrev pub start_number : Caret → ℕ
 start_number c = 2 * c.at + from_bool c.pending
 
--- the least start that touches at the first offset at which some terminal does
-pub record IsLeastStart (lead : Lead) (body : List ℕ) (s : Start) : Type 0 where
-  pub offset : IsFirstTouch lead body s.offset
+-- the least of the starts that touch at its offset
+pub record IsLeastAtOffset (lead : Lead) (body : List ℕ) (s : Start) : Type 0 where
   pub on_screen : s.at < 960
   pub touch : StartTouches lead body s.offset (caret_at s.at s.pending)
   pub least : (c : Caret) → start_number c < start_number (caret_at s.at s.pending) → StartTouches lead body s.offset c → ⊥
+
+-- the least start that touches at the first offset at which some terminal does
+pub record IsLeastStart (lead : Lead) (body : List ℕ) (s : Start) : Type 0 where
+  pub offset : IsFirstTouch lead body s.offset
+  pub start : IsLeastAtOffset lead body s
 
 -- none, of a clean frame; else the least start
 abbrev pub IsStart : Lead → List ℕ → Option Start → Type 0
 IsStart lead body None = IsClean lead body
 IsStart lead body (Some s) = IsLeastStart lead body s
 
--- the least of the starts from which the byte at i writes a service position
-pub record IsLeastStartAt (lead : Lead) (body : List ℕ) (i : ℕ) (s : Start) : Type 0 where
-  pub offset : s.offset ≡ i
-  pub on_screen : s.at < 960
-  pub touch : StartTouches lead body i (caret_at s.at s.pending)
-  pub least : (c : Caret) → start_number c < start_number (caret_at s.at s.pending) → StartTouches lead body i c → ⊥
-
--- none, where no start is one
+-- none, where no start touches at the offset; else the least that does
 abbrev pub IsStartAt : Lead → List ℕ → ℕ → Option Start → Type 0
 IsStartAt lead body i None = (c : Caret) → c.at < 960 → StartTouches lead body i c → ⊥
-IsStartAt lead body i (Some s) = IsLeastStartAt lead body i s
+IsStartAt lead body i (Some s) = (s.offset ≡ i) × IsLeastAtOffset lead body s
 
 -- at most one answer is right
 abbrev pub StartsAreOne : Type 0
