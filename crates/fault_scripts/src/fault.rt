@@ -16,7 +16,7 @@ pub enum FaultKind {
     EntryClosed,
     /// The frame is shown for more than the policy's ceiling.
     Price,
-    /// The frame writes a service position from some state of the terminal.
+    /// From some state of the terminal a write of the frame counts as one in a service row.
     Touches,
     /// A key of the frame seeks a frame that the base lacks, on a page that isn't listed as outside.
     Missing,
@@ -38,7 +38,7 @@ pub struct Fault {
     pub sought: Option<FrameId>,
     /// The keys that lead from the entry frame to the frame; for `Missing` and `Closed` the key comes last.
     pub script: KeyList,
-    /// For `Touches` alone: the least start from which a service position is written, and the body byte that does.
+    /// For `Touches` alone: the least start from which a write counts as one in a service row, and the body byte that writes.
     pub start: Option<Start>,
     /// For `Price` alone the frame's price; else 0.
     pub price: Pence,
