@@ -1,5 +1,5 @@
 -- How much was read of a file, whatever it came to.
-use Rattle.std.proofs.Common.{◌≤◌, ◌<◌, ℕ, Bool, List, [], Option, Err, ◌++◌, length, arith, length-append}
+use Rattle.std.proofs.Common.{◌<◌, ℕ, Bool, List, [], Option, Err, ◌++◌, arith, length-append}
 use Rattle.std.proofs.KnownBytes.{Consumes-nil, Consumes-kept, Consumes-trans}
 use Rattle.frame_records.specs.BaseView.{BaseView}
 use Rattle.cert_table.specs.CertView.{CertView}

@@ -1,5 +1,5 @@
 -- What a run of the audit does.
-use Rattle.std.specs.Prelude.{◌≡◌, true, false, Result, Err}
+use Rattle.std.specs.Prelude.{Result, Err}
 use Rattle.frame_records.specs.BaseView.{BaseView}
 use Rattle.checker.specs.declared.policy.Policy.{Policy}
 use Rattle.fault_scripts.specs.declared.outcome.Outcome.{Outcome}

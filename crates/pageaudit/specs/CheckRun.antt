@@ -1,5 +1,5 @@
 -- What a run of the check does.
-use Rattle.std.specs.Prelude.{◌≡◌, ℕ, true, false, List, Result, Err}
+use Rattle.std.specs.Prelude.{ℕ, List, Result, Err}
 use Rattle.frame_records.specs.BaseView.{BaseView}
 use Rattle.cert_table.specs.CertView.{CertView}
 use Rattle.checker.specs.declared.policy.Policy.{Policy}

@@ -1,5 +1,4 @@
-ghost use Rattle.std.specs.Prelude.{◌≡◌, ◌∷◌, ◌++◌, Ok, Err, IfOk, IfErr, List, false, MatchResult};
-ghost use Rattle.frame_records.specs.BaseView.{BaseView};
+ghost use Rattle.std.specs.Prelude.{◌≡◌, ◌∷◌, Ok, Err, IfOk, IfErr, false};
 ghost use Rattle.session_machine.specs.Runs.{replies_to, session_of};
 ghost use Rattle.pageaudit.specs.Device.{device, IsTextWritten};
 ghost use Rattle.pageaudit.specs.WalkRun.{IsSessionRun, IsWalkFault, IsKeysAnswer, IsSessionAnswer, session_text, session_status};
