@@ -69,13 +69,16 @@ pub fn push_key(text: &mut Vec<u8>, key: Key) -> Result<(), AllocError>
     Ok(())
 }
 
-/// Writes the words of the keys behind a text, one behind the other. Where a growth is refused, some of the first words may
-/// have been written.
+/// Writes the words of the keys after a text, one after the other. If a growth is refused, the text is left as it was.
 pub fn push_keys(text: &mut Vec<u8>, keys: &[Key]) -> Result<(), AllocError>
-    ensures { OnOk result (text.new.items ≡ text.old.items ++ keys_text keys.now) }
+    ensures { MatchResult result (λ _. text.new.items ≡ text.old.items ++ keys_text keys.now) (λ _. text.new.items ≡ text.old.items) }
 {
+    let kept = text.len();
     for key in keys {
-        push_key(text, *key)?;
+        if let Err(refused) = push_key(text, *key) {
+            text.truncate(kept);
+            return Err(refused);
+        }
     }
     Ok(())
 }
