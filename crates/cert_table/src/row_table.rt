@@ -5,7 +5,7 @@ ghost use Rattle.cert_table.specs.Rows.{AreRows, row_among};
 
 use crate::cover::Cover;
 use crate::row::Row;
-use frame_records::{Entry, find_by_halves};
+use frame_records::{Entry, binary_search};
 use page_ids::FrameId;
 use std::cmp::Ordering;
 use std::marker::Model;
@@ -44,7 +44,7 @@ fn row_in(rows: &[Row], id: FrameId) -> (Option<&Row>, u32)
     ensures most { result.1 ≤ 16 }
     ensures least { 0 < length rows.now → 1 ≤ result.1 }
 {
-    find_by_halves(rows, &id)
+    binary_search(rows, &id)
 }
 
 impl Cover for RowTable {

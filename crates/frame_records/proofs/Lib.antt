@@ -4,7 +4,7 @@ pub mod SortedFrames
 pub mod Pages
 pub mod Built
 pub mod OneBase
-pub mod Halves
+pub mod BinarySearch
 pub mod Searchable
 pub mod Cuts
 pub mod GroupTexts

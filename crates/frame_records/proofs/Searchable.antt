@@ -1,4 +1,4 @@
--- A list that ascends by a key can be searched by halves, and what is found is what a search from the front finds.
+-- A list that ascends by a key has a binary search, and what that finds is what a search from the front finds.
 use Rattle.std.proofs.Common.{◌≡◌, ◌≢◌, ℕ, zero, suc, ◌+◌, ◌-◌, ◌<◌, Bool, true, false, List, [], ◌∷◌, length, get_or, Option, Some, None, Bor, refl, sym, ap, ◌∙◌, arith, subst, cond, ◌==◌}
 use Rattle.std.specs.Prelude.{find, map, slice_get, option_map, is_some, ◌||◌}
 use Rattle.std.specs.List.{AllAdjacentBelow}

@@ -1,11 +1,13 @@
 -- What contracts see of a base.
-use Rattle.std.specs.Prelude.{◌≡◌, ◌==◌, ◌&&◌, ◌||◌, ℕ, Bool, true, false, List, Option, None, find, length, nat_lt, All}
+use Rattle.std.specs.Prelude.{◌≡◌, ◌==◌, ◌&&◌, ◌||◌, ℕ, Bool, true, false, List, Option, None, find, length, map, nat_lt, All}
 use Rattle.std.specs.declared.cmp.Ordering.TheVariants.{Less}
+use Rattle.std.specs.Ordering.{nat_cmp}
 use Rattle.std.specs.List.{AllAdjacentBelow, list_any}
 use Rattle.std.specs.List.Sorted.{IsStrictlyIncreasing}
 use Rattle.page_ids.specs.Id.{Id}
 use Rattle.page_ids.specs.Ids.{id_cmp, id_eq}
 use Rattle.frame_records.specs.declared.frame.Frame.{Frame}
+use Rattle.frame_records.specs.Orderings.{comparisons}
 use Rattle.frame_records.specs.declared.limits.TheConstants.{MOST_LISTED, MOST_BODY}
 
 -- the entry page, the outside pages and the frames, both ascending
@@ -22,6 +24,10 @@ IsAscending frames = AllAdjacentBelow (λ f g. id_cmp f.id g.id ≡ Less) frames
 abbrev pub frame_among : List Frame → Id → Option Frame
 frame_among frames id = find (λ f. id_eq f.id id) frames
 
+-- how many frames a binary search for an id compares
+abbrev pub frames_compared : List Frame → Id → ℕ
+frames_compared frames id = comparisons (map (λ f. id_cmp f.id id) frames)
+
 -- the frame of an id
 abbrev pub frame_at : BaseView → Id → Option Frame
 frame_at base id = frame_among base.frames id
@@ -29,6 +35,10 @@ frame_at base id = frame_among base.frames id
 -- a page is among pages
 abbrev pub lists_page : List ℕ → ℕ → Bool
 lists_page pages page = list_any (λ p. p == page) pages
+
+-- how many pages a binary search for a page compares
+abbrev pub pages_compared : List ℕ → ℕ → ℕ
+pages_compared pages page = comparisons (map (λ p. nat_cmp p page) pages)
 
 -- a page is listed as outside
 abbrev pub lists_outside : BaseView → ℕ → Bool

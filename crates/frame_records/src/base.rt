@@ -1,6 +1,6 @@
 ghost use Rattle.std.specs.Prelude.{◌≡◌, ◌<◌, ◌≤◌, length};
 ghost use Rattle.std.specs.Option.{option_copied};
-ghost use Rattle.frame_records.specs.BaseView.{IsBase, frame_at, lists_outside};
+ghost use Rattle.frame_records.specs.BaseView.{IsBase, frame_at, frames_compared, lists_outside, pages_compared};
 ghost use Rattle.frame_records.specs.Build.{IsBuilt, BasesAreOne};
 ghost use Rattle.frame_records.specs.Seek.{seek, entry_of};
 
@@ -77,6 +77,7 @@ impl Base {
     /// memory.
     pub fn find_counted(&self, id: FrameId) -> (Option<&Frame>, u32)
         ensures value { option_copied result.0 ≡ frame_at self.now id }
+        ensures exact { result.1 ≡ frames_compared self.now.frames id }
         ensures most { result.1 ≤ 16 }
         ensures least { 0 < length self.now.frames → 1 ≤ result.1 }
     {
@@ -107,6 +108,7 @@ impl Base {
     /// Whether a page is listed as outside, and how many pages were compared with it: at most 16. Takes no memory.
     pub fn is_outside_counted(&self, page: PageNo) -> (bool, u32)
         ensures value { result.0 ≡ lists_outside self.now page }
+        ensures exact { result.1 ≡ pages_compared self.now.outside page }
         ensures most { result.1 ≤ 16 }
         ensures least { 0 < length self.now.outside → 1 ≤ result.1 }
     {

@@ -15,7 +15,7 @@
 //! - [`Frame`], [`Lead`], [`Body`]: a frame's record.
 //! - [`Base`], [`BuildFault`], [`Sought`]: the base, why two lists make none, and what seeking an id comes to.
 //! - [`Frame::sought`], [`Base::follow`], [`Destination`]: what the ways of a frame seek, and what that comes to.
-//! - [`find_by_halves`], [`Entry`]: a list in order, searched by halves, with the number of its entries that were compared;
+//! - [`binary_search`], [`Entry`]: the binary search of a list in order, with the number of its entries that were compared;
 //!   [`search`], [`Probe`]: the same of whatever can be asked how it compares.
 #![tactic(auto)]
 
@@ -38,5 +38,5 @@ pub use limits::{MOST_BODY, MOST_GROUP, MOST_GROUPS, MOST_LISTED, MOST_PENCE};
 pub use numbers::{GroupNo, Pence};
 pub use parts::cut;
 pub use probe::{Probe, search};
-pub use sorted::{Entry, find_by_halves};
+pub use sorted::{Entry, binary_search};
 pub use ways::Destination;

@@ -3,7 +3,7 @@
 ghost use Rattle.std.specs.Prelude.{◌≡◌, ◌≢◌, ℕ, ◌<◌, ◌≤◌, ◌+◌, List, length, slice_get, IfSome, IfNone, Some};
 ghost use Rattle.std.specs.declared.cmp.Ordering.TheVariants.{Equal};
 ghost use Rattle.frame_records.specs.declared.limits.TheConstants.{MOST_LISTED};
-ghost use Rattle.frame_records.specs.Orderings.{IsSearchable};
+ghost use Rattle.frame_records.specs.Orderings.{IsSearchable, comparisons};
 
 use std::cmp::Ordering;
 
@@ -34,7 +34,7 @@ pub trait Probe {
         ensures counted { count self.new ≡ count self.old + 1 };
 }
 
-/// The index of the entry that is equal to what is wanted, by halves: at most 16 comparisons. Takes no memory.
+/// The index of the entry that is equal to what is wanted, by binary search: at most 16 comparisons. Takes no memory.
 ///
 /// The entries stand in order: those that are less, then at most one that is equal, then those that are greater.
 pub fn search<P: Probe>(probe: &mut P) -> Option<usize>
@@ -44,6 +44,7 @@ pub fn search<P: Probe>(probe: &mut P) -> Option<usize>
     ensures found { IfSome result (λ i. slice_get (P.orderings probe.old) i ≡ Some Equal) }
     ensures none { IfNone result ((i : ℕ) → slice_get (P.orderings probe.old) i ≢ Some Equal) }
     ensures same { P.orderings probe.new ≡ P.orderings probe.old }
+    ensures exact { P.count probe.new ≡ comparisons (P.orderings probe.old) }
     ensures most { P.count probe.new ≤ 16 }
     ensures least { 0 < length (P.orderings probe.old) → 1 ≤ P.count probe.new }
 {

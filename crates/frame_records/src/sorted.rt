@@ -1,4 +1,4 @@
-//! Lists in order, searched by halves.
+//! Lists in order, and their binary search.
 
 ghost use Rattle.std.specs.Prelude.{◌≡◌, ◌<◌, ◌≤◌, find, length, map};
 ghost use Rattle.std.specs.Ordering.{is_eq, nat_cmp};
@@ -6,8 +6,8 @@ ghost use Rattle.page_ids.specs.Ids.{id_cmp};
 ghost use Rattle.std.specs.Option.{option_copied};
 ghost use Rattle.std.specs.List.Sorted.{IsStrictlyIncreasing};
 ghost use Rattle.frame_records.specs.declared.limits.TheConstants.{MOST_LISTED};
-ghost use Rattle.frame_records.specs.BaseView.{IsAscending, frame_among, lists_page};
-ghost use Rattle.frame_records.specs.Orderings.{IsSearchable};
+ghost use Rattle.frame_records.specs.BaseView.{IsAscending, frame_among, frames_compared, lists_page, pages_compared};
+ghost use Rattle.frame_records.specs.Orderings.{IsSearchable, comparisons};
 
 use crate::frame::Frame;
 use crate::probe::{Probe, search};
@@ -15,7 +15,7 @@ use page_ids::{FrameId, PageNo};
 use std::cmp::Ordering;
 use std::marker::Model;
 
-/// An entry of a list that can be searched by halves for a key.
+/// An entry of a list in which a key can be sought by binary search.
 pub trait Entry<K> {
     ghost use Rattle.std.specs.declared.cmp.Ordering.{Ordering as Comparison};
 
@@ -75,11 +75,12 @@ fn entries_beside<'a, E: Entry<K>, K>(entries: &'a [E], wanted: &'a K) -> EntryP
     }
 }
 
-/// The entry that is equal to a key, by halves, and how many entries were compared with it: at most 16. Takes no memory.
-pub fn find_by_halves<'a, E: Entry<K>, K>(entries: &'a [E], wanted: &K) -> (Option<&'a E>, u32)
+/// The entry that is equal to a key, by binary search, and how many entries were compared with it: at most 16. Takes no memory.
+pub fn binary_search<'a, E: Entry<K>, K>(entries: &'a [E], wanted: &K) -> (Option<&'a E>, u32)
     requires few { length entries.now ≤ MOST_LISTED }
     requires searchable { IsSearchable (map (λ e. E.against e wanted.now) entries.now) }
     ensures value { option_copied result.0 ≡ find (λ e. is_eq (E.against e wanted.now)) entries.now }
+    ensures exact { result.1 ≡ comparisons (map (λ e. E.against e wanted.now) entries.now) }
     ensures most { result.1 ≤ 16 }
     ensures least { 0 < length entries.now → 1 ≤ result.1 }
 {
@@ -111,10 +112,11 @@ pub fn find_among(frames: &[Frame], id: FrameId) -> (Option<&Frame>, u32)
     requires few { length frames.now ≤ MOST_LISTED }
     requires ascending { IsAscending frames.now }
     ensures value { option_copied result.0 ≡ frame_among frames.now id }
+    ensures exact { result.1 ≡ frames_compared frames.now id }
     ensures most { result.1 ≤ 16 }
     ensures least { 0 < length frames.now → 1 ≤ result.1 }
 {
-    find_by_halves(frames, &id)
+    binary_search(frames, &id)
 }
 
 // Whether a page is among pages that ascend, and how many of them were compared with it.
@@ -122,9 +124,10 @@ pub fn is_among(pages: &[PageNo], page: PageNo) -> (bool, u32)
     requires few { length pages.now ≤ MOST_LISTED }
     requires ascending { IsStrictlyIncreasing pages.now }
     ensures value { result.0 ≡ lists_page pages.now page }
+    ensures exact { result.1 ≡ pages_compared pages.now page }
     ensures most { result.1 ≤ 16 }
     ensures least { 0 < length pages.now → 1 ≤ result.1 }
 {
-    let (found, asked) = find_by_halves(pages, &page);
+    let (found, asked) = binary_search(pages, &page);
     (found.is_some(), asked)
 }

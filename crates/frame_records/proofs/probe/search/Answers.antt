@@ -1,8 +1,9 @@
-use Rattle.std.proofs.Common.{◌≡◌, ◌+◌, ◌-◌, ◌/◌, List, arith, ◌∙◌, subst, Some}
+use Rattle.std.proofs.Common.{◌≡◌, ◌+◌, ◌-◌, ◌/◌, List, length, arith, ◌∙◌, subst, Some}
 use Rattle.std.specs.Prelude.{slice_get}
 use Rattle.std.specs.declared.cmp.Ordering.{Ordering}
-use Rattle.std.specs.declared.cmp.Ordering.TheVariants.{Less, Greater}
-use Rattle.frame_records.proofs.Halves.{halved, few_asked, less_to, greater_from, no_equal}
+use Rattle.std.specs.declared.cmp.Ordering.TheVariants.{Less, Equal, Greater}
+use Rattle.frame_records.proofs.BinarySearch.{none_between, compared_more, halved, few_asked, less_to, greater_from, no_equal}
+use Rattle.frame_records.specs.Orderings.{comparisons}
 use Rattle.frame_records.proofs.probe.search.Goals as goal
 
 pub loop-low-preserved-in-Less : goal.loop-low-preserved-in-Less
@@ -21,6 +22,8 @@ loop-low-preserved-in-Less g c =
       below = λ k h. less_to xs m k c.requires.searchable at h;
       above = i.above;
       cost = rw c.ask.ensures.counted cost;
+      room = omega (arith, c.ask.ensures.counted, i.room);
+      exact = rw c.ask.ensures.counted (compared_more xs c.loop-low.low c.loop-low.high (g.P.Probe.count c.loop-low.probe) (comparisons xs) Less lt i.room at i.exact);
       most = omega (arith, c.ask.ensures.counted, few);
       first = λ e. absurd (omega (arith, c.ask.ensures.counted, e));
     }
@@ -41,9 +44,25 @@ loop-low-preserved g c =
       below = i.below;
       above = λ k h. greater_from xs m k c.requires.searchable at h;
       cost = rw c.ask.ensures.counted cost;
+      room = omega (arith, c.ask.ensures.counted, i.room);
+      exact = rw c.ask.ensures.counted (compared_more xs c.loop-low.low c.loop-low.high (g.P.Probe.count c.loop-low.probe) (comparisons xs) Greater lt i.room at i.exact);
       most = omega (arith, c.ask.ensures.counted, few);
       first = λ e. absurd (omega (arith, c.ask.ensures.counted, e));
     }
+
+pub returns-in-Equal-clause-exact : goal.returns-in-Equal-clause-exact
+returns-in-Equal-clause-exact g c =
+    let i = c.loop-low.invariant in
+    let xs = g.P.Probe.orderings c.args.probe.now in
+    let m = c.loop-low.low + (c.loop-low.high - c.loop-low.low) / 2 in
+    let at : slice_get xs m ≡ Some Equal = subst (λ (ys : List Ordering). slice_get ys m ≡ Some Equal) i.same c.in-Equal.ensures.answer in
+    omega (arith, c.ask.ensures.counted, compared_more xs c.loop-low.low c.loop-low.high (g.P.Probe.count c.loop-low.probe) (comparisons xs) Equal c.loop-low-test.true i.room at i.exact)
+
+pub returns-clause-exact : goal.returns-clause-exact
+returns-clause-exact g c =
+    let i = c.loop-low.invariant in
+    let xs = g.P.Probe.orderings c.args.probe.now in
+    omega (arith, i.exact, none_between (length xs - g.P.Probe.count c.loop-low.probe) xs c.loop-low.low c.loop-low.high c.loop-low-test.false)
 
 pub returns-clause-none : goal.returns-clause-none
 returns-clause-none g c =

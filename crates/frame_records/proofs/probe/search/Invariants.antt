@@ -1,5 +1,6 @@
-use Rattle.std.proofs.Common.{◌-◌, ◌≡◌, ℕ, ◌<◌, ◌≤◌, ◌*◌, ◌^◌, length, get_or}
+use Rattle.std.proofs.Common.{◌+◌, ◌-◌, ◌≡◌, ℕ, ◌<◌, ◌≤◌, ◌*◌, ◌^◌, length, get_or}
 use Rattle.std.specs.declared.cmp.Ordering.TheVariants.{Less, Greater}
+use Rattle.frame_records.specs.Orderings.{compared_between, comparisons}
 use Rattle.frame_records.proofs.probe.search.Given as goal
 
 abbrev pub invariant-loop-low : goal.invariant-loop-low
@@ -13,6 +14,8 @@ invariant-loop-low g l =
       below : (i : ℕ) → i < l.low → get_or xs i Less ≡ Less;
       above : (i : ℕ) → l.high ≤ i → i < length xs → get_or xs i Less ≡ Greater;
       cost : (l.high - l.low) * 2 ^ count ≤ 65535;
+      room : count + (l.high - l.low) ≤ length xs;
+      exact : count + compared_between (length xs - count) xs l.low l.high ≡ comparisons xs;
       most : count ≤ 16;
       first : count ≡ 0 → l.high - l.low ≡ length xs;
     }

@@ -1,13 +1,14 @@
--- A search by halves.
-use Rattle.std.proofs.Common.{refl, ◌≡◌, ℕ, ◌+◌, ◌*◌, ◌^◌, ◌<◌, ◌≤◌, List, length, get_or, arith, subst, inl, inr}
+-- A binary search.
+use Rattle.std.proofs.Common.{refl, ◌≡◌, ℕ, zero, suc, ◌+◌, ◌-◌, ◌/◌, ◌*◌, true, false, ltb, ◌^◌, ◌<◌, ◌≤◌, List, length, get_or, arith, subst, ap, inl, inr}
 use Rattle.std.proofs.Math.Nat.{pow-le-pow_right}
 use Rattle.std.proofs.lemmas.Bool.{cases_lt}
+use Rattle.std.proofs.lemmas.Bool.Decides.{nat_tests}
 use Rattle.std.proofs.lemmas.Option.{slice_get_within, get_or_from_slice_get}
 use Rattle.std.specs.Prelude.{slice_get, Some}
 use Rattle.std.proofs.lemmas.Nat.{mul-le, pow-add}
 use Rattle.std.specs.declared.cmp.Ordering.{Ordering}
 use Rattle.std.specs.declared.cmp.Ordering.TheVariants.{Less, Equal, Greater}
-use Rattle.frame_records.specs.Orderings.{MayFollow, IsSearchable}
+use Rattle.frame_records.specs.Orderings.{MayFollow, IsSearchable, after_middle, compared_between}
 
 pub halved : (g h c : ℕ) → 2 * h ≤ g → g * 2 ^ c ≤ 65535 → h * 2 ^ (c + 1) ≤ 65535
 halved g h c le small =
@@ -55,3 +56,18 @@ no_equal xs n below above i e =
       | inl lt ↦ let l = below i lt in cc
       | inr ge ↦ let g = above i ge (slice_get_within xs i Equal e) in cc
     ]
+
+-- between two places of which the first isn't below the second nothing is compared
+pub none_between : (fuel : ℕ) (xs : List Ordering) (low high : ℕ) → high ≤ low → compared_between fuel xs low high ≡ 0
+none_between zero xs low high ge = refl
+none_between (suc fuel) xs low high ge = let is : ltb low high ≡ false = grind (arith, nat_tests) in rw is refl
+
+between : (fuel : ℕ) (xs : List Ordering) (low high : ℕ) (o : Ordering) → low < high → get_or xs (low + (high - low) / 2) Less ≡ o → compared_between (suc fuel) xs low high ≡ 1 + after_middle o (compared_between fuel xs (low + (high - low) / 2 + 1) high) (compared_between fuel xs low (low + (high - low) / 2))
+between fuel xs low high o lt at = let is : ltb low high ≡ true = grind (arith, nat_tests) in rw (is, at) refl
+
+-- one comparison more, of the middle one, and the number in all stays
+pub compared_more : (xs : List Ordering) (low high count all : ℕ) (o : Ordering) → low < high → count + (high - low) ≤ length xs → slice_get xs (low + (high - low) / 2) ≡ Some o → count + compared_between (length xs - count) xs low high ≡ all → count + 1 + after_middle o (compared_between (length xs - (count + 1)) xs (low + (high - low) / 2 + 1) high) (compared_between (length xs - (count + 1)) xs low (low + (high - low) / 2)) ≡ all
+compared_more xs low high count all o lt room e is =
+    let fuel : length xs - count ≡ suc (length xs - (count + 1)) = omega (arith, lt, room) in
+    let step = between (length xs - (count + 1)) xs low high o lt (get_or_from_slice_get xs (low + (high - low) / 2) o Less e) in
+    omega (arith, is, step, ap (λ (n : ℕ). compared_between n xs low high) fuel)

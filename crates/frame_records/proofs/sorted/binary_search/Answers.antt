@@ -3,7 +3,7 @@ use Rattle.std.specs.Prelude.{slice_get}
 use Rattle.std.specs.declared.cmp.Ordering.{Ordering}
 use Rattle.std.specs.declared.cmp.Ordering.TheVariants.{Equal}
 use Rattle.frame_records.proofs.Searchable.{found_is, none_is}
-use Rattle.frame_records.proofs.sorted.find_by_halves.Goals as goal
+use Rattle.frame_records.proofs.sorted.binary_search.Goals as goal
 
 pub returns-in-Some-clause-value : goal.returns-in-Some-clause-value
 returns-in-Some-clause-value g c =
