@@ -8,10 +8,10 @@ from dataclasses import dataclass
 from pathlib import Path
 
 sys.path.insert(0, str(Path(__file__).resolve().parent))
+from program import TOP
 from second_reading import audit, base, session
 from second_reading.certificate import KEYS
 
-TOP = Path(__file__).resolve().parent.parent
 DEMO = (TOP / "examples" / "demo.toml").read_text("ascii")
 CERT = (TOP / "examples" / "demo.cert").read_text("ascii")
 MEMORY = "Memory\n"

@@ -13,8 +13,7 @@ import tempfile
 from dataclasses import dataclass, field
 from pathlib import Path
 
-TOP = Path(__file__).resolve().parent.parent
-PROGRAM = TOP / "crates" / "command_line" / "out" / "command_line"
+from program import PROGRAM, TOP
 
 
 @dataclass

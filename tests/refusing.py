@@ -8,9 +8,9 @@ from dataclasses import dataclass
 from pathlib import Path
 from tempfile import TemporaryDirectory
 
+from program import TOP
+
 HERE = Path(__file__).resolve().parent
-TOP = HERE.parent
-PROGRAM = TOP / "crates" / "command_line" / "out" / "command_line"
 
 
 @dataclass(frozen=True)
