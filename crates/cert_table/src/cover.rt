@@ -16,6 +16,11 @@ pub trait Cover {
     /// The most rows that one look-up compares, among so many.
     ghost most_among: { ℕ → ℕ };
 
+    ghost use Rattle.page_ids.specs.Id.{Id};
+
+    /// How many of these rows a look-up of an id compares.
+    ghost compared: { List Row → Id → ℕ };
+
     /// The map of these rows. Takes no memory: the list is kept.
     fn of(list: Vec<Row>) -> Self
         requires { AreRows list.items }
@@ -42,6 +47,7 @@ pub trait Cover {
     /// The row of an id, and how many rows were compared with it: at least one where there is one, and at most `most`.
     fn row_counted(&self, id: FrameId) -> (Option<&Row>, u32)
         ensures value { option_copied result.0 ≡ row_among (rows self.now) id }
+        ensures exact { result.1 ≡ compared (rows self.now) id }
         ensures most { result.1 ≤ most_among (length (rows self.now)) }
         ensures least { 0 < length (rows self.now) → 1 ≤ result.1 };
 

@@ -11,7 +11,8 @@
 //! ```
 //!
 //! - [`Row`]: a covered frame.
-//! - [`Cover`], [`RowTable`], [`RowList`]: a finite map from ids to rows, one that is searched by halves, and one from the front.
+//! - [`Cover`], [`RowTable`], [`RowList`]: a finite map from ids to rows; one in which an id is sought by binary search, and one
+//!   from the front.
 //! - [`Certificate`], [`TableFault`]: made by `build` alone, or refused by name.
 #![tactic(auto)]
 

@@ -2,7 +2,7 @@ ghost use Rattle.std.specs.Prelude.{◌≡◌, ◌<◌, ◌≤◌, length, posit
 ghost use Rattle.page_ids.specs.Ids.{id_eq};
 ghost use Rattle.std.specs.Option.{option_copied};
 ghost use Rattle.cert_table.specs.declared.limits.TheConstants.{MOST_ROWS};
-ghost use Rattle.cert_table.specs.Rows.{row_among};
+ghost use Rattle.cert_table.specs.Rows.{row_among, rows_up_to};
 
 use crate::cover::Cover;
 use crate::row::Row;
@@ -39,6 +39,7 @@ fn place_in(rows: &[Row], id: FrameId) -> Option<usize>
 fn first_of(rows: &[Row], id: FrameId) -> (Option<&Row>, u32)
     requires { length rows.now ≤ MOST_ROWS }
     ensures value { option_copied result.0 ≡ row_among rows.now id }
+    ensures exact { result.1 ≡ rows_up_to rows.now id }
     ensures most { result.1 ≤ length rows.now }
     ensures least { 0 < length rows.now → 1 ≤ result.1 }
 {
@@ -52,6 +53,8 @@ impl Cover for RowList {
     ghost rows = { λ l. l };
 
     ghost most_among = { λ n. n };
+
+    ghost compared = { rows_up_to };
 
     fn of(list: Vec<Row>) -> Self {
         RowList { rows: list }

@@ -1,7 +1,7 @@
 ghost use Rattle.std.specs.Prelude.{◌≡◌, ◌<◌, ◌≤◌, length};
 ghost use Rattle.std.specs.Option.{option_copied};
 ghost use Rattle.page_ids.specs.Ids.{id_cmp};
-ghost use Rattle.cert_table.specs.Rows.{AreRows, row_among};
+ghost use Rattle.cert_table.specs.Rows.{AreRows, row_among, rows_compared};
 
 use crate::cover::Cover;
 use crate::row::Row;
@@ -10,7 +10,7 @@ use page_ids::FrameId;
 use std::cmp::Ordering;
 use std::marker::Model;
 
-/// Rows that are searched by halves.
+/// Rows in which an id is sought by binary search.
 #[derive(Debug, Drop)]
 pub struct RowTable {
     rows: Vec<Row>,
@@ -41,6 +41,7 @@ impl Entry<FrameId> for Row {
 fn row_in(rows: &[Row], id: FrameId) -> (Option<&Row>, u32)
     requires { AreRows rows.now }
     ensures value { option_copied result.0 ≡ row_among rows.now id }
+    ensures exact { result.1 ≡ rows_compared rows.now id }
     ensures most { result.1 ≤ 16 }
     ensures least { 0 < length rows.now → 1 ≤ result.1 }
 {
@@ -51,6 +52,8 @@ impl Cover for RowTable {
     ghost rows = { λ t. t };
 
     ghost most_among = { λ _. 16 };
+
+    ghost compared = { rows_compared };
 
     fn of(list: Vec<Row>) -> Self {
         RowTable { rows: list }
