@@ -19,6 +19,10 @@ pub record HasJustTheDue (base : BaseView) (policy : Policy) (faults : List Faul
 abbrev pub FaultsAreDue : Type 0
 FaultsAreDue = (base : BaseView) (policy : Policy) (price : ℕ) (faults : List Fault) → seek_entry policy.groups base ≡ sought.Found price → AreFaults base policy faults → HasJustTheDue base policy faults
 
+-- of every base and policy there is one list of faults
+abbrev pub FaultsAreOne : Type 0
+FaultsAreOne = (base : BaseView) (policy : Policy) (a b : List Fault) → AreFaults base policy a → AreFaults base policy b → a ≡ b
+
 -- each fault is borne out by its script
 abbrev pub FaultsAreShown : Type 0
 FaultsAreShown = (base : BaseView) (policy : Policy) (faults : List Fault) (fault : Fault) → AreFaults base policy faults → Contains faults fault → Shows base policy fault

@@ -1,8 +1,13 @@
-ghost use Rattle.fault_scripts.specs.FaultLaws.{FaultsAreDue, FaultsAreShown, NoneIsSafe};
+ghost use Rattle.fault_scripts.specs.FaultLaws.{FaultsAreDue, FaultsAreOne, FaultsAreShown, NoneIsSafe};
 
 /// The list of faults has just those that are due, each once, in order.
 pub fn faults_are_due()
     ensures { FaultsAreDue }
+{}
+
+/// A base and a policy have one list of faults: `faults` and an audit that finds faults name the same one.
+pub fn faults_are_one()
+    ensures { FaultsAreOne }
 {}
 
 /// Each fault is borne out by its script.

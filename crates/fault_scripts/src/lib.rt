@@ -11,8 +11,8 @@
 //! - [`audit`], [`Outcome`]: the certificate of the frames that can be reached, or the faults.
 //! - [`faults`], [`FaultList`], [`Fault`], [`FaultKind`]: what is wrong with a base, frame by frame in the order of discovery.
 //! - [`replay`], [`Replayed`]: what a session of a fault's keys comes to.
-//! - [`faults_are_due`], [`faults_are_shown`], [`none_is_safe`]: the list is complete, each fault is borne out by its script,
-//!   and there is none exactly where the base is safe.
+//! - [`faults_are_due`], [`faults_are_one`], [`faults_are_shown`], [`none_is_safe`]: the list is complete, it is the only such
+//!   list, each fault is borne out by its script, and there is none exactly where the base is safe.
 #![tactic(auto)]
 
 mod auditing;
@@ -27,6 +27,6 @@ mod teller;
 
 pub use auditing::{audit, faults};
 pub use fault::{Fault, FaultKind, FaultList};
-pub use laws::{faults_are_due, faults_are_shown, none_is_safe};
+pub use laws::{faults_are_due, faults_are_one, faults_are_shown, none_is_safe};
 pub use outcome::Outcome;
 pub use replaying::{Replayed, replay};
