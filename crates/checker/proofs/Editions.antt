@@ -20,7 +20,7 @@ use Rattle.checker.specs.Good.{Good, is_covered}
 use Rattle.checker.specs.Safe.{Safe, HasRows}
 use Rattle.checker.specs.Verdict.{verdict}
 use Rattle.checker.specs.Change.{lost_id, unless_lost, unless_old, unless_new, keeps_covered, change_verdict}
-use Rattle.checker.specs.Editions.{Edition, IsFoundFor, AreHeldFound, IsSafeFrom, AreCleared, HoldsOverChanges, IsSafeChange, edition}
+use Rattle.checker.specs.Editions.{Edition, IsFoundFor, AreHeldFound, IsSafeFrom, AreCleared, HoldsOverChanges, IsSafeOverChanges, IsSafeChange, edition}
 use Rattle.checker.proofs.Steps.{some_there, row_is, covered_found, rows_after, fair_replies, clean_replies, regains_at, safe}
 use Rattle.checker.proofs.Clears.{cleared_good}
 
@@ -134,6 +134,15 @@ over_changes policy e (f ∷ more) state apart good cleared rows =
       each = (safe_here policy e state apart.0 good rows, rest.each);
       fair = fair_here policy e state apart.0 good rows _ rest.fair;
       rows = rest.rows;
+    }
+
+-- from every such state, of which the opening one is
+pub safe_over_changes : (policy : Policy) (first second : Edition) (more : List Edition) → AllByRecursion (λ e. AreApart e.base) (first ∷ second ∷ more) → AreCleared policy (first ∷ second ∷ more) → IsSafeOverChanges policy first (second ∷ more)
+safe_over_changes policy first second more apart cleared =
+    let change = cleared_change policy first.base first.cert second.base second.cert cleared.0 in
+    record {
+      opened = (change.old_good.covered, tt);
+      crossed = λ state rows. over_changes policy first (second ∷ more) state apart change.old_good cleared rows;
     }
 
 -- one change, from every state whose frames have rows in the old edition

@@ -8,3 +8,4 @@ pub mod WaysTold
 pub mod Counted
 pub mod Editions
 pub mod Places
+pub mod LeastLost

@@ -36,7 +36,7 @@ still_below : (a b c : Id) → id_cmp a b ≡ Less → is_lt (id_cmp c b) ≡ fa
 still_below a b c lt up = grind (arith, nat_tests)
 
 -- a later row's id isn't below an earlier one's
-far : (rows : List Row) → AreRows rows → (i j : ℕ) (d : Row) → i ≤ j → j < length rows → is_lt (id_cmp (get_or rows j d).id (get_or rows i d).id) ≡ false
+pub far : (rows : List Row) → AreRows rows → (i j : ℕ) (d : Row) → i ≤ j → j < length rows → is_lt (id_cmp (get_or rows j d).id (get_or rows i d).id) ≡ false
 far rows are i j d le lt = sorted_far (λ r s. is_lt (id_cmp r.id s.id)) (ranks_by id_cmp_total (λ (r : Row). r.id)) rows sorted i j d le lt where
   sorted : IsSortedByKey (λ r. r.id) id_cmp rows
   sorted k e low within = not_after (get_or rows k e).id (get_or rows (k + 1) e).id (are.ascending k e within)

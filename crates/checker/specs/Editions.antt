@@ -75,11 +75,16 @@ pub record HoldsOverChanges (policy : Policy) (state : SessionState) (first : Ed
   pub fair : AllByRecursion (IsFairReply policy.ceiling) (replies_over policy.groups state (parts_of (first ∷ more)))
   pub rows : HasRows (last_rows first more) (state_over policy.groups state (parts_of (first ∷ more)))
 
--- of every list of at least two editions, each cleared against the one before it, and every state that left or whose frames
--- all have rows in the first certificate. The premise of the bases is what every base keeps: no frame stands on an outside
--- page
+-- over editions in turn: the frames of the state in which a session of the first edition opens have rows in its certificate;
+-- and the promise over the changes holds from every state that left or whose frames all have rows there
+pub record IsSafeOverChanges (policy : Policy) (first : Edition) (more : List Edition) : Type 0 where
+  pub opened : HasRows first.cert.rows (opening first.base)
+  pub crossed : (state : SessionState) → HasRows first.cert.rows state → HoldsOverChanges policy state first more
+
+-- of every list of at least two editions, each cleared against the one before it. The premise of the bases is what every base
+-- keeps: no frame is on an outside page
 abbrev pub ChangesAreSafe : Type 0
-ChangesAreSafe = (policy : Policy) (first second : Edition) (more : List Edition) (state : SessionState) → AllByRecursion (λ e. AreApart e.base) (first ∷ second ∷ more) → AreCleared policy (first ∷ second ∷ more) → HasRows first.cert.rows state → HoldsOverChanges policy state first (second ∷ more)
+ChangesAreSafe = (policy : Policy) (first second : Edition) (more : List Edition) → AllByRecursion (λ e. AreApart e.base) (first ∷ second ∷ more) → AreCleared policy (first ∷ second ∷ more) → IsSafeOverChanges policy first (second ∷ more)
 
 -- of one change: callers are safe in the old edition, where sessions open; and from every such state, the opening one too,
 -- after any keys in the old edition and any in the new one

@@ -1,5 +1,6 @@
 ghost use Rattle.std.specs.Prelude.{◌≡◌};
-ghost use Rattle.checker.specs.Change.{lost_id, change_verdict};
+ghost use Rattle.page_ids.specs.Id.{Id};
+ghost use Rattle.checker.specs.Change.{lost_id, change_verdict, IsLeastLost};
 ghost use Rattle.checker.specs.Editions.{IsSafeChange};
 ghost use Rattle.checker.specs.Good.{is_covered};
 ghost use Rattle.checker.specs.Places.{AreBelow, IsPlaceOf};
@@ -102,8 +103,12 @@ pub fn check_change<C: Cover + Drop>(
     // From every state whose frames have rows in the old certificate, the opening one too, after any keys in either edition:
     // nothing sought is missing or closed, over the change too.
     ensures safe { result ≡ ChangeVerdict.Cleared → IsSafeChange policy.now old.now old_cert.now new.now new_cert.now }
+
+    // E2 names the smallest id with a row in the old certificate and none in the new one.
+    ensures lost { (id : Id) → result ≡ ChangeVerdict.NoLongerCovered id → IsLeastLost old_cert.now.rows new_cert.now.rows id }
 {
     let _old = old.frames();
     let _new = new.frames();
+    let _rows = old_cert.cover().len();
     judge_change(old, old_cert, new, new_cert, policy)
 }

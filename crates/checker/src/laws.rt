@@ -1,3 +1,4 @@
+ghost use Rattle.checker.specs.Change.{LostIsLeast};
 ghost use Rattle.checker.specs.Editions.{ChangesAreSafe};
 ghost use Rattle.checker.specs.Laws.{GoodIsSafe, GoodKeepsRows, ClearedIsGood};
 ghost use Rattle.checker.specs.Refusal.{RefusedIsFirst};
@@ -26,9 +27,16 @@ pub fn refused_is_first()
     ensures { RefusedIsFirst }
 {}
 
+/// If a change is refused because an id is no longer covered, the id is the smallest of those that have a row in the old
+/// certificate and none in the new one.
+pub fn lost_is_least()
+    ensures { LostIsLeast }
+{}
+
 /// Of every list of editions in turn, each cleared against the one before it, and every caller whose frames have rows in the
-/// first certificate: nothing that is sought is missing or closed, what is shown costs at most that edition's ceiling and is
-/// clean, and just after each change too the caller left or regains the entry frame within that edition's keyings.
+/// first certificate, as those of a caller who opens a session of the first edition do: nothing that is sought is missing or
+/// closed, what is shown costs at most that edition's ceiling and is clean, and also right after each change the caller left
+/// or regains the entry frame within that edition's keyings.
 pub fn changes_are_safe()
     ensures { ChangesAreSafe }
 {}

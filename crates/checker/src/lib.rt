@@ -27,6 +27,7 @@
 //! - [`check_change`], [`ChangeVerdict`]: whether a new edition may take an old one's place while callers are inside; the law
 //!   of sessions that cross any number of such changes is [`changes_are_safe`].
 //! - [`good_is_safe`], [`cleared_is_good`], [`refused_is_first`]: the laws, of every base, policy and certificate.
+//! - [`lost_is_least`]: E2 names the smallest id that is no longer covered.
 //! - [`rows_are_clean`]: a frame that is given as rows is clean where its 22nd row has no double height, and only there.
 #![tactic(auto)]
 
@@ -45,6 +46,9 @@ pub use bytes::{InputFault, check_bytes};
 pub use change::{ChangeVerdict, check_change};
 pub use count::Count;
 pub use judge::{check, check_counted};
-pub use laws::{changes_are_safe, cleared_is_good, good_is_safe, refused_is_first, rows_are_clean};
+pub use laws::{
+    changes_are_safe, cleared_is_good, good_is_safe, lost_is_least, refused_is_first,
+    rows_are_clean,
+};
 pub use policy::Policy;
 pub use verdict::{Cause, Verdict};
