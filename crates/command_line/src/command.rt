@@ -4,7 +4,6 @@ use crate::help;
 use audit_report::RunFault;
 use cert_table::MOST_RANK;
 use checker::Policy;
-use clap::error::ErrorKind;
 use clap::{Arg, ArgAction, ArgMatches, Command, Error, value_parser};
 use frame_records::{Groups, MOST_PENCE, Pence};
 use std::alloc::{AllocError, Global};
@@ -19,12 +18,15 @@ fn place<'a>(alloc: Global, name: &'a str, help: &'a str) -> Arg<'a> {
         .help(help)
 }
 
-// A required whole number from 0 to a limit.
-fn number<'a>(alloc: Global, name: &'a str, most: u16, help: &'a str) -> Arg<'a> {
+// A required whole number from 0 to a limit. A negative one is out of the range, and no option.
+fn number<'a>(alloc: Global, name: &'a str, short: char, most: u16, help: &'a str) -> Arg<'a> {
     Arg::new(alloc, name)
+        .short(short)
         .long(name)
+        .value_name("N")
         .required(true)
         .action(ArgAction::Set)
+        .allow_negative_numbers(true)
         .value_parser(value_parser!(u16).range(0..=i64::from(most)))
         .help(help)
 }
@@ -32,9 +34,11 @@ fn number<'a>(alloc: Global, name: &'a str, most: u16, help: &'a str) -> Arg<'a>
 // The caller's closed user groups, which may be left out.
 fn with_groups<'a>(alloc: Global, command: Command<'a>) -> Result<Command<'a>, AllocError> {
     let list = Arg::new(alloc, "groups")
+        .short('g')
         .long("groups")
+        .value_name("LIST")
         .action(ArgAction::Set)
-        .help("the caller's closed user groups, ascending, as 7,9");
+        .help("Assume callers in these groups: at most 16, ascending, 1 to 65535, e.g. '7,9'");
     command.arg(list)
 }
 
@@ -44,58 +48,61 @@ fn with_policy<'a>(alloc: Global, command: Command<'a>) -> Result<Command<'a>, A
         .arg(number(
             alloc,
             "ceiling",
+            'c',
             MOST_PENCE,
-            "the most that a frame may cost, in pence",
+            "Allow no frame to cost more than N pence, 0 to 9999",
         ))?
         .arg(number(
             alloc,
             "keyings",
+            'k',
             MOST_RANK,
-            "the most keys back to the entry page",
+            "Allow at most N keys back to the entry page, 0 to 65535",
         ))?;
     with_groups(alloc, command)
 }
 
 fn audit_command<'a>(alloc: Global) -> Result<Command<'a>, AllocError> {
     let command = Command::new(alloc, "audit")
-        .about("Finds a base's certificate, or lists its faults with the keys that show them")
+        .about("Find a base's certificate, or list its faults with the keys that show them")
         .after_help(help::AUDIT)
-        .arg(place(alloc, "BASE", "the base, a TOML file"))?;
+        .arg(place(alloc, "BASE", "The base, a TOML file"))?;
     with_policy(alloc, command)
 }
 
 fn check_command<'a>(alloc: Global) -> Result<Command<'a>, AllocError> {
     let command = Command::new(alloc, "check")
-        .about("Checks a certificate against a base, without any search")
+        .about("Check a certificate against a base, without any search")
         .after_help(help::CHECK)
-        .arg(place(alloc, "BASE", "the base, a TOML file"))?
-        .arg(place(alloc, "CERT", "the certificate"))?;
+        .arg(place(alloc, "BASE", "The base, a TOML file"))?
+        .arg(place(alloc, "CERT", "The certificate"))?;
     with_policy(alloc, command)
 }
 
 fn change_command<'a>(alloc: Global) -> Result<Command<'a>, AllocError> {
     let command = Command::new(alloc, "change")
-        .about("Checks whether a new edition may take an old one's place while callers are inside")
+        .about("Check whether a new edition may take an old one's place while callers are inside")
         .after_help(help::CHANGE)
-        .arg(place(alloc, "OLD", "the base that stands, a TOML file"))?
-        .arg(place(alloc, "OLDCERT", "its certificate"))?
-        .arg(place(alloc, "NEW", "the base that takes its place"))?
-        .arg(place(alloc, "NEWCERT", "the certificate of that one"))?;
+        .arg(place(alloc, "OLD", "The base that is served now, a TOML file"))?
+        .arg(place(alloc, "OLDCERT", "Its certificate"))?
+        .arg(place(alloc, "NEW", "The base that takes its place, a TOML file"))?
+        .arg(place(alloc, "NEWCERT", "The certificate of the new base"))?;
     with_policy(alloc, command)
 }
 
 fn walk_command<'a>(alloc: Global) -> Result<Command<'a>, AllocError> {
     let command = Command::new(alloc, "walk")
-        .about("Shows what a caller sees who presses keys from the entry page")
+        .about("Show what a caller sees who presses keys from the entry page")
         .after_help(help::WALK)
-        .arg(place(alloc, "BASE", "the base, a TOML file"))?
-        .arg(place(alloc, "KEYS", "keys in one word, as 1#*#*00*09"))?;
+        .arg(place(alloc, "BASE", "The base, a TOML file"))?
+        .arg(place(alloc, "KEYS", "Keys without spaces, e.g. '1#*#*00*09'"))?;
     with_groups(alloc, command)
 }
 
 fn whole_command<'a>(alloc: Global) -> Result<Command<'a>, AllocError> {
     Command::new(alloc, "pageaudit")
-        .about("Audits the page base of a viewdata information provider")
+        .bin_name("pageaudit")?
+        .about("Audit the page base of a viewdata information provider")
         .version(help::VERSION)
         .subcommand_required(true)
         .subcommand(audit_command(alloc)?)?
@@ -104,12 +111,21 @@ fn whole_command<'a>(alloc: Global) -> Result<Command<'a>, AllocError> {
         .subcommand(walk_command(alloc)?)
 }
 
-/// The program's words; in their place the status of what kept them away: 4 for memory, 2 for words that aren't UTF-8.
-pub fn words(rt: &(impl Env + AllocGlobal), alloc: Global) -> Result<Vec<String>, u8> {
+/// Why there are no words.
+#[derive(Debug, Clone, Copy, PartialEq, Eq)]
+pub enum WordsFault {
+    /// A growth was refused.
+    Memory,
+    /// A word isn't UTF-8.
+    NotUtf8,
+}
+
+/// The program's words.
+pub fn words(rt: &(impl Env + AllocGlobal), alloc: Global) -> Result<Vec<String>, WordsFault> {
     match collected(rt, alloc) {
         Ok(words) => Ok(words),
-        Err(error) if error.kind() == io::ErrorKind::OutOfMemory => Err(4),
-        Err(_) => Err(2),
+        Err(error) if error.kind() == io::ErrorKind::OutOfMemory => Err(WordsFault::Memory),
+        Err(_) => Err(WordsFault::NotUtf8),
     }
 }
 
@@ -203,15 +219,4 @@ pub fn asked_for<'a>(matches: &'a ArgMatches, groups: Groups) -> Option<Request<
 /// What the words say.
 pub fn matches<'a>(alloc: Global, words: &'a [String]) -> Result<ArgMatches<'a>, Error> {
     whole_command(alloc)?.try_get_matches_from(words)
-}
-
-/// The status for words that clap refused, or for help: 2, 0, and 4 where memory was refused.
-pub fn refused_status(error: &Error) -> u8 {
-    if error.kind() == ErrorKind::OutOfMemory {
-        4
-    } else if error.use_stderr() {
-        2
-    } else {
-        0
-    }
 }

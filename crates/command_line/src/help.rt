@@ -1,4 +1,4 @@
-//! What stands behind the options in each command's help: an example, and the exit statuses.
+//! What follows the options in each command's help: an example, and the exit statuses.
 
 /// The program's version, which the list of changes names too.
 pub const VERSION: &str = "0.9.0";
@@ -6,27 +6,27 @@ pub const VERSION: &str = "0.9.0";
 /// Of `audit`.
 pub const AUDIT: &str = concat!(
     "Example: pageaudit audit examples/demo.toml --ceiling 50 --keyings 3\n\n",
-    "Status: 0 a certificate, 1 faults, 2 words that can't be read,\n",
-    "        3 a file that is refused or can't be read, or a write that fails, 4 no memory",
+    "Status: 0 a certificate, 1 faults, 2 bad command line,\n",
+    "        3 a file that is refused or can't be read, or a write that fails, 4 out of memory",
 );
 
 /// Of `check`.
 pub const CHECK: &str = concat!(
     "Example: pageaudit check examples/demo.toml examples/demo.cert --ceiling 50 --keyings 3\n\n",
-    "Status: 0 cleared, 1 refused, 2 words that can't be read,\n",
-    "        3 a file that is refused or can't be read, or a write that fails, 4 no memory",
+    "Status: 0 cleared, 1 refused, 2 bad command line,\n",
+    "        3 a file that is refused or can't be read, or a write that fails, 4 out of memory",
 );
 
 /// Of `change`.
 pub const CHANGE: &str = concat!(
     "Example: pageaudit change old.toml old.cert new.toml new.cert --ceiling 50 --keyings 3\n\n",
-    "Status: 0 cleared, 1 refused, 2 words that can't be read,\n",
-    "        3 a file that is refused or can't be read, or a write that fails, 4 no memory",
+    "Status: 0 cleared, 1 refused, 2 bad command line,\n",
+    "        3 a file that is refused or can't be read, or a write that fails, 4 out of memory",
 );
 
 /// Of `walk`.
 pub const WALK: &str = concat!(
     "Example: pageaudit walk examples/demo.toml '1#*#*00'\n\n",
-    "Status: 0 a walk, 1 no session, 2 words or keys that can't be read,\n",
-    "        3 a file that is refused or can't be read, or a write that fails, 4 no memory",
+    "Status: 0 a walk, 1 no session, 2 bad command line or keys,\n",
+    "        3 a file that is refused or can't be read, or a write that fails, 4 out of memory",
 );

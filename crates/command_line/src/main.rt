@@ -1,16 +1,17 @@
 //! The program: audits the page base of a viewdata information provider.
 //!
 //! `audit`, `check`, `change` and `walk` open their files in the order of the words and hand them to the runs of the crate
-//! `pageaudit`, which are proved over any reader and writer; what stands here only opens, prints and picks the exit status.
+//! `pageaudit`, which are proved over any reader and writer. This crate only opens files, prints and picks the exit status.
 #![tactic(auto)]
 
 mod command;
 mod help;
 
-use audit_report::{FromRead, IntoWrite, RunFault, fault_text};
+use audit_report::{FromRead, IntoWrite, RunFault, fault_text, write_whole};
 use checker::Policy;
-use clap::ArgMatches;
-use command::{Request, asked_for, groups_of, matches, refused_status, words};
+use clap::error::ErrorKind;
+use clap::{ArgMatches, Error};
+use command::{Request, WordsFault, asked_for, groups_of, matches, words};
 use frame_records::Groups;
 use pageaudit::{Status, run_audit, run_change, run_check, run_walk, status_of};
 use std::process::ExitCode;
@@ -23,28 +24,56 @@ fn main(rt: HostRuntime) -> ExitCode {
 
 // Reads the words and does what they ask; the exit status.
 fn run<R: Files + Env + Print + Eprint + AllocGlobal>(rt: &R) -> u8 {
-    let words = match words(rt, rt.alloc()) {
-        Ok(words) => words,
-        Err(status) => return told(rt, status),
-    };
-    match matches(rt.alloc(), words.as_slice()) {
-        Ok(matches) => dispatch(rt, &matches),
-        Err(error) => match refused_status(&error) {
-            4 => told(rt, 4),
-            status => {
-                let _ = error.print(rt);
-                status
-            }
-        },
+    match words(rt, rt.alloc()) {
+        Ok(words) => obey(rt, words.as_slice()),
+        Err(WordsFault::Memory) => refused(rt, &RunFault::Memory),
+        Err(WordsFault::NotUtf8) => {
+            let _ = eprintln!(rt; "error: a word on the command line isn't valid UTF-8");
+            2
+        }
     }
 }
 
-// The status, with the line for want of memory where it is that one.
-fn told<R: Eprint + AllocGlobal>(rt: &R, status: u8) -> u8 {
-    if status == 4 {
-        tell(rt, &RunFault::Memory);
+fn obey<R: Files + Print + Eprint + AllocGlobal>(rt: &R, words: &[String]) -> u8 {
+    match matches(rt.alloc(), words) {
+        Ok(matches) => dispatch(rt, &matches),
+        Err(error) => explain(rt, &error),
     }
-    status
+}
+
+// Prints what clap has to say: help on standard output, or what is wrong with the words on standard error.
+fn explain<R: Print + Eprint + AllocGlobal>(rt: &R, error: &Error) -> u8 {
+    if error.kind() == ErrorKind::OutOfMemory {
+        return refused(rt, &RunFault::Memory);
+    }
+    if error.use_stderr() {
+        let _ = error.print(rt);
+        return 2;
+    }
+    match print_help(rt, error) {
+        Ok(()) => 0,
+        Err(fault) => refused(rt, &fault),
+    }
+}
+
+// Writes a help text whole.
+fn print_help<R: Print + AllocGlobal>(rt: &R, help: &Error) -> Result<(), RunFault> {
+    let Ok(text) = format!(in rt.alloc(); "{help}") else {
+        return Err(RunFault::Memory);
+    };
+    match write_whole(&mut IntoWrite::new(io::writer(rt)), text.as_bytes()) {
+        Ok(()) => Ok(()),
+        Err(fault) => Err(RunFault::Write(fault.wrote)),
+    }
+}
+
+// Reports a fault of the run; its status, or 4 if there is no memory for its line.
+fn refused<R: Eprint + AllocGlobal>(rt: &R, fault: &RunFault) -> u8 {
+    if tell(rt, fault) {
+        status_of(&Err(*fault))
+    } else {
+        4
+    }
 }
 
 // Does what was asked for. The groups are read first; files are opened in the order of the words.
@@ -55,8 +84,8 @@ fn dispatch<R: Files + Print + Eprint + AllocGlobal>(rt: &R, matches: &ArgMatche
         Err(fault) => Err(fault),
     };
     match &run {
-        Err(fault) if !tell(rt, fault) => 4,
-        _ => status_of(&run),
+        Err(fault) => refused(rt, fault),
+        Ok(_) => status_of(&run),
     }
 }
 
