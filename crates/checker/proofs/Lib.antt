@@ -9,3 +9,4 @@ pub mod Counted
 pub mod Editions
 pub mod Places
 pub mod LeastLost
+pub mod Taken

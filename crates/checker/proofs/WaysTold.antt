@@ -6,6 +6,7 @@ use Rattle.std.specs.Int.{from_bool}
 use Rattle.std.specs.List.{list_any}
 use Rattle.std.proofs.lemmas.List.Folds.{find-append, list_any-append}
 use Rattle.std.proofs.lemmas.List.FromFn.{map-range_with_len_more, sum_by-map-range_with_len_more}
+use Rattle.page_ids.specs.Id.{Id}
 use Rattle.page_ids.specs.declared.way.Way.{Way}
 use Rattle.page_ids.specs.Ways.{way_at}
 use Rattle.frame_records.specs.declared.frame.Frame.{Frame}
@@ -15,6 +16,7 @@ use Rattle.cert_table.specs.declared.row.Row.{Row}
 use Rattle.checker.specs.declared.ways.Target.{Target}
 use Rattle.checker.specs.declared.ways.Targets.{Targets}
 use Rattle.checker.specs.Verdict.{way_on, way_down}
+use Rattle.checker.specs.Taken.{way_compared}
 use Rattle.checker.specs.Ways.{outside_of, first_ways, IsTarget, AreTargets}
 
 first_more : (n : ℕ) → first_ways (n + 1) ≡ first_ways n ++ way_at n ∷ []
@@ -31,12 +33,13 @@ any_more true b = refl
 any_more false true = refl
 any_more false false = refl
 
-module _ (base : BaseView) (rows : List Row) (m rank : ℕ) (f : Frame) (n : ℕ) (seen new : Targets) (target : Target) where
+module _ (compared : List Row → Id → ℕ) (base : BaseView) (rows : List Row) (m rank : ℕ) (f : Frame) (n : ℕ) (seen new : Targets) (target : Target) where
   -- one way more
-  pub next_way : AreTargets base rows m rank f n seen → IsTarget base rows m rank f (way_at n) target → new.lost ≡ (if is_some seen.lost then seen.lost else if target.leads_on then None else Some (way_at n)) → new.down ≡ (seen.down || target.down) → new.asked ≡ seen.asked + target.asked → AreTargets base rows m rank f (n + 1) new
+  pub next_way : AreTargets compared base rows m rank f n seen → IsTarget compared base rows m rank f (way_at n) target → new.lost ≡ (if is_some seen.lost then seen.lost else if target.leads_on then None else Some (way_at n)) → new.down ≡ (seen.down || target.down) → new.asked ≡ seen.asked + target.asked → AreTargets compared base rows m rank f (n + 1) new
   next_way before is lost down asked =
       let test = λ (way : Way). not (way_on base rows f way) in
       let outside = sum_by-map-range_with_len_more outside_of way_at 0 n n (omega arith) in
+      let taken = sum_by-map-range_with_len_more (way_compared compared base rows f) way_at 0 n n (omega arith) in
       let offered = sum_by-map-range_with_len_more (λ (way : Way). from_bool (is_some (sought f way))) way_at 0 n n (omega arith) in
       record {
         lost = lost ∙ lost_more seen.lost target.leads_on (way_at n) ∙ rw (before.lost, is.leads_on) (sym (find-append test (first_ways n) (way_at n ∷ []))) ∙ ap (find test) (sym (first_more n));
@@ -44,4 +47,5 @@ module _ (base : BaseView) (rows : List Row) (m rank : ℕ) (f : Frame) (n : ℕ
         most = omega (arith, asked, outside, before.most, is.most);
         small = omega (arith, asked, before.small, is.small);
         least = λ some. omega (arith, asked, offered, before.least some, is.least some);
+        exact = omega (arith, asked, taken, before.exact, is.exact);
       }

@@ -1,4 +1,4 @@
--- How much a check compares, and how much it paints.
+-- Bounds of how much a check compares, and of how much it paints. The exact numbers are in Taken.antt.
 use Rattle.std.specs.Prelude.{◌≡◌, ◌≤◌, ◌<◌, ◌+◌, ◌*◌, ℕ, List, Option, Some, None, length, is_some, take}
 use Rattle.std.specs.Int.{from_bool}
 use Rattle.std.specs.List.{sum_by}
@@ -71,7 +71,8 @@ pub record AreAllCounted (base : BaseView) (m : ℕ) (rows : List Row) (cause : 
   pub within : count.steps ≤ sum_by (bytes_at base) rows
   pub all : cause ≡ None → count.steps ≡ sum_by (bytes_at base) rows
 
--- what a check took, where one look-up among the rows compares at most m
+-- what a check took, where one look-up among the rows compares at most m. The 16 is room for a look-up of the entry frame
+-- in the base, which the check doesn't make
 pub record IsCount (base : BaseView) (rows : List Row) (m : ℕ) (v : Verdict) (count : Count) : Type 0 where
   pub most : count.probes ≤ row_most m * length rows + m + 16
   pub least : v ≡ Cleared → 1 + length rows + sum_by (ways_at base) rows ≤ count.probes

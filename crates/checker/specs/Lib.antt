@@ -5,6 +5,7 @@ pub mod Headline
 pub mod Refusal
 pub mod Ways
 pub mod Counts
+pub mod Taken
 pub mod Laws
 pub mod RowsAreClean
 pub mod Change

@@ -2,6 +2,7 @@
 use Rattle.std.specs.Prelude.{◌≡◌, ◌≤◌, ◌<◌, ◌+◌, ◌*◌, ℕ, Bool, false, not, List, length, is_some, find, map}
 use Rattle.std.specs.Int.{from_bool}
 use Rattle.std.specs.List.{list_any, sum_by, range_with_len}
+use Rattle.page_ids.specs.Id.{Id}
 use Rattle.page_ids.specs.declared.way.Way.{Way}
 use Rattle.page_ids.specs.declared.way.Way.TheVariants.{Route, Next}
 use Rattle.page_ids.specs.Ways.{way_at}
@@ -12,6 +13,7 @@ use Rattle.cert_table.specs.declared.row.Row.{Row}
 use Rattle.checker.specs.declared.ways.Target.{Target}
 use Rattle.checker.specs.declared.ways.Targets.{Targets}
 use Rattle.checker.specs.Verdict.{way_on, way_down}
+use Rattle.checker.specs.Taken.{outside_compared, way_compared}
 
 -- the most that is compared among outside pages for a way: next is never sought there
 abbrev pub outside_of : Way → ℕ
@@ -30,23 +32,26 @@ pub record IsAbsent (base : BaseView) (way : Way) (page asked : ℕ) (target : T
   pub most : target.asked ≤ asked + outside_of way
   pub small : target.asked ≤ asked + 4294967295
   pub least : asked ≤ target.asked
+  pub exact : target.asked ≡ asked + outside_compared base way page
 
 -- what a way comes to, where one look-up among the rows compares at most m
-pub record IsTarget (base : BaseView) (rows : List Row) (m rank : ℕ) (f : Frame) (way : Way) (target : Target) : Type 0 where
+pub record IsTarget (compared : List Row → Id → ℕ) (base : BaseView) (rows : List Row) (m rank : ℕ) (f : Frame) (way : Way) (target : Target) : Type 0 where
   pub leads_on : target.leads_on ≡ way_on base rows f way
   pub down : target.down ≡ way_down rows rank f way
   pub most : target.asked ≤ m + outside_of way
   pub small : target.asked ≤ 8589934590
   pub least : 0 < length rows → from_bool (is_some (sought f way)) ≤ target.asked
+  pub exact : target.asked ≡ way_compared compared base rows f way
 
 -- the first n ways
 abbrev pub first_ways : ℕ → List Way
 first_ways n = map way_at (range_with_len 0 n)
 
 -- what the first n ways come to
-pub record AreTargets (base : BaseView) (rows : List Row) (m rank : ℕ) (f : Frame) (n : ℕ) (seen : Targets) : Type 0 where
+pub record AreTargets (compared : List Row → Id → ℕ) (base : BaseView) (rows : List Row) (m rank : ℕ) (f : Frame) (n : ℕ) (seen : Targets) : Type 0 where
   pub lost : seen.lost ≡ find (λ way. not (way_on base rows f way)) (first_ways n)
   pub down : seen.down ≡ list_any (way_down rows rank f) (first_ways n)
   pub most : seen.asked ≤ n * m + sum_by outside_of (first_ways n)
   pub small : seen.asked ≤ n * 8589934590
   pub least : 0 < length rows → sum_by (λ way. from_bool (is_some (sought f way))) (first_ways n) ≤ seen.asked
+  pub exact : seen.asked ≡ sum_by (way_compared compared base rows f) (first_ways n)

@@ -8,6 +8,7 @@ use page_ids::FrameId;
 // The row of an id, and how many rows were compared with it.
 pub fn seek_row<C: Cover + Drop>(cert: &Certificate<C>, id: FrameId) -> (Option<&Row>, u32)
     ensures value { option_copied result.0 ≡ row_among cert.now.rows id }
+    ensures exact { result.1 ≡ C.compared cert.now.rows id }
     ensures most { result.1 ≤ C.most_among (length cert.now.rows) }
     ensures least { 0 < length cert.now.rows → 1 ≤ result.1 }
 {

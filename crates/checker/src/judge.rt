@@ -1,6 +1,9 @@
 ghost use Rattle.std.specs.Prelude.{◌≡◌, ◌≤◌, ◌<◌, ◌+◌, ◌*◌, ◌↔◌, None, ℕ, List, length};
 ghost use Rattle.abstract_paint.specs.Paint.{paint_of};
+ghost use Rattle.std.specs.List.{sum_by};
+ghost use Rattle.frame_records.specs.Seek.{entry_of};
 ghost use Rattle.checker.specs.Counts.{ways_of, IsFoundCount, IsRowCount, AreAllCounted, IsCount};
+ghost use Rattle.checker.specs.Taken.{counted_if, is_entry_sought, is_painted, are_ways_sought, ways_compared, row_probes, row_steps, judged, probes_of, steps_of};
 ghost use Rattle.page_ids.specs.declared.key.Key.{Key};
 ghost use Rattle.session_machine.specs.Open.{opening};
 ghost use Rattle.session_machine.specs.Runs.{state_after};
@@ -61,6 +64,7 @@ fn judge_ways<C: Cover + Drop>(
     frame: &Frame,
 ) -> (Option<Cause>, u64)
     ensures cause { result.0 ≡ ways_fault base.now cert.now.rows row.now frame.now }
+    ensures exact { result.1 ≡ ways_compared C.compared base.now cert.now.rows frame.now }
     ensures most { result.1 ≤ 160 + 11 * C.most_among (length cert.now.rows) }
     ensures small { result.1 ≤ 94489280490 }
     ensures least { 0 < length cert.now.rows → ways_of frame.now ≤ result.1 }
@@ -78,6 +82,8 @@ fn judge_found<C: Cover + Drop>(
     frame: &Frame,
 ) -> (Option<Cause>, Count)
     ensures cause { result.0 ≡ found_fault cert.now.groups base.now cert.now row.now frame.now }
+    ensures probes { result.1.probes ≡ counted_if (are_ways_sought result.0) (ways_compared C.compared base.now cert.now.rows frame.now) }
+    ensures steps { result.1.steps ≡ counted_if (is_painted result.0) (length frame.now.body) }
     ensures count { IsFoundCount (C.most_among (length cert.now.rows)) cert.now.rows row.now frame.now result.0 result.1 }
 {
     if let Some(cause) = judge_frame(cert, row, frame) {
@@ -104,6 +110,8 @@ fn judge_row<C: Cover + Drop>(
     row: &Row,
 ) -> (Option<Cause>, Count)
     ensures cause { result.0 ≡ row_fault cert.now.groups base.now cert.now row.now }
+    ensures probes { result.1.probes ≡ row_probes C.compared cert.now.groups base.now cert.now row.now }
+    ensures steps { result.1.steps ≡ row_steps cert.now.groups base.now cert.now row.now }
     ensures count { IsRowCount base.now (C.most_among (length cert.now.rows)) cert.now.rows row.now result.0 result.1 }
 {
     let _frames = base.frames();
@@ -129,10 +137,13 @@ fn judge_row<C: Cover + Drop>(
         }
     }
 }
+
 // The first condition that fails of the rows in order, and what they took.
 fn judge_rows<C: Cover + Drop>(base: &Base, cert: &Certificate<C>) -> (Option<Cause>, Count)
     requires some { 0 < length cert.now.rows }
     ensures cause { result.0 ≡ rows_fault cert.now.groups base.now cert.now cert.now.rows }
+    ensures probes { result.1.probes ≡ sum_by (row_probes C.compared cert.now.groups base.now cert.now) (judged cert.now.groups base.now cert.now cert.now.rows) }
+    ensures steps { result.1.steps ≡ sum_by (row_steps cert.now.groups base.now cert.now) (judged cert.now.groups base.now cert.now cert.now.rows) }
     ensures count { AreAllCounted base.now (C.most_among (length cert.now.rows)) cert.now.rows result.0 result.1 }
 {
     let cover = cert.cover();
@@ -157,6 +168,7 @@ fn judge_head<C: Cover + Drop>(
     cert: &Certificate<C>,
 ) -> (Option<Cause>, u32)
     ensures cause { result.0 ≡ head_fault base.now policy.now cert.now }
+    ensures exact { result.1 ≡ counted_if (is_entry_sought result.0) (C.compared cert.now.rows (entry_of base.now)) }
     ensures most { result.1 ≤ C.most_among (length cert.now.rows) }
     ensures small { result.1 ≤ 4294967295 }
     ensures some { result.0 ≡ None → 0 < length cert.now.rows }
@@ -187,6 +199,8 @@ fn first_cause<C: Cover + Drop>(
     cert: &Certificate<C>,
 ) -> (Option<Cause>, Count)
     ensures cause { verdict_of result.0 ≡ verdict base.now policy.now cert.now }
+    ensures probes { result.1.probes ≡ probes_of C.compared base.now policy.now cert.now }
+    ensures steps { result.1.steps ≡ steps_of base.now policy.now cert.now }
     ensures count { IsCount base.now cert.now.rows (C.most_among (length cert.now.rows)) (verdict_of result.0) result.1 }
 {
     let (cause, asked) = judge_head(base, policy, cert);
@@ -201,16 +215,23 @@ fn first_cause<C: Cover + Drop>(
     (cause, together(count, head))
 }
 
-/// Checks a certificate against a base, for a caller of the policy's groups, and tells what that took. Takes no memory.
+/// Checks a certificate against a base, for a caller of the policy's groups, and reports what that took. Takes no memory.
 ///
-/// Each route and next of a row is sought once among the rows, and each row's body is painted at most once. With m the
-/// cover's `most`, the look-ups compare at most (176 + 11 m) times the rows, and m and 16 more.
+/// Each route and next of a row is sought once among the rows, and each row's body is painted at most once. The rows after
+/// the first one at fault aren't judged. With m the cover's `most`, the look-ups compare at most (176 + 11 m) times the rows,
+/// and m and 16 more.
 pub fn check_counted<C: Cover + Drop>(
     base: &Base,
     policy: &Policy,
     cert: &Certificate<C>,
 ) -> (Verdict, Count)
     ensures verdict { result.0 ≡ verdict base.now policy.now cert.now }
+
+    // Exactly how much was compared and painted.
+    ensures probes { result.1.probes ≡ probes_of C.compared base.now policy.now cert.now }
+    ensures steps { result.1.steps ≡ steps_of base.now policy.now cert.now }
+
+    // Bounds of it.
     ensures count { IsCount base.now cert.now.rows (C.most_among (length cert.now.rows)) result.0 result.1 }
 {
     let (cause, count) = first_cause(base, policy, cert);

@@ -56,7 +56,7 @@ fn over_way<C: Cover + Drop>(
     frame: &Frame,
     way: &Way,
 ) -> Target
-    ensures { IsTarget base.now cert.now.rows (C.most_among (length cert.now.rows)) rank frame.now way.now result }
+    ensures { IsTarget C.compared base.now cert.now.rows (C.most_among (length cert.now.rows)) rank frame.now way.now result }
 {
     let Some(to) = frame.sought(*way) else {
         return Target {
@@ -99,7 +99,7 @@ pub fn over_ways<C: Cover + Drop>(
     rank: u16,
     frame: &Frame,
 ) -> Targets
-    ensures { AreTargets base.now cert.now.rows (C.most_among (length cert.now.rows)) rank frame.now 11 result }
+    ensures { AreTargets C.compared base.now cert.now.rows (C.most_among (length cert.now.rows)) rank frame.now 11 result }
 {
     let mut seen = Targets {
         lost: None,
