@@ -1,0 +1,26 @@
+"""Runs of the program with the most memory that it held at once: what tests/hostile-files and tests/peak-memory share."""
+
+import os
+import re
+import subprocess
+
+from program import PROGRAM, TOP
+
+PEAK = re.compile(rb"\npeak (\d+)\n")
+SECONDS = 120
+
+
+class Peaks:
+    """Runs with the library of peak.c, which is built in a folder."""
+
+    def __init__(self, folder):
+        library = folder / "peak.so"
+        subprocess.run(["cc", "-O1", "-shared", "-fPIC", "-o", library, TOP / "tests" / "peak.c"], check=True)
+        self.env = dict(os.environ, LD_PRELOAD=str(library))
+
+    def run(self, words, **options):
+        """Status, standard output, standard error without blanks at its ends, and the most memory in kilobytes."""
+        options = {"stdout": subprocess.PIPE} | options
+        done = subprocess.run([PROGRAM, *words], stderr=subprocess.PIPE, env=self.env, timeout=SECONDS, check=False, **options)
+        told = PEAK.sub(b"", done.stderr).decode().strip()
+        return done.returncode, done.stdout, told, max(map(int, PEAK.findall(done.stderr)), default=0)
