@@ -14,7 +14,7 @@ use Rattle.toml.specs.declared.value.Value.{Value}
 use Rattle.frame_records.specs.Steps.{◌>>=◌}
 use Rattle.base_text.specs.declared.fault.Cause.{Cause}
 use Rattle.base_text.specs.declared.fault.Field.TheVariants as field
-use Rattle.base_text.specs.declared.keys.Place.TheVariants as place
+use Rattle.base_text.specs.declared.keys.TableKind.TheVariants as kind
 use Rattle.base_text.specs.Fields.{page_of}
 use Rattle.base_text.specs.Keys.{digit_key, is_digit_key, has_only_keys}
 use Rattle.base_text.specs.Routes.{digit_of, routes_from, all_routes, no_routes}
@@ -66,7 +66,7 @@ put done d n page count =
 one_more : (done : Routes) (r : Option ℕ) (d : ℕ) → length done ≡ d → length (done ++ r ∷ []) ≡ d + 1
 one_more done r d count = omega (arith, length-append done (r ∷ []), count)
 
--- what the digits from d on come to, in one of two ways
+-- the result of the digits from d on, in one of two ways
 abbrev Fills : ℕ → ℕ → Members → Type 0
 Fills n d ms = (done : Routes) → length done ≡ d → filled (done ++ nones n) ms ≡ (routes_from n d ms >>= (λ rs. Ok (done ++ rs)))
 
@@ -122,19 +122,19 @@ next_digit (c ∷ b' ∷ cs) l a b lt = absurd cc
 next_digit (c ∷ []) [] a b lt = absurd cc
 next_digit (c ∷ []) (e ∷ b' ∷ cs) a b lt = absurd cc
 
-starts : (e : Entry) (es : List Entry) → IsStrictlySortedBy string_cmp (keys_of (e ∷ es)) → has_only_keys place.Routes (members_view (e ∷ es)) ≡ true → StartsAt (digit_of (string_bytes e.0) + 1) es
+starts : (e : Entry) (es : List Entry) → IsStrictlySortedBy string_cmp (keys_of (e ∷ es)) → has_only_keys kind.Routes (members_view (e ∷ es)) ≡ true → StartsAt (digit_of (string_bytes e.0) + 1) es
 unfolding IsStrictlySortedBy
 starts e [] up digits = tt
 starts e (f ∷ es) up digits =
-    let (here, more) = and_parts (is_digit_key (string_bytes e.0)) (has_only_keys place.Routes (members_view (f ∷ es))) digits in
-    let (there, rest) = and_parts (is_digit_key (string_bytes f.0)) (has_only_keys place.Routes (members_view es)) more in
+    let (here, more) = and_parts (is_digit_key (string_bytes e.0)) (has_only_keys kind.Routes (members_view (f ∷ es))) digits in
+    let (there, rest) = and_parts (is_digit_key (string_bytes f.0)) (has_only_keys kind.Routes (members_view es)) more in
     next_digit (string_bytes e.0) (string_bytes f.0) here there up.0.0
 
-rising : (d : ℕ) (es : List Entry) → StartsAt d es → IsStrictlySortedBy string_cmp (keys_of es) → has_only_keys place.Routes (members_view es) ≡ true → Rising d (members_view es)
+rising : (d : ℕ) (es : List Entry) → StartsAt d es → IsStrictlySortedBy string_cmp (keys_of es) → has_only_keys kind.Routes (members_view es) ≡ true → Rising d (members_view es)
 unfolding IsStrictlySortedBy
 rising d [] from up digits = tt
 rising d (e ∷ es) from up digits =
-    let (here, more) = and_parts (is_digit_key (string_bytes e.0)) (has_only_keys place.Routes (members_view es)) digits in
+    let (here, more) = and_parts (is_digit_key (string_bytes e.0)) (has_only_keys kind.Routes (members_view es)) digits in
     let code = digit_code (string_bytes e.0) here in
     (digit_of (string_bytes e.0), code.0, from, code.1, rising (digit_of (string_bytes e.0) + 1) es (starts e es up digits) up.1 more)
 
@@ -143,7 +143,7 @@ from_0 [] = tt
 from_0 (e ∷ es) = omega arith
 
 -- value by value is digit by digit
-pub filled_routes : (es : List Entry) → IsStrictlySortedBy string_cmp (keys_of es) → has_only_keys place.Routes (members_view es) ≡ true → filled no_routes (members_view es) ≡ all_routes (members_view es)
+pub filled_routes : (es : List Entry) → IsStrictlySortedBy string_cmp (keys_of es) → has_only_keys kind.Routes (members_view es) ≡ true → filled no_routes (members_view es) ≡ all_routes (members_view es)
 unfolding all_routes
 filled_routes es up digits = fills 10 0 (members_view es) refl (rising 0 es (from_0 es) up digits) [] refl ∙ whole (routes_from 10 0 (members_view es)) where
   whole : (o : Result Routes Cause) → (o >>= (λ rs. Ok ([] ++ rs))) ≡ o

@@ -5,17 +5,16 @@ use Rattle.frame_records.specs.Steps.{◌>>=◌}
 use Rattle.toml.specs.View.{view, items_view}
 use Rattle.toml.specs.declared.value.Value.{Value}
 use Rattle.base_text.specs.declared.fault.BaseFault.{BaseFault}
-use Rattle.base_text.specs.Outcome.{at_index}
 use Rattle.base_text.specs.Frames.{frame_of}
 use Rattle.base_text.specs.FrameList.{frames_from}
 
--- one more in front of the rest is one more behind what is done
+-- one more in front of the rest is one more after what is done
 pub moved : {A E : Type 0} (done : List A) (a : A) (rest : Result (List A) E) → ((rest >>= (λ rs. Ok (a ∷ rs))) >>= (λ rs. Ok (done ++ rs))) ≡ (rest >>= (λ rs. Ok ((done ++ a ∷ []) ++ rs)))
 moved done a (Ok rs) = ap Ok (sym (append_assoc done (a ∷ []) rs))
 moved done a (Err c) = refl
 
 -- the frames so far and those to come, one frame on
-pub read_on : (vs : List Value) (v : Value) (rest : List Value) (done more : List Frame) (f : Frame) (whole : Result (List Frame) BaseFault) → vs ≡ v ∷ rest → at_index (length done) (frame_of (view v)) ≡ Ok f → more ≡ done ++ f ∷ [] → whole ≡ (frames_from (length done) (items_view vs) >>= (λ fs. Ok (done ++ fs))) → whole ≡ (frames_from (length more) (items_view rest) >>= (λ fs. Ok (more ++ fs)))
+pub read_on : (vs : List Value) (v : Value) (rest : List Value) (done more : List Frame) (f : Frame) (whole : Result (List Frame) BaseFault) → vs ≡ v ∷ rest → frame_of (view v) ≡ Ok f → more ≡ done ++ f ∷ [] → whole ≡ (frames_from (length done) (items_view vs) >>= (λ fs. Ok (done ++ fs))) → whole ≡ (frames_from (length more) (items_view rest) >>= (λ fs. Ok (more ++ fs)))
 read_on vs v rest done more f whole first good pushed so_far =
     let count : length more ≡ length done + 1 = rw pushed (length-append done (f ∷ [])) in
     let opened = rw (first, good) at so_far in

@@ -21,7 +21,7 @@ abbrev pub bytes_value : Data → Result (List ℕ) Cause
 bytes_value (string text) = bytes_of text
 bytes_value _ = Err (WrongKind field.Body)
 
--- the body of the values of `body` and `rows`, of which just one is there
+-- the body of the values of `body` and `rows`, exactly one of which is there
 abbrev pub body_of : Option Data → Option Data → Result (List ℕ) Cause
 body_of (Some b) (Some r) = Err BodyAndRows
 body_of (Some b) None = bytes_value b

@@ -6,14 +6,14 @@ use Rattle.toml.specs.Data.{Data, array, Items, no_items, item}
 use Rattle.base_text.specs.declared.fault.BaseFault.{BaseFault}
 use Rattle.base_text.specs.declared.fault.Cause.TheVariants.{WrongKind}
 use Rattle.base_text.specs.declared.fault.Field.TheVariants as field
-use Rattle.base_text.specs.Outcome.{at_index, top_fault}
+use Rattle.base_text.specs.Outcome.{frame_index, located, top_fault}
 use Rattle.base_text.specs.Frames.{frame_of}
 
 -- frames in turn, the first with this index
 abbrev pub frames_from : ℕ → Items → Result (List Frame) BaseFault
 frames_from i no_items = Ok []
 frames_from i (item d ds) = do
-  frame ← at_index i (frame_of d)
+  frame ← located (frame_index i) (frame_of d)
   frames ← frames_from (i + 1) ds
   Ok (frame ∷ frames)
 

@@ -8,7 +8,7 @@ use Rattle.base_text.specs.declared.fault.Cause.TheVariants.{UnknownKey, WrongKi
 use Rattle.base_text.specs.declared.fault.Field.TheVariants as field
 use Rattle.base_text.specs.declared.frames.Head.{Head}
 use Rattle.base_text.specs.declared.frames.Shown.{Shown}
-use Rattle.base_text.specs.declared.keys.Place.TheVariants as place
+use Rattle.base_text.specs.declared.keys.TableKind.TheVariants as kind
 use Rattle.base_text.specs.Keys.{has_only_keys}
 use Rattle.base_text.specs.Fields.{id_of, price_of, group_of, next_of, lead_of}
 use Rattle.base_text.specs.Routes.{routes_of}
@@ -44,7 +44,7 @@ known_frame ms = do
 
 -- the frame of a table; its keys are looked at before any field
 abbrev pub table_frame : Members → Result Frame Cause
-table_frame ms = if has_only_keys place.Frame ms then known_frame ms else Err UnknownKey
+table_frame ms = if has_only_keys kind.Frame ms then known_frame ms else Err UnknownKey
 
 -- the frame of an element of `frame`
 abbrev pub frame_of : Data → Result Frame Cause

@@ -3,8 +3,8 @@ use Rattle.std.specs.Prelude.{ℕ, ◌+◌, Bool, true, false, ◌&&◌, ◌||�
 use Rattle.std.specs.Char.{is_ascii_digit}
 use Rattle.std.specs.Str.{bytes_eq}
 use Rattle.toml.specs.Data.{Members, no_members, member}
-use Rattle.base_text.specs.declared.keys.Place.{Place}
-use Rattle.base_text.specs.declared.keys.Place.TheVariants.{Top, Frame, Routes}
+use Rattle.base_text.specs.declared.keys.TableKind.{TableKind}
+use Rattle.base_text.specs.declared.keys.TableKind.TheVariants.{Top, Frame, Routes}
 
 -- the keys of the top
 abbrev pub is_top_key : List ℕ → Bool
@@ -27,13 +27,13 @@ is_digit_key _ = false
 abbrev pub digit_key : ℕ → List ℕ
 digit_key d = (48 + d) ∷ []
 
--- the place has the key
-abbrev pub is_key : Place → List ℕ → Bool
+-- the table may have the key
+abbrev pub is_key : TableKind → List ℕ → Bool
 is_key Top k = is_top_key k
 is_key Frame k = is_head_key k || is_shown_key k
 is_key Routes k = is_digit_key k
 
--- the place has each of the keys
-abbrev pub has_only_keys : Place → Members → Bool
-has_only_keys place no_members = true
-has_only_keys place (member k d ms) = is_key place k && has_only_keys place ms
+-- it may have each of the keys
+abbrev pub has_only_keys : TableKind → Members → Bool
+has_only_keys kind no_members = true
+has_only_keys kind (member k d ms) = is_key kind k && has_only_keys kind ms

@@ -5,7 +5,7 @@ use Rattle.frame_records.specs.Steps.{◌>>=◌}
 use Rattle.base_text.specs.declared.fault.Cause.{Cause}
 use Rattle.base_text.specs.declared.fault.Cause.TheVariants.{UnknownKey, WrongKind}
 use Rattle.base_text.specs.declared.fault.Field.TheVariants as field
-use Rattle.base_text.specs.declared.keys.Place.TheVariants as place
+use Rattle.base_text.specs.declared.keys.TableKind.TheVariants as kind
 use Rattle.base_text.specs.Keys.{has_only_keys, digit_key}
 use Rattle.base_text.specs.Fields.{page_of}
 
@@ -33,7 +33,7 @@ all_routes ms = routes_from 10 0 ms
 
 -- all keys are looked at before any value
 abbrev pub table_routes : Members → Result (List (Option ℕ)) Cause
-table_routes ms = if has_only_keys place.Routes ms then all_routes ms else Err UnknownKey
+table_routes ms = if has_only_keys kind.Routes ms then all_routes ms else Err UnknownKey
 
 -- ten absent routes
 abbrev pub no_routes : List (Option ℕ)

@@ -29,7 +29,7 @@ rows_of (item d ds) = do
   rows ← rows_of ds
   Ok (row ∷ rows)
 
--- a row's codes, and 0D 0A where it isn't full
+-- a row's codes, and 0D 0A if it isn't full
 abbrev pub row_bytes : List ℕ → List ℕ
 row_bytes row = if nat_lt (length row) 40 then row ++ 0x0D ∷ 0x0A ∷ [] else row
 

@@ -7,8 +7,8 @@ use Rattle.frame_records.specs.Steps.{◌>>=◌}
 use Rattle.base_text.specs.declared.limits.TheConstants.{MOST_TEXT}
 use Rattle.base_text.specs.declared.fault.BaseFault.{BaseFault}
 use Rattle.base_text.specs.declared.fault.Cause.TheVariants.{UnknownKey, TooLong, NotToml}
-use Rattle.base_text.specs.declared.keys.Place.TheVariants as place
-use Rattle.base_text.specs.Outcome.{at_top, top_fault}
+use Rattle.base_text.specs.declared.keys.TableKind.TheVariants as kind
+use Rattle.base_text.specs.Outcome.{located, top_fault}
 use Rattle.base_text.specs.Keys.{has_only_keys}
 use Rattle.base_text.specs.Fields.{entry_of, outside_of}
 use Rattle.base_text.specs.FrameList.{frames_of}
@@ -17,16 +17,16 @@ use Rattle.base_text.specs.Parts.{PartsView}
 -- what a table lists whose keys are known
 abbrev pub known_parts : Members → Result PartsView BaseFault
 known_parts ms = do
-  entry ← at_top (entry_of (get_member (codes "entry") ms))
-  outside ← at_top (outside_of (get_member (codes "outside") ms))
+  entry ← located None (entry_of (get_member (codes "entry") ms))
+  outside ← located None (outside_of (get_member (codes "outside") ms))
   frames ← frames_of (get_member (codes "frame") ms)
   Ok (record { entry = entry; outside = outside; frames = frames })
 
 -- what a table lists; its keys are looked at before any field
 abbrev pub table_parts : Members → Result PartsView BaseFault
-table_parts ms = if has_only_keys place.Top ms then known_parts ms else Err (top_fault UnknownKey)
+table_parts ms = if has_only_keys kind.Top ms then known_parts ms else Err (top_fault UnknownKey)
 
--- what a tree lists, where the text has one
+-- what a tree lists, if the text has one
 abbrev pub tree_parts : Option Members → Result PartsView BaseFault
 tree_parts None = Err (top_fault NotToml)
 tree_parts (Some ms) = table_parts ms

@@ -37,13 +37,13 @@ abbrev pub IsFaultOf : Result PartsView BaseFault → BaseFault → Type 0
 IsFaultOf (Err first) fault = fault ≡ first
 IsFaultOf (Ok p) fault = (fault.frame ≡ None) × IsWholeCause p.outside p.frames fault.cause
 
--- the same, save want of memory, which has no index
-abbrev pub IsFaultOrWant : List ℕ → BaseFault → Cause → Type 0
-IsFaultOrWant text fault Memory = fault.frame ≡ None
-IsFaultOrWant text fault _ = IsFaultOf (parts_of text) fault
+-- the same, except for refused memory, which has no index
+abbrev pub IsFirstOrMemory : List ℕ → BaseFault → Cause → Type 0
+IsFirstOrMemory text fault Memory = fault.frame ≡ None
+IsFirstOrMemory text fault _ = IsFaultOf (parts_of text) fault
 
 abbrev pub IsFirstFault : List ℕ → BaseFault → Type 0
-IsFirstFault text fault = IsFaultOrWant text fault fault.cause
+IsFirstFault text fault = IsFirstOrMemory text fault fault.cause
 
 -- the base that the text means, or its first fault
 abbrev pub IsRead : List ℕ → Result BaseView BaseFault → Type 0

@@ -2,7 +2,7 @@ ghost use Rattle.std.specs.Prelude.{◌≡◌, Some, codes, string_bytes};
 ghost use Rattle.toml.specs.Data.{get_member};
 ghost use Rattle.toml.specs.View.{table_view, view};
 ghost use Rattle.base_text.specs.Outcome.{OrMemory};
-ghost use Rattle.base_text.specs.Bodies.{bytes_of, bytes_value, body_of};
+ghost use Rattle.base_text.specs.Bodies.{bytes_of, body_of};
 ghost use Rattle.base_text.specs.Seen.{seen};
 
 use crate::fault::{Cause, Field};
@@ -37,16 +37,6 @@ fn body_of_text(alloc: Global, text: String) -> Result<Body, Cause>
     }
 }
 
-// The body of the value of `body`.
-fn read_bytes(alloc: Global, value: Value) -> Result<Body, Cause>
-    ensures { OrMemory (bytes_value (view value)) result }
-{
-    match value {
-        Value::String(text) => body_of_text(alloc, text),
-        _ => Err(Cause::WrongKind(Field::Body)),
-    }
-}
-
 // The body of the rows of a frame that has no `body` besides.
 fn read_rows_alone(alloc: Global, body: Option<&Value>, rows: &Value) -> Result<Body, Cause>
     ensures { OrMemory (body_of (seen body.entry) (Some (view rows.now))) result }
@@ -65,7 +55,8 @@ pub fn read_body(alloc: Global, table: &mut Table) -> Result<Body, Cause>
         return read_rows_alone(alloc, member(table, "body"), rows);
     }
     match take_member(table, "body") {
-        Some(body) => read_bytes(alloc, body),
+        Some(Value::String(text)) => body_of_text(alloc, text),
+        Some(_) => Err(Cause::WrongKind(Field::Body)),
         None => Err(Cause::Absent(Field::Body)),
     }
 }

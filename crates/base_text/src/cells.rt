@@ -26,7 +26,7 @@ impl Model for RowCells {
 }
 
 impl RowCells {
-    /// The row of these codes; `None` where they are over 40 or one is another code.
+    /// The row of these codes; `None` if they are over 40 or one is another code.
     pub fn new(codes: &[u8]) -> Option<RowCells>
         ensures { SomeIff result (IsRow codes.now) codes.now }
     {

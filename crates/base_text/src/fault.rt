@@ -1,12 +1,12 @@
 ghost use Rattle.std.specs.Prelude.{◌≡◌};
-ghost use Rattle.base_text.specs.Outcome.{told_index, fault_at, top_fault};
+ghost use Rattle.base_text.specs.Outcome.{frame_index, fault_in};
 ghost use Rattle.base_text.specs.Whole.{build_cause};
 
 use frame_records::BuildFault;
 use page_ids::{FrameId, PageNo};
 use thiserror::Error;
 
-/// The name of a key of the text, at which a fault stands.
+/// The key of the text at which a fault is.
 #[derive(Debug, Clone, Copy, PartialEq, Eq)]
 pub enum Field {
     Entry,
@@ -79,37 +79,27 @@ pub enum Cause {
 #[derive(Debug, Clone, Copy, PartialEq, Eq, Error)]
 #[error("base text refused")]
 pub struct BaseFault {
-    /// The index of the frame's table among the text's, from 0, where the fault is one frame's own. The faults of a base as
-    /// a whole have none, nor has want of memory.
+    /// The index of the frame's table among the text's, from 0, if the fault is one frame's own. The faults of a base as a
+    /// whole have none, nor has refused memory.
     pub frame: Option<u32>,
     pub cause: Cause,
 }
 
 // An index as far as its type holds it.
-fn told_index(index: usize) -> Option<u32>
-    ensures { result ≡ told_index index }
+pub fn frame_index(index: usize) -> Option<u32>
+    ensures { result ≡ frame_index index }
 {
     u32::try_from(index).ok()
 }
 
-// A fault within the frame of an index.
-pub fn fault_at(index: usize, cause: Cause) -> BaseFault
-    ensures { result ≡ fault_at index cause }
+// A fault within the frame of an index, or outside the frames. Refused memory has no index.
+pub fn fault_in(frame: Option<u32>, cause: Cause) -> BaseFault
+    ensures { result ≡ fault_in frame cause }
 {
     match cause {
         Cause::Memory => BaseFault { frame: None, cause },
-        _ => BaseFault {
-            frame: told_index(index),
-            cause,
-        },
+        _ => BaseFault { frame, cause },
     }
-}
-
-// A fault outside the frames.
-pub fn top_fault(cause: Cause) -> BaseFault
-    ensures { result ≡ top_fault cause }
-{
-    BaseFault { frame: None, cause }
 }
 
 // The cause by which a base as a whole is refused.

@@ -1,14 +1,14 @@
-ghost use Rattle.std.specs.Prelude.{◌≡◌, codes, option_map};
+ghost use Rattle.std.specs.Prelude.{◌≡◌, None, OnOk, option_map};
 ghost use Rattle.toml.specs.View.{table_view, view, items_view};
-ghost use Rattle.base_text.specs.Outcome.{OrMemory, FaultOrMemory, at_index};
-ghost use Rattle.base_text.specs.Frames.{head_of, shown_of, known_frame, table_frame, frame_of};
+ghost use Rattle.base_text.specs.Outcome.{OrMemory, FaultOrMemory, located};
+ghost use Rattle.base_text.specs.Frames.{head_of, shown_of, table_frame, frame_of};
 ghost use Rattle.base_text.specs.FrameList.{frames_from, frames_of};
 ghost use Rattle.base_text.specs.Seen.{listed};
 
 use crate::bodies::read_body;
-use crate::fault::{BaseFault, Cause, Field, fault_at, top_fault};
+use crate::fault::{Cause, Field, frame_index};
 use crate::fields::{read_group, read_id, read_lead, read_next, read_price};
-use crate::keys::{Place, has_only_keys, member};
+use crate::keys::{TableKind, has_only_keys, member};
 use crate::routes::read_routes;
 use frame_records::{Body, Frame, GroupNo, Lead, Pence};
 use page_ids::{FrameId, PageNo};
@@ -57,10 +57,13 @@ fn read_shown(alloc: Global, table: &mut Table) -> Result<Shown, Cause>
     Ok(Shown { routes, lead, body })
 }
 
-// The frame of a table whose keys are known.
-fn known_frame(alloc: Global, mut table: Table) -> Result<Frame, Cause>
-    ensures { OrMemory (known_frame (table_view table)) result }
+// The frame of a table; its keys are looked at before any field.
+fn table_frame(alloc: Global, mut table: Table) -> Result<Frame, Cause>
+    ensures { OrMemory (table_frame (table_view table)) result }
 {
+    if !has_only_keys(TableKind::Frame, &table) {
+        return Err(Cause::UnknownKey);
+    }
     let head = read_head(&table)?;
     let Shown { routes, lead, body } = read_shown(alloc, &mut table)?;
     Ok(Frame {
@@ -74,16 +77,6 @@ fn known_frame(alloc: Global, mut table: Table) -> Result<Frame, Cause>
     })
 }
 
-fn table_frame(alloc: Global, table: Table) -> Result<Frame, Cause>
-    ensures { OrMemory (table_frame (table_view table)) result }
-{
-    if has_only_keys(Place::Frame, &table) {
-        known_frame(alloc, table)
-    } else {
-        Err(Cause::UnknownKey)
-    }
-}
-
 fn read_frame(alloc: Global, value: Value) -> Result<Frame, Cause>
     ensures { OrMemory (frame_of (view value)) result }
 {
@@ -93,47 +86,44 @@ fn read_frame(alloc: Global, value: Value) -> Result<Frame, Cause>
     }
 }
 
-fn frame_at_index(alloc: Global, index: usize, value: Value) -> Result<Frame, BaseFault>
-    ensures { FaultOrMemory (at_index index (frame_of (view value))) result }
-{
-    match read_frame(alloc, value) {
-        Ok(frame) => Ok(frame),
-        Err(cause) => Err(fault_at(index, cause)),
-    }
-}
-
-// Has the C library's allocator join the small pieces that the tables of the last 32 frames let go: it does so at each request
-// of this size, and that costs little while they are at hand. Left to the end, it takes a tenth of the time of a large base.
+// Lets the C library's allocator join the pieces that the tables of the last 32 frames freed: it does so at each request of this
+// size, and that costs little while they are in the cache. Left to the end, it takes a tenth of the time of a large base.
 fn settle(alloc: Global, frames: usize) {
     if frames % 32 == 0 {
         let _ = Vec::<u8>::with_capacity(alloc, 4_096);
     }
 }
 
-// The frames of an array. Each value is let go as soon as its frame is read.
-fn frame_list(alloc: Global, values: Vec<Value>) -> Result<Vec<Frame>, BaseFault>
-    ensures { FaultOrMemory (frames_from 0 (items_view values.items)) (listed result) }
+// The frames of an array. Each value is dropped as soon as its frame is read. `at` is the index of the frame that is being read.
+fn frame_list(alloc: Global, values: Vec<Value>, at: &mut Option<u32>) -> Result<Vec<Frame>, Cause>
+    requires { at.old ≡ None }
+    ensures value { FaultOrMemory (frames_from 0 (items_view values.items)) (located at.new (listed result)) }
+    ensures done { OnOk result (at.new ≡ None) }
 {
     let mut frames = Vec::new(alloc);
     for value in values {
-        let frame = match frame_at_index(alloc, frames.len(), value) {
-            Ok(frame) => frame,
-            Err(fault) => return Err(fault),
-        };
-        if frames.push(frame).is_err() {
-            return Err(top_fault(Cause::Memory));
-        }
+        *at = frame_index(frames.len());
+        let frame = read_frame(alloc, value)?;
+        frames.push(frame).map_err(|_| Cause::Memory)?;
         settle(alloc, frames.len());
     }
+    *at = None;
     Ok(frames)
 }
 
-pub fn read_frames(alloc: Global, value: Option<Value>) -> Result<Vec<Frame>, BaseFault>
-    ensures { FaultOrMemory (frames_of (option_map view value)) (listed result) }
+// The frames of the value of `frame`, or none.
+pub fn read_frames(
+    alloc: Global,
+    value: Option<Value>,
+    at: &mut Option<u32>,
+) -> Result<Vec<Frame>, Cause>
+    requires { at.old ≡ None }
+    ensures value { FaultOrMemory (frames_of (option_map view value)) (located at.new (listed result)) }
+    ensures done { OnOk result (at.new ≡ None) }
 {
     match value {
-        Some(Value::Array(values)) => frame_list(alloc, values),
-        Some(_) => Err(top_fault(Cause::WrongKind(Field::Frame))),
+        Some(Value::Array(values)) => frame_list(alloc, values, at),
+        Some(_) => Err(Cause::WrongKind(Field::Frame)),
         None => Ok(Vec::new(alloc)),
     }
 }

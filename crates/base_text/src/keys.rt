@@ -6,9 +6,9 @@ ghost use Rattle.base_text.specs.Seen.{seen};
 
 use toml::{Table, Value};
 
-// A table whose keys are given.
+// The tables of a base's text, each with its own keys.
 #[derive(Debug, Clone, Copy, PartialEq, Eq)]
-pub enum Place {
+pub enum TableKind {
     Top,
     Frame,
     Routes,
@@ -28,22 +28,22 @@ fn is_shown_key(key: &str) -> bool
     key == "routes" || key == "lead" || key == "body" || key == "rows"
 }
 
-fn is_key(place: Place, key: &str) -> bool
-    ensures { result ≡ is_key place key.now }
+fn is_key(kind: TableKind, key: &str) -> bool
+    ensures { result ≡ is_key kind key.now }
 {
-    match place {
-        Place::Top => key == "entry" || key == "outside" || key == "frame",
-        Place::Frame => is_head_key(key) || is_shown_key(key),
-        Place::Routes => key.len() == 1 && key.as_bytes()[0].is_ascii_digit(),
+    match kind {
+        TableKind::Top => key == "entry" || key == "outside" || key == "frame",
+        TableKind::Frame => is_head_key(key) || is_shown_key(key),
+        TableKind::Routes => key.len() == 1 && key.as_bytes()[0].is_ascii_digit(),
     }
 }
 
-// Each key of the table is one that the place has.
-pub fn has_only_keys(place: Place, table: &Table) -> bool
-    ensures { result ≡ has_only_keys place (table_view table.now) }
+// Whether the table has no key but its own.
+pub fn has_only_keys(kind: TableKind, table: &Table) -> bool
+    ensures { result ≡ has_only_keys kind (table_view table.now) }
 {
     for (key, _) in table.iter() {
-        if !is_key(place, key.as_str()) {
+        if !is_key(kind, key.as_str()) {
             return false;
         }
     }

@@ -26,7 +26,7 @@
 //! base_read(alloc, b"outside = [0]\n") // Absent(Entry) (X4), without an index
 //! ```
 //!
-//! - [`BaseFault`], [`Cause`], [`Field`]: where a text is refused, why, and the name of the key.
+//! - [`BaseFault`], [`Cause`], [`Field`]: in which frame a text is refused, why, and at which key.
 //! - [`RowCells`], [`body_of_rows`]: a row of a screen, and the body that paints rows.
 //!
 //! Codes of two digits are hexadecimal. Which TOML a text is, is what the crate `toml` defines.

@@ -6,7 +6,7 @@ ghost use Rattle.base_text.specs.Seen.{seen};
 
 use crate::fault::{Cause, Field};
 use crate::fields::page;
-use crate::keys::{Place, has_only_keys};
+use crate::keys::{TableKind, has_only_keys};
 use page_ids::PageNo;
 use toml::{Table, Value};
 
@@ -21,7 +21,7 @@ fn digit_of(key: &str) -> usize
 
 // The routes of a table whose keys are digits. They come in the order of the digits.
 fn all_routes(table: &Table) -> Result<[Option<PageNo>; 10], Cause>
-    requires { has_only_keys Place.Routes (table_view table.now) ≡ true }
+    requires { has_only_keys TableKind.Routes (table_view table.now) ≡ true }
     ensures { result ≡ all_routes (table_view table.now) }
 {
     let mut routes = [None; 10];
@@ -35,7 +35,7 @@ fn all_routes(table: &Table) -> Result<[Option<PageNo>; 10], Cause>
 fn table_routes(table: &Table) -> Result<[Option<PageNo>; 10], Cause>
     ensures { result ≡ table_routes (table_view table.now) }
 {
-    if has_only_keys(Place::Routes, table) {
+    if has_only_keys(TableKind::Routes, table) {
         all_routes(table)
     } else {
         Err(Cause::UnknownKey)

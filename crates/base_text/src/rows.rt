@@ -43,7 +43,7 @@ fn push_row(bytes: &mut Vec<u8>, row: &[u8]) -> Result<(), AllocError>
 }
 
 /// The body that paints these rows, of which there are at most 22, from row 1 on: 1E 0A, then each row, followed by 0D 0A
-/// where it has fewer than 40 codes.
+/// if it has fewer than 40 codes.
 pub fn body_of_rows(alloc: Global, rows: &[RowCells]) -> Result<Body, AllocError>
     requires { length rows.now ≤ 22 }
     ensures { IfOk result (λ body. body ≡ body_of_rows rows.now) }

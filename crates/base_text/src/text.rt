@@ -1,14 +1,14 @@
-ghost use Rattle.std.specs.Prelude.{◌≡◌, ◌⊎◌, IfOk, IfErr, Some, None};
+ghost use Rattle.std.specs.Prelude.{◌≡◌, ◌⊎◌, IfOk, OnOk, IfErr, Some, None};
 ghost use Rattle.toml.specs.View.{table_view};
 ghost use Rattle.base_text.specs.declared.fault.Cause.TheVariants.{Memory, NotToml};
-ghost use Rattle.base_text.specs.Outcome.{FaultOrMemory};
-ghost use Rattle.base_text.specs.Text.{known_parts, table_parts, tree_of, tree_parts, parts_of};
+ghost use Rattle.base_text.specs.Outcome.{FaultOrMemory, located};
+ghost use Rattle.base_text.specs.Text.{table_parts, tree_of, parts_of};
 ghost use Rattle.base_text.specs.Whole.{IsTextBase, IsFirstFault, IsRead};
 
-use crate::fault::{BaseFault, Cause, build_cause, top_fault};
+use crate::fault::{BaseFault, Cause, build_cause, fault_in};
 use crate::fields::{read_entry, read_outside};
 use crate::frames::read_frames;
-use crate::keys::{Place, has_only_keys, member, take_member};
+use crate::keys::{TableKind, has_only_keys, member, take_member};
 use crate::limits::MOST_TEXT;
 use frame_records::{Base, Frame};
 use page_ids::PageNo;
@@ -32,38 +32,6 @@ impl Model for Parts {
     ghost view = { λ p. record { entry = p.entry; outside = p.outside.items; frames = p.frames.items } };
 }
 
-// What a table lists whose keys are known.
-fn known_parts(alloc: Global, mut table: Table) -> Result<Parts, BaseFault>
-    ensures { FaultOrMemory (known_parts (table_view table)) result }
-{
-    let entry = match read_entry(member(&table, "entry")) {
-        Ok(entry) => entry,
-        Err(cause) => return Err(top_fault(cause)),
-    };
-    let outside = match read_outside(alloc, member(&table, "outside")) {
-        Ok(outside) => outside,
-        Err(cause) => return Err(top_fault(cause)),
-    };
-    match read_frames(alloc, take_member(&mut table, "frame")) {
-        Ok(frames) => Ok(Parts {
-            entry,
-            outside,
-            frames,
-        }),
-        Err(fault) => Err(fault),
-    }
-}
-
-fn table_parts(alloc: Global, table: Table) -> Result<Parts, BaseFault>
-    ensures { FaultOrMemory (table_parts (table_view table)) result }
-{
-    if has_only_keys(Place::Top, &table) {
-        known_parts(alloc, table)
-    } else {
-        Err(top_fault(Cause::UnknownKey))
-    }
-}
-
 // The text's TOML.
 fn tree(alloc: Global, text: &[u8]) -> Result<Table, Cause>
     ensures ok { IfOk result (λ t. tree_of text.now ≡ Some (table_view t)) }
@@ -81,23 +49,50 @@ fn tree(alloc: Global, text: &[u8]) -> Result<Table, Cause>
     }
 }
 
-fn tree_parts(alloc: Global, text: &[u8]) -> Result<Parts, BaseFault>
-    ensures { FaultOrMemory (tree_parts (tree_of text.now)) result }
+// What a table lists; its keys are looked at before any field. Of a fault `at` holds the index of its frame, if it has one.
+fn table_parts(alloc: Global, mut table: Table, at: &mut Option<u32>) -> Result<Parts, Cause>
+    requires { at.old ≡ None }
+    ensures value { FaultOrMemory (table_parts (table_view table)) (located at.new result) }
+    ensures done { OnOk result (at.new ≡ None) }
 {
-    match tree(alloc, text) {
-        Ok(table) => table_parts(alloc, table),
-        Err(cause) => Err(top_fault(cause)),
+    if !has_only_keys(TableKind::Top, &table) {
+        return Err(Cause::UnknownKey);
     }
+    let entry = read_entry(member(&table, "entry"))?;
+    let outside = read_outside(alloc, member(&table, "outside"))?;
+    let frames = read_frames(alloc, take_member(&mut table, "frame"), at)?;
+    Ok(Parts {
+        entry,
+        outside,
+        frames,
+    })
 }
 
 // What a text lists. Its length is judged before anything of it is parsed.
-fn read_parts(alloc: Global, text: &[u8]) -> Result<Parts, BaseFault>
-    ensures { FaultOrMemory (parts_of text.now) result }
+fn read_parts(alloc: Global, text: &[u8], at: &mut Option<u32>) -> Result<Parts, Cause>
+    requires { at.old ≡ None }
+    ensures value { FaultOrMemory (parts_of text.now) (located at.new result) }
+    ensures done { OnOk result (at.new ≡ None) }
 {
     if text.len() > MOST_TEXT {
-        Err(top_fault(Cause::TooLong))
-    } else {
-        tree_parts(alloc, text)
+        return Err(Cause::TooLong);
+    }
+    table_parts(alloc, tree(alloc, text)?, at)
+}
+
+// The base of a text.
+fn read_base(alloc: Global, text: &[u8], at: &mut Option<u32>) -> Result<Base, Cause>
+    requires { at.old ≡ None }
+    ensures { IsRead text.now (located at.new result) }
+{
+    let Parts {
+        entry,
+        outside,
+        frames,
+    } = read_parts(alloc, text, at)?;
+    match Base::build(entry, outside, frames) {
+        Ok(base) => Ok(base),
+        Err(fault) => Err(build_cause(fault)),
     }
 }
 
@@ -112,16 +107,9 @@ pub fn base_read(alloc: Global, text: &[u8]) -> Result<Base, BaseFault>
     ensures found { IfOk result (IsTextBase text.now) }
     ensures fault { IfErr result (IsFirstFault text.now) }
 {
-    let Parts {
-        entry,
-        outside,
-        frames,
-    } = match read_parts(alloc, text) {
-        Ok(parts) => parts,
-        Err(fault) => return Err(fault),
-    };
-    match Base::build(entry, outside, frames) {
+    let mut at = None;
+    match read_base(alloc, text, &mut at) {
         Ok(base) => Ok(base),
-        Err(fault) => Err(top_fault(build_cause(fault))),
+        Err(cause) => Err(fault_in(at, cause)),
     }
 }

@@ -5,4 +5,4 @@ use Rattle.base_text.proofs.keys.has_only_keys.Given as goal
 
 abbrev pub invariant-loop-key : goal.invariant-loop-key
 invariant-loop-key l =
-    has_only_keys l.place (members_view l.key-iterator) ≡ has_only_keys l.place (members_view l.table.entries)
+    has_only_keys l.kind (members_view l.key-iterator) ≡ has_only_keys l.kind (members_view l.table.entries)
