@@ -1,7 +1,7 @@
 -- The frames of a text, one by one.
 use Rattle.std.proofs.Common.{◌≡◌, ◌+◌, List, [], ◌∷◌, ◌++◌, length, length-append, refl, ap, sym, ◌∙◌, append_assoc, Result, Ok, Err}
 use Rattle.frame_records.specs.declared.frame.Frame.{Frame}
-use Rattle.frame_records.specs.Steps.{◌>>=◌}
+use Rattle.list_words.specs.Steps.{◌>>=◌}
 use Rattle.toml.specs.View.{view, items_view}
 use Rattle.toml.specs.declared.value.Value.{Value}
 use Rattle.base_text.specs.declared.fault.BaseFault.{BaseFault}

@@ -8,7 +8,7 @@ use Rattle.frame_records.specs.declared.limits.TheConstants.{MOST_PENCE, MOST_GR
 use Rattle.page_ids.specs.declared.limits.TheConstants.{MOST_PAGE}
 use Rattle.frame_records.specs.declared.frame.Lead.{Lead}
 use Rattle.frame_records.specs.declared.frame.Lead.TheVariants.{Clear, Keep}
-use Rattle.frame_records.specs.Steps.{◌>>=◌}
+use Rattle.list_words.specs.Steps.{◌>>=◌}
 use Rattle.toml.specs.Data.{Data, string, integer, boolean, array, Items, no_items, item}
 use Rattle.base_text.specs.declared.fault.Cause.{Cause}
 use Rattle.base_text.specs.declared.fault.Cause.TheVariants.{Absent, WrongKind, Range, BadFrame}

@@ -8,7 +8,7 @@ use Rattle.cert_text.specs.declared.fault.LineFlaw.TheVariants as flaws
 use Rattle.cert_text.specs.declared.fault.ReadFault.{ReadFault}
 use Rattle.cert_text.specs.declared.fault.ReadFault.TheVariants as read
 use Rattle.cert_text.specs.Grammar.{IsCertificateText}
-use Rattle.frame_records.specs.Steps.{◌>>=◌}
+use Rattle.list_words.specs.Steps.{◌>>=◌}
 use Rattle.cert_text.specs.Lines.{cause_of}
 use Rattle.cert_text.specs.Reading.{Reading, Fault, start, number_of, is_over, take_byte, at_line, step, run, ended, certificate_of, reading, fault_in, cert_fault}
 use Rattle.cert_text.specs.Outcome.{Reads, Gives, Refuses, Answers, ReaderView, HasRead, lasting, lasting_cause}

@@ -28,8 +28,8 @@ use Rattle.abstract_paint.specs.Cursor.{OnScreen}
 use Rattle.cert_text.specs.declared.fault.LineFlaw.{LineFlaw}
 use Rattle.cert_text.specs.declared.fault.LineFlaw.TheVariants.{Word, Order, Cursor}
 use Rattle.cert_text.specs.Grammar.{place_text, pend_text, cursor_text, row_line, IsRow}
-use Rattle.frame_records.specs.Steps.{◌>>=◌}
-use Rattle.frame_records.specs.Parts.{parts_of}
+use Rattle.list_words.specs.Steps.{◌>>=◌}
+use Rattle.list_words.specs.Parts.{parts_of}
 use Rattle.cert_text.specs.Lines.{number_or_flaw, line_number, number_after, in_place, place_in, pend_in, without_pend, cursor_of, cursor_in, row_of, row_of_parts, in_order, row_in}
 
 -- the value of a step that did not fail

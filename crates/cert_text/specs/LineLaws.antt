@@ -1,7 +1,7 @@
 -- Reading goes line by line, and the first line at fault is the fault of the text.
 use Rattle.std.specs.Prelude.{◌≡◌, ◌≤◌, ◌+◌, ◌*◌, ◌<◌, ◌==◌, ℕ, true, false, List, [], ◌∷◌, ◌++◌, length, All, if◌then◌else◌, Result, Ok, Err}
 use Rattle.cert_text.specs.declared.fault.LineCause.TheVariants.{Word, Tail, Truncated}
-use Rattle.frame_records.specs.Steps.{◌>>=◌}
+use Rattle.list_words.specs.Steps.{◌>>=◌}
 use Rattle.cert_text.specs.Reading.{Reading, Fault, start, number_of, judge_at, is_over, at_line, run, run_on, ended, reading}
 
 -- no byte is a line's end (10)

@@ -1,13 +1,14 @@
 //! What a line says: a word and a number, or a row.
 
 ghost use Rattle.std.specs.Prelude.{◌≡◌, ◌≤◌, IfOk};
-ghost use Rattle.frame_records.specs.Parts.{parts_of};
+ghost use Rattle.list_words.specs.Parts.{parts_of};
 ghost use Rattle.cert_text.specs.Lines.{line_number, number_after, group_flaw, groups_after, row_of, row_of_parts, row_in};
 
 use crate::cursor::cursor_in;
 use crate::fault::LineFlaw;
 use cert_table::{MOST_RANK, Row};
-use frame_records::{GroupFlaw, Groups, cut};
+use frame_records::{GroupFlaw, Groups};
+use list_words::cut;
 use page_ids::{FrameId, NumberFault, number_read};
 
 // The number of a part of a line, up to the limit.

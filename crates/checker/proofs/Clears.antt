@@ -31,7 +31,7 @@ use Rattle.std.specs.List.{AllByRecursion}
 use Rattle.cert_table.specs.declared.row.Row.{Row}
 use Rattle.cert_table.specs.Rows.{row_among}
 use Rattle.cert_table.specs.CertView.{CertView}
-use Rattle.frame_records.proofs.Finds.{none_found}
+use Rattle.list_words.proofs.Finds.{none_found}
 use Rattle.checker.specs.declared.policy.Policy.{Policy}
 use Rattle.checker.specs.declared.verdict.Cause.{Cause}
 use Rattle.checker.specs.declared.verdict.Cause.TheVariants as cause

@@ -19,7 +19,7 @@ use Rattle.frame_records.specs.BaseView.{BaseView, lists_outside}
 use Rattle.frame_records.specs.Seek.{is_open, entry_of}
 use Rattle.frame_records.specs.Ways.{sought}
 use Rattle.frame_records.specs.WayLaws.{offered_place}
-use Rattle.frame_records.proofs.Finds.{find_none}
+use Rattle.list_words.proofs.Finds.{find_none}
 use Rattle.abstract_paint.specs.declared.cursor.AbsCursor.{AbsCursor}
 use Rattle.abstract_paint.specs.declared.cursor.Place.{Place}
 use Rattle.abstract_paint.specs.declared.cursor.Place.TheVariants.{Any, Col, Spot}

@@ -13,7 +13,7 @@ use Rattle.std.proofs.lemmas.List.Sorted.{ranks_by, sorted_far}
 use Rattle.page_ids.specs.Id.{Id}
 use Rattle.page_ids.specs.Ids.{id_cmp, id_eq}
 use Rattle.page_ids.specs.IdLaws.{id_cmp_total}
-use Rattle.frame_records.proofs.Finds.{find_first, find_none}
+use Rattle.list_words.proofs.Finds.{find_first, find_none}
 use Rattle.cert_table.specs.declared.row.Row.{Row}
 use Rattle.cert_table.specs.Rows.{AreRows}
 use Rattle.checker.specs.Good.{is_covered}

@@ -17,7 +17,7 @@ use Rattle.frame_records.specs.BaseView.{BaseView, frame_at}
 use Rattle.frame_records.specs.Seek.{is_open, entry_of}
 use Rattle.frame_records.specs.Ways.{sought}
 use Rattle.frame_records.specs.WayLaws.{offered_place}
-use Rattle.frame_records.proofs.Finds.{first_found, find_first}
+use Rattle.list_words.proofs.Finds.{first_found, find_first}
 use Rattle.abstract_paint.specs.declared.cursor.AbsCursor.{AbsCursor}
 use Rattle.abstract_paint.specs.declared.painting.Painted.{Painted}
 use Rattle.abstract_paint.specs.declared.painting.Painted.TheVariants.{Clean, Touches}

@@ -8,7 +8,7 @@ use Rattle.page_ids.specs.Id.{Id}
 use Rattle.page_ids.specs.Ids.{id_eq}
 use Rattle.page_ids.specs.IdLaws.{id_eq_same}
 use Rattle.frame_records.specs.BaseView.{BaseView}
-use Rattle.frame_records.proofs.Finds.{IsPlace, two_places}
+use Rattle.list_words.proofs.Finds.{IsPlace, two_places}
 use Rattle.abstract_paint.specs.declared.cursor.AbsCursor.{AbsCursor}
 use Rattle.abstract_paint.specs.Paint.{paint_of}
 use Rattle.cert_table.specs.declared.row.Row.{Row}

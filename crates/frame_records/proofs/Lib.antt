@@ -1,10 +1,7 @@
-pub mod Finds
-pub mod SortedKeys
 pub mod SortedFrames
 pub mod Pages
 pub mod Built
 pub mod OneBase
 pub mod BinarySearch
 pub mod Searchable
-pub mod Cuts
 pub mod GroupTexts

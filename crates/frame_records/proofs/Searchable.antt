@@ -15,7 +15,7 @@ use Rattle.frame_records.specs.Orderings.{MayFollow, IsSearchable}
 use Rattle.std.specs.List.{list_any}
 use Rattle.std.specs.Option.{option_copied}
 use Rattle.frame_records.specs.BaseView.{lists_page}
-use Rattle.frame_records.proofs.Finds.{find_first, find_none}
+use Rattle.list_words.proofs.Finds.{find_first, find_none}
 
 -- what stands before an Equal is Less, and is no Equal
 before_equal : (o : Ordering) → MayFollow o Equal → is_eq o ≡ false

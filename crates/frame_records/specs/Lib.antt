@@ -1,6 +1,4 @@
 pub mod Limits
-pub mod Steps
-pub mod Parts
 pub mod Groups
 pub mod Orderings
 pub mod BaseView

@@ -11,7 +11,6 @@
 //!
 //! - [`Pence`], [`GroupNo`]: numbers within their limits.
 //! - [`Groups`], [`GroupsFault`], [`GroupFlaw`]: the closed user groups of a caller, and why a text lists none.
-//! - [`cut`]: what stands before a separator, and behind it.
 //! - [`Frame`], [`Lead`], [`Body`]: a frame's record.
 //! - [`Base`], [`BuildFault`], [`Sought`]: the base, why two lists make none, and what seeking an id comes to.
 //! - [`Frame::sought`], [`Base::follow`], [`Destination`]: what the ways of a frame seek, and what that comes to.
@@ -25,7 +24,6 @@ mod frame;
 mod groups;
 mod limits;
 mod numbers;
-mod parts;
 mod probe;
 mod sorted;
 mod ways;
@@ -36,7 +34,6 @@ pub use frame::{Body, Frame, Lead};
 pub use groups::{GroupFlaw, Groups, GroupsFault, groups_are_texts};
 pub use limits::{MOST_BODY, MOST_GROUP, MOST_GROUPS, MOST_LISTED, MOST_PENCE};
 pub use numbers::{GroupNo, Pence};
-pub use parts::cut;
 pub use probe::{Probe, search};
 pub use sorted::{Entry, binary_search};
 pub use ways::Destination;

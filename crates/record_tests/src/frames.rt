@@ -3,8 +3,8 @@
 use assertions::{same, same_in};
 use frame_records::{
     Base, Body, Destination, Frame, GroupFlaw, GroupNo, Groups, GroupsFault, Lead, Pence, Sought,
-    cut,
 };
+use list_words::cut;
 use page_ids::{FrameId, PageNo, Way};
 use std::alloc::Global;
 use std::test::Fail;

@@ -1,6 +1,6 @@
 use Rattle.std.proofs.Common.{◌≡◌, ◌++◌, drop, Ok}
 use Rattle.toml.specs.View.{items_view}
-use Rattle.frame_records.specs.Steps.{◌>>=◌}
+use Rattle.list_words.specs.Steps.{◌>>=◌}
 use Rattle.base_text.specs.Fields.{pages_of}
 use Rattle.base_text.proofs.fields.read_pages.Given as goal
 

@@ -1,6 +1,6 @@
 use Rattle.std.proofs.Common.{◌≡◌, ◌++◌, drop, Ok}
 use Rattle.toml.specs.View.{items_view}
-use Rattle.frame_records.specs.Steps.{◌>>=◌}
+use Rattle.list_words.specs.Steps.{◌>>=◌}
 use Rattle.base_text.specs.Rows.{rows_of}
 use Rattle.base_text.proofs.rows.row_list.Given as goal
 

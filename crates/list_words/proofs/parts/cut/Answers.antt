@@ -2,8 +2,8 @@ use Rattle.std.proofs.Common.{◌≡◌, false, arith}
 use Rattle.std.specs.Prelude.{◌==◌}
 use Rattle.std.proofs.lemmas.Bool.Decides.{nat_tests}
 use Rattle.std.proofs.lemmas.List.Elements.{All-more}
-use Rattle.frame_records.proofs.Cuts.{cut_at, uncut}
-use Rattle.frame_records.proofs.parts.cut.Goals as goal
+use Rattle.list_words.proofs.Cuts.{cut_at, uncut}
+use Rattle.list_words.proofs.parts.cut.Goals as goal
 
 pub loop-i-preserved : goal.loop-i-preserved
 loop-i-preserved c = All-more (λ b. (b == c.args.separator) ≡ false) c.args.text.now c.loop-i.i 0 c.loop-i-test.true c.loop-i.invariant (grind (arith, nat_tests))

@@ -1,9 +1,9 @@
 //! The parts of a text between separators.
 
 ghost use Rattle.std.specs.Prelude.{◌≡◌, ◌<◌, [], ◌∷◌, length, MatchOption, IfSome};
-ghost use Rattle.frame_records.specs.Parts.{parts_of};
+ghost use Rattle.list_words.specs.Parts.{parts_of};
 
-/// What stands before the first separator, and what stands behind it; `None` where there is none.
+/// The text before its first separator, and the text after it; `None` if it has none.
 pub fn cut(text: &[u8], separator: u8) -> Option<(&[u8], &[u8])>
     ensures parts { MatchOption result (parts_of separator text.now ≡ text.now ∷ []) (λ p. parts_of separator text.now ≡ p.0.now ∷ parts_of separator p.1.now) }
     ensures shorter { IfSome result (λ p. length p.1.now < length text.now) }

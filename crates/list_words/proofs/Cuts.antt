@@ -5,7 +5,7 @@ use Rattle.std.specs.Prelude.{◌==◌}
 use Rattle.std.proofs.lemmas.Bool.{eq-eqb}
 use Rattle.std.proofs.lemmas.List.{take_all, take-append-drop}
 use Rattle.std.proofs.lemmas.List.Splits.{slice_split_at, slice_split_none}
-use Rattle.frame_records.specs.Parts.{parts_of}
+use Rattle.list_words.specs.Parts.{parts_of}
 
 pub cut_at : (c : ℕ) (text : List ℕ) (i : ℕ) → i < length text → get_or text i 0 ≡ c → All (λ b. (b == c) ≡ false) (take i text)
     → parts_of c text ≡ take i text ∷ parts_of c (take (length text - (i + 1)) (drop (i + 1) text))
