@@ -14,6 +14,16 @@ fn a_reader_of_std_is_read_whole(rt: HostRuntime) -> Result<(), Fail> {
     Ok(())
 }
 
+// Three pieces of 65,536 bytes, the 3,392 that are left, and the end.
+#[test]
+fn a_reader_of_std_is_asked_for_whole_pieces(rt: HostRuntime) -> Result<(), Fail> {
+    let text = "0123456789".repeat(rt.alloc(), 20_000)?;
+    let mut reader = FakeSource::of(text.as_str().as_bytes(), 100_000);
+    let bytes = read_whole(rt.alloc(), &mut FromRead::new(&mut reader), 300_000)?;
+    let is_whole = bytes.as_slice() == text.as_str().as_bytes();
+    same((is_whole, reader.calls), (true, 5))
+}
+
 // The reader would go on behind the call that fails.
 #[test]
 fn a_failed_read_is_kept_in_mind() -> Result<(), Fail> {

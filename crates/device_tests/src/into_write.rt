@@ -10,7 +10,7 @@ fn a_writer_of_std_takes_a_text(rt: HostRuntime) -> Result<(), Fail> {
     same(write_whole(&mut sink, b"CLEARED\n"), Ok(()))?;
     same(sink.failed(), false)?;
     same(writer.taken.as_slice(), b"CLEARED\n".as_slice())?;
-    same(writer.flushes, 1)?;
+    same((writer.writes, writer.flushes), (3, 1))?;
     Ok(())
 }
 
