@@ -1,72 +1,83 @@
 //! The checks.
 
-ghost use Rattle.std.specs.Prelude.{◌≡◌, false};
-
-use crate::told::{expect, policy};
-use assertions::same_in;
+use crate::told::{ALL, Answer, policy, sink, source, taken};
+use assertions::{same, same_in};
 use audit_report::RunFault;
 use cert_text::{LineCause, ReadFault};
 use checker::Policy;
 use demo_texts::{CERT, DEMO};
-use fake_devices::{FakeSink, FakeSource};
-use pageaudit::{Status, run_check, status_of};
+use pageaudit::{run_check, status_of};
 use std::alloc::Global;
 use std::test::Fail;
 
+// A text, and after how many bytes its reader fails.
+type File<'a> = (&'a str, usize);
+
+// What a check answers, how often it reads each file and flushes, how many bytes of the verdict are taken, and how many of the
+// certificate are left.
+type Checked = (Answer, [u32; 3], usize, usize);
+
+fn checked(
+    alloc: Global,
+    files: [File<'_>; 2],
+    step: usize,
+    room: usize,
+    policy: &Policy,
+) -> Checked {
+    let [base, cert] = files;
+    let mut base = source(base.0, step, base.1);
+    let mut cert = source(cert.0, step, cert.1);
+    let mut out = sink(alloc, "CLEARED\n", room);
+    let answer = run_check(alloc, &mut base, &mut cert, &mut out, policy);
+    let calls = [base.calls, cert.calls, out.flushes];
+    (answer, calls, taken(&out, "CLEARED\n"), cert.bytes.len())
+}
+
+// Both files come in pieces of 7 bytes: 270 bytes of the base and 81 of the certificate, and then their ends.
 #[test]
 fn a_verdict_is_written(rt: HostRuntime) -> Result<(), Fail> {
     let policy = policy(5, 1)?;
-    let mut base = FakeSource::of(DEMO.as_bytes(), 7);
-    let mut cert = FakeSource::of(CERT.as_bytes(), 7);
-    let mut out = FakeSink::of(rt.alloc(), 1_000);
-    let answer = run_check(rt.alloc(), &mut base, &mut cert, &mut out, &policy);
-    expect(answer, &out, Ok(Status::Clear), "CLEARED\n")
+    let files = [(DEMO, ALL), (CERT, ALL)];
+    let (answer, calls, taken, left) = checked(rt.alloc(), files, 7, ALL, &policy);
+    let told = (status_of(&answer), calls, taken, left);
+    same(told, (0, [40, 13, 1], 8, 0))
 }
 
-// A text that is read whole, or fails behind so many bytes.
-fn source(text: &str, kept: Option<usize>) -> FakeSource<'_>
-    ensures { result.failed ≡ false }
-{
-    match kept {
-        Some(kept) => FakeSource::broken(text.as_bytes(), 4_096, kept),
-        None => FakeSource::of(text.as_bytes(), 4_096),
-    }
-}
-
-// Nothing is asked behind a bad base, a base that can't be read, a refused line and both ends, and there is one flush.
+// Nothing is asked for after a bad base, a refused line, a read, write or flush that fails, and both ends. A certificate is
+// read in pieces of 4,096 bytes.
 #[test]
 fn a_check_asks_for_no_more_than_it_needs(rt: HostRuntime) -> Result<(), Fail> {
     let policy = policy(5, 1)?;
-    let wrong = "PBC3\n";
-    let rows: [(&str, Option<usize>, &str, Option<usize>, [u32; 4]); 6] = [
-        ("", None, wrong, None, [3, 1, 0, 0]),
-        (DEMO, Some(0), CERT, None, [3, 1, 0, 0]),
-        (DEMO, Some(1), CERT, None, [3, 2, 0, 0]),
-        (DEMO, Some(100), CERT, None, [3, 2, 0, 0]),
-        (DEMO, None, wrong, Some(5), [3, 2, 1, 0]),
-        (DEMO, None, CERT, None, [3, 2, 2, 1]),
+    let long = "PBC3\n".repeat(rt.alloc(), 2_000)?;
+    let rows: [(File<'_>, File<'_>, usize, (u8, [u32; 3], usize, usize)); 7] = [
+        (("", ALL), (CERT, ALL), ALL, (3, [1, 0, 0], 0, 81)),
+        ((DEMO, 0), (CERT, ALL), ALL, (3, [1, 0, 0], 0, 81)),
+        ((DEMO, 100), (CERT, ALL), ALL, (3, [2, 0, 0], 0, 81)),
+        ((DEMO, ALL), (CERT, 5), ALL, (3, [2, 2, 0], 0, 76)),
+        (
+            (DEMO, ALL),
+            (long.as_str(), ALL),
+            ALL,
+            (3, [2, 1, 0], 0, 5_904),
+        ),
+        ((DEMO, ALL), (CERT, ALL), 3, (3, [2, 2, 0], 3, 0)),
+        ((DEMO, ALL), (CERT, ALL), 8, (3, [2, 2, 1], 8, 0)),
     ];
-    for (base, base_kept, cert, cert_kept, wanted) in rows {
-        let mut base = source(base, base_kept);
-        let mut cert = source(cert, cert_kept);
-        let mut out = FakeSink::unflushed(rt.alloc(), 1_000);
-        let answer = run_check(rt.alloc(), &mut base, &mut cert, &mut out, &policy);
-        let status = u32::from(status_of(&answer));
-        same_in(
-            base_kept,
-            [status, base.calls, cert.calls, out.flushes],
-            wanted,
-        )?;
+    for (base, cert, room, wanted) in rows {
+        let (answer, calls, taken, left) = checked(rt.alloc(), [base, cert], ALL, room, &policy);
+        let told = (status_of(&answer), calls, taken, left);
+        same_in((base.1, cert.1, room), told, wanted)?;
     }
     Ok(())
 }
 
-// What a check of DEMO and a certificate answers, which is read in pieces of so many bytes.
-fn judged(alloc: Global, cert: &[u8], step: usize, policy: &Policy) -> Result<Status, RunFault> {
-    let mut base = FakeSource::of(DEMO.as_bytes(), 4_096);
-    let mut cert = FakeSource::of(cert, step);
-    let mut out = FakeSink::of(alloc, 1_000);
-    run_check(alloc, &mut base, &mut cert, &mut out, policy)
+// A line at fault comes before the read that would fail.
+#[test]
+fn a_refused_line_comes_before_a_read_that_fails(rt: HostRuntime) -> Result<(), Fail> {
+    let policy = policy(5, 1)?;
+    let told = checked(rt.alloc(), [(DEMO, ALL), ("PBC3\n", 5)], ALL, ALL, &policy);
+    let fault = RunFault::Cert(ReadFault::Line(1, LineCause::Magic));
+    same(told, (Err(fault), [2, 1, 0], 0, 0))
 }
 
 // The first bytes of a text.
@@ -79,9 +90,9 @@ fn a_certificate_that_is_cut_is_truncated_in_its_last_line(rt: HostRuntime) -> R
     let policy = policy(5, 1)?;
     let mut line = 1u32;
     for (kept, byte) in CERT.as_bytes().iter().enumerate() {
-        let text = front(CERT, kept).as_bytes();
+        let files = [(DEMO, ALL), (front(CERT, kept), ALL)];
         for step in [1, 2, 3, 7, 4_096] {
-            let answer = judged(rt.alloc(), text, step, &policy);
+            let (answer, ..) = checked(rt.alloc(), files, step, ALL, &policy);
             let wanted = RunFault::Cert(ReadFault::Line(line, LineCause::Truncated));
             same_in((kept, step), answer, Err(wanted))?;
         }
