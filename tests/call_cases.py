@@ -202,6 +202,7 @@ def audit_cases():
     yield Case("find no_entry -", "")
     for place, keys in enumerate(["", "1", "1#"]):
         yield Case(f"script_to demo - {place}", keys)
+    yield Case("script_to closed - 1", "1")
     for call in "audit", "report":
         yield Case(f"{call} demo 50 3 -", CERT)
         yield Case(f"{call} closed 50 3 7", GROUPED)
@@ -228,6 +229,8 @@ RUNS = [
     ("run_audit closed {}", "50 3 -", 1, FAULTS["closed"]),
     ("run_audit no_entry {}", "50 3 -", 1, FAULTS["no_entry"]),
     ("run_check demo {0} cert {0}", "5 1 -", 0, "CLEARED\n"),
+    ("run_check demo {0} cert {0}", "4 1 -", 1, "REFUSED K2 CeilingAbove\n"),
+    ("run_check demo {0} cert {0}", "5 0 -", 1, "REFUSED K3 KeyingsAbove\n"),
     ("run_check missing {0} cert {0}", "5 1 -", 1, "REFUSED K11 RouteNotCovered 1231b 9\n"),
     ("run_change demo {0} cert {0} demo {0} cert {0}", "50 3 -", 0, "CLEARED\n"),
     ("run_change demo {0} cert {0} shorter {0} shorter_cert {0}", "50 3 -", 1, "REFUSED E2 NoLongerCovered 1231b\n"),
