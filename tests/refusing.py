@@ -1,6 +1,7 @@
 """Programs run with one of their requests for memory refused: what tests/refuse-memory and tests/refuse-calls share."""
 
 import os
+import re
 import subprocess
 from concurrent.futures import ThreadPoolExecutor
 from contextlib import contextmanager
@@ -11,6 +12,8 @@ from tempfile import TemporaryDirectory
 from program import TOP
 
 HERE = Path(__file__).resolve().parent
+# What the library writes at the end: the number of requests.
+COUNT = re.compile(rb"\n(\d+)\n\Z")
 
 
 @dataclass(frozen=True)
@@ -41,7 +44,7 @@ class Run:
     only_call: bool = False
 
     def answer(self, library, refused_at):
-        """The answer where request `refused_at` is refused (0: none), and the number of requests."""
+        """The answer if request `refused_at` is refused (0: none), and the number of requests, 0 if the run doesn't say it."""
         env = dict(os.environ, LD_PRELOAD=str(library), REFUSE_AT=str(refused_at), REFUSE_COUNT="1")
         if self.only_call:
             env["REFUSE_CALL"] = "1"
@@ -50,8 +53,9 @@ class Run:
             done = subprocess.run(
                 self.command, stdout=out, stderr=subprocess.PIPE, env=env, timeout=60, cwd=self.folder, check=False
             )
-        text, _, count = done.stderr.rstrip(b"\n").rpartition(b"\n")
-        return Answer(done.returncode, done.stdout or b"", text.strip()), int(count)
+        count = COUNT.search(done.stderr)
+        text = done.stderr[: count.start()] if count else done.stderr
+        return Answer(done.returncode, done.stdout or b"", text.strip()), int(count[1]) if count else 0
 
     def answers(self, library, numbers):
         """Each of these requests, with the answer where it is refused."""
