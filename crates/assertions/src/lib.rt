@@ -6,7 +6,8 @@
 //! same_in(text, PageNo::read(text), Err(IdFault::BadPage))?;
 //! ```
 //!
-//! A comparison that fails is a [`Fail`] with both values; a test hands it up by `?`.
+//! A comparison that fails is a [`Fail`] with both values; a test hands it up by `?`. [`depth`] is the number of comparisons
+//! that look-ups are tested against.
 #![tactic(auto)]
 
 use std::fmt::Debug;
@@ -32,4 +33,26 @@ pub fn same_in<T: PartialEq + Debug + Drop>(
     } else {
         Err(Fail::new(format_args!("{row:?}: {got:?} in place of {wanted:?}")))
     }
+}
+
+/// How many of so many entries a binary search compares with a place: as many as stand above it, with its own, in the tree
+/// whose root is the middle entry. The entries have the odd places from 1 on; the even ones are before, between and after them.
+pub fn depth(entries: u32, place: u32) -> u32 {
+    let (mut size, mut place) = (entries, place);
+    for above in 0..32u32 {
+        let root = size | 1;
+        if size == 0 {
+            return above;
+        }
+        if place == root {
+            return above + 1;
+        }
+        if place < root {
+            size /= 2;
+        } else {
+            place = (place - root).saturating_sub(1);
+            size = (size - 1) / 2;
+        }
+    }
+    32
 }

@@ -1,6 +1,6 @@
 //! Bases built by hand; those that are refused stand in `tests/cases`.
 
-use assertions::{same, same_in};
+use assertions::{depth, same, same_in};
 use frame_records::{
     Base, Body, Destination, Frame, GroupFlaw, GroupNo, Groups, GroupsFault, Lead, Pence, Sought,
 };
@@ -159,24 +159,24 @@ fn odd_pages(alloc: Global, count: u32) -> Result<Base, Fail> {
     Ok(Base::build(entry, pages, Vec::new(alloc))?)
 }
 
-// Whether a number among so many odd ones is found just where it is listed, in at most so many comparisons.
-fn is_sought(base: &Base, count: u32, wanted: u32, most: u32) -> bool {
-    let listed = wanted % 2 == 1 && wanted < count.saturating_mul(2);
+// Whether a number among so many odd ones is found exactly if it is listed, in as many comparisons as a binary search makes.
+fn is_sought(base: &Base, count: u32, wanted: u32) -> bool {
+    let last = count.saturating_mul(2);
+    let listed = wanted % 2 == 1 && wanted < last;
     PageNo::new(wanted).is_some_and(|page| {
-        let (found, asked) = base.is_outside_counted(page);
-        found == listed && asked <= most && (asked > 0) == (count > 0)
+        base.is_outside_counted(page) == (listed, depth(count, wanted.min(last)))
     })
 }
 
 // Each number of each short list, and some of the longest.
 #[test]
-fn each_place_is_found_by_halves_and_no_other(rt: HostRuntime) -> Result<(), Fail> {
+fn each_page_is_found_and_no_other(rt: HostRuntime) -> Result<(), Fail> {
     for count in 0..101u32 {
         let base = odd_pages(rt.alloc(), count)?;
         let mut numbers = 0..count.saturating_mul(2).saturating_add(2);
         same_in(
             count,
-            numbers.find(|wanted| !is_sought(&base, count, *wanted, 7)),
+            numbers.find(|wanted| !is_sought(&base, count, *wanted)),
             None,
         )?;
     }
@@ -184,8 +184,36 @@ fn each_place_is_found_by_halves_and_no_other(rt: HostRuntime) -> Result<(), Fai
     let numbers = [0, 1, 2, 65_535, 65_536, 131_067, 131_069, 131_070];
     let wrong = numbers
         .iter()
-        .find(|wanted| !is_sought(&base, 65_535, **wanted, 16));
+        .find(|wanted| !is_sought(&base, 65_535, **wanted));
     same(wrong, None)
+}
+
+// A base of the frames `a` of seven pages from 11 on, and of seven outside pages from 21 on.
+fn base_of_seven(alloc: Global) -> Result<Base, Fail> {
+    let price = Pence::new(0).ok_or("price")?;
+    let mut frames = Vec::new(alloc);
+    let mut outside = Vec::new(alloc);
+    for number in 0..7u32 {
+        let id = FrameId::first(page(number + 11)?);
+        frames.push(frame(alloc, id, price, [None; 10]))?;
+        outside.push(page(number + 21)?)?;
+    }
+    Ok(Base::build(page(11)?, outside, frames)?)
+}
+
+#[test]
+fn a_look_up_of_seven_entries_compares_up_to_three(rt: HostRuntime) -> Result<(), Fail> {
+    let base = base_of_seven(rt.alloc())?;
+    for (i, comparisons) in [3, 2, 3, 1, 3, 2, 3].iter().enumerate() {
+        let frame = FrameId::first(page(i as u32 + 11)?);
+        let (found, frames) = base.find_counted(frame);
+        let got = (found.map(|frame| frame.id), frames);
+        same_in(i, got, (Some(frame), *comparisons))?;
+        let got = base.is_outside_counted(page(i as u32 + 21)?);
+        same_in(i, got, (true, *comparisons))?;
+    }
+    let (absent, frames) = base.find_counted(FrameId::first(page(10)?));
+    same((absent.is_none(), frames), (true, 3))
 }
 
 #[test]

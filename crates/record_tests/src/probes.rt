@@ -4,7 +4,7 @@ ghost use Rattle.std.specs.Prelude.{◌≡◌, ◌≤◌, IfOk, length, map};
 ghost use Rattle.std.specs.Ordering.{nat_cmp};
 ghost use Rattle.std.specs.List.Sorted.{IsStrictlyIncreasing};
 
-use assertions::same_in;
+use assertions::{depth, same_in};
 use frame_records::{Probe, search};
 use page_ids::PageNo;
 use std::alloc::Global;
@@ -86,7 +86,7 @@ fn odd_pages(alloc: Global, count: u32) -> Result<Vec<PageNo>, Fail>
     Ok(pages)
 }
 
-// Where a number stands, and how often the search asked.
+// The place of a number, and how often the search asked.
 fn sought(pages: &[PageNo], wanted: PageNo) -> (Option<usize>, u32)
     requires few { length pages.now ≤ 65535 }
     requires ascending { IsStrictlyIncreasing pages.now }
@@ -96,25 +96,22 @@ fn sought(pages: &[PageNo], wanted: PageNo) -> (Option<usize>, u32)
     (place, probe.questions)
 }
 
-// Each number up to one behind the last of so many odd ones is sought: those that stand there and those that don't.
-fn seek_each(alloc: Global, count: u32, most: u32) -> Result<(), Fail> {
+// Each number up to one after the last of so many odd ones is sought: those that are there and those that aren't.
+fn seek_each(alloc: Global, count: u32) -> Result<(), Fail> {
     let pages = odd_pages(alloc, count)?;
     for number in 0..count.saturating_mul(2).saturating_add(1) {
         let wanted = PageNo::new(number).ok_or("page")?;
-        let (place, questions) = sought(pages.as_slice(), wanted);
-        let stands = (number % 2 == 1).then_some(number as usize / 2);
-        let got = (place, questions <= most, questions > 0);
-        same_in((number, count, questions), got, (stands, true, count > 0))?;
+        let there = (number % 2 == 1).then_some(number as usize / 2);
+        let got = sought(pages.as_slice(), wanted);
+        same_in((number, count), got, (there, depth(count, number)))?;
     }
     Ok(())
 }
 
-// A list of fewer than 2, 4, 8 .. entries takes at most 1, 2, 3 .. questions, and the longest 16.
 #[test]
 fn each_place_of_each_list_is_found(rt: HostRuntime) -> Result<(), Fail> {
     for count in 0..101u32 {
-        let most = 32u32.saturating_sub(count.leading_zeros());
-        seek_each(rt.alloc(), count, most)?;
+        seek_each(rt.alloc(), count)?;
     }
-    seek_each(rt.alloc(), 65_535, 16)
+    seek_each(rt.alloc(), 65_535)
 }

@@ -1,7 +1,7 @@
 //! Tables built by hand; which rows make none is these rules' own list of refusals.
 
 use abstract_paint::{AbsCursor, Pend, Place};
-use assertions::{same, same_in};
+use assertions::{depth, same, same_in};
 use cert_table::{Certificate, Cover, Row, RowList, RowTable, TableFault};
 use frame_records::{GroupNo, Groups, Pence};
 use page_ids::{FrameId, PageNo};
@@ -162,7 +162,8 @@ fn covered<C: Cover + Drop>(rows: Vec<Row>) -> Result<Certificate<C>, Fail> {
     )
 }
 
-// Whether a table and a list of every third page answer alike of a page's frame, and as it is.
+// Whether a table and a list of every third page answer alike for a page's frame and rightly, and compare as many rows as a
+// binary search and a search from the front do.
 fn answer_alike(table: &RowTable, list: &RowList, number: u32, count: u32) -> bool {
     let Some(page) = PageNo::new(number) else {
         return false;
@@ -171,11 +172,13 @@ fn answer_alike(table: &RowTable, list: &RowList, number: u32, count: u32) -> bo
     let (found, asked) = table.row_counted(id);
     let (listed, compared) = list.row_counted(id);
     let is_there = number % 3 == 1 && number < count.saturating_mul(3);
+    let place = (number / 3 * 2 + number % 3).min(count.saturating_mul(2));
+    let in_turn = if is_there { number / 3 + 1 } else { count };
     found.map(|row| row.rank) == listed.map(|row| row.rank)
         && table.rank_of(id) == list.rank_of(id)
         && found.is_some() == is_there
-        && asked <= 7
-        && compared <= count
+        && asked == depth(count, place)
+        && compared == in_turn
 }
 
 #[test]
