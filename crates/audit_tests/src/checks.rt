@@ -4,6 +4,7 @@
 use crate::bases::base_of;
 use crate::policies::policy;
 use assertions::{same, same_in};
+use audit_report::verdict_text;
 use cert_table::{Certificate, Cover, RowList};
 use cert_text::cert_read;
 use checker::{ChangeVerdict, Policy, Verdict, check, check_bytes, check_change, check_counted};
@@ -31,22 +32,167 @@ fn as_list(alloc: Global, cert: &Certificate) -> Result<Certificate<RowList>, Fa
     Ok(list.ok().ok_or("rows")?)
 }
 
+// A change of the base and one of the certificate, the line of the verdict, and how much a check takes over a table and over a
+// list of the rows: comparisons, and bytes that are painted.
+#[derive(Clone, Copy)]
+struct Taken {
+    base: (&'static str, &'static str),
+    cert: (&'static str, &'static str),
+    line: &'static str,
+    table: (u64, u64),
+    list: (u64, u64),
+}
+
+const SAME: (&str, &str) = ("entry", "entry");
+
+// Worked out by hand. Of three entries a binary search compares 2, 1 and 2 for the first, second and third, and 2 for any
+// other; of two it compares 2 and 1, and 2, 2 and 1 before, between and after them. From the front a row takes its number, and
+// any other id all rows. The bodies have 11, 12 and 10 bytes. The whole check compares, over the table and over the list:
+//   the entry frame: 2, 1
+//   row 123a: its frame 2; route 0 the rows, 2 or 3, and the outside page; route 1 2 or 1: 6, 8
+//   row 1231a: its frame 1; route 0 2 or 1; next 2 or 3: 5, 5
+//   row 1231b: its frame 2; route 0 2 or 1: 4, 3
+const TAKEN: [Taken; 12] = [
+    Taken {
+        base: SAME,
+        cert: SAME,
+        line: "CLEARED\n",
+        table: (17, 33),
+        list: (17, 33),
+    },
+    // Of three outside pages the first takes 2, not 1.
+    Taken {
+        base: ("outside = [0]", "outside = [0, 5, 7]"),
+        cert: SAME,
+        line: "CLEARED\n",
+        table: (18, 33),
+        list: (18, 33),
+    },
+    Taken {
+        base: SAME,
+        cert: ("ceiling 5", "ceiling 6"),
+        line: "REFUSED K2 CeilingAbove\n",
+        table: (0, 0),
+        list: (0, 0),
+    },
+    Taken {
+        base: SAME,
+        cert: ("rows 3\n123a 0 s80\n1231a 1 s80\n", "rows 2\n1231a 1 s80\n"),
+        line: "REFUSED K4 EntryNotCovered\n",
+        table: (2, 0),
+        list: (2, 0),
+    },
+    // The entry frame, the first two rows, and 2 for the frame that isn't there.
+    Taken {
+        base: ("1231b", "1232a"),
+        cert: SAME,
+        line: "REFUSED K5 NoFrame 1231b\n",
+        table: (15, 23),
+        list: (16, 23),
+    },
+    // The entry frame, the first row, and the second row's frame.
+    Taken {
+        base: ("price = 5", "price = 6"),
+        cert: SAME,
+        line: "REFUSED K7 Price 1231a\n",
+        table: (9, 11),
+        list: (10, 11),
+    },
+    // The same, and the second row's body of 3 bytes, of which the first is at fault.
+    Taken {
+        base: ("rows = [\"PART ONE\"]", "lead = \"keep\"\nbody = \"ABC\""),
+        cert: SAME,
+        line: "REFUSED K9 Touches 1231a 0\n",
+        table: (9, 14),
+        list: (10, 14),
+    },
+    // The entry frame, and the first row's frame and body.
+    Taken {
+        base: SAME,
+        cert: ("123a 0 s80", "123a 0 s81"),
+        line: "REFUSED K10 CursorDiffers 123a\n",
+        table: (4, 11),
+        list: (3, 11),
+    },
+    // The entry frame, the first row, and the second with route 9: the rows, 2 or 3, and the outside page.
+    Taken {
+        base: (
+            "PART ONE\"]\nroutes = { 0 = 123 }",
+            "PART ONE\"]\nroutes = { 0 = 123, 9 = 555 }",
+        ),
+        cert: SAME,
+        line: "REFUSED K11 RouteNotCovered 1231a 9\n",
+        table: (16, 23),
+        list: (18, 23),
+    },
+    // Two rows: the entry frame 2 or 1; row 123a 2, 2 and 1, and 1 or 2; row 1231a 1, 2 or 1, and for next 1 or 2.
+    Taken {
+        base: SAME,
+        cert: (
+            "rows 3\n123a 0 s80\n1231a 1 s80\n1231b 1 s48\n",
+            "rows 2\n123a 0 s80\n1231a 1 s80\n",
+        ),
+        line: "REFUSED K12 NextNotCovered 1231a\n",
+        table: (12, 23),
+        list: (12, 23),
+    },
+    // The third row's route 0 seeks among the rows 1 or 2 for frame 1231a, whose rank isn't lower.
+    Taken {
+        base: (
+            "PART TWO\"\nroutes = { 0 = 123 }",
+            "PART TWO\"\nroutes = { 0 = 1231 }",
+        ),
+        cert: SAME,
+        line: "REFUSED K14 NoWayDown 1231b\n",
+        table: (16, 33),
+        list: (18, 33),
+    },
+    // The third row's route 0 leads to the outside page, after the rows, 2 or 3.
+    Taken {
+        base: (
+            "PART TWO\"\nroutes = { 0 = 123 }",
+            "PART TWO\"\nroutes = { 0 = 0 }",
+        ),
+        cert: SAME,
+        line: "REFUSED K14 NoWayDown 1231b\n",
+        table: (18, 33),
+        list: (20, 33),
+    },
+];
+
+// Whether a check of two texts comes to this line over a table and over a list of the rows, and what each took.
+fn took(
+    alloc: Global,
+    base: &str,
+    cert: &str,
+    line: &str,
+) -> Result<(bool, (u64, u64), (u64, u64)), Fail> {
+    let policy = policy(5, 1)?;
+    let base = base_of(alloc, base)?;
+    let cert = cert_read(alloc, cert.as_bytes())?;
+    let list = as_list(alloc, &cert)?;
+    let (verdict, table) = check_counted(&base, &policy, &cert);
+    let (listed, list) = check_counted(&base, &policy, &list);
+    let text = verdict_text(alloc, &verdict)?;
+    let is_line = text.as_slice() == line.as_bytes() && listed == verdict;
+    Ok((
+        is_line,
+        (table.probes, table.steps),
+        (list.probes, list.steps),
+    ))
+}
+
 #[test]
 fn what_a_check_took_is_counted(rt: HostRuntime) -> Result<(), Fail> {
-    let policy = policy(5, 1)?;
-    let base = base_of(rt.alloc(), DEMO)?;
-    let cert = cert_read(rt.alloc(), CERT.as_bytes())?;
-    let list = as_list(rt.alloc(), &cert)?;
-    let (verdict, count) = check_counted(&base, &policy, &cert);
-    let (listed, compared) = check_counted(&base, &policy, &list);
-    let are_cleared = verdict == Verdict::Cleared && listed == Verdict::Cleared;
-    let probes = (count.probes, compared.probes);
-    let are_within = 9 <= probes.0 && probes.0 <= 1_088 && 9 <= probes.1 && probes.1 <= 646;
-    same_in(
-        probes,
-        (are_cleared, count.steps, compared.steps, are_within),
-        (true, 33, 33, true),
-    )
+    for wanted in TAKEN {
+        let (old, new) = wanted.base;
+        let base = DEMO.replacen(rt.alloc(), old, new, 1)?;
+        let (old, new) = wanted.cert;
+        let cert = CERT.replacen(rt.alloc(), old, new, 1)?;
+        let got = took(rt.alloc(), base.as_str(), cert.as_str(), wanted.line)?;
+        same_in(wanted.line, got, (true, wanted.table, wanted.list))?;
+    }
+    Ok(())
 }
 
 // Whether a check of two texts clears, and whether it comes to the same over a list of rows.
