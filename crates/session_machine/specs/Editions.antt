@@ -1,5 +1,5 @@
--- Sessions during which the edition changes: each part is the keys that are pressed while one base stands. A change comes
--- between two keys, before the first or behind the last; a part may be without keys.
+-- Sessions during which the edition changes: each part is the keys that are pressed while one base is served. A change
+-- comes between two keys, before the first or after the last; a part may be without keys.
 use Rattle.std.specs.Prelude.{ℕ, List, [], ◌∷◌, ◌++◌}
 use Rattle.page_ids.specs.declared.key.Key.{Key}
 use Rattle.frame_records.specs.BaseView.{BaseView}
@@ -7,7 +7,7 @@ use Rattle.session_machine.specs.declared.reply.Reply.{Reply}
 use Rattle.session_machine.specs.State.{SessionState}
 use Rattle.session_machine.specs.Runs.{state_after, replies_to}
 
--- a base, and the keys that are pressed while it stands
+-- a base, and the keys that are pressed while it is served
 pub record Part : Type 0 where
   pub base : BaseView
   pub keys : List Key

@@ -1,9 +1,9 @@
 -- What each key does: the rules of a session, one definition for each row or group of rows of the table of keys.
 --
--- The caller is the list of the closed user groups to which the caller belongs. To seek a frame comes to found, with its
--- price, to closed or to missing; each definition by cases on that has it as its last argument.
+-- The caller is the list of the closed user groups to which the caller belongs. Seeking a frame results in found, with its
+-- price, closed or missing; each definition by cases on that has it as its last argument.
 --
--- A digit and `#` go a way of the present frame, and share what the way comes to: a digit its route, to the page's frame
+-- A digit and `#` go a way of the present frame, and share the way's destination: a digit its route, to the page's frame
 -- `a`; `#` to the following letter.
 --
 --   key     condition                                  reply             new state
@@ -48,7 +48,7 @@ remember id remembered = take 3 (id ∷ remembered)
 abbrev pub not_offered : SessionState → Outcome
 not_offered state = (state, NotOffered)
 
--- a way, by what it comes to: the frame left is remembered where another is shown
+-- a way, by its destination: the frame left is remembered if another is shown
 abbrev pub by_way : Id → List Id → Destination → Outcome
 by_way id remembered way.NotOffered = not_offered (At id remembered)
 by_way id remembered (way.Found to price) = (At to (remember id remembered), Shown to price)
@@ -56,13 +56,13 @@ by_way id remembered (way.Closed to) = (At id remembered, Closed to)
 by_way id remembered (way.Missing to) = (At id remembered, Missing to)
 by_way id remembered (way.Outside page) = (Left page, Gone page)
 
--- `*#` with a remembered frame: the latest is taken where it is found, and nothing is added; it stays where it is refused
+-- `*#` with a remembered frame: the latest is taken if it is found, and nothing is added; it stays if it is refused
 abbrev pub by_prev : Id → Id → List Id → Sought → Outcome
 by_prev id latest older (sought.Found price) = (At latest older, Shown latest price)
 by_prev id latest older sought.Closed = (At id (latest ∷ older), Closed latest)
 by_prev id latest older sought.Missing = (At id (latest ∷ older), Missing latest)
 
--- `*09`: the present frame anew, charged again; whatever it comes to, the state stays
+-- `*09`: the present frame anew, charged again; whatever the result, the state stays
 abbrev pub by_update : Id → List Id → Sought → Outcome
 by_update id remembered (sought.Found price) = (At id remembered, Shown id price)
 by_update id remembered sought.Closed = (At id remembered, Closed id)

@@ -1,11 +1,11 @@
 //! A caller's session: what each key answers, and where it leads.
 //!
 //! A [`Session`] is at a frame, with at most three remembered ones, or has left for an outside page. Each key looks into
-//! the base that is handed in with it. `Session::key` is the table of keys, which stands in `specs/Step.antt`.
+//! the base that is handed in with it. `Session::key` is the table of keys in `specs/Step.antt`.
 //!
 //! ```
 //! let (mut session, opening) = Session::open(alloc, &base, &Groups::none())?;
-//! session.key(&base, Key::Next) // what the frame that follows comes to, or NotOffered
+//! session.key(&base, Key::Next) // the reply for the frame that follows, or NotOffered
 //! session.key(&next_edition, Key::Prev) // the frame before, sought in another base
 //! ```
 //!

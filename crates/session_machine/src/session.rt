@@ -29,7 +29,7 @@ pub enum OpenFault {
 }
 
 #[derive(Debug, Clone, Copy, PartialEq, Eq)]
-enum Place {
+enum Whereabouts {
     At(FrameId),
     Left(PageNo),
 }
@@ -41,7 +41,7 @@ enum Place {
 #[derive(Drop)]
 pub struct Session {
     groups: Groups,
-    place: Place,
+    whereabouts: Whereabouts,
     // The latest at the front.
     remembered: HeapCircularBuffer<FrameId>,
 }
@@ -73,7 +73,7 @@ impl Session {
                 )?;
                 let session = Session {
                     groups: groups.copy(),
-                    place: Place::At(entry),
+                    whereabouts: Whereabouts::At(entry),
                     remembered,
                 };
                 Ok((session, Reply::Shown(entry, price)))
@@ -99,9 +99,9 @@ impl Session {
     pub fn at(&self) -> Option<FrameId>
         ensures { result ≡ present self.now.state }
     {
-        match self.place {
-            Place::At(id) => Some(id),
-            Place::Left(_) => None,
+        match self.whereabouts {
+            Whereabouts::At(id) => Some(id),
+            Whereabouts::Left(_) => None,
         }
     }
 
@@ -109,9 +109,9 @@ impl Session {
     pub fn left(&self) -> Option<PageNo>
         ensures { result ≡ left_for self.now.state }
     {
-        match self.place {
-            Place::At(_) => None,
-            Place::Left(page) => Some(page),
+        match self.whereabouts {
+            Whereabouts::At(_) => None,
+            Whereabouts::Left(page) => Some(page),
         }
     }
 
@@ -119,19 +119,19 @@ impl Session {
     pub fn remembered(&self) -> usize
         ensures { result ≡ length (remembered_of self.now.state) }
     {
-        match self.place {
-            Place::At(_) => self.remembered.len(),
-            Place::Left(_) => 0,
+        match self.whereabouts {
+            Whereabouts::At(_) => self.remembered.len(),
+            Whereabouts::Left(_) => 0,
         }
     }
 
-    /// A remembered frame, the latest at 0; `None` behind the last, and where the caller left.
+    /// A remembered frame, the latest at 0; `None` after the last, and if the caller left.
     pub fn remembered_at(&self, i: usize) -> Option<FrameId>
         ensures { result ≡ slice_get (remembered_of self.now.state) i }
     {
-        match self.place {
-            Place::At(_) => self.remembered.get(i).copied(),
-            Place::Left(_) => None,
+        match self.whereabouts {
+            Whereabouts::At(_) => self.remembered.get(i).copied(),
+            Whereabouts::Left(_) => None,
         }
     }
 
@@ -150,13 +150,13 @@ impl Session {
             Destination::NotOffered => Reply::NotOffered,
             Destination::Found(to, price) => {
                 self.remembered.push_front(id);
-                self.place = Place::At(to);
+                self.whereabouts = Whereabouts::At(to);
                 Reply::Shown(to, price)
             }
             Destination::Closed(to) => Reply::Closed(to),
             Destination::Missing(to) => Reply::Missing(to),
             Destination::Outside(page) => {
-                self.place = Place::Left(page);
+                self.whereabouts = Whereabouts::Left(page);
                 Reply::Gone(page)
             }
         }
@@ -167,7 +167,7 @@ impl Session {
         ensures step { (self.new.state, result) ≡ key_step self.old.groups base.now self.old.state Prev }
         ensures groups { self.new.groups ≡ self.old.groups }
     {
-        let Place::At(_) = self.place else {
+        let Whereabouts::At(_) = self.whereabouts else {
             return Reply::NotOffered;
         };
         let Some(latest) = self.remembered.front().copied() else {
@@ -176,7 +176,7 @@ impl Session {
         match base.seek(latest, &self.groups) {
             Sought::Found(price) => {
                 self.remembered.pop_front();
-                self.place = Place::At(latest);
+                self.whereabouts = Whereabouts::At(latest);
                 Reply::Shown(latest, price)
             }
             Sought::Closed => Reply::Closed(latest),
@@ -198,7 +198,7 @@ impl Session {
     fn update(&self, base: &Base) -> Reply
         ensures { (self.now.state, result) ≡ key_step self.now.groups base.now self.now.state Update }
     {
-        let Place::At(id) = self.place else {
+        let Whereabouts::At(id) = self.whereabouts else {
             return Reply::NotOffered;
         };
         match base.seek(id, &self.groups) {
