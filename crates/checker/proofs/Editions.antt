@@ -70,7 +70,7 @@ cleared_change policy old old_cert new new_cert e =
       kept = none_lost (old.entry == new.entry) (lost_id old_cert.rows new_cert.rows) both.2;
     }
 
--- where no id is lost, each id with an old row has a new one
+-- if no id is lost, each id with an old row has a new one
 row_kept : (covered : Bool) (lost : Option Id) (id : Id) → cond covered lost (Some id) ≡ None → (covered ≡ true) × (lost ≡ None)
 row_kept true lost id e = (refl, e)
 row_kept false lost id e = absurd cc

@@ -146,6 +146,6 @@ good_cleared base policy cert g =
     let head = head_none cert.groups base cert policy (record { entry = g.entry; ceiling = g.ceiling; keyings = g.keyings; groups = g.groups; covered = g.covered }) in
     ap verdict_of (none_both (head_fault base policy cert) (rows_fault cert.groups base cert cert.rows) head (rows_kept cert.groups base cert cert.rows g.rows))
 
--- an answer that is the verdict is Cleared exactly where the certificate is good
+-- an answer that is the verdict is Cleared exactly if the certificate is good
 pub tells : (base : BaseView) (policy : Policy) (cert : CertView) (v : Verdict) → v ≡ verdict base policy cert → (v ≡ Cleared) ↔ Good base policy cert
 tells base policy cert v e = (λ h. cleared_good base policy cert (sym e ∙ h), λ g. e ∙ good_cleared base policy cert g)

@@ -27,11 +27,11 @@ not_after a b e = grind (arith, nat_tests)
 less_other : (a b : Id) → id_cmp a b ≡ Less → id_eq a b ≡ false
 less_other a b e = grind (arith, nat_tests)
 
--- behind what isn't in front of an id and isn't it, the id doesn't stand
+-- an id has no row after a row that isn't before it and isn't its own
 other_behind : (a b id : Id) → is_lt (id_cmp a id) ≡ false → id_eq a id ≡ false → is_lt (id_cmp b a) ≡ false → id_eq b id ≡ false
 other_behind a b id h other up = grind (arith, nat_tests)
 
--- what is in front of an id is so of those behind that
+-- what is before an id is before those after it
 still_below : (a b c : Id) → id_cmp a b ≡ Less → is_lt (id_cmp c b) ≡ false → id_cmp a c ≡ Less
 still_below a b c lt up = grind (arith, nat_tests)
 
@@ -87,7 +87,7 @@ module _ (rows : List Row) (are : AreRows rows) (id : Id) (at : ℕ) (place : Is
         sym (ap is_some (find_first (λ (r : Row). id_eq r.id id) rows at row within (get_or_from_slice_get rows at row row here) e (λ k before. less_other (get_or rows k row).id id (place.below k row before (omega (arith, before, within))))))
     by false e = sym (not_covered (λ d lt. ap (λ (r : Row). id_eq r.id id) (get_or_from_slice_get rows at row d here) ∙ e))
 
--- the old rows from i on are behind the new ones in front of a place
+-- the old rows from i on are after the new ones before a place
 pub record AreBeside (old new : List Row) (i at : ℕ) : Type 0 where
   pub right : lost_id (drop i old) new ≡ lost_id old new
   pub below : (j : ℕ) (d : Row) → i ≤ j → j < length old → AreBelow new at (get_or old j d).id

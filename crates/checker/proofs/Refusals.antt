@@ -1,4 +1,4 @@
--- A refusal's cause is the first condition that fails, and the first that fails is told.
+-- A refusal's cause is the first condition that fails, and the first that fails is reported.
 use Rattle.std.proofs.Common.{◌≡◌, ℕ, ◌<◌, ◌⊎◌, inl, inr, Bool, true, false, not, List, [], ◌∷◌, ◌++◌, get_or, Option, Some, None, refl, sym, ◌∙◌, ap, subst, arith, if◌then◌else◌, ◌==◌}
 use Rattle.std.specs.Prelude.{◌↔◌, nat_lt}
 use Rattle.std.specs.List.{AllByRecursion}
@@ -42,7 +42,7 @@ either : (a b : Option Cause) (c : Cause) → (a otherwise b) ≡ Some c → (a 
 either None b c h = inr (refl, h)
 either (Some k) b c h = inl h
 
--- a condition that failed is the cause told
+-- a condition that failed is the cause reported
 failed : (b : Bool) (k c : Cause) → unless b k ≡ Some c → (b ≡ false) × (k ≡ c)
 failed true k c h = cc
 failed false k c h = (refl, cc)
@@ -193,7 +193,7 @@ module _ (caller : List ℕ) (base : BaseView) (cert : CertView) where
   rank_above row f true e some none = absurd (grind (arith, nat_tests))
   rank_above row f false e some none = fails (is_down cert.rows row.rank f) (cause.NoWayDown row.id) (refuted (is_down cert.rows row.rank f) (λ down. none (leads_down caller base cert row.rank f down)))
 
-  -- behind a fair frame the painting is judged, and behind a right painting the ways
+  -- after a fair frame the painting is judged, and after a right painting the ways
   past_frame : (row : Row) (f : Frame) (c : Cause) → IsFair caller cert row f → (paint_fault row (paint_of f.lead f.body) otherwise ways_fault base cert.rows row f) ≡ Some c → found_fault caller base cert row f ≡ Some c
   past_frame row f c g h = later (frame_fault caller cert row f) _ c (fair_none caller base cert row f g) h
 

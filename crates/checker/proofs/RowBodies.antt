@@ -34,7 +34,7 @@ serves_22 : (p c : ℕ) (r : Bool) → (c == 141) ≡ r → 880 ≤ p → p < 92
 serves_22 p c true e lo hi = grind (arith, nat_tests)
 serves_22 p c false e lo hi = grind (arith, nat_tests)
 
--- what a row may hold is written as it stands, and fits in the rows 1 to 21
+-- what a row may hold is written as it is, and fits in the rows 1 to 21
 fits : (p : ℕ) (cs : List ℕ) → are_row_codes cs ≡ true → 40 ≤ p → p + length cs ≤ 880 → codes_fit p cs ≡ true
 fits p [] h lo hi = refl
 fits p (c ∷ cs) h lo hi =
@@ -84,7 +84,7 @@ one_row false row rest k i e most fit hi =
     let moved = codes_go_on row rest (40 * k) i fit in
     (i + length row, moved ∙ spots (40 * k + length row) (40 * (k + 1)) (i + length row) (i + length row) rest (omega arith) refl)
 
--- what painting comes to: with double height in the 22nd row it touches, else it ends at the cursor
+-- the result of painting: with double height in the 22nd row it touches, else it ends at the cursor
 abbrev Comes : Bool → AbsCursor → Painted → Type 0
 Comes true x painted = (j : ℕ) × (painted ≡ Touches j)
 Comes false x painted = painted ≡ Clean x

@@ -23,12 +23,12 @@ unclean : (id : Id) (same : Bool) (c : Cause) → unless same (cause.CursorDiffe
 unclean id true c e = cc
 unclean id false c e = refl
 
--- where the painting refuses a row, its ways aren't sought
+-- if the painting refuses a row, its ways aren't sought
 pub painted_alone : (row : Row) (p : Painted) (c : Cause) → paint_fault row p ≡ Some c → are_ways_sought (Some c) ≡ false
 painted_alone row (Touches offset) c e = ap are_ways_sought (sym e)
 painted_alone row (Clean cursor) c e = ap are_ways_sought (sym e) ∙ unclean row.id _ c e
 
--- where the ways refuse it, or nothing does, its body was painted and its ways are sought
+-- if the ways refuse it, or nothing does, its body was painted and its ways are sought
 pub all_is_done : (id : Id) (lost : Option Way) (zero entry down : Bool) → (are_ways_sought (lost_fault id lost otherwise (if zero then unless entry (cause.RankZero id) else unless down (cause.NoWayDown id))) ≡ true) × (is_painted (lost_fault id lost otherwise (if zero then unless entry (cause.RankZero id) else unless down (cause.NoWayDown id))) ≡ true)
 all_is_done id (Some (Route digit)) zero entry down = (refl, refl)
 all_is_done id (Some Next) zero entry down = (refl, refl)

@@ -1,4 +1,4 @@
--- What the ways of a frame come to, one after another.
+-- The results of the ways of a frame, one after another.
 use Rattle.std.proofs.Common.{◌≡◌, ℕ, ◌+◌, Bool, true, false, not, ◌||◌, List, [], ◌∷◌, ◌++◌, Option, Some, None, refl, sym, ◌∙◌, ap, arith, is_some, if◌then◌else◌, cond}
 use Rattle.std.specs.Prelude.{find}
 use Rattle.std.specs.Option.{option_or}
@@ -13,11 +13,11 @@ use Rattle.frame_records.specs.declared.frame.Frame.{Frame}
 use Rattle.frame_records.specs.BaseView.{BaseView}
 use Rattle.frame_records.specs.Ways.{sought}
 use Rattle.cert_table.specs.declared.row.Row.{Row}
-use Rattle.checker.specs.declared.ways.Target.{Target}
-use Rattle.checker.specs.declared.ways.Targets.{Targets}
+use Rattle.checker.specs.declared.ways.WayCheck.{WayCheck}
+use Rattle.checker.specs.declared.ways.WayChecks.{WayChecks}
 use Rattle.checker.specs.Verdict.{way_on, way_down}
 use Rattle.checker.specs.Taken.{way_compared}
-use Rattle.checker.specs.Ways.{outside_of, first_ways, IsTarget, AreTargets}
+use Rattle.checker.specs.Ways.{outside_of, first_ways, IsWayCheck, AreWayChecks}
 
 first_more : (n : ℕ) → first_ways (n + 1) ≡ first_ways n ++ way_at n ∷ []
 first_more n = map-range_with_len_more way_at 0 n n (omega arith)
@@ -33,17 +33,17 @@ any_more true b = refl
 any_more false true = refl
 any_more false false = refl
 
-module _ (compared : List Row → Id → ℕ) (base : BaseView) (rows : List Row) (m rank : ℕ) (f : Frame) (n : ℕ) (seen new : Targets) (target : Target) where
+module _ (compared : List Row → Id → ℕ) (base : BaseView) (rows : List Row) (m rank : ℕ) (f : Frame) (n : ℕ) (seen new : WayChecks) (check : WayCheck) where
   -- one way more
-  pub next_way : AreTargets compared base rows m rank f n seen → IsTarget compared base rows m rank f (way_at n) target → new.lost ≡ (if is_some seen.lost then seen.lost else if target.leads_on then None else Some (way_at n)) → new.down ≡ (seen.down || target.down) → new.asked ≡ seen.asked + target.asked → AreTargets compared base rows m rank f (n + 1) new
+  pub next_way : AreWayChecks compared base rows m rank f n seen → IsWayCheck compared base rows m rank f (way_at n) check → new.lost ≡ (if is_some seen.lost then seen.lost else if check.leads_on then None else Some (way_at n)) → new.down ≡ (seen.down || check.down) → new.asked ≡ seen.asked + check.asked → AreWayChecks compared base rows m rank f (n + 1) new
   next_way before is lost down asked =
       let test = λ (way : Way). not (way_on base rows f way) in
       let outside = sum_by-map-range_with_len_more outside_of way_at 0 n n (omega arith) in
       let taken = sum_by-map-range_with_len_more (way_compared compared base rows f) way_at 0 n n (omega arith) in
       let offered = sum_by-map-range_with_len_more (λ (way : Way). from_bool (is_some (sought f way))) way_at 0 n n (omega arith) in
       record {
-        lost = lost ∙ lost_more seen.lost target.leads_on (way_at n) ∙ rw (before.lost, is.leads_on) (sym (find-append test (first_ways n) (way_at n ∷ []))) ∙ ap (find test) (sym (first_more n));
-        down = down ∙ any_more seen.down target.down ∙ rw (before.down, is.down) (sym (list_any-append (way_down rows rank f) (first_ways n) (way_at n ∷ []))) ∙ ap (list_any (way_down rows rank f)) (sym (first_more n));
+        lost = lost ∙ lost_more seen.lost check.leads_on (way_at n) ∙ rw (before.lost, is.leads_on) (sym (find-append test (first_ways n) (way_at n ∷ []))) ∙ ap (find test) (sym (first_more n));
+        down = down ∙ any_more seen.down check.down ∙ rw (before.down, is.down) (sym (list_any-append (way_down rows rank f) (first_ways n) (way_at n ∷ []))) ∙ ap (list_any (way_down rows rank f)) (sym (first_more n));
         most = omega (arith, asked, outside, before.most, is.most);
         small = omega (arith, asked, before.small, is.small);
         least = λ some. omega (arith, asked, offered, before.least some, is.least some);

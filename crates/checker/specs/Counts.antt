@@ -37,7 +37,7 @@ bytes_at base row = bytes_if (frame_at base row.id)
 abbrev pub row_most : ℕ → ℕ
 row_most m = 176 + 11 * m
 
--- what a row took whose frame is there, where one look-up among the rows compares at most m
+-- what a row took whose frame is there, if one look-up among the rows compares at most m
 pub record IsFoundCount (m : ℕ) (rows : List Row) (row : Row) (f : Frame) (cause : Option Cause) (count : Count) : Type 0 where
   pub most : count.probes ≤ 160 + 11 * m
   pub small : count.probes ≤ 94489280490
@@ -71,7 +71,7 @@ pub record AreAllCounted (base : BaseView) (m : ℕ) (rows : List Row) (cause : 
   pub within : count.steps ≤ sum_by (bytes_at base) rows
   pub all : cause ≡ None → count.steps ≡ sum_by (bytes_at base) rows
 
--- what a check took, where one look-up among the rows compares at most m. The 16 is room for a look-up of the entry frame
+-- what a check took, if one look-up among the rows compares at most m. The 16 is room for a look-up of the entry frame
 -- in the base, which the check doesn't make
 pub record IsCount (base : BaseView) (rows : List Row) (m : ℕ) (v : Verdict) (count : Count) : Type 0 where
   pub most : count.probes ≤ row_most m * length rows + m + 16

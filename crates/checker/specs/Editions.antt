@@ -18,7 +18,7 @@ use Rattle.checker.specs.declared.change.ChangeVerdict.TheVariants.{Cleared}
 use Rattle.checker.specs.Change.{change_verdict}
 use Rattle.checker.specs.Safe.{Safe, IsCleanReply, HasRows}
 
--- a base with its certificate, and the keys that are pressed while it stands
+-- a base with its certificate, and the keys that are pressed while it is served
 pub record Edition : Type 0 where
   pub base : BaseView
   pub cert : CertView
@@ -43,7 +43,7 @@ abbrev pub AreHeldFound : List ℕ → BaseView → ℕ → SessionState → Typ
 AreHeldFound caller base ceiling (At id remembered) = IsFoundFor caller base ceiling id × AllByRecursion (IsFoundFor caller base ceiling) remembered
 AreHeldFound caller base ceiling (Left page) = Unit {0}
 
--- from a state on, while the base stands, and whatever keys are pressed: what is held is found there; no reply is Missing or
+-- from a state on, while the base is served, and whatever keys are pressed: what is held is found there; no reply is Missing or
 -- Closed, and what is shown costs at most the ceiling; it is clean; at every moment, before the first key too, the caller left
 -- or regains the entry frame within the keyings
 pub record IsSafeFrom (caller : List ℕ) (base : BaseView) (ceiling keyings : ℕ) (state : SessionState) : Type 0 where
@@ -57,7 +57,7 @@ abbrev pub AreSafeInTurn : List ℕ → SessionState → List Edition → Type 0
 AreSafeInTurn caller state [] = Unit {0}
 AreSafeInTurn caller state (e ∷ editions) = IsSafeFrom caller e.base e.cert.ceiling e.cert.keyings state × AreSafeInTurn caller (state_after caller e.base state e.keys) editions
 
--- the change from each edition to the one behind it was cleared
+-- the change from each edition to the next one was cleared
 abbrev pub AreCleared : Policy → List Edition → Type 0
 AreCleared policy [] = Unit {0}
 AreCleared policy (e ∷ []) = Unit {0}
@@ -86,7 +86,7 @@ pub record IsSafeOverChanges (policy : Policy) (first : Edition) (more : List Ed
 abbrev pub ChangesAreSafe : Type 0
 ChangesAreSafe = (policy : Policy) (first second : Edition) (more : List Edition) → AllByRecursion (λ e. AreApart e.base) (first ∷ second ∷ more) → AreCleared policy (first ∷ second ∷ more) → IsSafeOverChanges policy first (second ∷ more)
 
--- of one change: callers are safe in the old edition, where sessions open; and from every such state, the opening one too,
+-- of one change: callers are safe in the old edition, in which sessions open; and from every such state, the opening one too,
 -- after any keys in the old edition and any in the new one
 pub record IsSafeChange (policy : Policy) (old : BaseView) (old_cert : CertView) (new : BaseView) (new_cert : CertView) : Type 0 where
   pub safe : Safe policy.groups old old_cert.ceiling old_cert.keyings

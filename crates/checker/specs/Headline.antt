@@ -16,7 +16,7 @@ use Rattle.checker.specs.declared.bytes.InputFault.TheVariants as input
 use Rattle.checker.specs.Safe.{Safe}
 use Rattle.checker.specs.Verdict.{verdict}
 
--- the base text's first fault, which is never want of memory
+-- the base text's first fault, which is never refused memory
 pub record IsBaseRefused (text : List ℕ) (fault : BaseFault) : Type 0 where
   pub first : IsFirstFault text fault
   pub no_memory : fault.cause ≡ base_cause.Memory → ⊥
@@ -35,7 +35,7 @@ pub record IsVerdictOf (base_text cert_text : List ℕ) (policy : Policy) (v : V
   pub of_cert : IsCertificateText cert_text cert
   pub is : v ≡ verdict base policy cert
 
--- the base text comes first; a certificate's fault is told only behind a whole base; memory may be refused
+-- the base text comes first; a certificate's fault is reported only after a right base; memory may be refused
 abbrev pub IsInputFault : List ℕ → List ℕ → InputFault → Type 0
 IsInputFault base_text cert_text (input.Base fault) = IsBaseRefused base_text fault
 IsInputFault base_text cert_text (input.Cert fault) = (base : BaseView) × IsTextBase base_text base × IsCertRefused cert_text fault
@@ -58,7 +58,7 @@ IsCertInput text (Err (input.Base fault)) = ⊥
 IsCertInput text (Err (input.Cert fault)) = IsCertRefused text fault
 IsCertInput text (Err input.Memory) = Unit {0}
 
--- the headline: the texts are those of a base and of a certificate; by a caller of just the policy's groups, after every list
+-- the headline: the texts are those of a base and of a certificate; by a caller of exactly the policy's groups, after every list
 -- of keys from the entry page, the base is safe within the certificate's ceiling and keyings; and both are the policy's at most
 pub record Headline (base_text cert_text : List ℕ) (policy : Policy) : Type 0 where
   pub base : BaseView

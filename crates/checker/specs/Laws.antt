@@ -11,7 +11,7 @@ use Rattle.checker.specs.Good.{Good}
 use Rattle.checker.specs.Safe.{Safe, HasRows}
 use Rattle.checker.specs.Verdict.{verdict}
 
--- a good certificate makes every session safe. The premise is what every base keeps: no frame stands on an outside page
+-- a good certificate makes every session safe. The premise is what every base keeps: no frame is on an outside page
 abbrev pub GoodIsSafe : Type 0
 GoodIsSafe = (base : BaseView) (policy : Policy) (cert : CertView) → AreApart base → Good base policy cert → Safe cert.groups base cert.ceiling cert.keyings
 
@@ -19,6 +19,6 @@ GoodIsSafe = (base : BaseView) (policy : Policy) (cert : CertView) → AreApart 
 abbrev pub GoodKeepsRows : Type 0
 GoodKeepsRows = (base : BaseView) (policy : Policy) (cert : CertView) → AreApart base → Good base policy cert → (keys : List Key) → HasRows cert.rows (state_after cert.groups base (opening base) keys)
 
--- cleared exactly where the certificate is good
+-- cleared exactly if the certificate is good
 abbrev pub ClearedIsGood : Type 0
 ClearedIsGood = (base : BaseView) (policy : Policy) (cert : CertView) → (verdict base policy cert ≡ Cleared) ↔ Good base policy cert

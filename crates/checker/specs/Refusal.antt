@@ -88,6 +88,6 @@ IsHeadFault base policy cert _ = ⊥
 abbrev pub IsFirstFailing : BaseView → Policy → CertView → Cause → Type 0
 IsFirstFailing base policy cert c = IsHeadFault base policy cert c ⊎ (IsGoodHead base policy cert × IsFirstBadRow cert.groups base cert cert.rows c)
 
--- a certificate is refused for a cause exactly where its condition is the first that fails
+-- a certificate is refused for a cause exactly if its condition is the first that fails
 abbrev pub RefusedIsFirst : Type 0
 RefusedIsFirst = (base : BaseView) (policy : Policy) (cert : CertView) (c : Cause) → (verdict base policy cert ≡ Refused c) ↔ IsFirstFailing base policy cert c

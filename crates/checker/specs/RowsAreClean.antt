@@ -11,11 +11,11 @@ use Rattle.terminal_codes.specs.Writes.{is_double_height}
 abbrev pub has_double_height : List ℕ → Bool
 has_double_height codes = list_any is_double_height codes
 
--- the 22nd row, which stands above a service row; no codes where there are fewer rows
+-- the 22nd row, which is above a service row; no codes if there are fewer rows
 abbrev pub row_22 : List (List ℕ) → List ℕ
 row_22 rows = get_or rows 21 []
 
--- at most 22 rows, under either lead, are clean exactly where the 22nd has no double height
+-- at most 22 rows, under either lead, are clean exactly if the 22nd has no double height
 abbrev pub RowsAreClean : Type 0
 RowsAreClean =
     (lead : Lead) (rows : List (List ℕ)) →

@@ -35,7 +35,7 @@ abbrev pub ◌otherwise◌ : Option Cause → Option Cause → Option Cause
 None otherwise later = later
 (Some c) otherwise later = Some c
 
--- the cause, where the condition fails
+-- the cause, if the condition fails
 abbrev pub unless : Bool → Cause → Option Cause
 unless holds c = if holds then None else Some c
 
@@ -74,7 +74,7 @@ abbrev pub offered_on : BaseView → List Row → Way → Option Id → Bool
 offered_on base rows way None = true
 offered_on base rows way (Some to) = goes_on base rows way to
 
--- a way leads on, where the frame offers it
+-- a way leads on, if the frame offers it
 abbrev pub way_on : BaseView → List Row → Frame → Way → Bool
 way_on base rows f way = offered_on base rows way (sought f way)
 
@@ -121,7 +121,7 @@ frame_fault caller cert row f =
     otherwise unless (not (nat_lt cert.ceiling f.price)) (cause.Price row.id)
     otherwise unless (not (nat_lt cert.keyings row.rank)) (cause.RankAbove row.id)
 
--- K9 and K10: what the frame's painting comes to
+-- K9 and K10: the result of the frame's painting
 abbrev pub paint_fault : Row → Painted → Option Cause
 paint_fault row (Touches offset) = Some (cause.Touches row.id offset)
 paint_fault row (Clean cursor) = unless (same_cursor cursor row.cursor) (cause.CursorDiffers row.id)

@@ -1,4 +1,4 @@
--- What the ways of a frame come to among the rows, for a row of some rank.
+-- The results of the ways of a frame among the rows, for a row of some rank.
 use Rattle.std.specs.Prelude.{◌≡◌, ◌≤◌, ◌<◌, ◌+◌, ◌*◌, ℕ, Bool, false, not, List, length, is_some, find, map}
 use Rattle.std.specs.Int.{from_bool}
 use Rattle.std.specs.List.{list_any, sum_by, range_with_len}
@@ -10,8 +10,8 @@ use Rattle.frame_records.specs.declared.frame.Frame.{Frame}
 use Rattle.frame_records.specs.BaseView.{BaseView, lists_outside}
 use Rattle.frame_records.specs.Ways.{sought}
 use Rattle.cert_table.specs.declared.row.Row.{Row}
-use Rattle.checker.specs.declared.ways.Target.{Target}
-use Rattle.checker.specs.declared.ways.Targets.{Targets}
+use Rattle.checker.specs.declared.ways.WayCheck.{WayCheck}
+use Rattle.checker.specs.declared.ways.WayChecks.{WayChecks}
 use Rattle.checker.specs.Verdict.{way_on, way_down}
 use Rattle.checker.specs.Taken.{outside_compared, way_compared}
 
@@ -26,29 +26,29 @@ is_outside base (Route digit) page = lists_outside base page
 is_outside base Next page = false
 
 -- a way whose frame has no row, for which so many rows were compared
-pub record IsAbsent (base : BaseView) (way : Way) (page asked : ℕ) (target : Target) : Type 0 where
-  pub leads_on : target.leads_on ≡ is_outside base way page
-  pub down : target.down ≡ false
-  pub most : target.asked ≤ asked + outside_of way
-  pub small : target.asked ≤ asked + 4294967295
-  pub least : asked ≤ target.asked
-  pub exact : target.asked ≡ asked + outside_compared base way page
+pub record IsAbsent (base : BaseView) (way : Way) (page asked : ℕ) (check : WayCheck) : Type 0 where
+  pub leads_on : check.leads_on ≡ is_outside base way page
+  pub down : check.down ≡ false
+  pub most : check.asked ≤ asked + outside_of way
+  pub small : check.asked ≤ asked + 4294967295
+  pub least : asked ≤ check.asked
+  pub exact : check.asked ≡ asked + outside_compared base way page
 
--- what a way comes to, where one look-up among the rows compares at most m
-pub record IsTarget (compared : List Row → Id → ℕ) (base : BaseView) (rows : List Row) (m rank : ℕ) (f : Frame) (way : Way) (target : Target) : Type 0 where
-  pub leads_on : target.leads_on ≡ way_on base rows f way
-  pub down : target.down ≡ way_down rows rank f way
-  pub most : target.asked ≤ m + outside_of way
-  pub small : target.asked ≤ 8589934590
-  pub least : 0 < length rows → from_bool (is_some (sought f way)) ≤ target.asked
-  pub exact : target.asked ≡ way_compared compared base rows f way
+-- the result of a way, if one look-up among the rows compares at most m
+pub record IsWayCheck (compared : List Row → Id → ℕ) (base : BaseView) (rows : List Row) (m rank : ℕ) (f : Frame) (way : Way) (check : WayCheck) : Type 0 where
+  pub leads_on : check.leads_on ≡ way_on base rows f way
+  pub down : check.down ≡ way_down rows rank f way
+  pub most : check.asked ≤ m + outside_of way
+  pub small : check.asked ≤ 8589934590
+  pub least : 0 < length rows → from_bool (is_some (sought f way)) ≤ check.asked
+  pub exact : check.asked ≡ way_compared compared base rows f way
 
 -- the first n ways
 abbrev pub first_ways : ℕ → List Way
 first_ways n = map way_at (range_with_len 0 n)
 
--- what the first n ways come to
-pub record AreTargets (compared : List Row → Id → ℕ) (base : BaseView) (rows : List Row) (m rank : ℕ) (f : Frame) (n : ℕ) (seen : Targets) : Type 0 where
+-- the results of the first n ways
+pub record AreWayChecks (compared : List Row → Id → ℕ) (base : BaseView) (rows : List Row) (m rank : ℕ) (f : Frame) (n : ℕ) (seen : WayChecks) : Type 0 where
   pub lost : seen.lost ≡ find (λ way. not (way_on base rows f way)) (first_ways n)
   pub down : seen.down ≡ list_any (way_down rows rank f) (first_ways n)
   pub most : seen.asked ≤ n * m + sum_by outside_of (first_ways n)

@@ -17,7 +17,7 @@ pub enum InputFault {
     /// The base text's first fault.
     #[error("base text refused")]
     Base(BaseFault),
-    /// The certificate text's first line at fault, where the base text is whole.
+    /// The certificate text's first line at fault, if the base text is right.
     #[error("certificate text refused")]
     Cert(ReadFault),
     /// A growth was refused.
@@ -25,7 +25,7 @@ pub enum InputFault {
     Memory,
 }
 
-// The base of a text.
+/// The base of a text, or its first fault, with refused memory apart. Never answers `Cert`.
 pub fn base_of(alloc: Global, text: &[u8]) -> Result<Base, InputFault>
     ensures { IsBaseInput text.now result }
 {
@@ -41,7 +41,7 @@ pub fn base_of(alloc: Global, text: &[u8]) -> Result<Base, InputFault>
     }
 }
 
-// The certificate of a text.
+/// The certificate of a text, or its first line at fault, with refused memory apart. Never answers `Base`.
 pub fn cert_of(alloc: Global, text: &[u8]) -> Result<Certificate, InputFault>
     ensures { IsCertInput text.now result }
 {
@@ -63,7 +63,7 @@ pub fn check_bytes(
 ) -> Result<Verdict, InputFault>
     ensures checked { IsChecked base.now cert.now policy.now result }
 
-    // Where the answer is Cleared, the headline holds of the two texts.
+    // If the answer is Cleared, the headline holds of the two texts.
     ensures headline { result ≡ Ok Verdict.Cleared → Headline base.now cert.now policy.now }
 {
     let base = match base_of(alloc, base) {

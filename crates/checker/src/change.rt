@@ -27,7 +27,7 @@ pub enum ChangeVerdict {
     NoLongerCovered(FrameId),
 }
 
-// The first place from one on whose row isn't in front of the id; all rows in front of where it begins are.
+// The first place, from a given one on, whose row isn't before the id. All rows before the given place are.
 fn place_from<C: Cover + Drop>(rows: &C, from: usize, id: FrameId) -> usize
     requires { AreBelow (C.rows rows.now) from id }
     ensures { IsPlaceOf (C.rows rows.now) id result }

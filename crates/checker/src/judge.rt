@@ -69,9 +69,9 @@ fn judge_ways<C: Cover + Drop>(
     ensures small { result.1 ≤ 94489280490 }
     ensures least { 0 < length cert.now.rows → ways_of frame.now ≤ result.1 }
 {
-    let targets = over_ways(base, cert, row.rank, frame);
-    let cause = ways_cause(base, row.id, row.rank, targets.lost, targets.down);
-    (cause, targets.asked)
+    let ways = over_ways(base, cert, row.rank, frame);
+    let cause = ways_cause(base, row.id, row.rank, ways.lost, ways.down);
+    (cause, ways.asked)
 }
 
 // All conditions on a row whose frame is there, and what they took.
@@ -248,7 +248,7 @@ pub fn check_counted<C: Cover + Drop>(
 pub fn check<C: Cover + Drop>(base: &Base, policy: &Policy, cert: &Certificate<C>) -> Verdict
     ensures verdict { result ≡ verdict base.now policy.now cert.now }
 
-    // Cleared exactly where each condition holds, in the subject's words.
+    // Cleared exactly if each condition holds, in the subject's words.
     ensures good { (result ≡ Verdict.Cleared) ↔ Good base.now policy.now cert.now }
 
     // The headline: after every list of keys.

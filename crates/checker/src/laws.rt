@@ -10,18 +10,18 @@ pub fn good_is_safe()
     ensures rows { GoodKeepsRows }
 {}
 
-/// A certificate is cleared exactly where it is good.
+/// A certificate is cleared exactly if it is good.
 pub fn cleared_is_good()
     ensures { ClearedIsGood }
 {}
 
-/// A frame that is given as at most 22 rows is clean exactly where the 22nd of them, if there is one, has no double height
+/// A frame that is given as at most 22 rows is clean exactly if the 22nd of them, if there is one, has no double height
 /// (8D), under either lead.
 pub fn rows_are_clean()
     ensures { RowsAreClean }
 {}
 
-/// A certificate is refused for a cause exactly where that cause's condition is the first that fails: K9 with the offset of
+/// A certificate is refused for a cause exactly if that cause's condition is the first that fails: K9 with the offset of
 /// the first byte whose write, from some state of the terminal, counts as one in a service row, K10 by the ends that occur.
 pub fn refused_is_first()
     ensures { RefusedIsFirst }

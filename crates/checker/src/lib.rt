@@ -1,6 +1,6 @@
 //! The check of a certificate against a base.
 //!
-//! [`check`] reads each row of a certificate once. It runs no key and paints no cell. Yet where it answers
+//! [`check`] reads each row of a certificate once. It runs no key and paints no cell. Yet if it answers
 //! [`Verdict::Cleared`], this holds of a caller of the policy's groups after every list of keys:
 //!
 //! - no frame that was sought was missing or closed;
@@ -22,13 +22,14 @@
 //!
 //! - [`Policy`]: what a centre asks of its bases.
 //! - [`check_counted`], [`Count`]: the same verdict, and what the check took.
-//! - [`check_bytes`], [`InputFault`]: the same of two texts; the headline stands on this call.
+//! - [`check_bytes`], [`InputFault`]: the same of two texts; the headline is a clause of this call. [`base_of`] and [`cert_of`]
+//!   read one text.
 //! - [`Verdict`], [`Cause`]: the first condition that fails, in one order.
 //! - [`check_change`], [`ChangeVerdict`]: whether a new edition may take an old one's place while callers are inside; the law
 //!   of sessions that cross any number of such changes is [`changes_are_safe`].
 //! - [`good_is_safe`], [`cleared_is_good`], [`refused_is_first`]: the laws, of every base, policy and certificate.
 //! - [`lost_is_least`]: E2 names the smallest id that is no longer covered.
-//! - [`rows_are_clean`]: a frame that is given as rows is clean where its 22nd row has no double height, and only there.
+//! - [`rows_are_clean`]: a frame that is given as rows is clean exactly if its 22nd row has no double height.
 #![tactic(auto)]
 
 mod bytes;
@@ -42,7 +43,7 @@ mod rank;
 mod verdict;
 mod ways;
 
-pub use bytes::{InputFault, check_bytes};
+pub use bytes::{InputFault, base_of, cert_of, check_bytes};
 pub use change::{ChangeVerdict, check_change};
 pub use count::Count;
 pub use judge::{check, check_counted};

@@ -9,7 +9,7 @@ pub enum Cause {
     CeilingAbove,
     /// K3: its keyings are above the policy's.
     KeyingsAbove,
-    /// K15: its groups aren't the policy's; it stands before K4.
+    /// K15: its groups aren't the policy's; it is judged before K4.
     GroupsDiffer,
     /// K4: the entry page's frame `a` has no row.
     EntryNotCovered,

@@ -4,43 +4,43 @@ ghost use Rattle.std.specs.Prelude.{◌≡◌, ◌≤◌, ◌+◌, ◌||◌, Som
 ghost use Rattle.page_ids.specs.Ways.{way_at};
 ghost use Rattle.frame_records.specs.Ways.{sought};
 ghost use Rattle.checker.specs.Verdict.{way_on, way_down};
-ghost use Rattle.checker.specs.Ways.{IsAbsent, IsTarget, AreTargets};
+ghost use Rattle.checker.specs.Ways.{IsAbsent, IsWayCheck, AreWayChecks};
 
 use crate::cover::seek_row;
 use cert_table::{Certificate, Cover};
 use frame_records::{Base, Frame};
 use page_ids::{PageNo, Way};
 
-// What a way comes to: whether it leads outside or to a row, whether to a row of lower rank, and how much was compared.
+// The result of a way: whether it leads outside or to a row, whether to a row of lower rank, and how much was compared.
 #[derive(Clone, Copy)]
-pub struct Target {
+pub struct WayCheck {
     pub leads_on: bool,
     pub down: bool,
     pub asked: u64,
 }
 
-// What the ways of a frame come to: the first that leads nowhere, whether one leads down, and how much was compared.
+// The result of the ways of a frame: the first that leads nowhere, whether one leads down, and how much was compared.
 #[derive(Clone, Copy)]
-pub struct Targets {
+pub struct WayChecks {
     pub lost: Option<Way>,
     pub down: bool,
     pub asked: u64,
 }
 
 // A way whose frame has no row: a route may lead to an outside page.
-fn over_absent(base: &Base, way: &Way, page: PageNo, asked: u32) -> Target
+fn over_absent(base: &Base, way: &Way, page: PageNo, asked: u32) -> WayCheck
     ensures { IsAbsent base.now way.now page asked result }
 {
     match way {
         Way::Route(_) => {
             let (leads_on, more) = base.is_outside_counted(page);
-            Target {
+            WayCheck {
                 leads_on,
                 down: false,
                 asked: u64::from(asked) + u64::from(more),
             }
         }
-        Way::Next => Target {
+        Way::Next => WayCheck {
             leads_on: false,
             down: false,
             asked: u64::from(asked),
@@ -55,11 +55,11 @@ fn over_way<C: Cover + Drop>(
     rank: u16,
     frame: &Frame,
     way: &Way,
-) -> Target
-    ensures { IsTarget C.compared base.now cert.now.rows (C.most_among (length cert.now.rows)) rank frame.now way.now result }
+) -> WayCheck
+    ensures { IsWayCheck C.compared base.now cert.now.rows (C.most_among (length cert.now.rows)) rank frame.now way.now result }
 {
     let Some(to) = frame.sought(*way) else {
-        return Target {
+        return WayCheck {
             leads_on: true,
             down: false,
             asked: 0,
@@ -67,7 +67,7 @@ fn over_way<C: Cover + Drop>(
     };
     let (row, asked) = seek_row(cert, to);
     match row {
-        Some(row) => Target {
+        Some(row) => WayCheck {
             leads_on: true,
             down: row.rank < rank,
             asked: u64::from(asked),
@@ -77,18 +77,18 @@ fn over_way<C: Cover + Drop>(
 }
 
 // The ways so far, and the one at the next place.
-fn with_target(seen: Targets, place: u8, target: Target) -> Targets
-    ensures lost { result.lost ≡ (if is_some seen.lost then seen.lost else if target.leads_on then None else Some (way_at place)) }
-    ensures down { result.down ≡ (seen.down || target.down) }
-    ensures asked { seen.asked + target.asked ≤ 18446744073709551615 → result.asked ≡ seen.asked + target.asked }
+fn with_check(seen: WayChecks, place: u8, check: WayCheck) -> WayChecks
+    ensures lost { result.lost ≡ (if is_some seen.lost then seen.lost else if check.leads_on then None else Some (way_at place)) }
+    ensures down { result.down ≡ (seen.down || check.down) }
+    ensures asked { seen.asked + check.asked ≤ 18446744073709551615 → result.asked ≡ seen.asked + check.asked }
 {
-    Targets {
+    WayChecks {
         lost: match seen.lost {
-            None if !target.leads_on => Some(Way::at(place)),
+            None if !check.leads_on => Some(Way::at(place)),
             lost => lost,
         },
-        down: seen.down || target.down,
-        asked: seen.asked.saturating_add(target.asked),
+        down: seen.down || check.down,
+        asked: seen.asked.saturating_add(check.asked),
     }
 }
 
@@ -98,17 +98,17 @@ pub fn over_ways<C: Cover + Drop>(
     cert: &Certificate<C>,
     rank: u16,
     frame: &Frame,
-) -> Targets
-    ensures { AreTargets C.compared base.now cert.now.rows (C.most_among (length cert.now.rows)) rank frame.now 11 result }
+) -> WayChecks
+    ensures { AreWayChecks C.compared base.now cert.now.rows (C.most_among (length cert.now.rows)) rank frame.now 11 result }
 {
-    let mut seen = Targets {
+    let mut seen = WayChecks {
         lost: None,
         down: false,
         asked: 0,
     };
     for place in 0..Way::COUNT {
-        let target = over_way(base, cert, rank, frame, &Way::at(place));
-        seen = with_target(seen, place, target);
+        let check = over_way(base, cert, rank, frame, &Way::at(place));
+        seen = with_check(seen, place, check);
     }
     seen
 }
