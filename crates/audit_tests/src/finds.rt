@@ -3,8 +3,8 @@
 use crate::bases::{base_of, chain};
 use assertions::same;
 use demo_texts::DEMO;
-use finder::{Aim, Found, Survey, find, script_to};
-use frame_records::{Base, Groups};
+use finder::{Found, Survey, find, script_to};
+use frame_records::{Base, Destination, Groups, Pence};
 use page_ids::{Digit, FrameId, Key, PageNo, Way, keys_text};
 use std::alloc::Global;
 use std::test::Fail;
@@ -87,16 +87,16 @@ fn nothing_is_listed_without_an_entry_frame(rt: HostRuntime) -> Result<(), Fail>
     same(found.as_slice().len(), 0)
 }
 
-// What a way of the frame at an index came to, where there is one.
-fn aim_of(survey: &Survey<'_>, index: usize, way: &Way) -> Option<Aim> {
+// The destination of a way of the frame at an index, if there is one.
+fn followed(survey: &Survey<'_>, index: usize, way: &Way) -> Option<Destination> {
     if index < survey.found().as_slice().len() {
-        Some(survey.aim(index, way))
+        Some(survey.follow(index, way))
     } else {
         None
     }
 }
 
-// The id of the frame at an index, where there is one.
+// The id of the frame at an index, if there is one.
 fn id_of(survey: &Survey<'_>, index: usize) -> Option<FrameId> {
     if index < survey.found().as_slice().len() {
         Some(survey.frame(index).id)
@@ -120,59 +120,72 @@ fn are_in_steps(found: &Found) -> bool {
 fn frames_of_one_slot_are_all_found(rt: HostRuntime) -> Result<(), Fail> {
     let nobody = Groups::none();
     let [one, five] = [digit(1)?, digit(5)?].map(Way::Route);
+    let [last, absent] = [FrameId::read("1216a")?, FrameId::read("999999a")?];
+    let free = Pence::new(0).ok_or("price")?;
     let base = chain(rt.alloc(), 20, 64, PageNo::new(999_999))?;
     let survey = Survey::of(rt.alloc(), &base, &nobody)?;
-    let aims = [
-        aim_of(&survey, 18, &one),
-        aim_of(&survey, 19, &five),
-        aim_of(&survey, 20, &five),
+    let ways = [
+        followed(&survey, 18, &one),
+        followed(&survey, 19, &five),
+        followed(&survey, 20, &five),
     ];
-    same(
-        (are_in_steps(survey.found()), aims),
-        (true, [Some(Aim::Found), Some(Aim::Missing), None]),
-    )
+    let wanted = [
+        Some(Destination::Found(last, free)),
+        Some(Destination::Missing(absent)),
+        None,
+    ];
+    same((are_in_steps(survey.found()), ways), (true, wanted))
 }
 
-// Route 0 of the entry frame is outside, route 1 is found, and no other way is offered; `#` of the first frame is closed.
+// Route 0 of the entry frame leads outside, route 1 to a frame at 5 pence, and no other way is offered; `#` of the first frame is
+// closed.
 #[test]
-fn each_way_of_a_listed_frame_is_told(rt: HostRuntime) -> Result<(), Fail> {
+fn each_way_of_a_listed_frame_is_followed(rt: HostRuntime) -> Result<(), Fail> {
     let [zero, one, two] = [digit(0)?, digit(1)?, digit(2)?].map(Way::Route);
     let [entry, first] = [FrameId::read("123a")?, FrameId::read("1231a")?];
+    let closed = FrameId::read("1231b")?;
+    let (page, five) = (PageNo::new(0).ok_or("page")?, Pence::new(5).ok_or("price")?);
     let nobody = Groups::none();
     let base = demo(rt.alloc(), true, "PART TWO\"")?;
     let survey = Survey::of(rt.alloc(), &base, &nobody)?;
     let ids = [id_of(&survey, 0), id_of(&survey, 1), id_of(&survey, 2)];
-    let aims = [
-        aim_of(&survey, 0, &zero),
-        aim_of(&survey, 0, &one),
-        aim_of(&survey, 0, &two),
-        aim_of(&survey, 0, &Way::Next),
-        aim_of(&survey, 1, &Way::Next),
+    let ways = [
+        followed(&survey, 0, &zero),
+        followed(&survey, 0, &one),
+        followed(&survey, 0, &two),
+        followed(&survey, 0, &Way::Next),
+        followed(&survey, 1, &Way::Next),
     ];
     let wanted = [
-        Some(Aim::Outside),
-        Some(Aim::Found),
-        Some(Aim::NotOffered),
-        Some(Aim::NotOffered),
-        Some(Aim::Closed),
+        Some(Destination::Outside(page)),
+        Some(Destination::Found(first, five)),
+        Some(Destination::NotOffered),
+        Some(Destination::NotOffered),
+        Some(Destination::Closed(closed)),
     ];
-    same((ids, aims), ([Some(entry), Some(first), None], wanted))
+    same((ids, ways), ([Some(entry), Some(first), None], wanted))
 }
 
 #[test]
 fn a_way_to_a_page_without_frames_is_missing(rt: HostRuntime) -> Result<(), Fail> {
     let nine = Way::Route(digit(9)?);
+    let [absent, next] = [FrameId::read("8a")?, FrameId::read("123b")?];
     let nobody = Groups::none();
     let text =
         "entry = 123\n[[frame]]\nid = \"123a\"\nnext = true\nrows = []\nroutes = { 9 = 8 }\n";
     let base = base_of(rt.alloc(), text)?;
     let survey = Survey::of(rt.alloc(), &base, &nobody)?;
-    let aims = [
-        aim_of(&survey, 0, &nine),
-        aim_of(&survey, 0, &Way::Next),
-        aim_of(&survey, 1, &nine),
+    let ways = [
+        followed(&survey, 0, &nine),
+        followed(&survey, 0, &Way::Next),
+        followed(&survey, 1, &nine),
     ];
-    same(aims, [Some(Aim::Missing), Some(Aim::Missing), None])
+    let wanted = [
+        Some(Destination::Missing(absent)),
+        Some(Destination::Missing(next)),
+        None,
+    ];
+    same(ways, wanted)
 }
 
 // The text of the script to the frame at an index.

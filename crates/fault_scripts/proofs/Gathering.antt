@@ -11,7 +11,7 @@ use Rattle.frame_records.specs.BaseView.{BaseView, frame_at}
 use Rattle.abstract_paint.specs.Paint.{paint_of}
 use Rattle.cert_table.specs.declared.row.Row.{Row}
 use Rattle.finder.specs.declared.found.Discovered.{Discovered}
-use Rattle.fault_scripts.specs.declared.table.Table.{Table}
+use Rattle.fault_scripts.specs.declared.table.GatheredRows.{GatheredRows}
 use Rattle.fault_scripts.specs.Gathered.{row_of, row_by, row_at, price_at, rank_at, IsMost, IsGathered}
 use Rattle.fault_scripts.proofs.Lists.{of_all, place_of}
 
@@ -37,7 +37,7 @@ most_more values most value is =
         some = inl (Contains-push values value);
       }
 
-pub gathered_more : (base : BaseView) (frames : List Discovered) (d : Discovered) (frame : Frame) (old new : Table)
+pub gathered_more : (base : BaseView) (frames : List Discovered) (d : Discovered) (frame : Frame) (old new : GatheredRows)
     → frame_at base d.id ≡ Some frame → IsGathered base frames old
     → new.rows.items ≡ old.rows.items ++ row_of d.id d.rank (paint_of frame.lead frame.body)
     → new.ceiling ≡ max old.ceiling frame.price → new.keyings ≡ max old.keyings (unwrap_or d.rank 0)

@@ -9,7 +9,7 @@ use Rattle.abstract_paint.specs.declared.painting.Painted.TheVariants.{Clean, To
 use Rattle.abstract_paint.specs.Paint.{paint_of}
 use Rattle.cert_table.specs.declared.row.Row.{Row}
 use Rattle.finder.specs.declared.found.Discovered.{Discovered}
-use Rattle.fault_scripts.specs.declared.table.Table.{Table}
+use Rattle.fault_scripts.specs.declared.table.GatheredRows.{GatheredRows}
 
 -- the row of a frame that has a rank and is clean
 abbrev pub row_of : Id → Option ℕ → Painted → List Row
@@ -38,7 +38,7 @@ pub record IsMost (values : List ℕ) (most : ℕ) : Type 0 where
   pub some : Contains values most ⊎ (most ≡ 0)
 
 -- of these discovered frames
-pub record IsGathered (base : BaseView) (frames : List Discovered) (t : Table) : Type 0 where
+pub record IsGathered (base : BaseView) (frames : List Discovered) (t : GatheredRows) : Type 0 where
   pub rows : t.rows.items ≡ flat_map (row_at base) frames
   pub ceiling : IsMost (map (price_at base) frames) t.ceiling
   pub keyings : IsMost (map rank_at frames) t.keyings

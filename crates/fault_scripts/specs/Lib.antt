@@ -9,4 +9,3 @@ pub mod Outcomes
 pub mod Gathered
 pub mod Judged
 pub mod SortedTable
-pub mod Aims

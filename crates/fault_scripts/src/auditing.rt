@@ -11,7 +11,7 @@ ghost use Rattle.fault_scripts.specs.SortedTable.{IsTableInOrder, IsSortedTable}
 use crate::fault::{Fault, FaultKind, FaultList};
 use crate::frames::{Judge, judge_all};
 use crate::outcome::Outcome;
-use crate::table::Table;
+use crate::table::GatheredRows;
 use cert_table::Certificate;
 use checker::Policy;
 use finder::Survey;
@@ -61,7 +61,7 @@ pub fn faults(alloc: Global, base: &Base, policy: &Policy) -> Result<FaultList, 
 }
 
 // The certificate of a table's rows, in the order of their ids.
-fn certificate_of(base: &Base, groups: &Groups, table: Table) -> Certificate
+fn certificate_of(base: &Base, groups: &Groups, table: GatheredRows) -> Certificate
     requires { IsTableInOrder table.rows.items }
     ensures { IsSortedTable base.now groups.now table result }
 {

@@ -1,16 +1,12 @@
-ghost use Rattle.std.specs.Prelude.{◌≡◌, ◌<◌, IfOk, length, option_map};
-ghost use Rattle.frame_records.specs.Ways.{destination_of};
+ghost use Rattle.std.specs.Prelude.{◌≡◌, IfOk, option_map};
 ghost use Rattle.abstract_paint.specs.Paint.{paint_of};
 ghost use Rattle.abstract_paint.specs.StartOf.{start_of};
-ghost use Rattle.finder.specs.Survey.{IsFrameAt};
 ghost use Rattle.fault_scripts.specs.declared.flaw.Flaw.TheVariants as flaw;
-ghost use Rattle.fault_scripts.specs.Aims.{sought_flaw, aimed_flaw};
 ghost use Rattle.fault_scripts.specs.Flaws.{fault_of, price_flaw, way_flaw, is_far, return_flaw};
 
 use crate::fault::{Fault, FaultKind};
 use abstract_paint::{Painted, Start, start_at};
-use finder::{Aim, Survey};
-use frame_records::{Frame, Pence};
+use frame_records::{Destination, Frame, Pence};
 use page_ids::{FrameId, Key, Way};
 use std::alloc::{AllocError, Global};
 
@@ -72,34 +68,15 @@ pub fn touch_flaw(frame: &Frame, painted: Painted) -> Option<Flaw>
     }
 }
 
-// A way that seeks a frame, by its aim.
-fn sought_flaw(way: &Way, aim: Aim, to: FrameId) -> Option<Flaw>
-    ensures { result ≡ sought_flaw way.now aim to }
+// A way by its destination.
+pub fn way_flaw(way: &Way, destination: Destination) -> Option<Flaw>
+    ensures { result ≡ way_flaw way.now destination }
 {
-    match aim {
-        Aim::Closed => Some(Flaw::Closed(*way, to)),
-        Aim::Missing => Some(Flaw::Missing(*way, to)),
-        Aim::NotOffered | Aim::Found | Aim::Outside => None,
+    match destination {
+        Destination::Closed(to) => Some(Flaw::Closed(*way, to)),
+        Destination::Missing(to) => Some(Flaw::Missing(*way, to)),
+        Destination::NotOffered | Destination::Found(_, _) | Destination::Outside(_) => None,
     }
-}
-
-// A way by its aim, and by the frame that it seeks.
-fn aimed_flaw(way: &Way, aim: Aim, sought: Option<FrameId>) -> Option<Flaw>
-    ensures { result ≡ aimed_flaw way.now aim sought }
-{
-    match sought {
-        Some(to) => sought_flaw(way, aim, to),
-        None => None,
-    }
-}
-
-// A way of the frame at an index, by what it came to when the frame was discovered.
-pub fn way_flaw(survey: &Survey, index: u32, frame: &Frame, way: &Way) -> Option<Flaw>
-    requires within { index < length survey.now.found }
-    requires frame { IsFrameAt survey.now index frame.now }
-    ensures { result ≡ way_flaw way.now (destination_of survey.now.groups survey.now.base frame.now way.now) }
-{
-    aimed_flaw(way, survey.aim(index as usize, way), frame.sought(*way))
 }
 
 // Whether a rank is above the keyings, or there is none.

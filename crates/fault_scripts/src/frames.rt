@@ -2,7 +2,7 @@ ghost use Rattle.std.specs.Prelude.{◌≡◌, ◌<◌, ◌≤◌, ◌+◌, IfOk
 ghost use Rattle.finder.specs.Finds.{IsFinding};
 ghost use Rattle.fault_scripts.specs.Judged.{IsJudged};
 
-use crate::table::Table;
+use crate::table::GatheredRows;
 use crate::teller::{Teller, discovered_at};
 use abstract_paint::paint;
 use checker::Policy;
@@ -13,7 +13,7 @@ use std::alloc::{AllocError, Global};
 #[derive(Drop)]
 pub struct Judge {
     pub teller: Teller,
-    pub table: Table,
+    pub table: GatheredRows,
 }
 
 impl Judge {
@@ -51,7 +51,7 @@ pub fn judge_all(alloc: Global, survey: &Survey, policy: &Policy) -> Result<Judg
     let count = survey.found().as_slice().len() as u32;
     let mut judge = Judge {
         teller: Teller::new(alloc),
-        table: Table::new(alloc),
+        table: GatheredRows::new(alloc),
     };
     for index in 0..count {
         judge.frame(alloc, survey, policy, index)?;

@@ -10,7 +10,7 @@ use std::alloc::{AllocError, Global};
 
 // The rows of a certificate as they are gathered, with the greatest price and the greatest rank so far.
 #[derive(Drop)]
-pub struct Table {
+pub struct GatheredRows {
     pub rows: Vec<Row>,
     pub ceiling: Pence,
     pub keyings: u16,
@@ -51,14 +51,14 @@ fn push_row(
     }
 }
 
-impl Table {
+impl GatheredRows {
     // No frame yet.
-    pub fn new(alloc: Global) -> Table
+    pub fn new(alloc: Global) -> GatheredRows
         ensures rows { result.rows.items ≡ [] }
         ensures ceiling { result.ceiling ≡ 0 }
         ensures keyings { result.keyings ≡ 0 }
     {
-        Table {
+        GatheredRows {
             rows: Vec::new(alloc),
             ceiling: no_price(),
             keyings: 0,

@@ -144,7 +144,8 @@ impl Teller {
         )?;
         self.tell(alloc, survey, index, id, touch_flaw(frame, painted))?;
         for place in 0..Way::COUNT {
-            let flaw = way_flaw(survey, index, frame, &Way::at(place));
+            let way = Way::at(place);
+            let flaw = way_flaw(&way, survey.follow(index as usize, &way));
             self.tell(alloc, survey, index, id, flaw)?;
         }
         self.tell(

@@ -5,9 +5,6 @@ use Rattle.frame_records.specs.declared.base.Sought.TheVariants as sought_is
 use Rattle.finder.proofs.Places.{frame_here, id_stands}
 use Rattle.frame_records.specs.declared.ways.Destination.TheVariants as destination_is
 use Rattle.finder.proofs.Lists.{mapped}
-use Rattle.finder.specs.declared.aim.Aim.{Aim}
-use Rattle.finder.specs.declared.aim.Aim.TheVariants.{NotOffered, Found}
-use Rattle.finder.specs.declared.table.Table.{Table}
 use Rattle.finder.proofs.Marked.{frame_listed}
 use Rattle.finder.proofs.Targeted.{SeenFrame, seen_frame}
 use Rattle.finder.proofs.Scripted.{listed_at, scripts_lead}
@@ -46,22 +43,6 @@ stands base nodes found i node up named at =
 pub node_within : (base : BaseView) (nodes : List ℕ) (found : List Discovered) (i node : ℕ) → IsAscending base.frames
     → AreNamed base.frames nodes found → slice_get nodes i ≡ Some node → node < length base.frames
 node_within base nodes found i node up named at = let f = stands base nodes found i node up named at in slice_get_within base.frames node f.0 f.1
-
--- what its ways come to
-pub aim_told : (table : Table) (nodes : List ℕ) (found : List Discovered) (i node place : ℕ) (way : Way) (aim : Aim) (d : Discovered)
-    → AreNamed table.base.now.frames nodes found → slice_get nodes i ≡ Some node → slice_get found i ≡ Some d
-    → place < 11 → way_at place ≡ way
-    → (get_or table.targets.places.items (node * 11 + place) 0 < table.count → aim ≡ Found)
-    → (table.count ≤ get_or table.targets.places.items (node * 11 + place) 0 → aim ≡ get_or table.targets.aims.items (node * 11 + place) NotOffered)
-    → aim ≡ aim_of (destination table.groups.now table.base.now d.id way)
-aim_told table nodes found i node place way aim d named at there small is_way is_found is_lost =
-    let caller = table.groups.now in
-    let base = table.base.now in
-    let f = stands base nodes found i node table.valid.ascending named at in
-    let inside = slice_get_within base.frames node f.0 f.1 in
-    let told = table.whole.right node place f.0 (omega (arith, inside, small, table.nodes)) small f.1 in
-    let here : aim_of (destination_of caller base f.0 (way_at place)) ≡ aim_of (destination caller base d.id way) = ap (λ w. aim_of (destination_of caller base f.0 w)) is_way ∙ ap (λ o. aim_of (destination_by caller base way o)) (sym (f.2 d there)) in
-    ⊎_elim (λ lt. is_found (omega (arith, lt, table.nodes)) ∙ ap aim_of (mapped (λ (h : Frame). destination_is.Found h.id h.price) (slice_get base.frames _) _ (told.found lt)).2 ∙ here) (λ past. is_lost (omega (arith, past, table.nodes)) ∙ (told.lost past).0 ∙ here) (cases_lt (get_or table.targets.places.items (node * 11 + place) 0) (length base.frames))
 
 -- where the entry frame is found it is listed
 not_empty : (caller : List ℕ) (base : BaseView) (found : List Discovered) → FindsReached caller base found → found ≡ []

@@ -1,4 +1,4 @@
-/// What a way of a discovered frame came to, without the frame that it seeks.
+/// The destination of a way without its frame, in one byte.
 #[derive(Debug, Clone, Copy, PartialEq, Eq)]
 pub enum Aim {
     /// The frame doesn't offer the way.

@@ -4,13 +4,13 @@ ghost use Rattle.std.specs.Prelude.{◌≡◌, ◌<◌, ℕ, Some, IfSome, IfNon
 ghost use Rattle.frame_records.specs.Seek.{entry_of};
 ghost use Rattle.finder.specs.Targets.{id_at};
 
-use crate::table::Table;
+use crate::table::WayTable;
 use page_ids::FrameId;
 
 // A table of a base whose entry frame is found, at a place.
 #[derive(Drop)]
 pub struct Graph<'a> {
-    pub table: Table<'a>,
+    pub table: WayTable<'a>,
     pub entry: u16,
     pub ghost entered: { entry < table.count },
     pub ghost entry_is: { id_at table.base.now.frames entry ≡ Some (entry_of table.base.now) },

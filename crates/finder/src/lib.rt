@@ -10,8 +10,8 @@
 //! script_to(alloc, &found, 2)? // the keys from the entry frame to the third of them, as 1#
 //! ```
 //!
-//! - [`Survey`]: the list of a base, with the record of each listed frame and what each of its ways came to ([`Aim`]). Each
-//!   way is looked up once, and nothing is sought again.
+//! - [`Survey`]: the list of a base, with the record of each listed frame and the destination of each of its ways. Each way is
+//!   looked up once, and nothing is sought again.
 //! - [`find`], [`Found`], [`Discovered`]: the list alone.
 //! - [`script_to`]: the keys that lead to a listed frame.
 //! - [`found_is_one`]: the list's clauses pin one list; [`scripts_lead`]: its scripts lead.
@@ -33,7 +33,6 @@ mod table;
 mod target;
 mod turned;
 
-pub use aim::Aim;
 pub use found::{Discovered, Found};
 pub use laws::{found_is_one, scripts_lead};
 pub use script::script_to;

@@ -1,20 +1,18 @@
 ghost use Rattle.std.specs.Prelude.{◌≡◌, ◌<◌, ◌≤◌, ◌↔◌, [], IfOk, Some, length, slice_get};
-ghost use Rattle.page_ids.specs.Ways.{way_at};
 ghost use Rattle.frame_records.specs.Ways.{destination};
 ghost use Rattle.finder.specs.declared.found.Discovered.{Discovered};
 ghost use Rattle.finder.specs.Entries.{IsEntryPlace};
 ghost use Rattle.finder.specs.Finds.{IsFinding, FindsReached, RanksAreLeast};
 ghost use Rattle.finder.specs.Scripts.{ScriptsLead};
-ghost use Rattle.finder.specs.Survey.{IsFrameAt, aim_of};
+ghost use Rattle.finder.specs.Survey.{IsFrameAt};
 ghost use Rattle.finder.specs.Walks.{EntryIsFound};
 
-use crate::aim::Aim;
 use crate::discover::{Discovery, discover};
 use crate::found::Found;
 use crate::graph::Graph;
 use crate::notes::Notes;
-use crate::table::Table;
-use frame_records::{Base, Frame, Groups};
+use crate::table::WayTable;
+use frame_records::{Base, Destination, Frame, Groups};
 use indexmap::IndexSet;
 use page_ids::Way;
 use std::alloc::{AllocError, Global};
@@ -24,7 +22,7 @@ use std::marker::Model;
 /// groups and the list.
 #[derive(Drop)]
 pub struct Survey<'a> {
-    table: Table<'a>,
+    table: WayTable<'a>,
     order: IndexSet<u16>,
     found: Found,
 }
@@ -50,20 +48,9 @@ fn entry_place(notes: &Notes<'_>) -> Option<u16>
     }
 }
 
-// A way's place in the order of the ways.
-fn place_of(way: &Way) -> u8
-    ensures way { way_at result ≡ way.now }
-    ensures within { result < 11 }
-{
-    match way {
-        Way::Route(digit) => digit.get(),
-        Way::Next => 10,
-    }
-}
-
 impl<'a> Survey<'a> {
     // Where the entry frame isn't found, no frame is.
-    fn empty(alloc: Global, table: Table<'a>) -> Survey<'a>
+    fn empty(alloc: Global, table: WayTable<'a>) -> Survey<'a>
         ensures base { result.base ≡ table.entry.base.now }
         ensures groups { result.groups ≡ table.entry.groups.now }
         ensures found { result.found ≡ [] }
@@ -100,7 +87,7 @@ impl<'a> Survey<'a> {
     {
         let notes = Notes::of(alloc, base, groups)?;
         let entry = entry_place(&notes);
-        let table = Table::of(alloc, notes)?;
+        let table = WayTable::of(alloc, notes)?;
         let Some(entry) = entry else {
             return Ok(Survey::empty(alloc, table));
         };
@@ -129,12 +116,13 @@ impl<'a> Survey<'a> {
         &self.table.base.frames()[self.order[index] as usize]
     }
 
-    /// What a way of the discovered frame at an index of the list came to. Nothing is sought.
-    pub fn aim(&self, index: usize, way: &Way) -> Aim
+    /// The destination of a way of the discovered frame at an index of the list, as `Base::follow` gives it. Nothing is sought
+    /// again.
+    pub fn follow(&self, index: usize, way: &Way) -> Destination
         requires { index < length self.now.found }
-        ensures { (d : Discovered) → slice_get self.now.found index ≡ Some d → result ≡ aim_of (destination self.now.groups self.now.base d.id way.now) }
+        ensures { (d : Discovered) → slice_get self.now.found index ≡ Some d → result ≡ destination self.now.groups self.now.base d.id way.now }
     {
-        self.table.aim(self.order[index], place_of(way))
+        self.table.follow(self.order[index], way)
     }
 }
 

@@ -1,14 +1,17 @@
 //! What each way of each frame of a base comes to. Each is looked up once.
 
-ghost use Rattle.std.specs.Prelude.{◌≡◌, ◌<◌, ◌≤◌, ◌+◌, ◌*◌, OnOk, IfOk, map, length, get_or};
+ghost use Rattle.std.specs.Prelude.{◌≡◌, ◌<◌, ◌≤◌, ◌+◌, ◌*◌, Some, OnOk, IfOk, map, length, get_or, slice_get};
+ghost use Rattle.page_ids.specs.Ways.{way_at};
 ghost use Rattle.frame_records.specs.BaseView.{IsBase};
+ghost use Rattle.frame_records.specs.Ways.{destination_of};
+ghost use Rattle.frame_records.specs.declared.frame.Frame.{Frame};
+ghost use Rattle.finder.specs.Survey.{lost_to};
 ghost use Rattle.finder.specs.Targets.{AreTargets, IsAdded};
-ghost use Rattle.finder.specs.declared.aim.Aim.TheVariants.{NotOffered, Found};
 
 use crate::aim::Aim;
 use crate::notes::Notes;
 use crate::target::Target;
-use frame_records::{Base, Groups};
+use frame_records::{Base, Destination, Groups};
 use page_ids::{FrameId, Way};
 use std::alloc::{AllocError, Global};
 
@@ -21,6 +24,32 @@ pub struct Targets {
 
 // No frame stands here, since a base has at most so many.
 const NOWHERE: u16 = u16::MAX;
+
+// A way's place in the order of the ways.
+fn place_of(way: &Way) -> u8
+    ensures way { way_at result ≡ way.now }
+    ensures within { result < 11 }
+{
+    match way {
+        Way::Route(digit) => digit.get(),
+        Way::Next => 10,
+    }
+}
+
+// The destination of a way that finds no frame, by its aim and the frame that it seeks.
+fn lost_to(aim: Aim, sought: Option<FrameId>) -> Destination
+    ensures { result ≡ lost_to aim sought }
+{
+    let Some(to) = sought else {
+        return Destination::NotOffered;
+    };
+    match aim {
+        Aim::Closed => Destination::Closed(to),
+        Aim::Missing => Destination::Missing(to),
+        Aim::Outside => Destination::Outside(to.page),
+        Aim::NotOffered | Aim::Found => Destination::NotOffered,
+    }
+}
 
 impl Targets {
     // Adds what the next way comes to.
@@ -57,7 +86,7 @@ impl Targets {
 /// What each way of each frame of a base comes to for a caller of the groups: eleven a frame, in the order of the
 /// frames.
 #[derive(Drop)]
-pub struct Table<'a> {
+pub struct WayTable<'a> {
     pub base: &'a Base,
     pub groups: &'a Groups,
     pub count: u16,
@@ -70,9 +99,9 @@ pub struct Table<'a> {
     pub ghost whole: { AreTargets groups.now base.now (count * 11) targets },
 }
 
-impl<'a> Table<'a> {
+impl<'a> WayTable<'a> {
     // The table of a base.
-    pub fn of(alloc: Global, notes: Notes<'a>) -> Result<Table<'a>, AllocError>
+    pub fn of(alloc: Global, notes: Notes<'a>) -> Result<WayTable<'a>, AllocError>
         ensures base { IfOk result (λ t. t.base.now ≡ notes.entry.base.now) }
         ensures groups { IfOk result (λ t. t.groups.now ≡ notes.entry.groups.now) }
     {
@@ -90,7 +119,7 @@ impl<'a> Table<'a> {
             ids,
             ..
         } = notes;
-        Ok(Table {
+        Ok(WayTable {
             base,
             groups,
             count,
@@ -108,17 +137,20 @@ impl<'a> Table<'a> {
         self.targets.places[place as usize * 11 + way as usize]
     }
 
-    // What a way of the frame at a place comes to.
-    pub fn aim(&self, place: u16, way: u8) -> Aim
-        requires is_place { place < self.now.count }
-        requires is_way { way < 11 }
-        ensures found { get_or self.now.targets.places.items (place * 11 + way) 0 < self.now.count → result ≡ Found }
-        ensures lost { self.now.count ≤ get_or self.now.targets.places.items (place * 11 + way) 0 → result ≡ get_or self.now.targets.aims.items (place * 11 + way) NotOffered }
+    // The destination of a way of the frame at a place. Nothing is sought.
+    pub fn follow(&self, place: u16, way: &Way) -> Destination
+        requires { place < self.now.count }
+        ensures { (f : Frame) → slice_get self.now.base.now.frames place ≡ Some f → result ≡ destination_of self.now.groups.now self.now.base.now f way.now }
     {
-        if self.place(place, way) < self.count {
-            Aim::Found
+        let number = place_of(way);
+        let to = self.place(place, number);
+        let frames = self.base.frames();
+        if to < self.count {
+            let frame = &frames[to as usize];
+            Destination::Found(frame.id, frame.price)
         } else {
-            self.targets.aims[place as usize * 11 + way as usize]
+            let aim = self.targets.aims[place as usize * 11 + number as usize];
+            lost_to(aim, frames[place as usize].sought(*way))
         }
     }
 }

@@ -3,7 +3,7 @@ use Rattle.abstract_paint.specs.StartOf.{start_of}
 use Rattle.fault_scripts.specs.declared.flaw.Flaw.TheVariants.{Touches}
 use Rattle.page_ids.specs.declared.way.Way.{Way}
 use Rattle.page_ids.specs.Ways.{way_at}
-use Rattle.frame_records.specs.Ways.{destination_of}
+use Rattle.frame_records.specs.Ways.{destination_by, destination_of}
 use Rattle.fault_scripts.specs.Flaws.{way_flaw}
 use Rattle.fault_scripts.proofs.Asked.{asked_way}
 use Rattle.fault_scripts.proofs.Told.{step}
@@ -28,7 +28,9 @@ loop-place-preserved c =
     let frame = c.args.frame.now in
     let n = c.loop-place.place in
     let few : n < 11 = omega (arith, c.loop-place-test.true) in
-    let flaw = c.way_flaw-flaw.ensures ∙ ap (λ (w : Way). way_flaw w (destination_of s.groups s.base frame w)) c.at.ensures ∙ ap (λ g. way_flaw (way_at n) (destination_of g s.base frame (way_at n))) c.requires.groups in
+    let d = c.discovered_at-discovered in
+    let to = c.follow.ensures d.result.now d.ensures ∙ ap (destination_by s.groups s.base c.at-way.result) (c.requires.frame d.result.now d.ensures) in
+    let flaw = c.way_flaw-flaw.ensures ∙ ap (way_flaw c.at-way.result) to ∙ ap (λ (w : Way). way_flaw w (destination_of s.groups s.base frame w)) c.at-way.ensures ∙ ap (λ g. way_flaw (way_at n) (destination_of g s.base frame (way_at n))) c.requires.groups in
     step s c.args.policy.now i c.discovered_at-discovered.result.now c.discovered_at-discovered.ensures frame c.requires.frame (i * 14 + (n + 2)) (i * 14 + (n + 1 + 2)) (n + 2) (omega (arith, few)) refl (omega arith) c.loop-place.self c.tell-in-loop-place.new.self c.way_flaw-flaw.result (asked_way s.base c.args.policy.now frame c.discovered_at-discovered.result.now.rank n few ∙ sym flaw) c.loop-place.invariant c.in_ok-tell-3.ensures.script c.in_ok-tell-3.ensures.told
 
 -- the way back
