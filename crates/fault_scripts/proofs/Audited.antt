@@ -1,4 +1,4 @@
--- What the outcome of an audit comes to.
+-- The result of the outcome of an audit.
 use Rattle.std.proofs.Common.{◌≡◌, ◌≢◌, ◌≤◌, ℕ, List, [], length, Some, Bool, true, false, eqb, refl, sym, ◌∙◌, ap, subst, arith}
 use Rattle.std.specs.Prelude.{Result, Ok, Err, IfOk, slice_get}
 use Rattle.std.proofs.lemmas.Bool.Decides.{nat_tests}
@@ -40,7 +40,7 @@ some_told xs ys b same test fails none =
     absurd (grind (arith, nat_tests))
 
 module _ (base : BaseView) (policy : Policy) (j : Judge) (whole : IsWhole base policy j) where
-  -- what was told is all
+  -- what was reported is all
   pub told_along : AreFaultsAlong base policy j.teller.faults.items
   told_along = record {
     found = whole.found;

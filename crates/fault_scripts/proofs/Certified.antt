@@ -1,4 +1,4 @@
--- Where there is no fault, the rows of the discovered frames, sorted, make the certificate.
+-- If there is no fault, the rows of the discovered frames, sorted, make the certificate.
 use Rattle.std.proofs.Common.{◌≡◌, ◌<◌, ◌≤◌, ◌+◌, ℕ, Bool, true, false, List, length, get_or, Option, Some, None, map, option_map, unwrap_or, slice_get, refl, sym, ◌∙◌, ap, subst, cond, arith}
 use Rattle.std.specs.Prelude.{◌↔◌, Contains, count_by}
 use Rattle.std.specs.Ordering.{is_lt}
@@ -83,7 +83,7 @@ module _ (base : BaseView) (policy : Policy) (found : List Discovered) (finding 
   table : AreRows rows
   table = are_rows rows (omega (arith, length_permutation all rows sorted.same, row_count base policy found sound, small)) sorted.in_order once
 
-  -- a row's cursor stands for the ends of its frame
+  -- a row's cursor covers the ends of its frame
   ends_of : (row : Row) (r : IsRowOf base policy found row) → Ends r.sound.frame.lead r.sound.frame.body row.cursor
   ends_of row r =
       let frame = r.sound.frame in

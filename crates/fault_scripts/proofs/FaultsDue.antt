@@ -1,4 +1,4 @@
--- The list of faults has just those that are due, each once and in order.
+-- The list of faults has exactly those that are due, each once and in order.
 use Rattle.std.proofs.Common.{◌≡◌, ℕ, List, get_or, sym, ap, subst, arith}
 use Rattle.std.proofs.lemmas.List.Elements.{Contains-get_or}
 use Rattle.frame_records.specs.declared.base.Sought.TheVariants as sought
@@ -12,7 +12,7 @@ use Rattle.fault_scripts.specs.FaultLaws.{FaultsAreDue}
 use Rattle.fault_scripts.specs.Faults.{AreFaultsAlong, AreFaultsBy, AreFaults}
 use Rattle.fault_scripts.proofs.Told.{own_place}
 
--- where the entry frame is found, they are those of the discovered frames, and the other way round
+-- if the entry frame is found, they are those of the discovered frames, and the other way round
 pub along : (base : BaseView) (policy : Policy) (price : ℕ) (faults : List Fault)
     → seek_entry policy.groups base ≡ sought.Found price → AreFaults base policy faults
     → AreFaultsAlong base policy faults

@@ -60,7 +60,7 @@ pub most_above : {X : Type 0} (f : X → ℕ) (xs : List X) (most : ℕ) → IsM
     → slice_get xs i ≡ Some x → f x ≤ most
 most_above f xs most is i x at = of_all (λ (v : ℕ). v ≤ most) (map f xs) i (f x) is.at_most (slice_get-map f xs i ∙ ap (option_map f) at)
 
--- and is one of them, where there is one
+-- and is one of them, if there is one
 pub most_there : {X : Type 0} (f : X → ℕ) (xs : List X) (most : ℕ) → IsMost (map f xs) most → (i : ℕ) (x : X)
     → slice_get xs i ≡ Some x → (j : ℕ) × (y : X) × (slice_get xs j ≡ Some y) × (f y ≡ most)
 most_there {X} f xs most is i x at =

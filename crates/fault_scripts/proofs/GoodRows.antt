@@ -1,4 +1,4 @@
--- Where there is no fault, the rows of the discovered frames make a good certificate.
+-- If there is no fault, the rows of the discovered frames make a good certificate.
 use Rattle.std.proofs.Common.{◌≡◌, ◌<◌, ◌≤◌, inl, inr, ℕ, zero, suc, true, false, List, get_or, Option, Some, None, is_some, slice_get, refl, sym, ◌∙◌, ap, subst, arith}
 use Rattle.std.specs.Prelude.{◌↔◌, Contains}
 use Rattle.std.proofs.lemmas.List.Elements.{Contains-get_or, recursion_from_All}

@@ -64,7 +64,7 @@ module _ (base : BaseView) (policy : Policy) (found : List Discovered) (sound : 
   pub row_count : length gathered ≡ length found
   row_count = ones_length (row_at base) found own
 
-  -- each row stands in its frame's place
+  -- each row is in its frame's place
   row_is : (k : ℕ) (d : Discovered) (row : Row) → slice_get found k ≡ Some d → slice_get gathered k ≡ Some row
       → (s : IsSound base policy d) → row ≡ row_with d.id s.rank s.cursor
   row_is k d row listed at s =
@@ -86,7 +86,7 @@ module _ (base : BaseView) (policy : Policy) (found : List Discovered) (sound : 
       let row = some_at gathered i (omega (arith, slice_get_within found i d listed, row_count)) in
       subst (Contains gathered) (row_is i d row.0 listed row.1 s) (contains_at gathered i row.0 row.1)
 
-  -- no id is twice there, where none is twice among the frames
+  -- no id is twice there, if none is twice among the frames
   pub none_twice : ((i j : ℕ) (d e : Discovered) → slice_get found i ≡ Some d → slice_get found j ≡ Some e → d.id ≡ e.id → i ≡ j) → (id : Id) → count_by (λ r. id_eq r.id id) gathered ≤ 1
   none_twice once id = by (nat_lt 1 (count_by (λ r. id_eq r.id id) gathered)) refl where
     -- the frame of a place that passes has the id

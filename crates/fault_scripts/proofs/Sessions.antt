@@ -1,4 +1,4 @@
--- What a session comes to, key by key. The caller is the list of the groups to which the caller belongs.
+-- The result of a session, key by key. The caller is the list of the groups to which the caller belongs.
 use Rattle.std.proofs.Common.{◌≡◌, ℕ, List, [], ◌∷◌, ◌++◌, refl, ◌∙◌, ap, subst}
 use Rattle.page_ids.specs.Id.{Id}
 use Rattle.page_ids.specs.Ways.{way_key}
@@ -19,7 +19,7 @@ use Rattle.finder.specs.Walks.{KeysLead}
 use Rattle.fault_scripts.specs.Replays.{last_of}
 use Rattle.fault_scripts.proofs.Discoveries.{leads_found}
 
--- a way's key does what the way comes to
+-- a way's key does what its way does
 pub way_is : (caller : List ℕ) (base : BaseView) (f : Id) (remembered : List Id) (w : Way)
     → key_step caller base (At f remembered) (way_key w) ≡ by_way f remembered (destination caller base f w)
 way_is caller base f remembered (Route digit) = refl

@@ -119,7 +119,7 @@ only_one x y at =
 
 pub faults_shown : FaultsAreShown
 faults_shown base policy faults fault are told = by (seek_entry policy.groups base) refl are where
-  -- where the entry frame isn't found that is shown by no keys
+  -- if the entry frame isn't found that is shown by no keys
   entry : (plain : Fault) → Shows base policy plain → faults ≡ plain ∷ [] → Shows base policy fault
   entry plain shown is = subst (Shows base policy) (only_one plain fault (subst (λ (l : List Fault). Contains l fault) is told)) shown
 

@@ -1,4 +1,4 @@
--- What holds of each discovered frame where there is no fault.
+-- What holds of each discovered frame if there is no fault.
 use Rattle.std.proofs.Common.{◌≡◌, ◌<◌, ◌≤◌, ◌⊎◌, inl, inr, ℕ, nat_lt, Bool, true, false, cond, List, Option, Some, None, slice_get, refl, arith}
 use Rattle.std.proofs.lemmas.Bool.Decides.{nat_tests}
 use Rattle.page_ids.specs.Id.{Id}

@@ -1,4 +1,4 @@
--- The faults that are told, one answer after another, are just those that are due so far, in order.
+-- The faults that are reported, one answer after another, are exactly those that are due so far, in order.
 use Rattle.std.proofs.Common.{◌≡◌, ◌<◌, ◌≤◌, ◌+◌, ◌*◌, ◌++◌, inl, inr, ℕ, List, [], ◌∷◌, length, get_or, Option, slice_get, option_map, refl, sym, ◌∙◌, ap, subst, arith}
 use Rattle.std.proofs.Common as std
 use Rattle.std.specs.Prelude.{Contains}
@@ -61,7 +61,7 @@ module _ (base : BaseView) (policy : Policy) (found : List Discovered) (finding 
   pub before_end : (f : Fault) (due : IsDue base policy found f) → turn_at due.index f < length found * 14
   before_end f due = omega (arith, (answer_of f due).in_turn, slice_get_within found due.index due.discovered due.place.listed)
 
-  -- a due fault stands before another, where its own place does
+  -- a due fault is before another, if its own place does
   pub stands_before : (x y : Fault) (a : IsDue base policy found x) (b : IsDue base policy found y)
       → turn_at a.index x < turn_at b.index y → StandsBefore found x y
   stands_before x y a b lt i j p q = omega (arith, place_is_one x a i p, place_is_one y b j q, lt)

@@ -58,7 +58,7 @@ module _ (caller : List ℕ) (base : BaseView) where
       (f, w, here, on)
   walk_before f h g w (suc n) l walk = (walk.0, walk.1, walk_before f h walk.0 w n l walk.2, walk.3)
 
-  -- what a way's key does to where the caller is: it stays, leaves, or moves along the way
+  -- what a way's key does to the caller's state: it stays, leaves, or moves along the way
   abbrev Moves : Id → List Id → SessionState → Type 0
   Moves f remembered s = (s ≡ At f remembered) ⊎ (((page : ℕ) × (s ≡ Left page)) ⊎ ((h : Id) × (w : Way) × (more : List Id) × (s ≡ At h more) × Leads caller base f w h))
 

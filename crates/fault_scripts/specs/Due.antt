@@ -1,4 +1,4 @@
--- Which faults a base has, in the subject's words, for a caller of just the policy's groups.
+-- Which faults a base has, in the subject's words, for a caller of exactly the policy's groups.
 use Rattle.std.specs.Prelude.{◌≡◌, ◌≤◌, ◌<◌, ◌+◌, ◌*◌, ℕ, List, Option, Some, slice_get}
 use Rattle.page_ids.specs.Id.{Id}
 use Rattle.page_ids.specs.declared.key.Key.{Key}
@@ -76,7 +76,7 @@ number_of (Some (Route digit)) = digit
 number_of (Some Next) = 10
 number_of _ = 0
 
--- where a fault stands among those of its frame: Price, Touches, Missing and Closed by key, NoReturn
+-- the place of a fault among those of its frame: Price, Touches, Missing and Closed by key, NoReturn
 abbrev pub turn_of : FaultKind → Option Key → ℕ
 turn_of kind.EntryMissing key = 0
 turn_of kind.EntryClosed key = 0
@@ -86,7 +86,7 @@ turn_of kind.Missing key = number_of key + 2
 turn_of kind.Closed key = number_of key + 2
 turn_of kind.NoReturn key = 13
 
--- where it stands among all faults, its frame being the i-th discovered
+-- its place among all faults, its frame being the i-th discovered
 abbrev pub turn_at : ℕ → Fault → ℕ
 turn_at i fault = i * 14 + turn_of fault.kind fault.key
 
@@ -94,6 +94,6 @@ turn_at i fault = i * 14 + turn_of fault.kind fault.key
 abbrev pub IsOfPlace : List Discovered → ℕ → Fault → Type 0
 IsOfPlace found i fault = (d : Discovered) × (slice_get found i ≡ Some d) × (fault.frame ≡ d.id)
 
--- the fault stands before the other, whatever their places are
+-- the fault is before the other, whatever their places are
 abbrev pub StandsBefore : List Discovered → Fault → Fault → Type 0
 StandsBefore found x y = (i j : ℕ) → IsOfPlace found i x → IsOfPlace found j y → turn_at i x < turn_at j y

@@ -1,4 +1,4 @@
--- What the list of faults of a base is, for a caller of just the policy's groups.
+-- What the list of faults of a base is, for a caller of exactly the policy's groups.
 use Rattle.std.specs.Prelude.{◌≡◌, ◌↔◌, List, [], ◌∷◌, Contains, AllPairs}
 use Rattle.frame_records.specs.declared.base.Sought.{Sought}
 use Rattle.frame_records.specs.declared.base.Sought.TheVariants as sought
@@ -12,7 +12,7 @@ use Rattle.fault_scripts.specs.declared.fault.FaultKind.TheVariants as kind
 use Rattle.fault_scripts.specs.Makers.{plain_fault}
 use Rattle.fault_scripts.specs.Due.{IsDue, StandsBefore}
 
--- just the faults that are due, each once: in the order of the discovery of their frames, and within a frame of their
+-- exactly the faults that are due, each once: in the order of the discovery of their frames, and within a frame of their
 -- kinds and keys
 pub record AreDue (base : BaseView) (policy : Policy) (found : List Discovered) (faults : List Fault) : Type 0 where
   pub just : (fault : Fault) → Contains faults fault ↔ IsDue base policy found fault
@@ -24,7 +24,7 @@ pub record AreFaultsAlong (base : BaseView) (policy : Policy) (faults : List Fau
   pub finding : IsFinding policy.groups base found
   pub due : AreDue base policy found faults
 
--- where the entry frame isn't found that is the one fault
+-- if the entry frame isn't found that is the one fault
 abbrev pub AreFaultsBy : Sought → BaseView → Policy → List Fault → Type 0
 AreFaultsBy (sought.Found price) base policy faults = AreFaultsAlong base policy faults
 AreFaultsBy sought.Closed base policy faults = faults ≡ plain_fault kind.EntryClosed (entry_of base) [] ∷ []

@@ -1,4 +1,4 @@
--- What is asked of a discovered frame, in turn, and what each answer is, for a caller of just the policy's groups.
+-- What is asked of a discovered frame, in turn, and what each answer is, for a caller of exactly the policy's groups.
 use Rattle.std.specs.Prelude.{ℕ, ◌-◌, ◌==◌, Bool, true, List, Option, Some, None, option_map, nat_lt, if◌then◌else◌}
 use Rattle.page_ids.specs.Id.{Id}
 use Rattle.page_ids.specs.declared.key.Key.{Key}
@@ -30,7 +30,7 @@ fault_of id keys NoReturn = plain_fault kind.NoReturn id keys
 abbrev pub price_flaw : ℕ → ℕ → Option Flaw
 price_flaw ceiling price = if nat_lt ceiling price then Some (Price price) else None
 
--- a way by what it comes to
+-- a way, by its destination
 abbrev pub way_flaw : Way → Destination → Option Flaw
 way_flaw w way.NotOffered = None
 way_flaw w (way.Found to price) = None

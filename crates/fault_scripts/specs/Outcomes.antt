@@ -1,4 +1,4 @@
--- What the audit answers, for a caller of just the policy's groups.
+-- What the audit answers, for a caller of exactly the policy's groups.
 use Rattle.std.specs.Prelude.{◌≡◌, ◌≢◌, ◌≤◌, ◌↔◌, ℕ, true, List, [], Some, Contains}
 use Rattle.page_ids.specs.Id.{Id}
 use Rattle.frame_records.specs.declared.frame.Frame.{Frame}
@@ -30,7 +30,7 @@ pub record IsGreatestRank (rows : List Row) (keyings : ℕ) : Type 0 where
   pub at_most : (row : Row) → Contains rows row → row.rank ≤ keyings
   pub some : (row : Row) × Contains rows row × (row.rank ≡ keyings)
 
--- the certificate has the policy's groups, and just the reached frames as rows, each with its distance to the entry frame and
+-- the certificate has the policy's groups, and exactly the reached frames as rows, each with its distance to the entry frame and
 -- its ends; it costs and ranks no more than it must; and the check clears it
 pub record IsCertificateOf (base : BaseView) (policy : Policy) (cert : CertView) : Type 0 where
   pub entry : cert.entry ≡ base.entry
@@ -44,7 +44,7 @@ pub record IsCertificateOf (base : BaseView) (policy : Policy) (cert : CertView)
   pub keyings : IsGreatestRank cert.rows cert.keyings
   pub cleared : verdict base policy cert ≡ Cleared
 
--- a certificate exactly where there is no fault, else all faults
+-- a certificate exactly if there is no fault, else all faults
 abbrev pub IsOutcome : BaseView → Policy → Outcome → Type 0
 IsOutcome base policy (Certified cert) = AreFaults base policy [] × IsCertificateOf base policy cert
 IsOutcome base policy (Faulty faults) = AreFaults base policy faults × (faults ≢ [])
@@ -54,7 +54,7 @@ abbrev pub DecidesSafety : BaseView → Policy → Outcome → Type 0
 DecidesSafety base policy (Certified cert) = Safe policy.groups base policy.ceiling policy.keyings
 DecidesSafety base policy (Faulty faults) = Safe policy.groups base policy.ceiling policy.keyings → ⊥
 
--- each fault that is told is borne out by its script
+-- each fault that is reported is borne out by its script
 abbrev pub AreShown : BaseView → Policy → Outcome → Type 0
 AreShown base policy (Certified cert) = Unit {0}
 AreShown base policy (Faulty faults) = (fault : Fault) → Contains faults fault → Shows base policy fault

@@ -1,4 +1,4 @@
--- What a session of a list of keys comes to. The caller is the list of the groups to which the caller belongs.
+-- The result of a session of a list of keys. The caller is the list of the groups to which the caller belongs.
 use Rattle.std.specs.Prelude.{◌≡◌, ℕ, List, [], ◌∷◌, Result, Ok, Err}
 use Rattle.page_ids.specs.declared.key.Key.{Key}
 use Rattle.frame_records.specs.declared.base.Sought.TheVariants.{Found}
@@ -20,7 +20,7 @@ last_of reply (next ∷ replies) = last_of next replies
 abbrev pub last_reply : List ℕ → BaseView → List Key → ℕ → Reply
 last_reply caller base keys price = last_of (opening_reply base price) (replies_to caller base (opening base) keys)
 
--- where it ends
+-- the state in which it ends
 abbrev pub last_state : List ℕ → BaseView → List Key → SessionState
 last_state caller base keys = state_after caller base (opening base) keys
 

@@ -1,4 +1,4 @@
--- What bears a fault out: what its script comes to, run as a session of a caller of just the policy's groups.
+-- What bears a fault out: the result of its script, run as a session of a caller of exactly the policy's groups.
 use Rattle.std.specs.Prelude.{◌≡◌, ◌≤◌, ◌<◌, ◌++◌, ◌∷◌, [], ℕ, List, Some}
 use Rattle.page_ids.specs.Id.{Id}
 use Rattle.page_ids.specs.declared.key.Key.{Key}

@@ -44,7 +44,7 @@ fn judged(alloc: Global, base: &Base, policy: &Policy) -> Result<Judge, AllocErr
     Ok(judge)
 }
 
-/// Every fault of a base, for a caller of just the policy's groups: in the order of the discovery of the frames, and of
+/// Every fault of a base, for a caller of exactly the policy's groups: in the order of the discovery of the frames, and of
 /// one frame Price, Touches, Missing and Closed by key (`0` to `9`, `#`), NoReturn. Where the entry frame is missing or
 /// closed that is the one fault.
 pub fn faults(alloc: Global, base: &Base, policy: &Policy) -> Result<FaultList, AllocError>
@@ -103,10 +103,10 @@ fn outcome_of(alloc: Global, base: &Base, policy: &Policy) -> Result<Outcome, Al
     }
 }
 
-/// Audits a base for a caller of just the policy's groups: a certificate exactly where every session is safe within the
+/// Audits a base for a caller of exactly the policy's groups: a certificate exactly if every session is safe within the
 /// policy, else every fault.
 ///
-/// The certificate covers just the frames that can be reached, with least ranks, the greatest price of a covered frame as
+/// The certificate covers exactly the frames that can be reached, with least ranks, the greatest price of a covered frame as
 /// its ceiling, the greatest rank as its keyings, and the policy's groups; `check` clears it. Each frame is painted once.
 pub fn audit(alloc: Global, base: &Base, policy: &Policy) -> Result<Outcome, AllocError>
     ensures outcome { IfOk result (IsOutcome base.now policy.now) }

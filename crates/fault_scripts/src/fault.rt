@@ -10,9 +10,9 @@ use std::marker::Model;
 /// What kind of fault it is.
 #[derive(Debug, Clone, Copy, PartialEq, Eq)]
 pub enum FaultKind {
-    /// The base lacks the entry frame; no other fault is told.
+    /// The base lacks the entry frame; no other fault is reported.
     EntryMissing,
-    /// The entry frame isn't open to the caller; no other fault is told.
+    /// The entry frame isn't open to the caller; no other fault is reported.
     EntryClosed,
     /// The frame is shown for more than the policy's ceiling.
     Price,
@@ -63,7 +63,7 @@ fn copied(alloc: Global, keys: &[Key]) -> Result<KeyList, AllocError>
     Ok(KeyList::of(list))
 }
 
-// The keys, and behind them one more.
+// The keys, and after them one more.
 fn pressed(alloc: Global, keys: &[Key], key: Key) -> Result<KeyList, AllocError>
     ensures { IfOk result (λ list. list ≡ keys.now ++ key ∷ []) }
 {

@@ -9,7 +9,7 @@ use checker::Policy;
 use finder::Survey;
 use std::alloc::{AllocError, Global};
 
-// Judges the discovered frames: tells their faults, and gathers the rows of a certificate.
+// Judges the discovered frames: reports their faults, and gathers the rows of a certificate.
 #[derive(Drop)]
 pub struct Judge {
     pub teller: Teller,

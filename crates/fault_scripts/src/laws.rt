@@ -1,6 +1,6 @@
 ghost use Rattle.fault_scripts.specs.FaultLaws.{FaultsAreDue, FaultsAreOne, FaultsAreShown, NoneIsSafe};
 
-/// The list of faults has just those that are due, each once, in order.
+/// The list of faults has exactly those that are due, each once, in order.
 pub fn faults_are_due()
     ensures { FaultsAreDue }
 {}
@@ -15,7 +15,7 @@ pub fn faults_are_shown()
     ensures { FaultsAreShown }
 {}
 
-/// There is no fault exactly where the base is safe within the policy.
+/// There is no fault exactly if the base is safe within the policy.
 pub fn none_is_safe()
     ensures { NoneIsSafe }
 {}

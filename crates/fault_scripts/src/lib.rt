@@ -1,4 +1,4 @@
-//! The audit of a base: a certificate exactly where every session is safe within a policy, else every fault with the keys that
+//! The audit of a base: a certificate exactly if every session is safe within a policy, else every fault with the keys that
 //! show it.
 //!
 //! ```
@@ -10,9 +10,9 @@
 //!
 //! - [`audit`], [`Outcome`]: the certificate of the frames that can be reached, or the faults.
 //! - [`faults`], [`FaultList`], [`Fault`], [`FaultKind`]: what is wrong with a base, frame by frame in the order of discovery.
-//! - [`replay`], [`Replayed`]: what a session of a fault's keys comes to.
+//! - [`replay`], [`Replayed`]: the result of a session of a fault's keys.
 //! - [`faults_are_due`], [`faults_are_one`], [`faults_are_shown`], [`none_is_safe`]: the list is complete, it is the only such
-//!   list, each fault is borne out by its script, and there is none exactly where the base is safe.
+//!   list, each fault is borne out by its script, and there is none exactly if the base is safe.
 #![tactic(auto)]
 
 mod auditing;

@@ -1,7 +1,7 @@
 use crate::fault::FaultList;
 use cert_table::Certificate;
 
-/// What the audit of a base came to.
+/// The result of the audit of a base.
 #[derive(Drop)]
 pub enum Outcome {
     /// The base is safe within the policy; a certificate that the check clears.

@@ -5,18 +5,18 @@ use page_ids::{FrameId, KeyList};
 use session_machine::{OpenFault, Reply, Session};
 use std::alloc::Global;
 
-/// What a session of some keys came to.
+/// The result of a session of some keys.
 #[derive(Debug, Clone, Copy, PartialEq, Eq)]
 pub struct Replayed {
     /// The reply to the last key; without keys the opening one.
     pub last: Reply,
-    /// The present frame; `None` where the caller left.
+    /// The present frame; `None` if the caller left.
     pub at: Option<FrameId>,
 }
 
-/// Runs keys from the entry frame, by a caller of just these groups.
+/// Runs keys from the entry frame, by a caller of exactly these groups.
 ///
-/// `EntryMissing` and `EntryClosed` where no session can be opened.
+/// `EntryMissing` and `EntryClosed` if no session can be opened.
 pub fn replay(
     alloc: Global,
     base: &Base,

@@ -15,8 +15,8 @@ use frame_records::Frame;
 use page_ids::{FrameId, Key, Way};
 use std::alloc::{AllocError, Global};
 
-// Tells the faults of the discovered frames, one frame after another. The keys that lead to a frame are looked for when its
-// first fault is told, and go on from those of its parent where these are at hand.
+// Reports the faults of the discovered frames, one frame after another. The keys that lead to a frame are looked for when its
+// first fault is reported, and go on from those of its parent if these are kept.
 #[derive(Drop)]
 pub struct Teller {
     // The keys to the frame at this index.
@@ -44,7 +44,7 @@ fn restart(alloc: Global, found: &Found, index: u32, keys: &mut Vec<Key>) -> Res
     Ok(())
 }
 
-// The keys that lead to the frame at an index, where those at hand lead to another.
+// The keys that lead to the frame at an index, if the kept ones lead to another.
 fn lead_on(
     alloc: Global,
     found: &Found,
@@ -65,7 +65,7 @@ fn lead_on(
 }
 
 impl Teller {
-    // Nothing told yet.
+    // Nothing is reported yet.
     pub fn new(alloc: Global) -> Teller
         ensures at { result.at ≡ None }
         ensures none { result.faults.items ≡ [] }
@@ -77,7 +77,7 @@ impl Teller {
         }
     }
 
-    // Makes the keys at hand those that lead to the frame at an index.
+    // Makes the kept keys those that lead to the frame at an index.
     fn go(&mut self, alloc: Global, found: &Found, index: u32) -> Result<(), AllocError>
         requires { CanLead found.now index self.old.at self.old.keys.items }
         ensures at { OnOk result (self.new.at ≡ Some index) }
@@ -92,7 +92,7 @@ impl Teller {
         Ok(())
     }
 
-    // Tells a flaw of the frame at an index, if there is one.
+    // Reports a flaw of the frame at an index, if there is one.
     fn tell(
         &mut self,
         alloc: Global,
@@ -116,7 +116,7 @@ impl Teller {
         Ok(())
     }
 
-    // Tells the faults of the frame at an index: Price, Touches, Missing and Closed by way, NoReturn.
+    // Reports the faults of the frame at an index: Price, Touches, Missing and Closed by way, NoReturn.
     pub fn judge(
         &mut self,
         alloc: Global,

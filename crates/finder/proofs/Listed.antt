@@ -136,7 +136,7 @@ module _ (caller : List ℕ) (base : BaseView) where
   }
 
   module _ (index : ℕ) (found : List Discovered) (is : IsDiscovery caller base (index * 11) found) where
-    -- where the ways of all are tried, no way leads to another
+    -- if the ways of all are tried, no way leads to another
     pub listed : length found ≤ index → (n : ℕ) (g : Id) → Walk caller base (entry_of base) g n
         → Any (λ d. d.id ≡ g) found
     listed all zero g same = subst (λ x. Any (λ d. d.id ≡ x) found) same is.listing.entry

@@ -1,4 +1,4 @@
--- What stands in a list with one more at its end, and in a list with one changed.
+-- What is in a list with one more at its end, and in a list with one changed.
 use Rattle.std.proofs.Common.{◌≡◌, ◌<◌, ◌≤◌, ◌⊎◌, inl, inr, ℕ, zero, suc, Bool, true, false, List, [], ◌∷◌, ◌++◌, Option, Some, None, option_map, slice_get, length, get_or, set, All, AllPairs, Any, Contains, cond, count_by, sym, ◌∙◌, ap, subst, refl, ⊎_elim, length-append, arith}
 use Rattle.std.specs.Prelude.{nat_eq}
 use Rattle.std.specs.List.{list_any}
@@ -64,7 +64,7 @@ pub mapped : {X Y : Type 0} (f : X → Y) (o : Option X) (y : Y) → option_map 
 mapped f None y e = absurd cc
 mapped f (Some x) y e = (x, refl, same_Some (f x) y e)
 
--- where each element is counted, each passes the test
+-- if each element is counted, each passes the test
 pub full_at : {X : Type 0} (p : X → Bool) (xs : List X) (i : ℕ) (y d : X) → p y ≡ true → length xs ≤ count_by p xs
     → i < length xs → p (get_or xs i d) ≡ true
 full_at p xs i y d passes full lt = by (p (get_or xs i d)) refl where
@@ -72,7 +72,7 @@ full_at p xs i y d passes full lt = by (p (get_or xs i d)) refl where
   by true e = refl
   by false e = absurd (omega (arith, sum_by-set (λ x. cond (p x) 1 0) xs i y d lt, ap {B = ℕ} (λ b. cond b 1 0) e, ap {B = ℕ} (λ b. cond b 1 0) passes, count_by-le-length p (set xs i y), length-set xs i y, full))
 
--- an element stands at an index
+-- an element is at an index
 pub contains_at : {X : Type 0} (xs : List X) (x : X) → Contains xs x → (i : ℕ) × (slice_get xs i ≡ Some x)
 contains_at xs x there = (there.0, slice_get_read xs (length xs) there.0 x refl there.1 (sym there.2))
 

@@ -1,4 +1,4 @@
--- What is noted of frames, and what seeking them comes to.
+-- What is noted of frames, and the result of seeking them.
 use Rattle.std.proofs.Common.{◌≡◌, ◌<◌, ℕ, Bool, false, List, Some, None, Ok, Err, option_map, slice_get, get_or, length, set, replicate, sym, ◌∙◌, ap, ⊎_elim, arith}
 use Rattle.finder.proofs.Words.{IsBinarySearchResult, cases_lt, All-set, All-replicate, Id, id_cmp, id_eq, id_cmp_total, id_eq_same, Frame, IsAscending, frame_among, is_open, frame_id, find_none, ascending_sorted, found_at, IsNote, AreNotes, IsSeen, id_at}
 use Rattle.std.specs.declared.cmp.Ordering.TheVariants.{Less, Greater}
@@ -35,11 +35,11 @@ greater_apart : (a b : Id) → id_cmp a b ≡ Greater → id_eq a b ≡ false
 greater_apart a b e = grind (arith, nat_tests)
 
 module _ (frames : List Frame) (id : Id) (i : ℕ) (up : IsAscending frames) where
-  -- what a search by halves finds has the id
+  -- what a binary search finds has the id
   pub searched : (f : Frame) → IsBinarySearchResult (λ g. id_cmp g.id id) frames (Ok i) → i < length frames → get_or frames i f ≡ f → f.id ≡ id
   searched f h lt at = frame_id frames id f (found_at frames id i f up lt at (ap (λ (g : Frame). id_cmp g.id id) (sym at) ∙ h f))
 
-  -- and where it finds none there is none
+  -- and if it finds none there is none
   pub unsearched : IsBinarySearchResult (λ g. id_cmp g.id id) frames (Err i) → frame_among frames id ≡ None
   unsearched h =
       let p = h (searchable_from_sorted id_cmp_total (λ (f : Frame). f.id) frames id (ascending_sorted frames up)) in

@@ -45,7 +45,7 @@ module _ (caller : List ℕ) (base : BaseView) where
           let l : PairLeads caller base b h.pair x.id = record { from = h.leads.from; stands = from_there; leads = subst (Leads caller base h.leads.from.id h.pair.1) (sym same) h.leads.leads } in
           ⊎_elim (λ less. absurd (m.none_before h.pair l (place_before h.pair m.pair (way_known caller base b m.pair x.id m.leads).0 less))) (λ more. more) (cases_lt (place h.pair) (place m.pair))
 
-      -- so the second one's pair stands no later
+      -- so the second one's pair is no later
       no_later : place k.pair ≤ place h.pair
       no_later = let t = is_there (suc n) d alike at in by t.0 t.1 t.2 t.3 t.4 where
         by : (i : ℕ) (x : Discovered) → slice_get b i ≡ Some x → x.id ≡ d.id → suc n ≤ i → place k.pair ≤ place h.pair

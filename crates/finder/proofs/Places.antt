@@ -14,7 +14,7 @@ module _ (frames : List Frame) (up : IsAscending frames) where
       let itself = id_eq_refl f.id in
       absurd cc
 
-  -- two frames of one id stand at one place
+  -- two frames of one id are at one place
   pub same_place : (i j : ℕ) (f g : Frame) → slice_get frames i ≡ Some f → slice_get frames j ≡ Some g → f.id ≡ g.id
       → i ≡ j
   same_place i j f g at there same = ⊎_elim (λ e. e) (λ apart. ⊎_elim (λ less. absurd (no_later i j f g at there same less)) (λ more. absurd (no_later j i g f there at (sym same) more)) apart) (cases_order i j)

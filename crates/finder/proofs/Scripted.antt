@@ -73,7 +73,7 @@ module _ (caller : List ℕ) (base : BaseView) (found : List Discovered) (finds 
         let leads : PairLeads caller base found (h_at.0, walk.1) e.id = record { from = h_at.1; stands = h_at.2; leads = subst (λ x. Leads caller base x walk.1 e.id) (sym h_at.3) (subst (Leads caller base walk.0 walk.1) (sym same) walk.3) } in
         absurd (omega (arith, less, low k e (h_at.0, walk.1) one more there leads))) (cases_lt k i)
 
-  -- the parent stands before
+  -- the parent is before
   pub earlier : (i : ℕ) (d : Discovered) (p : Pair) → slice_get found i ≡ Some d → HasPair d p → p.0 < i
   earlier i d p at has = ⊎_elim (λ lt. lt) (λ more.
       let h = pair_at i d p.0 at has.parent in
@@ -93,7 +93,7 @@ lead_more caller base [] f h g key way is leads same = (g, way, is, subst (λ x.
 lead_more caller base (k ∷ keys) f h g key way is leads lead = (lead.0, lead.1, lead.2, lead.3, lead_more caller base keys lead.0 h g key way is leads lead.4)
 
 module _ (caller : List ℕ) (base : BaseView) (found : List Discovered) (finds : FindsReached caller base found) where
-  -- a parent stands before, and its way leads on
+  -- a parent is before, and its way leads on
   record IsChild (i : ℕ) (p : ℕ × Key) : Type 0 where
     d : Discovered
     stands : slice_get found i ≡ Some d
@@ -112,7 +112,7 @@ module _ (caller : List ℕ) (base : BaseView) (found : List Discovered) (finds 
         let same : (h.pair.0, way_key h.pair.1) ≡ p = same_Some (h.pair.0, way_key h.pair.1) p (sym (ap (λ a. parent_by a d.key) h.has.parent ∙ ap (parent_by (Some h.pair.0)) h.has.key) ∙ e) in
         subst (IsChild (suc i)) same (record { d = d; stands = is; way = h.pair.1; key = refl; leads = h.leads; before = earlier caller base found finds (suc i) d h.pair is h.has })
 
-  -- each turn more changes nothing, where there are enough
+  -- each turn more changes nothing, if there are enough
   steady : (n i : ℕ) → i < n → keys_back found n i ≡ keys_back found (suc n) i
   steady zero i lt = absurd (omega (arith, lt))
   steady (suc n) i lt = by (λ p is. steady n p.0 (omega (arith, (child_at i p is).before, lt))) (parent_of (slice_get found i)) refl where

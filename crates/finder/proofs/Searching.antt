@@ -86,7 +86,7 @@ pub node_inside : (graph : Graph) (done : ℕ) (queue : List Ranked) (ranks : Li
     → IsSearch graph done queue ranks → slice_get queue done ≡ Some to → to.node < graph.table.count
 node_inside graph done queue ranks to is waits = subst (λ (d : Ranked). d.node < graph.table.count) (get_or_from_slice_get queue done to to waits) (is.ranked.inside done to (slice_get_within queue done to waits))
 
--- each node that leads to the one at hand is among its sources
+-- each node that leads to a given one is among its sources
 pub all_ranked : (graph : Graph) (sources : List (SmallVec ℕ)) (fs : List ℕ) (ranks : List (Option ℕ)) (to : Ranked)
     → AreTurned graph (graph.table.count * 11) sources → IsSourceList sources to.node fs
     → ((k : ℕ) → k < length fs → HasRank ranks (get_or fs k 0) (to.rank + 1)) → IsClosed graph ranks to
@@ -105,7 +105,7 @@ sources_lead graph sources fs to k turned is inside lt =
     all k 0 lt
 
 module _ (graph : Graph) (done : ℕ) (queue : List Ranked) (ranks : List (Option ℕ)) (is : IsSearch graph done queue ranks) where
-  -- where each node has a rank, nothing is left to do
+  -- if each node has a rank, nothing is left to do
   all_closed : graph.table.count ≤ length queue → AllWithin (IsClosed graph ranks) queue 0 (length queue)
   all_closed full k e low lt f leads =
       ⊎_elim (λ before. is.closed k e low before f leads) (λ from.

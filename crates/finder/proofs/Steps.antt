@@ -6,7 +6,7 @@ use Rattle.finder.proofs.Places.{same_place, frame_here, id_stands}
 use Rattle.finder.proofs.Within.{place_to, told, leads_on, known_way}
 use Rattle.finder.proofs.Lists.{mapped}
 
--- an id stands at one place
+-- an id is at one place
 pub one_place : (frames : List Frame) (i j : ℕ) (id : Id) → IsAscending frames → id_at frames i ≡ Some id
     → id_at frames j ≡ Some id → i ≡ j
 one_place frames i j id up at there =

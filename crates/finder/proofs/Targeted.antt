@@ -1,4 +1,4 @@
--- What a way comes to, by the look-up of the frame that it seeks.
+-- The result of a way, by the look-up of the frame that it seeks.
 use Rattle.std.proofs.Common.{◌≡◌, ◌+◌, ℕ, List, Some, slice_get, refl, sym, ◌∙◌, ap, ⊎_elim, arith, ◌<◌, ◌≤◌, ◌*◌, Bool, true, false, [], ◌∷◌, None, Option, option_map, if◌then◌else◌, get_or, subst, length, length-append}
 use Rattle.finder.proofs.Words.{cases_lt, same_Some, slice_get_within, get_or-set_at, get_or-set_other, get_or_append_left, get_or_push, length-set, Id, Way, way_at, Frame, IsAscending, BaseView, frame_at, frame_among, is_open, sought_of, sought, missing_by, sought_by, offered_by, destination_of, Target, IsSeen, IsSought, target_at, IsTarget, AreTargets, NotOffered, Closed, Missing, Outside, aim_of, aim_at, place_of}
 use Rattle.frame_records.specs.declared.base.Sought.TheVariants as seeking

@@ -9,7 +9,7 @@ use Rattle.finder.proofs.Marked.{frame_listed}
 use Rattle.finder.proofs.Targeted.{SeenFrame, seen_frame}
 use Rattle.finder.proofs.Scripted.{listed_at, scripts_lead}
 
--- whether the entry frame is found, and where it stands
+-- whether the entry frame is found, and where it is
 module _ (caller : List ℕ) (base : BaseView) where
   pub entry_missing : frame_at base (entry_of base) ≡ None → IsEntryPlace caller base None
   entry_missing none entry = let gone = sym (ap (sought_of caller) none) ∙ entry.1 in absurd cc
@@ -28,7 +28,7 @@ module _ (caller : List ℕ) (base : BaseView) where
     by true e = ((g.frame.price, comes true e), s.2.stands)
     by false e = λ entry. let closed = sym (comes false e) ∙ entry.1 in absurd cc
 
--- the frame of a listed node stands in the base
+-- the frame of a listed node is in the base
 pub stands : (base : BaseView) (nodes : List ℕ) (found : List Discovered) (i node : ℕ) → IsAscending base.frames
     → AreNamed base.frames nodes found → slice_get nodes i ≡ Some node
     → (f : Frame) × (slice_get base.frames node ≡ Some f) × ((d : Discovered) → slice_get found i ≡ Some d → frame_at base d.id ≡ Some f)
@@ -44,7 +44,7 @@ pub node_within : (base : BaseView) (nodes : List ℕ) (found : List Discovered)
     → AreNamed base.frames nodes found → slice_get nodes i ≡ Some node → node < length base.frames
 node_within base nodes found i node up named at = let f = stands base nodes found i node up named at in slice_get_within base.frames node f.0 f.1
 
--- where the entry frame is found it is listed
+-- if the entry frame is found it is listed
 not_empty : (caller : List ℕ) (base : BaseView) (found : List Discovered) → FindsReached caller base found → found ≡ []
     → EntryIsFound caller base → ⊥
 not_empty caller base found finds none entry =

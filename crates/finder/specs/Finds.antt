@@ -36,12 +36,12 @@ pub record HasFirstPair (caller : List ℕ) (base : BaseView) (found : List Disc
   pub leads : PairLeads caller base found pair d.id
   pub none_before : (other : Pair) → PairLeads caller base found other d.id → IsBefore other pair → ⊥
 
--- just the reached frames, in the order in which they are discovered
+-- exactly the reached frames, in the order in which they are discovered
 pub record FindsReached (caller : List ℕ) (base : BaseView) (found : List Discovered) : Type 0 where
   -- the entry frame is first, without parent or key
   pub first : (d : Discovered) → slice_get found 0 ≡ Some d
       → (d.id ≡ entry_of base) × (d.parent ≡ None) × (d.key ≡ None)
-  -- a frame is reached exactly where it is listed
+  -- a frame is reached exactly if it is listed
   pub reached : (id : Id) → IsReached caller base id ↔ Any (λ d. d.id ≡ id) found
   -- no frame is listed twice
   pub once : AllPairs (λ d e. d.id ≢ e.id) found

@@ -1,4 +1,4 @@
--- Where the ways lead, the frames by their places: what walks there are.
+-- Where the ways lead, with frames by their places: what walks there are.
 use Rattle.std.specs.Prelude.{◌≡◌, ◌<◌, ◌≤◌, ◌+◌, ◌*◌, ℕ, zero, suc, Option, Some, None, get_or}
 use Rattle.finder.specs.declared.graph.Graph.{Graph}
 

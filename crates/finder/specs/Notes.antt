@@ -1,4 +1,4 @@
--- What seeking frames comes to, and what is noted of them.
+-- The result of seeking frames, and what is noted of them.
 use Rattle.std.specs.Prelude.{◌≡◌, ◌<◌, ℕ, Bool, List, Option, Some, None, All, option_map, slice_get, if◌then◌else◌}
 use Rattle.page_ids.specs.Id.{Id}
 use Rattle.frame_records.specs.declared.frame.Frame.{Frame}
@@ -9,16 +9,16 @@ use Rattle.finder.specs.declared.target.Target.{Target}
 use Rattle.finder.specs.Targets.{id_at}
 use Rattle.finder.specs.declared.target.Target.TheVariants.{Found, Closed}
 
--- the frame of an id stands at a place, and is open to the caller or isn't
+-- the frame of an id is at a place, and is open to the caller or isn't
 pub record IsSeen (caller : List ℕ) (frames : List Frame) (id : Id) (place : ℕ) (admitted : Bool) : Type 0 where
   pub stands : id_at frames place ≡ Some id
   pub admits : option_map (is_open caller) (slice_get frames place) ≡ Some admitted
 
--- what seeking it comes to
+-- the result of seeking it
 abbrev pub target_at : ℕ → Bool → Target
 target_at place admitted = if admitted then Found place else Closed
 
--- what seeking an id comes to; none where no frame has it
+-- the result of seeking an id; none if no frame has it
 abbrev pub IsSought : List ℕ → List Frame → Id → Option Target → Type 0
 IsSought caller frames id None = frame_among frames id ≡ None
 IsSought caller frames id (Some target) = (place : ℕ) × (admitted : Bool) × IsSeen caller frames id place admitted × (target ≡ target_at place admitted)

@@ -25,7 +25,7 @@ abbrev pub keys_back : List Discovered → ℕ → ℕ → List Key
 keys_back found zero at = []
 keys_back found (suc turns) at = keys_along (keys_back found turns) (parent_of (slice_get found at))
 
--- the keys along the parents from the entry frame to the frame at an index; parents stand before their children
+-- the keys along the parents from the entry frame to the frame at an index; parents are before their children
 abbrev pub script : List Discovered → ℕ → List Key
 script found at = reverse (keys_back found (length found) at)
 

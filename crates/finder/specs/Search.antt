@@ -14,7 +14,7 @@ HasRank ranks f m = (n : ℕ) × (get_or ranks f None ≡ Some n) × (n ≤ m)
 abbrev pub IsClosed : Graph → List (Option ℕ) → Ranked → Type 0
 IsClosed graph ranks e = (f : ℕ) → LeadsTo graph f e.node → HasRank ranks f (e.rank + 1)
 
--- the nodes that have a rank stand in a queue in the order of their ranks
+-- the nodes that have a rank are in a queue in the order of their ranks
 pub record AreRanked (graph : Graph) (queue : List Ranked) (ranks : List (Option ℕ)) : Type 0 where
   pub nodes : length ranks ≡ graph.table.count
   pub entry_is : get_or ranks graph.entry None ≡ Some 0

@@ -1,4 +1,4 @@
--- The discovered frames of a base, with what their ways came to.
+-- The discovered frames of a base, with the destinations of their ways.
 use Rattle.std.specs.Prelude.{◌≡◌, ℕ, List, Option, Some, None, slice_get}
 use Rattle.page_ids.specs.Id.{Id}
 use Rattle.frame_records.specs.declared.frame.Frame.{Frame}

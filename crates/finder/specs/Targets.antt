@@ -1,4 +1,4 @@
--- What the ways of a base's frames come to, the frames by their places in the base.
+-- The result of the ways of a base's frames, the frames by their places in the base.
 use Rattle.std.specs.Prelude.{◌≡◌, ◌≢◌, ◌<◌, ◌≤◌, ◌+◌, ◌*◌, ◌++◌, ◌∷◌, [], ℕ, List, Option, Some, None, option_map, length, get_or, set, slice_get}
 use Rattle.page_ids.specs.Id.{Id}
 use Rattle.page_ids.specs.declared.way.Way.{Way}
@@ -38,17 +38,17 @@ id_at frames place = option_map (λ f. f.id) (slice_get frames place)
 abbrev pub IsFoundAt : List ℕ → BaseView → Frame → Way → ℕ → Type 0
 IsFoundAt caller base f way place = option_map (λ to. destination.Found to.id to.price) (slice_get base.frames place) ≡ Some (destination_of caller base f way)
 
--- what a way of a frame comes to
+-- the result of a way of a frame
 pub record IsTarget (caller : List ℕ) (base : BaseView) (f : Frame) (way : Way) (target : Target) : Type 0 where
   pub aim : aim_at target ≡ aim_of (destination_of caller base f way)
   pub found : (place : ℕ) → place_of target ≡ Some place → IsFoundAt caller base f way place
 
--- the same, told by the place of the frame that is found, which no frame has where none is, and then by the aim
+-- the same, reported by the place of the frame that is found, which no frame has if none is, and then by the aim
 pub record IsTold (caller : List ℕ) (base : BaseView) (f : Frame) (way : Way) (place : ℕ) (other : Aim) : Type 0 where
   pub found : place < length base.frames → IsFoundAt caller base f way place
   pub lost : length base.frames ≤ place → (other ≡ aim_of (destination_of caller base f way)) × (other ≢ aim.Found)
 
--- what the ways of the first places come to, eleven for each frame
+-- the result of the ways of the first places, eleven for each frame
 pub record AreTargets (caller : List ℕ) (base : BaseView) (done : ℕ) (targets : Targets) : Type 0 where
   pub room : length targets.places.items ≡ done
   pub slots : length targets.aims.items ≡ length base.frames * 11

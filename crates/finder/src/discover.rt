@@ -34,7 +34,7 @@ fn enter(order: &mut IndexSet<u16>, node: u16) -> Result<(), AllocError>
 }
 
 impl Discovery {
-    // The node at an index, where there is one and not every node is listed.
+    // The node at an index, if there is one and not every node is listed.
     fn waiting(&self, graph: &Graph<'_>, index: u16) -> Option<u16>
         ensures some { IfSome result (λ node. slice_get self.now.order.keys index ≡ Some node) }
         ensures none { IfNone result ((length self.now.order.keys ≤ index) ⊎ (graph.now.table.count ≤ length self.now.order.keys)) }
@@ -74,7 +74,7 @@ impl Discovery {
         Ok(())
     }
 
-    // Tries a way of the node at an index: the node to which it leads goes last, where it isn't listed.
+    // Tries a way of the node at an index: the node to which it leads goes last, if it isn't listed.
     fn try_way(
         &mut self,
         graph: &Graph<'_>,

@@ -11,7 +11,7 @@ use std::marker::Model;
 pub struct Discovered {
     pub id: FrameId,
     /// The least number of route and next keys that leads from the frame to the entry frame through open frames; `None`
-    /// where there is no such walk.
+    /// if there is no such walk.
     pub rank: Option<u16>,
     /// The index of the frame from which it was discovered; `None` for the entry frame.
     pub parent: Option<u32>,

@@ -1,5 +1,5 @@
-//! What seeking a frame comes to. Frames are noted by their ids, each near the slot that its id tells; one that finds no
-//! blank there is searched by halves. A look-up rests on each note being true, not on where it stands.
+//! The result of seeking a frame. Frames are noted by their ids, each near the slot of its id; one that finds no
+//! blank there is searched by binary search. A look-up rests on each note being true, not on where it is.
 
 ghost use Rattle.std.specs.Prelude.{◌≡◌, ◌<◌, None, Some, IsTrue, IfSome, IfOk, map, length};
 ghost use Rattle.frame_records.specs.BaseView.{IsBase};
@@ -24,7 +24,7 @@ pub struct Note {
     pub is_open: bool,
 }
 
-// How many slots are tried, from the one that an id tells.
+// How many slots are tried, from the slot of an id.
 const TRIES: usize = 8;
 
 impl Note {
@@ -57,7 +57,7 @@ impl Note {
         self.page == id.page.get() && self.letter == id.letter.get()
     }
 
-    // What seeking its frame comes to.
+    // The result of seeking its frame.
     fn target(&self) -> Target
         ensures { result ≡ target_at self.now.place self.now.is_open }
     {
@@ -69,13 +69,13 @@ impl Note {
     }
 }
 
-// The slot that an id tells, among a power of two of them: pages in a row are noted in a row, each letter elsewhere.
+// The slot of an id, among a power of two of them: pages in a row are noted in a row, each letter elsewhere.
 fn slot_of(id: &FrameId, slots: usize) -> usize {
     let apart = (id.letter.get() as u32).wrapping_mul(0x9E37_79B1);
     id.page.get().wrapping_add(apart) as usize & slots.wrapping_sub(1)
 }
 
-// A blank near the slot that an id tells.
+// A blank near the slot of an id.
 fn blank_near(notes: &[Note], id: &FrameId) -> Option<usize>
     ensures { IfSome result (λ i. i < length notes.now) }
 {
@@ -88,7 +88,7 @@ fn blank_near(notes: &[Note], id: &FrameId) -> Option<usize>
     None
 }
 
-// Notes the frame at a place, where there is a blank for it.
+// Notes the frame at a place, if there is a blank for it.
 fn add_note(notes: &mut Vec<Note>, frames: &[Frame], groups: &Groups, place: u16)
     requires inside { place < length frames.now }
     requires noted { AreNotes groups.now frames.now notes.old.items }
@@ -136,7 +136,7 @@ impl<'a> Notes<'a> {
         })
     }
 
-    // What the frame of an id comes to, where it is noted in a slot.
+    // The target of an id, if it is noted in a slot.
     #[inline(always)]
     fn target_in(&self, slot: usize, id: &FrameId) -> Option<Target>
         ensures { IfSome result (λ t. IsSought self.now.groups.now self.now.base.now.frames id.now (Some t)) }
@@ -149,7 +149,7 @@ impl<'a> Notes<'a> {
         }
     }
 
-    // What the frame of an id comes to, where it is noted near its slot.
+    // The target of an id, if it is noted near its slot.
     fn noted_target(&self, id: &FrameId) -> Option<Target>
         ensures { IfSome result (λ t. IsSought self.now.groups.now self.now.base.now.frames id.now (Some t)) }
     {
@@ -162,7 +162,7 @@ impl<'a> Notes<'a> {
         None
     }
 
-    // What the frame of an id comes to, by halves.
+    // The target of an id, by binary search.
     #[cold]
     fn searched_target(&self, id: &FrameId) -> Option<Target>
         ensures { IsSought self.now.groups.now self.now.base.now.frames id.now result }
@@ -174,7 +174,7 @@ impl<'a> Notes<'a> {
         }
     }
 
-    // What the frame of an id comes to that isn't noted in its own slot.
+    // The target of an id that isn't noted in its own slot.
     #[cold]
     #[inline(never)]
     fn further_target(&self, id: &FrameId) -> Option<Target>
@@ -186,7 +186,7 @@ impl<'a> Notes<'a> {
         }
     }
 
-    // What the frame of an id comes to; `None` where the base lacks it.
+    // The target of an id; `None` if the base lacks it.
     #[inline(always)]
     pub fn target_by_id(&self, id: &FrameId) -> Option<Target>
         ensures { IsSought self.now.groups.now self.now.base.now.frames id.now result }
@@ -208,7 +208,7 @@ impl<'a> Notes<'a> {
         }
     }
 
-    // What a way of a frame comes to.
+    // The result of a way of a frame.
     pub fn target_of(&self, frame: &Frame, way: Way) -> Target
         ensures { IsTarget self.now.groups.now self.now.base.now frame.now way result }
     {

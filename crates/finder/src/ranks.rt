@@ -30,7 +30,7 @@ impl Search {
         self.ranks[node as usize].is_some()
     }
 
-    // The node at an index of the queue, where there is one and not every node has a rank.
+    // The node at an index of the queue, if there is one and not every node has a rank.
     fn waiting(&self, graph: &Graph<'_>, index: u16) -> Option<Ranked>
         ensures some { IfSome result (λ to. slice_get self.now.queue.items index ≡ Some to) }
         ensures none { IfNone result ((length self.now.queue.items ≤ index) ⊎ (graph.now.table.count ≤ length self.now.queue.items)) }

@@ -7,7 +7,7 @@ use std::alloc::{AllocError, Global};
 
 impl Found {
     /// The index of the frame from which the frame at an index was discovered, and the key that led from it; `None` for the
-    /// entry frame, and behind the end of the list.
+    /// entry frame, and after the end of the list.
     pub fn parent_of(&self, at: u32) -> Option<(u32, Key)>
         ensures { result ≡ parent_of (slice_get self.now at) }
     {

@@ -18,7 +18,7 @@ use page_ids::Way;
 use std::alloc::{AllocError, Global};
 use std::marker::Model;
 
-/// The discovered frames of a base, with what each of their ways came to. Contracts see the base, the caller's
+/// The discovered frames of a base, with the destination of each of their ways. Contracts see the base, the caller's
 /// groups and the list.
 #[derive(Drop)]
 pub struct Survey<'a> {
@@ -38,7 +38,7 @@ impl<'a> Model for Survey<'a> {
     ghost invariant = { λ s. AreNamed s.table.base.now.frames s.order.keys s.found };
 }
 
-// The place of the entry frame, where it is found.
+// The place of the entry frame, if it is found.
 fn entry_place(notes: &Notes<'_>) -> Option<u16>
     ensures { IsEntryPlace notes.now.groups.now notes.now.base.now result }
 {
@@ -49,7 +49,7 @@ fn entry_place(notes: &Notes<'_>) -> Option<u16>
 }
 
 impl<'a> Survey<'a> {
-    // Where the entry frame isn't found, no frame is.
+    // If the entry frame isn't found, no frame is.
     fn empty(alloc: Global, table: WayTable<'a>) -> Survey<'a>
         ensures base { result.base ≡ table.entry.base.now }
         ensures groups { result.groups ≡ table.entry.groups.now }
@@ -78,8 +78,8 @@ impl<'a> Survey<'a> {
         })
     }
 
-    /// Finds the frames that a caller of just these groups can reach, in the order of discovery, and what each of their
-    /// ways comes to; each way is looked up once.
+    /// Finds the frames that a caller of exactly these groups can reach, in the order of discovery, and the
+    /// destination of each of their ways; each way is looked up once.
     pub fn of(alloc: Global, base: &'a Base, groups: &'a Groups) -> Result<Survey<'a>, AllocError>
         ensures base { IfOk result (λ s. s.base ≡ base.now) }
         ensures groups { IfOk result (λ s. s.groups ≡ groups.now) }
@@ -126,11 +126,11 @@ impl<'a> Survey<'a> {
     }
 }
 
-/// The frames that a caller of just these groups can reach, in the order of discovery: the entry frame first; then for
+/// The frames that a caller of exactly these groups can reach, in the order of discovery: the entry frame first; then for
 /// each listed frame in turn the keys `0` to `9` and `#` are tried, and each open frame found that isn't yet listed goes
 /// last.
 ///
-/// The list is empty where the entry frame is missing or closed.
+/// The list is empty if the entry frame is missing or closed.
 pub fn find(alloc: Global, base: &Base, groups: &Groups) -> Result<Found, AllocError>
     ensures reached { IfOk result (λ found. FindsReached groups.now base.now found) }
     ensures rank { IfOk result (λ found. RanksAreLeast groups.now base.now found) }

@@ -1,4 +1,4 @@
-//! What each way of each frame of a base comes to. Each is looked up once.
+//! The result of each way of each frame of a base. Each is looked up once.
 
 ghost use Rattle.std.specs.Prelude.{◌≡◌, ◌<◌, ◌≤◌, ◌+◌, ◌*◌, Some, OnOk, IfOk, map, length, get_or, slice_get};
 ghost use Rattle.page_ids.specs.Ways.{way_at};
@@ -15,14 +15,14 @@ use frame_records::{Base, Destination, Groups};
 use page_ids::{FrameId, Way};
 use std::alloc::{AllocError, Global};
 
-// What ways come to: of each the place of the frame that it finds, and what it came to where it finds none.
+// The result of ways: of each the place of the frame that it finds, and the aim of each that finds none.
 #[derive(Drop)]
 pub struct Targets {
     pub places: Vec<u16>,
     pub aims: Vec<Aim>,
 }
 
-// No frame stands here, since a base has at most so many.
+// No frame is here, since a base has at most so many.
 const NOWHERE: u16 = u16::MAX;
 
 // A way's place in the order of the ways.
@@ -52,7 +52,7 @@ fn lost_to(aim: Aim, sought: Option<FrameId>) -> Destination
 }
 
 impl Targets {
-    // Adds what the next way comes to.
+    // Adds the result of the next way.
     fn add(&mut self, target: Target) -> Result<(), AllocError>
         requires { length self.old.places.items < length self.old.aims.items }
         ensures { OnOk result (IsAdded self.old self.new target) }
@@ -68,7 +68,7 @@ impl Targets {
         Ok(())
     }
 
-    // Adds what each way of the frame at a place comes to.
+    // Adds the result of each way of the frame at a place.
     fn add_frame(&mut self, notes: &Notes<'_>, place: u16) -> Result<(), AllocError>
         requires few { length notes.now.base.now.frames ≤ 65535 }
         requires inside { place < length notes.now.base.now.frames }
@@ -83,7 +83,7 @@ impl Targets {
     }
 }
 
-/// What each way of each frame of a base comes to for a caller of the groups: eleven a frame, in the order of the
+/// The result of each way of each frame of a base for a caller of the groups: eleven a frame, in the order of the
 /// frames.
 #[derive(Drop)]
 pub struct WayTable<'a> {
@@ -128,7 +128,7 @@ impl<'a> WayTable<'a> {
         })
     }
 
-    // The place of the frame that a way of the frame at a place finds; no frame's place where it finds none.
+    // The place of the frame that a way of the frame at a place finds; no frame's place if it finds none.
     pub fn place(&self, place: u16, way: u8) -> u16
         requires is_place { place < self.now.count }
         requires is_way { way < 11 }

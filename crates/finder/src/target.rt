@@ -3,7 +3,7 @@ ghost use Rattle.finder.specs.Targets.{aim_at, place_of};
 
 use crate::aim::Aim;
 
-/// What a way of a frame comes to; a frame that is found, by its place in the base.
+/// The result of a way of a frame; a frame that is found, by its place in the base.
 #[derive(Debug, Clone, Copy, PartialEq, Eq)]
 pub enum Target {
     NotOffered,
