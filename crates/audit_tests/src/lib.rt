@@ -8,6 +8,8 @@ mod checks;
 #[cfg(test)]
 mod finds;
 #[cfg(test)]
+mod inputs;
+#[cfg(test)]
 mod lists;
 #[cfg(test)]
 mod policies;
