@@ -106,7 +106,10 @@ fn start(at: u16, offset: usize) -> Option<Start> {
 #[test]
 fn finds_the_least_start() -> Result<(), Fail> {
     // double height goes one row down to row 22, and an escape may be pending before the body
-    let rows: [(Lead, &[u8], Option<Start>); 4] = [
+    let rows: [(Lead, &[u8], Option<Start>); 7] = [
+        (Lead::Keep, &[0x41], start(0, 0)),
+        (Lead::Keep, &[0x0d, 0x0a, 0x41], start(880, 2)),
+        (Lead::Clear, &[0x1e, 0x0b, 0x41], start(0, 2)),
         (Lead::Keep, &[0x0d, 0x0a, 0x1b, 0x4d], start(840, 3)),
         (Lead::Keep, &[0x4d], start(0, 0)),
         (Lead::Keep, &[0x0d], None),

@@ -1,7 +1,7 @@
 //! What a session keeps, and sessions that cross a change. Replies that the program prints stand in `tests/cases`.
 
 use assertions::{same, same_in};
-use frame_records::{Base, Body, Frame, Groups, Lead, Pence};
+use frame_records::{Base, Body, Frame, GroupNo, Groups, Lead, Pence};
 use page_ids::{Digit, FrameId, Key, PageNo, keys_read};
 use session_machine::{Reply, Session};
 use std::alloc::Global;
@@ -87,6 +87,22 @@ fn opens_at_the_entry_frame(rt: HostRuntime) -> Result<(), Fail> {
     same(
         (reply, kept),
         (Reply::Shown(entry, free), (Some(entry), None, 0, None)),
+    )
+}
+
+// Their entry frame is open to the last of the groups alone.
+#[test]
+fn opens_for_a_caller_of_16_groups(rt: HostRuntime) -> Result<(), Fail> {
+    let [entry, ..] = ids()?;
+    let free = price(0)?;
+    let groups = Groups::read("1,2,3,4,5,6,7,8,9,10,11,12,13,14,15,16")?;
+    let mut only = frame(rt.alloc(), entry, free, None, None);
+    only.group = GroupNo::new(16);
+    let base = Base::build(entry.page, Vec::new(rt.alloc()), vec![in rt.alloc(); only]?)?;
+    let (session, reply) = Session::open(rt.alloc(), &base, &groups)?;
+    same(
+        (reply, session.at()),
+        (Reply::Shown(entry, free), Some(entry)),
     )
 }
 
