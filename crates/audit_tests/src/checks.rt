@@ -1,5 +1,5 @@
-//! Checks of one base of three frames, over a table and over a list of rows. Verdicts that the program prints stand in
-//! `tests/cases`.
+//! Checks of one base of three frames, over a table and over a list of rows, and of the largest base. More verdicts that the
+//! program prints are in `tests/cases`.
 
 use crate::bases::base_of;
 use crate::policies::policy;
@@ -7,9 +7,10 @@ use assertions::{same, same_in};
 use audit_report::verdict_text;
 use cert_table::{Certificate, Cover, RowList};
 use cert_text::cert_read;
-use checker::{ChangeVerdict, Policy, Verdict, check, check_bytes, check_change, check_counted};
+use checker::{ChangeVerdict, Verdict, check, check_bytes, check_change, check_counted};
 use demo_texts::{CERT, DEMO};
-use std::alloc::Global;
+use page_ids::PageNo;
+use std::alloc::{AllocError, Global};
 use std::test::Fail;
 
 #[test]
@@ -195,61 +196,180 @@ fn what_a_check_took_is_counted(rt: HostRuntime) -> Result<(), Fail> {
     Ok(())
 }
 
-// Whether a check of two texts clears, and whether it comes to the same over a list of rows.
-fn judged(alloc: Global, base: &str, cert: &str, policy: &Policy) -> Result<(bool, bool), Fail> {
-    let cert = cert_read(alloc, cert.as_bytes())?;
+// What stands in a text, and what takes its place.
+type Edit = (&'static str, &'static str);
+
+// The policy's ceiling and keyings, and what changes in DEMO and in CERT.
+type Case = (u16, u16, Edit, Edit);
+
+// The line of a check's verdict over a table, and whether the verdict over a list of rows is the same.
+fn judged(alloc: Global, case: Case) -> Result<(Vec<u8>, bool), Fail> {
+    let (ceiling, keyings, in_base, in_cert) = case;
+    let policy = policy(ceiling, keyings)?;
+    let text = CERT.replacen(alloc, in_cert.0, in_cert.1, 1)?;
+    let cert = cert_read(alloc, text.as_bytes())?;
     let list = as_list(alloc, &cert)?;
-    let base = base_of(alloc, base)?;
-    let verdict = check(&base, policy, &cert);
-    let is_alike = check(&base, policy, &list) == verdict;
-    Ok((verdict == Verdict::Cleared, is_alike))
+    let text = DEMO.replacen(alloc, in_base.0, in_base.1, 1)?;
+    let base = base_of(alloc, text.as_str())?;
+    let verdict = check(&base, &policy, &cert);
+    let is_same = check(&base, &policy, &list) == verdict;
+    Ok((verdict_text(alloc, &verdict)?, is_same))
 }
 
-// Changes of the base and of the certificate, of which the first changes nothing.
-const BASES: [(&str, &str); 6] = [
-    ("entry", "entry"),
-    ("lead = \"keep\"", "lead = \"keep\"\ngroup = 7"),
-    ("\\u001E\\u000APART TWO", "A"),
-    (
-        "PART TWO\"\nroutes = { 0 = 123 }",
-        "PART TWO\"\nroutes = { 0 = 123, 9 = 555 }",
-    ),
-    (
-        "PART TWO\"\nroutes = { 0 = 123 }",
-        "PART TWO\"\nroutes = { 0 = 0 }",
-    ),
-    (
-        "PART TWO\"\nroutes = { 0 = 123 }",
-        "PART TWO\"\nroutes = { 0 = 1231 }",
-    ),
+const SAME: Edit = ("entry", "entry");
+
+// 1231b belongs to a group, touches, leads to a page without a frame, leaves without a way back, leads to 1231a alone.
+const GROUPED: Edit = ("lead = \"keep\"", "lead = \"keep\"\ngroup = 7");
+
+const TOUCHING: Edit = ("\\u001E\\u000APART TWO", "A");
+
+const LEADING_ASTRAY: Edit = (
+    "PART TWO\"\nroutes = { 0 = 123 }",
+    "PART TWO\"\nroutes = { 0 = 123, 9 = 555 }",
+);
+
+const LEAVING: Edit = (
+    "PART TWO\"\nroutes = { 0 = 123 }",
+    "PART TWO\"\nroutes = { 0 = 0 }",
+);
+
+const LEADING_ASIDE: Edit = (
+    "PART TWO\"\nroutes = { 0 = 123 }",
+    "PART TWO\"\nroutes = { 0 = 1231 }",
+);
+
+const BASES: [Edit; 6] = [
+    SAME,
+    GROUPED,
+    TOUCHING,
+    LEADING_ASTRAY,
+    LEAVING,
+    LEADING_ASIDE,
 ];
 
-const CERTS: [(&str, &str); 7] = [
-    ("entry", "entry"),
-    ("entry 123", "entry 124"),
-    ("ceiling 5", "ceiling 4"),
-    ("123a 0 s80", "123a 0 s81"),
-    ("rows 3\n123a 0 s80\n1231a 1 s80\n1231b 1 s48\n", "rows 0\n"),
-    (
-        "rows 3\n123a 0 s80\n1231a 1 s80\n1231b 1 s48\n",
-        "rows 2\n123a 0 s80\n1231a 1 s80\n",
-    ),
-    ("1231a 1 s80\n1231b 1 s48\n", "1231a 0 s80\n1231b 0 s48\n"),
+// Another entry page, a lower ceiling, fewer keyings, another cursor, no row of 1231b, a row without a frame, each rank 0, no
+// row.
+const OTHER_ENTRY: Edit = ("entry 123", "entry 124");
+
+const CHEAPER: Edit = ("ceiling 5", "ceiling 4");
+
+const NEARER: Edit = ("keyings 1", "keyings 0");
+
+const OTHER_CURSOR: Edit = ("123a 0 s80", "123a 0 s81");
+
+const SHORTER: Edit = (
+    "rows 3\n123a 0 s80\n1231a 1 s80\n1231b 1 s48\n",
+    "rows 2\n123a 0 s80\n1231a 1 s80\n",
+);
+
+const LONGER: Edit = (
+    "rows 3\n123a 0 s80\n1231a 1 s80\n1231b 1 s48\n",
+    "rows 4\n123a 0 s80\n1231a 1 s80\n1231b 1 s48\n1231c 1 s80\n",
+);
+
+const RANKLESS: Edit = (
+    "keyings 1\nrows 3\n123a 0 s80\n1231a 1 s80\n1231b 1 s48\n",
+    "keyings 0\nrows 3\n123a 0 s80\n1231a 0 s80\n1231b 0 s48\n",
+);
+
+const EMPTY: Edit = (
+    "ceiling 5\nkeyings 1\nrows 3\n123a 0 s80\n1231a 1 s80\n1231b 1 s48\n",
+    "ceiling 0\nkeyings 0\nrows 0\n",
+);
+
+const CERTS: [Edit; 9] = [
+    SAME,
+    OTHER_ENTRY,
+    CHEAPER,
+    NEARER,
+    OTHER_CURSOR,
+    SHORTER,
+    LONGER,
+    RANKLESS,
+    EMPTY,
 ];
 
 #[test]
 fn a_list_of_rows_is_judged_as_a_table(rt: HostRuntime) -> Result<(), Fail> {
-    let policy = policy(5, 1)?;
-    for (old_base, new_base) in BASES {
-        let base = DEMO.replacen(rt.alloc(), old_base, new_base, 1)?;
-        for (old, new) in CERTS {
-            let cert = CERT.replacen(rt.alloc(), old, new, 1)?;
-            let told = judged(rt.alloc(), base.as_str(), cert.as_str(), &policy)?;
-            let is_demo = new_base == "entry" && new == "entry";
-            same_in((new_base, new), told, (is_demo, true))?;
+    for (ceiling, keyings) in [(5, 1), (4, 1), (5, 0), (0, 0)] {
+        for in_base in BASES {
+            for in_cert in CERTS {
+                let case = (ceiling, keyings, in_base, in_cert);
+                let (line, is_same) = judged(rt.alloc(), case)?;
+                let is_cleared = line.as_slice() == b"CLEARED\n".as_slice();
+                let is_right = case == (5, 1, SAME, SAME);
+                same_in(case, (is_cleared, is_same), (is_right, true))?;
+            }
         }
     }
     Ok(())
+}
+
+#[test]
+fn the_first_condition_that_fails_is_named(rt: HostRuntime) -> Result<(), Fail> {
+    let rows: [(Case, &str); 15] = [
+        ((5, 1, SAME, SAME), "CLEARED\n"),
+        ((5, 1, SAME, OTHER_ENTRY), "REFUSED K1 EntryDiffers\n"),
+        ((4, 1, SAME, SAME), "REFUSED K2 CeilingAbove\n"),
+        ((5, 0, SAME, SAME), "REFUSED K3 KeyingsAbove\n"),
+        ((0, 0, SAME, EMPTY), "REFUSED K4 EntryNotCovered\n"),
+        ((5, 1, SAME, LONGER), "REFUSED K5 NoFrame 1231c\n"),
+        ((5, 1, GROUPED, SAME), "REFUSED K6 ClosedFrame 1231b\n"),
+        ((5, 1, SAME, CHEAPER), "REFUSED K7 Price 1231a\n"),
+        ((5, 1, SAME, NEARER), "REFUSED K8 RankAbove 1231a\n"),
+        ((5, 1, TOUCHING, SAME), "REFUSED K9 Touches 1231b 0\n"),
+        (
+            (5, 1, SAME, OTHER_CURSOR),
+            "REFUSED K10 CursorDiffers 123a\n",
+        ),
+        (
+            (5, 1, LEADING_ASTRAY, SAME),
+            "REFUSED K11 RouteNotCovered 1231b 9\n",
+        ),
+        ((5, 1, SAME, SHORTER), "REFUSED K12 NextNotCovered 1231a\n"),
+        ((5, 0, SAME, RANKLESS), "REFUSED K13 RankZero 1231a\n"),
+        ((5, 1, LEAVING, SAME), "REFUSED K14 NoWayDown 1231b\n"),
+    ];
+    for (case, line) in rows {
+        let (text, is_same) = judged(rt.alloc(), case)?;
+        same_in(line, (text.as_slice(), is_same), (line.as_bytes(), true))?;
+    }
+    Ok(())
+}
+
+// The greatest number of frames, each on a page of its own and with a route to the first, and their certificate.
+fn largest(alloc: Global) -> Result<(String, String), AllocError> {
+    let mut base = String::new(alloc);
+    let mut cert = String::new(alloc);
+    base.push_str("entry = 999000000\n")?;
+    cert.push_str("PBC1\nentry 999000000\nceiling 0\nkeyings 1\nrows 65535\n")?;
+    for number in 0..65_535u32 {
+        if let Some(page) = PageNo::new(999_000_000 + number) {
+            let text = page.text();
+            base.push_str("[[frame]]\nid = \"")?;
+            base.push_str(text.as_str())?;
+            base.push_str("a\"\nbody = \"\"\nroutes = { 0 = 999000000 }\n")?;
+            cert.push_str(text.as_str())?;
+            cert.push_str(if number == 0 {
+                "a 0 s40\n"
+            } else {
+                "a 1 s40\n"
+            })?;
+        }
+    }
+    cert.push_str("end\n")?;
+    Ok((base, cert))
+}
+
+#[test]
+fn two_texts_of_65_535_frames_are_checked(rt: HostRuntime) -> Result<(), Fail> {
+    let policy = policy(0, 1)?;
+    let (base, cert) = largest(rt.alloc())?;
+    let verdict = check_bytes(rt.alloc(), base.as_bytes(), cert.as_bytes(), &policy);
+    same(
+        (cert.len(), verdict == Ok(Verdict::Cleared)),
+        (1_114_151, true),
+    )
 }
 
 // An edition changes to itself.

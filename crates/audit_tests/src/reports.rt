@@ -5,21 +5,30 @@ use audit_report::{RunFault, change_text, entry_text, fault_text, verdict_text, 
 use cert_text::ReadFault;
 use checker::{Cause, ChangeVerdict, Verdict};
 use frame_records::Pence;
-use page_ids::{FrameId, PageNo};
+use page_ids::{Digit, FrameId, PageNo};
 use session_machine::Reply;
 use std::test::Fail;
 
 #[test]
 fn a_verdict_is_one_line(rt: HostRuntime) -> Result<(), Fail> {
     let id = FrameId::read("1231b")?;
+    let last = FrameId::read("999999999z")?;
+    let digit = Digit::new(9).ok_or("digit")?;
     let verdict = Verdict::Refused(Cause::Touches(id, 882));
+    let longest = Verdict::Refused(Cause::RouteNotCovered(last, digit));
     let change = ChangeVerdict::New(Cause::Price(id));
     let line = verdict_text(rt.alloc(), &verdict)?;
+    let longest_line = verdict_text(rt.alloc(), &longest)?;
     let change_line = change_text(rt.alloc(), &change)?;
     same(
-        (line.as_slice(), change_line.as_slice()),
+        (
+            line.as_slice(),
+            longest_line.as_slice(),
+            change_line.as_slice(),
+        ),
         (
             b"REFUSED K9 Touches 1231b 882\n".as_slice(),
+            b"REFUSED K11 RouteNotCovered 999999999z 9\n".as_slice(),
             b"NEW REFUSED K7 Price 1231b\n".as_slice(),
         ),
     )

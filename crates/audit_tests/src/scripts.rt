@@ -55,7 +55,7 @@ fn replay_tells_the_last_reply_and_the_place(rt: HostRuntime) -> Result<(), Fail
     let free = Pence::new(0).ok_or("price")?;
     let member = Groups::read("7")?;
     let nobody = Groups::none();
-    let many = "10".repeat(rt.alloc(), 10_000)?;
+    let many = "10".repeat(rt.alloc(), 140_000)?;
     let rows: [(&Groups, &str, Replayed); 5] = [
         (&nobody, "", (Reply::Shown(entry, free), Some(entry))),
         (&nobody, "01", (Reply::NotOffered, None)),
