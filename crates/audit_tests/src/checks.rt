@@ -33,18 +33,21 @@ fn as_list(alloc: Global, cert: &Certificate) -> Result<Certificate<RowList>, Fa
     Ok(list.ok().ok_or("rows")?)
 }
 
+// What is in a text, and what takes its place.
+type Edit = (&'static str, &'static str);
+
+const SAME: Edit = ("entry", "entry");
+
 // A change of the base and one of the certificate, the line of the verdict, and how much a check takes over a table and over a
 // list of the rows: comparisons, and bytes that are painted.
 #[derive(Clone, Copy)]
 struct Taken {
-    base: (&'static str, &'static str),
-    cert: (&'static str, &'static str),
+    base: Edit,
+    cert: Edit,
     line: &'static str,
     table: (u64, u64),
     list: (u64, u64),
 }
-
-const SAME: (&str, &str) = ("entry", "entry");
 
 // Worked out by hand. Of three entries a binary search compares 2, 1 and 2 for the first, second and third, and 2 for any
 // other; of two it compares 2 and 1, and 2, 2 and 1 before, between and after them. From the front a row takes its number, and
@@ -196,9 +199,6 @@ fn what_a_check_took_is_counted(rt: HostRuntime) -> Result<(), Fail> {
     Ok(())
 }
 
-// What stands in a text, and what takes its place.
-type Edit = (&'static str, &'static str);
-
 // The policy's ceiling and keyings, and what changes in DEMO and in CERT.
 type Case = (u16, u16, Edit, Edit);
 
@@ -215,8 +215,6 @@ fn judged(alloc: Global, case: Case) -> Result<(Vec<u8>, bool), Fail> {
     let is_same = check(&base, &policy, &list) == verdict;
     Ok((verdict_text(alloc, &verdict)?, is_same))
 }
-
-const SAME: Edit = ("entry", "entry");
 
 // 1231b belongs to a group, touches, leads to a page without a frame, leaves without a way back, leads to 1231a alone.
 const GROUPED: Edit = ("lead = \"keep\"", "lead = \"keep\"\ngroup = 7");
@@ -305,30 +303,17 @@ fn a_list_of_rows_is_judged_as_a_table(rt: HostRuntime) -> Result<(), Fail> {
     Ok(())
 }
 
+// The other conditions are among those of `TAKEN`.
 #[test]
 fn the_first_condition_that_fails_is_named(rt: HostRuntime) -> Result<(), Fail> {
-    let rows: [(Case, &str); 15] = [
-        ((5, 1, SAME, SAME), "CLEARED\n"),
+    let rows: [(Case, &str); 7] = [
         ((5, 1, SAME, OTHER_ENTRY), "REFUSED K1 EntryDiffers\n"),
         ((4, 1, SAME, SAME), "REFUSED K2 CeilingAbove\n"),
         ((5, 0, SAME, SAME), "REFUSED K3 KeyingsAbove\n"),
         ((0, 0, SAME, EMPTY), "REFUSED K4 EntryNotCovered\n"),
-        ((5, 1, SAME, LONGER), "REFUSED K5 NoFrame 1231c\n"),
         ((5, 1, GROUPED, SAME), "REFUSED K6 ClosedFrame 1231b\n"),
-        ((5, 1, SAME, CHEAPER), "REFUSED K7 Price 1231a\n"),
         ((5, 1, SAME, NEARER), "REFUSED K8 RankAbove 1231a\n"),
-        ((5, 1, TOUCHING, SAME), "REFUSED K9 Touches 1231b 0\n"),
-        (
-            (5, 1, SAME, OTHER_CURSOR),
-            "REFUSED K10 CursorDiffers 123a\n",
-        ),
-        (
-            (5, 1, LEADING_ASTRAY, SAME),
-            "REFUSED K11 RouteNotCovered 1231b 9\n",
-        ),
-        ((5, 1, SAME, SHORTER), "REFUSED K12 NextNotCovered 1231a\n"),
         ((5, 0, SAME, RANKLESS), "REFUSED K13 RankZero 1231a\n"),
-        ((5, 1, LEAVING, SAME), "REFUSED K14 NoWayDown 1231b\n"),
     ];
     for (case, line) in rows {
         let (text, is_same) = judged(rt.alloc(), case)?;
@@ -341,22 +326,19 @@ fn the_first_condition_that_fails_is_named(rt: HostRuntime) -> Result<(), Fail> 
 fn largest(alloc: Global) -> Result<(String, String), AllocError> {
     let mut base = String::new(alloc);
     let mut cert = String::new(alloc);
-    base.push_str("entry = 999000000\n")?;
-    cert.push_str("PBC1\nentry 999000000\nceiling 0\nkeyings 1\nrows 65535\n")?;
-    for number in 0..65_535u32 {
+    base.push_str("entry=0\nframe=[{id=\"0a\",body=\"\"}")?;
+    cert.push_str("PBC1\nentry 0\nceiling 0\nkeyings 1\nrows 65535\n0a 0 s40\n")?;
+    for number in 1..65_535u32 {
         if let Some(page) = PageNo::new(999_000_000 + number) {
             let text = page.text();
-            base.push_str("[[frame]]\nid = \"")?;
+            base.push_str(",{id=\"")?;
             base.push_str(text.as_str())?;
-            base.push_str("a\"\nbody = \"\"\nroutes = { 0 = 999000000 }\n")?;
+            base.push_str("a\",body=\"\",routes={0=0}}")?;
             cert.push_str(text.as_str())?;
-            cert.push_str(if number == 0 {
-                "a 0 s40\n"
-            } else {
-                "a 1 s40\n"
-            })?;
+            cert.push_str("a 1 s40\n")?;
         }
     }
+    base.push_str("]\n")?;
     cert.push_str("end\n")?;
     Ok((base, cert))
 }
@@ -368,7 +350,7 @@ fn two_texts_of_65_535_frames_are_checked(rt: HostRuntime) -> Result<(), Fail> {
     let verdict = check_bytes(rt.alloc(), base.as_bytes(), cert.as_bytes(), &policy);
     same(
         (cert.len(), verdict == Ok(Verdict::Cleared)),
-        (1_114_151, true),
+        (1_114_135, true),
     )
 }
 
