@@ -1,54 +1,60 @@
--- What the calls of sources and sinks do.
+-- What contracts see of a device, and what the calls of sources and sinks do.
 use Rattle.std.specs.Prelude.{◌≡◌, ◌≤◌, ◌<◌, ◌++◌, ℕ, Bool, true, false, List, Option, length, take, IfOk, MatchResult, Result}
 use Rattle.std.specs.Io.KnownBytes.{Consumes, Appends, IsAtEnd}
 use Rattle.devices.specs.declared.reading.SourceFault.{SourceFault}
 use Rattle.devices.specs.declared.reading.SourceFault.TheVariants.{Broken, Memory}
 
--- an error sets the flag for good, a success leaves it
-abbrev pub Flags : {A E : Type 0} → Bool → Bool → Result A E → Type 0
-Flags old new r = MatchResult r (λ _. new ≡ old) (λ _. new ≡ true)
+-- the bytes that a source still has, or that a sink has taken, if the device shows them; and whether a call has returned an
+-- error
+pub record Seen : Type 0 where
+  pub bytes : Option (List ℕ)
+  pub failed : Bool
 
--- at most all of the bytes, and at least the first where there is one
+-- an error sets the flag for good, and a success leaves it unchanged
+abbrev pub Flags : {A E : Type 0} → Seen → Seen → Result A E → Type 0
+Flags old new r = MatchResult r (λ _. new.failed ≡ old.failed) (λ _. new.failed ≡ true)
+
+-- at most all of the bytes, and at least the first if there is one
 abbrev pub WritesSome : {E : Type 0} → Result ℕ E → List ℕ → Type 0
 WritesSome r bytes = IfOk r (λ n. (n ≤ length bytes) × (0 < length bytes → 0 < n))
 
--- n bytes, at most so many, were taken from the source and appended; none is the end
-abbrev pub IsPieceRead : ℕ → Option (List ℕ) → Option (List ℕ) → List ℕ → List ℕ → ℕ → Type 0
+-- n bytes, no more than asked for, were taken from the source and appended; none is the end
+abbrev pub IsPieceRead : ℕ → Seen → Seen → List ℕ → List ℕ → ℕ → Type 0
 IsPieceRead most old new before after n =
-    (piece : List ℕ) × (length piece ≡ n) × (n ≤ most) × (after ≡ before ++ piece) × Consumes old new piece × (n ≡ 0 → IsAtEnd new)
+    (piece : List ℕ) × (length piece ≡ n) × (n ≤ most) × (after ≡ before ++ piece) × Consumes old.bytes new.bytes piece × (n ≡ 0 → IsAtEnd new.bytes)
 
--- at most so many bytes, which the source gave; fewer are all that it had
-pub record IsWholeRead (limit : ℕ) (old new : Option (List ℕ)) (bytes : List ℕ) : Type 0 where
+-- bytes that the source gave, at most the limit; fewer are all that it had
+pub record IsWholeRead (limit : ℕ) (old new : Seen) (bytes : List ℕ) : Type 0 where
   pub within : length bytes ≤ limit
-  pub given : Consumes old new bytes
-  pub all : length bytes < limit → IsAtEnd new
+  pub given : Consumes old.bytes new.bytes bytes
+  pub all : length bytes < limit → IsAtEnd new.bytes
 
--- a read failed behind fewer bytes than the limit
-pub record BrokeWithin (limit : ℕ) (old new : Option (List ℕ)) (failed : Bool) : Type 0 where
+-- a read failed after fewer bytes than the limit
+pub record BrokeWithin (limit : ℕ) (old new : Seen) : Type 0 where
   pub bytes : List ℕ
   pub within : length bytes < limit
-  pub given : Consumes old new bytes
-  pub broken : failed ≡ true
+  pub given : Consumes old.bytes new.bytes bytes
+  pub broken : new.failed ≡ true
 
--- no read failed, and at most so many bytes were taken
-pub record TookWithin (limit : ℕ) (old new : Option (List ℕ)) (failed : Bool) : Type 0 where
+-- no read failed, and no more bytes than the limit were taken
+pub record TookWithin (limit : ℕ) (old new : Seen) : Type 0 where
   pub bytes : List ℕ
   pub within : length bytes ≤ limit
-  pub given : Consumes old new bytes
-  pub unbroken : failed ≡ false
+  pub given : Consumes old.bytes new.bytes bytes
+  pub unbroken : new.failed ≡ false
 
--- a read fault is told exactly where the source failed
-abbrev pub IsSourceFault : ℕ → Option (List ℕ) → Option (List ℕ) → Bool → SourceFault → Type 0
-IsSourceFault limit old new failed Broken = BrokeWithin limit old new failed
-IsSourceFault limit old new failed Memory = TookWithin limit old new failed
+-- the fault is Broken if a read failed, and Memory if none did
+abbrev pub IsSourceFault : ℕ → Seen → Seen → SourceFault → Type 0
+IsSourceFault limit old new Broken = BrokeWithin limit old new
+IsSourceFault limit old new Memory = TookWithin limit old new
 
--- the sink took all of the bytes and hasn't failed
-pub record WroteWhole (old new : Option (List ℕ)) (failed : Bool) (bytes : List ℕ) : Type 0 where
-  pub taken : Appends old new bytes
-  pub unbroken : failed ≡ false
+-- the sink took all of the bytes and has not failed
+pub record WroteWhole (old new : Seen) (bytes : List ℕ) : Type 0 where
+  pub taken : Appends old.bytes new.bytes bytes
+  pub unbroken : new.failed ≡ false
 
 -- the sink took the first n of the bytes and failed
-pub record WrotePart (old new : Option (List ℕ)) (failed : Bool) (bytes : List ℕ) (n : ℕ) : Type 0 where
+pub record WrotePart (old new : Seen) (bytes : List ℕ) (n : ℕ) : Type 0 where
   pub within : n ≤ length bytes
-  pub taken : Appends old new (take n bytes)
-  pub broken : failed ≡ true
+  pub taken : Appends old.bytes new.bytes (take n bytes)
+  pub broken : new.failed ≡ true

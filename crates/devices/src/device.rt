@@ -1,52 +1,49 @@
-ghost use Rattle.std.specs.Prelude.{◌≡◌, List, ℕ, Option, Bool};
+ghost use Rattle.std.specs.Prelude.{◌≡◌};
 ghost use Rattle.std.specs.Io.{ReadsAtMost};
 ghost use Rattle.std.specs.Io.KnownBytes.{ReadConsumes, WriteAppends, Keeps};
-ghost use Rattle.devices.specs.Devices.{Flags, WritesSome};
+ghost use Rattle.devices.specs.Devices.{Seen, Flags, WritesSome};
 
 use thiserror::Error;
 
-/// A device answered an error.
+/// A call of a device returned an error.
 #[derive(Debug, Clone, Copy, PartialEq, Eq, Error)]
 #[error("the device failed")]
 pub struct Broken;
 
-/// Where bytes come from. Contracts see `left`, the bytes still to come where the source tells them, and `has_failed`.
+/// Where bytes come from. Contracts see `seen`: the bytes still to come, if the source shows them, and whether a call has
+/// failed.
 pub trait Source {
-    ghost left: { Self → Option (List ℕ) };
+    ghost seen: { Self → Seen };
 
-    ghost has_failed: { Self → Bool };
-
-    /// Reads some bytes into the front of a slice and gives their number. 0 into a slice that isn't empty is the end. A call
-    /// that fails has read nothing.
+    /// Reads some bytes into the front of a slice and returns their number. 0 for a slice that isn't empty is the end. A
+    /// call that fails has read nothing.
     fn read(&mut self, into: &mut [u8]) -> Result<usize, Broken>
         ensures fits { ReadsAtMost result into.new }
-        ensures bytes { ReadConsumes (left self.old) (left self.new) result into.new }
-        ensures flag { Flags (has_failed self.old) (has_failed self.new) result };
+        ensures bytes { ReadConsumes (seen self.old).bytes (seen self.new).bytes result into.new }
+        ensures flag { Flags (seen self.old) (seen self.new) result };
 
-    /// Whether a call answered an error yet.
+    /// Whether a call has returned an error.
     fn failed(&self) -> bool
-        ensures { result ≡ has_failed self.now };
+        ensures { result ≡ (seen self.now).failed };
 }
 
-/// Where bytes go. Contracts see `written`, the bytes taken so far where the sink tells them, and `has_failed`.
+/// Where bytes go. Contracts see `seen`: the bytes taken so far, if the sink shows them, and whether a call has failed.
 pub trait Sink {
-    ghost written: { Self → Option (List ℕ) };
+    ghost seen: { Self → Seen };
 
-    ghost has_failed: { Self → Bool };
-
-    /// Takes some of the bytes, from the front, and gives their number: at least one where there is one. A call that fails
-    /// took none.
+    /// Takes some of the bytes, from the front, and returns their number: at least one if there is one. A call that
+    /// fails takes none.
     fn write(&mut self, bytes: &[u8]) -> Result<usize, Broken>
         ensures fits { WritesSome result bytes.now }
-        ensures bytes { WriteAppends (written self.old) (written self.new) result bytes.now }
-        ensures flag { Flags (has_failed self.old) (has_failed self.new) result };
+        ensures bytes { WriteAppends (seen self.old).bytes (seen self.new).bytes result bytes.now }
+        ensures flag { Flags (seen self.old) (seen self.new) result };
 
     /// Sends on what was taken; it takes nothing.
     fn flush(&mut self) -> Result<(), Broken>
-        ensures bytes { Keeps (written self.old) (written self.new) }
-        ensures flag { Flags (has_failed self.old) (has_failed self.new) result };
+        ensures bytes { Keeps (seen self.old).bytes (seen self.new).bytes }
+        ensures flag { Flags (seen self.old) (seen self.new) result };
 
-    /// Whether a call answered an error yet.
+    /// Whether a call has returned an error.
     fn failed(&self) -> bool
-        ensures { result ≡ has_failed self.now };
+        ensures { result ≡ (seen self.now).failed };
 }

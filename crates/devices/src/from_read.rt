@@ -11,10 +11,9 @@ pub struct FromRead<R> {
 }
 
 impl<R: Read> FromRead<R> {
-    /// The source of what the reader still gives.
+    /// A source of the bytes that the reader still gives.
     pub fn new(inner: R) -> FromRead<R>
-        ensures left { ⟦<FromRead<R> as Source>⟧.left result ≡ R.remaining inner }
-        ensures flag { ⟦<FromRead<R> as Source>⟧.has_failed result ≡ false }
+        ensures { ⟦<FromRead<R> as Source>⟧.seen result ≡ record { bytes = R.remaining inner; failed = false } }
     {
         FromRead {
             inner,
@@ -24,9 +23,7 @@ impl<R: Read> FromRead<R> {
 }
 
 impl<R: Read> Source for FromRead<R> {
-    ghost left = { λ s. R.remaining s.inner };
-
-    ghost has_failed = { λ s. s.failed };
+    ghost seen = { λ s. record { bytes = R.remaining s.inner; failed = s.failed } };
 
     fn read(&mut self, into: &mut [u8]) -> Result<usize, Broken> {
         match self.inner.read(into) {

@@ -11,10 +11,9 @@ pub struct IntoWrite<W> {
 }
 
 impl<W: Write> IntoWrite<W> {
-    /// The sink of what the writer takes.
+    /// A sink whose bytes go to the writer.
     pub fn new(inner: W) -> IntoWrite<W>
-        ensures written { ⟦<IntoWrite<W> as Sink>⟧.written result ≡ W.contents inner }
-        ensures flag { ⟦<IntoWrite<W> as Sink>⟧.has_failed result ≡ false }
+        ensures { ⟦<IntoWrite<W> as Sink>⟧.seen result ≡ record { bytes = W.contents inner; failed = false } }
     {
         IntoWrite {
             inner,
@@ -24,9 +23,7 @@ impl<W: Write> IntoWrite<W> {
 }
 
 impl<W: Write> Sink for IntoWrite<W> {
-    ghost written = { λ s. W.contents s.inner };
-
-    ghost has_failed = { λ s. s.failed };
+    ghost seen = { λ s. record { bytes = W.contents s.inner; failed = s.failed } };
 
     fn write(&mut self, bytes: &[u8]) -> Result<usize, Broken> {
         match self.inner.write(bytes) {

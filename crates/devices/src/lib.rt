@@ -1,9 +1,9 @@
 //! Where bytes come from and go to: devices that may fail, and whole texts read from them and written to them.
 //!
-//! - [`Source`], [`Sink`]: contracts see the bytes that are left or written, where the device tells them, and whether a call
-//!   answered an error yet. [`FromRead`] and [`IntoWrite`] make them of std's readers and writers.
+//! - [`Source`], [`Sink`]: contracts see the bytes that are left or written, if the device shows them, and whether a call has
+//!   returned an error. [`FromRead`] and [`IntoWrite`] make them from std's readers and writers.
 //! - [`read_whole`], [`write_whole`]: a source up to a limit, and a whole text into a sink with the number of bytes taken.
-//!   Neither tries a call again that answered an error.
+//!   Neither repeats a call that returned an error.
 //!
 //! ```
 //! let text = read_whole(alloc, &mut FromRead::new(file), 4_096)?;

@@ -8,7 +8,7 @@ use thiserror::Error;
 /// Why a source wasn't read whole.
 #[derive(Debug, Clone, Copy, PartialEq, Eq, Error)]
 pub enum SourceFault {
-    /// A read answered an error.
+    /// A read returned an error.
     #[error("read failed")]
     Broken,
     /// A growth was refused.
@@ -19,18 +19,18 @@ pub enum SourceFault {
 // How many bytes are asked for at once.
 const PIECE: usize = 65_536;
 
-// Reads once, at most `most` bytes, and appends them; their number, 0 at the end. What the piece holds is overwritten.
+// Reads once, at most `most` bytes, and appends them; returns their number, 0 at the end. `piece` is a buffer to read into.
 fn read_piece<S: Source>(
     source: &mut S,
     piece: &mut [u8; PIECE],
     bytes: &mut Vec<u8>,
     most: usize,
 ) -> Result<usize, SourceFault>
-    requires open { S.has_failed source.old ≡ false }
+    requires open { (S.seen source.old).failed ≡ false }
     requires some { 0 < most }
-    ensures piece { IfOk result (IsPieceRead most (S.left source.old) (S.left source.new) bytes.old.items bytes.new.items) }
-    ensures fault { IfErr result (IsSourceFault most (S.left source.old) (S.left source.new) (S.has_failed source.new)) }
-    ensures unbroken { OnOk result (S.has_failed source.new ≡ false) }
+    ensures piece { IfOk result (IsPieceRead most (S.seen source.old) (S.seen source.new) bytes.old.items bytes.new.items) }
+    ensures fault { IfErr result (IsSourceFault most (S.seen source.old) (S.seen source.new)) }
+    ensures unbroken { OnOk result ((S.seen source.new).failed ≡ false) }
 {
     let room = most.min(PIECE);
     let count = source
@@ -42,21 +42,21 @@ fn read_piece<S: Source>(
     Ok(count)
 }
 
-/// What a source has left, up to a limit: fewer bytes than the limit are all, and then the source answered its end.
+/// The bytes that a source has left, up to a limit. If they are fewer than the limit, the source has reached its end.
 ///
-/// Reads in pieces of at most 65,536 bytes and never asks for more than the limit; short reads are followed by further ones.
-/// After a fault the bytes that were read are lost: fewer than the limit behind `Broken`, at most as many behind `Memory`.
-#[tactic(auto, using(crate::proofs::Sources::fault_behind))]
+/// Reads in pieces of at most 65,536 bytes and never asks for more than the limit; a short read is followed by another one.
+/// After a fault the bytes that were read are lost: fewer than the limit after `Broken`, at most the limit after `Memory`.
+#[tactic(auto, using(crate::proofs::Sources::fault_after))]
 pub fn read_whole<S: Source>(
     alloc: Global,
     source: &mut S,
     limit: usize,
 ) -> Result<Vec<u8>, SourceFault>
-    requires { S.has_failed source.old ≡ false }
-    ensures whole { IfOk result (λ bytes. IsWholeRead limit (S.left source.old) (S.left source.new) bytes.items) }
-    ensures known { IfOk result (λ bytes. IfSome (S.left source.old) (λ xs. bytes.items ≡ take limit xs)) }
-    ensures unbroken { OnOk result (S.has_failed source.new ≡ false) }
-    ensures fault { IfErr result (IsSourceFault limit (S.left source.old) (S.left source.new) (S.has_failed source.new)) }
+    requires { (S.seen source.old).failed ≡ false }
+    ensures whole { IfOk result (λ bytes. IsWholeRead limit (S.seen source.old) (S.seen source.new) bytes.items) }
+    ensures known { IfOk result (λ bytes. IfSome (S.seen source.old).bytes (λ xs. bytes.items ≡ take limit xs)) }
+    ensures unbroken { OnOk result ((S.seen source.new).failed ≡ false) }
+    ensures fault { IfErr result (IsSourceFault limit (S.seen source.old) (S.seen source.new)) }
 {
     let mut bytes = Vec::new(alloc);
     let mut piece = [0; PIECE];

@@ -12,11 +12,11 @@ pub struct WriteFault {
     pub wrote: u64,
 }
 
-// Hands on all the bytes, without a flush.
+// Writes all the bytes, without a flush.
 fn write_all<S: Sink>(sink: &mut S, bytes: &[u8]) -> Result<(), WriteFault>
-    requires { S.has_failed sink.old ≡ false }
-    ensures whole { OnOk result (WroteWhole (S.written sink.old) (S.written sink.new) (S.has_failed sink.new) bytes.now) }
-    ensures part { IfErr result (λ fault. WrotePart (S.written sink.old) (S.written sink.new) (S.has_failed sink.new) bytes.now fault.wrote) }
+    requires { (S.seen sink.old).failed ≡ false }
+    ensures whole { OnOk result (WroteWhole (S.seen sink.old) (S.seen sink.new) bytes.now) }
+    ensures part { IfErr result (λ fault. WrotePart (S.seen sink.old) (S.seen sink.new) bytes.now fault.wrote) }
 {
     let mut wrote = 0;
     while wrote < bytes.len() {
@@ -32,11 +32,11 @@ fn write_all<S: Sink>(sink: &mut S, bytes: &[u8]) -> Result<(), WriteFault>
     Ok(())
 }
 
-/// Writes all the bytes, then flushes once. It ends at the sink's first error and fails for no other cause.
+/// Writes all the bytes, then flushes once. It stops at the sink's first error and fails for no other reason.
 pub fn write_whole<S: Sink>(sink: &mut S, bytes: &[u8]) -> Result<(), WriteFault>
-    requires { S.has_failed sink.old ≡ false }
-    ensures whole { OnOk result (WroteWhole (S.written sink.old) (S.written sink.new) (S.has_failed sink.new) bytes.now) }
-    ensures part { IfErr result (λ fault. WrotePart (S.written sink.old) (S.written sink.new) (S.has_failed sink.new) bytes.now fault.wrote) }
+    requires { (S.seen sink.old).failed ≡ false }
+    ensures whole { OnOk result (WroteWhole (S.seen sink.old) (S.seen sink.new) bytes.now) }
+    ensures part { IfErr result (λ fault. WrotePart (S.seen sink.old) (S.seen sink.new) bytes.now fault.wrote) }
 {
     write_all(sink, bytes)?;
     match sink.flush() {

@@ -1,5 +1,5 @@
-//! A source and a sink in memory for tests. They count their calls, and fail at a chosen place, once: who would try again
-//! finds that they go on.
+//! A source and a sink in memory for tests. They count their calls, and fail once, at a chosen place: a caller that tries
+//! again finds that they go on.
 //!
 //! ```
 //! let mut source = FakeSource::broken(b"entry = 1\n", 4, 6);
@@ -11,7 +11,7 @@
 //! - [`FakeSource`]: gives its bytes in pieces, then ends or fails. It is a reader of std too.
 //! - [`FakeSink`]: takes bytes in pieces until it is full, or fails at its flush. It is a writer of std too.
 //!
-//! The tests of the crate [`devices`] try it with these: `device_tests`.
+//! The crate `device_tests` tests the crate [`devices`] with them.
 #![tactic(auto)]
 
 mod sink;

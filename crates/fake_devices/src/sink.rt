@@ -5,7 +5,7 @@ use std::alloc::Global;
 use std::io;
 use std::io::{ErrorKind, Write};
 
-/// Takes so many bytes a call until it is full; then it fails once, and then takes more.
+/// Takes `step` bytes a call until it is full; then it fails once, and then takes more.
 #[derive(Drop)]
 pub struct FakeSink {
     step: usize,
@@ -25,7 +25,7 @@ pub struct FakeSink {
 }
 
 impl FakeSink {
-    /// It fails behind so many bytes.
+    /// It fails after `room` bytes.
     pub fn full(alloc: Global, step: usize, room: usize) -> FakeSink
         ensures { result.failed ≡ false }
     {
@@ -59,7 +59,7 @@ impl FakeSink {
         }
     }
 
-    /// As a writer of std it takes none behind so many bytes, where else it would fail.
+    /// After `room` bytes, as a writer of std, it takes none at a call where it would otherwise fail.
     pub fn stalling(alloc: Global, step: usize, room: usize) -> FakeSink
         ensures { result.failed ≡ false }
     {
@@ -80,9 +80,7 @@ impl FakeSink {
 }
 
 impl Sink for FakeSink {
-    ghost written = { λ _. None };
-
-    ghost has_failed = { λ s. s.failed };
+    ghost seen = { λ s. record { bytes = None; failed = s.failed } };
 
     fn write(&mut self, bytes: &[u8]) -> Result<usize, Broken> {
         self.writes = self.writes.wrapping_add(1);

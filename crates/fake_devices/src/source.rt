@@ -4,7 +4,7 @@ use devices::{Broken, Source};
 use std::io;
 use std::io::{ErrorKind, Read};
 
-/// Gives its bytes, so many a call, then ends or fails once, and then gives the bytes behind.
+/// Gives its bytes, `step` of them a call, then ends or fails once, and then gives the bytes in `behind`.
 #[derive(Drop)]
 pub struct FakeSource<'a> {
     /// What it gives before it ends or fails.
@@ -19,7 +19,7 @@ pub struct FakeSource<'a> {
 }
 
 impl<'a> FakeSource<'a> {
-    /// It ends, and then gives the bytes behind.
+    /// It ends, and then gives the bytes in `behind`.
     pub fn with_more(bytes: &'a [u8], step: usize, behind: &'a [u8]) -> FakeSource<'a>
         ensures { result.failed ≡ false }
     {
@@ -33,14 +33,14 @@ impl<'a> FakeSource<'a> {
         }
     }
 
-    /// It ends behind its bytes.
+    /// It ends after its bytes.
     pub fn of(bytes: &'a [u8], step: usize) -> FakeSource<'a>
         ensures { result.failed ≡ false }
     {
         FakeSource::with_more(bytes, step, &[])
     }
 
-    /// It fails behind so many bytes, and then gives the others.
+    /// It fails after `kept` bytes, and then gives the others.
     pub fn broken(bytes: &'a [u8], step: usize, kept: usize) -> FakeSource<'a>
         ensures { result.failed ≡ false }
     {
@@ -57,9 +57,7 @@ impl<'a> FakeSource<'a> {
 }
 
 impl Source for FakeSource<'_> {
-    ghost left = { λ _. None };
-
-    ghost has_failed = { λ s. s.failed };
+    ghost seen = { λ s. record { bytes = None; failed = s.failed } };
 
     fn read(&mut self, into: &mut [u8]) -> Result<usize, Broken> {
         self.calls = self.calls.wrapping_add(1);

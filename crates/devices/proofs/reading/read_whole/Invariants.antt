@@ -4,9 +4,9 @@ use Rattle.devices.proofs.reading.read_whole.Given as goal
 
 abbrev pub invariant-loop-piece : goal.invariant-loop-piece
 invariant-loop-piece g l = record {
-  unbroken : g.S.Source.has_failed l.source ≡ false;
+  unbroken : (g.S.Source.seen l.source).failed ≡ false;
   within : length l.bytes.items ≤ l.limit;
-  given : Consumes (g.S.Source.left l.initial.source) (g.S.Source.left l.source) l.bytes.items;
+  given : Consumes (g.S.Source.seen l.initial.source).bytes (g.S.Source.seen l.source).bytes l.bytes.items;
 }
 
 abbrev pub decreases-loop-piece : goal.decreases-loop-piece

@@ -4,9 +4,9 @@ use Rattle.devices.proofs.writing.write_all.Given as goal
 
 abbrev pub invariant-loop-wrote : goal.invariant-loop-wrote
 invariant-loop-wrote g l = record {
-  unbroken : g.S.Sink.has_failed l.sink ≡ false;
+  unbroken : (g.S.Sink.seen l.sink).failed ≡ false;
   within : l.wrote ≤ length l.bytes;
-  taken : Appends (g.S.Sink.written l.initial.sink) (g.S.Sink.written l.sink) (take l.wrote l.bytes);
+  taken : Appends (g.S.Sink.seen l.initial.sink).bytes (g.S.Sink.seen l.sink).bytes (take l.wrote l.bytes);
 }
 
 abbrev pub decreases-loop-wrote : goal.decreases-loop-wrote
