@@ -1,6 +1,7 @@
--- Runs of the check of a change, by what its files gave and by what its text came to at the output.
-use Rattle.std.proofs.Common.{◌≡◌, ℕ, Bool, false, List, Option, Result, Ok, Err, IfOk, IfErr, refl, sym, subst}
+-- Runs of the check of a change, by what its files gave and by what was written.
+use Rattle.std.proofs.Common.{◌≡◌, false, Result, Ok, Err, refl, sym, subst}
 use Rattle.std.proofs.KnownBytes.{Keeps-refl}
+use Rattle.devices.specs.Devices.{Seen}
 use Rattle.frame_records.specs.BaseView.{BaseView}
 use Rattle.cert_table.specs.CertView.{CertView}
 use Rattle.checker.specs.declared.policy.Policy.{Policy}
@@ -16,64 +17,69 @@ use Rattle.pageaudit.specs.declared.status.Status.TheVariants.{Clear}
 use Rattle.pageaudit.specs.declared.file_fault.FileFault.TheVariants as file
 use Rattle.pageaudit.specs.declared.edition.EditionFault.{EditionFault}
 use Rattle.pageaudit.specs.declared.edition.EditionFault.TheVariants as edition
-use Rattle.pageaudit.specs.Device.{device, IsUntouched, IsTextWritten}
+use Rattle.pageaudit.specs.Device.{Device, device, IsUntouched, IsTextWritten}
 use Rattle.pageaudit.specs.Files.{base_limit, cert_limit}
 use Rattle.pageaudit.proofs.Within.{untouched_within, base_within, cert_within}
 use Rattle.pageaudit.specs.FileFaults.{old_fault, new_fault}
-use Rattle.pageaudit.specs.ChangeRun.{IsEditionOf, IsEditionFault, ChangeDevices, IsChangeRun, HoldsOfChange, IsChangeFault, status_of_change}
+use Rattle.pageaudit.specs.ChangeRun.{EditionFiles, IsEditionOf, IsEditionFault, AreUntouched, AreReadWithin, IsChangeRun, HoldsOfChange, status_of_change}
 
--- a device of which nothing was asked
-pub untouched : (bytes : Option (List ℕ)) (failed : Bool) → failed ≡ false → IsUntouched (device bytes bytes failed)
-untouched bytes failed unbroken = record { kept = Keeps-refl bytes; unbroken = unbroken }
+-- a device that was not called
+pub untouched : {D : Type 0} (seen : D → Seen) (d : D) → (seen d).failed ≡ false → IsUntouched (device seen d d)
+untouched seen d unbroken = record { kept = Keeps-refl (seen d).bytes; unbroken = unbroken }
 
-module _ (d : ChangeDevices) (policy : Policy) where
-  old_failed : (fault : EditionFault) → IsEditionFault d.old d.old_cert fault → IsUntouched d.new → IsUntouched d.new_cert → IsUntouched d.out → IsChangeFault d policy (old_fault fault)
-  old_failed (edition.Base (file.Text fault)) h n m out = (h.0, h.1, n, m, out)
-  old_failed (edition.Base file.Broken) h n m out = (h.0, h.1, n, m, out)
-  old_failed (edition.Base file.Memory) h n m out = (h.0, untouched_within cert_limit d.old_cert h.1, untouched_within base_limit d.new n, untouched_within cert_limit d.new_cert m, out)
-  old_failed (edition.Cert (file.Text fault)) h n m out = record { base = h.0; base_read = h.1; why = (h.2, n, m); nothing = out }
-  old_failed (edition.Cert file.Broken) h n m out = record { base = h.0; base_read = h.1; why = (h.2, n, m); nothing = out }
-  old_failed (edition.Cert file.Memory) h n m out = (base_within d.old h.0 h.1, h.2, untouched_within base_limit d.new n, untouched_within cert_limit d.new_cert m, out)
+files_within : (files : EditionFiles) → AreUntouched files → AreReadWithin files
+files_within files h = (untouched_within base_limit files.base h.0, untouched_within cert_limit files.cert h.1)
+
+edition_within : (files : EditionFiles) (base : BaseView) (cert : CertView) → IsEditionOf files base cert → AreReadWithin files
+edition_within files base cert read = (base_within files.base base read.base_read, cert_within files.cert cert read.cert_read)
+
+module _ (old_files new_files : EditionFiles) (out : Device) (policy : Policy) where
+  abbrev IsFault : RunFault → Type 0
+  IsFault fault = IsChangeRun old_files new_files out policy (Err fault)
+
+  old_failed : (fault : EditionFault) → IsEditionFault old_files fault → AreUntouched new_files → IsUntouched out → IsFault (old_fault fault)
+  old_failed (edition.Base (file.Text fault)) h new nothing = (h.0, h.1, new, nothing)
+  old_failed (edition.Base file.Broken) h new nothing = (h.0, h.1, new, nothing)
+  old_failed (edition.Base file.Memory) h new nothing = ((h.0, untouched_within cert_limit old_files.cert h.1), files_within new_files new, nothing)
+  old_failed (edition.Cert (file.Text fault)) h new nothing = record { base = h.0; base_read = h.1; why = (h.2, new); nothing = nothing }
+  old_failed (edition.Cert file.Broken) h new nothing = record { base = h.0; base_read = h.1; why = (h.2, new); nothing = nothing }
+  old_failed (edition.Cert file.Memory) h new nothing = ((base_within old_files.base h.0 h.1, h.2), files_within new_files new, nothing)
 
   -- the old edition's files gave none
-  pub told_old : (fault : EditionFault) (told : RunFault) → told ≡ old_fault fault → IsEditionFault d.old d.old_cert fault → IsUntouched d.new → IsUntouched d.new_cert → IsUntouched d.out → IsChangeFault d policy told
-  told_old fault told is h n m out = subst (IsChangeFault d policy) (sym is) (old_failed fault h n m out)
+  pub old_files_failed : (fault : EditionFault) (answer : RunFault) → answer ≡ old_fault fault → IsEditionFault old_files fault → AreUntouched new_files → IsUntouched out → IsFault answer
+  old_files_failed fault answer is h new nothing = subst IsFault (sym is) (old_failed fault h new nothing)
 
-  module _ (old : BaseView) (old_cert : CertView) (old_read : IsEditionOf d.old d.old_cert old old_cert) where
-    new_failed : (fault : EditionFault) → IsEditionFault d.new d.new_cert fault → IsUntouched d.out → IsChangeFault d policy (new_fault fault)
-    new_failed (edition.Base (file.Text fault)) h out = record { old = old; old_cert = old_cert; old_read = old_read; why = (h.0, h.1); nothing = out }
-    new_failed (edition.Base file.Broken) h out = record { old = old; old_cert = old_cert; old_read = old_read; why = (h.0, h.1); nothing = out }
-    new_failed (edition.Base file.Memory) h out = (base_within d.old old old_read.base_read, cert_within d.old_cert old_cert old_read.cert_read, h.0, untouched_within cert_limit d.new_cert h.1, out)
-    new_failed (edition.Cert (file.Text fault)) h out = record { old = old; old_cert = old_cert; old_read = old_read; why = record { base = h.0; base_read = h.1; why = h.2; nothing = out }; nothing = out }
-    new_failed (edition.Cert file.Broken) h out = record { old = old; old_cert = old_cert; old_read = old_read; why = record { base = h.0; base_read = h.1; why = h.2; nothing = out }; nothing = out }
-    new_failed (edition.Cert file.Memory) h out = (base_within d.old old old_read.base_read, cert_within d.old_cert old_cert old_read.cert_read, base_within d.new h.0 h.1, h.2, out)
+  module _ (old : BaseView) (old_cert : CertView) (old_read : IsEditionOf old_files old old_cert) where
+    new_failed : (fault : EditionFault) → IsEditionFault new_files fault → IsUntouched out → IsFault (new_fault fault)
+    new_failed (edition.Base (file.Text fault)) h nothing = record { old = old; old_cert = old_cert; old_read = old_read; why = (h.0, h.1); nothing = nothing }
+    new_failed (edition.Base file.Broken) h nothing = record { old = old; old_cert = old_cert; old_read = old_read; why = (h.0, h.1); nothing = nothing }
+    new_failed (edition.Base file.Memory) h nothing = (edition_within old_files old old_cert old_read, (h.0, untouched_within cert_limit new_files.cert h.1), nothing)
+    new_failed (edition.Cert (file.Text fault)) h nothing = record { old = old; old_cert = old_cert; old_read = old_read; why = record { base = h.0; base_read = h.1; why = h.2; nothing = nothing }; nothing = nothing }
+    new_failed (edition.Cert file.Broken) h nothing = record { old = old; old_cert = old_cert; old_read = old_read; why = record { base = h.0; base_read = h.1; why = h.2; nothing = nothing }; nothing = nothing }
+    new_failed (edition.Cert file.Memory) h nothing = (edition_within old_files old old_cert old_read, (base_within new_files.base h.0 h.1, h.2), nothing)
 
     -- the old edition is whole, and the new edition's files gave none
-    pub told_new : (fault : EditionFault) (told : RunFault) → told ≡ new_fault fault → IsEditionFault d.new d.new_cert fault → IsUntouched d.out → IsChangeFault d policy told
-    told_new fault told is h out = subst (IsChangeFault d policy) (sym is) (new_failed fault h out)
+    pub new_files_failed : (fault : EditionFault) (answer : RunFault) → answer ≡ new_fault fault → IsEditionFault new_files fault → IsUntouched out → IsFault answer
+    new_files_failed fault answer is h nothing = subst IsFault (sym is) (new_failed fault h nothing)
 
-    module _ (new : BaseView) (new_cert : CertView) (new_read : IsEditionOf d.new d.new_cert new new_cert) where
+    module _ (new : BaseView) (new_cert : CertView) (new_read : IsEditionOf new_files new new_cert) where
       abbrev IsWritten : ChangeVerdict → Result Status RunFault → Type 0
-      IsWritten v r = IsTextWritten d.out (change_text v) (status_of_change v) r
+      IsWritten v r = IsTextWritten out (change_text v) (status_of_change v) r
 
-      done : (r : Result Status RunFault) → IsWritten (change_verdict policy old old_cert new new_cert) r → IfOk r (λ status. IsChangeRun d policy (Ok status))
-      done (Ok s) w = record { old = old; old_cert = old_cert; new = new; new_cert = new_cert; old_read = old_read; new_read = new_read; written = w }
-      done (Err fault) w = tt
-
-      failed : (r : Result Status RunFault) → IsWritten (change_verdict policy old old_cert new new_cert) r → IfErr r (IsChangeFault d policy)
-      failed (Ok s) w = tt
-      failed (Err (run.Write wrote)) w = record { old = old; old_cert = old_cert; new = new; new_cert = new_cert; old_read = old_read; new_read = new_read; written = w }
-      failed (Err run.Memory) w = (base_within d.old old old_read.base_read, cert_within d.old_cert old_cert old_read.cert_read, base_within d.new new new_read.base_read, cert_within d.new_cert new_cert new_read.cert_read, w)
-      failed (Err (run.Base fault)) w = absurd w
-      failed (Err (run.Cert fault)) w = absurd w
-      failed (Err (run.Keys offset)) w = absurd w
-      failed (Err run.Groups) w = absurd w
-      failed (Err run.ReadBase) w = absurd w
-      failed (Err run.ReadCert) w = absurd w
-      failed (Err (run.NewBase fault)) w = absurd w
-      failed (Err (run.NewCert fault)) w = absurd w
-      failed (Err run.ReadNewBase) w = absurd w
-      failed (Err run.ReadNewCert) w = absurd w
+      written_run : (r : Result Status RunFault) → IsWritten (change_verdict policy old old_cert new new_cert) r → IsChangeRun old_files new_files out policy r
+      written_run (Ok s) w = record { old = old; old_cert = old_cert; new = new; new_cert = new_cert; old_read = old_read; new_read = new_read; written = w }
+      written_run (Err (run.Write wrote)) w = record { old = old; old_cert = old_cert; new = new; new_cert = new_cert; old_read = old_read; new_read = new_read; written = w }
+      written_run (Err run.Memory) w = (edition_within old_files old old_cert old_read, edition_within new_files new new_cert new_read, w)
+      written_run (Err (run.Base fault)) w = absurd w
+      written_run (Err (run.Cert fault)) w = absurd w
+      written_run (Err (run.Keys offset)) w = absurd w
+      written_run (Err run.Groups) w = absurd w
+      written_run (Err run.ReadBase) w = absurd w
+      written_run (Err run.ReadCert) w = absurd w
+      written_run (Err (run.NewBase fault)) w = absurd w
+      written_run (Err (run.NewCert fault)) w = absurd w
+      written_run (Err run.ReadNewBase) w = absurd w
+      written_run (Err run.ReadNewCert) w = absurd w
 
       cleared_is : (v : ChangeVerdict) → Clear ≡ status_of_change v → v ≡ change.Cleared
       cleared_is change.Cleared e = refl
@@ -83,12 +89,9 @@ module _ (d : ChangeDevices) (policy : Policy) where
       cleared_is (change.NoLongerCovered id) e = absurd cc
 
       -- a verdict and its line
-      module _ (v : ChangeVerdict) (is : v ≡ change_verdict policy old old_cert new new_cert) (r : Result Status RunFault) (w : IsTextWritten d.out (change_text v) (status_of_change v) r) where
-        pub verdict_done : IfOk r (λ status. IsChangeRun d policy (Ok status))
-        verdict_done = done r (subst (λ (x : ChangeVerdict). IsWritten x r) is w)
-
-        pub verdict_failed : IfErr r (IsChangeFault d policy)
-        verdict_failed = failed r (subst (λ (x : ChangeVerdict). IsWritten x r) is w)
+      module _ (v : ChangeVerdict) (is : v ≡ change_verdict policy old old_cert new new_cert) (r : Result Status RunFault) (w : IsWritten v r) where
+        pub change_run : IsChangeRun old_files new_files out policy r
+        change_run = written_run r (subst (λ (x : ChangeVerdict). IsWritten x r) is w)
 
         clear_status : (r : Result Status RunFault) → IsWritten v r → r ≡ Ok Clear → Clear ≡ status_of_change v
         clear_status (Ok s) written e = subst (λ (x : Status). x ≡ status_of_change v) (ok_is s e) written.1 where
@@ -96,5 +99,5 @@ module _ (d : ChangeDevices) (policy : Policy) where
           ok_is s e = cc
         clear_status (Err fault) written e = absurd cc
 
-        pub change_holds : (v ≡ change.Cleared → IsSafeChange policy old old_cert new new_cert) → r ≡ Ok Clear → HoldsOfChange d policy
+        pub change_holds : (v ≡ change.Cleared → IsSafeChange policy old old_cert new new_cert) → r ≡ Ok Clear → HoldsOfChange old_files new_files policy
         change_holds safe clear = record { old = old; old_cert = old_cert; new = new; new_cert = new_cert; old_read = old_read; new_read = new_read; safe = safe (cleared_is v (clear_status r w clear)) }

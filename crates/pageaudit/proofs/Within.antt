@@ -1,6 +1,7 @@
--- How much was read of a file, whatever it came to.
-use Rattle.std.proofs.Common.{◌<◌, ℕ, Bool, List, [], Option, Err, ◌++◌, arith, length-append}
+-- How much was read of a file, whatever the result.
+use Rattle.std.proofs.Common.{◌<◌, ℕ, List, [], Err, ◌++◌, arith, length-append}
 use Rattle.std.proofs.KnownBytes.{Consumes-nil, Consumes-kept, Consumes-trans}
+use Rattle.devices.specs.Devices.{Seen}
 use Rattle.frame_records.specs.BaseView.{BaseView}
 use Rattle.cert_table.specs.CertView.{CertView}
 use Rattle.cert_text.specs.declared.fault.ReadFault.{ReadFault}
@@ -11,7 +12,7 @@ use Rattle.pageaudit.specs.Device.{Device, device, IsUntouched}
 use Rattle.pageaudit.specs.Files.{base_limit, cert_limit, IsBaseOfFile, IsCertOfFile, IsReadWithin, IsCertFileFault, IsPieceTaken, IsBeingFed}
 
 pub untouched_within : (limit : ℕ) (d : Device) → IsUntouched d → IsReadWithin limit d
-untouched_within limit d h = record { bytes = []; within = omega (arith); given = Consumes-kept d.before d.before d.after [] (Consumes-nil d.before) h.kept; unbroken = h.unbroken }
+untouched_within limit d h = record { bytes = []; within = omega (arith); given = Consumes-kept d.before.bytes d.before.bytes d.after.bytes [] (Consumes-nil d.before.bytes) h.kept; unbroken = h.unbroken }
 
 pub base_within : (d : Device) (base : BaseView) → IsBaseOfFile d base → IsReadWithin base_limit d
 base_within d base h = let so_far = h.read.so_far in record { bytes = h.text; within = so_far.within; given = so_far.given; unbroken = so_far.unbroken }
@@ -19,29 +20,29 @@ base_within d base h = let so_far = h.read.so_far in record { bytes = h.text; wi
 pub cert_within : (d : Device) (cert : CertView) → IsCertOfFile d cert → IsReadWithin cert_limit d
 cert_within d cert h = let so_far = h.read.so_far in record { bytes = h.text; within = so_far.within; given = so_far.given; unbroken = so_far.unbroken }
 
--- behind bytes that a certificate's reader took
-module _ (before middle after : Option (List ℕ)) (unfailed failed : Bool) (old new : ReaderView) (room : ℕ) (fed : IsBeingFed (device before middle unfailed) old room) (some : 0 < room) where
-  behind : (fault : FileFault ReadFault) → IsPieceTaken room (device middle after failed) fed.text new (Err fault) → IsCertFileFault (device before after failed) fault
-  behind (file.Text fault) h = record {
+-- after bytes that a certificate's reader took
+module _ {D : Type 0} (seen : D → Seen) (before middle after : D) (old new : ReaderView) (room : ℕ) (fed : IsBeingFed (device seen before middle) old room) (some : 0 < room) where
+  after_fed : (fault : FileFault ReadFault) → IsPieceTaken room (device seen middle after) fed.text new (Err fault) → IsCertFileFault (device seen before after) fault
+  after_fed (file.Text fault) h = record {
     text = fed.text ++ h.piece;
     read = record {
       within = omega (arith, length-append fed.text h.piece, fed.counted, h.within);
-      given = Consumes-trans before middle after fed.text h.piece fed.read.given h.given;
+      given = Consumes-trans (seen before).bytes (seen middle).bytes (seen after).bytes fed.text h.piece fed.read.given h.given;
       unbroken = h.unbroken;
     };
     whole = λ early. absurd (h.lasting early);
     first = h.first;
   }
-  behind file.Broken h = record {
-    broken = record { bytes = fed.text; within = omega (arith, fed.counted, some); given = Consumes-kept before middle after fed.text fed.read.given h.0; broken = h.1 };
+  after_fed file.Broken h = record {
+    broken = record { bytes = fed.text; within = omega (arith, fed.counted, some); given = Consumes-kept (seen before).bytes (seen middle).bytes (seen after).bytes fed.text fed.read.given h.0; broken = h.1 };
     right = fed.right;
   }
-  behind file.Memory h = record {
+  after_fed file.Memory h = record {
     bytes = fed.text ++ h.bytes;
     within = omega (arith, length-append fed.text h.bytes, fed.counted, h.within);
-    given = Consumes-trans before middle after fed.text h.bytes fed.read.given h.given;
+    given = Consumes-trans (seen before).bytes (seen middle).bytes (seen after).bytes fed.text h.bytes fed.read.given h.given;
     unbroken = h.unbroken;
   }
 
-  pub fault_behind : (fault : FileFault ReadFault) → ((stream : List ℕ) → HasRead old stream → IsPieceTaken room (device middle after failed) stream new (Err fault)) → IsCertFileFault (device before after failed) fault
-  fault_behind fault taken = behind fault (taken fed.text fed.taken)
+  pub fault_after : (fault : FileFault ReadFault) → ((stream : List ℕ) → HasRead old stream → IsPieceTaken room (device seen middle after) stream new (Err fault)) → IsCertFileFault (device seen before after) fault
+  fault_after fault taken = after_fed fault (taken fed.text fed.taken)

@@ -13,27 +13,43 @@ use Rattle.audit_report.specs.Lines.{change_text}
 use Rattle.pageaudit.specs.declared.status.Status.{Status}
 use Rattle.pageaudit.specs.declared.status.Status.TheVariants.{Clear, Faulty}
 use Rattle.pageaudit.specs.declared.edition.EditionFault.{EditionFault}
-use Rattle.pageaudit.specs.declared.edition.EditionFault.TheVariants as edition
+use Rattle.pageaudit.specs.declared.edition.EditionFault.TheVariants as part
 use Rattle.pageaudit.specs.Device.{Device, IsUntouched, IsTextWritten}
 use Rattle.pageaudit.specs.Files.{base_limit, cert_limit, IsBaseOfFile, IsCertOfFile, IsBaseTextFault, IsCertTextFault, IsBaseBroken, IsCertBroken, IsReadWithin, IsBaseFileFault, IsCertFileFault}
-use Rattle.pageaudit.specs.CheckRun.{IsBehindBase}
+use Rattle.pageaudit.specs.CheckRun.{IsAfterBase}
 
--- both files of an edition were read to their ends and are right
-pub record IsEditionOf (base_file cert_file : Device) (base : BaseView) (cert : CertView) : Type 0 where
-  pub base_read : IsBaseOfFile base_file base
-  pub cert_read : IsCertOfFile cert_file cert
+-- the files of an edition: its base's and its certificate's
+pub record EditionFiles : Type 0 where
+  pub base : Device
+  pub cert : Device
 
--- why they give no edition: the base's file comes first, and nothing was read of the certificate's; which comes only behind
--- a whole base
-abbrev pub IsEditionFault : Device → Device → EditionFault → Type 0
-IsEditionFault base_file cert_file (edition.Base fault) = IsBaseFileFault base_file fault × IsUntouched cert_file
-IsEditionFault base_file cert_file (edition.Cert fault) = (base : BaseView) × IsBaseOfFile base_file base × IsCertFileFault cert_file fault
+abbrev pub edition : Device → Device → EditionFiles
+edition base cert = record { base = base; cert = cert }
 
-abbrev pub IsEditionRead : Device → Device → Result (BaseView × CertView) EditionFault → Type 0
-IsEditionRead base_file cert_file (Ok (base, cert)) = IsEditionOf base_file cert_file base cert
-IsEditionRead base_file cert_file (Err fault) = IsEditionFault base_file cert_file fault
+-- both were read to their ends and are right
+pub record IsEditionOf (files : EditionFiles) (base : BaseView) (cert : CertView) : Type 0 where
+  pub base_read : IsBaseOfFile files.base base
+  pub cert_read : IsCertOfFile files.cert cert
 
--- the status of a verdict: clear exactly for Cleared
+-- why they give no edition: a fault of the base's file, with nothing read of the certificate's; or, after a whole base, a fault
+-- of the certificate's file
+abbrev pub IsEditionFault : EditionFiles → EditionFault → Type 0
+IsEditionFault files (part.Base fault) = IsBaseFileFault files.base fault × IsUntouched files.cert
+IsEditionFault files (part.Cert fault) = (base : BaseView) × IsBaseOfFile files.base base × IsCertFileFault files.cert fault
+
+abbrev pub IsEditionRead : EditionFiles → Result (BaseView × CertView) EditionFault → Type 0
+IsEditionRead files (Ok (base, cert)) = IsEditionOf files base cert
+IsEditionRead files (Err fault) = IsEditionFault files fault
+
+-- no read of either file failed, and at most the limit was read of each
+abbrev pub AreReadWithin : EditionFiles → Type 0
+AreReadWithin files = IsReadWithin base_limit files.base × IsReadWithin cert_limit files.cert
+
+-- nothing was read of either file
+abbrev pub AreUntouched : EditionFiles → Type 0
+AreUntouched files = IsUntouched files.base × IsUntouched files.cert
+
+-- the status of a verdict: clear for Cleared, and faulty for everything else
 abbrev pub status_of_change : ChangeVerdict → Status
 status_of_change change.Cleared = Clear
 status_of_change (change.Old cause) = Faulty
@@ -41,57 +57,47 @@ status_of_change (change.New cause) = Faulty
 status_of_change change.EntryMoved = Faulty
 status_of_change (change.NoLongerCovered id) = Faulty
 
--- the files of two editions, and the output
-pub record ChangeDevices : Type 0 where
-  pub old : Device
-  pub old_cert : Device
-  pub new : Device
-  pub new_cert : Device
-  pub out : Device
-
-abbrev pub change_devices : Device → Device → Device → Device → Device → ChangeDevices
-change_devices old old_cert new new_cert out = record { old = old; old_cert = old_cert; new = new; new_cert = new_cert; out = out }
-
--- all four files were read to their ends and are right; the line of their verdict was written, with its status, or as much
--- of it as the answer says
-pub record IsChangeRun (d : ChangeDevices) (policy : Policy) (answer : Result Status RunFault) : Type 0 where
+-- all four files were read to their ends and are right; the line of their verdict was written, and the answer is its status,
+-- or a write fault with the number of bytes written
+pub record IsChangeVerdictRun (old_files new_files : EditionFiles) (out : Device) (policy : Policy) (answer : Result Status RunFault) : Type 0 where
   pub old : BaseView
   pub old_cert : CertView
   pub new : BaseView
   pub new_cert : CertView
-  pub old_read : IsEditionOf d.old d.old_cert old old_cert
-  pub new_read : IsEditionOf d.new d.new_cert new new_cert
-  pub written : IsTextWritten d.out (change_text (change_verdict policy old old_cert new new_cert)) (status_of_change (change_verdict policy old old_cert new new_cert)) answer
+  pub old_read : IsEditionOf old_files old old_cert
+  pub new_read : IsEditionOf new_files new new_cert
+  pub written : IsTextWritten out (change_text (change_verdict policy old old_cert new new_cert)) (status_of_change (change_verdict policy old old_cert new new_cert)) answer
 
--- the change is safe for callers inside, of the editions in the files that were read whole
-pub record HoldsOfChange (d : ChangeDevices) (policy : Policy) : Type 0 where
+-- the change is safe for callers inside; the editions are those of the files, which were read whole
+pub record HoldsOfChange (old_files new_files : EditionFiles) (policy : Policy) : Type 0 where
   pub old : BaseView
   pub old_cert : CertView
   pub new : BaseView
   pub new_cert : CertView
-  pub old_read : IsEditionOf d.old d.old_cert old old_cert
-  pub new_read : IsEditionOf d.new d.new_cert new new_cert
+  pub old_read : IsEditionOf old_files old old_cert
+  pub new_read : IsEditionOf new_files new new_cert
   pub safe : IsSafeChange policy old old_cert new new_cert
 
--- a fault of the new edition's files comes only behind a whole old edition, and nothing was written
-pub record IsBehindOld (d : ChangeDevices) (Why : Type 0) : Type 0 where
+-- the old edition's files were read to their ends and are right, `Why` holds of the new edition's, and nothing was written
+pub record IsAfterOld (old_files : EditionFiles) (out : Device) (Why : Type 0) : Type 0 where
   pub old : BaseView
   pub old_cert : CertView
-  pub old_read : IsEditionOf d.old d.old_cert old old_cert
+  pub old_read : IsEditionOf old_files old old_cert
   pub why : Why
-  pub nothing : IsUntouched d.out
+  pub nothing : IsUntouched out
 
--- why there is no status: the first file at fault, with nothing read of those behind it. Nothing was written but where the
--- output failed
-abbrev pub IsChangeFault : ChangeDevices → Policy → RunFault → Type 0
-IsChangeFault d policy (run.Base fault) = IsBaseTextFault d.old fault × IsUntouched d.old_cert × IsUntouched d.new × IsUntouched d.new_cert × IsUntouched d.out
-IsChangeFault d policy run.ReadBase = IsBaseBroken d.old × IsUntouched d.old_cert × IsUntouched d.new × IsUntouched d.new_cert × IsUntouched d.out
-IsChangeFault d policy (run.Cert fault) = IsBehindBase d.old d.out (IsCertTextFault d.old_cert fault × IsUntouched d.new × IsUntouched d.new_cert)
-IsChangeFault d policy run.ReadCert = IsBehindBase d.old d.out (IsCertBroken d.old_cert × IsUntouched d.new × IsUntouched d.new_cert)
-IsChangeFault d policy (run.NewBase fault) = IsBehindOld d (IsBaseTextFault d.new fault × IsUntouched d.new_cert)
-IsChangeFault d policy run.ReadNewBase = IsBehindOld d (IsBaseBroken d.new × IsUntouched d.new_cert)
-IsChangeFault d policy (run.NewCert fault) = IsBehindOld d (IsBehindBase d.new d.out (IsCertTextFault d.new_cert fault))
-IsChangeFault d policy run.ReadNewCert = IsBehindOld d (IsBehindBase d.new d.out (IsCertBroken d.new_cert))
-IsChangeFault d policy (run.Write wrote) = IsChangeRun d policy (Err (run.Write wrote))
-IsChangeFault d policy run.Memory = IsReadWithin base_limit d.old × IsReadWithin cert_limit d.old_cert × IsReadWithin base_limit d.new × IsReadWithin cert_limit d.new_cert × IsUntouched d.out
-IsChangeFault d policy _ = ⊥
+-- a run by its answer: a status after a verdict, or the fault of the first file that has one, with nothing read of the files
+-- after it. On every fault except Write nothing was written
+abbrev pub IsChangeRun : EditionFiles → EditionFiles → Device → Policy → Result Status RunFault → Type 0
+IsChangeRun old new out policy (Ok status) = IsChangeVerdictRun old new out policy (Ok status)
+IsChangeRun old new out policy (Err (run.Base fault)) = IsBaseTextFault old.base fault × IsUntouched old.cert × AreUntouched new × IsUntouched out
+IsChangeRun old new out policy (Err run.ReadBase) = IsBaseBroken old.base × IsUntouched old.cert × AreUntouched new × IsUntouched out
+IsChangeRun old new out policy (Err (run.Cert fault)) = IsAfterBase old.base out (IsCertTextFault old.cert fault × AreUntouched new)
+IsChangeRun old new out policy (Err run.ReadCert) = IsAfterBase old.base out (IsCertBroken old.cert × AreUntouched new)
+IsChangeRun old new out policy (Err (run.NewBase fault)) = IsAfterOld old out (IsBaseTextFault new.base fault × IsUntouched new.cert)
+IsChangeRun old new out policy (Err run.ReadNewBase) = IsAfterOld old out (IsBaseBroken new.base × IsUntouched new.cert)
+IsChangeRun old new out policy (Err (run.NewCert fault)) = IsAfterOld old out (IsAfterBase new.base out (IsCertTextFault new.cert fault))
+IsChangeRun old new out policy (Err run.ReadNewCert) = IsAfterOld old out (IsAfterBase new.base out (IsCertBroken new.cert))
+IsChangeRun old new out policy (Err (run.Write wrote)) = IsChangeVerdictRun old new out policy (Err (run.Write wrote))
+IsChangeRun old new out policy (Err run.Memory) = AreReadWithin old × AreReadWithin new × IsUntouched out
+IsChangeRun old new out policy (Err _) = ⊥

@@ -1,5 +1,5 @@
 -- What a run of the check does.
-use Rattle.std.specs.Prelude.{ℕ, List, Result, Err}
+use Rattle.std.specs.Prelude.{ℕ, List, Result, Ok, Err}
 use Rattle.frame_records.specs.BaseView.{BaseView}
 use Rattle.cert_table.specs.CertView.{CertView}
 use Rattle.checker.specs.declared.policy.Policy.{Policy}
@@ -15,13 +15,13 @@ use Rattle.pageaudit.specs.declared.status.Status.TheVariants.{Clear, Faulty}
 use Rattle.pageaudit.specs.Device.{Device, IsUntouched, IsTextWritten}
 use Rattle.pageaudit.specs.Files.{base_limit, cert_limit, WasRead, IsBaseOfFile, IsCertOfFile, IsBaseTextFault, IsCertTextFault, IsBaseBroken, IsCertBroken, IsReadWithin}
 
--- the status of a verdict: clear exactly for Cleared
+-- the status of a verdict: clear for Cleared, and faulty for everything else
 abbrev pub status_of_verdict : Verdict → Status
 status_of_verdict Cleared = Clear
 status_of_verdict (Refused cause) = Faulty
 
--- both files were read to their ends and are right; the line of their verdict was written, with its status, or as much of
--- it as the answer says
+-- both files were read to their ends and are right; the line of their verdict was written, and the answer is its status, or
+-- a write fault with the number of bytes written
 pub record IsVerdictRun (base_file cert_file out : Device) (policy : Policy) (answer : Result Status RunFault) : Type 0 where
   pub base : BaseView
   pub cert : CertView
@@ -29,7 +29,7 @@ pub record IsVerdictRun (base_file cert_file out : Device) (policy : Policy) (an
   pub cert_read : IsCertOfFile cert_file cert
   pub written : IsTextWritten out (verdict_text (verdict base policy cert)) (status_of_verdict (verdict base policy cert)) answer
 
--- the headline holds of the bytes that were read, which are all that both files had
+-- the headline holds of the bytes that were read, which are all the bytes of both files
 pub record HoldsOfFiles (base_file cert_file : Device) (policy : Policy) : Type 0 where
   pub base_text : List ℕ
   pub cert_text : List ℕ
@@ -37,20 +37,21 @@ pub record HoldsOfFiles (base_file cert_file : Device) (policy : Policy) : Type 
   pub cert_read : WasRead cert_limit cert_file cert_text
   pub holds : Headline base_text cert_text policy
 
--- a fault of the certificate's file comes only behind a whole base, and nothing was written
-pub record IsBehindBase (base_file out : Device) (Why : Type 0) : Type 0 where
+-- the base's file was read to its end and is right, `Why` holds of the files after it, and nothing was written
+pub record IsAfterBase (base_file out : Device) (Why : Type 0) : Type 0 where
   pub base : BaseView
   pub base_read : IsBaseOfFile base_file base
   pub why : Why
   pub nothing : IsUntouched out
 
--- why there is no status. A base's fault comes first: nothing was read of the certificate. Nothing was written but where
--- the output failed
-abbrev pub IsCheckFault : Device → Device → Device → Policy → RunFault → Type 0
-IsCheckFault base_file cert_file out policy (run.Base fault) = IsBaseTextFault base_file fault × IsUntouched cert_file × IsUntouched out
-IsCheckFault base_file cert_file out policy run.ReadBase = IsBaseBroken base_file × IsUntouched cert_file × IsUntouched out
-IsCheckFault base_file cert_file out policy (run.Cert fault) = IsBehindBase base_file out (IsCertTextFault cert_file fault)
-IsCheckFault base_file cert_file out policy run.ReadCert = IsBehindBase base_file out (IsCertBroken cert_file)
-IsCheckFault base_file cert_file out policy (run.Write wrote) = IsVerdictRun base_file cert_file out policy (Err (run.Write wrote))
-IsCheckFault base_file cert_file out policy run.Memory = IsReadWithin base_limit base_file × IsReadWithin cert_limit cert_file × IsUntouched out
-IsCheckFault base_file cert_file out policy _ = ⊥
+-- a run by its answer: a status after a verdict, or the first fault. After a fault of the base's file nothing was read of the
+-- certificate's, and on every fault except Write nothing was written
+abbrev pub IsCheckRun : Device → Device → Device → Policy → Result Status RunFault → Type 0
+IsCheckRun base_file cert_file out policy (Ok status) = IsVerdictRun base_file cert_file out policy (Ok status)
+IsCheckRun base_file cert_file out policy (Err (run.Base fault)) = IsBaseTextFault base_file fault × IsUntouched cert_file × IsUntouched out
+IsCheckRun base_file cert_file out policy (Err run.ReadBase) = IsBaseBroken base_file × IsUntouched cert_file × IsUntouched out
+IsCheckRun base_file cert_file out policy (Err (run.Cert fault)) = IsAfterBase base_file out (IsCertTextFault cert_file fault)
+IsCheckRun base_file cert_file out policy (Err run.ReadCert) = IsAfterBase base_file out (IsCertBroken cert_file)
+IsCheckRun base_file cert_file out policy (Err (run.Write wrote)) = IsVerdictRun base_file cert_file out policy (Err (run.Write wrote))
+IsCheckRun base_file cert_file out policy (Err run.Memory) = IsReadWithin base_limit base_file × IsReadWithin cert_limit cert_file × IsUntouched out
+IsCheckRun base_file cert_file out policy (Err _) = ⊥

@@ -1,4 +1,4 @@
--- The fault of a run for that of a file.
+-- The run's fault for a file's fault.
 use Rattle.base_text.specs.declared.fault.BaseFault.{BaseFault}
 use Rattle.cert_text.specs.declared.fault.ReadFault.{ReadFault}
 use Rattle.audit_report.specs.declared.run_fault.RunFault.{RunFault}

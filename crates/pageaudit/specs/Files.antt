@@ -1,4 +1,4 @@
--- What a run reads of its files. A file that doesn't tell its bytes is left open.
+-- What a run reads of its files. Of a file that doesn't show its bytes, these definitions say nothing about which bytes.
 use Rattle.std.specs.Prelude.{◌≡◌, ◌≤◌, ◌<◌, ◌++◌, ◌+◌, ℕ, true, false, List, length, None, Result, Ok, Err}
 use Rattle.std.specs.Io.KnownBytes.{Consumes, IsAtEnd, Keeps}
 use Rattle.devices.specs.Devices.{BrokeWithin, TookWithin}
@@ -19,7 +19,7 @@ use Rattle.pageaudit.specs.declared.file_fault.FileFault.{FileFault}
 use Rattle.pageaudit.specs.declared.file_fault.FileFault.TheVariants as file
 use Rattle.pageaudit.specs.Device.{Device}
 
--- the most bytes that are read of each file: one more than a base may have, and as many as settle any certificate
+-- the most bytes that are read of each file: one more than a base may have, and enough to decide any certificate
 abbrev pub base_limit : ℕ
 base_limit = MOST_TEXT + 1
 
@@ -29,13 +29,13 @@ cert_limit = MOST_CERT
 -- the first bytes that the file had, no more than the limit; no read failed
 pub record WasReadSoFar (limit : ℕ) (d : Device) (text : List ℕ) : Type 0 where
   pub within : length text ≤ limit
-  pub given : Consumes d.before d.after text
-  pub unbroken : d.failed ≡ false
+  pub given : Consumes d.before.bytes d.after.bytes text
+  pub unbroken : d.after.failed ≡ false
 
--- all bytes that the file had
+-- all the bytes that the file had
 pub record WasRead (limit : ℕ) (d : Device) (text : List ℕ) : Type 0 where
   pub so_far : WasReadSoFar limit d text
-  pub whole : IsAtEnd d.after
+  pub whole : IsAtEnd d.after.bytes
 
 -- the base of the file's text
 pub record IsBaseOfFile (d : Device) (base : BaseView) : Type 0 where
@@ -53,7 +53,7 @@ pub record IsCertOfFile (d : Device) (cert : CertView) : Type 0 where
 pub record IsBaseTextFault (d : Device) (fault : BaseFault) : Type 0 where
   pub text : List ℕ
   pub read : WasReadSoFar base_limit d text
-  pub whole : length text < base_limit → IsAtEnd d.after
+  pub whole : length text < base_limit → IsAtEnd d.after.bytes
   pub first : IsBaseRefused text fault
 
 -- a line that ended early
@@ -61,25 +61,25 @@ abbrev pub IsTruncated : ReadFault → Type 0
 IsTruncated (read.Line number cause) = cause ≡ Truncated
 IsTruncated _ = ⊥
 
--- the first line at fault of a certificate's bytes so far; that the text ended early is said at the file's end alone
+-- the first bad line of a certificate's bytes so far; only at the file's end can the fault be that the text ended early
 pub record IsCertTextFault (d : Device) (fault : ReadFault) : Type 0 where
   pub text : List ℕ
   pub read : WasReadSoFar cert_limit d text
-  pub whole : IsTruncated fault → IsAtEnd d.after
+  pub whole : IsTruncated fault → IsAtEnd d.after.bytes
   pub first : IsCertRefused text fault
 
--- a read of a base's file failed, behind no more bytes than a base may have
+-- a read of a base's file failed, after no more bytes than a base may have
 abbrev pub IsBaseBroken : Device → Type 0
-IsBaseBroken d = BrokeWithin base_limit d.before d.after d.failed
+IsBaseBroken d = BrokeWithin base_limit d.before d.after
 
--- a read of a certificate's file failed, behind fewer bytes than settle any certificate, which have no line at fault
+-- a read of a certificate's file failed, after fewer bytes than the limit, none of them in a bad line
 pub record IsCertBroken (d : Device) : Type 0 where
-  pub broken : BrokeWithin cert_limit d.before d.after d.failed
+  pub broken : BrokeWithin cert_limit d.before d.after
   pub right : lasting (cert_fault broken.bytes) ≡ None
 
 -- no read of a file failed, and no more bytes than the limit were read
 abbrev pub IsReadWithin : ℕ → Device → Type 0
-IsReadWithin limit d = TookWithin limit d.before d.after d.failed
+IsReadWithin limit d = TookWithin limit d.before d.after
 
 -- why a file gives no base: its text is refused, a read failed, or memory was refused
 abbrev pub IsBaseFileFault : Device → FileFault BaseFault → Type 0
@@ -87,7 +87,7 @@ IsBaseFileFault d (file.Text fault) = IsBaseTextFault d fault
 IsBaseFileFault d file.Broken = IsBaseBroken d
 IsBaseFileFault d file.Memory = IsReadWithin base_limit d
 
--- or no certificate
+-- why a file gives no certificate
 abbrev pub IsCertFileFault : Device → FileFault ReadFault → Type 0
 IsCertFileFault d (file.Text fault) = IsCertTextFault d fault
 IsCertFileFault d file.Broken = IsCertBroken d
@@ -101,40 +101,40 @@ abbrev pub IsCertRead : Device → Result CertView (FileFault ReadFault) → Typ
 IsCertRead d (Ok cert) = IsCertOfFile d cert
 IsCertRead d (Err fault) = IsCertFileFault d fault
 
--- what a text alone is answered with
+-- the answer for a text alone
 abbrev pub IsBaseAnswer : List ℕ → Result BaseView (FileFault BaseFault) → Type 0
 IsBaseAnswer text (Ok base) = IsTextBase text base
 IsBaseAnswer text (Err (file.Text fault)) = IsBaseRefused text fault
 IsBaseAnswer text (Err file.Broken) = ⊥
 IsBaseAnswer text (Err file.Memory) = Unit {0}
 
--- one read of a certificate's file, and what its reader said of the bytes: so many, and none at the end alone
+-- one read of a certificate's file, whose bytes its reader took: `count` of them, and none only at the end
 pub record IsPieceRead (most : ℕ) (d : Device) (stream : List ℕ) (reader : ReaderView) (count : ℕ) : Type 0 where
   pub piece : List ℕ
   pub counted : length piece ≡ count
   pub within : count ≤ most
-  pub given : Consumes d.before d.after piece
-  pub whole : count ≡ 0 → IsAtEnd d.after
+  pub given : Consumes d.before.bytes d.after.bytes piece
+  pub whole : count ≡ 0 → IsAtEnd d.after.bytes
   pub taken : HasRead reader (stream ++ piece)
   pub right : lasting (cert_fault (stream ++ piece)) ≡ None
-  pub unbroken : d.failed ≡ false
+  pub unbroken : d.after.failed ≡ false
 
--- the bytes so far have a line at fault, whatever follows
+-- the bytes so far have a bad line, whatever follows
 pub record IsPieceRefused (most : ℕ) (d : Device) (stream : List ℕ) (fault : ReadFault) : Type 0 where
   pub piece : List ℕ
   pub within : length piece ≤ most
-  pub given : Consumes d.before d.after piece
+  pub given : Consumes d.before.bytes d.after.bytes piece
   pub first : IsCertRefused (stream ++ piece) fault
   pub lasting : IsTruncated fault → ⊥
-  pub unbroken : d.failed ≡ false
+  pub unbroken : d.after.failed ≡ false
 
 abbrev pub IsPieceTaken : ℕ → Device → List ℕ → ReaderView → Result ℕ (FileFault ReadFault) → Type 0
 IsPieceTaken most d stream reader (Ok count) = IsPieceRead most d stream reader count
 IsPieceTaken most d stream reader (Err (file.Text fault)) = IsPieceRefused most d stream fault
-IsPieceTaken most d stream reader (Err file.Broken) = Keeps d.before d.after × (d.failed ≡ true)
+IsPieceTaken most d stream reader (Err file.Broken) = Keeps d.before.bytes d.after.bytes × (d.after.failed ≡ true)
 IsPieceTaken most d stream reader (Err file.Memory) = IsReadWithin most d
 
--- the first bytes of a certificate's file were taken by its reader, and so many more may be
+-- the first bytes of a certificate's file were taken by its reader, and `room` more may be
 pub record IsBeingFed (d : Device) (reader : ReaderView) (room : ℕ) : Type 0 where
   pub text : List ℕ
   pub read : WasReadSoFar cert_limit d text
@@ -142,7 +142,7 @@ pub record IsBeingFed (d : Device) (reader : ReaderView) (room : ℕ) : Type 0 w
   pub taken : HasRead reader text
   pub right : lasting (cert_fault text) ≡ None
 
--- all bytes of a certificate's file were taken by its reader
+-- all the bytes of a certificate's file were taken by its reader
 pub record WasFed (d : Device) (reader : ReaderView) : Type 0 where
   pub text : List ℕ
   pub read : WasRead cert_limit d text

@@ -5,7 +5,7 @@ use Rattle.audit_report.specs.declared.run_fault.RunFault.TheVariants as run
 use Rattle.pageaudit.specs.declared.status.Status.{Status}
 use Rattle.pageaudit.specs.declared.status.Status.TheVariants.{Clear, Faulty}
 
--- of a fault: bad groups or keys, want of memory, or a file
+-- of a fault: bad groups or keys 2, a file or the output 3, out of memory 4
 abbrev pub fault_number : RunFault → ℕ
 fault_number (run.Base fault) = 3
 fault_number (run.Cert fault) = 3

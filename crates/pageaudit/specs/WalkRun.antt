@@ -17,14 +17,14 @@ use Rattle.pageaudit.specs.declared.status.Status.TheVariants.{Clear, Faulty}
 use Rattle.pageaudit.specs.Device.{Device, IsUntouched, IsTextWritten}
 use Rattle.pageaudit.specs.Files.{base_limit, IsBaseOfFile, IsBaseTextFault, IsBaseBroken, IsReadWithin}
 
--- what a session prints: a line for each reply, or that of an entry frame that isn't found
+-- what a session prints: a line for each reply, or the line of an entry frame that isn't found
 abbrev pub session_text : BaseView → Result (List Reply) OpenFault → List ℕ
 session_text base (Ok replies) = walk_text replies
 session_text base (Err EntryMissing) = entry_text (entry_of base) false
 session_text base (Err EntryClosed) = entry_text (entry_of base) true
 session_text base (Err Memory) = []
 
--- clear where the session was opened
+-- clear if the session was opened
 abbrev pub session_status : Result (List Reply) OpenFault → Status
 session_status (Ok replies) = Clear
 session_status (Err fault) = Faulty
@@ -38,8 +38,8 @@ pub record AreKeysOf (words : List ℕ) (keys : List Key) : Type 0 where
   pub are_keys : AreKeys keys
   pub spelled : words ≡ keys_text keys
 
--- the keys were read, the base's file was read to its end and is right; the text of the caller's session was written, with its status, or
--- as much of it as the answer says
+-- the keys were read, and the base's file was read to its end and is right; the text of the caller's session was written, and
+-- the answer is its status, or a write fault with the number of bytes written
 pub record IsSessionRun (base_file out : Device) (caller words : List ℕ) (answer : Result Status RunFault) : Type 0 where
   pub keys : List Key
   pub keys_read : AreKeysOf words keys
@@ -47,24 +47,25 @@ pub record IsSessionRun (base_file out : Device) (caller words : List ℕ) (answ
   pub base_read : IsBaseOfFile base_file base
   pub written : IsTextWritten out (session_text base (session_of caller base keys)) (session_status (session_of caller base keys)) answer
 
--- a fault of the base's file comes behind keys that are read, and nothing was written
-pub record IsBehindKeys (out : Device) (words : List ℕ) (Why : Type 0) : Type 0 where
+-- the keys were read, `Why` holds of the base's file, and nothing was written
+pub record IsAfterKeys (out : Device) (words : List ℕ) (Why : Type 0) : Type 0 where
   pub keys : List Key
   pub keys_read : AreKeysOf words keys
   pub why : Why
   pub nothing : IsUntouched out
 
--- why there is no status. Keys that can't be read come first: nothing was read of the base. Nothing was written but where
--- the output failed
-abbrev pub IsWalkFault : Device → Device → List ℕ → List ℕ → RunFault → Type 0
-IsWalkFault base_file out caller words (run.Keys offset) = IsUnreadableAt words offset × IsUntouched base_file × IsUntouched out
-IsWalkFault base_file out caller words (run.Base fault) = IsBehindKeys out words (IsBaseTextFault base_file fault)
-IsWalkFault base_file out caller words run.ReadBase = IsBehindKeys out words (IsBaseBroken base_file)
-IsWalkFault base_file out caller words (run.Write wrote) = IsSessionRun base_file out caller words (Err (run.Write wrote))
-IsWalkFault base_file out caller words run.Memory = IsReadWithin base_limit base_file × IsUntouched out
-IsWalkFault base_file out caller words _ = ⊥
+-- a run by its answer: a status after a session, or the first fault. After a fault of the keys nothing was read of the base,
+-- and on every fault except Write nothing was written
+abbrev pub IsWalkRun : Device → Device → List ℕ → List ℕ → Result Status RunFault → Type 0
+IsWalkRun base_file out caller words (Ok status) = IsSessionRun base_file out caller words (Ok status)
+IsWalkRun base_file out caller words (Err (run.Keys offset)) = IsUnreadableAt words offset × IsUntouched base_file × IsUntouched out
+IsWalkRun base_file out caller words (Err (run.Base fault)) = IsAfterKeys out words (IsBaseTextFault base_file fault)
+IsWalkRun base_file out caller words (Err run.ReadBase) = IsAfterKeys out words (IsBaseBroken base_file)
+IsWalkRun base_file out caller words (Err (run.Write wrote)) = IsSessionRun base_file out caller words (Err (run.Write wrote))
+IsWalkRun base_file out caller words (Err run.Memory) = IsReadWithin base_limit base_file × IsUntouched out
+IsWalkRun base_file out caller words (Err _) = ⊥
 
--- what the words of keys are answered with
+-- the answer for the words of keys
 abbrev pub IsKeysAnswer : List ℕ → Result (List Key) RunFault → Type 0
 IsKeysAnswer words (Ok keys) = AreKeysOf words keys
 IsKeysAnswer words (Err (run.Keys offset)) = IsUnreadableAt words offset

@@ -1,7 +1,7 @@
-ghost use Rattle.std.specs.Prelude.{◌≡◌, Ok, IfOk, IfErr, false};
+ghost use Rattle.std.specs.Prelude.{◌≡◌, false};
 ghost use Rattle.audit_report.specs.ReportLines.{report_text};
 ghost use Rattle.pageaudit.specs.Device.{device, IsTextWritten};
-ghost use Rattle.pageaudit.specs.AuditRun.{IsReportRun, IsAuditFault, status_of_outcome};
+ghost use Rattle.pageaudit.specs.AuditRun.{IsAuditRun, status_of_outcome};
 
 use crate::file_fault::base_fault;
 use crate::input::read_base;
@@ -12,7 +12,7 @@ use checker::Policy;
 use fault_scripts::{Outcome, audit};
 use std::alloc::Global;
 
-// Clear exactly where there is a certificate.
+// Clear if and only if there is a certificate.
 fn status_of_outcome(outcome: &Outcome) -> Status
     ensures { result ≡ status_of_outcome outcome.now }
 {
@@ -22,10 +22,10 @@ fn status_of_outcome(outcome: &Outcome) -> Status
     }
 }
 
-// The report of an outcome, written.
+// Writes the report of an outcome.
 fn write_report<O: Sink>(alloc: Global, out: &mut O, outcome: &Outcome) -> Result<Status, RunFault>
-    requires { O.has_failed out.old ≡ false }
-    ensures { IsTextWritten (device (O.written out.old) (O.written out.new) (O.has_failed out.new)) (report_text outcome.now) (status_of_outcome outcome.now) result }
+    requires { (O.seen out.old).failed ≡ false }
+    ensures { IsTextWritten (device O.seen out.old out.new) (report_text outcome.now) (status_of_outcome outcome.now) result }
 {
     match report(alloc, outcome) {
         Ok(text) => write_text(out, text.as_slice(), status_of_outcome(outcome)),
@@ -35,22 +35,20 @@ fn write_report<O: Sink>(alloc: Global, out: &mut O, outcome: &Outcome) -> Resul
 
 /// Audits a base and writes the certificate, or every fault with the keys that show it.
 ///
-/// The base is read whole and judged first. On every fault but `Write` nothing was written. A device that answered an error
-/// isn't asked again.
+/// The base is read whole and judged first. On every fault except `Write`, nothing was written. A device is not called
+/// again after it returned an error.
 pub fn run_audit<B: Source, O: Sink>(
     alloc: Global,
     base: &mut B,
     out: &mut O,
     policy: &Policy,
 ) -> Result<Status, RunFault>
-    requires base_open { B.has_failed base.old ≡ false }
-    requires out_open { O.has_failed out.old ≡ false }
+    requires base_open { (B.seen base.old).failed ≡ false }
+    requires out_open { (O.seen out.old).failed ≡ false }
 
-    // The base's file was read to its end, no device failed, and the report and status are those of what was read.
-    ensures report { IfOk result (λ status. IsReportRun (device (B.left base.old) (B.left base.new) (B.has_failed base.new)) (device (O.written out.old) (O.written out.new) (O.has_failed out.new)) policy.now (Ok status)) }
-
-    // Each fault at its place in the order: the base's file, the output.
-    ensures faults { IfErr result (IsAuditFault (device (B.left base.old) (B.left base.new) (B.has_failed base.new)) (device (O.written out.old) (O.written out.new) (O.has_failed out.new)) policy.now) }
+    // A status: the base's file was read to its end, no device failed, and the report and its status are those of what was
+    // read. A fault: the first one, of the base's file or of the output.
+    ensures { IsAuditRun (device B.seen base.old base.new) (device O.seen out.old out.new) policy.now result }
 {
     let base = match read_base(alloc, base) {
         Ok(base) => base,

@@ -1,7 +1,7 @@
-ghost use Rattle.std.specs.Prelude.{◌≡◌, Ok, IfOk, IfErr, false};
+ghost use Rattle.std.specs.Prelude.{◌≡◌, false};
 ghost use Rattle.audit_report.specs.Lines.{change_text};
 ghost use Rattle.pageaudit.specs.Device.{device, IsTextWritten};
-ghost use Rattle.pageaudit.specs.ChangeRun.{IsChangeRun, HoldsOfChange, IsChangeFault, change_devices, status_of_change};
+ghost use Rattle.pageaudit.specs.ChangeRun.{IsChangeRun, HoldsOfChange, edition, status_of_change};
 
 use crate::edition::{new_fault, old_fault, read_edition};
 use crate::output::write_text;
@@ -10,7 +10,7 @@ use audit_report::{RunFault, Sink, Source, change_text};
 use checker::{ChangeVerdict, Policy, check_change};
 use std::alloc::Global;
 
-// Clear exactly for Cleared.
+// Clear for Cleared, and Faulty for everything else.
 fn status_of_change(verdict: &ChangeVerdict) -> Status
     ensures { result ≡ status_of_change verdict.now }
 {
@@ -20,14 +20,14 @@ fn status_of_change(verdict: &ChangeVerdict) -> Status
     }
 }
 
-// The line of a verdict, written.
+// Writes the line of a verdict.
 fn write_change<O: Sink>(
     alloc: Global,
     out: &mut O,
     verdict: &ChangeVerdict,
 ) -> Result<Status, RunFault>
-    requires { O.has_failed out.old ≡ false }
-    ensures { IsTextWritten (device (O.written out.old) (O.written out.new) (O.has_failed out.new)) (change_text verdict.now) (status_of_change verdict.now) result }
+    requires { (O.seen out.old).failed ≡ false }
+    ensures { IsTextWritten (device O.seen out.old out.new) (change_text verdict.now) (status_of_change verdict.now) result }
 {
     match change_text(alloc, verdict) {
         Ok(text) => write_text(out, text.as_slice(), status_of_change(verdict)),
@@ -35,10 +35,10 @@ fn write_change<O: Sink>(
     }
 }
 
-/// Checks whether a new edition may take an old one's place while callers are inside, and writes the line of the verdict.
+/// Checks if a new edition may take an old one's place while callers are inside, and writes the line of the verdict.
 ///
-/// The files are read in the order of the arguments, each judged before the next is asked for; one at fault ends the run. On
-/// every fault but `Write` nothing was written. A device that answered an error isn't asked again.
+/// The files are read in the order of the arguments. Each is judged before the next one is read, and the first fault ends
+/// the run. On every fault except `Write`, nothing was written. A device is not called again after it returned an error.
 pub fn run_change<B: Source, C: Source, N: Source, M: Source, O: Sink>(
     alloc: Global,
     old: &mut B,
@@ -48,20 +48,24 @@ pub fn run_change<B: Source, C: Source, N: Source, M: Source, O: Sink>(
     out: &mut O,
     policy: &Policy,
 ) -> Result<Status, RunFault>
-    requires old_open { B.has_failed old.old ≡ false }
-    requires old_cert_open { C.has_failed old_cert.old ≡ false }
-    requires new_open { N.has_failed new.old ≡ false }
-    requires new_cert_open { M.has_failed new_cert.old ≡ false }
-    requires out_open { O.has_failed out.old ≡ false }
+    requires old_open { (B.seen old.old).failed ≡ false }
+    requires old_cert_open { (C.seen old_cert.old).failed ≡ false }
+    requires new_open { (N.seen new.old).failed ≡ false }
+    requires new_cert_open { (M.seen new_cert.old).failed ≡ false }
+    requires out_open { (O.seen out.old).failed ≡ false }
 
-    // All four files were read to their ends, no device failed, and the verdict's line and status are those of what was read.
-    ensures verdict { IfOk result (λ status. IsChangeRun (change_devices (device (B.left old.old) (B.left old.new) (B.has_failed old.new)) (device (C.left old_cert.old) (C.left old_cert.new) (C.has_failed old_cert.new)) (device (N.left new.old) (N.left new.new) (N.has_failed new.new)) (device (M.left new_cert.old) (M.left new_cert.new) (M.has_failed new_cert.new)) (device (O.written out.old) (O.written out.new) (O.has_failed out.new))) policy.now (Ok status)) }
+    // A status: all four files were read to their ends, no device failed, and the verdict's line and its status are those
+    // of what was read. A fault: the first one, of the old edition's files, of the new edition's, or of the output.
+    ensures run { IsChangeRun
+        (edition (device B.seen old.old old.new) (device C.seen old_cert.old old_cert.new))
+        (edition (device N.seen new.old new.new) (device M.seen new_cert.old new_cert.new))
+        (device O.seen out.old out.new) policy.now result }
 
-    // Where the status is Clear, callers stay safe over the change, from the old edition's entry page and after any keys.
-    ensures safe { result ≡ Ok Status.Clear → HoldsOfChange (change_devices (device (B.left old.old) (B.left old.new) (B.has_failed old.new)) (device (C.left old_cert.old) (C.left old_cert.new) (C.has_failed old_cert.new)) (device (N.left new.old) (N.left new.new) (N.has_failed new.new)) (device (M.left new_cert.old) (M.left new_cert.new) (M.has_failed new_cert.new)) (device (O.written out.old) (O.written out.new) (O.has_failed out.new))) policy.now }
-
-    // Each fault at its place in the order: the old edition's files, the new edition's, the output.
-    ensures faults { IfErr result (IsChangeFault (change_devices (device (B.left old.old) (B.left old.new) (B.has_failed old.new)) (device (C.left old_cert.old) (C.left old_cert.new) (C.has_failed old_cert.new)) (device (N.left new.old) (N.left new.new) (N.has_failed new.new)) (device (M.left new_cert.old) (M.left new_cert.new) (M.has_failed new_cert.new)) (device (O.written out.old) (O.written out.new) (O.has_failed out.new))) policy.now) }
+    // If the status is Clear, callers stay safe over the change, from the old edition's entry page and after any keys.
+    ensures safe { result ≡ Ok Status.Clear → HoldsOfChange
+        (edition (device B.seen old.old old.new) (device C.seen old_cert.old old_cert.new))
+        (edition (device N.seen new.old new.new) (device M.seen new_cert.old new_cert.new))
+        policy.now }
 {
     let (old, old_cert) = match read_edition(alloc, old, old_cert) {
         Ok(edition) => edition,

@@ -1,7 +1,7 @@
-ghost use Rattle.std.specs.Prelude.{◌≡◌, Ok, IfOk, IfErr, false};
+ghost use Rattle.std.specs.Prelude.{◌≡◌, false};
 ghost use Rattle.audit_report.specs.Lines.{verdict_text};
 ghost use Rattle.pageaudit.specs.Device.{device, IsTextWritten};
-ghost use Rattle.pageaudit.specs.CheckRun.{IsVerdictRun, HoldsOfFiles, IsCheckFault, status_of_verdict};
+ghost use Rattle.pageaudit.specs.CheckRun.{IsCheckRun, HoldsOfFiles, status_of_verdict};
 
 use crate::file_fault::{base_fault, cert_fault};
 use crate::input::{read_base, read_cert};
@@ -11,10 +11,10 @@ use audit_report::{RunFault, Sink, Source, verdict_text};
 use checker::{Policy, Verdict, check};
 use std::alloc::Global;
 
-// The line of a verdict, written.
+// Writes the line of a verdict.
 fn write_verdict<O: Sink>(alloc: Global, out: &mut O, verdict: &Verdict) -> Result<Status, RunFault>
-    requires { O.has_failed out.old ≡ false }
-    ensures { IsTextWritten (device (O.written out.old) (O.written out.new) (O.has_failed out.new)) (verdict_text verdict.now) (status_of_verdict verdict.now) result }
+    requires { (O.seen out.old).failed ≡ false }
+    ensures { IsTextWritten (device O.seen out.old out.new) (verdict_text verdict.now) (status_of_verdict verdict.now) result }
 {
     match verdict_text(alloc, verdict) {
         Ok(text) => write_text(out, text.as_slice(), status_of_verdict(verdict)),
@@ -24,9 +24,9 @@ fn write_verdict<O: Sink>(alloc: Global, out: &mut O, verdict: &Verdict) -> Resu
 
 /// Checks a certificate against a base and writes the line of the verdict.
 ///
-/// The base is read whole and judged before anything is asked of the certificate's reader. The certificate is judged as it
-/// comes, in pieces of at most 4,096 bytes, and nothing is read behind its first line at fault. On every fault but `Write`
-/// nothing was written. A device that answered an error isn't asked again.
+/// The base is read whole and judged before anything is read of the certificate. The certificate is judged as it comes,
+/// in pieces of at most 4,096 bytes, and nothing is read after its first bad line. On every fault except `Write`, nothing
+/// was written. A device is not called again after it returned an error.
 #[tactic(auto, using(crate::proofs::Within::base_within, crate::proofs::Within::cert_within))]
 pub fn run_check<B: Source, C: Source, O: Sink>(
     alloc: Global,
@@ -35,18 +35,18 @@ pub fn run_check<B: Source, C: Source, O: Sink>(
     out: &mut O,
     policy: &Policy,
 ) -> Result<Status, RunFault>
-    requires base_open { B.has_failed base.old ≡ false }
-    requires cert_open { C.has_failed cert.old ≡ false }
-    requires out_open { O.has_failed out.old ≡ false }
+    requires base_open { (B.seen base.old).failed ≡ false }
+    requires cert_open { (C.seen cert.old).failed ≡ false }
+    requires out_open { (O.seen out.old).failed ≡ false }
 
-    // Both files were read to their ends, no device failed, and the verdict's line and status are those of what was read.
-    ensures verdict { IfOk result (λ status. IsVerdictRun (device (B.left base.old) (B.left base.new) (B.has_failed base.new)) (device (C.left cert.old) (C.left cert.new) (C.has_failed cert.new)) (device (O.written out.old) (O.written out.new) (O.has_failed out.new)) policy.now (Ok status)) }
+    // A status: both files were read to their ends, no device failed, and the verdict's line and its status are those of
+    // what was read. A fault: the first one, of the base's file, of the certificate's, or of the output.
+    ensures run { IsCheckRun (device B.seen base.old base.new) (device C.seen cert.old cert.new)
+        (device O.seen out.old out.new) policy.now result }
 
-    // Where the status is Clear, the headline holds of the bytes that were read.
-    ensures headline { result ≡ Ok Status.Clear → HoldsOfFiles (device (B.left base.old) (B.left base.new) (B.has_failed base.new)) (device (C.left cert.old) (C.left cert.new) (C.has_failed cert.new)) policy.now }
-
-    // Each fault at its place in the order: the base's file, the certificate's, the output.
-    ensures faults { IfErr result (IsCheckFault (device (B.left base.old) (B.left base.new) (B.has_failed base.new)) (device (C.left cert.old) (C.left cert.new) (C.has_failed cert.new)) (device (O.written out.old) (O.written out.new) (O.has_failed out.new)) policy.now) }
+    // If the status is Clear, the headline holds of the bytes that were read.
+    ensures headline { result ≡ Ok Status.Clear →
+        HoldsOfFiles (device B.seen base.old base.new) (device C.seen cert.old cert.new) policy.now }
 {
     let base = match read_base(alloc, base) {
         Ok(base) => base,

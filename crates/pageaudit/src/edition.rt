@@ -1,8 +1,8 @@
-//! The two files of an edition read.
+//! Reads the two files of an edition.
 
 ghost use Rattle.std.specs.Prelude.{◌≡◌, false, Ok, Err};
 ghost use Rattle.pageaudit.specs.Device.{device};
-ghost use Rattle.pageaudit.specs.ChangeRun.{IsEditionRead};
+ghost use Rattle.pageaudit.specs.ChangeRun.{IsEditionRead, edition};
 ghost use Rattle.pageaudit.specs.FileFaults.{old_fault, new_fault};
 
 use crate::file_fault::{FileFault, base_fault, cert_fault};
@@ -14,25 +14,25 @@ use cert_text::ReadFault;
 use frame_records::Base;
 use std::alloc::Global;
 
-/// Why the files of an edition don't give one: the first that is at fault.
+/// Why the files of an edition don't give one: the first fault.
 #[derive(Debug, Clone, Copy, PartialEq, Eq)]
 pub enum EditionFault {
     /// The base's file.
     Base(FileFault<BaseFault>),
-    /// The certificate's, behind a whole base.
+    /// The certificate's, after a whole base.
     Cert(FileFault<ReadFault>),
 }
 
-// Reads an edition: its base whole, then its certificate as far as settles it. The base's text is let go before the
-// certificate is asked for.
+// Reads an edition: its base whole, then its certificate as far as needed. The base's text is dropped before the
+// certificate is read.
 pub fn read_edition<B: Source, C: Source>(
     alloc: Global,
     base: &mut B,
     cert: &mut C,
 ) -> Result<(Base, Certificate), EditionFault>
-    requires base_open { B.has_failed base.old ≡ false }
-    requires cert_open { C.has_failed cert.old ≡ false }
-    ensures { IsEditionRead (device (B.left base.old) (B.left base.new) (B.has_failed base.new)) (device (C.left cert.old) (C.left cert.new) (C.has_failed cert.new)) result }
+    requires base_open { (B.seen base.old).failed ≡ false }
+    requires cert_open { (C.seen cert.old).failed ≡ false }
+    ensures { IsEditionRead (edition (device B.seen base.old base.new) (device C.seen cert.old cert.new)) result }
 {
     let base = match read_base(alloc, base) {
         Ok(base) => base,
@@ -44,7 +44,7 @@ pub fn read_edition<B: Source, C: Source>(
     }
 }
 
-// The run's fault, where the files are those of the old edition.
+// The run's fault, if the files are those of the old edition.
 pub fn old_fault(fault: EditionFault) -> RunFault
     ensures { result ≡ old_fault fault }
 {
@@ -54,7 +54,7 @@ pub fn old_fault(fault: EditionFault) -> RunFault
     }
 }
 
-// The run's fault, where the files are those of the new edition.
+// The run's fault, if the files are those of the new edition.
 pub fn new_fault(fault: EditionFault) -> RunFault
     ensures { result ≡ new_fault fault }
 {

@@ -16,7 +16,7 @@ pub enum FileFault<F> {
     Memory,
 }
 
-// The run's fault, where the file is the base.
+// The run's fault, if the file is the base.
 pub fn base_fault(fault: FileFault<BaseFault>) -> RunFault
     ensures { result ≡ base_fault fault }
 {
@@ -27,7 +27,7 @@ pub fn base_fault(fault: FileFault<BaseFault>) -> RunFault
     }
 }
 
-// The run's fault, where the file is the certificate.
+// The run's fault, if the file is the certificate.
 pub fn cert_fault(fault: FileFault<ReadFault>) -> RunFault
     ensures { result ≡ cert_fault fault }
 {

@@ -1,4 +1,4 @@
-//! Files read to a base or a certificate.
+//! Reads a file as a base or as a certificate.
 
 ghost use Rattle.std.specs.Prelude.{◌≡◌, ◌<◌, false, Ok, Err, List, [], ℕ};
 ghost use Rattle.cert_text.specs.Outcome.{HasRead};
@@ -13,10 +13,10 @@ use cert_text::{CertReader, ReadFault};
 use frame_records::Base;
 use std::alloc::Global;
 
-// How many bytes of a certificate are asked for at once.
+// The number of bytes of a certificate that one read asks for.
 const PIECE: usize = 4_096;
 
-// The most bytes of a certificate that are read; every text that is still right behind 8,454,918 of them has ended.
+// The most bytes of a certificate that are read. A text with no fault in its first 8,454,918 bytes has ended there.
 const MOST_CERT: usize = 16_777_216;
 
 // The base of a text.
@@ -37,8 +37,8 @@ fn base_of(alloc: Global, text: &[u8]) -> Result<Base, FileFault<BaseFault>>
 
 // Reads a base whole: one byte more than a base may have is enough to refuse it.
 pub fn read_base<S: Source>(alloc: Global, source: &mut S) -> Result<Base, FileFault<BaseFault>>
-    requires { S.has_failed source.old ≡ false }
-    ensures { IsBaseRead (device (S.left source.old) (S.left source.new) (S.has_failed source.new)) result }
+    requires { (S.seen source.old).failed ≡ false }
+    ensures { IsBaseRead (device S.seen source.old source.new) result }
 {
     match read_whole(alloc, source, MOST_TEXT + 1) {
         Ok(text) => base_of(alloc, text.as_slice()),
@@ -47,15 +47,17 @@ pub fn read_base<S: Source>(alloc: Global, source: &mut S) -> Result<Base, FileF
     }
 }
 
-// Reads once, at most `most` bytes, and hands them to the certificate's reader as one piece; their number, 0 at the end.
+// Reads once, at most `most` bytes, and feeds them to the certificate's reader as one piece. Returns their number, 0 at
+// the end.
 fn take_piece<S: Source>(
     source: &mut S,
     reader: &mut CertReader,
     most: usize,
 ) -> Result<usize, FileFault<ReadFault>>
-    requires open { S.has_failed source.old ≡ false }
+    requires open { (S.seen source.old).failed ≡ false }
     requires some { 0 < most }
-    ensures { (stream : List ℕ) → HasRead reader.old stream → IsPieceTaken most (device (S.left source.old) (S.left source.new) (S.has_failed source.new)) stream reader.new result }
+    ensures { (stream : List ℕ) → HasRead reader.old stream →
+        IsPieceTaken most (device S.seen source.old source.new) stream reader.new result }
 {
     let mut piece = [0; PIECE];
     let room = most.min(PIECE);
@@ -69,14 +71,14 @@ fn take_piece<S: Source>(
     }
 }
 
-// Hands all of a certificate's file to its reader, piece by piece, up to the first line at fault.
+// Feeds all of a certificate's file to its reader, piece by piece, up to the first bad line.
 fn feed_whole<S: Source>(
     source: &mut S,
     reader: &mut CertReader,
 ) -> Result<(), FileFault<ReadFault>>
-    requires open { S.has_failed source.old ≡ false }
+    requires open { (S.seen source.old).failed ≡ false }
     requires fresh { HasRead reader.old [] }
-    ensures { IsFed (device (S.left source.old) (S.left source.new) (S.has_failed source.new)) reader.new result }
+    ensures { IsFed (device S.seen source.old source.new) reader.new result }
 {
     let mut room: usize = MOST_CERT;
     while room > 0 {
@@ -89,13 +91,13 @@ fn feed_whole<S: Source>(
     Ok(())
 }
 
-// Reads a certificate as far as settles it: nothing is asked for behind a line at fault.
+// Reads a certificate as far as needed: nothing is read after a bad line.
 pub fn read_cert<S: Source>(
     alloc: Global,
     source: &mut S,
 ) -> Result<Certificate, FileFault<ReadFault>>
-    requires { S.has_failed source.old ≡ false }
-    ensures { IsCertRead (device (S.left source.old) (S.left source.new) (S.has_failed source.new)) result }
+    requires { (S.seen source.old).failed ≡ false }
+    ensures { IsCertRead (device S.seen source.old source.new) result }
 {
     let mut reader = CertReader::new(alloc);
     match feed_whole(source, &mut reader) {

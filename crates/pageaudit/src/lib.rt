@@ -1,8 +1,8 @@
-//! The four runs: from files to what is printed of them.
+//! The four runs: each reads files and writes one text about them.
 //!
-//! Each run reads its files in the order of its arguments, decides, and writes one text, or answers why not and writes
-//! nothing. They take any reader and writer; what is said of bytes speaks of those that tell theirs, as slices and lists of
-//! bytes do. The program, which opens files and reads the words of the command line, is the crate `command_line`.
+//! Each run reads its files in the order of its arguments, decides, and writes one text, or returns a fault and writes
+//! nothing. They take any reader and writer. What contracts say of bytes is about readers and writers that show theirs, as
+//! slices and lists of bytes do. The crate `command_line` is the program: it opens files and reads the command line.
 //!
 //! ```
 //! let mut base = FromRead::new(base_file);
@@ -13,10 +13,10 @@
 //! ```
 //!
 //! - [`run_audit`]: a base's certificate, or its faults.
-//! - [`run_check`]: the verdict on a certificate; where it is Clear, the headline holds of the two files.
-//! - [`run_change`]: the verdict on a change of edition; where it is Clear, so does the promise to callers inside.
+//! - [`run_check`]: the verdict on a certificate; if the status is Clear, the headline holds of the two files.
+//! - [`run_change`]: the verdict on a change of edition; if the status is Clear, the promise to callers inside holds.
 //! - [`run_walk`]: what a caller sees.
-//! - [`Status`], [`status_of`]: what a run came to, and the program's exit status for it.
+//! - [`Status`], [`status_of`]: the result of a run, and the program's exit status for it.
 #![tactic(auto)]
 
 mod audit_run;

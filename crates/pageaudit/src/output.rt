@@ -4,10 +4,10 @@ ghost use Rattle.pageaudit.specs.Device.{device, IsTextWritten};
 use crate::status::Status;
 use audit_report::{RunFault, Sink, write_whole};
 
-// Hands a text to the output; its status where all of it was taken and sent on.
+// Writes a text to the output; returns its status if all of it was taken and flushed.
 pub fn write_text<S: Sink>(out: &mut S, text: &[u8], status: Status) -> Result<Status, RunFault>
-    requires { S.has_failed out.old ≡ false }
-    ensures { IsTextWritten (device (S.written out.old) (S.written out.new) (S.has_failed out.new)) text.now status result }
+    requires { (S.seen out.old).failed ≡ false }
+    ensures { IsTextWritten (device S.seen out.old out.new) text.now status result }
 {
     match write_whole(out, text) {
         Ok(()) => Ok(status),

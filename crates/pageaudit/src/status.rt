@@ -6,7 +6,7 @@ ghost use Rattle.pageaudit.specs.CheckRun.{status_of_verdict};
 use audit_report::RunFault;
 use checker::Verdict;
 
-/// What a run that did its work came to.
+/// The result of a run without a fault.
 #[derive(Debug, Clone, Copy, PartialEq, Eq)]
 pub enum Status {
     /// Certified, cleared, or a walk.
@@ -15,7 +15,7 @@ pub enum Status {
     Faulty,
 }
 
-// Clear exactly for Cleared.
+// Clear for Cleared, and Faulty for everything else.
 pub fn status_of_verdict(verdict: &Verdict) -> Status
     ensures { result ≡ status_of_verdict verdict.now }
 {
@@ -25,7 +25,7 @@ pub fn status_of_verdict(verdict: &Verdict) -> Status
     }
 }
 
-/// The program's exit status: 0 clear, 1 faulty, 2 bad groups or keys, 3 a file, read, write or text fault, 4 want of memory.
+/// The program's exit status: 0 clear, 1 faulty, 2 bad groups or keys, 3 a file, read, write or text fault, 4 out of memory.
 pub fn status_of(run: &Result<Status, RunFault>) -> u8
     ensures { result ≡ status_number run.now }
 {

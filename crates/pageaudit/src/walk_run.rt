@@ -1,7 +1,7 @@
-ghost use Rattle.std.specs.Prelude.{◌≡◌, ◌∷◌, Ok, Err, IfOk, IfErr, false};
+ghost use Rattle.std.specs.Prelude.{◌≡◌, ◌∷◌, IfOk, false};
 ghost use Rattle.session_machine.specs.Runs.{replies_to, session_of};
 ghost use Rattle.pageaudit.specs.Device.{device, IsTextWritten};
-ghost use Rattle.pageaudit.specs.WalkRun.{IsSessionRun, IsWalkFault, IsKeysAnswer, IsSessionAnswer, session_text, session_status};
+ghost use Rattle.pageaudit.specs.WalkRun.{IsWalkRun, IsKeysAnswer, IsSessionAnswer, session_text, session_status};
 
 use crate::file_fault::base_fault;
 use crate::input::read_base;
@@ -24,7 +24,7 @@ fn read_keys(alloc: Global, words: &str) -> Result<KeyList, RunFault>
     }
 }
 
-// The opening reply, and a session's replies to the keys in turn.
+// The opening reply, and a session's replies to the keys in order.
 fn replies(
     alloc: Global,
     base: &Base,
@@ -67,7 +67,7 @@ fn session_text(
     }
 }
 
-// The session's text, written.
+// Writes the session's text.
 fn write_session<O: Sink>(
     alloc: Global,
     out: &mut O,
@@ -75,8 +75,9 @@ fn write_session<O: Sink>(
     groups: &Groups,
     keys: &KeyList,
 ) -> Result<Status, RunFault>
-    requires { O.has_failed out.old ≡ false }
-    ensures { IsTextWritten (device (O.written out.old) (O.written out.new) (O.has_failed out.new)) (session_text base.now (session_of groups.now base.now keys.now)) (session_status (session_of groups.now base.now keys.now)) result }
+    requires { (O.seen out.old).failed ≡ false }
+    ensures { let session = session_of groups.now base.now keys.now in
+        IsTextWritten (device O.seen out.old out.new) (session_text base.now session) (session_status session) result }
 {
     match session_text(alloc, base, groups, keys) {
         Ok((text, status)) => write_text(out, text.as_slice(), status),
@@ -86,8 +87,8 @@ fn write_session<O: Sink>(
 
 /// Runs a caller's keys from the entry page and writes a line for each reply, the opening one first.
 ///
-/// The keys are read before anything is asked of the base's reader. On every fault but `Write` nothing was written. A device
-/// that answered an error isn't asked again.
+/// The keys are read before anything is read of the base. On every fault except `Write`, nothing was written. A device is
+/// not called again after it returned an error.
 pub fn run_walk<B: Source, O: Sink>(
     alloc: Global,
     base: &mut B,
@@ -95,14 +96,12 @@ pub fn run_walk<B: Source, O: Sink>(
     groups: &Groups,
     out: &mut O,
 ) -> Result<Status, RunFault>
-    requires base_open { B.has_failed base.old ≡ false }
-    requires out_open { O.has_failed out.old ≡ false }
+    requires base_open { (B.seen base.old).failed ≡ false }
+    requires out_open { (O.seen out.old).failed ≡ false }
 
-    // The base's file was read to its end, no device failed, and the session's text and status are those of what was read.
-    ensures session { IfOk result (λ status. IsSessionRun (device (B.left base.old) (B.left base.new) (B.has_failed base.new)) (device (O.written out.old) (O.written out.new) (O.has_failed out.new)) groups.now keys.now (Ok status)) }
-
-    // Each fault at its place in the order: the keys, the base's file, the output.
-    ensures faults { IfErr result (IsWalkFault (device (B.left base.old) (B.left base.new) (B.has_failed base.new)) (device (O.written out.old) (O.written out.new) (O.has_failed out.new)) groups.now keys.now) }
+    // A status: the base's file was read to its end, no device failed, and the session's text and its status are those of
+    // what was read. A fault: the first one, of the keys, of the base's file, or of the output.
+    ensures { IsWalkRun (device B.seen base.old base.new) (device O.seen out.old out.new) groups.now keys.now result }
 {
     let keys = match read_keys(alloc, keys) {
         Ok(keys) => keys,

@@ -1,9 +1,9 @@
 use Rattle.std.proofs.Common.{◌≤◌, ◌*◌, length, arith}
 use Rattle.cert_text.proofs.Bounded.{bounded}
-use Rattle.pageaudit.proofs.Within.{fault_behind}
+use Rattle.pageaudit.proofs.Within.{fault_after}
 use Rattle.pageaudit.proofs.input.feed_whole.Goals as goal
 
--- a text that reaches the limit has had a line at fault before: it has at most 65,542 lines of 129 bytes
+-- a text that reaches the limit has a bad line before it: a text without one has at most 65,542 lines of 129 bytes
 pub returns : goal.returns
 returns g c =
     let fed = c.loop-room.invariant.fed in
@@ -13,4 +13,4 @@ returns g c =
     absurd (omega (arith, most, all, none))
 
 pub returns-in-Err : goal.returns-in-Err
-returns-in-Err g c = fault_behind _ _ _ _ _ _ c.take_piece.new.reader c.loop-room.room c.loop-room.invariant.fed c.loop-room-test.true c.in-Err.fault c.in-Err.ensures
+returns-in-Err g c = fault_after g.S.Source.seen _ _ _ _ c.take_piece.new.reader c.loop-room.room c.loop-room.invariant.fed c.loop-room-test.true c.in-Err.fault c.in-Err.ensures

@@ -5,7 +5,7 @@ use Rattle.pageaudit.proofs.input.feed_whole.Given as goal
 -- what was read so far was taken by the reader
 abbrev pub invariant-loop-room : goal.invariant-loop-room
 invariant-loop-room g l = record {
-  fed : IsBeingFed (device (g.S.Source.left l.initial.source) (g.S.Source.left l.source) (g.S.Source.has_failed l.source)) l.reader l.room;
+  fed : IsBeingFed (device g.S.Source.seen l.initial.source l.source) l.reader l.room;
 }
 
 abbrev pub decreases-loop-room : goal.decreases-loop-room

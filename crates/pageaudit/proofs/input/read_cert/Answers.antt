@@ -2,7 +2,7 @@ use Rattle.std.proofs.Common.{Ok}
 use Rattle.cert_text.proofs.Outcomes.{is_found}
 use Rattle.pageaudit.proofs.input.read_cert.Goals as goal
 
--- what is read without a fault is spelled so
+-- a text that is read without a fault is the certificate's text
 pub returns-in-Ok-finish : goal.returns-in-Ok-finish
 returns-in-Ok-finish g c =
     let fed = c.in-Ok.ensures in
