@@ -1,4 +1,4 @@
-//! Tests of `page_ids` and `frame_records`.
+//! Tests of `list_words`, `page_ids` and `frame_records`.
 #![tactic(auto)]
 
 #[cfg(test)]
