@@ -4,14 +4,11 @@
 //! `pageaudit`, which are proved over any reader and writer. This crate only opens files, prints and picks the exit status.
 #![tactic(auto)]
 
-mod command;
-mod help;
-
 use audit_report::{FromRead, IntoWrite, RunFault, fault_text, write_whole};
 use checker::Policy;
 use clap::error::ErrorKind;
 use clap::{ArgMatches, Error};
-use command::{Request, WordsFault, asked_for, groups_of, matches, words};
+use command_words::{Request, WordsFault, asked_for, groups_of, matches, words};
 use frame_records::Groups;
 use pageaudit::{Status, run_audit, run_change, run_check, run_walk, status_of};
 use std::process::ExitCode;
@@ -81,7 +78,7 @@ fn dispatch<R: Files + Print + Eprint + AllocGlobal>(rt: &R, matches: &ArgMatche
     let run = match groups_of(matches).map(|groups| asked_for(matches, groups)) {
         Ok(Some(request)) => answer(rt, &request),
         Ok(None) => return 2,
-        Err(fault) => Err(fault),
+        Err(_) => Err(RunFault::Groups),
     };
     match &run {
         Err(fault) => refused(rt, fault),
@@ -104,7 +101,7 @@ fn answer<R: Files + Print + AllocGlobal>(rt: &R, request: &Request) -> Result<S
     }
 }
 
-// One line on standard error; false where there is no memory for it, and nothing is printed.
+// One line on standard error; false if there is no memory for it, and then nothing is printed.
 fn tell<R: Eprint + AllocGlobal>(rt: &R, fault: &RunFault) -> bool {
     let Ok(text) = fault_text(rt.alloc(), fault) else {
         return false;

@@ -1,16 +1,15 @@
 //! The program's words, read by clap: one level of subcommands, required options.
 
 use crate::help;
-use audit_report::RunFault;
 use cert_table::MOST_RANK;
 use checker::Policy;
 use clap::{Arg, ArgAction, ArgMatches, Command, Error, value_parser};
-use frame_records::{Groups, MOST_PENCE, Pence};
+use frame_records::{Groups, GroupsFault, MOST_PENCE, Pence};
 use std::alloc::{AllocError, Global};
 use std::rt::Env;
 use std::{env, io};
 
-// A word that stands by its place.
+// A word that is known by its place.
 fn place<'a>(alloc: Global, name: &'a str, help: &'a str) -> Arg<'a> {
     Arg::new(alloc, name)
         .required(true)
@@ -163,13 +162,13 @@ pub enum Request<'a> {
     },
 }
 
-/// The groups that the option lists, and none without it; I4 where it can't be read.
-pub fn groups_of(matches: &ArgMatches) -> Result<Groups, RunFault> {
+/// The groups that the option lists, and none without it; I4 if it is no list of groups.
+pub fn groups_of(matches: &ArgMatches) -> Result<Groups, GroupsFault> {
     let list = matches
         .subcommand()
         .and_then(|(_, words)| words.get_str("groups"));
     match list {
-        Some(list) => Groups::read(list).map_err(|_| RunFault::Groups),
+        Some(list) => Groups::read(list),
         None => Ok(Groups::none()),
     }
 }
@@ -188,7 +187,8 @@ fn policy_of(words: &ArgMatches, groups: Groups) -> Option<Policy> {
     }
 }
 
-/// What words ask for that clap has taken, by a caller of these groups: each word that a command requires is there, so that there always is a request.
+/// What the words ask for, by a caller of these groups. There always is a request: clap has taken each word that a command
+/// requires.
 pub fn asked_for<'a>(matches: &'a ArgMatches, groups: Groups) -> Option<Request<'a>> {
     match matches.subcommand()? {
         ("audit", words) => Some(Request::Audit {

@@ -1,0 +1,14 @@
+//! The words of the command line, read by clap to a request.
+//!
+//! The options, their ranges and the help texts are here. Nothing is opened and nothing is printed: what clap has to say comes
+//! back as its error, and the program prints it.
+//!
+//! - [`words`], [`WordsFault`]: the program's words, or why there are none.
+//! - [`matches`]: what clap makes of them, or its error: a usage text, or help.
+//! - [`groups_of`], [`asked_for`], [`Request`]: the caller's groups, and what is asked for.
+#![tactic(auto)]
+
+mod command;
+mod help;
+
+pub use command::{Request, WordsFault, asked_for, groups_of, matches, words};
