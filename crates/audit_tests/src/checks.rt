@@ -164,7 +164,7 @@ const TAKEN: [Taken; 12] = [
     },
 ];
 
-// Whether a check of two texts comes to this line over a table and over a list of the rows, and what each took.
+// Whether a check of two texts gives this line, over a table and over a list of the rows, and what each took.
 fn took(
     alloc: Global,
     base: &str,

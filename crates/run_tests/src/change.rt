@@ -1,6 +1,6 @@
 //! Changes of edition.
 
-use crate::told::{ALL, policy, sink, source, taken};
+use crate::told::{ALL, File, policy, sink, source, taken};
 use assertions::{same, same_in};
 use checker::Policy;
 use demo_texts::DEMO;
@@ -12,9 +12,6 @@ use std::test::Fail;
 // DEMO's certificate for as many groups as a list may have.
 const CERT_16: &str =
     "PBC2\nentry 123\nceiling 5\nkeyings 1\ngroups 1 2 3 4 5 6 7 8 9 10 11 12 13 14 15 16\nrows 3\n123a 0 s80\n1231a 1 s80\n1231b 1 s48\nend\n";
-
-// A text, and after how many bytes its reader fails.
-type File<'a> = (&'a str, usize);
 
 // The old base and its certificate, the new base and its certificate, of which one is replaced.
 fn files(at: usize, file: File<'_>) -> [File<'_>; 4] {

@@ -1,6 +1,6 @@
 //! The checks.
 
-use crate::told::{ALL, Answer, policy, sink, source, taken};
+use crate::told::{ALL, Answer, File, policy, sink, source, taken};
 use assertions::{same, same_in};
 use audit_report::RunFault;
 use cert_text::{LineCause, ReadFault};
@@ -9,9 +9,6 @@ use demo_texts::{CERT, DEMO};
 use pageaudit::{run_check, status_of};
 use std::alloc::Global;
 use std::test::Fail;
-
-// A text, and after how many bytes its reader fails.
-type File<'a> = (&'a str, usize);
 
 // What a check answers, how often it reads each file and flushes, how many bytes of the verdict are taken, and how many of the
 // certificate are left.

@@ -16,6 +16,9 @@ pub type Answer = Result<Status, RunFault>;
 // For a reader that gives all that it is asked for, and for one, and a writer, that doesn't fail.
 pub const ALL: usize = usize::MAX;
 
+// A text, and after how many bytes its reader fails.
+pub type File<'a> = (&'a str, usize);
+
 // A reader that gives at most so many bytes of a text a call, and fails after so many of all.
 pub fn source(text: &str, step: usize, kept: usize) -> FakeSource<'_>
     ensures { result.failed ≡ false }
