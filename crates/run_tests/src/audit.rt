@@ -6,7 +6,7 @@ use audit_report::RunFault;
 use checker::Policy;
 use demo_texts::{CERT, DEMO};
 use fake_devices::{FakeSink, FakeSource};
-use pageaudit::{Status, run_audit, status_of};
+use pageaudit::{Status, run_audit, run_audit_into, status_of};
 use std::alloc::Global;
 use std::test::Fail;
 
@@ -48,6 +48,22 @@ fn an_audit_that_fails_asks_for_no_more(rt: HostRuntime) -> Result<(), Fail> {
         let (answer, reads, flushes, taken) = audited(rt.alloc(), base, kept, ALL, &policy);
         let told = (status_of(&answer), reads, flushes, taken);
         same_in(kept, told, (3, calls, 0, 0))?;
+    }
+    Ok(())
+}
+
+// Under a ceiling of 0 the demo has faults, under one of 50 a certificate: only one of the two outputs is written and flushed.
+#[test]
+fn a_certificate_goes_into_its_own_file(rt: HostRuntime) -> Result<(), Fail> {
+    for (ceiling, keyings, flushes) in [(50, 3, (1, 0)), (0, 0, (0, 1))] {
+        let policy = policy(ceiling, keyings)?;
+        let mut base = FakeSource::of(DEMO.as_bytes(), 7);
+        let mut cert = FakeSink::of(rt.alloc(), 1_000);
+        let mut out = FakeSink::of(rt.alloc(), 1_000);
+        let answer = run_audit_into(rt.alloc(), &mut base, &mut cert, &mut out, &policy);
+        let wanted = if ceiling == 50 { Status::Clear } else { Status::Faulty };
+        same_in(keyings, answer, Ok(wanted))?;
+        same_in(keyings, (cert.flushes, out.flushes), flushes)?;
     }
     Ok(())
 }
