@@ -1,0 +1,5 @@
+//! Tests of `explain_words`.
+#![tactic(auto)]
+
+#[cfg(test)]
+mod words;

@@ -1,0 +1,66 @@
+use assertions::{same, same_in};
+use explain_words::{explanation, nearest, overview};
+use std::test::Fail;
+
+// The first line of the text of a word.
+fn title(word: &str) -> Option<&'static str> {
+    match explanation(word) {
+        Some(text) => text.lines().next(),
+        None => None,
+    }
+}
+
+#[test]
+fn a_word_has_the_text_of_its_section(_rt: HostRuntime) -> Result<(), Fail> {
+    let rows = [
+        ("K7", Some("K7 Price")),
+        ("k15", Some("K15 GroupsDiffer")),
+        ("UnknownKey", Some("X3 UnknownKey")),
+        ("unknownkey", Some("X3 UnknownKey")),
+        ("price", Some("PRICE")),
+        ("new", Some("NEW")),
+        ("read failed", Some("read failed")),
+        ("unreached", Some("UNREACHED")),
+        ("C3", Some("I1")),
+        ("s80", Some("any")),
+        ("C12?", Some("any")),
+        ("ANY+", Some("any")),
+        ("s80+?", None),
+        ("s", Some("any")),
+        ("x10", None),
+        ("K7 ", None),
+        ("", None),
+    ];
+    for (word, wanted) in rows {
+        same_in(word, title(word), wanted)?;
+    }
+    Ok(())
+}
+
+#[test]
+fn the_nearest_word_is_at_most_two_steps_away(rt: HostRuntime) -> Result<(), Fail> {
+    let rows = [
+        ("unknownky", Some("UnknownKey")),
+        ("unkownkye", Some("UnknownKey")),
+        ("unkownky", Some("UnknownKey")),
+        ("ukownky", None),
+        ("x", Some("X1")),
+        ("K16", Some("K1")),
+        ("NORETRUN", Some("NORETURN")),
+        ("zzzzz", None),
+        ("", None),
+    ];
+    for (word, wanted) in rows {
+        same_in(word, nearest(rt.alloc(), word)?, wanted)?;
+    }
+    Ok(())
+}
+
+#[test]
+fn the_overview_begins_with_the_words_of_each_section(_rt: HostRuntime) -> Result<(), Fail> {
+    same(
+        overview().lines().next(),
+        Some("PBC1, entry, ceiling, keyings, rows, end  a certificate"),
+    )?;
+    same(overview().lines().count(), 68)
+}

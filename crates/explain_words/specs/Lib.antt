@@ -1,0 +1,5 @@
+pub mod Cursors
+pub mod Listed
+pub mod Nearest
+pub mod Overview
+pub mod Words

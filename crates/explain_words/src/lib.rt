@@ -1,0 +1,23 @@
+//! What each printed word means: the texts of docs/CODES.md.
+//!
+//! ```
+//! explanation("K7") // Some("K7 Price\n\nThe row's frame costs more ..")
+//! explanation("unknownkey") // the text of X3, too
+//! explanation("s80") // that of all cursors
+//! nearest(alloc, "unknownky")? // Some("UnknownKey")
+//! ```
+//!
+//! - [`explanation`]: the text of a word, for the words of the list (`listed`) in any case of letters, and for cursors.
+//! - [`overview`]: all words, a line for each text.
+//! - [`nearest`]: the word of the list that was probably meant.
+//!
+//! `tests/explain-words` writes the words and their texts, and compares them with the page.
+#![tactic(auto)]
+
+mod cursor;
+mod mistyped;
+mod pages;
+mod word;
+
+pub use mistyped::nearest;
+pub use word::{explanation, overview};
