@@ -3,7 +3,7 @@
 ghost use Rattle.std.specs.Prelude.{◌≡◌, IfOk, option_map};
 ghost use Rattle.explain_words.specs.Listed.{listed};
 ghost use Rattle.explain_words.specs.Words.{texts_of};
-ghost use Rattle.explain_words.specs.Nearest.{distance, nearer, nearest, name_of, HasDistance};
+ghost use Rattle.explain_words.specs.Nearest.{distance, nearer, nearest, name_of, HasDistance, IsNearest};
 
 use crate::word::words;
 use std::alloc::{AllocError, Global};
@@ -74,8 +74,11 @@ fn nearest_among(
 ///
 /// It is at most two steps away, and fewer than it has letters. A step puts in, takes out or changes a letter, or swaps two
 /// that are side by side.
+#[tactic(auto, using(crate::proofs::Meaning::found_is_nearest))]
 pub fn nearest(alloc: Global, word: &str) -> Result<Option<&'static str>, AllocError>
-    ensures { IfOk result (λ found. option_map (λ name. name.now) found ≡ nearest word.now listed) }
+    ensures value { IfOk result (λ found. option_map (λ name. name.now) found ≡ nearest word.now listed) }
+    // No word of the list is nearer, and none before it is as near.
+    ensures meaning { IfOk result (λ found. IsNearest word.now listed (option_map (λ name. name.now) found)) }
 {
     nearest_among(alloc, words(), word)
 }

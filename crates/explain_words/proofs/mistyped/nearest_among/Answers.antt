@@ -1,4 +1,4 @@
-use Rattle.std.proofs.Common.{◌≡◌, ◌-◌, arith, rules}
+use Rattle.std.proofs.Common.{◌-◌, arith}
 use Rattle.explain_words.proofs.Places.{nearest_more}
 use Rattle.explain_words.proofs.mistyped.nearest_among.Goals as goal
 

@@ -1,4 +1,4 @@
-use Rattle.std.proofs.Common.{◌≡◌, ◌⊎◌, refl, inl}
+use Rattle.std.proofs.Common.{refl, inl}
 use Rattle.explain_words.proofs.Places.{is_among_same}
 use Rattle.explain_words.specs.Words.{texts_of}
 use Rattle.explain_words.specs.Listed.{listed}

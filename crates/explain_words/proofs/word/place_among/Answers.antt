@@ -1,4 +1,3 @@
-use Rattle.std.proofs.Common.{◌≡◌, arith, rules}
 use Rattle.explain_words.proofs.Places.{none_more, not_at}
 use Rattle.explain_words.specs.Words.{texts_of}
 use Rattle.explain_words.proofs.word.place_among.Goals as goal

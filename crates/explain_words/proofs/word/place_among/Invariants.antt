@@ -1,4 +1,4 @@
-use Rattle.std.proofs.Common.{◌≡◌, ℕ, ◌<◌, [], get_or}
+use Rattle.std.proofs.Common.{ℕ, ◌<◌, [], get_or}
 use Rattle.explain_words.specs.Words.{texts_of, IsSame}
 use Rattle.explain_words.proofs.word.place_among.Given as goal
 
