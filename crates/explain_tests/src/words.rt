@@ -13,6 +13,9 @@ fn title(word: &str) -> Option<&'static str> {
 #[test]
 fn a_word_has_the_text_of_its_section(_rt: HostRuntime) -> Result<(), Fail> {
     let rows = [
+        ("PBC1", Some("PBC1")),
+        ("end", Some("PBC1")),
+        ("groups", Some("PBC2")),
         ("K7", Some("K7 Price")),
         ("k15", Some("K15 GroupsDiffer")),
         ("UnknownKey", Some("X3 UnknownKey")),
@@ -21,6 +24,8 @@ fn a_word_has_the_text_of_its_section(_rt: HostRuntime) -> Result<(), Fail> {
         ("new", Some("NEW")),
         ("read failed", Some("read failed")),
         ("unreached", Some("UNREACHED")),
+        ("Tail", Some("Tail")),
+        ("badgroups", Some("I4 BadGroups")),
         ("C3", Some("I1")),
         ("s80", Some("any")),
         ("C12?", Some("any")),
@@ -33,6 +38,24 @@ fn a_word_has_the_text_of_its_section(_rt: HostRuntime) -> Result<(), Fail> {
     ];
     for (word, wanted) in rows {
         same_in(word, title(word), wanted)?;
+    }
+    Ok(())
+}
+
+#[test]
+fn a_word_of_two_sections_has_both_texts(_rt: HostRuntime) -> Result<(), Fail> {
+    let rows = [
+        ("price", "\nK7 Price\n"),
+        ("Touches", "\nK9 Touches\n"),
+        ("NEW", "\nnew base\n"),
+        ("range", "\nRange\n"),
+    ];
+    for (word, second) in rows {
+        same_in(
+            word,
+            explanation(word).is_some_and(|text| text.contains(second)),
+            true,
+        )?;
     }
     Ok(())
 }

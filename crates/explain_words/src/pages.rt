@@ -217,8 +217,8 @@ They print:
 "#,
         ..=14 => r#"FAULTS
 
-How many faults follow, a line for each. The keys after SCRIPT lead there from
-the entry page, also in a walk; '-' is no key.
+How many faults follow, a line for each. The keys after SCRIPT lead to the
+fault from the entry page, in a walk too; '-' is no key.
 
 The file base.toml:
 
@@ -313,8 +313,8 @@ Fix: lower the frame's 'price', or audit again.
 
 The body can write into a service row, 0 or 23, or double height, 8D (escape
 and M), into row 22, which row 23 shows too. BYTE is the first byte that can,
-START the smallest position before the frame from which it does. Here 1E moves
-to position 0, where A is written.
+START the smallest cursor position before the frame from which it does. Here 1E
+moves to position 0, where A is written.
 
 The file base.toml:
 
@@ -338,8 +338,8 @@ most 22 rows, the last without 8D. Or give the frame as 'rows'.
 
 K9 Touches
 
-The frame's body can write into a service row, or 8D into row 22, first by the
-byte with this number.
+The frame's body can write into a service row, or 8D into row 22. The number is
+the first byte that can.
 
 The file base.toml:
 
@@ -387,8 +387,8 @@ Fix: the body, as for TOUCHES, and audit again.
 
 The body can write into a service row, 0 or 23, or double height, 8D (escape
 and M), into row 22, which row 23 shows too. BYTE is the first byte that can,
-START the smallest position before the frame from which it does. Here 1E moves
-to position 0, where A is written.
+START the smallest cursor position before the frame from which it does. Here 1E
+moves to position 0, where A is written.
 
 The file base.toml:
 
@@ -502,8 +502,8 @@ They print, with status 1:
     FAULTS 1
     NORETURN 2a SCRIPT 2
 
-Fix: add a route to the entry page or to a frame that has one. For a long way
-raise --keyings.
+Fix: add a route to the entry page or to a frame that has one. If the way is
+only too long, raise --keyings.
 "#,
         ..=24 => r#"ENTRYMISSING
 
@@ -1129,8 +1129,8 @@ Fix: audit again.
 "#,
         ..=51 => r#"K9 Touches
 
-The frame's body can write into a service row, or 8D into row 22, first by the
-byte with this number.
+The frame's body can write into a service row, or 8D into row 22. The number is
+the first byte that can.
 
 The file base.toml:
 
@@ -1555,8 +1555,8 @@ caller is inside.
 "#,
         ..=67 => r#"E2 NoLongerCovered
 
-This frame, the smallest such, has a row in the old certificate and none in the
-new one, so a caller could lose it.
+This frame (the smallest is named) has a row in the old certificate and none in
+the new one, so a caller could lose it.
 
 The file base.toml:
 
@@ -1594,7 +1594,7 @@ They print, with status 1:
 
     REFUSED E2 NoLongerCovered 1b
 
-Fix: keep the frame and a way to it, perhaps with another text, and audit
+Fix: keep the frame, perhaps with another text, and a way to it, and audit
 again; or publish when no caller is inside.
 "#,
         ..=68 => r#"UNREACHED
@@ -1770,7 +1770,7 @@ above FF.
 Range
 
 A number is above its limit: 999,999,999 for 'entry', 9,999 for 'ceiling',
-65,535 for others. Or a group is 0, or the seventeenth.
+65,535 for all others. Or a group is 0, or the seventeenth.
 
 The file base.toml:
 
@@ -1887,7 +1887,7 @@ Fix: correct the id.
 "#,
         ..=90 => r#"B1 Duplicate
 
-Two frames have this id, the smallest such.
+Two frames have this id (the smallest is named).
 
 The file try:
 
@@ -1906,7 +1906,7 @@ Fix: remove a frame, or give it another id.
 "#,
         ..=92 => r#"B2 OutsideInside
 
-This page, the smallest such, is in 'outside' and has frames.
+This page (the smallest is named) is in 'outside' and has frames.
 
 The file base.toml:
 
@@ -1929,7 +1929,7 @@ Fix: remove the page from 'outside', or its frames.
 "#,
         ..=94 => r#"B3 NextAfterZ
 
-This frame 'z', the smallest such, has 'next = true'.
+This frame 'z' (the smallest is named) has 'next = true'.
 
 The file base.toml:
 
@@ -1967,7 +1967,7 @@ Fix: split the base.
 "#,
         ..=98 => r#"B5 BodyTooLong
 
-This frame's body, the smallest such, has more than 4,096 bytes.
+This frame's body (the smallest id is named) has more than 4,096 bytes.
 
 The file try:
 
@@ -2102,7 +2102,7 @@ Fix: take the file as 'audit' printed it.
         ..=102 => r#"Range
 
 A number is above its limit: 999,999,999 for 'entry', 9,999 for 'ceiling',
-65,535 for others. Or a group is 0, or the seventeenth.
+65,535 for all others. Or a group is 0, or the seventeenth.
 
 The file base.toml:
 
@@ -2424,7 +2424,7 @@ Fix: look at the path, and at who may read the file.
 "#,
         ..=114 => r#"write failed
 
-Standard output took only so many bytes. No answer was given, whatever was
+Standard output took only this many bytes. No answer was given, whatever was
 printed.
 
 The file base.toml:
