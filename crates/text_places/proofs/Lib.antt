@@ -1,0 +1,2 @@
+pub mod SkipTurns
+pub mod Follows

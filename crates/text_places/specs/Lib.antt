@@ -1,0 +1,4 @@
+pub mod Skips
+pub mod Lines
+pub mod Marks
+pub mod Places

@@ -1,0 +1,6 @@
+//! Where a base's text writes what a fault is about.
+#![tactic(auto)]
+
+mod lines;
+mod places;
+mod values;
