@@ -1,2 +1,3 @@
 pub mod SkipTurns
 pub mod Follows
+pub mod Firsts

@@ -2,3 +2,4 @@ pub mod Skips
 pub mod Lines
 pub mod Marks
 pub mod Places
+pub mod Walk

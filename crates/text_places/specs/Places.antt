@@ -41,3 +41,37 @@ key_place ms (Some frame) key = unwrap_or (first_at ms (Some frame) (key ∷ [])
 -- the place of a key below `routes`, or that of `routes`
 abbrev pub route_place : List Mark → ℕ → List ℕ → ℕ
 route_place ms frame sub = unwrap_or (first_at ms (Some frame) (routes_key ∷ sub ∷ [])) (key_place ms (Some frame) routes_key)
+
+abbrev pub at_if : Bool → ℕ → Option ℕ
+at_if b at = if b then Some at else None
+
+-- there is such a part, and it is this key
+abbrev pub is_key : Option (List ℕ) → List ℕ → Bool
+is_key None key = false
+is_key (Some part) key = bytes_eq key part
+
+-- a frame's places after an expression at this offset, whose path begins with these two parts
+pub record NotesFrame (old new : FramePlaces) (one two : Option (List ℕ)) (at : ℕ) : Type 0 where
+  pub header : new.header ≡ option_or old.header (Some at)
+  pub keys : (q : List ℕ) → get_by_text new.keys q ≡ option_or (get_by_text old.keys q) (at_if (is_key one q) at)
+  pub routes : (q : List ℕ) → get_by_text new.routes q ≡ option_or (get_by_text old.routes q) (at_if (is_key one routes_key && is_key two q) at)
+
+-- the offsets in the places of a frame, if it has some
+abbrev pub header_in : Option FramePlaces → Option ℕ
+header_in None = None
+header_in (Some f) = f.header
+
+abbrev pub key_in : Option FramePlaces → List ℕ → Option ℕ
+key_in None q = None
+key_in (Some f) q = get_by_text f.keys q
+
+abbrev pub route_in : Option FramePlaces → List ℕ → Option ℕ
+route_in None q = None
+route_in (Some f) q = get_by_text f.routes q
+
+-- the places have the first offset of each of these marks
+pub record Keeps (p : Places) (ms : List Mark) : Type 0 where
+  pub tops : (q : List ℕ) → get_by_text p.top q ≡ first_at ms None (q ∷ [])
+  pub headers : (k : ℕ) → header_in (slice_get p.frames.items k) ≡ first_at ms (Some k) []
+  pub keys : (k : ℕ) (q : List ℕ) → key_in (slice_get p.frames.items k) q ≡ first_at ms (Some k) (q ∷ [])
+  pub routes : (k : ℕ) (q : List ℕ) → route_in (slice_get p.frames.items k) q ≡ first_at ms (Some k) (routes_key ∷ q ∷ [])

@@ -1,0 +1,28 @@
+-- The walk over a text's expressions, as the code sees it.
+use Rattle.std.specs.Prelude.{◌≡◌, ℕ, ◌+◌, ◌<◌, Bool, true, false, if◌then◌else◌, List, length}
+use Rattle.toml_parser.specs.Reading.{path_view}
+use Rattle.text_places.specs.declared.lines.Sort.{Sort}
+use Rattle.text_places.specs.declared.lines.Sort.TheVariants.{Pair, Table, ArrayTable}
+use Rattle.text_places.specs.declared.places.Places.{Places}
+use Rattle.text_places.specs.declared.places.Section as code
+use Rattle.text_places.specs.Marks.{Section, is_frame}
+
+abbrev pub frame_count : Places → ℕ
+frame_count p = length p.frames.items
+
+abbrev pub section_view : ℕ → code.Section → Section
+section_view frames s = record { frames = frames; in_frame = s.in_frame; path = path_view s.path.items }
+
+-- a section in a frame has such a frame
+abbrev pub IsOpen : Section → Type 0
+IsOpen s = s.in_frame ≡ true → 0 < s.frames
+
+-- a header in double brackets, with these parts, that opens a frame
+abbrev pub opens : Sort → List (List ℕ) → Bool
+opens Pair parts = false
+opens Table parts = false
+opens ArrayTable parts = is_frame parts
+
+-- how many frames there are after a header
+abbrev pub frames_after : Sort → List (List ℕ) → ℕ → ℕ
+frames_after sort parts n = if opens sort parts then n + 1 else n
