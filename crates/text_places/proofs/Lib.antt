@@ -1,3 +1,4 @@
 pub mod SkipTurns
 pub mod Follows
 pub mod Firsts
+pub mod Walking

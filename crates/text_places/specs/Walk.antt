@@ -1,11 +1,15 @@
 -- The walk over a text's expressions, as the code sees it.
-use Rattle.std.specs.Prelude.{◌≡◌, ℕ, ◌+◌, ◌<◌, Bool, true, false, if◌then◌else◌, List, length}
+use Rattle.std.specs.Prelude.{◌≡◌, ℕ, ◌+◌, ◌<◌, Bool, true, false, if◌then◌else◌, List, length, None, Result, MatchResult, IsSome}
+use Rattle.toml_parser.specs.declared.error.ParseError.{ParseError}
+use Rattle.toml_parser.specs.declared.error.ParseError.TheVariants.{OutOfMemory}
 use Rattle.toml_parser.specs.Reading.{path_view}
 use Rattle.text_places.specs.declared.lines.Sort.{Sort}
 use Rattle.text_places.specs.declared.lines.Sort.TheVariants.{Pair, Table, ArrayTable}
 use Rattle.text_places.specs.declared.places.Places.{Places}
 use Rattle.text_places.specs.declared.places.Section as code
-use Rattle.text_places.specs.Marks.{Section, is_frame}
+use Rattle.text_places.specs.Marks.{Section, is_frame, marks}
+use Rattle.text_places.specs.Places.{Keeps}
+use Rattle.toml.specs.Parse.{parse_document}
 
 abbrev pub frame_count : Places → ℕ
 frame_count p = length p.frames.items
@@ -26,3 +30,8 @@ opens ArrayTable parts = is_frame parts
 -- how many frames there are after a header
 abbrev pub frames_after : Sort → List (List ℕ) → ℕ → ℕ
 frames_after sort parts n = if opens sort parts then n + 1 else n
+
+-- The places have the marks of the text, if it is TOML. Without memory they may not, and else the text isn't TOML.
+abbrev pub Walks : Result (Unit {0}) ParseError → List ℕ → Places → Type 0
+Walks r text places =
+    MatchResult r (λ _. IsSome (parse_document text) → Keeps places (marks text)) (λ e. (e ≡ OutOfMemory → ⊥) → parse_document text ≡ None)

@@ -19,6 +19,13 @@ pub enum Sort {
     ArrayTable,
 }
 
+// The key of an expression, and what it is.
+#[derive(Drop)]
+pub struct Line {
+    pub key: Key,
+    pub sort: Sort,
+}
+
 // The text without a byte order mark.
 #[tactic(auto, unfolding(toml::specs::Parse::skip_bom))]
 pub fn skip_bom(text: &str) -> &str
@@ -34,7 +41,7 @@ pub fn skip_bom(text: &str) -> &str
 
 // An expression that has its line to itself.
 #[tactic(auto, unfolding(crate::specs::Skips::whole_line))]
-pub fn line(alloc: Global, text: &str) -> Result<((Key, Sort), &str), ParseError>
+pub fn read_line(alloc: Global, text: &str) -> Result<(Line, &str), ParseError>
     ensures value { Reads line_view result (spec.whole_line text.now) }
     ensures shorter { Shortens text.now result }
 {
@@ -48,7 +55,7 @@ pub fn line(alloc: Global, text: &str) -> Result<((Key, Sort), &str), ParseError
 }
 
 #[tactic(auto, unfolding(crate::specs::Skips::opening))]
-fn opening(alloc: Global, text: &str) -> Result<((Key, Sort), &str), ParseError>
+fn opening(alloc: Global, text: &str) -> Result<(Line, &str), ParseError>
     ensures value { Reads line_view result (spec.opening text.now) }
     ensures shorter { Shortens text.now result }
 {
@@ -58,23 +65,25 @@ fn opening(alloc: Global, text: &str) -> Result<((Key, Sort), &str), ParseError>
         array_header(alloc, skip(text, 2))
     } else {
         let (key, rest) = header_key(alloc, skip(text, 1))?;
-        Ok(((key, Sort::Table), rest))
+        let sort = Sort::Table;
+        Ok((Line { key, sort }, rest))
     }
 }
 
 #[tactic(auto, unfolding(crate::specs::Skips::pair))]
-fn pair(alloc: Global, text: &str) -> Result<((Key, Sort), &str), ParseError>
+fn pair(alloc: Global, text: &str) -> Result<(Line, &str), ParseError>
     ensures value { Reads line_view result (spec.pair text.now) }
     ensures shorter { Shortens text.now result }
 {
     let (key, at_value) = key_equals(alloc, text)?;
     let rest = after_value(alloc, at_value, RECURSION_LIMIT)?;
-    Ok(((key, Sort::Pair), rest))
+    let sort = Sort::Pair;
+    Ok((Line { key, sort }, rest))
 }
 
 // A header in double brackets, after its opening brackets.
 #[tactic(auto, unfolding(crate::specs::Skips::array_header))]
-fn array_header(alloc: Global, text: &str) -> Result<((Key, Sort), &str), ParseError>
+fn array_header(alloc: Global, text: &str) -> Result<(Line, &str), ParseError>
     ensures value { Reads line_view result (spec.array_header text.now) }
     ensures shorter { Shortens text.now result }
 {
@@ -82,7 +91,8 @@ fn array_header(alloc: Global, text: &str) -> Result<((Key, Sort), &str), ParseE
     if first(rest) != b']' {
         return Err(ParseError::at(ErrorKind::UnclosedArrayTable, rest));
     }
-    Ok(((key, Sort::ArrayTable), skip(rest, 1)))
+    let sort = Sort::ArrayTable;
+    Ok((Line { key, sort }, skip(rest, 1)))
 }
 
 // The key of a header and its first closing bracket.

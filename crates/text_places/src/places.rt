@@ -7,12 +7,13 @@ ghost use Rattle.std.specs.BTreeMap.{get_by_text};
 ghost use Rattle.toml_parser.specs.Reading.{key_view, path_view};
 ghost use Rattle.toml.specs.Parse.{parse_document};
 ghost use Rattle.text_places.specs.Marks as spec;
-ghost use Rattle.text_places.specs.Places.{NotesFrame, Keeps, at_if, is_key, routes_key};
-ghost use Rattle.text_places.specs.Walk.{frame_count, section_view, opens, frames_after, IsOpen};
+ghost use Rattle.text_places.specs.Places.{NotesFrame, Keeps, at_if, is_key, routes_key, first_at, header_place, key_place, route_place};
+ghost use Rattle.text_places.specs.Walk.{frame_count, section_view, frames_after, IsOpen, Walks};
 
-use crate::lines::{Sort, line, skip_bom};
+use crate::lines::{Line, Sort, read_line, skip_bom};
 use std::alloc::{AllocError, Global};
 use std::collections::BTreeMap;
+use toml_parser::text::skip_blank;
 use toml_parser::{Key, ParseError};
 
 type Offsets = BTreeMap<String, usize>;
@@ -180,6 +181,129 @@ impl Places {
             note(alloc, &mut self.top, key, at)
         } else {
             Ok(())
+        }
+    }
+
+    // Notes one expression.
+    fn write(
+        &mut self,
+        alloc: Global,
+        section: &mut Section,
+        line: Line,
+        at: usize,
+    ) -> Result<(), AllocError>
+        requires { IsOpen (section_view (frame_count self.old) section.old) }
+        ensures keeps { OnOk result ((ms : List spec.Mark) → Keeps self.old ms
+            → Keeps self.new (ms ++ spec.mark_in (section_view (frame_count self.new) section.new) (spec.own_parts (key_view line.key) line.sort) at ∷ [])) }
+        ensures section { OnOk result (section_view (frame_count self.new) section.new
+            ≡ spec.section_after (section_view (frame_count self.old) section.old) (key_view line.key) line.sort) }
+    {
+        let Line { key, sort } = line;
+        let parts = parts_of(key)?;
+        if sort == Sort::Pair {
+            return self.note(alloc, section, &parts, at);
+        }
+        *section = self.enter(alloc, sort, parts)?;
+        self.note(alloc, section, &[], at)
+    }
+
+    // Notes each expression of a text.
+    fn walk(&mut self, alloc: Global, text: &str) -> Result<(), ParseError>
+        requires kept { Keeps self.old [] }
+        requires none { frame_count self.old ≡ 0 }
+        ensures { Walks result text.now self.new }
+    {
+        let mut section = Section {
+            in_frame: false,
+            path: Vec::new(alloc),
+        };
+        let mut rest = skip_bom(text);
+        'lines: loop {
+            let start = skip_blank(rest, true);
+            if start.is_empty() {
+                return Ok(());
+            }
+            let (found, after) = read_line(alloc, start)?;
+            self.write(alloc, &mut section, found, text.len() - start.len())?;
+            rest = after;
+        }
+    }
+
+    /// The places of a text that is TOML.
+    pub fn of(alloc: Global, text: &str) -> Result<Places, AllocError>
+        ensures { IfOk result (λ p. IsSome (parse_document text.now) → Keeps p (spec.marks text.now)) }
+    {
+        let mut places = Places::new(alloc);
+        match places.walk(alloc, text) {
+            Err(ParseError::OutOfMemory) => Err(AllocError),
+            _ => Ok(places),
+        }
+    }
+
+    // The first offset of a key of the top.
+    fn top(&self, key: &str) -> Option<usize>
+        ensures { (ms : List spec.Mark) → Keeps self.now ms → result ≡ first_at ms None (key.now ∷ []) }
+    {
+        self.top.get(key).copied()
+    }
+
+    // The header of a frame.
+    fn header(&self, frame: usize) -> Option<usize>
+        ensures { (ms : List spec.Mark) → Keeps self.now ms → result ≡ first_at ms (Some frame) [] }
+    {
+        match self.frames.get(frame) {
+            Some(places) => places.header,
+            None => None,
+        }
+    }
+
+    // The first offset of a key of a frame.
+    fn key(&self, frame: usize, key: &str) -> Option<usize>
+        ensures { (ms : List spec.Mark) → Keeps self.now ms → result ≡ first_at ms (Some frame) (key.now ∷ []) }
+    {
+        match self.frames.get(frame) {
+            Some(places) => places.keys.get(key).copied(),
+            None => None,
+        }
+    }
+
+    // The first offset of a key below `routes` of a frame.
+    fn route(&self, frame: usize, sub: &str) -> Option<usize>
+        ensures { (ms : List spec.Mark) → Keeps self.now ms → result ≡ first_at ms (Some frame) (routes_key ∷ sub.now ∷ []) }
+    {
+        match self.frames.get(frame) {
+            Some(places) => places.routes.get(sub).copied(),
+            None => None,
+        }
+    }
+
+    /// The offset of a frame's header `[[frame]]`; of a frame in an inline array, that of the key `frame`.
+    pub fn of_header(&self, frame: usize) -> usize
+        ensures { (ms : List spec.Mark) → Keeps self.now ms → result ≡ header_place ms frame }
+    {
+        self.header(frame).or(self.top("frame")).unwrap_or(0)
+    }
+
+    /// The offset of the first expression that writes a key of a frame, or of the top. Where none does, the frame's, or 0.
+    pub fn of_key(&self, frame: Option<usize>, key: &str) -> usize
+        ensures { (ms : List spec.Mark) → Keeps self.now ms → result ≡ key_place ms frame key.now }
+    {
+        match frame {
+            None => self.top(key).unwrap_or(0),
+            Some(frame) => match self.key(frame, key) {
+                Some(at) => at,
+                None => self.of_header(frame),
+            },
+        }
+    }
+
+    /// The offset of the first expression that writes a key below `routes` of a frame. Where none does, that of `routes`.
+    pub fn of_route(&self, frame: usize, sub: &str) -> usize
+        ensures { (ms : List spec.Mark) → Keeps self.now ms → result ≡ route_place ms frame sub.now }
+    {
+        match self.route(frame, sub) {
+            Some(at) => at,
+            None => self.of_key(Some(frame), "routes"),
         }
     }
 }
