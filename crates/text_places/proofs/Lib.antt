@@ -2,3 +2,4 @@ pub mod SkipTurns
 pub mod Follows
 pub mod Firsts
 pub mod Walking
+pub mod ScanTurns

@@ -3,3 +3,4 @@ pub mod Lines
 pub mod Marks
 pub mod Places
 pub mod Walk
+pub mod Scans

@@ -3,4 +3,5 @@
 
 mod lines;
 mod places;
+mod scan;
 mod values;
