@@ -67,7 +67,7 @@ keeps_top old new ms m h at_top same noted =
       tops = λ q. noted q ∙ rw (h.tops q, ← begins-one q m.path) (sym (inside ms m None (q ∷ []) here));
       headers = λ k. rw same (h.headers k ∙ sym (elsewhere ms m (Some k) [] (away k)));
       keys = λ k q. rw same (h.keys k q ∙ sym (elsewhere ms m (Some k) (q ∷ []) (away k)));
-      routes = λ k q. rw same (h.routes k q ∙ sym (elsewhere ms m (Some k) (routes_key ∷ q ∷ []) (away k)))
+      routes = λ k q. rw same (h.routes k q ∙ sym (elsewhere ms m (Some k) (routes_key ∷ q ∷ []) (away k)));
     }
 
 -- what is seen of the frame at each index, after a mark in the frame at n
@@ -78,14 +78,14 @@ frame_after : (see : Option FramePlaces → Option ℕ) (keys : List (List ℕ))
 frame_after see keys ms m n old new f g at_frame found room written noted h k =
     elim (eqb_tells k n) [
       | inl same ↦
-        let here : same_frame (Some k) m.frame ≡ true = rw at_frame same.0 in
-        let was : see (Some f) ≡ first_at ms (Some k) keys = ap see (sym found) ∙ rw (← same.1) (h k) in
-        let is : slice_get new k ≡ Some g = rw (written, same.1) (slice_get-set_same old n g room) in
-        rw (is, noted, was) (sym (inside ms m (Some k) keys here))
+          let here : same_frame (Some k) m.frame ≡ true = rw at_frame same.0 in
+          let was : see (Some f) ≡ first_at ms (Some k) keys = ap see (sym found) ∙ rw (← same.1) (h k) in
+          let is : slice_get new k ≡ Some g = rw (written, same.1) (slice_get-set_same old n g room) in
+          rw (is, noted, was) (sym (inside ms m (Some k) keys here))
       | inr other ↦
-        let away : same_frame (Some k) m.frame ≡ false = rw at_frame other.0 in
-        let is : slice_get new k ≡ slice_get old k = rw written (slice_get-set_other old n k g other.1) in
-        rw is (h k) ∙ sym (elsewhere ms m (Some k) keys away)
+          let away : same_frame (Some k) m.frame ≡ false = rw at_frame other.0 in
+          let is : slice_get new k ≡ slice_get old k = rw written (slice_get-set_other old n k g other.1) in
+          rw is (h k) ∙ sym (elsewhere ms m (Some k) keys away)
     ]
 
 pub keeps_frame : (old new : Places) (ms : List Mark) (m : Mark) (n : ℕ) (f g : FramePlaces) → Keeps old ms → m.frame ≡ Some n → slice_get old.frames.items n ≡ Some f
@@ -101,7 +101,7 @@ keeps_frame old new ms m n f g h at_frame found same_top written noted =
       keys = λ k q. frame_after (λ o. key_in o q) (q ∷ []) ms m n xs ys f g at_frame found room written
           (noted.keys q ∙ rw (begins-one q m.path) refl) (λ j. h.keys j q) k;
       routes = λ k q. frame_after (λ o. route_in o q) (routes_key ∷ q ∷ []) ms m n xs ys f g at_frame found room written
-          (noted.routes q ∙ rw (begins-two routes_key q m.path) refl) (λ j. h.routes j q) k
+          (noted.routes q ∙ rw (begins-two routes_key q m.path) refl) (λ j. h.routes j q) k;
     }
 
 -- a frame without places is as good as none
@@ -119,7 +119,7 @@ keeps_new old new ms f h same_top added no_header no_keys no_routes =
       tops = λ q. rw same_top (h.tops q);
       headers = λ k. rw added (same_seen header_in f no_header xs k ∙ h.headers k);
       keys = λ k q. rw added (same_seen (λ o. key_in o q) f (no_keys q) xs k ∙ h.keys k q);
-      routes = λ k q. rw added (same_seen (λ o. route_in o q) f (no_routes q) xs k ∙ h.routes k q)
+      routes = λ k q. rw added (same_seen (λ o. route_in o q) f (no_routes q) xs k ∙ h.routes k q);
     }
 
 pub keeps_none : (p : Places) → ((q : List ℕ) → get_by_text p.top q ≡ None) → p.frames.items ≡ [] → Keeps p []
@@ -127,7 +127,7 @@ keeps_none p no_keys no_frames = record {
   tops = no_keys;
   headers = λ k. rw no_frames refl;
   keys = λ k q. rw no_frames refl;
-  routes = λ k q. rw no_frames refl
+  routes = λ k q. rw no_frames refl;
 }
 
 -- what holds after a step that went well

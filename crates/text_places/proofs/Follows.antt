@@ -65,9 +65,9 @@ module _ (read : List ℕ → Read Data) (after : List ℕ → Option (List ℕ)
       elim (cases_Bool (first start == 93)) [
         | inl here ↦ rw here (ap (λ p. Some p.1) (same_Some (found, drop 1 start) (all, rest) (rw here at h)))
         | inr other ↦
-          let one = stepped (read start) (λ v. option_and_then (items read n (push_item found v.0)) (after_element 93 v.1)) (all, rest) (rw other at h) in
-          let two = stepped (after_element 93 one.value.1) (items read n (push_item found one.value.0)) (all, rest) one.then in
-          rw (other, same start one.value.1 one.value.0 one.is, two.is) (items_follow n (push_item found one.value.0) two.value rest all two.then)
+            let one = stepped (read start) (λ v. option_and_then (items read n (push_item found v.0)) (after_element 93 v.1)) (all, rest) (rw other at h) in
+            let two = stepped (after_element 93 one.value.1) (items read n (push_item found one.value.0)) (all, rest) one.then in
+            rw (other, same start one.value.1 one.value.0 one.is, two.is) (items_follow n (push_item found one.value.0) two.value rest all two.then)
       ]
 
   -- a pair that was read
@@ -77,8 +77,7 @@ module _ (read : List ℕ → Read Data) (after : List ℕ → Option (List ℕ)
       let key = stepped (key_equals text) (λ k. read_map (λ d. (k.0, d)) (read k.1)) (e, rest) h in
       let value = mapped (read key.value.1) (λ p. ((key.value.0, p.0), p.1)) (e, rest) key.then in
       let left : read key.value.1 ≡ Some (value.value.0, rest) =
-          value.is ∙ ap (λ (p : (Key × Data) × List ℕ). Some (value.value.0, p.1)) value.same in
-      (
+      value.is ∙ ap (λ (p : (Key × Data) × List ℕ). Some (value.value.0, p.1)) value.same in (
         key.value.1,
         key.is ∙ ap (λ (p : (Key × Data) × List ℕ). Some (p.0.0, key.value.1)) value.same,
         same key.value.1 rest value.value.0 left,
@@ -93,11 +92,11 @@ module _ (read : List ℕ → Read Data) (after : List ℕ → Option (List ℕ)
       elim (cases_Bool (first start == 125)) [
         | inl here ↦ rw here (ap (λ p. Some p.1) (same_Some _ (all, rest) (rw here at h)))
         | inr other ↦
-          let one = stepped (keyval read start) (λ e. option_and_then (λ more. option_and_then (members read n more) (after_element 125 e.1)) (put e.0.0 e.0.1 found)) (all, rest) (rw other at h) in
-          let two = stepped (put one.value.0.0 one.value.0.1 found) (λ more. option_and_then (members read n more) (after_element 125 one.value.1)) (all, rest) one.then in
-          let three = stepped (after_element 125 one.value.1) (members read n two.value) (all, rest) two.then in
-          let (at_value, key, passed) = pair_after start one.value.1 one.value.0 one.is in
-          rw (other, key, passed, three.is) (members_follow n two.value three.value rest all three.then)
+            let one = stepped (keyval read start) (λ e. option_and_then (λ more. option_and_then (members read n more) (after_element 125 e.1)) (put e.0.0 e.0.1 found)) (all, rest) (rw other at h) in
+            let two = stepped (put one.value.0.0 one.value.0.1 found) (λ more. option_and_then (members read n more) (after_element 125 one.value.1)) (all, rest) one.then in
+            let three = stepped (after_element 125 one.value.1) (members read n two.value) (all, rest) two.then in
+            let (at_value, key, passed) = pair_after start one.value.1 one.value.0 one.is in
+            rw (other, key, passed, three.is) (members_follow n two.value three.value rest all three.then)
       ]
 
 pub value_follows : (n : ℕ) → Follows (val n) (after_value n)
@@ -107,12 +106,12 @@ value_follows (suc n) text rest d h =
     let inside = drop 1 text in
     elim (cases_Bool (first text == 91)) [
       | inl list ↦
-        let (all, is) = read_under array (items (val n) (length text) no_items inside) d rest (rw list at h) in
-        rw list (items_follow (val n) (after_value n) (value_follows n) (length text) no_items inside rest all is)
+          let (all, is) = read_under array (items (val n) (length text) no_items inside) d rest (rw list at h) in
+          rw list (items_follow (val n) (after_value n) (value_follows n) (length text) no_items inside rest all is)
       | inr other ↦ elim (cases_Bool (first text == 123)) [
         | inl inline ↦
-          let (all, is) = read_under table (members (val n) (length text) no_nodes inside) d rest (rw (other, inline) at h) in
-          rw (other, inline) (members_follow (val n) (after_value n) (value_follows n) (length text) no_nodes inside rest all is)
+            let (all, is) = read_under table (members (val n) (length text) no_nodes inside) d rest (rw (other, inline) at h) in
+            rw (other, inline) (members_follow (val n) (after_value n) (value_follows n) (length text) no_nodes inside rest all is)
         | inr neither ↦ rw (other, neither) (atom_follows text rest d (rw (other, neither) at h))
       ]
     ]
@@ -158,7 +157,7 @@ line_follows text e rest h =
     let one = stepped (expression text) (λ p. cond (ends_line (skip_ws p.1)) (Some p) None) (e, rest) h in
     elim (cases_Bool (ends_line (skip_ws one.value.1))) [
       | inl here ↦
-        let same = same_Some one.value (e, rest) (rw here at one.then) in
-        rw (opening_follows text one.value.0 one.value.1 one.is, here) (ap (λ (p : Expression × List ℕ). Some (line_of p.0, p.1)) same)
+          let same = same_Some one.value (e, rest) (rw here at one.then) in
+          rw (opening_follows text one.value.0 one.value.1 one.is, here) (ap (λ (p : Expression × List ℕ). Some (line_of p.0, p.1)) same)
       | inr other ↦ absurd (none-some (e, rest) (rw other at one.then))
     ]

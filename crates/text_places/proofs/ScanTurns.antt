@@ -30,12 +30,12 @@ last_line-more [] x h = rw h refl
 last_line-more (y ∷ ys) x h =
     let last : list_any is_feed (x ∷ []) ≡ false = rw h refl in
     let same : list_any is_feed (ys ++ x ∷ []) ≡ list_any is_feed ys =
-        list_any-append is_feed ys (x ∷ []) ∙ ap (λ b. list_any is_feed ys || b) last ∙ or-false (list_any is_feed ys) in
+    list_any-append is_feed ys (x ∷ []) ∙ ap (λ b. list_any is_feed ys || b) last ∙ or-false (list_any is_feed ys) in
     rw same (
-      elim (cases_Bool (is_feed y || list_any is_feed ys)) [
-        | inl here ↦ rw here (last_line-more ys x h)
-        | inr other ↦ rw other refl
-      ])
+    elim (cases_Bool (is_feed y || list_any is_feed ys)) [
+      | inl here ↦ rw here (last_line-more ys x h)
+      | inr other ↦ rw other refl
+    ])
 
 length-last_line : (xs : List ℕ) → length (last_line xs) ≤ length xs
 length-last_line [] = omega arith

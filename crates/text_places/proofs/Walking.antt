@@ -90,7 +90,7 @@ walk_begins text p h within keeps = record {
   room = omega arith;
   reads = mapped_some _ (lines (suc (length text)) (no_nodes, []) (skip_bom text)) h;
   all = refl;
-  keeps = keeps
+  keeps = keeps;
 }
 
 -- after the last
@@ -127,7 +127,7 @@ walk_on text old new s t rest w r other wrote =
       room = omega (arith, w.room);
       reads = r.reads;
       all = w.all ∙ rw (more, ← wrote.section) (sym (append_assoc w.done (mark ∷ []) _));
-      keeps = wrote.keeps w.done w.keeps
+      keeps = wrote.keeps w.done w.keeps;
     }
 
 pub walk_goes_on : (text : List ℕ) (old new : Places) (s t : Section) (rest : List ℕ) (e : Line) (after : List ℕ) → Walked text old s rest → (length (skip_blank rest) == 0) ≡ false

@@ -148,7 +148,12 @@ impl Places {
     }
 
     // Enters the section of a header with these parts, and opens the next frame if it is a header `[[frame]]`.
-    fn enter(&mut self, alloc: Global, sort: Sort, parts: Vec<String>) -> Result<Section, AllocError>
+    fn enter(
+        &mut self,
+        alloc: Global,
+        sort: Sort,
+        parts: Vec<String>,
+    ) -> Result<Section, AllocError>
         ensures keeps { OnOk result ((ms : List spec.Mark) → Keeps self.old ms → Keeps self.new ms) }
         ensures frames { OnOk result (frame_count self.new ≡ frames_after sort (path_view parts.items) (frame_count self.old)) }
         ensures section { IfOk result (λ s. section_view (frame_count self.new) s ≡ spec.section_at (frame_count self.new) (path_view parts.items)) }

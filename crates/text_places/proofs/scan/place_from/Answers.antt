@@ -28,14 +28,14 @@ loop-i-preserved c =
     let room : i < length text = omega arith in
     elim c.if-byte-eq10.branch [
       | then-byte-eq10 w ↦
-        let feed : is_feed (get_or text i 0) ≡ true = grind (arith, common_steps) in
-        (w.line-is ∙ ap (λ n. n + 1) line ∙ sym (line_feed text i room feed), w.column-is ∙ sym (column_feed text i room feed))
+          let feed : is_feed (get_or text i 0) ≡ true = grind (arith, common_steps) in
+          (w.line-is ∙ ap (λ n. n + 1) line ∙ sym (line_feed text i room feed), w.column-is ∙ sym (column_feed text i room feed))
       | else-byte-eq10+then-starts_char w ↦
-        let other : is_feed (get_or text i 0) ≡ false = grind (arith, common_steps) in
-        let char : starts_char (get_or text i 0) ≡ true = grind (arith, common_steps) in
-        (w.line-is ∙ line ∙ sym (line_other text i room other), w.column-is ∙ ap (λ n. n + 1) column ∙ sym (column_char text i room other char))
+          let other : is_feed (get_or text i 0) ≡ false = grind (arith, common_steps) in
+          let char : starts_char (get_or text i 0) ≡ true = grind (arith, common_steps) in
+          (w.line-is ∙ line ∙ sym (line_other text i room other), w.column-is ∙ ap (λ n. n + 1) column ∙ sym (column_char text i room other char))
       | else-byte-eq10+else-starts_char w ↦
-        let other : is_feed (get_or text i 0) ≡ false = grind (arith, common_steps) in
-        let char : starts_char (get_or text i 0) ≡ false = grind (arith, common_steps) in
-        (w.line-is ∙ line ∙ sym (line_other text i room other), w.column-is ∙ column ∙ sym (column_same text i room other char))
+          let other : is_feed (get_or text i 0) ≡ false = grind (arith, common_steps) in
+          let char : starts_char (get_or text i 0) ≡ false = grind (arith, common_steps) in
+          (w.line-is ∙ line ∙ sym (line_other text i room other), w.column-is ∙ column ∙ sym (column_same text i room other char))
     ]

@@ -48,9 +48,12 @@ after_members-members-preserved c c' =
       search rules,
       omega (arith, l.invariant.1),
       λ n h.
-          let (m, room, loop) = l.invariant.2 n h in
-          (m - 1, omega arith, loop ∙ members_more (after_value c'.args.depth) c'.args.closing m l.rest.now _ _ (omega arith) other
-          (rw start_is at c'.in_ok-after.ensures.value) c'.in_ok-rest.ensures.value),
+          let (m, room, loop) = l.invariant.2 n h in (
+            m - 1,
+            omega arith,
+            loop ∙ members_more (after_value c'.args.depth) c'.args.closing m l.rest.now _ _ (omega arith) other
+                (rw start_is at c'.in_ok-after.ensures.value) c'.in_ok-rest.ensures.value,
+          ),
     )
 
 pub after_value-returns-then-byte-ne123-clause-value : goal.after_value-returns-then-byte-ne123-clause-value

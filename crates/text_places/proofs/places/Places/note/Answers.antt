@@ -16,7 +16,7 @@ returns-then-section-clause-keeps c =
     let at_frame : m.frame ≡ Some last = rw (c.if-section.true, len) refl in
     let some = c.requires c.if-section.true in
     let found : slice_get frames last ≡ Some c.index_mut.result.now =
-        slice_get_read frames c.len-last.result last c.index_mut.result.now len (omega arith) c.index_mut.ensures.value in
+    slice_get_read frames c.len-last.result last c.index_mut.result.now len (omega arith) c.index_mut.ensures.value in
     let one : option_copied c.part-one.result ≡ slice_get m.path 0 = rw c.deref.ensures.value at c.part-one.ensures in
     let two : option_copied c.part-two.result ≡ slice_get m.path 1 = rw c.deref-2.ensures.value at c.part-two.ensures in
     ok_then c.note.result _ _ c.note.ensures λ noted ms h.

@@ -49,8 +49,7 @@ lines-preserved c =
     let shorter = c.in_ok-found.ensures.shorter in
     let before = c.skip_blank-start.ensures.within in
     let less : length c.in_ok-found.after.now < length l.rest.now = omega arith in
-    let wrote = c.in_ok-write.ensures in
-    (
+    let wrote = c.in_ok-write.ensures in (
       search rules,
       omega (arith, l.invariant.1),
       subst (λ (s : Section). IsOpen s) (sym wrote.section) (section_open old (key_view c.in_ok-found.found.key) c.in_ok-found.found.sort l.invariant.2),

@@ -1,0 +1,7 @@
+//! Tests of `text_places`.
+#![tactic(auto)]
+
+#[cfg(test)]
+mod places;
+#[cfg(test)]
+mod scan;
