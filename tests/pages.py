@@ -1,8 +1,16 @@
-"""The pages whose blocks are run: what tests/codes-page, tests/guide-page and tests/examples-page share.
+"""The pages whose blocks are run: what tests/codes-page, guide-page, examples-page and cases-pages share.
 
-Of the fenced blocks, one with a name behind its language is a file of that name, one in `sh` without a name is commands, and one
-in `text` without a name is what the commands before it print. The line of words before the commands' output tells what isn't
-plain: `standard error` where it is printed there, `status N` where the status isn't 0. Commands without an output print nothing.
+The words after the opening fence say what a block is:
+
+    sh            commands
+    text          what the commands before it print on standard output
+    text stderr   what they print on standard error
+    sh setup      commands that prepare the next ones: they have to end with status 0, and what they print isn't compared
+    diff NAME     a unified diff, which is applied to the file of that name
+    .. NAME       any other language and a name: a file of that name
+
+The line of words before an output gives the status, `status N`, if it isn't 0. If it has `standard error`, a `text` block without
+`stderr` is standard error too. Commands without an output print nothing.
 """
 
 import os
@@ -25,6 +33,23 @@ class File:
 
 
 @dataclass
+class Setup:
+    """Commands that prepare the folder for the commands of the page."""
+
+    line: int
+    commands: str
+
+
+@dataclass
+class Diff:
+    """A change of a file that the page gave before."""
+
+    line: int
+    name: str
+    text: str
+
+
+@dataclass
 class Run:
     """Commands of a page with what they have to print."""
 
@@ -34,9 +59,9 @@ class Run:
     stderr: str = ""
     status: int = 0
 
-    def takes(self, text, said):
-        """Takes an output block and the line of words before it."""
-        if "standard error" in said:
+    def takes(self, text, name, said):
+        """Takes an output block, the name after its language, and the line of words before it."""
+        if name == "stderr" or "standard error" in said:
             self.stderr = text
         else:
             self.stdout = text
@@ -89,14 +114,28 @@ def sections(path):
 
 def add_block(section, number, opening, text, said):
     language, name = opening.groups()
-    if name:
+    if (language, name) == ("sh", "setup"):
+        section.blocks.append(Setup(number, text))
+    elif language == "diff" and name:
+        section.blocks.append(Diff(number, name, text))
+    elif language == "text" and name in (None, "stderr") and section.runs:
+        section.runs[-1].takes(text, name, said)
+    elif name:
         section.blocks.append(File(name, text))
     elif language == "sh":
         section.blocks.append(Run(number, text))
-    elif language == "text" and section.runs:
-        section.runs[-1].takes(text, said)
     else:
         raise ValueError(f"line {number}: a block that is neither a file nor commands nor an output")
+
+
+def examples(page):
+    """Each section with its own blocks after the files of the sections that it is in."""
+    outer = []
+    for section in page:
+        outer = [files for files in outer if files[0] < section.rank]
+        shared = [file for _, files in outer for file in files]
+        yield section, shared + section.blocks
+        outer.append((section.rank, [block for block in section.blocks if isinstance(block, File)]))
 
 
 def surroundings(folder):
@@ -110,6 +149,18 @@ def surroundings(folder):
     own |= {"GIT_CONFIG_GLOBAL": os.devnull, "GIT_CONFIG_SYSTEM": os.devnull}
     kept = {key: value for key, value in os.environ.items() if not key.startswith("GIT_")}
     return kept | own
+
+
+def unready(block, folder, env):
+    """What hinders a diff or the commands of a setup, or None."""
+    if isinstance(block, Setup):
+        words, given = ["bash", "-e", "-o", "pipefail", "-c", block.commands], None
+    else:
+        words, given = ["patch", "--silent", "--force", "--fuzz=0", block.name], block.text
+    done = subprocess.run(
+        words, cwd=folder, env=env, input=given, capture_output=True, text=True, errors="replace", timeout=60, check=False
+    )
+    return None if done.returncode == 0 else f"line {block.line}: status {done.returncode}, {done.stdout}{done.stderr}"
 
 
 def wrong_in(run, folder, env):
@@ -132,8 +183,10 @@ def tried(blocks, given=()):
         for block in blocks:
             if isinstance(block, File):
                 (folder / block.name).write_text(block.text, "utf-8")
-            else:
+            elif isinstance(block, Run):
                 yield wrong_in(block, folder, env)
+            elif hindrance := unready(block, folder, env):
+                yield hindrance
 
 
 def count(outcomes):
