@@ -170,9 +170,14 @@ def expressions(text):
     return list(Reader(text).expressions())
 
 
+def old_text(found):
+    """A text of TOML 1.0 that stands for the same tree, if it is TOML."""
+    return "\n".join(expression.text for expression in found)
+
+
 def tree_of(found):
     """The tree of the expressions; ValueError if they aren't TOML together."""
-    return tomllib.loads("\n".join(expression.text for expression in found))
+    return tomllib.loads(old_text(found))
 
 
 class Lines:

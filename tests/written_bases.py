@@ -1,0 +1,758 @@
+"""Random bases in many forms of TOML, with faults whose places and words are known from the writing.
+
+Nothing of tests/second_reading is used here: a place is where the writer was when it wrote the expression.
+"""
+
+import datetime
+import re
+
+PAGES = [0, 3, 555, 1_231, 70_000, 8_000_000, 999_999_999, *range(12, 70)]
+COMMENTS = ["", "#", "# [[frame]]", '# id = "1a"', "# '''", '# """ ] }', "# \u20ac \u00e9\t\U0001f600"]
+ODD = [
+    ("x1", "a string"),
+    (7, "a whole number"),
+    (1.5, "a decimal number"),
+    (True, "true or false"),
+    (datetime.date(1979, 5, 27), "a date or time"),
+    (datetime.time(7, 32), "a date or time"),
+    ([1, "]", [2]], "a list"),
+    ({"a": [1], "}": '"'}, "a table"),
+]
+UNQUOTE, QUOTE = "; leave out the quotation marks", "; put it in quotation marks"
+# Texts of the file and how they are shown.
+TEXTS = [
+    *(("", '""'), ("12", '"12"'), ("012a", '"012a"'), ("12A", '"12A"'), ("12aa", '"12aa"'), (" 12a", '" 12a"')),
+    *(('1"a', r'"1\"a"'), ("1\\a", r'"1\\a"'), ("\x07\t", r'"\u0007\u0009"'), ("\u00e9#", '"\u00e9#"')),
+    *(("\x7f\x80\x9f\xa0", '"\\u007F\\u0080\\u009F\xa0"'), ("1000000000a", '"1000000000a"')),
+    *(("9" * 40, f'"{"9" * 40}"'), ("9" * 41, f'"{"9" * 40}..."'), ('"' * 45, '"' + '\\"' * 40 + '..."')),
+]
+# Codes that no row may have, how they are shown, and what is advised.
+CODES = [
+    ("\xa3", "\xa3 (U+00A3)", "; write # for a pound sign"),
+    ("\t", "U+0009", "; write spaces"),
+    ("\xa0", "U+00A0", "; write a space"),
+    ("\x07", "U+0007", ""),
+    ("\x00", "U+0000", ""),
+    ("\xad", "\xad (U+00AD)", ""),
+    ("\xff", "\xff (U+00FF)", ""),
+]
+# Those that no body may have either.
+FAR_CODES = [
+    ("\u2018", "\u2018 (U+2018)", "; write '"),
+    ("\u2019", "\u2019 (U+2019)", "; write '"),
+    ("\u201c", "\u201c (U+201C)", '; write \\"'),
+    ("\u201d", "\u201d (U+201D)", '; write \\"'),
+    ("\u2013", "\u2013 (U+2013)", "; write -"),
+    ("\u2014", "\u2014 (U+2014)", "; write -"),
+    ("\u0100", "\u0100 (U+0100)", ""),
+    ("\U0001f600", "\U0001f600 (U+1F600)", ""),
+]
+# Unknown keys with the key that is suggested.
+UNKNOWN_OF_A_BASE = [
+    *(("outsides", "outside"), ("entri", "entry"), ("frames", "frame"), ("fame", "frame"), ("nerty", "entry")),
+    *(("zeta", None), ("id", None)),
+]
+UNKNOWN_OF_A_FRAME = [
+    *(("pirce", "price"), ("route", "routes"), ("di", "id"), ("idd", "id"), ("row", "rows"), ("led", "lead")),
+    *(("groupes", "group"), ("bday", "body"), ("rown", "rows"), ("ldea", "lead"), ("os", "rows"), ("nxet", "next")),
+    *(("bodies", None), ("PRICE", None), ("x", None), ("entry", None)),
+]
+ODD_KEYS = [(text, shown) for text, shown in TEXTS if not text.isdigit() or len(text) > 1]
+NAMED = {"\x08": "b", "\t": "t", "\n": "n", "\x0c": "f", "\r": "r", "\x1b": "e", '"': '"', "\\": "\\"}
+# Bodies that write into a service row from every start, with the offset of the first byte that does.
+TOUCHING = [
+    ("\x1eX", 1),
+    ("\x1e\n\x0bAB", 3),
+    ("\x1e\x0b\x1bA", 3),
+    ("\x1e\nA\x0c", 3),
+    ("\x1e\n" + "A" * 881, 882),
+    ("\x1e\n" + "A\r" * 700 + "\x0bA", 1_403),
+    ("\x1e" + "\n" * 22 + "ABC\x8d", 26),
+    ("\x1e" + "\n" * 22 + "AB\x1bM", 26),
+]
+# The fields in the order of judging: unknown keys, then these; `text` is the body or the rows.
+JUDGED = ["", "id", "price", "group", "next", "routes", "lead", "text"]
+
+
+class Pen:
+    """Spells keys and values in one of the ways of TOML, by the one source of chance."""
+
+    def __init__(self, random):
+        self.random, self.pick = random, random.choice
+        self.eol = self.pick(["\n", "\n", "\r\n"])
+        self.is_odd = self.pick([False, True, True])
+
+    def chance(self, share):
+        return self.random.random() < share
+
+    def number(self, value):
+        forms = [str(value)]
+        if self.is_odd and value >= 0:
+            digits = str(value)
+            forms += [f"+{value}", f"0x{value:X}", f"0x{value:x}", f"0o{value:o}", f"0b{value:b}"]
+            forms += ["_".join(digits), f"{value:_}"]
+        return self.pick(forms)
+
+    def escape(self, c):
+        forms = [f"\\U{ord(c):08x}"]
+        if ord(c) < 0x10000:
+            forms += [f"\\u{ord(c):04X}"] * 2
+        if ord(c) < 0x100:
+            forms.append(f"\\x{ord(c):02x}")
+        return self.pick([*forms, *[f"\\{NAMED[c]}"] * 4]) if c in NAMED else self.pick(forms)
+
+    def escaped(self, text, in_lines=False):
+        """The inside of a basic string, of one line or of several."""
+        spelled = ""
+        for at, c in enumerate(text):
+            if in_lines and c not in " \t" and self.chance(0.05):
+                spelled += "\\" + self.pick(["", "  "]) + self.eol + self.pick(["", "   ", self.eol + "\t"])
+            is_plain = (c >= " " or c == "\t") and c not in '"\\\x7f' and not (self.is_odd and self.chance(0.05))
+            is_quote = in_lines and c == '"' and text[at - 1 : at] != '"' and 0 < at < len(text) - 1
+            spelled += c if is_plain or is_quote else self.escape(c)
+        return spelled
+
+    def string(self, text):
+        forms = [lambda: f'"{self.escaped(text)}"']
+        if self.is_odd:
+            first = self.pick(["", self.eol])
+            if not text.startswith("\n"):
+                forms.append(lambda: f'"""{first}{self.escaped(text, in_lines=True)}"""')
+            if re.fullmatch(r"[^'\x00-\x08\n-\x1f\x7f]*", text):
+                forms += [lambda: f"'{text}'", lambda: f"'''{first}{text}'''"]
+        return self.pick(forms)()
+
+    def key(self, text):
+        is_bare = re.fullmatch("[A-Za-z0-9_-]+", text)
+        forms = [text] * 4 if is_bare else []
+        if self.is_odd or not is_bare:
+            forms.append(f'"{self.escaped(text)}"')
+            if re.fullmatch(r"[^'\x00-\x08\n-\x1f\x7f]*", text):
+                forms.append(f"'{text}'")
+        return self.pick(forms)
+
+    def space(self):
+        return self.pick(["", " ", "  ", "\t"]) if self.is_odd else " "
+
+    def blank(self):
+        """What may stand between the elements of an array, and in TOML 1.1 between those of an inline table."""
+        forms = ["", " "]
+        if self.is_odd:
+            forms += ["\t", self.eol, f"{self.eol}    ", f" {self.pick(COMMENTS)}{self.eol}"]
+        return self.pick(forms)
+
+    def joined(self, opening, parts, closing):
+        if not parts:
+            return opening + self.blank() + closing
+        last = self.pick(["", "", ","]) if self.is_odd else ""
+        inside = ",".join(self.blank() + part + self.blank() for part in parts)
+        return opening + inside + last + self.blank() + closing
+
+    def value(self, value):
+        if isinstance(value, bool):
+            return str(value).lower()
+        if isinstance(value, int):
+            return self.number(value)
+        if isinstance(value, str):
+            return self.string(value)
+        if isinstance(value, list):
+            return self.joined("[", [self.value(part) for part in value], "]")
+        if isinstance(value, dict):
+            return self.joined("{", [self.pair(key, part) for key, part in value.items()], "}")
+        return str(value)
+
+    def pair(self, key, value):
+        return f"{self.key(key)}{self.space()}={self.space()}{self.value(value)}"
+
+
+class Sheet:
+    """The text as it is written, and the place at which each thing was begun first."""
+
+    def __init__(self, pen):
+        self.pen = pen
+        self.text = "\ufeff" if pen.is_odd and pen.chance(0.2) else ""
+        self.places = {}
+
+    def place(self):
+        """Line and column of the next character."""
+        *before, last = self.text.split("\n")
+        return len(before) + 1, len(last) + 1
+
+    def expression(self, names, text):
+        pen = self.pen
+        for _ in range(pen.pick([0, 0, 0, 1, 2])):
+            self.text += pen.space() * pen.is_odd + pen.pick(COMMENTS) + pen.eol
+        self.text += pen.pick(["", "", "  ", "\t"]) if pen.is_odd else ""
+        for name in names:
+            self.places.setdefault(name, self.place())
+        self.text += text + pen.pick(["", "", " ", f" {pen.pick(COMMENTS)}"]) + pen.eol
+
+    def header(self, names, keys, is_element):
+        dot = f"{self.pen.space()}.{self.pen.space()}" if self.pen.is_odd else "."
+        pad = self.pen.space() if self.pen.is_odd else ""
+        inside = dot.join(map(self.pen.key, keys))
+        self.expression(names, f"[[{pad}{inside}{pad}]]" if is_element else f"[{pad}{inside}{pad}]")
+
+
+class Frame:
+    """A frame's fields, and the words of the faults of each field with the keys to their place."""
+
+    def __init__(self, page, letter, text):
+        self.page, self.letter = page, letter
+        self.fields = {"id": f"{page}{letter}", **text}
+        self.faults = {}
+        self.ways = {}
+        self.script = self.rank = self.start = None
+
+    @property
+    def id(self):
+        return f"{self.page}{self.letter}"
+
+    def fault(self, field, words, *keys):
+        self.faults.setdefault(field, []).append((keys, words))
+
+    def in_order(self):
+        """The faults in the order of judging, with the frame's name in the words."""
+        has_id = self.fields.get("id") == self.id
+        for field in JUDGED:
+            for keys, words in self.faults.get(field, []):
+                yield keys, words.replace("{F}", f"frame {self.id}" if has_id else "this frame")
+
+
+class Written:
+    """A base that is written: its text, and what `lint` has to print of it."""
+
+    def __init__(self, random):
+        self.pen = Pen(random)
+        self.random, self.pick, self.chance = random, random.choice, self.pen.chance
+        self.pages = random.sample(PAGES, len(PAGES))
+        self.top, self.top_faults, self.whole_faults, self.warnings = {}, [], [], []
+        self.frames = []
+        self.policy, self.groups = (9_999, 65_535), None
+
+    def page(self):
+        return self.pages.pop()
+
+    def plain_text(self):
+        """A body or rows that writes into no service row."""
+        if self.chance(0.5):
+            rows = ["", "ONE", "TWO # 2", "'\"'", "[[frame]]"]
+            return {"rows": [self.pick(rows) for _ in range(self.pick([0, 1, 2, 21]))]}
+        return {"body": "\x1e\n" + self.pick(["", "TEXT", "= ] }", "\x1bAx", "\u00e9\u00a3", "'\"\\"])}
+
+    # ------------------------------------------------------------------------------------------------------ writing
+
+    def write(self):
+        self.sheet = sheet = Sheet(self.pen)
+        tops = list(self.top)
+        self.random.shuffle(tops)
+        self.is_inline = self.pen.is_odd and self.chance(0.25) and all(frame.fields for frame in self.frames)
+        later = [key for key in tops if isinstance(self.top[key], dict) and self.top[key] and self.chance(0.5)]
+        for key in tops:
+            if key not in later:
+                sheet.expression([("top", key)], self.pen.pair(key, self.top[key]))
+        if self.is_inline and self.frames:
+            sheet.expression([("top", "frame")], self.pen.pair("frame", [frame.fields for frame in self.frames]))
+        for key in later:
+            self.write_section([("top", key)], [key], self.top[key])
+        if not self.is_inline:
+            for index, frame in enumerate(self.frames):
+                self.write_frame(index, frame)
+        if self.pen.is_odd and self.chance(0.2):
+            sheet.text = sheet.text.removesuffix(self.pen.eol)
+        return sheet.text.encode()
+
+    def write_section(self, names, keys, table):
+        """A table by a header of its own."""
+        self.sheet.header(names, keys, False)
+        for key, value in table.items():
+            self.sheet.expression([(*names[-1], key)], self.pen.pair(key, value))
+
+    def write_frame(self, index, frame):
+        sheet = self.sheet
+        sheet.header([(index,)], ["frame"], True)
+        keys = list(frame.fields)
+        self.random.shuffle(keys)
+        later = []
+        for key in keys:
+            value = frame.fields[key]
+            form = self.pick(["pair", "pair", "dots", "section"]) if isinstance(value, dict) and value else "pair"
+            if form == "pair":
+                sheet.expression([(index, key)], self.pen.pair(key, value))
+            elif form == "section":
+                later.append(key)
+            else:
+                for inner, part in value.items():
+                    dotted = f"{self.pen.key(key)}.{self.pen.pair(inner, part)}"
+                    sheet.expression([(index, key), (index, key, inner)], dotted)
+        for key in later:
+            self.write_section([(index, key)], ["frame", key], frame.fields[key])
+
+    def place(self, index, *keys):
+        """The place of a key of a frame, or of the frame."""
+        places = self.sheet.places
+        if self.is_inline:
+            return places["top", "frame"]
+        return next(places[index, *keys[:length]] for length in (2, 1, 0) if (index, *keys[:length]) in places)
+
+    def index(self, frame):
+        return next(index for index, other in enumerate(self.frames) if other is frame)
+
+    def findings(self):
+        """Each finding with its place, in the order of judging; after `write`."""
+        for key, words in self.top_faults:
+            yield (1, 1) if key is None else self.sheet.places["top", key], "error", words
+        for index, frame in enumerate(self.frames):
+            for keys, words in frame.in_order():
+                yield self.place(index, *keys), "error", words
+        for frame, keys, words in self.whole_faults:
+            place = self.sheet.places["top", keys[0]] if frame is None else self.place(self.index(frame), *keys)
+            yield place, "error", words() if callable(words) else words
+        for frame, words in self.warnings:
+            yield self.place(self.index(frame)), "warning", words
+
+    def answer(self, path):
+        """Standard output, standard error and status of `lint`."""
+        found = sorted(self.findings(), key=lambda finding: finding[0])
+        lines = [f"{path}:{line}:{column}: {level}: {words}\n" for (line, column), level, words in found]
+        counts = []
+        for word in "error", "warning":
+            number = sum(level == word for _, level, _ in found)
+            counts += [f"{number} {word}{'s' * (number > 1)}"] if number else []
+        return "".join(lines), ", ".join(counts) + "\n" if counts else "", 1 if "error" in "".join(counts) else 0
+
+
+def near(key):
+    return f'; did you mean "{key}"?' if key else ""
+
+
+class FaultyText(Written):
+    """A base with faults of its text: each has its words from the rules, in the order of judging."""
+
+    def __init__(self, random):
+        super().__init__(random)
+        for _ in range(self.pick([0, 1, 2, 3, 5, 8])):
+            page = self.page()
+            for letter in self.pick(["a", "a", "ab", "abc", "xyz"]):
+                self.frames.append(self.right_frame(page, letter))
+        self.random.shuffle(self.frames)
+        self.spoil_top()
+        for frame in self.frames:
+            for _ in range(self.pick([0, 0, 1, 1, 2])):
+                self.spoil(frame)
+        self.spoil_whole([frame for frame in self.frames if not frame.faults])
+        if not (self.top_faults or self.whole_faults or any(frame.faults for frame in self.frames)):
+            self.leave_entry_out()
+
+    def leave_entry_out(self):
+        del self.top["entry"]
+        self.top_faults.append((None, 'X4 Absent: the base has no "entry"'))
+
+    def right_frame(self, page, letter):
+        frame = Frame(page, letter, self.plain_text())
+        fields = frame.fields
+        if self.chance(0.4):
+            fields["price"] = self.pick([0, 1, 50, 9_999])
+        if self.chance(0.3):
+            fields["group"] = self.pick([1, 7, 65_535])
+        if self.chance(0.3):
+            fields["next"] = self.chance(0.5) and letter != "z"
+        if self.chance(0.7):
+            digits = self.random.sample("0123456789", self.pick([0, 1, 2, 4]))
+            fields["routes"] = {digit: self.pick(PAGES) for digit in digits}
+        if self.chance(0.3):
+            fields["lead"] = self.pick(["clear", "keep"])
+        return frame
+
+    def wrong_kind(self, name, needed, fitting, unquote=UNQUOTE):
+        """A value of another kind, and the words of X5."""
+        value, kind = self.pick([(value, kind) for value, kind in ODD if kind not in fitting])
+        advice = ""
+        if kind == "a string" and needed in ("a whole number", "true or false"):
+            advice = unquote
+        elif needed == "a string":
+            advice = QUOTE
+        return value, f"X5 WrongKind: {name} is {kind}, {needed} is needed{advice}"
+
+    def wrong_number(self, name, least, most, unquote=UNQUOTE):
+        if self.chance(0.4):
+            value, words = self.wrong_kind(name, "a whole number", ["a whole number"], unquote)
+            return value, words
+        low, high = least - self.pick([1, 5, 10**9]), most + self.pick([1, 5, 10**9])
+        if self.chance(0.5):
+            return low, f"X6 Range: {name} is {low}, at least {least} is needed"
+        return high, f"X6 Range: {name} is {high}, at most {most} is allowed"
+
+    def unknown_keys(self, known, words, count):
+        """Unknown keys in the order of their bytes: each with its value and the words of X3."""
+        keys = {}
+        for _ in range(count):
+            if self.chance(0.3):
+                key, shown = self.pick(ODD_KEYS)
+                keys[key] = f"X3 UnknownKey: {shown} is not a key of {words}"
+            else:
+                key, meant = self.pick(known)
+                keys[key] = f'X3 UnknownKey: "{key}" is not a key of {words}{near(meant)}'
+        return [(key, self.pick(ODD)[0], keys[key]) for key in sorted(keys, key=str.encode)]
+
+    def spoil_top(self):
+        for key, value, words in self.unknown_keys(UNKNOWN_OF_A_BASE, "a base", self.pick([0, 0, 0, 1, 2])):
+            self.top[key] = value
+            self.top_faults.append((key, words))
+        self.top["entry"] = self.pick(PAGES)
+        share = self.random.random()
+        if share < 0.1:
+            self.leave_entry_out()
+        elif share < 0.3:
+            self.top["entry"], words = self.wrong_number('"entry"', 0, 999_999_999)
+            self.top_faults.append(("entry", words))
+        self.spoil_outside()
+        if not self.frames:
+            self.spoil_frames()
+
+    def spoil_frames(self):
+        """In the place of frames something else, or a list of what is no frame."""
+        value, kind = self.pick([*ODD, (None, "a list")])
+        if kind != "a list":
+            advice = "; write [[frame]] with two brackets" if kind == "a table" else ""
+            self.top_faults.append(("frame", f'X5 WrongKind: "frame" is {kind}, an array of tables is needed{advice}'))
+            self.top["frame"] = value
+            return
+        items = self.random.sample([(value, kind) for value, kind in ODD if kind != "a table"], self.pick([0, 1, 2]))
+        self.top["frame"] = [value for value, _ in items]
+        for _, kind in items:
+            self.top_faults.append(("frame", f'X5 WrongKind: an item of "frame" is {kind}, a table is needed'))
+
+    def spoil_outside(self):
+        share = self.random.random()
+        if share < 0.1:
+            self.top["outside"], words = self.wrong_kind('"outside"', "a list of whole numbers", ["a list"])
+            self.top_faults.append(("outside", words))
+            return
+        outside = [self.page() for _ in range(self.pick([0, 1, 3]))]
+        if share < 0.4:
+            for _ in range(self.pick([0, 1, 3])):
+                outside.append(1_000)
+                if self.chance(0.6):
+                    name = f'item {len(outside)} of "outside"'
+                    outside[-1], words = self.wrong_number(name, 0, 999_999_999)
+                    self.top_faults.append(("outside", words))
+        if outside or self.chance(0.5):
+            self.top["outside"] = outside
+
+    def spoil(self, frame):
+        """One field of the frame is at fault, if it wasn't before."""
+        field = self.pick(JUDGED + ["text", "text", "routes"])
+        if field not in frame.faults:
+            getattr(self, f"spoil_{field or 'keys'}")(frame)
+
+    def spoil_keys(self, frame):
+        for key, value, words in self.unknown_keys(UNKNOWN_OF_A_FRAME, "a frame", self.pick([1, 1, 2, 3])):
+            frame.fields[key] = value
+            frame.fault("", words, key)
+
+    def spoil_id(self, frame):
+        share = self.random.random()
+        if share < 0.2:
+            del frame.fields["id"]
+            frame.fault("id", 'X4 Absent: this frame has no "id"')
+        elif share < 0.4:
+            frame.fields["id"], words = self.wrong_kind('"id" of this frame', "a string", ["a string"])
+            frame.fault("id", words, "id")
+        else:
+            frame.fields["id"], shown = self.pick(TEXTS)
+            advice = "write a page number and one small letter, as 1231a"
+            frame.fault("id", f"I2 BadFrame: {shown} is not a frame id; {advice}", "id")
+
+    def spoil_price(self, frame):
+        value, words = self.wrong_number('"price" of {F}', 0, 9_999)
+        frame.fields["price"] = value
+        frame.fault("price", words + "; prices are whole pence" * isinstance(value, float), "price")
+
+    def spoil_group(self, frame):
+        frame.fields["group"], words = self.wrong_number('"group" of {F}', 1, 65_535)
+        frame.fault("group", words, "group")
+
+    def spoil_next(self, frame):
+        frame.fields["next"], words = self.wrong_kind('"next" of {F}', "true or false", ["true or false"])
+        frame.fault("next", words, "next")
+
+    def spoil_routes(self, frame):
+        if self.chance(0.2):
+            frame.fields["routes"], words = self.wrong_kind('"routes" of {F}', "a table", ["a table"])
+            frame.fault("routes", words, "routes")
+            return
+        routes = frame.fields["routes"] = dict(frame.fields.get("routes", {}))
+        unknown = [*TEXTS, ("#", '"#"'), ("l", '"l"'), ("10", '"10"')]
+        drawn = self.random.sample(unknown, self.pick([0, 0, 1, 2]))
+        for key, shown in sorted(drawn, key=lambda item: item[0].encode()):
+            routes[key] = self.pick(ODD)[0]
+            words = f"X3 UnknownKey: {shown} is not a key of routes, use the digits 0 to 9"
+            frame.fault("routes", words, "routes", key)
+        for digit in sorted(self.random.sample("0123456789", self.pick([1, 1, 2, 3]))):
+            alone = "; write the page number alone, without quotation marks"
+            routes[digit], words = self.wrong_number(f"route {digit} of {{F}}", 0, 999_999_999, alone)
+            frame.fault("routes", words, "routes", digit)
+
+    def spoil_lead(self, frame):
+        if self.chance(0.4):
+            frame.fields["lead"], words = self.wrong_kind('"lead" of {F}', "a string", ["a string"])
+        else:
+            frame.fields["lead"], shown = self.pick([*TEXTS, ("cleer", '"cleer"'), ("Keep", '"Keep"')])
+            words = f'X6 Range: "lead" of {{F}} is {shown}, "clear" or "keep" is needed'
+        frame.fault("lead", words, "lead")
+
+    def spoil_text(self, frame):
+        fields, share = frame.fields, self.random.random()
+        if share < 0.1:
+            fields["rows"], fields["body"] = [], ""
+            frame.fault("text", 'X7 BodyAndRows: {F} has both "body" and "rows", leave out one', "rows")
+            return
+        fields.pop("rows", None)
+        fields.pop("body", None)
+        if share < 0.2:
+            frame.fault("text", 'X4 Absent: {F} has no "body" and no "rows"')
+        elif share < 0.3:
+            fields["body"], words = self.wrong_kind('"body" of {F}', "a string", ["a string"])
+            frame.fault("text", words, "body")
+        elif share < 0.45:
+            before = self.pick([0, 1, 11, 999, 1_500])
+            code, shown, advice = self.pick(FAR_CODES)
+            fields["body"] = "\xa3\t" * (before // 2) + "A" * (before % 2) + code + self.pick(["", "\u2019", "B"])
+            where = f'character {before + 1:,} of "body" of {{F}}'
+            frame.fault("text", f"X6 Range: {where} is {shown}, at most U+00FF is allowed{advice}", "body")
+        elif share < 0.55:
+            fields["rows"], words = self.wrong_kind('"rows" of {F}', "a list of strings", ["a list"])
+            frame.fault("text", words, "rows")
+        else:
+            self.spoil_rows(frame)
+
+    def spoil_rows(self, frame):
+        rows = frame.fields["rows"] = []
+        many = self.pick([1, 2, 5, 22, 23, 30])
+        if many > 22:
+            frame.fault("text", f"X6 Range: {{F}} has {many} rows, at most 22 are allowed", "rows")
+        wrong = set(self.random.sample(range(many), min(many, 3 if many <= 22 else self.pick([0, 2]))))
+        for number in range(many):
+            rows.append(self.pick(["", "A ROW", "C" * 40, "\x80\x9f ~\x7f"]))
+            if number in wrong:
+                self.spoil_row(frame, number)
+
+    def spoil_row(self, frame, number):
+        rows, name, share = frame.fields["rows"], f"row {number + 1} of {{F}}", self.random.random()
+        if share < 0.3:
+            rows[number], words = self.wrong_kind(name, "a string", ["a string"])
+            frame.fault("text", words, "rows")
+            return
+        before = self.pick([0, 1, 39, 40])
+        code, shown, advice = self.pick([*CODES, *FAR_CODES])
+        has_code = share < 0.6
+        rows[number] = "A" * before + (code + self.pick(["", "\xa3"]) if has_code else "B" * self.pick([41, 1_000]))
+        if len(rows[number]) > 40:
+            words = f"X8 RowTooLong: {name} has {len(rows[number]):,} characters, at most 40 are allowed"
+            frame.fault("text", words, "rows")
+        if has_code:
+            words = f"X9 RowCode: character {before + 1} of {name} is {shown}, which no row may have{advice}"
+            frame.fault("text", words, "rows")
+
+    def spoil_whole(self, right):
+        """Faults of the base as a whole, of frames without a fault of their own: B5, B3, B1, B2."""
+        in_order = lambda frames: sorted(frames, key=lambda frame: (frame.page, frame.letter))
+        for frame in in_order(self.random.sample(right, min(len(right), self.pick([0, 0, 1, 2])))):
+            size = self.pick([4_097, 10_000])
+            frame.fields.pop("rows", None)
+            frame.fields["body"] = "B" * size
+            words = f"B5 BodyTooLong: the body of frame {frame.id} has {size:,} bytes, at most 4,096 are allowed"
+            self.whole_faults.append((frame, ["body"], words))
+        for frame in in_order(frame for frame in right if frame.letter == "z" and self.chance(0.6)):
+            frame.fields["next"] = True
+            words = f'B3 NextAfterZ: frame {frame.id} has "next", but z is the last frame of a page'
+            self.whole_faults.append((frame, ["next"], words))
+        for frame in in_order(self.random.sample(right, min(len(right), self.pick([0, 0, 1, 2])))):
+            self.double(frame)
+        outside = self.top.get("outside")
+        if not isinstance(outside, list):
+            return
+        for page in sorted({frame.page for frame in right if self.chance(0.15)}):
+            outside.insert(self.random.randrange(len(outside) + 1) if not self.top_faults else len(outside), page)
+            words = f"B2 OutsideInside: page {page} is listed as outside, but the base has a frame of it"
+            self.whole_faults.append((None, ["outside"], words))
+
+    def double(self, frame):
+        """Further frames of the id, which come after the first in the file."""
+        for _ in range(self.pick([1, 1, 2])):
+            again = Frame(frame.page, frame.letter, self.plain_text())
+            self.frames.append(again)
+            self.whole_faults.append((again, ["id"], lambda: self.doubled(frame)))
+
+    def doubled(self, first):
+        line, _ = self.place(self.index(first), "id")
+        return f"B1 Duplicate: frame {first.id} is defined already on line {line}"
+
+
+class FaultyWalks(Written):
+    """A right base, a tree of pages, with faults of its audit and with frames that no walk reaches."""
+
+    def __init__(self, random):
+        super().__init__(random)
+        ceiling = self.pick([0, 5, 50, 9_998])
+        self.policy = (ceiling, self.pick([0, 1, 1, 2, 2, 3, 65_535]))
+        self.groups = self.pick([None, None, "7", "7,9"])
+        self.own = [int(group) for group in (self.groups or "").split(",") if group]
+        self.reached = []
+        self.entry = self.add(self.page(), "a", "", 0)
+        self.top["entry"] = self.entry.page
+        share = self.random.random()
+        if share < 0.1:
+            self.spoil_entry()
+        else:
+            self.grow()
+        self.random.shuffle(self.frames)
+        if share >= 0.1:
+            self.strand()
+        self.outside()
+        for frame in self.frames:
+            if not frame.fields.get("routes") and self.chance(0.5):
+                frame.fields.pop("routes", None)
+
+    def outside(self):
+        pages = [frame.fields["routes"] for frame in self.reached if self.chance(0.2)]
+        listed = [self.page() for _ in range(min(3, len(pages)))]
+        for routes, page in zip(pages, listed):
+            free = [digit for digit in "89" if digit not in routes]
+            if free:
+                routes[free[0]] = page
+        self.top["outside"] = listed
+
+    def add(self, page, letter, script, rank):
+        frame = Frame(page, letter, self.plain_text())
+        frame.fields["routes"] = {}
+        frame.script, frame.rank = script, rank
+        if self.chance(0.4):
+            frame.fields["price"] = self.pick([0, self.policy[0]])
+        if self.own and self.chance(0.2):
+            frame.fields["group"] = self.pick(self.own)
+        self.frames.append(frame)
+        return frame
+
+    def spoil_entry(self):
+        """The entry frame is missing or closed, and nothing else is told; other frames are there."""
+        other = self.add(self.page(), "a", None, None)
+        other.fields["price"] = 9_999
+        if self.chance(0.5):
+            self.frames.remove(self.entry)
+            words = f"ENTRYMISSING: the entry page {self.entry.page} has no frame a"
+            self.whole_faults.append((None, ["entry"], words))
+        else:
+            group = self.entry.fields["group"] = self.pick([1, 8, 65_535])
+            words = f"frame {self.entry.id}, the entry page, is closed to these callers; it belongs to group {group}"
+            self.whole_faults.append((self.entry, ["group"], f"ENTRYCLOSED: {words}"))
+
+    def grow(self):
+        """The frames in the order of discovery, each judged when its turn comes."""
+        self.reached = [self.entry]
+        for frame in self.reached:
+            self.offer(frame)
+        for frame in self.reached:
+            self.spoil(frame)
+
+    def offer(self, frame):
+        """Ways to new frames: by digits, then the next frame."""
+        ways = self.pick([0, 1, 2, 3] if frame is self.entry else [0, 0, 0, 1])
+        for digit in sorted(self.random.sample("1234", ways)):
+            if len(self.pages) > 8:
+                self.follow(frame, digit, self.page(), "a")
+                frame.fields["routes"][digit] = self.reached[-1].page
+        if frame.letter < "c" and self.chance(0.3) and frame.rank is not None and frame.rank < 2:
+            self.follow(frame, "#", frame.page, chr(ord(frame.letter) + 1))
+            frame.fields["next"] = True
+
+    def follow(self, frame, key, page, letter):
+        """A new frame, which leads back to the entry page, to the page that leads to it, or nowhere."""
+        new = self.add(page, letter, frame.script + key, 1)
+        self.reached.append(new)
+        back, share = new.fields["routes"], self.random.random()
+        if frame.rank == 1 and key != "#" and share < 0.3 or frame.rank in (2, 3):
+            back["0"], new.rank = frame.page, frame.rank + 1
+            if frame.letter != "a":
+                back["0"], new.rank = self.entry.page, 1
+        elif share < 0.4 and frame is not self.entry or frame.rank is None:
+            new.rank = None
+        else:
+            back["0"] = self.entry.page
+
+    def spoil(self, frame):
+        """Faults of one frame, in the order of judging."""
+        keys = f" (keys {frame.script})" if frame.script else " (at the entry page)"
+        ceiling, keyings = self.policy
+        if self.chance(0.15):
+            price = frame.fields["price"] = self.pick([ceiling + 1, 9_999])
+            self.tell(frame, ["price"], f"PRICE: frame {frame.id} costs {price}, the ceiling is {ceiling}{keys}")
+        if self.chance(0.15):
+            self.touch(frame, keys)
+        for digit in "56789#":
+            if self.chance(0.05):
+                self.lead_astray(frame, digit)
+        if frame.rank is None:
+            self.tell(frame, [], f"NORETURN: no keys lead from frame {frame.id} back to the entry page{keys}")
+        elif frame.rank > keyings:
+            away = f"{frame.rank} {'key' if frame.rank == 1 else 'keys'} away"
+            allowed = f"at most {keyings} {'is' if keyings == 1 else 'are'} allowed"
+            self.tell(frame, [], f"NORETURN: from frame {frame.id} the entry page is {away}, {allowed}{keys}")
+
+    def tell(self, frame, place, words):
+        self.whole_faults.append((frame, place, words))
+
+    def touch(self, frame, keys):
+        frame.fields.pop("rows", None)
+        frame.fields.pop("body", None)
+        if self.chance(0.4):
+            end = self.pick(["\x8d", "A\x8d", "\x8d" * 3])
+            frame.fields["rows"] = [self.pick(["", "A", "A" * 40, "\x8d"]) for _ in range(21)] + [end]
+            words = f"row 22 of frame {frame.id} has double height, which writes into the last row"
+            self.tell(frame, ["rows"], f"TOUCHES: {words}{keys}")
+            return
+        body, offset = self.pick(TOUCHING)
+        frame.fields["body"] = body
+        words = f"byte {offset:,} of the body of frame {frame.id} writes into a service row, from start 0"
+        self.tell(frame, ["body"], f"TOUCHES: {words}{keys}")
+
+    def lead_astray(self, frame, key):
+        """A way to a frame that is missing or closed."""
+        keys = f" (keys {frame.script}{key})"
+        if key == "#" and frame.fields.get("next") or not self.pages:
+            return
+        if key == "#":
+            page, letter, place = frame.page, chr(ord(frame.letter) + 1), ["next"]
+            frame.fields["next"] = True
+            lacks = f"frame {page}{letter}, which the base lacks"
+        else:
+            page, letter, place = self.page(), "a", ["routes", key]
+            frame.fields["routes"][key] = page
+            lacks = f"page {page}, which has no frame a"
+        if self.chance(0.5):
+            self.tell(frame, place, f"MISSING: key {key} of frame {frame.id} leads to {lacks}{keys}")
+            return
+        closed = Frame(page, letter, self.plain_text())
+        closed.fields["routes"] = {}
+        group = closed.fields["group"] = self.pick([8, 65_534])
+        self.frames.append(closed)
+        words = f"frame {closed.id}, which is closed to these callers; it belongs to group {group}"
+        self.tell(frame, place, f"CLOSED: key {key} of frame {frame.id} leads to {words}{keys}")
+
+    def strand(self):
+        """Frames that no walk reaches: those that are open to the caller are told, in the order of their ids."""
+        stranded = []
+        for _ in range(self.pick([0, 0, 1, 2])):
+            page = self.page() if self.pages else 1
+            for letter in self.pick(["a", "ab", "b"]):
+                frame = Frame(page, letter, self.plain_text())
+                frame.fields |= {"routes": {"0": self.entry.page}, "price": 9_999}
+                group = self.pick([None, None, None, 8, *self.own])
+                if group:
+                    frame.fields["group"] = group
+                if group != 8:
+                    stranded.append(frame)
+                self.frames.insert(self.random.randrange(len(self.frames) + 1), frame)
+        for frame in sorted(stranded, key=lambda frame: (frame.page, frame.letter)):
+            self.warnings.append((frame, f"UNREACHED: no key leads to frame {frame.id} from the entry page"))
