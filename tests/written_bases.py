@@ -58,9 +58,14 @@ UNKNOWN_OF_A_FRAME = [
     *(("bodies", None), ("PRICE", None), ("x", None), ("entry", None)),
 ]
 ODD_KEYS = [(text, shown) for text, shown in TEXTS if not text.isdigit() or len(text) > 1]
+# What a literal string can hold, on one line and on several.
+LITERAL = re.compile(r"[^'\x00-\x08\n-\x1f\x7f]*")
+LITERAL_LINES = re.compile(r"(?:[^'\x00-\x08\n-\x1f\x7f]|\r?\n)*")
 NAMED = {"\x08": "b", "\t": "t", "\n": "n", "\x0c": "f", "\r": "r", "\x1b": "e", '"': '"', "\\": "\\"}
-# Bodies that write into a service row from every start, with the offset of the first byte that does.
+# Bodies that write into a service row after a cleared screen, with the offset of the first byte that does.
 TOUCHING = [
+    ("\r\n" * 22 + "A", 44),
+    ("\n" * 22 + "A\n", 22),
     ("\x1eX", 1),
     ("\x1e\n\x0bAB", 3),
     ("\x1e\x0b\x1bA", 3),
@@ -105,11 +110,12 @@ class Pen:
         """The inside of a basic string, of one line or of several."""
         spelled = ""
         for at, c in enumerate(text):
-            if in_lines and c not in " \t" and self.chance(0.05):
+            if in_lines and c not in " \t\r\n" and self.chance(0.05):
                 spelled += "\\" + self.pick(["", "  "]) + self.eol + self.pick(["", "   ", self.eol + "\t"])
             is_plain = (c >= " " or c == "\t") and c not in '"\\\x7f' and not (self.is_odd and self.chance(0.05))
             is_quote = in_lines and c == '"' and text[at - 1 : at] != '"' and 0 < at < len(text) - 1
-            spelled += c if is_plain or is_quote else self.escape(c)
+            ends_line = in_lines and at > 0 and (c == "\n" or text[at : at + 2] == "\r\n")
+            spelled += c if is_plain or is_quote or ends_line else self.escape(c)
         return spelled
 
     def string(self, text):
@@ -118,8 +124,10 @@ class Pen:
             first = self.pick(["", self.eol])
             if not text.startswith("\n"):
                 forms.append(lambda: f'"""{first}{self.escaped(text, in_lines=True)}"""')
-            if re.fullmatch(r"[^'\x00-\x08\n-\x1f\x7f]*", text):
+            if LITERAL.fullmatch(text):
                 forms += [lambda: f"'{text}'", lambda: f"'''{first}{text}'''"]
+            elif LITERAL_LINES.fullmatch(text):
+                forms += [lambda: f"'''{self.eol}{text}'''"] * 3
         return self.pick(forms)()
 
     def key(self, text):
@@ -127,7 +135,7 @@ class Pen:
         forms = [text] * 4 if is_bare else []
         if self.is_odd or not is_bare:
             forms.append(f'"{self.escaped(text)}"')
-            if re.fullmatch(r"[^'\x00-\x08\n-\x1f\x7f]*", text):
+            if LITERAL.fullmatch(text):
                 forms.append(f"'{text}'")
         return self.pick(forms)
 
@@ -238,7 +246,7 @@ class Written:
         if self.chance(0.5):
             rows = ["", "ONE", "TWO # 2", "'\"'", "[[frame]]"]
             return {"rows": [self.pick(rows) for _ in range(self.pick([0, 1, 2, 21]))]}
-        return {"body": "\x1e\n" + self.pick(["", "TEXT", "= ] }", "\x1bAx", "\u00e9\u00a3", "'\"\\"])}
+        return {"body": "\x1e\n" + self.pick(["", "TEXT", "= ] }", "\x1bAx", "\u00e9\u00a3", "'\"\\", "TEXT\r\nTEXT"])}
 
     # ------------------------------------------------------------------------------------------------------ writing
 
