@@ -5,12 +5,12 @@ The words after the opening fence say what a block is:
     sh            commands
     text          what the commands before it print on standard output
     text stderr   what they print on standard error
-    sh setup      commands that prepare the next ones: they have to end with status 0, and what they print isn't compared
+    sh setup      commands that prepare the folder: they have to end with status 0, and what they print isn't compared
     diff NAME     a unified diff, which is applied to the file of that name
     .. NAME       any other language and a name: a file of that name
 
-The line of words before an output gives the status, `status N`, if it isn't 0. If it has `standard error`, a `text` block without
-`stderr` is standard error too. Commands without an output print nothing.
+The line of words before an output gives the status, `status N`, if it isn't 0. If it has `standard error`, a `text` block
+without `stderr` is standard error too. Commands without an output print nothing.
 """
 
 import os
@@ -158,7 +158,8 @@ def unready(block, folder, env):
     else:
         words, given = ["patch", "--silent", "--force", "--fuzz=0", block.name], block.text
     done = subprocess.run(
-        words, cwd=folder, env=env, input=given, capture_output=True, text=True, errors="replace", timeout=60, check=False
+        words, cwd=folder, env=env, input=given, capture_output=True, encoding="utf-8", errors="replace",
+        timeout=60, check=False,
     )
     return None if done.returncode == 0 else f"line {block.line}: status {done.returncode}, {done.stdout}{done.stderr}"
 
@@ -166,7 +167,8 @@ def unready(block, folder, env):
 def wrong_in(run, folder, env):
     """What a run in a folder does other than its page says, or None."""
     done = subprocess.run(
-        ["bash", "-c", run.commands], cwd=folder, env=env, capture_output=True, text=True, timeout=60, check=False
+        ["bash", "-c", run.commands], cwd=folder, env=env, capture_output=True, encoding="utf-8", errors="replace",
+        timeout=60, check=False,
     )
     wanted, found = (run.stdout, run.stderr, run.status), (done.stdout, done.stderr, done.returncode)
     return None if found == wanted else f"line {run.line}: wanted {wanted}, found {found}"

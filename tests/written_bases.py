@@ -123,7 +123,7 @@ class Pen:
         if self.is_odd:
             first = self.pick(["", self.eol])
             if not text.startswith("\n"):
-                forms.append(lambda: f'"""{first}{self.escaped(text, in_lines=True)}"""')
+                forms += [lambda: f'"""{first}{self.escaped(text, in_lines=True)}"""'] * (3 if "\n" in text else 1)
             if LITERAL.fullmatch(text):
                 forms += [lambda: f"'{text}'", lambda: f"'''{first}{text}'''"]
             elif LITERAL_LINES.fullmatch(text):
@@ -680,10 +680,9 @@ class FaultyWalks(Written):
         new = self.add(page, letter, frame.script + key, 1)
         self.reached.append(new)
         back, share = new.fields["routes"], self.random.random()
-        if frame.rank == 1 and key != "#" and share < 0.3 or frame.rank in (2, 3):
+        is_far = frame.rank and frame.rank > 1
+        if is_far or frame.rank == 1 and frame.letter == "a" and key != "#" and share < 0.3:
             back["0"], new.rank = frame.page, frame.rank + 1
-            if frame.letter != "a":
-                back["0"], new.rank = self.entry.page, 1
         elif share < 0.4 and frame is not self.entry or frame.rank is None:
             new.rank = None
         else:

@@ -1,7 +1,7 @@
 """Every finding of `lint`: the faults of a base's text, or those of its audit and the frames that no walk reaches.
 
-For a text that isn't TOML there is one finding, but `toml`'s own message isn't known here: the line of the answer is UNREAD, which
-stands for any place and any message.
+For a text that isn't TOML there is one finding, but `toml`'s own message isn't known here: the line of the answer is
+UNREAD, which stands for any place and any message.
 """
 
 import re
@@ -134,7 +134,7 @@ def count_line(levels):
 
 
 def lint(path, data, ceiling=9_999, keyings=65_535, option=None):
-    """Standard output, standard error and status of `lint`, of a file's bytes and with the word of `--groups` if it is given."""
+    """Standard output, standard error and status of `lint` of a file's bytes, with the word of `--groups` if it is given."""
     groups = caller_of(option)
     if groups is None:
         return BAD_GROUPS

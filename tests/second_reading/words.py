@@ -57,7 +57,7 @@ def hint(c):
 def distance(one, other):
     """The least number of steps from one text to the other, by Damerau and Levenshtein.
 
-    A step puts a character in, leaves one out, exchanges one, or turns two neighbours; a neighbour may be one of a later step.
+    A step puts a character in, leaves one out, exchanges one, or turns two that are neighbours before or after other steps.
     """
     rows = {(-1, j): len(one) + len(other) for j in range(-1, len(other) + 1)}
     for i in range(len(one) + 1):
