@@ -67,6 +67,13 @@ def old_string(token):
     return escaped(inside)
 
 
+def drop_last_comma(pieces):
+    """Takes away the comma after the last member of an inline table, if one is there."""
+    last = [at for at in range(max(0, len(pieces) - 4), len(pieces)) if not pieces[at].isspace()]
+    if len(last) > 1 and pieces[last[-1]] == "," and pieces[last[-2]] not in ("{", ","):
+        del pieces[last[-1]]
+
+
 class Reader:
     """Reads from an offset on; each reading moves it."""
 
@@ -116,23 +123,25 @@ class Reader:
 
     def nested(self):
         """The spelling of an array or of an inline table in TOML 1.0."""
-        opened, pieces = [], []
+        opened, pieces, blank = [], [], ""
         while opened or not pieces:
-            if self.has('"', "'"):
-                pieces.append(old_string(self.take(STRING)))
+            token = old_string(self.take(STRING)) if self.has('"', "'") else self.take(TOKEN)
+            if token[0] == "#" or token.isspace():
+                blank += token
                 continue
-            token = self.take(TOKEN)
-            if token in "[{":
+            if blank:
+                # A line may end beside the members of an inline table, and not inside one.
+                is_beside = opened[-1] == "{" and (pieces[-1] in ("{", ",") or token in (",", "}"))
+                pieces.append(" " if is_beside else blank)
+                blank = ""
+            if token in ("[", "{"):
                 opened.append(token)
                 if len(opened) > MOST_NESTED:
                     raise NotToml
-            elif token in "]}":
+            elif token in ("]", "}"):
                 opened.pop()
-                end = "".join(pieces).rstrip()
-                if token == "}" and re.search(r"[^{,\s]\s*,$", end):
-                    pieces = [end[:-1]]
-            elif token[0] == "#" or (token.isspace() and opened[-1] == "{"):
-                token = " "
+                if token == "}":
+                    drop_last_comma(pieces)
             pieces.append(token)
         return "".join(pieces)
 
