@@ -6,6 +6,8 @@ mod base;
 #[cfg(test)]
 mod certificates;
 #[cfg(test)]
+mod drafts;
+#[cfg(test)]
 mod rows;
 #[cfg(test)]
 mod tables;
