@@ -70,9 +70,9 @@ known ms =
 
 frame : (ms : Members) → field.Tells (table_frame ms) (frame_details ms)
 frame ms = elim (unknown kind.Frame ms) [
-    | inl w ↦ rw (w.only, w.none) (known ms)
-    | inr w ↦ rw (w.not_only, w.first) refl
-  ]
+  | inl w ↦ rw (w.only, w.none) (known ms)
+  | inr w ↦ rw (w.not_only, w.first) refl
+]
 
 pub element : (d : Data) → field.Tells (frame_of d) (element_details d)
 element (table ms) = frame ms

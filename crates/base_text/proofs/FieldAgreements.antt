@@ -167,9 +167,9 @@ ten ms = digits 10 0 ms
 pub routes : (d : Option Data) → Tells (routes_of d) (routes_details d)
 routes None = refl
 routes (Some (table ms)) = elim (unknown kind.Routes ms) [
-    | inl w ↦ rw (w.only, w.none) (ten ms)
-    | inr w ↦ rw (w.not_only, w.first) refl
-  ]
+  | inl w ↦ rw (w.only, w.none) (ten ms)
+  | inr w ↦ rw (w.not_only, w.first) refl
+]
 routes (Some (string text)) = refl
 routes (Some (integer z)) = refl
 routes (Some (float x)) = refl

@@ -87,5 +87,5 @@ draft_of ms = record {
   outside = outside_read (get_member (codes "outside") ms);
   frames = elements_frames (elements (get_member (codes "frame") ms));
   tables = elements_tables 0 (elements (get_member (codes "frame") ms));
-  faults = top_faults ms ++ elements_faults 0 (elements (get_member (codes "frame") ms))
+  faults = top_faults ms ++ elements_faults 0 (elements (get_member (codes "frame") ms));
 }

@@ -54,16 +54,16 @@ fn add_faults(
     ensures { OnOk result (faults.new.items ≡ faults.old.items ++ map (fault_at frame id.now) details.items) }
 {
     for detail in details {
-        faults.push(TextFault { frame, id: *id, detail })?;
+        faults.push(TextFault {
+            frame,
+            id: *id,
+            detail,
+        })?;
     }
     Ok(())
 }
 
-fn add_faulty(
-    index: usize,
-    faulty: Faulty,
-    faults: &mut Vec<TextFault>,
-) -> Result<(), AllocError>
+fn add_faulty(index: usize, faulty: Faulty, faults: &mut Vec<TextFault>) -> Result<(), AllocError>
     ensures { OnOk result (faults.new.items ≡ faults.old.items ++ map (fault_at (Some index) faulty.id) faulty.details) }
 {
     let Faulty { id, details } = faulty;
@@ -106,11 +106,7 @@ fn add_elements(alloc: Global, values: Vec<Value>, list: &mut Listing) -> Result
 }
 
 // Appends what the value of `frame` comes to.
-fn add_frames(
-    alloc: Global,
-    value: Option<Value>,
-    list: &mut Listing,
-) -> Result<(), AllocError>
+fn add_frames(alloc: Global, value: Option<Value>, list: &mut Listing) -> Result<(), AllocError>
     ensures frames { OnOk result (list.new.frames.items ≡ list.old.frames.items ++ elements_frames (elements (option_map view value))) }
     ensures tables { OnOk result (list.new.tables.items ≡ list.old.tables.items ++ elements_tables 0 (elements (option_map view value))) }
     ensures faults { OnOk result (list.new.faults.items ≡ list.old.faults.items ++ elements_faults 0 (elements (option_map view value))) }

@@ -79,7 +79,9 @@ fn explain<R: Print + Eprint + AllocGlobal>(rt: &R, word: Option<&str>) -> u8 {
             2
         }
         Ok(None) => {
-            let _ = eprintln!(rt; "error: no printed word is '{word}'; 'pageaudit explain' lists them");
+            let _ = eprintln!(rt;
+                "error: no printed word is '{word}'; 'pageaudit explain' lists them"
+            );
             2
         }
         Err(_) => refused(rt, &RunFault::Memory),
@@ -98,11 +100,15 @@ fn refused<R: Eprint + AllocGlobal>(rt: &R, fault: &RunFault) -> u8 {
 // Does what was asked for; the exit status. The groups are read first; files are opened in the order of the words.
 fn dispatch<R: Files + Print + Eprint + AllocGlobal>(rt: &R, matches: &ArgMatches) -> u8 {
     match groups_of(matches).map(|groups| asked_for(matches, groups)) {
-        Ok(Some(Request::Audit {
-            base,
-            out: Some(out),
-            ..
-        })) if is_same_file(rt, base, out) => {
+        Ok(
+            Some(
+                Request::Audit {
+                    base,
+                    out: Some(out),
+                    ..
+                },
+            ),
+        ) if is_same_file(rt, base, out) => {
             let _ = eprintln!(rt; "error: --out names the base itself");
             2
         }

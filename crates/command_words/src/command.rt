@@ -107,9 +107,9 @@ fn walk_command<'a>(alloc: Global) -> Result<Command<'a>, AllocError> {
 }
 
 fn explain_command<'a>(alloc: Global) -> Result<Command<'a>, AllocError> {
-    let code = Arg::new(alloc, "CODE")
-        .action(ArgAction::Set)
-        .help("A printed word, e.g. K7, MISSING or s80; without one all are listed");
+    let code = Arg::new(alloc, "CODE").action(ArgAction::Set).help(
+        "A printed word, e.g. K7, MISSING or s80; without one all are listed",
+    );
     Command::new(alloc, "explain")
         .about("Explain a printed word, with an example and the fix")
         .after_help(help::EXPLAIN)

@@ -61,7 +61,11 @@ fn a_certificate_goes_into_its_own_file(rt: HostRuntime) -> Result<(), Fail> {
         let mut cert = FakeSink::of(rt.alloc(), 1_000);
         let mut out = FakeSink::of(rt.alloc(), 1_000);
         let answer = run_audit_into(rt.alloc(), &mut base, &mut cert, &mut out, &policy);
-        let wanted = if ceiling == 50 { Status::Clear } else { Status::Faulty };
+        let wanted = if ceiling == 50 {
+            Status::Clear
+        } else {
+            Status::Faulty
+        };
         same_in(keyings, answer, Ok(wanted))?;
         same_in(keyings, (cert.flushes, out.flushes), flushes)?;
     }
