@@ -44,16 +44,9 @@ IsAuditRun base_file out policy (Err run.Memory) = IsReadWithin base_limit base_
 IsAuditRun base_file out policy (Err _) = ⊥
 
 -- a certificate was written to its own file, and nothing to the output; or every fault to the output, and nothing to that file
-abbrev pub IsSplitBy : Outcome → Device → Device → Result Status RunFault → Type 0
-IsSplitBy (Certified c) cert out answer = IsTextWritten cert (report_text (Certified c)) status.Clear answer × IsUntouched out
-IsSplitBy (Faulty faults) cert out answer = IsTextWritten out (report_text (Faulty faults)) status.Faulty answer × IsUntouched cert
-
--- the answer for an outcome: a status or a write fault of the one that is written, or out of memory with nothing written
 abbrev pub IsSplitWritten : Device → Device → Outcome → Result Status RunFault → Type 0
-IsSplitWritten cert out outcome (Ok s) = IsSplitBy outcome cert out (Ok s)
-IsSplitWritten cert out outcome (Err (run.Write wrote)) = IsSplitBy outcome cert out (Err (run.Write wrote))
-IsSplitWritten cert out outcome (Err run.Memory) = IsUntouched cert × IsUntouched out
-IsSplitWritten cert out outcome (Err _) = ⊥
+IsSplitWritten cert out (Certified c) answer = IsTextWritten cert (report_text (Certified c)) status.Clear answer × IsUntouched out
+IsSplitWritten cert out (Faulty faults) answer = IsTextWritten out (report_text (Faulty faults)) status.Faulty answer × IsUntouched cert
 
 -- as IsReportRun, with a file of its own for a certificate
 pub record IsSplitRun (base_file cert out : Device) (policy : Policy) (answer : Result Status RunFault) : Type 0 where
