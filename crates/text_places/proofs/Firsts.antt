@@ -1,5 +1,5 @@
 -- One more mark, and the places that keep it.
-use Rattle.std.proofs.Common.{◌≡◌, ◌≢◌, ℕ, zero, suc, ◌+◌, ◌-◌, ◌<◌, ◌≤◌, Bool, true, false, cond, ◌&&◌, ◌==◌, List, [], ◌∷◌, ◌++◌, length, set, slice_get, Option, Some, None, Result, Ok, Err, OnOk, option_map, refl, sym, ap, ◌∙◌, inl, inr, arith}
+use Rattle.std.proofs.Common.{◌≡◌, ◌≢◌, ℕ, zero, suc, ◌<◌, Bool, true, false, ◌&&◌, List, [], ◌∷◌, ◌++◌, length, set, slice_get, Option, Some, None, Result, Ok, Err, OnOk, refl, sym, ap, ◌∙◌, inl, inr, arith}
 use Rattle.std.proofs.lemmas.Bool.{cases_Bool}
 use Rattle.std.proofs.lemmas.Bool.Decides.{eqb_tells}
 use Rattle.std.proofs.lemmas.Option.{slice_get_within}
@@ -28,7 +28,7 @@ first_at-one (n ∷ ms) m frame keys =
       | inr other ↦ rw other (first_at-one ms m frame keys)
     ]
 
-begins-one : (q : List ℕ) (path : List (List ℕ)) → begins (q ∷ []) path ≡ is_key (slice_get path 0) q
+pub begins-one : (q : List ℕ) (path : List (List ℕ)) → begins (q ∷ []) path ≡ is_key (slice_get path 0) q
 begins-one q [] = refl
 begins-one q (part ∷ path) = and-true (bytes_eq q part)
 
@@ -37,12 +37,12 @@ begins-two r q [] = refl
 begins-two r q (part ∷ path) = ap (λ b. bytes_eq r part && b) (begins-one q path)
 
 -- a mark elsewhere changes nothing here
-elsewhere : (ms : List Mark) (m : Mark) (frame : Option ℕ) (keys : List (List ℕ)) → same_frame frame m.frame ≡ false
+pub elsewhere : (ms : List Mark) (m : Mark) (frame : Option ℕ) (keys : List (List ℕ)) → same_frame frame m.frame ≡ false
     → first_at (ms ++ m ∷ []) frame keys ≡ first_at ms frame keys
 elsewhere ms m frame keys other = first_at-one ms m frame keys ∙ rw other (option_or-none (first_at ms frame keys))
 
 -- a mark in this frame, or the top
-inside : (ms : List Mark) (m : Mark) (frame : Option ℕ) (keys : List (List ℕ)) → same_frame frame m.frame ≡ true
+pub inside : (ms : List Mark) (m : Mark) (frame : Option ℕ) (keys : List (List ℕ)) → same_frame frame m.frame ≡ true
     → first_at (ms ++ m ∷ []) frame keys ≡ option_or (first_at ms frame keys) (at_if (begins keys m.path) m.at)
 inside ms m frame keys same = first_at-one ms m frame keys ∙ rw same refl
 

@@ -1,5 +1,5 @@
 -- On what toml's grammar reads, the definitions of this crate leave the same text.
-use Rattle.std.proofs.Common.{◌≡◌, ℕ, zero, suc, Bool, true, false, cond, ◌&&◌, ◌==◌, List, [], length, drop, slice_index, Option, Some, None, option_map, option_and_then, refl, sym, ap, ◌∙◌, inl, inr, arith}
+use Rattle.std.proofs.Common.{◌≡◌, ℕ, zero, suc, cond, ◌==◌, List, length, drop, slice_index, Option, Some, None, option_map, option_and_then, ap, ◌∙◌, inl, inr}
 use Rattle.std.proofs.lemmas.Bool.{cases_Bool}
 use Rattle.std.proofs.lemmas.Option.{none-some, same_Some}
 use Rattle.toml_parser.specs.Lexical.{Read, first, skip_blank, skip_ws}
@@ -8,31 +8,13 @@ use Rattle.toml_parser.specs.Numbers.{unquoted}
 use Rattle.toml.specs.Data.{Data, Items, Members, no_items, push_item, array, table}
 use Rattle.toml.specs.Tables.{Nodes, no_nodes, put, Expression, key_value, std_table, array_table}
 use Rattle.toml.specs.Parse.{read_map, atom, val, items, members, keyval, key_equals, after_element, header_key, expression, line, ends_line, after_byte}
-use Rattle.text_places.specs.declared.lines.Sort.TheVariants.{Pair, Table, ArrayTable}
+use Rattle.text_places.proofs.Options.{stepped, mapped}
+use Rattle.text_places.specs.declared.lines.Sort.TheVariants.{Table}
 use Rattle.text_places.specs.Skips.{text_after, after_atom, after_member, after_members, after_value, array_header, pair, opening, whole_line, Line, line_of}
 
 -- whatever toml's reader reads, the other leaves the same text
 abbrev pub Follows : (List ℕ → Read Data) → (List ℕ → Option (List ℕ)) → Type 0
 Follows read after = (text rest : List ℕ) (d : Data) → read text ≡ Some (d, rest) → after text ≡ Some rest
-
--- what a step read before what comes after it
-record Stepped {A B : Type 0} (o : Option A) (f : A → Option B) (b : B) : Type 0 where
-  value : A
-  is : o ≡ Some value
-  then : f value ≡ Some b
-
-stepped : {A B : Type 0} (o : Option A) (f : A → Option B) (b : B) → option_and_then f o ≡ Some b → Stepped o f b
-stepped None f b h = absurd (none-some b h)
-stepped (Some a) f b h = record { value = a; is = refl; then = h }
-
-record Mapped {A B : Type 0} (o : Option A) (f : A → B) (b : B) : Type 0 where
-  value : A
-  is : o ≡ Some value
-  same : f value ≡ b
-
-mapped : {A B : Type 0} (o : Option A) (f : A → B) (b : B) → option_map f o ≡ Some b → Mapped o f b
-mapped None f b h = absurd (none-some b h)
-mapped (Some a) f b h = record { value = a; is = refl; same = same_Some (f a) b h }
 
 text_after-is : {A : Type 0} (r : Read A) (p : A × List ℕ) (rest : List ℕ) → r ≡ Some p → p.1 ≡ rest → text_after r ≡ Some rest
 text_after-is r p rest is same = rw (is, same)

@@ -1,5 +1,12 @@
+pub mod Options
 pub mod SkipTurns
 pub mod Follows
 pub mod Firsts
 pub mod Walking
 pub mod ScanTurns
+pub mod NodeSteps
+pub mod LineSteps
+pub mod Counting
+pub mod Keys
+pub mod Within
+pub mod Worked

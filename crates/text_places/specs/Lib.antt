@@ -4,3 +4,4 @@ pub mod Marks
 pub mod Places
 pub mod Walk
 pub mod Scans
+pub mod PlaceLaws

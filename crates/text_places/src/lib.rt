@@ -19,10 +19,12 @@
 //! - Definitions: what an expression writes (`Marks`), which mark is the place of a key (`Places`), lines and columns (`Scans`).
 #![tactic(auto)]
 
+mod laws;
 mod lines;
 mod places;
 mod scan;
 mod values;
 
+pub use laws::{frames_have_their_keys, headers_are_frames, places_are_within};
 pub use places::Places;
 pub use scan::Scan;

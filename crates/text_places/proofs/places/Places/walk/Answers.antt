@@ -1,4 +1,4 @@
-use Rattle.std.proofs.Common.{◌≡◌, ◌==◌, ◌≤◌, ◌<◌, ◌-◌, ℕ, Some, None, true, false, length, subst, sym, rules, arith}
+use Rattle.std.proofs.Common.{◌≡◌, ◌==◌, ◌<◌, Some, true, false, length, subst, sym, rules, arith}
 use Rattle.std.proofs.lemmas.Bool.{false≢true}
 use Rattle.std.proofs.lemmas.Grind.{common_steps}
 use Rattle.toml_parser.specs.Lexical.{skip_blank}
@@ -7,7 +7,7 @@ use Rattle.text_places.specs.Marks.{Section}
 use Rattle.text_places.specs.Skips.{whole_line}
 use Rattle.text_places.specs.Walk.{frame_count, section_view, IsOpen}
 use Rattle.text_places.specs.Lines.{line_view}
-use Rattle.text_places.proofs.Walking.{Wrote, section_open, walk_begins, walk_ends, walk_refused, walk_goes_on, walks_err}
+use Rattle.text_places.proofs.Walking.{section_open, walk_begins, walk_ends, walk_refused, walk_goes_on, walks_err}
 use Rattle.text_places.proofs.places.Places.walk.Goals as goal
 
 pub lines-init : goal.lines-init

@@ -1,4 +1,4 @@
-use Rattle.std.proofs.Common.{ℕ, ◌≤◌, length, IsSome}
+use Rattle.std.proofs.Common.{◌≤◌, length, IsSome}
 use denote.Text.{Utf8}
 use denote.Shadow.{shadow}
 use Rattle.toml.specs.Parse.{parse_document}
