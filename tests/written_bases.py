@@ -209,8 +209,7 @@ class Frame:
         self.page, self.letter = page, letter
         self.fields = {"id": f"{page}{letter}", **text}
         self.faults = {}
-        self.ways = {}
-        self.script = self.rank = self.start = None
+        self.script = self.rank = None
 
     @property
     def id(self):
@@ -248,27 +247,30 @@ class Written:
             return {"rows": [self.pick(rows) for _ in range(self.pick([0, 1, 2, 21]))]}
         return {"body": "\x1e\n" + self.pick(["", "TEXT", "= ] }", "\x1bAx", "\u00e9\u00a3", "'\"\\", "TEXT\r\nTEXT"])}
 
-    # ------------------------------------------------------------------------------------------------------ writing
-
     def write(self):
         self.sheet = sheet = Sheet(self.pen)
         tops = list(self.top)
         self.random.shuffle(tops)
         self.is_inline = self.pen.is_odd and self.chance(0.25) and all(frame.fields for frame in self.frames)
-        later = [key for key in tops if isinstance(self.top[key], dict) and self.top[key] and self.chance(0.5)]
+        self.later = [key for key in tops if isinstance(self.top[key], dict) and self.top[key] and self.chance(0.5)]
         for key in tops:
-            if key not in later:
+            if key not in self.later:
                 sheet.expression([("top", key)], self.pen.pair(key, self.top[key]))
         if self.is_inline and self.frames:
             sheet.expression([("top", "frame")], self.pen.pair("frame", [frame.fields for frame in self.frames]))
-        for key in later:
-            self.write_section([("top", key)], [key], self.top[key])
-        if not self.is_inline:
+        else:
             for index, frame in enumerate(self.frames):
                 self.write_frame(index, frame)
+        self.write_later(1)
         if self.pen.is_odd and self.chance(0.2):
             sheet.text = sheet.text.removesuffix(self.pen.eol)
         return sheet.text.encode()
+
+    def write_later(self, share):
+        """Tables of the base by headers of their own, which may be between those of frames."""
+        while self.later and self.chance(share):
+            key = self.later.pop()
+            self.write_section([("top", key)], [key], self.top[key])
 
     def write_section(self, names, keys, table):
         """A table by a header of its own."""
@@ -294,7 +296,9 @@ class Written:
                     dotted = f"{self.pen.key(key)}.{self.pen.pair(inner, part)}"
                     sheet.expression([(index, key), (index, key, inner)], dotted)
         for key in later:
+            self.write_later(0.3)
             self.write_section([(index, key)], ["frame", key], frame.fields[key])
+        self.write_later(0.3)
 
     def place(self, index, *keys):
         """The place of a key of a frame, or of the frame."""

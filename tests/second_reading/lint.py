@@ -113,14 +113,20 @@ def keys_in_brackets(script):
     return " (at the entry page)" if script == "-" else f" (keys {script})"
 
 
-def findings(text, policy):
-    """Each finding in the order of judging: an offset, `error` or `warning`, and words; ValueError if it isn't TOML."""
-    found = expressions(text)
-    tree = tree_of(found)
-    if not fits_64_bits(tree):
-        raise ValueError
-    places = Places(found)
-    faults, warnings = list(text_faults(tree, places, Lines(text))), []
+def parsed(data):
+    """The text, its expressions and its tree, or None if it isn't TOML."""
+    try:
+        text = data.decode()
+        found = expressions(text)
+        tree = tree_of(found)
+    except (ValueError, RecursionError):
+        return None
+    return (text, found, tree) if fits_64_bits(tree) else None
+
+
+def findings(tree, places, lines, policy):
+    """Each finding in the order of judging: an offset, `error` or `warning`, and words."""
+    faults, warnings = list(text_faults(tree, places, lines)), []
     if not faults:
         frames = [frame_in(table, index) for index, table in enumerate(tree.get("frame", []))]
         audited = Audited(tree, build(tree["entry"], tree.get("outside", []), frames), places, policy)
@@ -141,16 +147,15 @@ def lint(path, data, ceiling=9_999, keyings=65_535, option=None):
     if len(data) > MOST_BYTES:
         words = f"X1 TooLong: the text has {counted(len(data))} bytes, at most {counted(MOST_BYTES)} are allowed"
         return f"{path}:1:1: error: {words}\n", "1 error\n", 1
-    try:
-        text = data.decode()
-        found = findings(text, (ceiling, keyings, groups))
-    except (ValueError, RecursionError):
+    if not (read := parsed(data)):
         return f"{path}:LINE:COLUMN: {UNREAD}\n", "1 error\n", 1
+    text, found, tree = read
     lines = Lines(text)
-    placed = sorted(((*lines.place(at), level, words) for at, level, words in found), key=lambda finding: finding[:2])
+    told = findings(tree, Places(found), lines, (ceiling, keyings, groups))
+    placed = sorted(((*lines.place(at), level, words) for at, level, words in told), key=lambda finding: finding[:2])
     stdout = "".join(f"{path}:{line}:{column}: {level}: {words}\n" for line, column, level, words in placed)
-    levels = [level for _, level, _ in found]
-    return stdout, f"{count_line(levels)}\n" if found else "", 1 if "error" in levels else 0
+    levels = [level for _, level, _ in told]
+    return stdout, f"{count_line(levels)}\n" if told else "", 1 if "error" in levels else 0
 
 
 def is_answer(path, wanted, found):
