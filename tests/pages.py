@@ -9,8 +9,8 @@ The words after the opening fence say what a block is:
     diff NAME     a unified diff, which is applied to the file of that name
     .. NAME       any other language and a name: a file of that name
 
-The line of words before an output gives the status, `status N`, if it isn't 0. If it has `standard error`, a `text` block
-without `stderr` is standard error too. Commands without an output print nothing.
+The line of words before an output gives the status, `status N`, if it isn't 0. If it has `standard error`, a block of
+`text` alone is standard error too. Commands without an output print nothing.
 """
 
 import os
@@ -175,7 +175,7 @@ def wrong_in(run, folder, env):
 
 
 def tried(blocks, given=()):
-    """Goes through blocks in one fresh folder that holds copies of the given files: for each run what is wrong, or None."""
+    """Goes through blocks in one fresh folder with copies of the given files: for each run what is wrong, or None."""
     with tempfile.TemporaryDirectory() as whole:
         env = surroundings(Path(whole))
         folder = Path(whole) / "work"

@@ -140,7 +140,7 @@ def count_line(levels):
 
 
 def lint(path, data, ceiling=9_999, keyings=65_535, option=None):
-    """Standard output, standard error and status of `lint` of a file's bytes, with the word of `--groups` if it is given."""
+    """Standard output, standard error and status of `lint` of a file's bytes, with the word of `--groups` if given."""
     groups = caller_of(option)
     if groups is None:
         return BAD_GROUPS

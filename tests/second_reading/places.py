@@ -2,7 +2,7 @@
 
 An expression is a header, or a key with its value. The program reads TOML 1.1 and keeps a CR LF inside a string; Python
 reads TOML 1.0 and makes it an LF. So these are spelled anew: line ends, comments and a last comma in inline tables, the
-escapes `e` and `xHH`, and a CR LF inside a string. What isn't TOML is left to Python to refuse, if it isn't refused here.
+escapes `e` and `xHH`, and a CR LF inside a string. What isn't TOML is refused here or left to Python to refuse.
 """
 
 import re
@@ -18,7 +18,7 @@ BARE = re.compile(r"[A-Za-z0-9_-]+")
 SCALAR = re.compile(r"[^#\r\n]+")
 STRING = re.compile(r'"""(?:[^\\]|\\.)*?"{3,5}|' r"'''.*?'{3,5}|" r'"(?:[^"\\\n]|\\.)*"|' r"'[^'\n]*'", re.DOTALL)
 TOKEN = re.compile(rf"(?:[ \t\n]|\r\n)+|{COMMENT}|[\[\]{{}},=]|[^\s#\[\]{{}},=\"']+")
-# What may have to be spelled anew in a basic string, after what may not: a backslash that ends a line, and the blanks after it.
+# What may have to be spelled anew in a basic string; a backslash that ends a line is kept with the blanks after it.
 PIECE = re.compile(r"\\[ \t]*\r?\n[ \t\r\n]*|\\x[0-9A-Fa-f]{2}|\\.|\r\n", re.DOTALL)
 ILLEGAL = re.compile(r"[\x00-\x08\x0b\x0c\x0e-\x1f\x7f]|\r(?!\n)")
 
@@ -29,7 +29,7 @@ class NotToml(ValueError):
 
 @dataclass
 class Expression:
-    """The offset of its first character, the whole path of its keys, whether it is a header in two brackets, its text."""
+    """The offset of its first character, all its keys, whether it is a header in two brackets, and its text."""
 
     at: int
     path: tuple

@@ -57,7 +57,7 @@ def hint(c):
 def distance(one, other):
     """The least number of steps from one text to the other, by Damerau and Levenshtein.
 
-    A step puts a character in, leaves one out, exchanges one, or turns two that are neighbours before or after other steps.
+    A step puts a character in, leaves one out, exchanges one, or turns two that are or become neighbours.
     """
     rows = {(-1, j): len(one) + len(other) for j in range(-1, len(other) + 1)}
     for i in range(len(one) + 1):
