@@ -46,7 +46,7 @@ module _ (base_file cert out : Device) where
       → (r : Result Status RunFault) → IsSplitWritten cert out o r → IsAuditIntoRun base_file cert out policy r
   split_run base policy o read is (Ok s) written = record { base = base; base_read = read; outcome = o; is = is; written = written }
   split_run base policy o read is (Err (run.Write wrote)) written = record { base = base; base_read = read; outcome = o; is = is; written = written }
-  split_run base policy o read is (Err run.Memory) written = (base_within base_file base read, none_of o written)
+  split_run base policy o read is (Err run.Memory) written = (base_within base_file base read, (none_of o written).0, (none_of o written).1)
   split_run base policy o read is (Err (run.Base fault)) written = absurd (report_of o _ written).1
   split_run base policy o read is (Err (run.Cert fault)) written = absurd (report_of o _ written).1
   split_run base policy o read is (Err (run.Keys offset)) written = absurd (report_of o _ written).1
