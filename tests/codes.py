@@ -1,8 +1,9 @@
 """docs/CODES.md, as tests/codes-page and tests/explain-words read it.
 
-A heading of rank 2 begins a part, one of rank 3 the section of a printed word. Its examples are run beside the files of its part;
-a part without files has those of the part before. The table of words at the top has a row for each section, which links to it.
-Where an example prints and with which status follows from what it prints, as in the page's table of exit statuses.
+A heading of rank 2 begins a part, one of rank 3 the section of a printed word. Its examples are run beside the files of
+its part; a part without files has those of the part before. The table of words at the top has a row for each section,
+which links to it. The stream and the status of an example follow from what it prints, as in the page's table of exit
+statuses.
 """
 
 import re
