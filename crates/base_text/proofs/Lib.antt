@@ -13,3 +13,5 @@ mod BodyAgreements
 mod DraftAgreements
 mod DraftParts
 mod FrameFaults
+mod PlaceTurns
+mod WholeTurns
