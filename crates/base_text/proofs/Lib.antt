@@ -13,5 +13,3 @@ mod BodyAgreements
 mod DraftAgreements
 mod DraftParts
 mod FrameFaults
-mod PlaceTurns
-mod WholeTurns

@@ -21,5 +21,3 @@ pub mod SoundFrame
 pub mod DraftView
 pub mod Drafts
 pub mod DraftLaws
-pub mod Places
-pub mod WholeFaults

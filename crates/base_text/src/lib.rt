@@ -27,12 +27,6 @@
 //! ```
 //!
 //! - [`BaseFault`], [`Cause`], [`Field`]: in which frame a text is refused, why, and at which key.
-<<<<<<< ours
-=======
-//! - [`draft_of`], [`Draft`], [`TextFault`]: what reads of a text, and every fault of it, not only the first.
-//! - [`Detail`], [`ValueKind`], [`TableKind`], [`Word`]: what is wrong at one place, and what was found there.
-//! - [`whole_faults`], [`WholeFault`]: every fault of the base as a whole, over what reads.
->>>>>>> theirs
 //! - [`RowCells`], [`body_of_rows`]: a row of a screen, and the body that paints rows.
 //!
 //! Codes of two digits are hexadecimal. Which TOML a text is, is what the crate `toml` defines.
@@ -54,13 +48,10 @@ mod laws;
 mod limits;
 mod list_details;
 mod misfit;
-mod place;
 mod routes;
 mod rows;
 mod sound_frame;
 mod text;
-mod whole;
-mod whole_fault;
 mod word;
 
 pub use cells::RowCells;
@@ -72,6 +63,4 @@ pub use laws::{drafts_agree, faults_are_of_frames, texts_mean_one_base};
 pub use limits::MOST_TEXT;
 pub use rows::body_of_rows;
 pub use text::base_read;
-pub use whole::whole_faults;
-pub use whole_fault::WholeFault;
 pub use word::Word;

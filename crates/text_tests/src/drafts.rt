@@ -1,8 +1,7 @@
 //! The drafts of texts: what reads, and every fault.
 
 use assertions::{same, same_in};
-use base_text::{Detail, Draft, TextFault, WholeFault, Word, base_read, draft_of, whole_faults};
-use page_ids::{FrameId, PageNo};
+use base_text::{Detail, Draft, TextFault, Word, base_read, draft_of};
 use std::alloc::{AllocError, Global};
 use std::test::Fail;
 
@@ -201,50 +200,4 @@ fn the_first_fault_is_that_of_the_reading(rt: HostRuntime) -> Result<(), Fail> {
     };
     same(key.as_str(), "colour")?;
     same(Word::of(rt.alloc(), "colour")?.as_str(), "colour")
-}
-
-// Frames that are too long, lead on from z or share an id, and a page that is outside and inside.
-#[test]
-fn faults_of_the_whole_come_by_id(rt: HostRuntime) -> Result<(), Fail> {
-    let long = "A".repeat(rt.alloc(), 4097)?;
-    let parts = [
-        "entry = 1\noutside = [7, 2, 7, 2]\nframe = [{ id = '2z', next = true, body = '' }, { id = '1a', body = '' }, { id = '2z', body = '' }, { id = 'x' }, { id = '1a', body = '' }, { id = '1a', body = '' }, { id = '3a', body = '",
-        long.as_str(),
-        "' }]",
-    ];
-    let text = parts.concat(rt.alloc())?;
-    let draft = draft(rt.alloc(), text.as_str())?;
-    let [one, two, three] = [
-        FrameId::read("1a")?,
-        FrameId::read("2z")?,
-        FrameId::read("3a")?,
-    ];
-    let wanted = [
-        WholeFault::BodyTooLong {
-            table: 6,
-            id: three,
-            length: 4097,
-        },
-        WholeFault::NextAfterZ { table: 0, id: two },
-        WholeFault::Duplicate {
-            table: 4,
-            first: 1,
-            id: one,
-        },
-        WholeFault::Duplicate {
-            table: 5,
-            first: 1,
-            id: one,
-        },
-        WholeFault::Duplicate {
-            table: 2,
-            first: 0,
-            id: two,
-        },
-        WholeFault::OutsideInside(PageNo::read("2")?),
-    ];
-    same(
-        whole_faults(rt.alloc(), &draft)?.as_slice(),
-        wanted.as_slice(),
-    )
 }
