@@ -52,22 +52,21 @@ fn an_audit_that_fails_asks_for_no_more(rt: HostRuntime) -> Result<(), Fail> {
     Ok(())
 }
 
-// Under a ceiling of 0 the demo has faults, under one of 50 a certificate: only one of the two outputs is written and flushed.
+// The status of an audit with a file of its own for a certificate, and how often that file and the output were flushed.
+fn audited_into(alloc: Global, policy: &Policy) -> (u8, u32, u32) {
+    let mut base = source(DEMO, ALL, ALL);
+    let mut cert = sink(alloc, CERT, ALL);
+    let mut out = sink(alloc, CERT, ALL);
+    let answer = run_audit_into(alloc, &mut base, &mut cert, &mut out, policy);
+    (status_of(&answer), cert.flushes, out.flushes)
+}
+
+// Under a ceiling of 0 the demo has faults, under one of 50 a certificate: only one of the two outputs is written.
 #[test]
 fn a_certificate_goes_into_its_own_file(rt: HostRuntime) -> Result<(), Fail> {
-    for (ceiling, keyings, flushes) in [(50, 3, (1, 0)), (0, 0, (0, 1))] {
-        let policy = policy(ceiling, keyings)?;
-        let mut base = FakeSource::of(DEMO.as_bytes(), 7);
-        let mut cert = FakeSink::of(rt.alloc(), 1_000);
-        let mut out = FakeSink::of(rt.alloc(), 1_000);
-        let answer = run_audit_into(rt.alloc(), &mut base, &mut cert, &mut out, &policy);
-        let wanted = if ceiling == 50 {
-            Status::Clear
-        } else {
-            Status::Faulty
-        };
-        same_in(keyings, answer, Ok(wanted))?;
-        same_in(keyings, (cert.flushes, out.flushes), flushes)?;
+    for (ceiling, wanted) in [(50, (0, 1, 0)), (0, (1, 0, 1))] {
+        let policy = policy(ceiling, 3)?;
+        same_in(ceiling, audited_into(rt.alloc(), &policy), wanted)?;
     }
     Ok(())
 }
