@@ -4,12 +4,3 @@ mod RowTurns
 mod Documents
 mod FrameTurns
 mod WholeFaults
-mod DetailTurns
-mod SoundFrames
-mod Judged
-mod Agreements
-mod FieldAgreements
-mod BodyAgreements
-mod DraftAgreements
-mod DraftParts
-mod FrameFaults

@@ -12,12 +12,3 @@ pub mod Parts
 pub mod Text
 pub mod Whole
 pub mod TextLaws
-pub mod Details
-pub mod FieldDetails
-pub mod ListDetails
-pub mod BodyDetails
-pub mod FrameDetails
-pub mod SoundFrame
-pub mod DraftView
-pub mod Drafts
-pub mod DraftLaws

@@ -1,5 +1,5 @@
 -- A value, or the first cause.
-use Rattle.std.specs.Prelude.{◌≡◌, nat_lt, if◌then◌else◌, Option, Result, Ok, Err, IsErr, Some, None, ℕ}
+use Rattle.std.specs.Prelude.{◌≡◌, nat_lt, if◌then◌else◌, Option, Result, Ok, Err, Some, None, ℕ}
 use Rattle.base_text.specs.declared.fault.Cause.{Cause}
 use Rattle.base_text.specs.declared.fault.Cause.TheVariants.{Memory}
 use Rattle.base_text.specs.declared.fault.BaseFault.{BaseFault}
@@ -36,9 +36,3 @@ IsFaultOrMemory o f c = o ≡ Err f
 abbrev pub FaultOrMemory : {A : Type 0} → Result A BaseFault → Result A BaseFault → Type 0
 FaultOrMemory o (Ok a) = o ≡ Ok a
 FaultOrMemory o (Err f) = IsFaultOrMemory o f f.cause
-
--- a value that was read, or none for another cause than refused memory
-abbrev pub IsUnlessMemory : {A E : Type 0} → Result A Cause → Result (Option A) E → Type 0
-IsUnlessMemory (Ok a) r = r ≡ Ok (Some a)
-IsUnlessMemory (Err Memory) r = IsErr r
-IsUnlessMemory (Err c) r = r ≡ Ok None

@@ -13,7 +13,7 @@ use std::alloc::Global;
 use toml::{Table, Value};
 
 // The code points of a text, each a byte.
-pub fn small_codes(alloc: Global, text: &str) -> Result<Body, Cause>
+fn small_codes(alloc: Global, text: &str) -> Result<Body, Cause>
     ensures { OrMemory (bytes_of text.now) result }
 {
     let mut bytes = Vec::with_capacity(alloc, text.len()).map_err(|_| Cause::Memory)?;
@@ -38,7 +38,7 @@ fn body_of_text(alloc: Global, text: String) -> Result<Body, Cause>
 }
 
 // The body of the rows of a frame that has no `body` besides.
-pub fn read_rows_alone(alloc: Global, body: Option<&Value>, rows: &Value) -> Result<Body, Cause>
+fn read_rows_alone(alloc: Global, body: Option<&Value>, rows: &Value) -> Result<Body, Cause>
     ensures { OrMemory (body_of (seen body.entry) (Some (view rows.now))) result }
 {
     match body {

@@ -49,7 +49,7 @@ impl RowCells {
     }
 }
 
-pub fn is_row_code(code: u8) -> bool
+fn is_row_code(code: u8) -> bool
     ensures { result ≡ is_row_code code }
 {
     (0x20 <= code && code <= 0x7F) || (0x80 <= code && code <= 0x9F)

@@ -32,7 +32,7 @@ pub struct Shown {
     pub body: Body,
 }
 
-pub fn read_head(table: &Table) -> Result<Head, Cause>
+fn read_head(table: &Table) -> Result<Head, Cause>
     ensures { result ≡ head_of (table_view table.now) }
 {
     let id = read_id(member(table, "id"))?;
@@ -88,7 +88,7 @@ fn read_frame(alloc: Global, value: Value) -> Result<Frame, Cause>
 
 // Lets the C library's allocator join the pieces that the tables of the last 32 frames freed: it does so at each request of this
 // size, and that costs little while they are in the cache. Left to the end, it takes a tenth of the time of a large base.
-pub fn settle(alloc: Global, frames: usize) {
+fn settle(alloc: Global, frames: usize) {
     if frames % 32 == 0 {
         let _ = Vec::<u8>::with_capacity(alloc, 4_096);
     }

@@ -28,7 +28,7 @@ fn is_shown_key(key: &str) -> bool
     key == "routes" || key == "lead" || key == "body" || key == "rows"
 }
 
-pub fn is_key(kind: TableKind, key: &str) -> bool
+fn is_key(kind: TableKind, key: &str) -> bool
     ensures { result ≡ is_key kind key.now }
 {
     match kind {

@@ -33,34 +33,20 @@
 #![tactic(auto)]
 
 mod bodies;
-mod body_details;
 mod cells;
-mod detail;
-mod drafts;
 mod fault;
-mod faulty;
-mod field_details;
 mod fields;
-mod frame_details;
 mod frames;
 mod keys;
 mod laws;
 mod limits;
-mod list_details;
-mod misfit;
 mod routes;
 mod rows;
-mod sound_frame;
 mod text;
-mod word;
 
 pub use cells::RowCells;
-pub use detail::{Detail, TextFault, ValueKind};
-pub use drafts::{Draft, draft_of};
 pub use fault::{BaseFault, Cause, Field};
-pub use keys::TableKind;
-pub use laws::{drafts_agree, faults_are_of_frames, texts_mean_one_base};
+pub use laws::texts_mean_one_base;
 pub use limits::MOST_TEXT;
 pub use rows::body_of_rows;
 pub use text::base_read;
-pub use word::Word;

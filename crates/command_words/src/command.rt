@@ -65,15 +65,7 @@ fn audit_command<'a>(alloc: Global) -> Result<Command<'a>, AllocError> {
     let command = Command::new(alloc, "audit")
         .about("Find a base's certificate, or list its faults with the keys that show them")
         .after_help(help::AUDIT)
-        .arg(place(alloc, "BASE", "The base, a TOML file"))?
-        .arg(
-            Arg::new(alloc, "out")
-                .short('o')
-                .long("out")
-                .value_name("FILE")
-                .action(ArgAction::Set)
-                .help("Write the certificate to FILE, only if there is one"),
-        )?;
+        .arg(place(alloc, "BASE", "The base, a TOML file"))?;
     with_policy(alloc, command)
 }
 
@@ -106,16 +98,6 @@ fn walk_command<'a>(alloc: Global) -> Result<Command<'a>, AllocError> {
     with_groups(alloc, command)
 }
 
-fn explain_command<'a>(alloc: Global) -> Result<Command<'a>, AllocError> {
-    let code = Arg::new(alloc, "CODE").action(ArgAction::Set).help(
-        "A printed word, e.g. K7, MISSING or s80; without one all are listed",
-    );
-    Command::new(alloc, "explain")
-        .about("Explain a printed word, with an example and the fix")
-        .after_help(help::EXPLAIN)
-        .arg(code)
-}
-
 fn whole_command<'a>(alloc: Global) -> Result<Command<'a>, AllocError> {
     Command::new(alloc, "pageaudit")
         .bin_name("pageaudit")?
@@ -125,8 +107,7 @@ fn whole_command<'a>(alloc: Global) -> Result<Command<'a>, AllocError> {
         .subcommand(audit_command(alloc)?)?
         .subcommand(check_command(alloc)?)?
         .subcommand(change_command(alloc)?)?
-        .subcommand(walk_command(alloc)?)?
-        .subcommand(explain_command(alloc)?)
+        .subcommand(walk_command(alloc)?)
 }
 
 /// Why there are no words.
@@ -154,10 +135,9 @@ fn collected(rt: &(impl Env + AllocGlobal), alloc: Global) -> io::Result<Vec<Str
 /// What the words ask for. Files are named by their paths.
 #[derive(Drop)]
 pub enum Request<'a> {
-    /// The certificate of a base, in a file of its own if one is named, or its faults.
+    /// The certificate of a base, or its faults.
     Audit {
         base: &'a str,
-        out: Option<&'a str>,
         policy: Policy,
     },
     /// The verdict on a certificate.
@@ -179,10 +159,6 @@ pub enum Request<'a> {
         base: &'a str,
         keys: &'a str,
         groups: Groups,
-    },
-    /// What a printed word means, or all words.
-    Explain {
-        word: Option<&'a str>,
     },
 }
 
@@ -217,7 +193,6 @@ pub fn asked_for<'a>(matches: &'a ArgMatches, groups: Groups) -> Option<Request<
     match matches.subcommand()? {
         ("audit", words) => Some(Request::Audit {
             base: words.get_str("BASE")?,
-            out: words.get_str("out"),
             policy: policy_of(words, groups)?,
         }),
         ("check", words) => Some(Request::Check {
@@ -236,9 +211,6 @@ pub fn asked_for<'a>(matches: &'a ArgMatches, groups: Groups) -> Option<Request<
             base: words.get_str("BASE")?,
             keys: words.get_str("KEYS")?,
             groups,
-        }),
-        ("explain", words) => Some(Request::Explain {
-            word: words.get_str("CODE"),
         }),
         _ => None,
     }

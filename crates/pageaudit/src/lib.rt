@@ -12,7 +12,7 @@
 //! status_of(&run) // 0: cleared, and the line CLEARED was taken whole
 //! ```
 //!
-//! - [`run_audit`], [`run_audit_into`]: a base's certificate, or its faults.
+//! - [`run_audit`]: a base's certificate, or its faults.
 //! - [`run_check`]: the verdict on a certificate; if the status is Clear, the headline holds of the two files.
 //! - [`run_change`]: the verdict on a change of edition; if the status is Clear, the promise to callers inside holds.
 //! - [`run_walk`]: what a caller sees.
@@ -29,7 +29,7 @@ mod output;
 mod status;
 mod walk_run;
 
-pub use audit_run::{run_audit, run_audit_into};
+pub use audit_run::run_audit;
 pub use change_run::run_change;
 pub use check_run::run_check;
 pub use status::{Status, status_of};

@@ -6,8 +6,6 @@ mod base;
 #[cfg(test)]
 mod certificates;
 #[cfg(test)]
-mod drafts;
-#[cfg(test)]
 mod rows;
 #[cfg(test)]
 mod tables;
