@@ -222,8 +222,14 @@ def ran(status, text="", fault=""):
 
 
 UNWRITTEN = "output: write failed after {} bytes"
+LINE = BASES["missing"].splitlines().index("routes = { 0 = 123, 9 = 555 }") + 1
+MISSING = f"base.toml:{LINE}:1: error: MISSING: key 9 of frame 1231b leads to page 555, which has no frame a (keys 1#9)\n"
+UNKNOWN = 'base.toml:2:1: error: X3 UnknownKey: "name" is not a key of a base; did you mean "frame"?\n'
 # The words of each run between its name and its output, its words behind the output, its status and its text.
 RUNS = [
+    ("run_lint demo {}", "50 3 -", 0, ""),
+    ("run_lint missing {}", "50 3 -", 1, MISSING),
+    ("run_lint bad_base_4 {}", "50 3 -", 1, UNKNOWN),
     ("run_audit demo {}", "50 3 -", 0, CERT),
     ("run_audit closed {}", "50 3 7", 0, GROUPED),
     ("run_audit closed {}", "50 3 -", 1, FAULTS["closed"]),
@@ -243,7 +249,7 @@ def run_cases():
     for front, behind, status, text in RUNS:
         for piece in 1, 4_096:
             yield Case(f"{front.format(piece)} whole {behind}", ran(status, text))
-        for room in 0, 1, len(text) - 1:
+        for room in {0, 1, len(text) - 1} if text else ():
             fault = UNWRITTEN.format(room)
             for output in "full", "stalling":
                 yield Case(f"{front.format(7)} {output}/{room} {behind}", ran(3, text[:room], fault))

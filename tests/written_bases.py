@@ -251,7 +251,9 @@ class Written:
         self.sheet = sheet = Sheet(self.pen)
         tops = list(self.top)
         self.random.shuffle(tops)
-        self.is_inline = self.pen.is_odd and self.chance(0.25) and all(frame.fields for frame in self.frames)
+        # The words of a row that touches are those of a frame with a header of its own.
+        has_row = any(isinstance(words, str) and "TOUCHES: row" in words for _, _, words in self.whole_faults)
+        self.is_inline = self.pen.is_odd and self.chance(0.25) and all(frame.fields for frame in self.frames) and not has_row
         self.later = [key for key in tops if isinstance(self.top[key], dict) and self.top[key] and self.chance(0.5)]
         for key in tops:
             if key not in self.later:

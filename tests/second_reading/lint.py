@@ -37,7 +37,8 @@ class Audited:
         return ranks_of(self.base, self.reached)
 
     def text_key(self, id):
-        return "rows" if "rows" in self.tables[id][1] else "body"
+        """Which key a frame's text is under, as far as it has a place of its own: a frame in an inline array has none."""
+        return "rows" if self.place(id, "rows") != self.place(id) else "body"
 
     def faults(self):
         """Each fault in the order in which the audit lists them."""
@@ -145,7 +146,7 @@ def lint(path, data, ceiling=9_999, keyings=65_535, option=None):
     if groups is None:
         return BAD_GROUPS
     if len(data) > MOST_BYTES:
-        words = f"X1 TooLong: the text has {counted(len(data))} bytes, at most {counted(MOST_BYTES)} are allowed"
+        words = f"X1 TooLong: the text has more than {counted(MOST_BYTES)} bytes"
         return f"{path}:1:1: error: {words}\n", "1 error\n", 1
     if not (read := parsed(data)):
         return f"{path}:LINE:COLUMN: {UNREAD}\n", "1 error\n", 1

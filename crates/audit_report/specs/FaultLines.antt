@@ -1,11 +1,10 @@
 -- The lines on standard error.
 use Rattle.std.specs.Prelude.{ℕ, List, [], ◌++◌, Option, Some, None, codes, decimal}
 use Rattle.page_ids.specs.Ids.{page_text}
-use Rattle.base_text.specs.declared.fault.Field.{Field}
-use Rattle.base_text.specs.declared.fault.Field.TheVariants as field
 use Rattle.base_text.specs.declared.fault.BaseFault.{BaseFault}
 use Rattle.base_text.specs.declared.fault.Cause.{Cause}
 use Rattle.base_text.specs.declared.fault.Cause.TheVariants as cause
+use Rattle.base_text.specs.FieldNames.{field_name}
 use Rattle.cert_text.specs.declared.fault.LineCause.{LineCause}
 use Rattle.cert_text.specs.declared.fault.LineCause.TheVariants as line_cause
 use Rattle.cert_text.specs.declared.fault.ReadFault.{ReadFault}
@@ -14,28 +13,14 @@ use Rattle.audit_report.specs.declared.run_fault.RunFault.{RunFault}
 use Rattle.audit_report.specs.declared.run_fault.RunFault.TheVariants as run
 use Rattle.audit_report.specs.Lines.{line, with_id}
 
--- the name of a key of a base file
-abbrev pub field_text : Field → List ℕ
-field_text field.Entry = codes "entry"
-field_text field.Outside = codes "outside"
-field_text field.Frame = codes "frame"
-field_text field.Id = codes "id"
-field_text field.Price = codes "price"
-field_text field.Group = codes "group"
-field_text field.Next = codes "next"
-field_text field.Routes = codes "routes"
-field_text field.Lead = codes "lead"
-field_text field.Body = codes "body"
-field_text field.Rows = codes "rows"
-
 -- why a text is no base: code, name and argument
 abbrev pub base_cause_text : Cause → List ℕ
 base_cause_text cause.TooLong = codes "X1 TooLong"
 base_cause_text cause.NotToml = codes "X2 NotToml"
 base_cause_text cause.UnknownKey = codes "X3 UnknownKey"
-base_cause_text (cause.Absent f) = codes "X4 Absent " ++ field_text f
-base_cause_text (cause.WrongKind f) = codes "X5 WrongKind " ++ field_text f
-base_cause_text (cause.Range f) = codes "X6 Range " ++ field_text f
+base_cause_text (cause.Absent f) = codes "X4 Absent " ++ field_name f
+base_cause_text (cause.WrongKind f) = codes "X5 WrongKind " ++ field_name f
+base_cause_text (cause.Range f) = codes "X6 Range " ++ field_name f
 base_cause_text cause.BodyAndRows = codes "X7 BodyAndRows"
 base_cause_text cause.RowTooLong = codes "X8 RowTooLong"
 base_cause_text cause.RowCode = codes "X9 RowCode"

@@ -1,5 +1,6 @@
 ghost use Rattle.std.specs.Prelude.{◌≡◌, ◌++◌, IfOk, OnOk, decimal};
-ghost use Rattle.audit_report.specs.FaultLines.{field_text, base_cause_text, base_place_text, base_fault_text, line_cause_text, cert_fault_text, fault_words, fault_text};
+ghost use Rattle.base_text.specs.FieldNames.{field_name};
+ghost use Rattle.audit_report.specs.FaultLines.{base_cause_text, base_place_text, base_fault_text, line_cause_text, cert_fault_text, fault_words, fault_text};
 
 use crate::push::{push_id, push_page, push_words_number};
 use crate::run_fault::RunFault;
@@ -8,31 +9,13 @@ use cert_text::{LineCause, ReadFault};
 use page_ids::push_number;
 use std::alloc::{AllocError, Global};
 
-fn field_name(field: Field) -> &'static [u8]
-    ensures { result.now ≡ field_text field }
-{
-    match field {
-        Field::Entry => b"entry",
-        Field::Outside => b"outside",
-        Field::Frame => b"frame",
-        Field::Id => b"id",
-        Field::Price => b"price",
-        Field::Group => b"group",
-        Field::Next => b"next",
-        Field::Routes => b"routes",
-        Field::Lead => b"lead",
-        Field::Body => b"body",
-        Field::Rows => b"rows",
-    }
-}
-
 // Words and the name of a key.
 #[tactic(auto, using(std::proofs::Common::append_assoc))]
 fn push_field(out: &mut Vec<u8>, words: &[u8], field: Field) -> Result<(), AllocError>
-    ensures { OnOk result (out.new.items ≡ out.old.items ++ (words.now ++ field_text field)) }
+    ensures { OnOk result (out.new.items ≡ out.old.items ++ (words.now ++ field_name field)) }
 {
     out.extend_from_slice(words)?;
-    out.extend_from_slice(field_name(field))?;
+    out.extend_from_slice(field.name().as_bytes())?;
     Ok(())
 }
 

@@ -1,6 +1,7 @@
 mod DigitTurns
-mod CodePoints
-mod RowTurns
+pub mod CodePoints
+pub mod RowTurns
 mod Documents
+mod TakenMembers
 mod FrameTurns
 mod WholeFaults

@@ -1,5 +1,6 @@
 pub mod Outcome
 pub mod Seen
+pub mod FieldNames
 pub mod Keys
 pub mod Fields
 pub mod Routes

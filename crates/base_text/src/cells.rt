@@ -49,7 +49,8 @@ impl RowCells {
     }
 }
 
-fn is_row_code(code: u8) -> bool
+/// Whether a row may hold the code: 20 to 7F, or 80 to 9F.
+pub fn is_row_code(code: u8) -> bool
     ensures { result ≡ is_row_code code }
 {
     (0x20 <= code && code <= 0x7F) || (0x80 <= code && code <= 0x9F)

@@ -1,4 +1,5 @@
 ghost use Rattle.std.specs.Prelude.{◌≡◌};
+ghost use Rattle.base_text.specs.FieldNames.{field_name};
 ghost use Rattle.base_text.specs.Outcome.{frame_index, fault_in};
 ghost use Rattle.base_text.specs.Whole.{build_cause};
 
@@ -20,6 +21,27 @@ pub enum Field {
     Lead,
     Body,
     Rows,
+}
+
+impl Field {
+    /// The key as a text writes it, as `price`.
+    pub fn name(self) -> &'static str
+        ensures { result.now ≡ field_name self }
+    {
+        match self {
+            Field::Entry => "entry",
+            Field::Outside => "outside",
+            Field::Frame => "frame",
+            Field::Id => "id",
+            Field::Price => "price",
+            Field::Group => "group",
+            Field::Next => "next",
+            Field::Routes => "routes",
+            Field::Lead => "lead",
+            Field::Body => "body",
+            Field::Rows => "rows",
+        }
+    }
 }
 
 /// Why a text is no base.

@@ -24,8 +24,8 @@ fn number(field: Field, most: u32, value: &Value) -> Result<u32, Cause>
     }
 }
 
-// A page number.
-pub fn page(field: Field, value: &Value) -> Result<PageNo, Cause>
+/// The page number that a value is, or why it is none: the cause names the field.
+pub fn page_of_value(field: Field, value: &Value) -> Result<PageNo, Cause>
     ensures { result ≡ page_of field (view value.now) }
 {
     let number = number(field, MOST_PAGE, value)?;
@@ -36,7 +36,7 @@ pub fn read_entry(value: Option<&Value>) -> Result<PageNo, Cause>
     ensures { result ≡ entry_of (seen value.entry) }
 {
     match value {
-        Some(value) => page(Field::Entry, value),
+        Some(value) => page_of_value(Field::Entry, value),
         None => Err(Cause::Absent(Field::Entry)),
     }
 }
@@ -47,7 +47,7 @@ fn read_pages(alloc: Global, values: &[Value]) -> Result<Vec<PageNo>, Cause>
 {
     let mut pages = Vec::new(alloc);
     for value in values {
-        let page = page(Field::Outside, value)?;
+        let page = page_of_value(Field::Outside, value)?;
         pages.push(page).map_err(|_| Cause::Memory)?;
     }
     Ok(pages)

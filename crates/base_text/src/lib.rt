@@ -27,6 +27,8 @@
 //! ```
 //!
 //! - [`BaseFault`], [`Cause`], [`Field`]: in which frame a text is refused, why, and at which key.
+//! - [`frame_of_table`], [`page_of_value`], [`member`], [`is_key`]: steps of the reading, for a caller that goes on after
+//!   a fault.
 //! - [`RowCells`], [`body_of_rows`]: a row of a screen, and the body that paints rows.
 //!
 //! Codes of two digits are hexadecimal. Which TOML a text is, is what the crate `toml` defines.
@@ -44,8 +46,11 @@ mod routes;
 mod rows;
 mod text;
 
-pub use cells::RowCells;
+pub use cells::{RowCells, is_row_code};
 pub use fault::{BaseFault, Cause, Field};
+pub use fields::page_of_value;
+pub use frames::frame_of_table;
+pub use keys::{TableKind, digit_key, is_key, member, take_member};
 pub use laws::texts_mean_one_base;
 pub use limits::MOST_TEXT;
 pub use rows::body_of_rows;

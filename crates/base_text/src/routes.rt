@@ -5,7 +5,7 @@ ghost use Rattle.base_text.specs.Routes.{digit_of, all_routes, table_routes, rou
 ghost use Rattle.base_text.specs.Seen.{seen};
 
 use crate::fault::{Cause, Field};
-use crate::fields::page;
+use crate::fields::page_of_value;
 use crate::keys::{TableKind, has_only_keys};
 use page_ids::PageNo;
 use toml::{Table, Value};
@@ -26,7 +26,7 @@ fn all_routes(table: &Table) -> Result<[Option<PageNo>; 10], Cause>
 {
     let mut routes = [None; 10];
     for (key, value) in table.iter() {
-        let page = page(Field::Routes, value)?;
+        let page = page_of_value(Field::Routes, value)?;
         routes[digit_of(key.as_str())] = Some(page);
     }
     Ok(routes)

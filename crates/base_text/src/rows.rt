@@ -56,7 +56,7 @@ pub fn body_of_rows(alloc: Global, rows: &[RowCells]) -> Result<Body, AllocError
     Ok(Body::of(bytes))
 }
 
-fn are_too_many(values: &[Value]) -> bool
+pub fn are_too_many(values: &[Value]) -> bool
     ensures { result ≡ are_too_many (items_view values.now) }
 {
     values.len() > 22

@@ -1,16 +1,23 @@
 //! The program: audits the page base of a viewdata information provider.
 //!
-//! `audit`, `check`, `change` and `walk` open their files in the order of the words and hand them to the runs of the crate
+//! `lint`, `audit`, `check`, `change` and `walk` open their files in the order of the words and hand them to the runs of the crate
 //! `pageaudit`, which are proved over any reader and writer. This crate only opens files, prints and picks the exit status.
 #![tactic(auto)]
+
+mod out_file;
 
 use audit_report::{FromRead, IntoWrite, RunFault, fault_text, write_whole};
 use checker::Policy;
 use clap::error::ErrorKind;
 use clap::{ArgMatches, Error};
 use command_words::{Request, WordsFault, asked_for, groups_of, matches, words};
+use explain_words::{explanation, nearest, overview};
 use frame_records::Groups;
-use pageaudit::{Status, run_audit, run_change, run_check, run_walk, status_of};
+use out_file::{is_same_file, open_out};
+use pageaudit::{
+    Counts, Status, counted_text, run_audit, run_audit_into, run_change, run_check, run_lint,
+    run_walk, status_of, status_of_lint,
+};
 use std::process::ExitCode;
 use std::rt::{Env, Files};
 use std::{fs, io};
@@ -34,12 +41,12 @@ fn run<R: Files + Env + Print + Eprint + AllocGlobal>(rt: &R) -> u8 {
 fn obey<R: Files + Print + Eprint + AllocGlobal>(rt: &R, words: &[String]) -> u8 {
     match matches(rt.alloc(), words) {
         Ok(matches) => dispatch(rt, &matches),
-        Err(error) => explain(rt, &error),
+        Err(error) => report(rt, &error),
     }
 }
 
 // Prints what clap has to say: help on standard output, or what is wrong with the words on standard error.
-fn explain<R: Print + Eprint + AllocGlobal>(rt: &R, error: &Error) -> u8 {
+fn report<R: Print + Eprint + AllocGlobal>(rt: &R, error: &Error) -> u8 {
     if error.kind() == ErrorKind::OutOfMemory {
         return refused(rt, &RunFault::Memory);
     }
@@ -47,20 +54,40 @@ fn explain<R: Print + Eprint + AllocGlobal>(rt: &R, error: &Error) -> u8 {
         let _ = error.print(rt);
         return 2;
     }
-    match print_help(rt, error) {
-        Ok(()) => 0,
-        Err(fault) => refused(rt, &fault),
+    match format!(in rt.alloc(); "{error}") {
+        Ok(help) => print_whole(rt, help.as_str()),
+        Err(_) => refused(rt, &RunFault::Memory),
     }
 }
 
-// Writes a help text whole.
-fn print_help<R: Print + AllocGlobal>(rt: &R, help: &Error) -> Result<(), RunFault> {
-    let Ok(text) = format!(in rt.alloc(); "{help}") else {
-        return Err(RunFault::Memory);
-    };
+// Writes a text whole; the exit status.
+fn print_whole<R: Print + Eprint + AllocGlobal>(rt: &R, text: &str) -> u8 {
     match write_whole(&mut IntoWrite::new(io::writer(rt)), text.as_bytes()) {
-        Ok(()) => Ok(()),
-        Err(fault) => Err(RunFault::Write(fault.wrote)),
+        Ok(()) => 0,
+        Err(fault) => refused(rt, &RunFault::Write(fault.wrote)),
+    }
+}
+
+// Prints what a word means, or all words.
+fn explain<R: Print + Eprint + AllocGlobal>(rt: &R, word: Option<&str>) -> u8 {
+    let Some(word) = word else {
+        return print_whole(rt, overview());
+    };
+    if let Some(text) = explanation(word) {
+        return print_whole(rt, text);
+    }
+    match nearest(rt.alloc(), word) {
+        Ok(Some(near)) => {
+            let _ = eprintln!(rt; "error: no printed word is '{word}'; did you mean '{near}'?");
+            2
+        }
+        Ok(None) => {
+            let _ = eprintln!(rt;
+                "error: no printed word is '{word}'; 'pageaudit explain' lists them"
+            );
+            2
+        }
+        Err(_) => refused(rt, &RunFault::Memory),
     }
 }
 
@@ -73,22 +100,40 @@ fn refused<R: Eprint + AllocGlobal>(rt: &R, fault: &RunFault) -> u8 {
     }
 }
 
-// Does what was asked for. The groups are read first; files are opened in the order of the words.
+// Does what was asked for; the exit status. The groups are read first; files are opened in the order of the words.
 fn dispatch<R: Files + Print + Eprint + AllocGlobal>(rt: &R, matches: &ArgMatches) -> u8 {
-    let run = match groups_of(matches).map(|groups| asked_for(matches, groups)) {
+    match groups_of(matches).map(|groups| asked_for(matches, groups)) {
+        Ok(
+            Some(
+                Request::Audit {
+                    base,
+                    out: Some(out),
+                    ..
+                },
+            ),
+        ) if is_same_file(rt, base, out) => {
+            let _ = eprintln!(rt; "error: --out names the base itself");
+            2
+        }
         Ok(Some(request)) => answer(rt, &request),
-        Ok(None) => return 2,
-        Err(_) => Err(RunFault::Groups),
-    };
-    match &run {
-        Err(fault) => refused(rt, fault),
-        Ok(_) => status_of(&run),
+        Ok(None) => 2,
+        Err(_) => refused(rt, &RunFault::Groups),
     }
 }
 
-fn answer<R: Files + Print + AllocGlobal>(rt: &R, request: &Request) -> Result<Status, RunFault> {
-    match request {
-        Request::Audit { base, policy } => audit_file(rt, base, policy),
+// Runs what was asked for.
+fn answer<R: Files + Print + Eprint + AllocGlobal>(rt: &R, request: &Request) -> u8 {
+    let run = match request {
+        Request::Audit {
+            base,
+            out: None,
+            policy,
+        } => audit_file(rt, base, policy),
+        Request::Audit {
+            base,
+            out: Some(out),
+            policy,
+        } => audit_into(rt, base, out, policy),
         Request::Check { base, cert, policy } => check_files(rt, base, cert, policy),
         Request::Change {
             old,
@@ -98,6 +143,45 @@ fn answer<R: Files + Print + AllocGlobal>(rt: &R, request: &Request) -> Result<S
             policy,
         } => change_files(rt, [old, old_cert, new, new_cert], policy),
         Request::Walk { base, keys, groups } => walk_file(rt, base, keys, groups),
+        Request::Lint { base, policy } => return lint(rt, base, policy),
+        Request::Explain { word } => return explain(rt, *word),
+    };
+    match &run {
+        Err(fault) => refused(rt, fault),
+        Ok(_) => status_of(&run),
+    }
+}
+
+// Prints each finding, and how many there are on standard error.
+fn lint<R: Files + Print + Eprint + AllocGlobal>(rt: &R, base: &str, policy: &Policy) -> u8 {
+    let run = lint_file(rt, base, policy);
+    match &run {
+        Ok(counts) => {
+            tell_counts(rt, counts);
+            status_of_lint(&run)
+        }
+        Err(fault) => refused(rt, fault),
+    }
+}
+
+fn lint_file<R: Files + Print + AllocGlobal>(
+    rt: &R,
+    path: &str,
+    policy: &Policy,
+) -> Result<Counts, RunFault> {
+    let base = opened(rt, path, RunFault::ReadBase)?;
+    let mut base = FromRead::new(base);
+    let mut out = IntoWrite::new(io::writer(rt));
+    run_lint(rt.alloc(), &mut base, &mut out, path, policy)
+}
+
+// The numbers of findings, if there are some. Without memory for the line it isn't printed: the findings are.
+fn tell_counts<R: Eprint + AllocGlobal>(rt: &R, counts: &Counts) {
+    let Ok(text) = counted_text(rt.alloc(), counts) else {
+        return;
+    };
+    if let Ok(line) = str::from_utf8(text.as_slice()) {
+        let _ = eprint!(rt; "{line}");
     }
 }
 
@@ -129,6 +213,26 @@ fn audit_file<R: Files + Print + AllocGlobal>(
     let mut base = FromRead::new(base);
     let mut out = IntoWrite::new(io::writer(rt));
     run_audit(rt.alloc(), &mut base, &mut out, policy)
+}
+
+// The certificate goes into a file of its own.
+fn audit_into<R: Files + Print + AllocGlobal>(
+    rt: &R,
+    base: &str,
+    path: &str,
+    policy: &Policy,
+) -> Result<Status, RunFault> {
+    let base = opened(rt, base, RunFault::ReadBase)?;
+    let Ok((cert_file, cert)) = open_out(rt, path) else {
+        return Err(RunFault::Write(0));
+    };
+    let run = {
+        let mut base = FromRead::new(base);
+        let mut cert = IntoWrite::new(cert);
+        let mut out = IntoWrite::new(io::writer(rt));
+        run_audit_into(rt.alloc(), &mut base, &mut cert, &mut out, policy)
+    };
+    cert_file.close(rt, run)
 }
 
 fn check_files<R: Files + Print + AllocGlobal>(

@@ -61,11 +61,43 @@ fn with_policy<'a>(alloc: Global, command: Command<'a>) -> Result<Command<'a>, A
     with_groups(alloc, command)
 }
 
+fn lint_command<'a>(alloc: Global) -> Result<Command<'a>, AllocError> {
+    let ceiling = number(
+        alloc,
+        "ceiling",
+        'c',
+        MOST_PENCE,
+        "Report each frame that costs more than N pence, 0 to 9999",
+    );
+    let keyings = number(
+        alloc,
+        "keyings",
+        'k',
+        MOST_RANK,
+        "Report each frame more than N keys away from the entry page, 0 to 65535",
+    );
+    let command = Command::new(alloc, "lint")
+        .about("Find every fault of a base, each at its line and column")
+        .after_help(help::LINT)
+        .arg(place(alloc, "BASE", "The base, a TOML file"))?
+        .arg(ceiling.required(false).default_value("9999"))?
+        .arg(keyings.required(false).default_value("65535"))?;
+    with_groups(alloc, command)
+}
+
 fn audit_command<'a>(alloc: Global) -> Result<Command<'a>, AllocError> {
     let command = Command::new(alloc, "audit")
         .about("Find a base's certificate, or list its faults with the keys that show them")
         .after_help(help::AUDIT)
-        .arg(place(alloc, "BASE", "The base, a TOML file"))?;
+        .arg(place(alloc, "BASE", "The base, a TOML file"))?
+        .arg(
+            Arg::new(alloc, "out")
+                .short('o')
+                .long("out")
+                .value_name("FILE")
+                .action(ArgAction::Set)
+                .help("Write the certificate to FILE, only if there is one"),
+        )?;
     with_policy(alloc, command)
 }
 
@@ -98,16 +130,28 @@ fn walk_command<'a>(alloc: Global) -> Result<Command<'a>, AllocError> {
     with_groups(alloc, command)
 }
 
+fn explain_command<'a>(alloc: Global) -> Result<Command<'a>, AllocError> {
+    let code = Arg::new(alloc, "CODE").action(ArgAction::Set).help(
+        "A printed word, e.g. K7, MISSING or s80; without one all are listed",
+    );
+    Command::new(alloc, "explain")
+        .about("Explain a printed word, with an example and the fix")
+        .after_help(help::EXPLAIN)
+        .arg(code)
+}
+
 fn whole_command<'a>(alloc: Global) -> Result<Command<'a>, AllocError> {
     Command::new(alloc, "pageaudit")
         .bin_name("pageaudit")?
         .about("Audit the page base of a viewdata information provider")
         .version(help::VERSION)
         .subcommand_required(true)
+        .subcommand(lint_command(alloc)?)?
         .subcommand(audit_command(alloc)?)?
         .subcommand(check_command(alloc)?)?
         .subcommand(change_command(alloc)?)?
-        .subcommand(walk_command(alloc)?)
+        .subcommand(walk_command(alloc)?)?
+        .subcommand(explain_command(alloc)?)
 }
 
 /// Why there are no words.
@@ -135,9 +179,15 @@ fn collected(rt: &(impl Env + AllocGlobal), alloc: Global) -> io::Result<Vec<Str
 /// What the words ask for. Files are named by their paths.
 #[derive(Drop)]
 pub enum Request<'a> {
-    /// The certificate of a base, or its faults.
+    /// Every fault of a base, each at its place.
+    Lint {
+        base: &'a str,
+        policy: Policy,
+    },
+    /// The certificate of a base, in a file of its own if one is named, or its faults.
     Audit {
         base: &'a str,
+        out: Option<&'a str>,
         policy: Policy,
     },
     /// The verdict on a certificate.
@@ -159,6 +209,10 @@ pub enum Request<'a> {
         base: &'a str,
         keys: &'a str,
         groups: Groups,
+    },
+    /// What a printed word means, or all words.
+    Explain {
+        word: Option<&'a str>,
     },
 }
 
@@ -191,8 +245,13 @@ fn policy_of(words: &ArgMatches, groups: Groups) -> Option<Policy> {
 /// requires.
 pub fn asked_for<'a>(matches: &'a ArgMatches, groups: Groups) -> Option<Request<'a>> {
     match matches.subcommand()? {
+        ("lint", words) => Some(Request::Lint {
+            base: words.get_str("BASE")?,
+            policy: policy_of(words, groups)?,
+        }),
         ("audit", words) => Some(Request::Audit {
             base: words.get_str("BASE")?,
+            out: words.get_str("out"),
             policy: policy_of(words, groups)?,
         }),
         ("check", words) => Some(Request::Check {
@@ -211,6 +270,9 @@ pub fn asked_for<'a>(matches: &'a ArgMatches, groups: Groups) -> Option<Request<
             base: words.get_str("BASE")?,
             keys: words.get_str("KEYS")?,
             groups,
+        }),
+        ("explain", words) => Some(Request::Explain {
+            word: words.get_str("CODE"),
         }),
         _ => None,
     }

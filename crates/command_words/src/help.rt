@@ -3,9 +3,16 @@
 /// The program's version, which the list of changes names too.
 pub const VERSION: &str = "0.9.0";
 
+/// Of `lint`.
+pub const LINT: &str = concat!(
+    "Example: pageaudit lint examples/town.toml\n\n",
+    "Status: 0 no error, 1 errors, 2 bad command line,\n",
+    "        3 a file that can't be read, or a write that fails, 4 out of memory",
+);
+
 /// Of `audit`.
 pub const AUDIT: &str = concat!(
-    "Example: pageaudit audit examples/demo.toml --ceiling 50 --keyings 3\n\n",
+    "Example: pageaudit audit examples/demo.toml --ceiling 50 --keyings 3 --out demo.cert\n\n",
     "Status: 0 a certificate, 1 faults, 2 bad command line,\n",
     "        3 a file that is refused or can't be read, or a write that fails, 4 out of memory",
 );
@@ -29,4 +36,10 @@ pub const WALK: &str = concat!(
     "Example: pageaudit walk examples/demo.toml '1#*#*00'\n\n",
     "Status: 0 a walk, 1 no session, 2 bad command line or keys,\n",
     "        3 a file that is refused or can't be read, or a write that fails, 4 out of memory",
+);
+
+/// Of `explain`.
+pub const EXPLAIN: &str = concat!(
+    "Example: pageaudit explain K7\n\n",
+    "Status: 0 an explanation or the list, 2 an unknown word, 3 a write that fails, 4 out of memory",
 );

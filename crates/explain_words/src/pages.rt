@@ -1602,6 +1602,26 @@ again; or publish when no caller is inside.
 A warning: no key leads to this frame from the entry page, so no caller sees
 it.
 
+The file base:
+
+    entry = 1
+
+    [[frame]]
+    id = "1a"
+    rows = []
+
+    [[frame]]
+    id = "2a"
+    rows = []
+
+The commands:
+
+    pageaudit lint base 2>/dev/null
+
+They print:
+
+    base:7:1: warning: UNREACHED: no key leads to frame 2a from the entry page
+
 Fix: add a route or 'next = true' that leads to the frame, or remove it.
 "#,
         ..=70 => r#"X1 TooLong

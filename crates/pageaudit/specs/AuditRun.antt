@@ -42,3 +42,25 @@ IsAuditRun base_file out policy (Err run.ReadBase) = IsBaseBroken base_file × I
 IsAuditRun base_file out policy (Err (run.Write wrote)) = IsReportRun base_file out policy (Err (run.Write wrote))
 IsAuditRun base_file out policy (Err run.Memory) = IsReadWithin base_limit base_file × IsUntouched out
 IsAuditRun base_file out policy (Err _) = ⊥
+
+-- a certificate was written to its own file, and nothing to the output; or every fault to the output, and nothing to that file
+abbrev pub IsSplitWritten : Device → Device → Outcome → Result Status RunFault → Type 0
+IsSplitWritten cert out (Certified c) answer = IsTextWritten cert (report_text (Certified c)) status.Clear answer × IsUntouched out
+IsSplitWritten cert out (Faulty faults) answer = IsTextWritten out (report_text (Faulty faults)) status.Faulty answer × IsUntouched cert
+
+-- as IsReportRun, with a file of its own for a certificate
+pub record IsSplitRun (base_file cert out : Device) (policy : Policy) (answer : Result Status RunFault) : Type 0 where
+  pub base : BaseView
+  pub base_read : IsBaseOfFile base_file base
+  pub outcome : Outcome
+  pub is : IsOutcomeOf base policy outcome
+  pub written : IsSplitWritten cert out outcome answer
+
+-- as IsAuditRun, with a file of its own for a certificate
+abbrev pub IsAuditIntoRun : Device → Device → Device → Policy → Result Status RunFault → Type 0
+IsAuditIntoRun base_file cert out policy (Ok status) = IsSplitRun base_file cert out policy (Ok status)
+IsAuditIntoRun base_file cert out policy (Err (run.Base fault)) = IsBaseTextFault base_file fault × IsUntouched cert × IsUntouched out
+IsAuditIntoRun base_file cert out policy (Err run.ReadBase) = IsBaseBroken base_file × IsUntouched cert × IsUntouched out
+IsAuditIntoRun base_file cert out policy (Err (run.Write wrote)) = IsSplitRun base_file cert out policy (Err (run.Write wrote))
+IsAuditIntoRun base_file cert out policy (Err run.Memory) = IsReadWithin base_limit base_file × IsUntouched cert × IsUntouched out
+IsAuditIntoRun base_file cert out policy (Err _) = ⊥

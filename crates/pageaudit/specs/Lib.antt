@@ -6,3 +6,4 @@ pub mod CheckRun
 pub mod ChangeRun
 pub mod WalkRun
 pub mod AuditRun
+pub mod LintRun

@@ -1,7 +1,7 @@
 ghost use Rattle.std.specs.Prelude.{◌≡◌, false};
 ghost use Rattle.audit_report.specs.ReportLines.{report_text};
 ghost use Rattle.pageaudit.specs.Device.{device, IsTextWritten};
-ghost use Rattle.pageaudit.specs.AuditRun.{IsAuditRun, status_of_outcome};
+ghost use Rattle.pageaudit.specs.AuditRun.{IsAuditRun, IsAuditIntoRun, IsSplitWritten, status_of_outcome};
 
 use crate::file_fault::base_fault;
 use crate::input::read_base;
@@ -56,6 +56,50 @@ pub fn run_audit<B: Source, O: Sink>(
     };
     match audit(alloc, &base, policy) {
         Ok(outcome) => write_report(alloc, out, &outcome),
+        Err(_) => Err(RunFault::Memory),
+    }
+}
+
+// Writes the report of an outcome: a certificate to its own file, faults to the output.
+fn write_split<C: Sink, O: Sink>(
+    alloc: Global,
+    cert: &mut C,
+    out: &mut O,
+    outcome: &Outcome,
+) -> Result<Status, RunFault>
+    requires cert_open { (C.seen cert.old).failed ≡ false }
+    requires out_open { (O.seen out.old).failed ≡ false }
+    ensures { IsSplitWritten (device C.seen cert.old cert.new) (device O.seen out.old out.new) outcome.now result }
+{
+    match outcome {
+        Outcome::Certified(_) => write_report(alloc, cert, outcome),
+        Outcome::Faulty(_) => write_report(alloc, out, outcome),
+    }
+}
+
+/// Audits a base and writes the certificate to a file of its own, or every fault to the output.
+///
+/// Otherwise as [`run_audit`]. `Write` is the fault of whichever of the two was written.
+pub fn run_audit_into<B: Source, C: Sink, O: Sink>(
+    alloc: Global,
+    base: &mut B,
+    cert: &mut C,
+    out: &mut O,
+    policy: &Policy,
+) -> Result<Status, RunFault>
+    requires base_open { (B.seen base.old).failed ≡ false }
+    requires cert_open { (C.seen cert.old).failed ≡ false }
+    requires out_open { (O.seen out.old).failed ≡ false }
+
+    // As for `run_audit`. Of the two outputs at most one is written: the certificate's file if and only if there is one.
+    ensures { IsAuditIntoRun (device B.seen base.old base.new) (device C.seen cert.old cert.new) (device O.seen out.old out.new) policy.now result }
+{
+    let base = match read_base(alloc, base) {
+        Ok(base) => base,
+        Err(fault) => return Err(base_fault(fault)),
+    };
+    match audit(alloc, &base, policy) {
+        Ok(outcome) => write_split(alloc, cert, out, &outcome),
         Err(_) => Err(RunFault::Memory),
     }
 }

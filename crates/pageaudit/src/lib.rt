@@ -1,4 +1,4 @@
-//! The four runs: each reads files and writes one text about them.
+//! The runs of the program: each reads files and writes one text about them.
 //!
 //! Each run reads its files in the order of its arguments, decides, and writes one text, or returns a fault and writes
 //! nothing. They take any reader and writer. What contracts say of bytes is about readers and writers that show theirs, as
@@ -12,11 +12,12 @@
 //! status_of(&run) // 0: cleared, and the line CLEARED was taken whole
 //! ```
 //!
-//! - [`run_audit`]: a base's certificate, or its faults.
+//! - [`run_audit`], [`run_audit_into`]: a base's certificate, or its faults.
 //! - [`run_check`]: the verdict on a certificate; if the status is Clear, the headline holds of the two files.
 //! - [`run_change`]: the verdict on a change of edition; if the status is Clear, the promise to callers inside holds.
 //! - [`run_walk`]: what a caller sees.
-//! - [`Status`], [`status_of`]: the result of a run, and the program's exit status for it.
+//! - [`run_lint`], [`status_of_lint`]: every finding in a base's file, and the exit status for them.
+//! - [`Status`], [`status_of`]: the result of another run, and the program's exit status for it.
 #![tactic(auto)]
 
 mod audit_run;
@@ -25,12 +26,15 @@ mod check_run;
 mod edition;
 mod file_fault;
 mod input;
+mod lint_run;
 mod output;
 mod status;
 mod walk_run;
 
-pub use audit_run::run_audit;
+pub use audit_run::{run_audit, run_audit_into};
 pub use change_run::run_change;
 pub use check_run::run_check;
+pub use lint_report::{Counts, counted_text};
+pub use lint_run::{run_lint, status_of_lint};
 pub use status::{Status, status_of};
 pub use walk_run::run_walk;

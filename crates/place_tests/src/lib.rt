@@ -4,4 +4,4 @@
 #[cfg(test)]
 mod places;
 #[cfg(test)]
-mod scan;
+mod text_lines;

@@ -36,6 +36,7 @@ pub enum Call {
     Audit,
     Faults,
     Replay,
+    RunLint,
     RunAudit,
     RunCheck,
     RunChange,
@@ -67,6 +68,7 @@ impl Call {
             "audit" => Some(Call::Audit),
             "faults" => Some(Call::Faults),
             "replay" => Some(Call::Replay),
+            "run_lint" => Some(Call::RunLint),
             "run_audit" => Some(Call::RunAudit),
             "run_check" => Some(Call::RunCheck),
             "run_change" => Some(Call::RunChange),
@@ -95,7 +97,7 @@ impl Call {
             Call::ScriptTo => &[Kind::Found, Kind::Number],
             Call::Audit | Call::Faults => &[Kind::Base, Kind::Policy],
             Call::Replay => &[Kind::Base, Kind::Groups, Kind::Keys],
-            Call::RunAudit => &[Kind::File, Kind::Output, Kind::Policy],
+            Call::RunLint | Call::RunAudit => &[Kind::File, Kind::Output, Kind::Policy],
             Call::RunCheck => &[Kind::File, Kind::File, Kind::Output, Kind::Policy],
             Call::RunChange => &[
                 Kind::File,
@@ -178,6 +180,9 @@ impl Call {
             }
             (Call::CheckBytes, Input::Bytes(base), Input::Bytes(cert), Input::Policy(policy)) => {
                 base_calls::checked(alloc, base.as_slice(), cert.as_slice(), policy)
+            }
+            (Call::RunLint, Input::File(base), Input::Output(output), Input::Policy(policy)) => {
+                run_calls::lint(alloc, base, *output, policy)
             }
             (Call::RunAudit, Input::File(base), Input::Output(output), Input::Policy(policy)) => {
                 run_calls::audit(alloc, base, *output, policy)

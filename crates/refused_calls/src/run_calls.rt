@@ -5,8 +5,22 @@ use crate::fakes::{File, Output};
 use audit_report::IntoWrite;
 use checker::Policy;
 use frame_records::Groups;
-use pageaudit::{run_audit, run_change, run_check, run_walk};
+use pageaudit::{Status, run_audit, run_change, run_check, run_lint, run_walk};
 use std::alloc::Global;
+
+/// `run_lint`, of a file that is called base.toml. It is faulty if there is an error.
+pub fn lint(alloc: Global, base: &File, output: Output, policy: &Policy) -> Answer {
+    let Ok(mut writer) = output.writer(alloc) else {
+        return Answer::Memory;
+    };
+    let mut out = IntoWrite::new(&mut writer);
+    let run = match run_lint(alloc, &mut base.source(), &mut out, "base.toml", policy) {
+        Ok(counts) if counts.errors == 0 => Ok(Status::Clear),
+        Ok(_) => Ok(Status::Faulty),
+        Err(fault) => Err(fault),
+    };
+    Answer::Ran(run, writer.taken)
+}
 
 /// `run_audit`
 pub fn audit(alloc: Global, base: &File, output: Output, policy: &Policy) -> Answer {

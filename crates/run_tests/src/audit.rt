@@ -6,7 +6,7 @@ use audit_report::RunFault;
 use checker::Policy;
 use demo_texts::{CERT, DEMO};
 use fake_devices::{FakeSink, FakeSource};
-use pageaudit::{Status, run_audit, status_of};
+use pageaudit::{Status, run_audit, run_audit_into, status_of};
 use std::alloc::Global;
 use std::test::Fail;
 
@@ -48,6 +48,25 @@ fn an_audit_that_fails_asks_for_no_more(rt: HostRuntime) -> Result<(), Fail> {
         let (answer, reads, flushes, taken) = audited(rt.alloc(), base, kept, ALL, &policy);
         let told = (status_of(&answer), reads, flushes, taken);
         same_in(kept, told, (3, calls, 0, 0))?;
+    }
+    Ok(())
+}
+
+// The status of an audit with a file of its own for a certificate, and how often that file and the output were flushed.
+fn audited_into(alloc: Global, policy: &Policy) -> (u8, u32, u32) {
+    let mut base = source(DEMO, ALL, ALL);
+    let mut cert = sink(alloc, CERT, ALL);
+    let mut out = sink(alloc, CERT, ALL);
+    let answer = run_audit_into(alloc, &mut base, &mut cert, &mut out, policy);
+    (status_of(&answer), cert.flushes, out.flushes)
+}
+
+// Under a ceiling of 0 the demo has faults, under one of 50 a certificate: only one of the two outputs is written.
+#[test]
+fn a_certificate_goes_into_its_own_file(rt: HostRuntime) -> Result<(), Fail> {
+    for (ceiling, wanted) in [(50, (0, 1, 0)), (0, (1, 0, 1))] {
+        let policy = policy(ceiling, 3)?;
+        same_in(ceiling, audited_into(rt.alloc(), &policy), wanted)?;
     }
     Ok(())
 }

@@ -8,6 +8,8 @@ mod change;
 #[cfg(test)]
 mod check;
 #[cfg(test)]
+mod lint;
+#[cfg(test)]
 mod status;
 #[cfg(test)]
 mod told;

@@ -9,4 +9,5 @@ pub mod LineSteps
 pub mod Counting
 pub mod Keys
 pub mod Within
+pub mod TextTurns
 pub mod Worked

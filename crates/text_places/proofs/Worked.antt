@@ -1,5 +1,5 @@
 -- The definitions at small texts.
-use Rattle.std.proofs.Common.{◌≡◌, List, [], ◌∷◌, Some, None, codes, refl}
+use Rattle.std.proofs.Common.{◌≡◌, [], ◌∷◌, Some, None, codes, refl}
 use Rattle.toml.proofs.OnLiterals.{toml_on_literals}
 use Rattle.text_places.specs.Skips.{after_atom, after_member, after_members, after_value}
 use Rattle.text_places.specs.Marks.{marks_from, marks}

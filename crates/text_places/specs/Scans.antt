@@ -1,5 +1,5 @@
 -- The line and the column of an offset in a text.
-use Rattle.std.specs.Prelude.{ℕ, ◌+◌, Bool, ◌||◌, ◌==◌, nat_lt, nat_le, if◌then◌else◌, List, [], ◌∷◌, take}
+use Rattle.std.specs.Prelude.{ℕ, ◌+◌, ◌*◌, ◌≡◌, ◌≤◌, Bool, ◌||◌, ◌==◌, nat_lt, nat_le, if◌then◌else◌, List, [], ◌∷◌, take, length, slice_get, Some}
 use Rattle.std.specs.List.{count_by, list_any}
 
 abbrev pub is_feed : ℕ → Bool
@@ -26,7 +26,6 @@ column_after before = count_by starts_char (last_line before) + 1
 abbrev pub place_at : List ℕ → ℕ → ℕ × ℕ
 place_at text offset = (line_after (take offset text), column_after (take offset text))
 
--- a scan of a text, which has come to an offset
-pub record ScanView : Type 0 where
-  pub text : List ℕ
-  pub at : ℕ
+-- the places of the offsets 0, 512 and so on
+abbrev pub ArePlaces : List ℕ → List (ℕ × ℕ) → Type 0
+ArePlaces text places = (step : ℕ) → step * 512 ≤ length text → slice_get places step ≡ Some (place_at text (step * 512))

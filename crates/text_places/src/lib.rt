@@ -1,7 +1,8 @@
 //! Where a base's text writes what a fault is about: at which byte, in which line and column.
 //!
 //! [`Places::of`] goes over the expressions of a TOML text, pairs and headers, as toml's own grammar reads them, and notes where
-//! each key of each frame is first written. It keeps no value. [`Scan`] turns offsets into lines and columns.
+//! each key of each frame is first written. It keeps no value. [`TextLines`] turns offsets into lines and columns, and
+//! [`place_in`] one offset.
 //!
 //! ```
 //! let text = "entry = 1\n[[frame]]\nid = \"1a\"\nroutes.3 = 5\n";
@@ -10,7 +11,7 @@
 //! places.of_header(0) // 10
 //! places.of_route(0, "3") // 30
 //! places.of_key(Some(0), "price") // 10: the frame has no price
-//! Scan::new(text.as_bytes()).advance(30) // (4, 1)
+//! TextLines::of(alloc, text.as_bytes())?.place(30) // (4, 1)
 //! ```
 //!
 //! - A frame is the k-th header `[[frame]]`, however it is spelled, and what follows up to the next. A frame in an inline array
@@ -22,9 +23,9 @@
 mod laws;
 mod lines;
 mod places;
-mod scan;
+mod text_lines;
 mod values;
 
 pub use laws::{frames_have_their_keys, headers_are_frames, places_are_within};
 pub use places::Places;
-pub use scan::Scan;
+pub use text_lines::{TextLines, place_in};

@@ -8,4 +8,6 @@ mod certificates;
 #[cfg(test)]
 mod rows;
 #[cfg(test)]
+mod steps;
+#[cfg(test)]
 mod tables;

@@ -1,0 +1,15 @@
+mod DetailTurns
+mod Judged
+mod Agreements
+mod FieldAgreements
+mod BodyAgreements
+mod DraftAgreements
+mod DraftParts
+mod FrameFaults
+mod PlaceTurns
+mod WholeTurns
+mod SortedPlaces
+mod WholeFirsts
+mod BuildFaults
+mod WholeAgreements
+mod DraftTables

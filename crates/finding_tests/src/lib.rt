@@ -1,0 +1,5 @@
+//! Tests of `lint_report`.
+#![tactic(auto)]
+
+#[cfg(test)]
+mod lint;

@@ -1,0 +1,3 @@
+pub mod NumberTurns
+pub mod Ordering
+pub mod Judged

@@ -1,0 +1,27 @@
+//! Every finding of `lint` in a base's text, at its place, and the lines that are printed of them.
+//!
+//! ```
+//! let findings = lint(alloc, text, &policy)?; // all faults of the text, or those of its audit and what no key reaches
+//! let lines = lint_text(alloc, b"town.toml", text, findings.as_slice())?; // town.toml:31:8: error: X2 NotToml: ..
+//! Counts::of(findings.as_slice()) // 1 error, no warning
+//! ```
+//!
+//! - [`lint`], [`Finding`], [`Level`]: the findings in the order of their places.
+//! - [`lint_text`], [`Counts`], [`counted_text`]: what is printed of them.
+//! - Definitions: what is found (`Lint`, `TextFindings`, `AuditFindings`), where (`Spots`), in which order (`Order`).
+#![tactic(auto)]
+
+mod audit_findings;
+mod counts;
+mod finding;
+mod judging;
+mod lookup;
+mod order;
+mod printing;
+mod spots;
+mod text_findings;
+
+pub use counts::{Counts, counted_text};
+pub use finding::{Finding, Level};
+pub use judging::lint;
+pub use printing::lint_text;

@@ -1,0 +1,185 @@
+-- The words of a fault of a base's text.
+use Rattle.std.specs.Prelude.{ℕ, ℤ, Bool, true, false, ◌||◌, ◌==◌, if◌then◌else◌, List, [], ◌++◌, codes, Option, Some, None}
+use Rattle.page_ids.specs.Id.{Id}
+use Rattle.base_text.specs.declared.fault.Field.{Field}
+use Rattle.base_text.specs.declared.fault.Field.TheVariants as field
+use Rattle.base_text.specs.declared.keys.TableKind.{TableKind}
+use Rattle.base_text.specs.declared.keys.TableKind.TheVariants as table
+use Rattle.base_faults.specs.declared.detail.Detail.{Detail}
+use Rattle.base_faults.specs.declared.detail.Detail.TheVariants.{UnknownKey, Absent, WrongKind, WrongItem, Number, ItemNumber, Lead, BodyCode, TooManyRows, BodyAndRows, RowTooLong, RowCode, BadFrame}
+use Rattle.base_faults.specs.declared.detail.ValueKind.{ValueKind}
+use Rattle.base_faults.specs.declared.detail.ValueKind.TheVariants as value
+use Rattle.base_faults.specs.declared.detail.TextFault.{TextFault}
+use Rattle.lint_words.specs.Pieces.{grouped, quoted, char_text, frame_name}
+use Rattle.lint_words.specs.KeyPieces.{key_text, key_subject, item_text, out_of_range_text}
+use Rattle.lint_words.specs.NearKeys.{nearest, named_keys}
+
+-- what a value is
+abbrev pub kind_text : ValueKind → List ℕ
+kind_text value.String = codes "a string"
+kind_text value.Integer = codes "a whole number"
+kind_text value.Float = codes "a decimal number"
+kind_text value.Boolean = codes "true or false"
+kind_text value.Datetime = codes "a date or time"
+kind_text value.Array = codes "a list"
+kind_text value.Table = codes "a table"
+
+-- what the value of a key has to be
+abbrev pub needed_text : Field → List ℕ
+needed_text field.Entry = codes "a whole number"
+needed_text field.Outside = codes "a list of whole numbers"
+needed_text field.Frame = codes "an array of tables"
+needed_text field.Id = codes "a string"
+needed_text field.Price = codes "a whole number"
+needed_text field.Group = codes "a whole number"
+needed_text field.Next = codes "true or false"
+needed_text field.Routes = codes "a table"
+needed_text field.Lead = codes "a string"
+needed_text field.Body = codes "a string"
+needed_text field.Rows = codes "a list of strings"
+
+-- how to write a value that has quotation marks and needs none, or the other way round
+abbrev pub unquote : List ℕ
+unquote = codes "; leave out the quotation marks"
+
+abbrev pub enquote : List ℕ
+enquote = codes "; put it in quotation marks"
+
+-- how to fix a value of another kind, if there is more to say
+abbrev pub kind_advice : Field → ValueKind → List ℕ
+kind_advice field.Entry value.String = unquote
+kind_advice field.Price value.String = unquote
+kind_advice field.Price value.Float = codes "; prices are whole pence"
+kind_advice field.Group value.String = unquote
+kind_advice field.Next value.String = unquote
+kind_advice field.Frame value.Table = codes "; write [[frame]] with two brackets"
+kind_advice field.Id k = enquote
+kind_advice field.Lead k = enquote
+kind_advice field.Body k = enquote
+kind_advice f k = []
+
+-- what it has to be
+abbrev pub item_needed : Field → List ℕ
+item_needed field.Rows = codes "a string"
+item_needed f = codes "a whole number"
+
+abbrev pub item_advice : Field → ValueKind → List ℕ
+item_advice field.Outside value.String = unquote
+item_advice field.Routes value.String = codes "; write the page number alone, without quotation marks"
+item_advice field.Rows k = enquote
+item_advice f k = []
+
+-- how to write a character that can't be there, for those that are often typed or pasted
+abbrev pub code_advice : ℕ → List ℕ
+code_advice c =
+    if c == 0x09 then codes "; write spaces"
+    else if c == 0xA0 then codes "; write a space"
+    else if c == 0xA3 then codes "; write # for a pound sign"
+    else if c == 0x2013 || c == 0x2014 then codes "; write -"
+    else if c == 0x2018 || c == 0x2019 then codes "; write '"
+    else if c == 0x201C || c == 0x201D then codes "; write \\\""
+    else []
+
+-- the table that doesn't have a key
+abbrev pub unknown_text : TableKind → List ℕ
+unknown_text table.Top = codes " is not a key of a base"
+unknown_text table.Frame = codes " is not a key of a frame"
+unknown_text table.Routes = codes " is not a key of routes, use the digits 0 to 9"
+
+-- with the key that was probably meant, if there is one
+abbrev pub unknown_as : TableKind → List ℕ → Option Field → List ℕ
+unknown_as t key None = codes "X3 UnknownKey: " ++ (quoted key ++ unknown_text t)
+unknown_as t key (Some f) =
+    codes "X3 UnknownKey: " ++ (quoted key ++ (unknown_text t ++ (codes "; did you mean " ++ (key_text f ++
+    codes "?"))))
+
+abbrev pub unknown_words : TableKind → List ℕ → List ℕ
+unknown_words t key = unknown_as t key (nearest key (named_keys t))
+
+-- a key that has to be there and isn't; a frame has one of `body` and `rows`
+abbrev pub absent_words : Field → Option Id → List ℕ
+absent_words field.Entry id = codes "X4 Absent: the base has no \"entry\""
+absent_words field.Body id = codes "X4 Absent: " ++ (frame_name id ++ codes " has no \"body\" and no \"rows\"")
+absent_words f id = codes "X4 Absent: " ++ (frame_name id ++ (codes " has no " ++ key_text f))
+
+-- an element of `frame` that is no table
+abbrev pub no_table_words : ValueKind → List ℕ
+no_table_words k = codes "X5 WrongKind: an item of \"frame\" is " ++ (kind_text k ++ codes ", a table is needed")
+
+-- of a key or an item: what is found, what is needed, and how to fix it
+abbrev pub misfit_words : List ℕ → List ℕ → List ℕ → List ℕ → List ℕ
+misfit_words subject found needed advice =
+    codes "X5 WrongKind: " ++ (subject ++ (codes " is " ++ (found ++ (codes ", " ++ (needed ++ (codes " is needed" ++
+    advice))))))
+
+abbrev pub wrong_kind_words : Field → ValueKind → Option Id → List ℕ
+wrong_kind_words f k id = misfit_words (key_subject f id) (kind_text k) (needed_text f) (kind_advice f k)
+
+abbrev pub wrong_item_words : Field → ℕ → ValueKind → Option Id → List ℕ
+wrong_item_words f n k id = misfit_words (item_text f n id) (kind_text k) (item_needed f) (item_advice f k)
+
+-- an integer out of its range
+abbrev pub range_words : Field → ℤ → Option Id → List ℕ
+range_words f z id = codes "X6 Range: " ++ (key_subject f id ++ out_of_range_text f z)
+
+abbrev pub item_range_words : Field → ℕ → ℤ → Option Id → List ℕ
+item_range_words f n z id = codes "X6 Range: " ++ (item_text f n id ++ out_of_range_text f z)
+
+abbrev pub lead_words : List ℕ → Option Id → List ℕ
+lead_words text id =
+    codes "X6 Range: " ++ (key_subject field.Lead id ++ (codes " is " ++ (quoted text ++
+    codes ", \"clear\" or \"keep\" is needed")))
+
+-- a character of the body that is no byte
+abbrev pub body_code_words : ℕ → ℕ → Option Id → List ℕ
+body_code_words n c id =
+    codes "X6 Range: character " ++ (grouped n ++ (codes " of " ++ (key_subject field.Body id ++ (codes " is " ++
+    (char_text c ++ (codes ", at most U+00FF is allowed" ++ code_advice c))))))
+
+abbrev pub too_many_rows_words : ℕ → Option Id → List ℕ
+too_many_rows_words n id =
+    codes "X6 Range: " ++ (frame_name id ++ (codes " has " ++ (grouped n ++ codes " rows, at most 22 are allowed")))
+
+abbrev pub body_and_rows_words : Option Id → List ℕ
+body_and_rows_words id =
+    codes "X7 BodyAndRows: " ++ (frame_name id ++ codes " has both \"body\" and \"rows\", leave out one")
+
+abbrev pub long_row_words : ℕ → ℕ → Option Id → List ℕ
+long_row_words row n id =
+    codes "X8 RowTooLong: " ++ (item_text field.Rows row id ++ (codes " has " ++ (grouped n ++
+    codes " characters, at most 40 are allowed")))
+
+abbrev pub row_code_words : ℕ → ℕ → ℕ → Option Id → List ℕ
+row_code_words row n c id =
+    codes "X9 RowCode: character " ++ (grouped n ++ (codes " of " ++ (item_text field.Rows row id ++ (codes " is " ++
+    (char_text c ++ (codes ", which no row may have" ++ code_advice c))))))
+
+abbrev pub bad_frame_words : List ℕ → List ℕ
+bad_frame_words text =
+    codes "I2 BadFrame: " ++ (quoted text ++
+    codes " is not a frame id; write a page number and one small letter, as 1231a")
+
+-- whether `frame` names the frame of an index, and not the key of the top
+abbrev pub is_element : Option ℕ → Field → Bool
+is_element (Some i) field.Frame = true
+is_element frame f = false
+
+-- the code, the name and the words of what is wrong, in a frame's table or at the top
+abbrev pub detail_words : Option ℕ → Option Id → Detail → List ℕ
+detail_words frame id (UnknownKey t key) = unknown_words t key
+detail_words frame id (Absent f) = absent_words f id
+detail_words frame id (WrongKind f k) = if is_element frame f then no_table_words k else wrong_kind_words f k id
+detail_words frame id (WrongItem f n k) = wrong_item_words f n k id
+detail_words frame id (Number f z) = range_words f z id
+detail_words frame id (ItemNumber f n z) = item_range_words f n z id
+detail_words frame id (Lead text) = lead_words text id
+detail_words frame id (BodyCode n c) = body_code_words n c id
+detail_words frame id (TooManyRows n) = too_many_rows_words n id
+detail_words frame id BodyAndRows = body_and_rows_words id
+detail_words frame id (RowTooLong row n) = long_row_words row n id
+detail_words frame id (RowCode row n c) = row_code_words row n c id
+detail_words frame id (BadFrame text) = bad_frame_words text
+
+-- a fault of a text
+abbrev pub text_fault_words : TextFault → List ℕ
+text_fault_words fault = detail_words fault.frame fault.id fault.detail

@@ -1,0 +1,278 @@
+ghost use Rattle.std.specs.Prelude.{◌≡◌, ◌++◌, OnOk, Some, None};
+ghost use Rattle.lint_words.specs.FaultWords.{entry_missing_words, entry_closed_words, price_words, row_touches_words, body_touches_words, touches_words, missing_page_words, missing_frame_words, missing_words, closed_words, cut_off_words, too_far_words, no_return_words, fault_words, unreached_words};
+
+use crate::piece::Piece::{
+    Count, Frame, Group, Grouped, Id, Number, Page, Pressed, ShownBy, Words,
+};
+use crate::piece::push_pieces;
+use abstract_paint::Start;
+use fault_scripts::{Fault, FaultKind};
+use frame_records::{GroupNo, Pence};
+use page_ids::{FrameId, PageNo};
+use std::alloc::AllocError;
+
+/// What the words of a fault say beside the fault itself.
+#[derive(Debug, Clone, Copy)]
+pub struct Judged {
+    /// The policy's ceiling.
+    pub ceiling: Pence,
+    /// The policy's keyings.
+    pub keyings: u16,
+    /// Whether the frame is given as `rows`, for `Touches` alone.
+    pub has_rows: bool,
+    /// The fewest keys that lead from the frame back to the entry frame, for `NoReturn` alone; none if no keys do.
+    pub rank: Option<u16>,
+    /// The group of the frame that isn't open: for `EntryClosed` of the frame, for `Closed` of the frame sought.
+    pub group: Option<GroupNo>,
+}
+
+fn push_entry_missing(out: &mut Vec<u8>, fault: &Fault) -> Result<(), AllocError>
+    ensures { OnOk result (out.new.items ≡ out.old.items ++ entry_missing_words fault.now) }
+{
+    push_pieces(
+        out,
+        &[
+            Words("ENTRYMISSING: the entry page "),
+            Page(fault.frame.page),
+            Words(" has no frame a"),
+        ],
+    )
+}
+
+fn push_entry_closed(
+    out: &mut Vec<u8>,
+    group: Option<GroupNo>,
+    fault: &Fault,
+) -> Result<(), AllocError>
+    ensures { OnOk result (out.new.items ≡ out.old.items ++ entry_closed_words group fault.now) }
+{
+    push_pieces(
+        out,
+        &[
+            Words("ENTRYCLOSED: frame "),
+            Id(fault.frame),
+            Words(", the entry page, is closed to these callers"),
+            Group(group),
+        ],
+    )
+}
+
+fn push_price(out: &mut Vec<u8>, ceiling: Pence, fault: &Fault) -> Result<(), AllocError>
+    ensures { OnOk result (out.new.items ≡ out.old.items ++ price_words ceiling fault.now) }
+{
+    push_pieces(
+        out,
+        &[
+            Words("PRICE: frame "),
+            Id(fault.frame),
+            Words(" costs "),
+            Number(u64::from(fault.price.get())),
+            Words(", the ceiling is "),
+            Number(u64::from(ceiling.get())),
+            ShownBy(fault.script.as_slice()),
+        ],
+    )
+}
+
+// A frame that is given as rows.
+fn push_row_touches(out: &mut Vec<u8>, fault: &Fault) -> Result<(), AllocError>
+    ensures { OnOk result (out.new.items ≡ out.old.items ++ row_touches_words fault.now) }
+{
+    push_pieces(
+        out,
+        &[
+            Words("TOUCHES: row 22 of frame "),
+            Id(fault.frame),
+            Words(" has double height, which writes into the last row"),
+            ShownBy(fault.script.as_slice()),
+        ],
+    )
+}
+
+// A frame that is given as a body, without a start.
+fn push_body_touches(out: &mut Vec<u8>, fault: &Fault) -> Result<(), AllocError>
+    ensures { OnOk result (out.new.items ≡ out.old.items ++ body_touches_words None fault.now) }
+{
+    push_pieces(
+        out,
+        &[
+            Words("TOUCHES: the body of frame "),
+            Id(fault.frame),
+            Words(" writes into a service row"),
+            ShownBy(fault.script.as_slice()),
+        ],
+    )
+}
+
+// The same with the start.
+fn push_byte_touches(out: &mut Vec<u8>, start: Start, fault: &Fault) -> Result<(), AllocError>
+    ensures { OnOk result (out.new.items ≡ out.old.items ++ body_touches_words (Some start) fault.now) }
+{
+    push_pieces(
+        out,
+        &[
+            Words("TOUCHES: byte "),
+            Grouped(start.offset),
+            Words(" of the body of frame "),
+            Id(fault.frame),
+            Words(" writes into a service row, from start "),
+            Number(u64::from(start.at)),
+            ShownBy(fault.script.as_slice()),
+        ],
+    )
+}
+
+fn push_touches(out: &mut Vec<u8>, has_rows: bool, fault: &Fault) -> Result<(), AllocError>
+    ensures { OnOk result (out.new.items ≡ out.old.items ++ touches_words has_rows fault.now) }
+{
+    if has_rows {
+        return push_row_touches(out, fault);
+    }
+    match fault.start {
+        None => push_body_touches(out, fault),
+        Some(start) => push_byte_touches(out, start, fault),
+    }
+}
+
+// A key that leads to a page without a first frame.
+fn push_missing_page(out: &mut Vec<u8>, page: PageNo, fault: &Fault) -> Result<(), AllocError>
+    ensures { OnOk result (out.new.items ≡ out.old.items ++ missing_page_words page fault.now) }
+{
+    push_pieces(
+        out,
+        &[
+            Words("MISSING: "),
+            Pressed(fault.key),
+            Words(" of frame "),
+            Id(fault.frame),
+            Words(" leads to page "),
+            Page(page),
+            Words(", which has no frame a"),
+            ShownBy(fault.script.as_slice()),
+        ],
+    )
+}
+
+// A key that leads to a further frame that isn't there.
+fn push_missing_frame(out: &mut Vec<u8>, fault: &Fault) -> Result<(), AllocError>
+    ensures { OnOk result (out.new.items ≡ out.old.items ++ missing_frame_words fault.now) }
+{
+    push_pieces(
+        out,
+        &[
+            Words("MISSING: "),
+            Pressed(fault.key),
+            Words(" of frame "),
+            Id(fault.frame),
+            Words(" leads to "),
+            Frame(fault.sought),
+            Words(", which the base lacks"),
+            ShownBy(fault.script.as_slice()),
+        ],
+    )
+}
+
+fn push_missing(out: &mut Vec<u8>, fault: &Fault) -> Result<(), AllocError>
+    ensures { OnOk result (out.new.items ≡ out.old.items ++ missing_words fault.now.sought fault.now) }
+{
+    let Some(id) = fault.sought else {
+        return push_missing_frame(out, fault);
+    };
+    if id.letter.get() == b'a' {
+        push_missing_page(out, id.page, fault)
+    } else {
+        push_missing_frame(out, fault)
+    }
+}
+
+fn push_closed(out: &mut Vec<u8>, group: Option<GroupNo>, fault: &Fault) -> Result<(), AllocError>
+    ensures { OnOk result (out.new.items ≡ out.old.items ++ closed_words group fault.now) }
+{
+    push_pieces(
+        out,
+        &[
+            Words("CLOSED: "),
+            Pressed(fault.key),
+            Words(" of frame "),
+            Id(fault.frame),
+            Words(" leads to "),
+            Frame(fault.sought),
+            Words(", which is closed to these callers"),
+            Group(group),
+            ShownBy(fault.script.as_slice()),
+        ],
+    )
+}
+
+// A frame from which no walk leads back.
+fn push_cut_off(out: &mut Vec<u8>, fault: &Fault) -> Result<(), AllocError>
+    ensures { OnOk result (out.new.items ≡ out.old.items ++ cut_off_words fault.now) }
+{
+    push_pieces(
+        out,
+        &[
+            Words("NORETURN: no keys lead from frame "),
+            Id(fault.frame),
+            Words(" back to the entry page"),
+            ShownBy(fault.script.as_slice()),
+        ],
+    )
+}
+
+// A frame from which the shortest walk back is too long.
+fn push_too_far(out: &mut Vec<u8>, rank: u16, keyings: u16, fault: &Fault) -> Result<(), AllocError>
+    ensures { OnOk result (out.new.items ≡ out.old.items ++ too_far_words rank keyings fault.now) }
+{
+    push_pieces(
+        out,
+        &[
+            Words("NORETURN: from frame "),
+            Id(fault.frame),
+            Words(" the entry page is "),
+            Count(usize::from(rank), "key", "keys"),
+            Words(" away, at most "),
+            Count(usize::from(keyings), "is", "are"),
+            Words(" allowed"),
+            ShownBy(fault.script.as_slice()),
+        ],
+    )
+}
+
+fn push_no_return(out: &mut Vec<u8>, judged: &Judged, fault: &Fault) -> Result<(), AllocError>
+    ensures { OnOk result (out.new.items ≡ out.old.items
+        ++ no_return_words judged.now.rank judged.now.keyings fault.now) }
+{
+    match judged.rank {
+        None => push_cut_off(out, fault),
+        Some(rank) => push_too_far(out, rank, judged.keyings, fault),
+    }
+}
+
+/// Appends the kind and the words of a fault of an audit.
+pub fn push_fault(out: &mut Vec<u8>, judged: &Judged, fault: &Fault) -> Result<(), AllocError>
+    ensures { OnOk result (out.new.items ≡ out.old.items ++ fault_words judged.now fault.now) }
+{
+    match fault.kind {
+        FaultKind::EntryMissing => push_entry_missing(out, fault),
+        FaultKind::EntryClosed => push_entry_closed(out, judged.group, fault),
+        FaultKind::Price => push_price(out, judged.ceiling, fault),
+        FaultKind::Touches => push_touches(out, judged.has_rows, fault),
+        FaultKind::Missing => push_missing(out, fault),
+        FaultKind::Closed => push_closed(out, judged.group, fault),
+        FaultKind::NoReturn => push_no_return(out, judged, fault),
+    }
+}
+
+/// Appends the words of a frame that no walk reaches.
+pub fn push_unreached(out: &mut Vec<u8>, id: FrameId) -> Result<(), AllocError>
+    ensures { OnOk result (out.new.items ≡ out.old.items ++ unreached_words id) }
+{
+    push_pieces(
+        out,
+        &[
+            Words("UNREACHED: no key leads to frame "),
+            Id(id),
+            Words(" from the entry page"),
+        ],
+    )
+}

@@ -1,0 +1,9 @@
+use Rattle.pageaudit.specs.AuditRun.{IsOutcomeOf}
+use Rattle.pageaudit.proofs.Runs.{split_run}
+use Rattle.pageaudit.proofs.audit_run.run_audit_into.Goals as goal
+
+-- the outcome of the audit is one that its contract allows
+pub returns-in-Ok-audit : goal.returns-in-Ok-audit
+returns-in-Ok-audit g c =
+    let is : IsOutcomeOf c.in-Ok.base c.args.policy.now c.in-Ok-audit.outcome = record { is = c.in-Ok-audit.ensures.outcome; safety = c.in-Ok-audit.ensures.safety; shown = c.in-Ok-audit.ensures.shown } in
+    split_run _ _ _ c.in-Ok.base c.args.policy.now c.in-Ok-audit.outcome c.in-Ok.ensures is c.write_split.result c.write_split.ensures

@@ -1,0 +1,54 @@
+-- What a run of lint does.
+use Rattle.std.specs.Prelude.{◌≡◌, ◌<◌, ◌==◌, ℕ, if◌then◌else◌, List, length, Result, Ok, Err}
+use Rattle.std.specs.Io.KnownBytes.{IsAtEnd}
+use Rattle.devices.specs.Devices.{WroteWhole, WrotePart}
+use Rattle.checker.specs.declared.policy.Policy.{Policy}
+use Rattle.audit_report.specs.declared.run_fault.RunFault.{RunFault}
+use Rattle.audit_report.specs.declared.run_fault.RunFault.TheVariants as run
+use Rattle.lint_report.specs.declared.counts.Counts.{Counts}
+use Rattle.lint_report.specs.declared.finding.Level.TheVariants.{Error, Warning}
+use Rattle.lint_report.specs.FindingView.{FindingView}
+use Rattle.lint_report.specs.Counts.{count_of}
+use Rattle.lint_report.specs.Printing.{finding_lines}
+use Rattle.lint_report.specs.Lint.{IsLint}
+use Rattle.pageaudit.specs.Device.{Device, IsUntouched}
+use Rattle.pageaudit.specs.Files.{base_limit, WasReadSoFar, IsBaseBroken, IsReadWithin}
+use Rattle.pageaudit.specs.Status.{fault_number}
+
+-- the file's text, which is all that it had, or longer than a base may be
+pub record IsTextOfFile (d : Device) (text : List ℕ) : Type 0 where
+  pub read : WasReadSoFar base_limit d text
+  pub whole : length text < base_limit → IsAtEnd d.after.bytes
+
+pub record AreCounted (findings : List FindingView) (counts : Counts) : Type 0 where
+  pub errors : counts.errors ≡ count_of Error findings
+  pub warnings : counts.warnings ≡ count_of Warning findings
+
+-- the answer for findings, and the output: their numbers if all lines were taken; a write fault if the first bytes of the
+-- lines were taken and then a call failed; out of memory if nothing was written
+abbrev pub AreWritten : Device → List ℕ → List ℕ → List FindingView → Result Counts RunFault → Type 0
+AreWritten out path text findings (Ok counts) = WroteWhole out.before out.after (finding_lines path text findings) × AreCounted findings counts
+AreWritten out path text findings (Err (run.Write wrote)) = WrotePart out.before out.after (finding_lines path text findings) wrote
+AreWritten out path text findings (Err run.Memory) = IsUntouched out
+AreWritten out path text findings (Err _) = ⊥
+
+-- the base's file was read, and the lines of all findings in its text were written
+pub record IsLinted (base_file out : Device) (path : List ℕ) (policy : Policy) (answer : Result Counts RunFault) : Type 0 where
+  pub text : List ℕ
+  pub read : IsTextOfFile base_file text
+  pub findings : List FindingView
+  pub is : IsLint text policy findings
+  pub written : AreWritten out path text findings answer
+
+-- a run by its answer: the numbers of findings, or the first fault of a device
+abbrev pub IsLintRun : Device → Device → List ℕ → Policy → Result Counts RunFault → Type 0
+IsLintRun base_file out path policy (Ok counts) = IsLinted base_file out path policy (Ok counts)
+IsLintRun base_file out path policy (Err run.ReadBase) = IsBaseBroken base_file × IsUntouched out
+IsLintRun base_file out path policy (Err (run.Write wrote)) = IsLinted base_file out path policy (Err (run.Write wrote))
+IsLintRun base_file out path policy (Err run.Memory) = IsReadWithin base_limit base_file × IsUntouched out
+IsLintRun base_file out path policy (Err _) = ⊥
+
+-- the exit status: 1 if there is an error
+abbrev pub lint_number : Result Counts RunFault → ℕ
+lint_number (Ok counts) = if counts.errors == 0 then 0 else 1
+lint_number (Err fault) = fault_number fault

@@ -1,0 +1,2 @@
+pub mod SearchTurns
+pub mod MarkTurns

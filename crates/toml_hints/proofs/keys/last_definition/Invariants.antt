@@ -1,0 +1,12 @@
+use Rattle.std.proofs.Common.{◌≡◌, ◌≤◌}
+use Rattle.toml_hints.specs.Backwards.{last_place}
+use Rattle.toml_hints.specs.Keys.{definition_turn}
+use Rattle.toml_hints.proofs.keys.last_definition.Given as goal
+
+abbrev pub invariant-loop-at : goal.invariant-loop-at
+invariant-loop-at l =
+    (l.at ≤ l.end)
+    × (last_place (definition_turn l.text l.name) l.at ≡ last_place (definition_turn l.text l.name) l.end)
+
+abbrev pub decreases-loop-at : goal.decreases-loop-at
+decreases-loop-at l = l.at

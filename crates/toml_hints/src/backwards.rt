@@ -1,0 +1,7 @@
+// What a search back makes of a place.
+#[derive(Clone, Copy)]
+pub enum Turn {
+    Found,
+    Stop,
+    Continue,
+}
