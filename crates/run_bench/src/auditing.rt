@@ -1,9 +1,9 @@
-//! Reading and auditing against `toml` alone, and the faults of a long chain.
+//! Reading, auditing and finding every fault against `toml` alone, and the faults of a long chain.
 
 use crate::edition::{audited, policy, whole_base};
 use crate::figure::{Figure, tell};
 use crate::memory::{forget_peak, peak};
-use crate::shape::{Mark, Shape};
+use crate::shape::{LONG_ROWS, Mark, Shape};
 use crate::size::Size;
 use crate::work::{Work, least_times};
 use anyhow::{Result, bail};
@@ -14,10 +14,12 @@ use std::time::{CpuClock, Duration};
 
 const RUNS: u32 = 5;
 
+const OF_AUDIT: &str = "percent of the time of the audit";
+
 // The shapes in the order of the memory that they take: what one leaves with the allocator hides nothing of the next.
 const SHAPES: [Shape; 4] = [Shape::Bodies, Shape::Tree, Shape::Scattered, Shape::Chain];
 
-// The frames of the chain whose scripts come to 200 million keys.
+// The frames of the chain whose scripts have 200 million keys together.
 const CHAIN: u32 = 20_000;
 
 // The greatest memory of a piece of work, in kilobytes.
@@ -33,12 +35,13 @@ fn measure_text(rt: &HostRuntime, shape: Shape, text: &[u8], policy: &Policy) ->
         Work::Tree(text),
         Work::Read(text),
         Work::Audit(text, policy),
+        Work::Lint(text, policy, 0),
     ];
-    let [tree, read, audit] = &works;
+    let [tree, read, audit, _] = &works;
     let tree_peak = peak_of(rt, tree)?;
     let read_peak = peak_of(rt, read)?;
     let audit_peak = peak_of(rt, audit)?;
-    let [tree, read, audit] = least_times::<3>(rt, RUNS, &works)?;
+    let [tree, read, audit, lint] = least_times::<4>(rt, RUNS, &works)?;
     let (of_time, of_memory) = ("percent of the time of TOML alone", "percent of its memory");
     let figures = [
         Figure::millis("TOML alone", tree),
@@ -47,6 +50,7 @@ fn measure_text(rt: &HostRuntime, shape: Shape, text: &[u8], policy: &Policy) ->
         Figure::percent("base_read", read_peak, tree_peak, of_memory),
         Figure::share("audit", audit, tree, of_time),
         Figure::percent("audit", audit_peak, tree_peak, of_memory),
+        Figure::share("lint", lint, audit, OF_AUDIT),
     ];
     tell(rt, shape.name(), &figures)
 }
@@ -55,8 +59,28 @@ fn measure_shape(rt: &HostRuntime, shape: Shape, size: Size) -> Result<()> {
     let Some(policy) = policy(16, Mark::None) else {
         bail!("no policy");
     };
-    let text = shape.text_of(rt.alloc(), size)?;
+    let text = shape.text_of(rt.alloc(), size, Mark::None)?;
     measure_text(rt, shape, text.as_slice(), &policy)
+}
+
+// Finding a row that is too long in each of many frames of a tree, against the audit of the tree without them.
+fn measure_long_rows(rt: &HostRuntime, size: Size) -> Result<()> {
+    let Some(policy) = policy(16, Mark::None) else {
+        bail!("no policy");
+    };
+    let right = Shape::Tree.text_of(rt.alloc(), size, Mark::None)?;
+    let wrong = Shape::Tree.text_of(rt.alloc(), size, Mark::LongRow)?;
+    let rows = LONG_ROWS.min(size.of(Shape::Tree.most()));
+    let works = [
+        Work::Audit(right.as_slice(), &policy),
+        Work::Lint(wrong.as_slice(), &policy, rows as usize),
+    ];
+    let [audit, lint] = least_times::<2>(rt, RUNS, &works)?;
+    let figures = [
+        Figure::of("long rows", u128::from(rows), "rows"),
+        Figure::share("lint", lint, audit, OF_AUDIT),
+    ];
+    tell(rt, "long rows in a tree", &figures)
 }
 
 // A chain of frames, each with a price.
@@ -75,7 +99,7 @@ fn faults_time(rt: &HostRuntime, base: &Base, policy: &Policy) -> Result<(Durati
     let printed = audited(rt.alloc(), base, policy).unwrap_or(Vec::new(rt.alloc()));
     let time = rt.thread_cpu_time()?.saturating_sub(start);
     if lines(printed.as_slice()) != base.frames().len().saturating_add(1) {
-        bail!("not each frame is told");
+        bail!("not each frame is reported");
     }
     Ok((time, printed.len()))
 }
@@ -101,6 +125,7 @@ pub fn measure(rt: &HostRuntime, size: Size) -> Result<()> {
     for shape in SHAPES {
         measure_shape(rt, shape, size)?;
     }
+    measure_long_rows(rt, size)?;
     match chain(rt.alloc(), size.of(CHAIN)) {
         Some(base) => measure_faults(rt, &base),
         None => bail!("no base"),

@@ -54,7 +54,7 @@ fn measure_edition(rt: &HostRuntime, shape: Shape, edition: &Edition) -> Result<
 }
 
 fn measure_shape(rt: &HostRuntime, shape: Shape, size: Size) -> Result<()> {
-    let text = shape.text_of(rt.alloc(), size);
+    let text = shape.text_of(rt.alloc(), size, Mark::None);
     let edition = edition(rt.alloc(), text, Mark::None)?;
     measure_edition(rt, shape, &edition)
 }

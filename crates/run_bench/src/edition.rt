@@ -17,7 +17,7 @@ const PIECE: usize = 4_096;
 pub fn policy(ceiling: u16, mark: Mark) -> Option<Policy> {
     let groups = match mark {
         Mark::Group => Groups::read("1,2,3,4,5,6,7,8,9,10,11,12,13,14,15,16").ok()?,
-        Mark::None | Mark::Price => Groups::none(),
+        Mark::None | Mark::Price | Mark::LongRow => Groups::none(),
     };
     Some(Policy {
         ceiling: Pence::new(ceiling)?,
@@ -106,7 +106,7 @@ impl Edition {
         }
     }
 
-    /// Both texts are read, checked and let go: what the check compared and painted.
+    /// Both texts are read, checked and dropped: what the check compared and painted.
     pub fn count(&self, alloc: Global) -> Option<Count> {
         let both = self.read(alloc)?;
         match check_counted(&both.base, &self.policy, &both.cert) {
@@ -115,7 +115,7 @@ impl Edition {
         }
     }
 
-    /// Two editions of the same texts are read, the change between them is checked, and all is let go.
+    /// Two editions of the same texts are read, the change between them is checked, and all is dropped.
     pub fn clears_change(&self, alloc: Global) -> bool {
         match self.read(alloc) {
             Some(old) => self.clears_change_from(alloc, &old),

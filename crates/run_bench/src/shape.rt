@@ -8,6 +8,9 @@ use std::alloc::{AllocError, Global};
 // The page of the first frame, which is the entry frame.
 const FIRST_PAGE: u32 = 100_000;
 
+/// How many frames have a row that is too long, if there are some: the first ones.
+pub const LONG_ROWS: u32 = 20_000;
+
 /// How the frames of a base hang together, and what they show.
 #[derive(Debug, Clone, Copy, PartialEq, Eq)]
 pub enum Shape {
@@ -21,7 +24,7 @@ pub enum Shape {
     Bodies,
 }
 
-/// What each frame has beside its routes and what it shows.
+/// What frames have beside their routes and what they show.
 #[derive(Debug, Clone, Copy, PartialEq, Eq)]
 pub enum Mark {
     /// Nothing.
@@ -30,12 +33,14 @@ pub enum Mark {
     Price,
     /// One of the groups 1 to 16.
     Group,
+    /// The frames of [`LONG_ROWS`], a row of 41 characters in place of what they show.
+    LongRow,
 }
 
 impl Mark {
     fn push(self, text: &mut Vec<u8>, number: u32) -> Result<(), AllocError> {
         let word: &[u8] = match self {
-            Mark::None => return Ok(()),
+            Mark::None | Mark::LongRow => return Ok(()),
             Mark::Price => b"price = ",
             Mark::Group => b"group = ",
         };
@@ -120,7 +125,10 @@ impl Shape {
             }
         }
         text.extend_from_slice(b" }\n")?;
-        self.push_shown(text)
+        match mark {
+            Mark::LongRow if number < LONG_ROWS => push_long_row(text),
+            _ => self.push_shown(text),
+        }
     }
 
     /// The text of a base with so many frames, each with a mark.
@@ -133,9 +141,9 @@ impl Shape {
         Ok(text)
     }
 
-    /// The text of a base of a size; that of full size is filled up by a comment.
-    pub fn text_of(self, alloc: Global, size: Size) -> Result<Vec<u8>, AllocError> {
-        let mut text = self.text(alloc, size.of(self.most()), Mark::None)?;
+    /// The text of a base of a size whose frames have a mark; that of full size is filled up by a comment.
+    pub fn text_of(self, alloc: Global, size: Size, mark: Mark) -> Result<Vec<u8>, AllocError> {
+        let mut text = self.text(alloc, size.of(self.most()), mark)?;
         if size == Size::Full {
             text.resize(MOST_TEXT, b'#')?;
         }
@@ -169,4 +177,10 @@ fn push_long_body(text: &mut Vec<u8>) -> Result<(), AllocError> {
 
 fn push_rows(text: &mut Vec<u8>) -> Result<(), AllocError> {
     text.extend_from_slice(b"rows = [\"WELCOME TO THE PAGE OF THIS NUMBER\", \"\", \"ITS ROWS\"]\n")
+}
+
+fn push_long_row(text: &mut Vec<u8>) -> Result<(), AllocError> {
+    text.extend_from_slice(
+        b"rows = [\"WELCOME TO THE PAGE OF THIS NUMBER AGAIN!\", \"\", \"ITS ROWS\"]\n",
+    )
 }

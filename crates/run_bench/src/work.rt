@@ -4,10 +4,11 @@ use crate::edition::{Edition, certificate, read_base};
 use anyhow::{Result, bail};
 use base_text::base_read;
 use checker::Policy;
+use lint_report::lint;
 use std::alloc::Global;
 use std::time::{CpuClock, Duration};
 
-/// A piece of work: what it makes is let go in it.
+/// A piece of work: what it makes is dropped in it.
 #[derive(Clone, Copy)]
 pub enum Work<'a> {
     /// `toml` alone makes the tree of a text.
@@ -18,6 +19,8 @@ pub enum Work<'a> {
     Walk(&'a [u8]),
     /// The base of a text is read and audited, and its certificate is written.
     Audit(&'a [u8], &'a Policy),
+    /// Every fault of a text is found: so many.
+    Lint(&'a [u8], &'a Policy, usize),
     /// Both texts are read and checked.
     Check(&'a Edition),
     /// Twice both texts are read, and the change between these editions is checked.
@@ -25,13 +28,17 @@ pub enum Work<'a> {
 }
 
 impl Work<'_> {
-    // Does it, and says whether it came out as it must.
+    // Does it, and says whether its result is right.
     fn is_done(&self, alloc: Global) -> bool {
         match self {
             Work::Tree(text) => toml::table_from_slice(alloc, text).is_ok(),
             Work::Read(text) => base_read(alloc, text).is_ok(),
             Work::Walk(text) => read_base(alloc, text).is_some(),
             Work::Audit(text, policy) => certificate(alloc, text, policy).is_some(),
+            Work::Lint(text, policy, count) => match lint(alloc, text, policy) {
+                Ok(findings) => findings.len() == *count,
+                Err(_) => false,
+            },
             Work::Check(edition) => edition.count(alloc).is_some(),
             Work::Change(edition) => edition.clears_change(alloc),
         }
@@ -43,7 +50,7 @@ impl Work<'_> {
         let is_done = self.is_done(rt.alloc());
         let time = rt.thread_cpu_time()?.saturating_sub(start);
         if !is_done {
-            bail!("what is measured came out otherwise than it must");
+            bail!("what is measured has a wrong result");
         }
         Ok(time)
     }
