@@ -150,13 +150,27 @@ fn judged_of(case: &Case) -> Result<Judged, Fail> {
     })
 }
 
+// The words of a fault as it is judged.
+fn judged_words(alloc: Global, judged: &Judged, fault: &Fault) -> Result<Vec<u8>, Fail> {
+    let mut out = Vec::new(alloc);
+    push_fault(&mut out, judged, fault)?;
+    Ok(out)
+}
+
+// The words of a case's fault.
+fn words_of(alloc: Global, case: &Case) -> Result<Vec<u8>, Fail> {
+    let fault = fault_of(alloc, case)?;
+    match judged_of(case) {
+        Ok(judged) => judged_words(alloc, &judged, &fault),
+        Err(fail) => Err(fail),
+    }
+}
+
 #[test]
 fn each_kind_of_fault_has_its_words(rt: HostRuntime) -> Result<(), Fail> {
     for case in CASES {
-        let fault = fault_of(rt.alloc(), &case)?;
-        let mut out = Vec::new(rt.alloc());
-        push_fault(&mut out, &judged_of(&case)?, &fault)?;
-        same_in(case.words, out.as_slice(), case.words.as_bytes())?;
+        let words = words_of(rt.alloc(), &case)?;
+        same_in(case.words, words.as_slice(), case.words.as_bytes())?;
     }
     Ok(())
 }

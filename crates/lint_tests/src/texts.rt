@@ -8,7 +8,24 @@ use page_ids::FrameId;
 use std::alloc::Global;
 use std::test::Fail;
 
-// Whether each detail has its words, in a table of an index with an id, or at the top.
+// The words of a detail in a table of an index with an id, or at the top.
+fn words_of(
+    alloc: Global,
+    frame: Option<usize>,
+    id: &Option<FrameId>,
+    detail: Detail,
+) -> Result<Vec<u8>, Fail> {
+    let mut out = Vec::new(alloc);
+    let fault = TextFault {
+        frame,
+        id: *id,
+        detail,
+    };
+    push_text_fault(alloc, &mut out, &fault)?;
+    Ok(out)
+}
+
+// Whether each detail has its words.
 fn say(
     alloc: Global,
     frame: Option<usize>,
@@ -16,8 +33,7 @@ fn say(
     details: Vec<(Detail, &'static str)>,
 ) -> Result<(), Fail> {
     for (detail, words) in details {
-        let mut out = Vec::new(alloc);
-        push_text_fault(alloc, &mut out, &TextFault { frame, id, detail })?;
+        let out = words_of(alloc, frame, &id, detail)?;
         same_in(words, out.as_slice(), words.as_bytes())?;
     }
     Ok(())
