@@ -1658,7 +1658,7 @@ They print on standard error, with status 3:
 
     base: X2 NotToml
 
-Fix: another reader of TOML names the line; GUIDE.md shows one.
+Fix: 'pageaudit lint' names the line and what is wrong there.
 "#,
         ..=74 => r#"X3 UnknownKey
 
@@ -1728,8 +1728,8 @@ Fix: write the value in its kind.
         ..=79 => r#"X6 Range
 
 'entry', pages of 'outside' and routes are 0 to 999,999,999, 'price' is 0 to
-9,999, 'group' 1 to 65,535, 'lead' 'clear' or 'keep', codes of 'body' are 0 to
-FF, and there are at most 22 'rows'.
+9,999, 'group' 1 to 65,535. 'lead' is 'clear' or 'keep', codes of 'body' are 0
+to FF, and there are at most 22 'rows'.
 
 The file try:
 
@@ -1759,8 +1759,8 @@ above FF.
         ..=80 => r#"X6 Range
 
 'entry', pages of 'outside' and routes are 0 to 999,999,999, 'price' is 0 to
-9,999, 'group' 1 to 65,535, 'lead' 'clear' or 'keep', codes of 'body' are 0 to
-FF, and there are at most 22 'rows'.
+9,999, 'group' 1 to 65,535. 'lead' is 'clear' or 'keep', codes of 'body' are 0
+to FF, and there are at most 22 'rows'.
 
 The file try:
 
@@ -2045,7 +2045,7 @@ Fix: take the file as 'audit' printed it.
         ..=100 => r#"Word
 
 A line before the rows doesn't begin with its word and one space (on line 5
-'groups' for PBC2, 'rows' for PBC1), a row lacks its id or two spaces, or a
+'groups' for PBC2, 'rows' for PBC1). Or a row lacks its id or two spaces, or a
 line has over 128 bytes.
 
 The file base.toml:
