@@ -17,7 +17,7 @@ def sums(top, paths):
 
 
 def copied(top):
-    """Makes the copy: its lists of checksums hold, whatever those of this repository do."""
+    """Makes the copy: its lists of checksums hold, even if those of this repository don't."""
     for name in FOLDERS:
         shutil.copytree(TOP / name, top / name)
     for name in FILES:

@@ -1,4 +1,4 @@
-// Loaded before a program (LD_PRELOAD): tells on standard error, when it ends, the most memory in kilobytes that it held at once.
+// Loaded before a program (LD_PRELOAD): prints on standard error, when it ends, the most memory in kilobytes that it held at once.
 #include <stdio.h>
 #include <string.h>
 

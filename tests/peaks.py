@@ -22,5 +22,5 @@ class Peaks:
         """Status, standard output, standard error without blanks at its ends, and the most memory in kilobytes."""
         options = {"stdout": subprocess.PIPE} | options
         done = subprocess.run([PROGRAM, *words], stderr=subprocess.PIPE, env=self.env, timeout=SECONDS, check=False, **options)
-        told = PEAK.sub(b"", done.stderr).decode().strip()
-        return done.returncode, done.stdout, told, max(map(int, PEAK.findall(done.stderr)), default=0)
+        said = PEAK.sub(b"", done.stderr).decode().strip()
+        return done.returncode, done.stdout, said, max(map(int, PEAK.findall(done.stderr)), default=0)

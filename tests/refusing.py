@@ -18,7 +18,7 @@ COUNT = re.compile(rb"\n(\d+)\n\Z")
 
 @dataclass(frozen=True)
 class Answer:
-    """What a run came to."""
+    """What a run answered."""
 
     status: int
     stdout: bytes

@@ -143,7 +143,7 @@ class Pen:
         return self.pick(["", " ", "  ", "\t"]) if self.is_odd else " "
 
     def blank(self):
-        """What may stand between the elements of an array, and in TOML 1.1 between those of an inline table."""
+        """What may be between the elements of an array, and in TOML 1.1 between those of an inline table."""
         forms = ["", " "]
         if self.is_odd:
             forms += ["\t", self.eol, f"{self.eol}    ", f" {self.pick(COMMENTS)}{self.eol}"]
@@ -650,7 +650,7 @@ class FaultyWalks(Written):
         return frame
 
     def spoil_entry(self):
-        """The entry frame is missing or closed, and nothing else is told; other frames are there."""
+        """The entry frame is missing or closed, and nothing else is reported; other frames are there."""
         other = self.add(self.page(), "a", None, None)
         other.fields["price"] = 9_999
         if self.chance(0.5):
@@ -754,7 +754,7 @@ class FaultyWalks(Written):
         self.tell(frame, place, f"CLOSED: key {key} of frame {frame.id} leads to {words}{keys}")
 
     def strand(self):
-        """Frames that no walk reaches: those that are open to the caller are told, in the order of their ids."""
+        """Frames that no walk reaches: those that are open to the caller are reported, in the order of their ids."""
         stranded = []
         for _ in range(self.pick([0, 0, 1, 2])):
             page = self.page() if self.pages else 1

@@ -1,4 +1,4 @@
-"""Ids, keys, a caller's groups, and the base that a text stands for or its first fault."""
+"""Ids, keys, a caller's groups, and the base that a text means or its first fault."""
 
 import tomllib
 from dataclasses import dataclass
@@ -15,7 +15,7 @@ FRAME_KEYS = {"id", "price", "group", "next", "routes", "lead", "body", "rows"}
 
 
 class Refused(Exception):
-    """The words behind `base: ` or `certificate: ` of a refused text."""
+    """The words after `base: ` or `certificate: ` of a refused text."""
 
 
 @dataclass
@@ -42,7 +42,7 @@ class Base:
         return (self.entry, "a")
 
     def seek(self, id, groups):
-        """What a caller of these groups comes to."""
+        """What a caller of these groups gets."""
         frame = self.frames.get(id)
         if frame is None:
             return "MISSING"
@@ -66,7 +66,7 @@ def id_text(id):
 
 
 def group_flaw(word, before):
-    """What is wrong with a group's number behind these groups, or None."""
+    """What is wrong with a group's number after these groups, or None."""
     if not is_numeral(word):
         return "Number"
     if not 1 <= int(word) <= MOST_GROUP or len(before) == MOST_GROUPS:

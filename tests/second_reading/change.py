@@ -45,7 +45,7 @@ def change(editions, limits, option=None):
 
 
 def broken_promise(edition, ranks, session, reply):
-    """What a reply, or the state behind it, breaks of what was cleared; None where it keeps all."""
+    """What a reply, or the state after it, breaks of what was cleared; None if it keeps all."""
     base, certificate = edition
     if reply.startswith(("MISSING", "CLOSED")):
         return reply

@@ -306,7 +306,7 @@ class Inputs:
         lines[place] = line
 
     def change_groups(self, lines):
-        """Other groups behind the fourth line, or none; line 1 mostly fits them."""
+        """Other groups after the fourth line, or none; line 1 mostly fits them."""
         groups = self.pick([*([group] for group in GROUPS), [7, 9], GROUPS, MANY, *[ODD_LISTS] * 7])
         words = self.pick(groups) if groups is ODD_LISTS else map(str, groups)
         line = self.pick(["groups ", "groups ", "groups ", "groups ", "groups", "groups  ", "Groups "]) + " ".join(words)

@@ -1,7 +1,7 @@
 """Every finding of `lint`: the faults of a base's text, or those of its audit and the frames that no walk reaches.
 
 For a text that isn't TOML there is one finding, but `toml`'s own message isn't known here: the line of the answer is
-UNREAD, which stands for any place and any message.
+UNREAD, which matches any place and any message.
 """
 
 import re
@@ -152,11 +152,11 @@ def lint(path, data, ceiling=9_999, keyings=65_535, option=None):
         return f"{path}:LINE:COLUMN: {UNREAD}\n", "1 error\n", 1
     text, found, tree = read
     lines = Lines(text)
-    told = findings(tree, Places(found), lines, (ceiling, keyings, groups))
-    placed = sorted(((*lines.place(at), level, words) for at, level, words in told), key=lambda finding: finding[:2])
+    listed = findings(tree, Places(found), lines, (ceiling, keyings, groups))
+    placed = sorted(((*lines.place(at), level, words) for at, level, words in listed), key=lambda finding: finding[:2])
     stdout = "".join(f"{path}:{line}:{column}: {level}: {words}\n" for line, column, level, words in placed)
-    levels = [level for _, level, _ in told]
-    return stdout, f"{count_line(levels)}\n" if told else "", 1 if "error" in levels else 0
+    levels = [level for _, level, _ in listed]
+    return stdout, f"{count_line(levels)}\n" if listed else "", 1 if "error" in levels else 0
 
 
 def is_answer(path, wanted, found):

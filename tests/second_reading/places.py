@@ -180,7 +180,7 @@ def expressions(text):
 
 
 def old_text(found):
-    """A text of TOML 1.0 that stands for the same tree, if it is TOML."""
+    """A text of TOML 1.0 that gives the same tree, if it is TOML."""
     return "\n".join(expression.text for expression in found)
 
 

@@ -28,7 +28,7 @@ def code_of(byte, pending):
 
 
 def step(state, byte):
-    """The state behind a byte, and the positions that it writes with their codes."""
+    """The state after a byte, and the positions that it writes with their codes."""
     at, pending = state
     if byte == 0x1B:
         return (at, True), ()
@@ -57,7 +57,7 @@ def touches(state, byte):
 
 
 def cursor_text(states):
-    """The one cursor that stands for just these states."""
+    """The one cursor that represents exactly these states."""
     positions = sorted({at for at, _ in states})
     pends = {pending for _, pending in states}
     assert len(states) == len(positions) * len(pends)
@@ -71,16 +71,16 @@ def cursor_text(states):
 
 
 @cache
-def behind(lead):
-    """The states behind a lead, from each state."""
+def after(lead):
+    """The states after a lead, from each state."""
     return frozenset(run(state, lead) for state in STATES)
 
 
 @cache
 def paint(keep, body):
-    """The cursor behind a clean body and None, or None and the offset and least start of its first touch."""
+    """The cursor after a clean body and None, or None and the offset and least start of its first touch."""
     lead = b"" if keep else CLEAR
-    states = behind(lead)
+    states = after(lead)
     for offset, byte in enumerate(body):
         if any(touches(state, byte) for state in states):
             before = lead + body[:offset]
