@@ -1,0 +1,8 @@
+pub mod MapView
+pub mod Titles
+pub mod Exits
+pub mod Nodes
+pub mod Lost
+pub mod Edges
+pub mod MapText
+pub mod MapLaws

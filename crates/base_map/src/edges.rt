@@ -1,0 +1,99 @@
+//! An edge for each pair of a frame and what its ways seek.
+
+ghost use Rattle.std.specs.Prelude.{◌≡◌, ◌++◌, true, OnOk};
+ghost use Rattle.std.specs.List.{flat_map};
+ghost use Rattle.base_map.specs.MapView.{shown};
+ghost use Rattle.base_map.specs.Edges as spec;
+
+use crate::drawing::Drawing;
+use crate::exits::{Exit, exits_of, targets_of};
+use crate::lost::push_name;
+use crate::nodes::push_id;
+use frame_records::Frame;
+use page_ids::{FrameId, push_key};
+use std::alloc::{AllocError, Global};
+
+// The keys of the exits that seek an id, with a space between them.
+fn push_keys_to(out: &mut Vec<u8>, exits: &[Exit], to: FrameId) -> Result<(), AllocError>
+    ensures { OnOk result (out.new.items ≡ out.old.items ++ spec.keys_label true exits.now to) }
+{
+    let mut is_first = true;
+    for exit in exits {
+        if exit.to == to {
+            if !is_first {
+                out.push(b' ')?;
+            }
+            push_key(out, exit.key)?;
+            is_first = false;
+        }
+    }
+    Ok(())
+}
+
+impl<'a> Drawing<'a> {
+    #[tactic(auto, using(std::proofs::Common::append_assoc))]
+    fn push_edge(
+        &self,
+        out: &mut Vec<u8>,
+        from: FrameId,
+        exits: &[Exit],
+        to: FrameId,
+    ) -> Result<(), AllocError>
+        ensures { OnOk result (out.new.items ≡ out.old.items ++ spec.edge_line self.now from exits.now to) }
+    {
+        out.extend_from_slice(b"  \"")?;
+        push_id(out, from)?;
+        out.extend_from_slice(b"\" -> \"")?;
+        push_name(out, self.base, to)?;
+        out.extend_from_slice(b"\" [label=\"")?;
+        push_keys_to(out, exits, to)?;
+        out.extend_from_slice(b"\"]\n")
+    }
+
+    fn push_edges_to(
+        &self,
+        out: &mut Vec<u8>,
+        from: FrameId,
+        exits: &[Exit],
+        targets: &[FrameId],
+    ) -> Result<(), AllocError>
+        ensures { OnOk result (out.new.items ≡ out.old.items ++ spec.lines_to self.now from exits.now targets.now) }
+    {
+        for to in targets {
+            if self.has_node(*to) {
+                self.push_edge(out, from, exits, *to)?;
+            }
+        }
+        Ok(())
+    }
+
+    fn push_edges_of(
+        &self,
+        alloc: Global,
+        out: &mut Vec<u8>,
+        frame: &Frame,
+    ) -> Result<(), AllocError>
+        ensures { OnOk result (out.new.items ≡ out.old.items ++ spec.edge_lines_of self.now frame.now) }
+    {
+        let exits = exits_of(alloc, frame)?;
+        let targets = targets_of(alloc, exits.as_slice())?;
+        self.push_edges_to(out, frame.id, exits.as_slice(), targets.as_slice())
+    }
+
+    // Writes the edges of the frames that are shown.
+    pub fn push_edges(
+        &self,
+        alloc: Global,
+        out: &mut Vec<u8>,
+        frames: &[Frame],
+    ) -> Result<(), AllocError>
+        ensures { OnOk result (out.new.items ≡ out.old.items ++ flat_map (spec.edge_lines_of self.now) (shown self.now frames.now)) }
+    {
+        for frame in frames {
+            if self.part.shows(frame.id) {
+                self.push_edges_of(alloc, out, frame)?;
+            }
+        }
+        Ok(())
+    }
+}

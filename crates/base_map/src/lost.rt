@@ -1,0 +1,98 @@
+//! What ways seek and the base lacks.
+
+ghost use Rattle.std.specs.Prelude.{◌≡◌, ◌++◌, [], OnOk, IfOk};
+ghost use Rattle.std.specs.List.{flat_map};
+ghost use Rattle.indexmap.specs.IndexSet.{insert_all};
+ghost use Rattle.page_ids.specs.Ids.{id_eq};
+ghost use Rattle.base_map.specs.MapView.{shown};
+ghost use Rattle.base_map.specs.Lost as spec;
+
+use crate::drawing::Drawing;
+use crate::exits::{Exit, exits_of};
+use crate::nodes::push_id;
+use frame_records::{Base, Frame};
+use indexmap::IndexSet;
+use page_ids::{FrameId, push_number};
+use std::alloc::{AllocError, Global};
+
+// The name of a node: an outside page's number, or an id.
+pub fn push_name(out: &mut Vec<u8>, base: &Base, id: FrameId) -> Result<(), AllocError>
+    ensures { OnOk result (out.new.items ≡ out.old.items ++ spec.node_name base.now id) }
+{
+    if base.is_outside(id.page) {
+        push_number(out, id.page.get() as u64)
+    } else {
+        push_id(out, id)
+    }
+}
+
+// The shape of an outside page, and red for what is missing.
+fn push_lost_mark(out: &mut Vec<u8>, base: &Base, id: FrameId) -> Result<(), AllocError>
+    ensures { OnOk result (out.new.items ≡ out.old.items ++ spec.lost_mark base.now id) }
+{
+    if base.is_outside(id.page) {
+        out.extend_from_slice(b"shape=ellipse")
+    } else {
+        out.extend_from_slice(b"color=red")
+    }
+}
+
+#[tactic(auto, using(std::proofs::Common::append_assoc))]
+fn push_lost_node(out: &mut Vec<u8>, base: &Base, id: FrameId) -> Result<(), AllocError>
+    ensures { OnOk result (out.new.items ≡ out.old.items ++ spec.lost_line base.now id) }
+{
+    out.extend_from_slice(b"  \"")?;
+    push_name(out, base, id)?;
+    out.extend_from_slice(b"\" [")?;
+    push_lost_mark(out, base, id)?;
+    out.extend_from_slice(b"]\n")
+}
+
+fn push_lost_nodes(out: &mut Vec<u8>, base: &Base, ids: &[FrameId]) -> Result<(), AllocError>
+    ensures { OnOk result (out.new.items ≡ out.old.items ++ flat_map (spec.lost_line base.now) ids.now) }
+{
+    for id in ids {
+        push_lost_node(out, base, *id)?;
+    }
+    Ok(())
+}
+
+impl<'a> Drawing<'a> {
+    fn add_lost(&self, exits: &[Exit], lost: &mut IndexSet<FrameId>) -> Result<(), AllocError>
+        ensures { OnOk result (lost.new.keys ≡ insert_all id_eq lost.old.keys (spec.lost_of self.now.base exits.now)) }
+    {
+        for exit in exits {
+            if self.lacks(exit.to) {
+                lost.insert(exit.to)?;
+            }
+        }
+        Ok(())
+    }
+
+    // What the ways of the frames that are shown seek and the base lacks, each once, in the order in which it is first
+    // sought.
+    fn lost(&self, alloc: Global, frames: &[Frame]) -> Result<IndexSet<FrameId>, AllocError>
+        ensures { IfOk result (λ lost. lost.keys ≡ spec.lost self.now (shown self.now frames.now)) }
+    {
+        let mut lost = IndexSet::new(alloc);
+        for frame in frames {
+            if self.part.shows(frame.id) {
+                self.add_lost(exits_of(alloc, frame)?.as_slice(), &mut lost)?;
+            }
+        }
+        Ok(lost)
+    }
+
+    // Writes their nodes.
+    pub fn push_lost(
+        &self,
+        alloc: Global,
+        out: &mut Vec<u8>,
+        frames: &[Frame],
+    ) -> Result<(), AllocError>
+        ensures { OnOk result (out.new.items ≡ out.old.items ++ spec.lost_lines self.now (shown self.now frames.now)) }
+    {
+        let lost = self.lost(alloc, frames)?;
+        push_lost_nodes(out, self.base, lost.as_slice())
+    }
+}

@@ -1,0 +1,68 @@
+ghost use Rattle.std.specs.Prelude.{◌≡◌, ◌++◌, IfOk, OnOk};
+ghost use Rattle.base_map.specs.MapText as spec;
+ghost use Rattle.base_map.specs.MapView.{shown};
+
+use crate::drawing::Drawing;
+use crate::part::Part;
+use finder::{Discovered, find};
+use frame_records::{Base, Frame, Groups};
+use indexmap::IndexSet;
+use page_ids::FrameId;
+use std::alloc::{AllocError, Global};
+
+// The ids of discovered frames.
+fn ids_of(alloc: Global, found: &[Discovered]) -> Result<IndexSet<FrameId>, AllocError>
+    ensures { IfOk result (λ ids. ids.keys ≡ spec.ids_of found.now) }
+{
+    let mut ids = IndexSet::with_capacity(alloc, found.len())?;
+    for frame in found {
+        ids.insert(frame.id)?;
+    }
+    Ok(ids)
+}
+
+// The frames that a caller of the groups reaches.
+fn reached(alloc: Global, base: &Base, groups: &Groups) -> Result<IndexSet<FrameId>, AllocError>
+    ensures { IfOk result (λ ids. spec.AreReached groups.now base.now ids.keys) }
+{
+    let found = find(alloc, base, groups)?;
+    ids_of(alloc, found.as_slice())
+}
+
+impl<'a> Drawing<'a> {
+    // Writes the map, all of whose base's frames these are.
+    #[tactic(auto, using(std::proofs::Common::append_assoc))]
+    fn push_map(&self, alloc: Global, out: &mut Vec<u8>, frames: &[Frame]) -> Result<(), AllocError>
+        ensures { OnOk result (out.new.items ≡ out.old.items ++ spec.lines_of self.now (shown self.now frames.now)) }
+    {
+        out.extend_from_slice(b"digraph {\n  rankdir=LR\n  node [shape=box]\n")?;
+        self.push_clusters(alloc, out, frames)?;
+        self.push_lost(alloc, out, frames)?;
+        self.push_edges(alloc, out, frames)?;
+        out.extend_from_slice(b"}\n")
+    }
+}
+
+/// The graph of the frames of a base that a part shows, for a caller of exactly these groups, as a DOT file for Graphviz.
+///
+/// First come the nodes of the frames in the order of their ids, each page's in a cluster; then the nodes of what their ways
+/// seek and the base lacks, in the order in which it is first sought; then the edges of each frame in turn. A line has one
+/// node or one edge. An edge leads to what a way seeks if the part shows it or the base lacks it.
+pub fn map_text(
+    alloc: Global,
+    base: &Base,
+    groups: &Groups,
+    part: &Part,
+) -> Result<Vec<u8>, AllocError>
+    ensures { IfOk result (λ text. spec.IsMap base.now groups.now part.now text.items) }
+{
+    let drawing = Drawing {
+        base,
+        groups,
+        reached: reached(alloc, base, groups)?,
+        part,
+    };
+    let mut out = Vec::new(alloc);
+    drawing.push_map(alloc, &mut out, base.frames())?;
+    Ok(out)
+}

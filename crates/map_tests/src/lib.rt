@@ -1,0 +1,7 @@
+//! Tests of the crate `base_map`: maps of small bases, written by hand.
+#![tactic(auto)]
+
+#[cfg(test)]
+mod maps;
+#[cfg(test)]
+mod titles;
