@@ -1,0 +1,5 @@
+//! Tests of the crate `base_list`.
+#![tactic(auto)]
+
+#[cfg(test)]
+mod lists;

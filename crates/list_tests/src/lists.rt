@@ -1,0 +1,92 @@
+//! The list of a base.
+
+use assertions::same_in;
+use base_list::list;
+use base_text::base_read;
+use demo_texts::DEMO;
+use frame_records::Groups;
+use std::alloc::Global;
+use std::test::Fail;
+
+// What the list of a base is, for a caller of these groups.
+fn lists(
+    alloc: Global,
+    base: &str,
+    groups: &str,
+    text: &str,
+    entry_is_found: bool,
+) -> Result<(), Fail> {
+    let groups = if groups.is_empty() {
+        Ok(Groups::none())
+    } else {
+        Groups::read(groups)
+    };
+    match (base_read(alloc, base.as_bytes()), groups) {
+        (Ok(base), Ok(groups)) => {
+            let listing = list(alloc, &base, &groups)?;
+            same_in(text, str::from_utf8(listing.text.as_slice()), Ok(text))?;
+            same_in(text, listing.entry_is_found, entry_is_found)
+        }
+        _ => Err(Fail::new("no base, or no groups")),
+    }
+}
+
+#[test]
+fn each_frame_of_demo_is_reached(rt: HostRuntime) -> Result<(), Fail> {
+    let text = "FRAME 123a RANK 0 PRICE 0 GROUP - SCRIPT -\n\
+        FRAME 1231a RANK 1 PRICE 5 GROUP - SCRIPT 1\n\
+        FRAME 1231b RANK 1 PRICE 0 GROUP - SCRIPT 1#\n";
+    lists(rt.alloc(), DEMO, "", text, true)
+}
+
+// Keys lead from 9a to 4a, 3a and 5a, and none leads back from 4a. 2a is open, but only 12a leads there. 10a, 10b and 12a belong
+// to groups.
+const SHOP: &str =
+    "entry = 9\noutside = [8]\n[[frame]]\nid = \"12a\"\ngroup = 7\nprice = 30\nrows = []\nroutes.3 = 2\n\
+    [[frame]]\nid = \"9a\"\nrows = []\nroutes = { 1 = 4, 2 = 3, 6 = 10, 7 = 8, 8 = 12 }\n\
+    [[frame]]\nid = \"3a\"\nprice = 9999\nrows = []\nroutes = { 0 = 5, 1 = 4 }\n\
+    [[frame]]\nid = \"5a\"\nrows = []\nroutes.9 = 9\n\
+    [[frame]]\nid = \"4a\"\nrows = []\n[[frame]]\nid = \"2a\"\nrows = []\nroutes.0 = 9\n\
+    [[frame]]\nid = \"10b\"\ngroup = 65535\nrows = []\nroutes.0 = 9\n\
+    [[frame]]\nid = \"10a\"\ngroup = 9\nnext = true\nrows = []\n";
+
+#[test]
+fn closed_frames_are_unreached(rt: HostRuntime) -> Result<(), Fail> {
+    let text = "FRAME 9a RANK 0 PRICE 0 GROUP - SCRIPT -\n\
+        FRAME 4a RANK - PRICE 0 GROUP - SCRIPT 1\n\
+        FRAME 3a RANK 2 PRICE 9999 GROUP - SCRIPT 2\n\
+        FRAME 5a RANK 1 PRICE 0 GROUP - SCRIPT 20\n\
+        UNREACHED 2a PRICE 0 GROUP -\n\
+        UNREACHED 10a PRICE 0 GROUP 9\n\
+        UNREACHED 10b PRICE 0 GROUP 65535\n\
+        UNREACHED 12a PRICE 30 GROUP 7\n";
+    lists(rt.alloc(), SHOP, "", text, true)
+}
+
+#[test]
+fn frames_of_the_callers_groups_are_reached(rt: HostRuntime) -> Result<(), Fail> {
+    let text = "FRAME 9a RANK 0 PRICE 0 GROUP - SCRIPT -\n\
+        FRAME 4a RANK - PRICE 0 GROUP - SCRIPT 1\n\
+        FRAME 3a RANK 2 PRICE 9999 GROUP - SCRIPT 2\n\
+        FRAME 10a RANK 2 PRICE 0 GROUP 9 SCRIPT 6\n\
+        FRAME 12a RANK 2 PRICE 30 GROUP 7 SCRIPT 8\n\
+        FRAME 5a RANK 1 PRICE 0 GROUP - SCRIPT 20\n\
+        FRAME 10b RANK 1 PRICE 0 GROUP 65535 SCRIPT 6#\n\
+        FRAME 2a RANK 1 PRICE 0 GROUP - SCRIPT 83\n";
+    lists(rt.alloc(), SHOP, "7,9,65535", text, true)
+}
+
+#[test]
+fn an_entry_frame_that_is_not_found_is_the_only_line(rt: HostRuntime) -> Result<(), Fail> {
+    let missing = "entry = 400\n[[frame]]\nid = \"400b\"\nrows = []\n";
+    lists(rt.alloc(), missing, "", "ENTRYMISSING 400a\n", false)?;
+    let closed = "entry = 400\n[[frame]]\nid = \"400a\"\ngroup = 7\nrows = []\n[[frame]]\nid = \"401a\"\nrows = []\n";
+    lists(rt.alloc(), closed, "8", "ENTRYCLOSED 400a\n", false)?;
+    let text = "FRAME 400a RANK 0 PRICE 0 GROUP 7 SCRIPT -\nUNREACHED 401a PRICE 0 GROUP -\n";
+    lists(rt.alloc(), closed, "7", text, true)
+}
+
+#[test]
+fn a_base_of_no_frames_lacks_its_entry_frame(rt: HostRuntime) -> Result<(), Fail> {
+    lists(rt.alloc(), "entry = 1\n", "", "ENTRYMISSING 1a\n", false)
+}
