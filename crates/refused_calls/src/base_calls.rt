@@ -1,72 +1,185 @@
 //! The calls that look into a base.
 
-use crate::answer::Answer;
-use audit_report::RunFault;
-use checker::{InputFault, Policy, check_bytes};
-use fault_scripts::{Outcome, audit, faults, replay};
-use finder::{Found, find, script_to};
+use crate::lines;
+use crate::tried::tried;
+use crate::words::Words;
+use checker::{check, check_change};
+use fault_scripts::Outcome;
 use frame_records::{Base, Groups};
 use page_ids::KeyList;
-use session_machine::Session;
-use std::alloc::Global;
+use session_machine::{OpenFault, Reply, Session};
+use std::alloc::{AllocError, Global};
 
-/// `session_open`
-pub fn open(alloc: Global, base: &Base, groups: &Groups) -> Answer {
+/// `BASE GROUPS`
+pub fn session_open(rt: &HostRuntime, words: &mut Words) -> Option<()> {
+    let base = words.base(rt)?;
+    let groups = words.groups()?;
+    let shown = |alloc: Global, opened| lines::of_session(alloc, base.entry_frame(), opened);
+    tried!(rt, Session::open(rt.alloc(), &base, &groups), shown)
+}
+
+/// `BASE GROUPS KEYS`: the replies of a walk
+pub fn walk_text(rt: &HostRuntime, words: &mut Words) -> Option<()> {
+    let base = words.base(rt)?;
+    let groups = words.groups()?;
+    let keys = words.keys(rt.alloc())?;
+    let replies = replies(rt.alloc(), &base, &groups, &keys)?;
+    tried!(
+        rt,
+        audit_report::walk_text(rt.alloc(), replies.as_slice()),
+        lines::of_text
+    )
+}
+
+fn replies(alloc: Global, base: &Base, groups: &Groups, keys: &KeyList) -> Option<Vec<Reply>> {
+    let mut replies = Vec::new(alloc);
     match Session::open(alloc, base, groups) {
-        Ok((session, reply)) => Answer::Opened(session, reply),
-        Err(fault) => Answer::of_open_fault(base.entry_frame(), fault),
+        Ok((session, reply)) => {
+            replies.push(reply).ok()?;
+            walked(&mut replies, base, session, keys)?;
+        }
+        Err(_) => return None,
     }
+    Some(replies)
 }
 
-/// `check_bytes`
-pub fn checked(alloc: Global, base: &[u8], cert: &[u8], policy: &Policy) -> Answer {
-    match check_bytes(alloc, base, cert, policy) {
-        Ok(verdict) => Answer::Judged(verdict),
-        Err(InputFault::Base(fault)) => Answer::Refused(RunFault::Base(fault)),
-        Err(InputFault::Cert(fault)) => Answer::Refused(RunFault::Cert(fault)),
-        Err(InputFault::Memory) => Answer::Memory,
+// Each key in turn.
+fn walked(
+    replies: &mut Vec<Reply>,
+    base: &Base,
+    mut session: Session,
+    keys: &KeyList,
+) -> Option<()> {
+    for key in keys.as_slice() {
+        replies.push(session.key(base, *key)).ok()?;
     }
+    Some(())
 }
 
-/// `find`
-pub fn found(alloc: Global, base: &Base, groups: &Groups) -> Answer {
-    match find(alloc, base, groups) {
-        Ok(found) => Answer::Discovered(found),
-        Err(_) => Answer::Memory,
-    }
+/// `BASE GROUPS`: the entry frame is missing or closed
+pub fn entry_text(rt: &HostRuntime, words: &mut Words) -> Option<()> {
+    let base = words.base(rt)?;
+    let groups = words.groups()?;
+    let is_closed = match Session::open(rt.alloc(), &base, &groups) {
+        Err(OpenFault::EntryMissing) => false,
+        Err(OpenFault::EntryClosed) => true,
+        _ => return None,
+    };
+    tried!(
+        rt,
+        audit_report::entry_text(rt.alloc(), base.entry_frame(), is_closed),
+        lines::of_text
+    )
 }
 
-/// `script_to` the frame at an index
-pub fn script(alloc: Global, found: &Found, index: u32) -> Answer {
+/// `BASE GROUPS KEYS`
+pub fn replay(rt: &HostRuntime, words: &mut Words) -> Option<()> {
+    let base = words.base(rt)?;
+    let groups = words.groups()?;
+    let keys = words.keys(rt.alloc())?;
+    let shown = |alloc: Global, replayed| lines::of_replayed(alloc, base.entry_frame(), replayed);
+    tried!(
+        rt,
+        fault_scripts::replay(rt.alloc(), &base, &groups, &keys),
+        shown
+    )
+}
+
+/// `BASE CERT POLICY`
+pub fn check_bytes(rt: &HostRuntime, words: &mut Words) -> Option<()> {
+    let base = words.bytes(rt)?;
+    let cert = words.bytes(rt)?;
+    let policy = words.policy()?;
+    tried!(
+        rt,
+        checker::check_bytes(rt.alloc(), base.as_slice(), cert.as_slice(), &policy),
+        lines::of_verdict
+    )
+}
+
+/// `BASE CERT POLICY`: the check itself takes no memory, as that of the next
+pub fn verdict_text(rt: &HostRuntime, words: &mut Words) -> Option<()> {
+    let base = words.base(rt)?;
+    let cert = words.cert(rt)?;
+    let policy = words.policy()?;
+    tried!(
+        rt,
+        audit_report::verdict_text(rt.alloc(), &check(&base, &policy, &cert)),
+        lines::of_text
+    )
+}
+
+/// `OLD OLDCERT NEW NEWCERT POLICY`
+pub fn change_text(rt: &HostRuntime, words: &mut Words) -> Option<()> {
+    let (old, old_cert) = (words.base(rt)?, words.cert(rt)?);
+    let (new, new_cert) = (words.base(rt)?, words.cert(rt)?);
+    let verdict = check_change(&old, &old_cert, &new, &new_cert, &words.policy()?);
+    tried!(
+        rt,
+        audit_report::change_text(rt.alloc(), &verdict),
+        lines::of_text
+    )
+}
+
+/// `BASE GROUPS`
+pub fn find(rt: &HostRuntime, words: &mut Words) -> Option<()> {
+    let base = words.base(rt)?;
+    let groups = words.groups()?;
+    tried!(
+        rt,
+        finder::find(rt.alloc(), &base, &groups),
+        lines::of_found
+    )
+}
+
+/// `BASE GROUPS INDEX`
+pub fn script_to(rt: &HostRuntime, words: &mut Words) -> Option<()> {
+    let base = words.base(rt)?;
+    let groups = words.groups()?;
+    let index = words.number()?;
+    let found = finder::find(rt.alloc(), &base, &groups).ok()?;
     if index as usize >= found.as_slice().len() {
-        return Answer::Strange;
+        return None;
     }
-    match script_to(alloc, found, index) {
-        Ok(keys) => Answer::Keys(keys),
-        Err(_) => Answer::Memory,
-    }
+    tried!(
+        rt,
+        finder::script_to(rt.alloc(), &found, index),
+        lines::of_script
+    )
 }
 
-/// `audit`
-pub fn audited(alloc: Global, base: &Base, policy: &Policy) -> Answer {
-    match audit(alloc, base, policy) {
-        Ok(outcome) => Answer::Audited(outcome),
-        Err(_) => Answer::Memory,
-    }
+/// `BASE POLICY`
+pub fn audit(rt: &HostRuntime, words: &mut Words) -> Option<()> {
+    let base = words.base(rt)?;
+    let policy = words.policy()?;
+    tried!(
+        rt,
+        fault_scripts::audit(rt.alloc(), &base, &policy),
+        lines::of_outcome
+    )
 }
 
-/// `faults`
-pub fn all_faults(alloc: Global, base: &Base, policy: &Policy) -> Answer {
-    match faults(alloc, base, policy) {
-        Ok(faults) => Answer::Audited(Outcome::Faulty(faults)),
-        Err(_) => Answer::Memory,
-    }
+/// `BASE POLICY`
+pub fn faults(rt: &HostRuntime, words: &mut Words) -> Option<()> {
+    let base = words.base(rt)?;
+    let policy = words.policy()?;
+    let shown = |alloc: Global, faults: Result<_, AllocError>| lines::of_outcome(
+        alloc,
+        faults.map(Outcome::Faulty),
+    );
+    tried!(rt, fault_scripts::faults(rt.alloc(), &base, &policy), shown)
 }
 
-/// `replay`
-pub fn replayed(alloc: Global, base: &Base, groups: &Groups, keys: &KeyList) -> Answer {
-    match replay(alloc, base, groups, keys) {
-        Ok(replayed) => Answer::Replied(replayed),
-        Err(fault) => Answer::of_open_fault(base.entry_frame(), fault),
-    }
+/// `BASE POLICY`: of what the audit answers
+pub fn report(rt: &HostRuntime, words: &mut Words) -> Option<()> {
+    let base = words.base(rt)?;
+    let policy = words.policy()?;
+    let Ok(outcome) = fault_scripts::audit(rt.alloc(), &base, &policy) else {
+        return None;
+    };
+    tried!(
+        rt,
+        audit_report::report(rt.alloc(), &outcome),
+        lines::of_text
+    )
 }

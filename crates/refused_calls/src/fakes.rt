@@ -2,12 +2,11 @@
 
 ghost use Rattle.std.specs.Prelude.{◌≡◌, false};
 
-use crate::files::bytes_of;
 use crate::words::Words;
 use fake_devices::{FakeSink, FakeSource};
-use std::alloc::{AllocError, Global};
+use std::alloc::Global;
 
-/// A file that is read in pieces, `PATH PIECE`; or that fails behind so many bytes, `PATH PIECE/KEPT`.
+/// A file that is read in pieces, `PATH PIECE`; or that fails after so many bytes, `PATH PIECE/KEPT`.
 #[derive(Drop)]
 pub struct File {
     text: Vec<u8>,
@@ -15,26 +14,15 @@ pub struct File {
     kept: Option<usize>,
 }
 
-// A piece, and behind how many bytes it fails.
-fn pieces(word: &str) -> Option<(usize, Option<usize>)> {
-    match word.split_once('/') {
-        Some((piece, kept)) => {
-            let kept = kept.parse::<usize>().ok()?;
-            Some((piece.parse::<usize>().ok()?, Some(kept)))
-        }
-        None => Some((word.parse::<usize>().ok()?, None)),
-    }
-}
-
 impl File {
     pub fn of(rt: &HostRuntime, words: &mut Words) -> Option<File> {
-        let path = words.word()?;
-        let (piece, kept) = pieces(words.word()?)?;
-        let text = bytes_of(rt, path)?;
+        let text = words.bytes(rt)?;
+        let word = words.word()?;
+        let (piece, kept) = word.split_once('/').unwrap_or((word, ""));
         Some(File {
             text,
-            piece: piece.max(1),
-            kept,
+            piece: piece.parse::<usize>().ok()?.max(1),
+            kept: kept.parse::<usize>().ok(),
         })
     }
 
@@ -51,39 +39,18 @@ impl File {
 // How much of an output is at most asked to be taken.
 const MOST_TAKEN: usize = 10_000;
 
-/// What the output does: `whole` takes all of it, `unflushed` does and fails to send it on, `full/K` fails behind K bytes,
-/// `stalling/K` takes none behind K bytes.
-#[derive(Clone, Copy)]
-pub enum Output {
-    Whole,
-    Unflushed,
-    Full(usize),
-    Stalling(usize),
-}
-
-impl Output {
-    pub fn of(words: &mut Words) -> Option<Output> {
-        let word = words.word()?;
-        let (name, room) = word.split_once('/').unwrap_or((word, "0"));
-        let room = room.parse::<usize>().ok()?;
-        match name {
-            "whole" => Some(Output::Whole),
-            "unflushed" => Some(Output::Unflushed),
-            "full" => Some(Output::Full(room)),
-            "stalling" => Some(Output::Stalling(room)),
-            _ => None,
-        }
-    }
-
-    /// Its writer, with the memory that it will need.
-    pub fn writer(self, alloc: Global) -> Result<FakeSink, AllocError> {
-        let mut writer = match self {
-            Output::Whole => FakeSink::of(alloc, 7),
-            Output::Unflushed => FakeSink::unflushed(alloc, 7),
-            Output::Full(room) => FakeSink::full(alloc, 7, room),
-            Output::Stalling(room) => FakeSink::stalling(alloc, 7, room),
-        };
-        writer.taken.reserve(MOST_TAKEN)?;
-        Ok(writer)
-    }
+/// An output with the memory that it will need: `whole` takes all, `unflushed` too and fails to send it on, `full/K` fails after
+/// K bytes, `stalling/K` takes none after K bytes.
+pub fn output(alloc: Global, word: &str) -> Option<FakeSink> {
+    let (name, room) = word.split_once('/').unwrap_or((word, "0"));
+    let room = room.parse::<usize>().ok()?;
+    let mut output = match name {
+        "whole" => FakeSink::of(alloc, 7),
+        "unflushed" => FakeSink::unflushed(alloc, 7),
+        "full" => FakeSink::full(alloc, 7, room),
+        "stalling" => FakeSink::stalling(alloc, 7, room),
+        _ => return None,
+    };
+    output.taken.reserve(MOST_TAKEN).ok()?;
+    Some(output)
 }

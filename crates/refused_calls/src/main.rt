@@ -1,73 +1,78 @@
 //! Makes one call that takes memory, on the input that the words name, and shows what it answered.
 //!
-//! `refused_calls CALL WORD..` makes the input, tells on standard error where the call begins and where it has ended, and
-//! prints the answer: `Memory` where a growth was refused, else its text. Behind an empty line and the line `again` stands
-//! the answer of the same call made once more with what was lent to it before. What a call takes is named in `Call::takes`,
-//! and which words say that at `Kind`; files are named by their paths, and `-` stands for no groups.
+//! `refused_calls CALL WORD..` makes the input, prints on standard error where the call begins and where it has ended, and
+//! prints the answer: `Memory` if a growth was refused, else its text. After the line `again` comes the answer of the same call
+//! made once more with what was lent to it before. Each call is a function of its name, which says what words it takes: files
+//! are named by their paths, and `-` stands for no groups.
 //!
 //! The program refuses no request for memory by itself: `tests/refuse-calls` does, between the two lines on standard error.
 #![tactic(auto)]
 
-mod answer;
 mod base_calls;
-mod base_lines;
-mod call;
 mod fakes;
-mod files;
-mod input;
+mod lines;
 mod run_calls;
 mod text_calls;
+mod tried;
 mod words;
 
-use answer::Answer;
 use anyhow::{Result, bail};
-use audit_report::{IntoWrite, write_whole};
-use call::Call;
-use input::Input;
-use std::{env, io};
+use std::env;
 use words::Words;
 
 fn main(rt: HostRuntime) -> Result<()> {
     let words: Vec<String> = env::args(&rt)?.collect(rt.alloc())?;
-    run(&rt, words.as_slice())
-}
-
-// Tries the call of the first word behind the program's own, on the input of the others.
-fn run(rt: &HostRuntime, words: &[String]) -> Result<()> {
-    let Some(call) = words.get(1).and_then(|name| Call::named(name.as_str())) else {
-        bail!("no such call");
-    };
-    match inputs_of(rt, call, &mut Words::of(words.get(2..).unwrap_or(&[]))) {
-        Some(inputs) => tried(rt, call, inputs.as_slice()),
-        None => bail!("the words say nothing that the call takes"),
+    match called(&rt, words.as_slice()) {
+        Some(()) => Ok(()),
+        None => bail!("no such call, or its words say nothing that it takes"),
     }
 }
 
-// What a call takes, of the words behind its name.
-fn inputs_of<'a>(rt: &HostRuntime, call: Call, words: &mut Words<'a>) -> Option<Vec<Input<'a>>> {
-    let mut inputs = Vec::new(rt.alloc());
-    for kind in call.takes() {
-        inputs.push(kind.of(rt, words)?).ok()?;
+// Makes the call of the first word after the program's own, on what the other words name.
+fn called(rt: &HostRuntime, words: &[String]) -> Option<()> {
+    let name = words.get(1)?.as_str();
+    let words = &mut Words::of(words.get(2..)?);
+    match name {
+        "keys_read" => text_calls::keys_read(rt, words),
+        "keys_text" => text_calls::keys_text(rt, words),
+        "base_read" => text_calls::base_read(rt, words),
+        "body_of_rows" => text_calls::body_of_rows(rt, words),
+        "cert_read" => text_calls::cert_read(rt, words),
+        "cert_write" => text_calls::cert_write(rt, words),
+        "feed" => text_calls::feed(rt, words),
+        "read_whole" => text_calls::read_whole(rt, words),
+        "fault_text" => text_calls::fault_text(rt, words),
+        _ => base_call(rt, name, words),
     }
-    Some(inputs)
 }
 
-// Makes a call between two lines on standard error and prints its answer, and then that of the same call made again.
-fn tried(rt: &HostRuntime, call: Call, inputs: &[Input]) -> Result<()> {
-    eprint!(rt; "the call begins\n")?;
-    let answer = call.answer(rt.alloc(), inputs);
-    eprint!(rt; "the call has ended\n")?;
-    show(rt, answer)?;
-    println!(rt; "\nagain")?;
-    show(rt, call.answer(rt.alloc(), inputs))
+// The calls on bases.
+fn base_call(rt: &HostRuntime, name: &str, words: &mut Words) -> Option<()> {
+    match name {
+        "session_open" => base_calls::session_open(rt, words),
+        "walk_text" => base_calls::walk_text(rt, words),
+        "entry_text" => base_calls::entry_text(rt, words),
+        "replay" => base_calls::replay(rt, words),
+        "check_bytes" => base_calls::check_bytes(rt, words),
+        "verdict_text" => base_calls::verdict_text(rt, words),
+        "change_text" => base_calls::change_text(rt, words),
+        "find" => base_calls::find(rt, words),
+        "script_to" => base_calls::script_to(rt, words),
+        "audit" => base_calls::audit(rt, words),
+        "faults" => base_calls::faults(rt, words),
+        "report" => base_calls::report(rt, words),
+        _ => run_call(rt, name, words),
+    }
 }
 
-// Prints an answer.
-fn show(rt: &HostRuntime, answer: Answer) -> Result<()> {
-    let text = answer.text(rt.alloc())?;
-    let mut out = IntoWrite::new(io::writer(rt));
-    match write_whole(&mut out, text.as_slice()) {
-        Ok(()) => Ok(()),
-        Err(fault) => bail!("the output took {} bytes", fault.wrote),
+// The runs.
+fn run_call(rt: &HostRuntime, name: &str, words: &mut Words) -> Option<()> {
+    match name {
+        "run_lint" => run_calls::run_lint(rt, words),
+        "run_audit" => run_calls::run_audit(rt, words),
+        "run_check" => run_calls::run_check(rt, words),
+        "run_change" => run_calls::run_change(rt, words),
+        "run_walk" => run_calls::run_walk(rt, words),
+        _ => None,
     }
 }

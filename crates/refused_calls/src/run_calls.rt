@@ -1,78 +1,103 @@
 //! The runs, on files and an output that can fail.
 
-use crate::answer::Answer;
-use crate::fakes::{File, Output};
-use audit_report::IntoWrite;
-use checker::Policy;
-use frame_records::Groups;
-use pageaudit::{Status, run_audit, run_change, run_check, run_lint, run_walk};
-use std::alloc::Global;
+use crate::fakes::{File, output};
+use crate::lines;
+use crate::tried::{again, begin, end, show};
+use crate::words::Words;
+use audit_report::{IntoWrite, RunFault};
+use pageaudit::Status;
 
-/// `run_lint`, of a file that is called base.toml. It is faulty if there is an error.
-pub fn lint(alloc: Global, base: &File, output: Output, policy: &Policy) -> Answer {
-    let Ok(mut writer) = output.writer(alloc) else {
-        return Answer::Memory;
-    };
-    let mut out = IntoWrite::new(&mut writer);
-    let run = match run_lint(alloc, &mut base.source(), &mut out, "base.toml", policy) {
-        Ok(counts) if counts.errors == 0 => Ok(Status::Clear),
-        Ok(_) => Ok(Status::Faulty),
-        Err(fault) => Err(fault),
-    };
-    Answer::Ran(run, writer.taken)
+/// Makes a run into an output that a word names, as `tried` makes a call.
+macro_rules! ran {
+    ($rt:expr, $word:expr, |$out:ident| $run:expr) => {{
+        let mut first = output($rt.alloc(), $word)?;
+        let mut second = output($rt.alloc(), $word)?;
+        begin($rt)?;
+        let $out = &mut IntoWrite::new(&mut first);
+        let run = $run;
+        end($rt)?;
+        show($rt, lines::of_run($rt.alloc(), run, first.taken.as_slice()))?;
+        again($rt)?;
+        let $out = &mut IntoWrite::new(&mut second);
+        let run = $run;
+        show($rt, lines::of_run($rt.alloc(), run, second.taken.as_slice()))
+    }};
 }
 
-/// `run_audit`
-pub fn audit(alloc: Global, base: &File, output: Output, policy: &Policy) -> Answer {
-    let Ok(mut writer) = output.writer(alloc) else {
-        return Answer::Memory;
-    };
-    let mut out = IntoWrite::new(&mut writer);
-    let run = run_audit(alloc, &mut base.source(), &mut out, policy);
-    Answer::Ran(run, writer.taken)
+/// `BASE OUTPUT POLICY`, of a file that is called base.toml: faulty if there is an error
+pub fn run_lint(rt: &HostRuntime, words: &mut Words) -> Option<()> {
+    let base = File::of(rt, words)?;
+    let word = words.word()?;
+    let policy = words.policy()?;
+    ran!(rt, word, |out| {
+        match pageaudit::run_lint(rt.alloc(), &mut base.source(), out, "base.toml", &policy) {
+            Ok(counts) if counts.errors == 0 => Ok(Status::Clear),
+            Ok(_) => Ok(Status::Faulty),
+            Err(fault) => Err(fault),
+        }
+    })
 }
 
-/// `run_check`
-pub fn check(alloc: Global, base: &File, cert: &File, output: Output, policy: &Policy) -> Answer {
-    let Ok(mut writer) = output.writer(alloc) else {
-        return Answer::Memory;
-    };
-    let mut out = IntoWrite::new(&mut writer);
-    let run = run_check(
-        alloc,
-        &mut base.source(),
-        &mut cert.source(),
-        &mut out,
-        policy,
-    );
-    Answer::Ran(run, writer.taken)
+/// `BASE OUTPUT POLICY`
+pub fn run_audit(rt: &HostRuntime, words: &mut Words) -> Option<()> {
+    let base = File::of(rt, words)?;
+    let word = words.word()?;
+    let policy = words.policy()?;
+    ran!(
+        rt,
+        word,
+        |out| pageaudit::run_audit(rt.alloc(), &mut base.source(), out, &policy)
+    )
 }
 
-/// `run_change`, of the old base and its certificate, and the new ones
-pub fn change(alloc: Global, files: [&File; 4], output: Output, policy: &Policy) -> Answer {
-    let Ok(mut writer) = output.writer(alloc) else {
-        return Answer::Memory;
-    };
-    let mut out = IntoWrite::new(&mut writer);
-    let [old, old_cert, new, new_cert] = files;
-    let run = run_change(
-        alloc,
-        &mut old.source(),
-        &mut old_cert.source(),
-        &mut new.source(),
-        &mut new_cert.source(),
-        &mut out,
-        policy,
-    );
-    Answer::Ran(run, writer.taken)
+/// `BASE CERT OUTPUT POLICY`
+pub fn run_check(rt: &HostRuntime, words: &mut Words) -> Option<()> {
+    let (base, cert) = (File::of(rt, words)?, File::of(rt, words)?);
+    let word = words.word()?;
+    let policy = words.policy()?;
+    ran!(
+        rt,
+        word,
+        |out| pageaudit::run_check(
+            rt.alloc(),
+            &mut base.source(),
+            &mut cert.source(),
+            out,
+            &policy
+        )
+    )
 }
 
-/// `run_walk`
-pub fn walk(alloc: Global, base: &File, keys: &str, output: Output, groups: &Groups) -> Answer {
-    let Ok(mut writer) = output.writer(alloc) else {
-        return Answer::Memory;
-    };
-    let mut out = IntoWrite::new(&mut writer);
-    let run = run_walk(alloc, &mut base.source(), keys, groups, &mut out);
-    Answer::Ran(run, writer.taken)
+/// `OLD OLDCERT NEW NEWCERT OUTPUT POLICY`
+pub fn run_change(rt: &HostRuntime, words: &mut Words) -> Option<()> {
+    let (old, old_cert) = (File::of(rt, words)?, File::of(rt, words)?);
+    let (new, new_cert) = (File::of(rt, words)?, File::of(rt, words)?);
+    let word = words.word()?;
+    let policy = words.policy()?;
+    ran!(
+        rt,
+        word,
+        |out| pageaudit::run_change(
+            rt.alloc(),
+            &mut old.source(),
+            &mut old_cert.source(),
+            &mut new.source(),
+            &mut new_cert.source(),
+            out,
+            &policy
+        )
+    )
+}
+
+/// `BASE KEYS OUTPUT GROUPS`
+pub fn run_walk(rt: &HostRuntime, words: &mut Words) -> Option<()> {
+    let base = File::of(rt, words)?;
+    let keys = words.word()?;
+    let word = words.word()?;
+    let groups = words.groups()?;
+    ran!(
+        rt,
+        word,
+        |out| pageaudit::run_walk(rt.alloc(), &mut base.source(), keys, &groups, out)
+    )
 }

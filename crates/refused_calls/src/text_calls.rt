@@ -1,68 +1,135 @@
-//! The calls that read a text.
+//! The calls that read a text or write one.
 
-use crate::answer::Answer;
-use audit_report::{RunFault, SourceFault, read_whole};
-use base_text::{MOST_TEXT, RowCells, base_read, body_of_rows};
-use cert_text::{CertReader, cert_read};
+use crate::lines;
+use crate::tried::tried;
+use crate::words::Words;
+use audit_report::{RunFault, SourceFault};
+use base_text::{MOST_TEXT, RowCells};
+use cert_text::{CertReader, ReadFault};
 use fake_devices::FakeSource;
-use page_ids::keys_read;
+use page_ids::IdFault;
 use std::alloc::Global;
 
-/// `keys_read`
-pub fn keys(alloc: Global, text: &str) -> Answer {
-    match keys_read(alloc, text) {
-        Ok(keys) => Answer::Keys(keys),
-        Err(fault) => Answer::of_keys_fault(fault),
-    }
+/// `KEYS`
+pub fn keys_read(rt: &HostRuntime, words: &mut Words) -> Option<()> {
+    let text = words.word()?;
+    tried!(rt, page_ids::keys_read(rt.alloc(), text), lines::of_keys)
 }
 
-/// `base_read`
-pub fn base(alloc: Global, text: &[u8]) -> Answer {
-    match base_read(alloc, text) {
-        Ok(base) => Answer::Whole(base),
-        Err(fault) => Answer::of_base_fault(fault),
-    }
+/// `KEYS`
+pub fn keys_text(rt: &HostRuntime, words: &mut Words) -> Option<()> {
+    let keys = words.keys(rt.alloc())?;
+    tried!(rt, page_ids::keys_text(rt.alloc(), &keys), lines::of_text)
 }
 
-/// `body_of_rows`, of at most 22 rows
-pub fn body(alloc: Global, rows: &[RowCells]) -> Answer {
+/// `BASE`
+pub fn base_read(rt: &HostRuntime, words: &mut Words) -> Option<()> {
+    let text = words.bytes(rt)?;
+    tried!(
+        rt,
+        base_text::base_read(rt.alloc(), text.as_slice()),
+        lines::of_base
+    )
+}
+
+/// `ROW..`, at most 22
+pub fn body_of_rows(rt: &HostRuntime, words: &mut Words) -> Option<()> {
+    let mut rows = Vec::new(rt.alloc());
+    while let Some(word) = words.word() {
+        rows.push(RowCells::new(word.as_bytes())?).ok()?;
+    }
     if rows.len() > 22 {
-        return Answer::Strange;
+        return None;
     }
-    match body_of_rows(alloc, rows) {
-        Ok(body) => Answer::Shown(body),
-        Err(_) => Answer::Memory,
-    }
+    tried!(
+        rt,
+        base_text::body_of_rows(rt.alloc(), rows.as_slice()),
+        lines::of_body
+    )
 }
 
-/// `cert_read`
-pub fn cert(alloc: Global, text: &[u8]) -> Answer {
-    match cert_read(alloc, text) {
-        Ok(cert) => Answer::Table(cert),
-        Err(fault) => Answer::of_read_fault(fault),
-    }
+/// `CERT`
+pub fn cert_read(rt: &HostRuntime, words: &mut Words) -> Option<()> {
+    let text = words.bytes(rt)?;
+    tried!(
+        rt,
+        cert_text::cert_read(rt.alloc(), text.as_slice()),
+        lines::of_cert
+    )
 }
 
-/// `feed`: each piece of so many bytes in turn, up to the first that is refused
-pub fn feed(alloc: Global, text: &[u8], piece: usize) -> Answer {
+/// `CERT`
+pub fn cert_write(rt: &HostRuntime, words: &mut Words) -> Option<()> {
+    let cert = words.cert(rt)?;
+    tried!(rt, cert_text::cert_write(rt.alloc(), &cert), lines::of_text)
+}
+
+/// `CERT PIECE`: each piece of so many bytes in turn, up to the first that is refused
+pub fn feed(rt: &HostRuntime, words: &mut Words) -> Option<()> {
+    let text = words.bytes(rt)?;
+    let piece = words.number()? as usize;
+    tried!(rt, fed(rt.alloc(), text.as_slice(), piece), lines::of_fed)
+}
+
+fn fed(alloc: Global, text: &[u8], piece: usize) -> (CertReader, Result<(), ReadFault>) {
     let mut reader = CertReader::new(alloc);
     for piece in text.chunks(piece.max(1)) {
         if let Err(fault) = reader.feed(piece) {
-            return Answer::Unfed(reader, fault);
+            return (reader, Err(fault));
         }
     }
-    Answer::Fed(reader)
+    (reader, Ok(()))
 }
 
-/// `read_whole`: of a source that gives so many bytes at once
-pub fn read(alloc: Global, text: &[u8], piece: usize) -> Answer {
-    match read_whole(
-        alloc,
-        &mut FakeSource::of(text, piece.max(1)),
-        MOST_TEXT + 1,
-    ) {
-        Ok(bytes) => Answer::Bytes(bytes),
-        Err(SourceFault::Memory) => Answer::Memory,
-        Err(SourceFault::Broken) => Answer::Refused(RunFault::ReadBase),
+/// `FILE PIECE`: a source gives so many bytes at once
+pub fn read_whole(rt: &HostRuntime, words: &mut Words) -> Option<()> {
+    let text = words.bytes(rt)?;
+    let piece = words.number()? as usize;
+    tried!(
+        rt,
+        whole(rt.alloc(), text.as_slice(), piece.max(1)),
+        lines::of_source
+    )
+}
+
+fn whole(alloc: Global, text: &[u8], piece: usize) -> Result<Vec<u8>, SourceFault>
+    requires { 0 < piece }
+{
+    audit_report::read_whole(alloc, &mut FakeSource::of(text, piece), MOST_TEXT + 1)
+}
+
+/// `keys KEYS`, `base BASE` or `cert CERT`, which is refused
+pub fn fault_text(rt: &HostRuntime, words: &mut Words) -> Option<()> {
+    let fault = match words.word()? {
+        "keys" => keys_fault(rt.alloc(), words.word()?)?,
+        "base" => base_fault(rt.alloc(), words.bytes(rt)?.as_slice())?,
+        "cert" => cert_fault(rt.alloc(), words.bytes(rt)?.as_slice())?,
+        _ => return None,
+    };
+    tried!(
+        rt,
+        audit_report::fault_text(rt.alloc(), &fault),
+        lines::of_text
+    )
+}
+
+fn keys_fault(alloc: Global, text: &str) -> Option<RunFault> {
+    match page_ids::keys_read(alloc, text) {
+        Err(IdFault::BadKey(offset)) => Some(RunFault::Keys(offset)),
+        _ => None,
+    }
+}
+
+fn base_fault(alloc: Global, text: &[u8]) -> Option<RunFault> {
+    match base_text::base_read(alloc, text) {
+        Err(fault) => Some(RunFault::Base(fault)),
+        Ok(_) => None,
+    }
+}
+
+fn cert_fault(alloc: Global, text: &[u8]) -> Option<RunFault> {
+    match cert_text::cert_read(alloc, text) {
+        Err(fault) => Some(RunFault::Cert(fault)),
+        Ok(_) => None,
     }
 }
