@@ -80,7 +80,8 @@ fn frames_of_the_callers_groups_are_reached(rt: HostRuntime) -> Result<(), Fail>
 fn an_entry_frame_that_is_not_found_is_the_only_line(rt: HostRuntime) -> Result<(), Fail> {
     let missing = "entry = 400\n[[frame]]\nid = \"400b\"\nrows = []\n";
     lists(rt.alloc(), missing, "", "ENTRYMISSING 400a\n", false)?;
-    let closed = "entry = 400\n[[frame]]\nid = \"400a\"\ngroup = 7\nrows = []\n[[frame]]\nid = \"401a\"\nrows = []\n";
+    let closed =
+        "entry = 400\n[[frame]]\nid = \"400a\"\ngroup = 7\nrows = []\n[[frame]]\nid = \"401a\"\nrows = []\n";
     lists(rt.alloc(), closed, "8", "ENTRYCLOSED 400a\n", false)?;
     let text = "FRAME 400a RANK 0 PRICE 0 GROUP 7 SCRIPT -\nUNREACHED 401a PRICE 0 GROUP -\n";
     lists(rt.alloc(), closed, "7", text, true)

@@ -16,6 +16,7 @@
 //! - [`run_check`]: the verdict on a certificate; if the status is Clear, the headline holds of the two files.
 //! - [`run_change`]: the verdict on a change of edition; if the status is Clear, the promise to callers inside holds.
 //! - [`run_walk`]: what a caller sees.
+//! - [`run_list`]: a line for each frame of a base.
 //! - [`run_lint`], [`status_of_lint`]: every finding in a base's file, and the exit status for them.
 //! - [`Status`], [`status_of`]: the result of another run, and the program's exit status for it.
 #![tactic(auto)]
@@ -27,6 +28,7 @@ mod edition;
 mod file_fault;
 mod input;
 mod lint_run;
+mod list_run;
 mod output;
 mod status;
 mod walk_run;
@@ -36,5 +38,6 @@ pub use change_run::run_change;
 pub use check_run::run_check;
 pub use lint_report::{Counts, counted_text};
 pub use lint_run::{run_lint, status_of_lint};
+pub use list_run::run_list;
 pub use status::{Status, status_of};
 pub use walk_run::run_walk;

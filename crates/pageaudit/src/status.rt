@@ -9,7 +9,7 @@ use checker::Verdict;
 /// The result of a run without a fault.
 #[derive(Debug, Clone, Copy, PartialEq, Eq)]
 pub enum Status {
-    /// Certified, cleared, or a walk.
+    /// Certified, cleared, a walk, or a list.
     Clear,
     /// Faults, a refusal, or an entry frame that is missing or closed.
     Faulty,

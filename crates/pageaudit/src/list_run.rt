@@ -1,0 +1,63 @@
+ghost use Rattle.std.specs.Prelude.{◌≡◌, false};
+ghost use Rattle.pageaudit.specs.Device.{device, IsTextWritten};
+ghost use Rattle.pageaudit.specs.ListRun.{IsListRun, status_of_entry};
+
+use crate::file_fault::base_fault;
+use crate::input::read_base;
+use crate::output::write_text;
+use crate::status::Status;
+use audit_report::{RunFault, Sink, Source};
+use base_list::{Listing, list};
+use frame_records::Groups;
+use std::alloc::Global;
+
+// Clear if and only if the entry frame is found.
+fn status_of_entry(is_found: bool) -> Status
+    ensures { result ≡ status_of_entry is_found }
+{
+    if is_found {
+        Status::Clear
+    } else {
+        Status::Faulty
+    }
+}
+
+// Writes a list.
+fn write_listing<O: Sink>(out: &mut O, listing: &Listing) -> Result<Status, RunFault>
+    requires { (O.seen out.old).failed ≡ false }
+    ensures { IsTextWritten (device O.seen out.old out.new) listing.now.text.items (status_of_entry listing.now.entry_is_found) result }
+{
+    write_text(
+        out,
+        listing.text.as_slice(),
+        status_of_entry(listing.entry_is_found),
+    )
+}
+
+/// Lists the frames of a base: those that a caller of the groups can reach, and then the others. If the entry frame is missing
+/// or closed to the caller, its line is the only one, and the status is Faulty.
+///
+/// The base is read whole and judged first. On every fault except `Write`, nothing was written. A device is not called
+/// again after it returned an error.
+pub fn run_list<B: Source, O: Sink>(
+    alloc: Global,
+    base: &mut B,
+    groups: &Groups,
+    out: &mut O,
+) -> Result<Status, RunFault>
+    requires base_open { (B.seen base.old).failed ≡ false }
+    requires out_open { (O.seen out.old).failed ≡ false }
+
+    // A status: the base's file was read to its end, no device failed, and the list and its status are those of what was
+    // read. A fault: the first one, of the base's file or of the output.
+    ensures { IsListRun (device B.seen base.old base.new) (device O.seen out.old out.new) groups.now result }
+{
+    let base = match read_base(alloc, base) {
+        Ok(base) => base,
+        Err(fault) => return Err(base_fault(fault)),
+    };
+    match list(alloc, &base, groups) {
+        Ok(listing) => write_listing(out, &listing),
+        Err(_) => Err(RunFault::Memory),
+    }
+}
