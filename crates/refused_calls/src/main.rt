@@ -73,6 +73,7 @@ fn run_call(rt: &HostRuntime, name: &str, words: &mut Words) -> Option<()> {
         "run_check" => run_calls::run_check(rt, words),
         "run_change" => run_calls::run_change(rt, words),
         "run_walk" => run_calls::run_walk(rt, words),
+        "run_list" => run_calls::run_list(rt, words),
         _ => None,
     }
 }

@@ -101,3 +101,15 @@ pub fn run_walk(rt: &HostRuntime, words: &mut Words) -> Option<()> {
         |out| pageaudit::run_walk(rt.alloc(), &mut base.source(), keys, &groups, out)
     )
 }
+
+/// `BASE OUTPUT GROUPS`
+pub fn run_list(rt: &HostRuntime, words: &mut Words) -> Option<()> {
+    let base = File::of(rt, words)?;
+    let word = words.word()?;
+    let groups = words.groups()?;
+    ran!(
+        rt,
+        word,
+        |out| pageaudit::run_list(rt.alloc(), &mut base.source(), &groups, out)
+    )
+}
