@@ -1,9 +1,10 @@
 //! What is measured, and how long it takes.
 
-use crate::edition::{Edition, certificate, read_base};
+use crate::edition::{Edition, certificate, listing, read_base};
 use anyhow::{Result, bail};
 use base_text::base_read;
 use checker::Policy;
+use frame_records::Groups;
 use std::alloc::Global;
 use std::time::{CpuClock, Duration};
 
@@ -18,6 +19,8 @@ pub enum Work<'a> {
     Walk(&'a [u8]),
     /// The base of a text is read and audited, and its certificate is written.
     Audit(&'a [u8], &'a Policy),
+    /// The base of a text is read, and the list of its frames is written for a caller of these groups.
+    List(&'a [u8], &'a Groups),
     /// Both texts are read and checked.
     Check(&'a Edition),
     /// Twice both texts are read, and the change between these editions is checked.
@@ -32,6 +35,7 @@ impl Work<'_> {
             Work::Read(text) => base_read(alloc, text).is_ok(),
             Work::Walk(text) => read_base(alloc, text).is_some(),
             Work::Audit(text, policy) => certificate(alloc, text, policy).is_some(),
+            Work::List(text, groups) => listing(alloc, text, groups).is_some(),
             Work::Check(edition) => edition.count(alloc).is_some(),
             Work::Change(edition) => edition.clears_change(alloc),
         }
