@@ -100,6 +100,12 @@ FOUND = """\
 1231b rank {} parent 1 key #
 """
 REPLIES = "SHOWN 123a 0\n" + "SHOWN 1231a 5\nSHOWN 123a 0\n" * 3 + "SHOWN 1231a 5\nNOTOFFERED\n"
+LIST = """\
+FRAME 123a RANK 0 PRICE 0 GROUP - SCRIPT -
+FRAME 1231a RANK 1 PRICE 5 GROUP - SCRIPT 1
+FRAME 1231b RANK 1 PRICE 0 GROUP - SCRIPT 1#
+"""
+CLOSED_LIST = LIST.splitlines(keepends=True)[0] + "FRAME 1231a RANK 1 PRICE 5 GROUP - SCRIPT 1\nUNREACHED 1231b PRICE 0 GROUP 7\n"
 STRICT = "FAULTS 3\nPRICE 1231a 5 SCRIPT 1\nNORETURN 1231a SCRIPT 1\nNORETURN 1231b SCRIPT 1#\n"
 # Of an audit up to 50 pence and 3 keyings.
 FAULTS = {
@@ -234,6 +240,9 @@ RUNS = [
     ("run_change demo {0} cert {0} shorter {0} shorter_cert {0}", "50 3 -", 1, "REFUSED E2 NoLongerCovered 1231b\n"),
     ("run_walk demo {} 1010*#*#*#*#", "-", 0, REPLIES),
     ("run_walk entry_closed {} 1", "-", 1, "ENTRYCLOSED 123a\n"),
+    ("run_list demo {}", "-", 0, LIST),
+    ("run_list closed {}", "-", 0, CLOSED_LIST),
+    ("run_list entry_closed {}", "-", 1, "ENTRYCLOSED 123a\n"),
 ]
 
 
@@ -251,6 +260,7 @@ def run_cases():
         yield Case(f"run_audit demo 7/{kept} whole 50 3 -", unread)
         yield Case(f"run_check demo 7/{kept} cert 7 whole 5 1 -", unread)
         yield Case(f"run_walk demo 7/{kept} 1# whole -", unread)
+        yield Case(f"run_list demo 7/{kept} whole -", unread)
         yield Case(f"run_change demo 7/{kept} cert 7 demo 7 cert 7 whole 50 3 -", unread)
         new = ran(3, fault="new base: read failed")
         yield Case(f"run_change demo 7 cert 7 demo 7/{kept} cert 7 whole 50 3 -", new)

@@ -1,7 +1,8 @@
 //! The program: audits the page base of a viewdata information provider.
 //!
-//! `lint`, `audit`, `check`, `change` and `walk` open their files in the order of the words and hand them to the runs of the crate
-//! `pageaudit`, which are proved over any reader and writer. This crate only opens files, prints and picks the exit status.
+//! `lint`, `audit`, `check`, `change`, `walk` and `list` open their files in the order of the words and hand them to the runs of
+//! the crate `pageaudit`, which are proved over any reader and writer. This crate only opens files, prints and picks the exit
+//! status.
 #![tactic(auto)]
 
 mod out_file;
@@ -16,7 +17,7 @@ use frame_records::Groups;
 use out_file::{is_same_file, open_out};
 use pageaudit::{
     Counts, Status, counted_text, run_audit, run_audit_into, run_change, run_check, run_lint,
-    run_walk, status_of, status_of_lint,
+    run_list, run_walk, status_of, status_of_lint,
 };
 use std::process::ExitCode;
 use std::rt::{Env, Files};
@@ -143,6 +144,7 @@ fn answer<R: Files + Print + Eprint + AllocGlobal>(rt: &R, request: &Request) ->
             policy,
         } => change_files(rt, [old, old_cert, new, new_cert], policy),
         Request::Walk { base, keys, groups } => walk_file(rt, base, keys, groups),
+        Request::List { base, groups } => list_file(rt, base, groups),
         Request::Lint { base, policy } => return lint(rt, base, policy),
         Request::Explain { word } => return explain(rt, *word),
     };
@@ -286,4 +288,15 @@ fn walk_file<R: Files + Print + AllocGlobal>(
     let mut base = FromRead::new(base);
     let mut out = IntoWrite::new(io::writer(rt));
     run_walk(rt.alloc(), &mut base, keys, groups, &mut out)
+}
+
+fn list_file<R: Files + Print + AllocGlobal>(
+    rt: &R,
+    base: &str,
+    groups: &Groups,
+) -> Result<Status, RunFault> {
+    let base = opened(rt, base, RunFault::ReadBase)?;
+    let mut base = FromRead::new(base);
+    let mut out = IntoWrite::new(io::writer(rt));
+    run_list(rt.alloc(), &mut base, groups, &mut out)
 }

@@ -130,6 +130,14 @@ fn walk_command<'a>(alloc: Global) -> Result<Command<'a>, AllocError> {
     with_groups(alloc, command)
 }
 
+fn list_command<'a>(alloc: Global) -> Result<Command<'a>, AllocError> {
+    let command = Command::new(alloc, "list")
+        .about("List the frames of a base, with the keys that lead there")
+        .after_help(help::LIST)
+        .arg(place(alloc, "BASE", "The base, a TOML file"))?;
+    with_groups(alloc, command)
+}
+
 fn explain_command<'a>(alloc: Global) -> Result<Command<'a>, AllocError> {
     let code = Arg::new(alloc, "CODE").action(ArgAction::Set).help(
         "A printed word, e.g. K7, MISSING or s80; without one all are listed",
@@ -151,6 +159,7 @@ fn whole_command<'a>(alloc: Global) -> Result<Command<'a>, AllocError> {
         .subcommand(check_command(alloc)?)?
         .subcommand(change_command(alloc)?)?
         .subcommand(walk_command(alloc)?)?
+        .subcommand(list_command(alloc)?)?
         .subcommand(explain_command(alloc)?)
 }
 
@@ -208,6 +217,11 @@ pub enum Request<'a> {
     Walk {
         base: &'a str,
         keys: &'a str,
+        groups: Groups,
+    },
+    /// The frames of a base, for a caller of these groups.
+    List {
+        base: &'a str,
         groups: Groups,
     },
     /// What a printed word means, or all words.
@@ -269,6 +283,10 @@ pub fn asked_for<'a>(matches: &'a ArgMatches, groups: Groups) -> Option<Request<
         ("walk", words) => Some(Request::Walk {
             base: words.get_str("BASE")?,
             keys: words.get_str("KEYS")?,
+            groups,
+        }),
+        ("list", words) => Some(Request::List {
+            base: words.get_str("BASE")?,
             groups,
         }),
         ("explain", words) => Some(Request::Explain {

@@ -73,6 +73,10 @@ listed =
     codes "E2" ∷
     codes "NoLongerCovered" ∷
     codes "UNREACHED" ∷
+    codes "FRAME" ∷
+    codes "RANK" ∷
+    codes "GROUP" ∷
+    codes "UNREACHED" ∷
     codes "X1" ∷
     codes "TooLong" ∷
     codes "X2" ∷

@@ -1,7 +1,7 @@
 //! The words and their texts: written by tests/explain-words from docs/CODES.md.
 
 /// Each word; its place is that of its text.
-pub static WORDS: [&str; 124] = [
+pub static WORDS: [&str; 128] = [
     "PBC1",
     "entry",
     "ceiling",
@@ -70,6 +70,10 @@ pub static WORDS: [&str; 124] = [
     "EntryMoved",
     "E2",
     "NoLongerCovered",
+    "UNREACHED",
+    "FRAME",
+    "RANK",
+    "GROUP",
     "UNREACHED",
     "X1",
     "TooLong",
@@ -1623,8 +1627,80 @@ They print:
     base:7:1: warning: UNREACHED: no key leads to frame 2a from the entry page
 
 Fix: add a route or 'next = true' that leads to the frame, or remove it.
+
+FRAME
+
+RANK is the least number of keys '0' to '9' and '#' back to the entry frame,
+PRICE is in pence, GROUP is the frame's closed user group. SCRIPT has keys that
+lead to the frame. Each is '-' if there is none. UNREACHED is a frame that no
+key leads this caller to. It may be closed to the caller, and is no fault.
+
+The file base.toml:
+
+    entry = 1
+
+    [[frame]]
+    id = "1a"
+    next = true
+    rows = []
+
+    [[frame]]
+    id = "1b"
+    price = 5
+    rows = []
+
+    [[frame]]
+    id = "2a"
+    group = 7
+    rows = []
+
+The commands:
+
+    pageaudit list base.toml
+
+They print:
+
+    FRAME 1a RANK 0 PRICE 0 GROUP - SCRIPT -
+    FRAME 1b RANK - PRICE 5 GROUP - SCRIPT #
+    UNREACHED 2a PRICE 0 GROUP 7
 "#,
-        ..=70 => r#"X1 TooLong
+        ..=72 => r#"FRAME
+
+RANK is the least number of keys '0' to '9' and '#' back to the entry frame,
+PRICE is in pence, GROUP is the frame's closed user group. SCRIPT has keys that
+lead to the frame. Each is '-' if there is none. UNREACHED is a frame that no
+key leads this caller to. It may be closed to the caller, and is no fault.
+
+The file base.toml:
+
+    entry = 1
+
+    [[frame]]
+    id = "1a"
+    next = true
+    rows = []
+
+    [[frame]]
+    id = "1b"
+    price = 5
+    rows = []
+
+    [[frame]]
+    id = "2a"
+    group = 7
+    rows = []
+
+The commands:
+
+    pageaudit list base.toml
+
+They print:
+
+    FRAME 1a RANK 0 PRICE 0 GROUP - SCRIPT -
+    FRAME 1b RANK - PRICE 5 GROUP - SCRIPT #
+    UNREACHED 2a PRICE 0 GROUP 7
+"#,
+        ..=74 => r#"X1 TooLong
 
 The file has more than 16,777,216 bytes.
 
@@ -1639,7 +1715,7 @@ They print on standard error, with status 3:
 
 Fix: split the base, or shorten bodies.
 "#,
-        ..=72 => r#"X2 NotToml
+        ..=76 => r#"X2 NotToml
 
 The file isn't UTF-8 or TOML: a quotation mark or bracket is missing, a key
 comes twice, an integer is outside 64 bits, or one of several frames begins
@@ -1660,7 +1736,7 @@ They print on standard error, with status 3:
 
 Fix: 'pageaudit lint' names the line and what is wrong there.
 "#,
-        ..=74 => r#"X3 UnknownKey
+        ..=78 => r#"X3 UnknownKey
 
 A base has the keys 'entry', 'outside' and 'frame'; a frame 'id', 'price',
 'group', 'next', 'routes', 'lead', 'body' and 'rows'; 'routes' the digits '0'
@@ -1681,7 +1757,7 @@ They print on standard error, with status 3:
 
 Fix: correct the spelling, or put '#' before it.
 "#,
-        ..=76 => r#"X4 Absent
+        ..=80 => r#"X4 Absent
 
 A required key is missing: 'entry', a frame's 'id', or its text, 'body' or
 'rows'.
@@ -1704,7 +1780,7 @@ They print on standard error, with status 3:
 
 Fix: add it. A frame without text has 'rows = []'.
 "#,
-        ..=78 => r#"X5 WrongKind
+        ..=82 => r#"X5 WrongKind
 
 'entry', 'price', 'group' and routes are integers, 'outside' is an array of
 integers, 'id', 'lead' and 'body' are strings, 'rows' is an array of strings,
@@ -1725,7 +1801,7 @@ They print on standard error, with status 3:
 
 Fix: write the value in its kind.
 "#,
-        ..=79 => r#"X6 Range
+        ..=83 => r#"X6 Range
 
 'entry', pages of 'outside' and routes are 0 to 999,999,999, 'price' is 0 to
 9,999, 'group' 1 to 65,535. 'lead' is 'clear' or 'keep', codes of 'body' are 0
@@ -1756,7 +1832,7 @@ They print on standard error, with status 3:
 Fix: bring the value into its range. Curly quotation marks and long dashes are
 above FF.
 "#,
-        ..=80 => r#"X6 Range
+        ..=84 => r#"X6 Range
 
 'entry', pages of 'outside' and routes are 0 to 999,999,999, 'price' is 0 to
 9,999, 'group' 1 to 65,535. 'lead' is 'clear' or 'keep', codes of 'body' are 0
@@ -1825,7 +1901,7 @@ They print on standard error, with status 3:
 
 Fix: take the file as 'audit' printed it.
 "#,
-        ..=82 => r#"X7 BodyAndRows
+        ..=86 => r#"X7 BodyAndRows
 
 The frame has both 'body' and 'rows'.
 
@@ -1844,7 +1920,7 @@ They print on standard error, with status 3:
 
 Fix: remove one of them.
 "#,
-        ..=84 => r#"X8 RowTooLong
+        ..=88 => r#"X8 RowTooLong
 
 A row has more than 40 codes.
 
@@ -1863,7 +1939,7 @@ They print on standard error, with status 3:
 
 Fix: cut the row in two.
 "#,
-        ..=86 => r#"X9 RowCode
+        ..=90 => r#"X9 RowCode
 
 A row has a code outside 20 to 7F (characters) and 80 to 9F (attributes).
 
@@ -1882,7 +1958,7 @@ They print on standard error, with status 3:
 
 Fix: replace the code. For control codes use 'body'.
 "#,
-        ..=88 => r#"I2 BadFrame
+        ..=92 => r#"I2 BadFrame
 
 The 'id' isn't a page number, 0 to 999,999,999 without leading zeros, and a
 letter, 'a' to 'z'.
@@ -1905,7 +1981,7 @@ They print on standard error, with status 3:
 
 Fix: correct the id.
 "#,
-        ..=90 => r#"B1 Duplicate
+        ..=94 => r#"B1 Duplicate
 
 Two frames have this id (the smallest is named).
 
@@ -1924,7 +2000,7 @@ They print on standard error, with status 3:
 
 Fix: remove a frame, or give it another id.
 "#,
-        ..=92 => r#"B2 OutsideInside
+        ..=96 => r#"B2 OutsideInside
 
 This page (the smallest is named) is in 'outside' and has frames.
 
@@ -1947,7 +2023,7 @@ They print on standard error, with status 3:
 
 Fix: remove the page from 'outside', or its frames.
 "#,
-        ..=94 => r#"B3 NextAfterZ
+        ..=98 => r#"B3 NextAfterZ
 
 This frame 'z' (the smallest is named) has 'next = true'.
 
@@ -1970,7 +2046,7 @@ They print on standard error, with status 3:
 
 Fix: remove 'next = true', and lead on by a route.
 "#,
-        ..=96 => r#"B4 TooMany
+        ..=100 => r#"B4 TooMany
 
 There are more than 65,535 frames or entries of 'outside'.
 
@@ -1985,7 +2061,7 @@ They print on standard error, with status 3:
 
 Fix: split the base.
 "#,
-        ..=98 => r#"B5 BodyTooLong
+        ..=102 => r#"B5 BodyTooLong
 
 This frame's body (the smallest id is named) has more than 4,096 bytes.
 
@@ -2004,7 +2080,7 @@ They print on standard error, with status 3:
 
 Fix: shorten the body, or cut the frame in two with 'next = true'.
 "#,
-        ..=99 => r#"Magic
+        ..=103 => r#"Magic
 
 Line 1 is neither PBC1 nor PBC2. Often the file is a list of faults, or its
 lines end with 0D 0A.
@@ -2042,7 +2118,7 @@ They print on standard error, with status 3:
 
 Fix: take the file as 'audit' printed it.
 "#,
-        ..=100 => r#"Word
+        ..=104 => r#"Word
 
 A line before the rows doesn't begin with its word and one space (on line 5
 'groups' for PBC2, 'rows' for PBC1). Or a row lacks its id or two spaces, or a
@@ -2081,7 +2157,7 @@ They print on standard error, with status 3:
 
 Fix: take the file as 'audit' printed it.
 "#,
-        ..=101 => r#"Number
+        ..=105 => r#"Number
 
 A number isn't in decimal digits without leading zeros, or a group isn't after
 one space.
@@ -2119,7 +2195,7 @@ They print on standard error, with status 3:
 
 Fix: take the file as 'audit' printed it.
 "#,
-        ..=102 => r#"Range
+        ..=106 => r#"Range
 
 A number is above its limit: 999,999,999 for 'entry', 9,999 for 'ceiling',
 65,535 for all others. Or a group is 0, or the seventeenth.
@@ -2157,7 +2233,7 @@ They print on standard error, with status 3:
 
 Fix: take the file as 'audit' printed it.
 "#,
-        ..=103 => r#"Order
+        ..=107 => r#"Order
 
 An id isn't greater than the one before, by page, then by letter; or a group
 isn't.
@@ -2195,7 +2271,7 @@ They print on standard error, with status 3:
 
 Fix: take the file as 'audit' printed it.
 "#,
-        ..=104 => r#"Cursor
+        ..=108 => r#"Cursor
 
 A row's cursor isn't one: see 'any'.
 
@@ -2232,7 +2308,7 @@ They print on standard error, with status 3:
 
 Fix: take the file as 'audit' printed it.
 "#,
-        ..=105 => r#"Count
+        ..=109 => r#"Count
 
 There are more or fewer rows than the line 'rows' says.
 
@@ -2269,7 +2345,7 @@ They print on standard error, with status 3:
 
 Fix: take the file as 'audit' printed it.
 "#,
-        ..=106 => r#"Tail
+        ..=110 => r#"Tail
 
 Something follows the line 'end'.
 
@@ -2306,7 +2382,7 @@ They print on standard error, with status 3:
 
 Fix: take the file as 'audit' printed it.
 "#,
-        ..=107 => r#"Truncated
+        ..=111 => r#"Truncated
 
 The file ends before the line 'end', or in it.
 
@@ -2343,7 +2419,7 @@ They print on standard error, with status 3:
 
 Fix: take the file as 'audit' printed it.
 "#,
-        ..=108 => r#"new base
+        ..=112 => r#"new base
 
 'new base: ' or 'new certificate: ' and a fault of that file of the new
 edition. It is read after the old edition.
@@ -2368,7 +2444,7 @@ They print on standard error, with status 3:
 
 Fix: that of the fault.
 "#,
-        ..=110 => r#"I4 BadGroups
+        ..=114 => r#"I4 BadGroups
 
 --groups isn't 1 to 16 numbers, 1 to 65,535 without leading zeros, ascending,
 with only commas between.
@@ -2391,7 +2467,7 @@ They print on standard error, with status 2:
 
 Fix: write them as '7,9'. For callers in no group leave the option out.
 "#,
-        ..=112 => r#"I3 BadKey
+        ..=116 => r#"I3 BadKey
 
 No key begins at this byte of a walk's keys. Nothing is walked.
 
@@ -2414,7 +2490,7 @@ They print on standard error, with status 2:
 Fix: write '0' to '9', '#', '*#', '*00' and '*09', without spaces, in quotation
 marks.
 "#,
-        ..=113 => r#"read failed
+        ..=117 => r#"read failed
 
 The file can't be opened, or reading it failed, as it does for a folder.
 
@@ -2442,7 +2518,7 @@ They print on standard error, with status 3:
 
 Fix: look at the path, and at who may read the file.
 "#,
-        ..=114 => r#"write failed
+        ..=118 => r#"write failed
 
 Standard output took only this many bytes. No answer was given, whatever was
 printed.
@@ -2465,7 +2541,7 @@ They print on standard error, with status 3:
 
 Fix: make room, or see why the reader of the output ended, and run again.
 "#,
-        ..=115 => r#"memory refused
+        ..=119 => r#"memory refused
 
 There isn't enough memory. If there isn't even enough for this line, nothing is
 printed.
@@ -2520,6 +2596,7 @@ NEW                     the new edition fails
 E1, EntryMoved          the entry page changed
 E2, NoLongerCovered     a frame is lost
 UNREACHED               no key leads to a frame
+FRAME, RANK, GROUP, UNREACHED  a frame of a list
 X1, TooLong             the file is too long
 X2, NotToml             the file isn't TOML
 X3, UnknownKey          an unknown key

@@ -55,12 +55,31 @@ fn measure_text(rt: &HostRuntime, shape: Shape, text: &[u8], policy: &Policy) ->
     tell(rt, shape.name(), &figures)
 }
 
+// What a list takes beside an audit.
+fn measure_list(rt: &HostRuntime, shape: Shape, text: &[u8], policy: &Policy) -> Result<()> {
+    let works = [Work::Audit(text, policy), Work::List(text, &policy.groups)];
+    let [audit, list] = &works;
+    let audit_peak = peak_of(rt, audit)?;
+    let list_peak = peak_of(rt, list)?;
+    let [audit, list] = least_times::<2>(rt, RUNS, &works)?;
+    let figures = [
+        Figure::share("list", list, audit, OF_AUDIT),
+        Figure::percent("list", list_peak, audit_peak, "percent of its memory"),
+    ];
+    tell(rt, shape.name(), &figures)
+}
+
 fn measure_shape(rt: &HostRuntime, shape: Shape, size: Size) -> Result<()> {
     let Some(policy) = policy(16, Mark::None) else {
         bail!("no policy");
     };
     let text = shape.text_of(rt.alloc(), size, Mark::None)?;
-    measure_text(rt, shape, text.as_slice(), &policy)
+    measure_text(rt, shape, text.as_slice(), &policy)?;
+    // The scripts of a chain have two thousand million keys together.
+    if shape == Shape::Chain {
+        return Ok(());
+    }
+    measure_list(rt, shape, text.as_slice(), &policy)
 }
 
 // Finding a row that is too long in each of many frames of a tree, against the audit of the tree without them.

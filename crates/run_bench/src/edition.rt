@@ -2,6 +2,7 @@
 
 use crate::shape::Mark;
 use audit_report::{FromRead, read_whole, report};
+use base_list::list;
 use base_text::{MOST_TEXT, base_read};
 use cert_table::Certificate;
 use cert_text::CertReader;
@@ -66,6 +67,17 @@ pub fn audited(alloc: Global, base: &Base, policy: &Policy) -> Option<Vec<u8>> {
     match audit(alloc, base, policy) {
         Ok(outcome) => report(alloc, &outcome).ok(),
         Err(_) => None,
+    }
+}
+
+/// The list of the frames of a text's base, if its entry frame is found.
+pub fn listing(alloc: Global, text: &[u8], groups: &Groups) -> Option<Vec<u8>> {
+    let base = whole_base(alloc, text)?;
+    let listing = list(alloc, &base, groups).ok()?;
+    if listing.entry_is_found {
+        Some(listing.text)
+    } else {
+        None
     }
 }
 

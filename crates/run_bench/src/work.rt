@@ -1,10 +1,11 @@
 //! What is measured, and how long it takes.
 
-use crate::edition::{Edition, certificate, read_base};
+use crate::edition::{Edition, certificate, listing, read_base};
 use anyhow::{Result, bail};
 use base_text::base_read;
 use checker::Policy;
 use lint_report::lint;
+use frame_records::Groups;
 use std::alloc::Global;
 use std::time::{CpuClock, Duration};
 
@@ -21,6 +22,8 @@ pub enum Work<'a> {
     Audit(&'a [u8], &'a Policy),
     /// Every fault of a text is found: so many.
     Lint(&'a [u8], &'a Policy, usize),
+    /// The base of a text is read, and the list of its frames is written for a caller of these groups.
+    List(&'a [u8], &'a Groups),
     /// Both texts are read and checked.
     Check(&'a Edition),
     /// Twice both texts are read, and the change between these editions is checked.
@@ -39,6 +42,7 @@ impl Work<'_> {
                 Ok(findings) => findings.len() == *count,
                 Err(_) => false,
             },
+            Work::List(text, groups) => listing(alloc, text, groups).is_some(),
             Work::Check(edition) => edition.count(alloc).is_some(),
             Work::Change(edition) => edition.clears_change(alloc),
         }
