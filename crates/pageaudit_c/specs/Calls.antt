@@ -29,12 +29,16 @@ abbrev pub IsAnswered : (Policy → Status → List ℕ → Type 0) → Option P
 IsAnswered Answers (Some policy) status text = Answers policy status text
 IsAnswered Answers None status text = (status ≡ BadPolicy) × (text ≡ [])
 
--- a call: the number of its status is returned, and its text was copied
-pub record IsCall (Answers : Policy → Status → List ℕ → Type 0) (a : Asked) (b : Buffer) (number : ℕ) : Type 0 where
+-- the answer for the policy that is passed
+pub record IsAskedAnswer (Answers : Policy → Status → List ℕ → Type 0) (a : Asked) (status : Status) (text : List ℕ) : Type 0 where
   pub policy : Option Policy
   pub read : IsPolicyRead a policy
+  pub answered : IsAnswered Answers policy status text
+
+-- a call: the number of its status is returned, and its text was copied
+pub record IsCall (Answers : Policy → Status → List ℕ → Type 0) (a : Asked) (b : Buffer) (number : ℕ) : Type 0 where
   pub status : Status
   pub text : List ℕ
-  pub answered : IsAnswered Answers policy status text
+  pub answer : IsAskedAnswer Answers a status text
   pub copied : IsCopied text b
   pub number_is : number ≡ number_of status

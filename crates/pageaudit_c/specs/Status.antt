@@ -1,5 +1,5 @@
 -- Statuses as numbers and as words.
-use Rattle.std.specs.Prelude.{ℕ, List, [], codes}
+use Rattle.std.specs.Prelude.{◌==◌, ℕ, if◌then◌else◌, List, [], codes}
 use Rattle.pageaudit_c.specs.declared.status.Status.{Status}
 use Rattle.pageaudit_c.specs.declared.status.Status.TheVariants.{Clear, Faulty, BadPolicy, BadText, OutOfMemory}
 
@@ -13,9 +13,10 @@ number_of OutOfMemory = 4
 
 -- the words for a number; none if it is no status
 abbrev pub words_of : ℕ → List ℕ
-words_of 0 = codes "clear"
-words_of 1 = codes "faulty"
-words_of 2 = codes "bad policy"
-words_of 3 = codes "bad text"
-words_of 4 = codes "out of memory"
-words_of _ = []
+words_of number =
+    if number == 0 then codes "clear"
+    else (if number == 1 then codes "faulty"
+    else (if number == 2 then codes "bad policy"
+    else (if number == 3 then codes "bad text"
+    else (if number == 4 then codes "out of memory"
+    else []))))

@@ -1,4 +1,4 @@
-ghost use Rattle.std.specs.Prelude.{◌≡◌, length};
+ghost use Rattle.std.specs.Prelude.{◌≡◌, [], length};
 ghost use Rattle.audit_report.specs.FaultLines.{fault_text};
 ghost use Rattle.pageaudit_c.specs.declared.status.Status.TheVariants.{BadText, BadPolicy};
 ghost use Rattle.pageaudit_c.specs.Answers.{IsOutOfMemory, IsAnswer, IsFaultAnswer, IsNewFaultAnswer};

@@ -2,7 +2,7 @@ ghost use Rattle.std.specs.Prelude.{◌≡◌, ◌⊎◌};
 ghost use Rattle.base_text.specs.Whole.{IsTextBase};
 ghost use Rattle.pageaudit_c.specs.Answers.{IsOutOfMemory};
 ghost use Rattle.pageaudit_c.specs.Policies.{asked};
-ghost use Rattle.pageaudit_c.specs.Calls.{IsCall, buffer};
+ghost use Rattle.pageaudit_c.specs.Calls.{IsAskedAnswer, IsCall, buffer};
 ghost use Rattle.pageaudit_c.specs.Audits.{status_of_outcome, IsReported, IsAuditAnswer};
 
 use crate::answer::{Answer, bad_policy, fault_answer, lay_over, out_of_memory};
@@ -52,6 +52,16 @@ fn audited(alloc: Global, text: &[u8], policy: &Policy) -> Answer
     }
 }
 
+// The answer for the policy that is passed.
+fn audit_answer(alloc: Global, base: &[u8], ceiling: u32, keyings: u32, groups: &[u8]) -> Answer
+    ensures { IsAskedAnswer (IsAuditAnswer base.now) (asked ceiling keyings groups.now) result.status result.text.items }
+{
+    match policy_of(ceiling, keyings, groups) {
+        Some(policy) => audited(alloc, base, &policy),
+        None => bad_policy(alloc),
+    }
+}
+
 /// Audits the text of a base: its certificate, or every fault with the keys that show it.
 ///
 /// The policy is passed as to [`crate::pageaudit_check`]. Returns the number of a status. The report goes to the front of `report`,
@@ -68,10 +78,7 @@ pub extern "C" fn pageaudit_audit(
 ) -> u32
     ensures { IsCall (IsAuditAnswer base.now) (asked ceiling keyings groups.now) (buffer report.old report.new full_length.new) result }
 {
-    let answer = match policy_of(ceiling, keyings, groups) {
-        Some(policy) => audited(alloc, base, &policy),
-        None => bad_policy(alloc),
-    };
+    let answer = audit_answer(alloc, base, ceiling, keyings, groups);
     *full_length = lay_over(answer.text.as_slice(), report);
     answer.status.number()
 }

@@ -4,7 +4,7 @@ ghost use Rattle.audit_report.specs.Lines.{change_text};
 ghost use Rattle.pageaudit_c.specs.declared.status.Status.TheVariants.{Clear};
 ghost use Rattle.pageaudit_c.specs.Answers.{IsAnswer};
 ghost use Rattle.pageaudit_c.specs.Policies.{asked, HoldsForPolicy};
-ghost use Rattle.pageaudit_c.specs.Calls.{IsCall, buffer};
+ghost use Rattle.pageaudit_c.specs.Calls.{IsAskedAnswer, IsCall, buffer};
 ghost use Rattle.pageaudit_c.specs.Changes.{edition, IsEditionOf, status_of_change, IsVerdictAnswer, IsChangeAnswer, IsSafeChangeOf};
 
 use crate::answer::{Answer, bad_policy, fault_answer, lay_over, new_fault_answer, out_of_memory};
@@ -102,6 +102,24 @@ fn changed(alloc: Global, old_texts: Texts<'_>, new_texts: Texts<'_>, policy: &P
     judged(alloc, &old, &new, policy, old_texts, new_texts)
 }
 
+// The answer for the policy that is passed.
+fn change_answer(
+    alloc: Global,
+    old_texts: Texts<'_>,
+    new_texts: Texts<'_>,
+    ceiling: u32,
+    keyings: u32,
+    groups: &[u8],
+) -> Answer
+    ensures answer { IsAskedAnswer (IsChangeAnswer (edition old_texts.entry.base.now old_texts.entry.cert.now) (edition new_texts.entry.base.now new_texts.entry.cert.now)) (asked ceiling keyings groups.now) result.status result.text.items }
+    ensures safe { result.status ≡ Clear → HoldsForPolicy (IsSafeChangeOf (edition old_texts.entry.base.now old_texts.entry.cert.now) (edition new_texts.entry.base.now new_texts.entry.cert.now)) (asked ceiling keyings groups.now) }
+{
+    match policy_of(ceiling, keyings, groups) {
+        Some(policy) => changed(alloc, old_texts, new_texts, &policy),
+        None => bad_policy(alloc),
+    }
+}
+
 /// Checks whether a new edition may take an old one's place while callers are inside.
 ///
 /// The policy is passed as to [`crate::pageaudit_check`]. Returns the number of a status. The line that the program prints goes to
@@ -132,10 +150,7 @@ pub extern "C" fn pageaudit_change(
         base: new_base,
         cert: new_cert,
     };
-    let answer = match policy_of(ceiling, keyings, groups) {
-        Some(policy) => changed(alloc, old, new, &policy),
-        None => bad_policy(alloc),
-    };
+    let answer = change_answer(alloc, old, new, ceiling, keyings, groups);
     *full_length = lay_over(answer.text.as_slice(), line);
     answer.status.number()
 }

@@ -4,7 +4,7 @@ ghost use Rattle.audit_report.specs.Lines.{verdict_text};
 ghost use Rattle.pageaudit_c.specs.declared.status.Status.TheVariants.{Clear};
 ghost use Rattle.pageaudit_c.specs.Answers.{IsAnswer};
 ghost use Rattle.pageaudit_c.specs.Policies.{asked, HoldsForPolicy};
-ghost use Rattle.pageaudit_c.specs.Calls.{IsCall, buffer};
+ghost use Rattle.pageaudit_c.specs.Calls.{IsAskedAnswer, IsCall, buffer};
 ghost use Rattle.pageaudit_c.specs.Checks.{status_of_verdict, IsResultAnswer, IsCheckAnswer};
 
 use crate::answer::{Answer, bad_policy, fault_answer, lay_over, out_of_memory};
@@ -53,6 +53,24 @@ fn checked(alloc: Global, base: &[u8], cert: &[u8], policy: &Policy) -> Answer
     result_answer(alloc, &check_bytes(alloc, base, cert, policy))
 }
 
+// The answer for the policy that is passed.
+fn check_answer(
+    alloc: Global,
+    base: &[u8],
+    cert: &[u8],
+    ceiling: u32,
+    keyings: u32,
+    groups: &[u8],
+) -> Answer
+    ensures answer { IsAskedAnswer (IsCheckAnswer base.now cert.now) (asked ceiling keyings groups.now) result.status result.text.items }
+    ensures headline { result.status ≡ Clear → HoldsForPolicy (Headline base.now cert.now) (asked ceiling keyings groups.now) }
+{
+    match policy_of(ceiling, keyings, groups) {
+        Some(policy) => checked(alloc, base, cert, &policy),
+        None => bad_policy(alloc),
+    }
+}
+
 /// Checks the text of a certificate against the text of a base, for a policy of at most `ceiling` pence a frame and at most
 /// `keyings` keys back to the entry page.
 ///
@@ -74,10 +92,7 @@ pub extern "C" fn pageaudit_check(
     // If the status is Clear, the headline holds of the two texts.
     ensures headline { result ≡ 0 → HoldsForPolicy (Headline base.now cert.now) (asked ceiling keyings groups.now) }
 {
-    let answer = match policy_of(ceiling, keyings, groups) {
-        Some(policy) => checked(alloc, base, cert, &policy),
-        None => bad_policy(alloc),
-    };
+    let answer = check_answer(alloc, base, cert, ceiling, keyings, groups);
     *full_length = lay_over(answer.text.as_slice(), line);
     answer.status.number()
 }

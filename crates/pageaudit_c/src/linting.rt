@@ -1,6 +1,6 @@
 ghost use Rattle.std.specs.Prelude.{◌≡◌};
 ghost use Rattle.pageaudit_c.specs.Policies.{asked};
-ghost use Rattle.pageaudit_c.specs.Calls.{IsCall, buffer};
+ghost use Rattle.pageaudit_c.specs.Calls.{IsAskedAnswer, IsCall, buffer};
 ghost use Rattle.pageaudit_c.specs.Lints.{status_of_findings, IsLintAnswer};
 
 use crate::answer::{Answer, bad_policy, lay_over, out_of_memory};
@@ -38,6 +38,23 @@ fn linted(alloc: Global, name: &[u8], text: &[u8], policy: &Policy) -> Answer
     }
 }
 
+// The answer for the policy that is passed.
+fn lint_answer(
+    alloc: Global,
+    name: &[u8],
+    base: &[u8],
+    ceiling: u32,
+    keyings: u32,
+    groups: &[u8],
+) -> Answer
+    ensures { IsAskedAnswer (IsLintAnswer name.now base.now) (asked ceiling keyings groups.now) result.status result.text.items }
+{
+    match policy_of(ceiling, keyings, groups) {
+        Some(policy) => linted(alloc, name, base, &policy),
+        None => bad_policy(alloc),
+    }
+}
+
 /// Finds every fault of the text of a base, and the frames that no key reaches: a line for each, which begins with the name.
 ///
 /// The policy is passed as to [`crate::pageaudit_check`]. Returns the number of a status; a text at fault is `Faulty`. The lines go
@@ -55,10 +72,7 @@ pub extern "C" fn pageaudit_lint(
 ) -> u32
     ensures { IsCall (IsLintAnswer name.now base.now) (asked ceiling keyings groups.now) (buffer lines.old lines.new full_length.new) result }
 {
-    let answer = match policy_of(ceiling, keyings, groups) {
-        Some(policy) => linted(alloc, name, base, &policy),
-        None => bad_policy(alloc),
-    };
+    let answer = lint_answer(alloc, name, base, ceiling, keyings, groups);
     *full_length = lay_over(answer.text.as_slice(), lines);
     answer.status.number()
 }
