@@ -8,7 +8,8 @@ from pathlib import Path
 from program import PROGRAM, TOP
 
 SHIPPED = Path("dist", "pageaudit-x86_64-linux")
-FOLDERS = ["dist", "docs", "examples"]
+LIBRARIES = ["libpageaudit.a", "libpageaudit.so.1"]
+FOLDERS = ["dist", "docs", "examples", "include"]
 FILES = ["pageaudit", "install", "crates.txt"]
 
 
@@ -33,7 +34,7 @@ def ship(top):
     """Writes the lists of checksums for the shipped program and the sources as they are now."""
     of_program = (line.split()[1] for line in (TOP / "dist" / "SOURCES").read_text().splitlines())
     (top / "dist" / "SOURCES").write_text(sums(top, of_program))
-    (top / "dist" / "SHA256SUMS").write_text(sums(top / "dist", [SHIPPED.name]))
+    (top / "dist" / "SHA256SUMS").write_text(sums(top / "dist", [SHIPPED.name, *LIBRARIES]))
 
 
 def without_rt():

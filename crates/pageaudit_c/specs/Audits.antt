@@ -1,0 +1,47 @@
+-- The answer of an audit.
+use Rattle.std.specs.Prelude.{◌≡◌, ◌⊎◌, ℕ, List}
+use Rattle.frame_records.specs.BaseView.{BaseView}
+use Rattle.base_text.specs.Whole.{IsTextBase}
+use Rattle.checker.specs.declared.policy.Policy.{Policy}
+use Rattle.checker.specs.declared.bytes.InputFault.{InputFault}
+use Rattle.checker.specs.declared.bytes.InputFault.TheVariants as input
+use Rattle.checker.specs.Headline.{IsBaseRefused}
+use Rattle.base_text.specs.declared.fault.BaseFault.{BaseFault}
+use Rattle.fault_scripts.specs.declared.outcome.Outcome.{Outcome}
+use Rattle.fault_scripts.specs.declared.outcome.Outcome.TheVariants.{Certified, Faulty}
+use Rattle.fault_scripts.specs.Outcomes.{IsOutcome, DecidesSafety, AreShown}
+use Rattle.audit_report.specs.ReportLines.{report_text}
+use Rattle.pageaudit_c.specs.declared.status.Status.{Status}
+use Rattle.pageaudit_c.specs.declared.status.Status.TheVariants as status
+use Rattle.pageaudit_c.specs.Answers.{IsOutOfMemory, IsFaultAnswer}
+
+-- clear if and only if there is a certificate
+abbrev pub status_of_outcome : Outcome → Status
+status_of_outcome (Certified cert) = status.Clear
+status_of_outcome (Faulty faults) = status.Faulty
+
+-- an outcome that an audit may have: a certificate that the check clears, of a base that is safe for the policy's groups; or
+-- all faults of a base that isn't, each shown by its script
+pub record IsOutcomeOf (base : BaseView) (policy : Policy) (outcome : Outcome) : Type 0 where
+  pub is : IsOutcome base policy outcome
+  pub safety : DecidesSafety base policy outcome
+  pub shown : AreShown base policy outcome
+
+-- the text is that of a base, and its outcome was reported
+pub record IsReported (base_text : List ℕ) (policy : Policy) (due : Status) (text : List ℕ) : Type 0 where
+  pub base : BaseView
+  pub of_base : IsTextBase base_text base
+  pub outcome : Outcome
+  pub is : IsOutcomeOf base policy outcome
+  pub status_is : due ≡ status_of_outcome outcome
+  pub report : text ≡ report_text outcome
+
+-- the text is that of no base: its first fault
+pub record IsBaseFault (base_text : List ℕ) (due : Status) (text : List ℕ) : Type 0 where
+  pub fault : BaseFault
+  pub is : IsBaseRefused base_text fault
+  pub answer : IsFaultAnswer (input.Base fault) due text
+
+-- the answer of the audit of a text
+abbrev pub IsAuditAnswer : List ℕ → Policy → Status → List ℕ → Type 0
+IsAuditAnswer base_text policy due text = IsReported base_text policy due text ⊎ (IsBaseFault base_text due text ⊎ IsOutOfMemory due text)

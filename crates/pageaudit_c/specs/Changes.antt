@@ -1,0 +1,78 @@
+-- The answer of the check of a change.
+use Rattle.std.specs.Prelude.{◌≡◌, ◌⊎◌, ℕ, List}
+use Rattle.frame_records.specs.BaseView.{BaseView}
+use Rattle.base_text.specs.Whole.{IsTextBase}
+use Rattle.cert_table.specs.CertView.{CertView}
+use Rattle.cert_text.specs.Grammar.{IsCertificateText}
+use Rattle.checker.specs.declared.policy.Policy.{Policy}
+use Rattle.checker.specs.declared.change.ChangeVerdict.{ChangeVerdict}
+use Rattle.checker.specs.declared.change.ChangeVerdict.TheVariants as change
+use Rattle.checker.specs.declared.bytes.InputFault.{InputFault}
+use Rattle.checker.specs.Change.{change_verdict}
+use Rattle.checker.specs.Editions.{IsSafeChange}
+use Rattle.checker.specs.Headline.{IsInputFault}
+use Rattle.audit_report.specs.Lines.{change_text}
+use Rattle.pageaudit_c.specs.declared.status.Status.{Status}
+use Rattle.pageaudit_c.specs.declared.status.Status.TheVariants.{Clear, Faulty}
+use Rattle.pageaudit_c.specs.Answers.{IsAnswer, IsOutOfMemory, IsFaultAnswer, IsNewFaultAnswer}
+
+-- the texts of an edition
+pub record EditionTexts : Type 0 where
+  pub base : List ℕ
+  pub cert : List ℕ
+
+abbrev pub edition : List ℕ → List ℕ → EditionTexts
+edition base cert = record { base = base; cert = cert }
+
+-- they are those of a base and a certificate
+pub record IsEditionOf (texts : EditionTexts) (base : BaseView) (cert : CertView) : Type 0 where
+  pub of_base : IsTextBase texts.base base
+  pub of_cert : IsCertificateText texts.cert cert
+
+abbrev pub status_of_change : ChangeVerdict → Status
+status_of_change change.Cleared = Clear
+status_of_change (change.Old cause) = Faulty
+status_of_change (change.New cause) = Faulty
+status_of_change change.EntryMoved = Faulty
+status_of_change (change.NoLongerCovered id) = Faulty
+
+-- the line of the verdict on two editions
+pub record IsVerdictAnswer (old_texts new_texts : EditionTexts) (policy : Policy) (status : Status) (text : List ℕ) : Type 0 where
+  pub old : BaseView
+  pub old_cert : CertView
+  pub new : BaseView
+  pub new_cert : CertView
+  pub of_old : IsEditionOf old_texts old old_cert
+  pub of_new : IsEditionOf new_texts new new_cert
+  pub answer : IsAnswer (status_of_change (change_verdict policy old old_cert new new_cert)) (change_text (change_verdict policy old old_cert new new_cert)) status text
+
+-- the line of the first fault in the old edition's texts
+pub record IsOldFaultAnswer (old_texts : EditionTexts) (status : Status) (text : List ℕ) : Type 0 where
+  pub fault : InputFault
+  pub is : IsInputFault old_texts.base old_texts.cert fault
+  pub answer : IsFaultAnswer fault status text
+
+-- the line of the first fault in the new edition's texts, after a whole old edition
+pub record IsAfterOldAnswer (old_texts new_texts : EditionTexts) (status : Status) (text : List ℕ) : Type 0 where
+  pub old : BaseView
+  pub old_cert : CertView
+  pub of_old : IsEditionOf old_texts old old_cert
+  pub fault : InputFault
+  pub is : IsInputFault new_texts.base new_texts.cert fault
+  pub answer : IsNewFaultAnswer fault status text
+
+-- the answer of the check of a change between two editions
+abbrev pub IsChangeAnswer : EditionTexts → EditionTexts → Policy → Status → List ℕ → Type 0
+IsChangeAnswer old_texts new_texts policy status text =
+    IsVerdictAnswer old_texts new_texts policy status text
+    ⊎ (IsOldFaultAnswer old_texts status text ⊎ IsAfterOldAnswer old_texts new_texts status text)
+
+-- the texts are those of two editions, and callers stay safe over the change
+pub record IsSafeChangeOf (old_texts new_texts : EditionTexts) (policy : Policy) : Type 0 where
+  pub old : BaseView
+  pub old_cert : CertView
+  pub new : BaseView
+  pub new_cert : CertView
+  pub of_old : IsEditionOf old_texts old old_cert
+  pub of_new : IsEditionOf new_texts new new_cert
+  pub safe : IsSafeChange policy old old_cert new new_cert

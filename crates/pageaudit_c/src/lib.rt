@@ -1,0 +1,31 @@
+//! The check, the audit, lint and the check of a change, for C: `include/pageaudit.h` declares these calls.
+//!
+//! ```
+//! let mut line = [0u8; 256];
+//! let mut length = 0;
+//! // 0, and "CLEARED\n" in `line`: the headline holds of the two texts
+//! pageaudit_check(alloc, base, cert, 50, 3, b"7,9", &mut line, &mut length)
+//! ```
+//!
+//! - [`pageaudit_check`], [`pageaudit_change`], [`pageaudit_audit`], [`pageaudit_lint`]: what the program does, of texts in memory.
+//! - [`pageaudit_status_text`]: the words for what they return.
+//! - [`Status`]: what they return, by its number.
+//!
+//! No call keeps anything, and none ends the program. A slice is a pointer, which is never null, and a length.
+#![tactic(auto)]
+
+mod answer;
+mod auditing;
+mod changing;
+mod checking;
+mod linting;
+mod naming;
+mod policy;
+mod status;
+
+pub use auditing::pageaudit_audit;
+pub use changing::pageaudit_change;
+pub use checking::pageaudit_check;
+pub use linting::pageaudit_lint;
+pub use naming::pageaudit_status_text;
+pub use status::Status;

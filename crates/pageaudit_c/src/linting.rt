@@ -1,0 +1,78 @@
+ghost use Rattle.std.specs.Prelude.{◌≡◌};
+ghost use Rattle.pageaudit_c.specs.Policies.{asked};
+ghost use Rattle.pageaudit_c.specs.Calls.{IsAskedAnswer, IsCall, buffer};
+ghost use Rattle.pageaudit_c.specs.Lints.{status_of_findings, IsLintAnswer};
+
+use crate::answer::{Answer, bad_policy, lay_over, out_of_memory};
+use crate::policy::policy_of;
+use crate::status::Status;
+use checker::Policy;
+use lint_report::{Counts, Finding, lint, lint_text};
+use std::alloc::Global;
+
+// Faulty if and only if there is an error.
+fn status_of_findings(findings: &[Finding]) -> Status
+    ensures { result ≡ status_of_findings findings.now }
+{
+    if Counts::of(findings).errors == 0 {
+        Status::Clear
+    } else {
+        Status::Faulty
+    }
+}
+
+// Finds what is wrong with a text for a policy; each line begins with the name.
+fn linted(alloc: Global, name: &[u8], text: &[u8], policy: &Policy) -> Answer
+    ensures { IsLintAnswer name.now text.now policy.now result.status result.text.items }
+{
+    let findings = match lint(alloc, text, policy) {
+        Ok(findings) => findings,
+        Err(_) => return out_of_memory(alloc),
+    };
+    match lint_text(alloc, name, text, findings.as_slice()) {
+        Ok(lines) => Answer {
+            status: status_of_findings(findings.as_slice()),
+            text: lines,
+        },
+        Err(_) => out_of_memory(alloc),
+    }
+}
+
+// The answer for the policy that is passed.
+fn lint_answer(
+    alloc: Global,
+    name: &[u8],
+    base: &[u8],
+    ceiling: u32,
+    keyings: u32,
+    groups: &[u8],
+) -> Answer
+    ensures { IsAskedAnswer (IsLintAnswer name.now base.now) (asked ceiling keyings groups.now) result.status result.text.items }
+{
+    match policy_of(ceiling, keyings, groups) {
+        Some(policy) => linted(alloc, name, base, &policy),
+        None => bad_policy(alloc),
+    }
+}
+
+/// Finds every fault of the text of a base, and the frames that no key reaches: a line for each, which begins with the name.
+///
+/// The policy is passed as to [`crate::pageaudit_check`]. Returns the number of a status; a text at fault is `Faulty`. The lines go
+/// to the front of `lines`, as far as they fit, and their whole length to `full_length`.
+#[unsafe(no_mangle)]
+pub extern "C" fn pageaudit_lint(
+    alloc: Global,
+    name: &[u8],
+    base: &[u8],
+    ceiling: u32,
+    keyings: u32,
+    groups: &[u8],
+    lines: &mut [u8],
+    full_length: &mut usize,
+) -> u32
+    ensures { IsCall (IsLintAnswer name.now base.now) (asked ceiling keyings groups.now) (buffer lines.old lines.new full_length.new) result }
+{
+    let answer = lint_answer(alloc, name, base, ceiling, keyings, groups);
+    *full_length = lay_over(answer.text.as_slice(), lines);
+    answer.status.number()
+}

@@ -1,0 +1,32 @@
+/// What a call answers. Its number is the program's exit status for the same texts.
+#[derive(Debug, Clone, Copy, PartialEq, Eq)]
+pub enum Status {
+    /// 0: the certificate or the change is cleared, the audit found no fault, or lint no error.
+    Clear,
+    /// 1: it is refused, or there are faults or errors.
+    Faulty,
+    /// 2: the ceiling or the keyings are out of range, or the groups are no list.
+    BadPolicy,
+    /// 3: a text is at fault.
+    BadText,
+    /// 4: memory was refused.
+    OutOfMemory,
+}
+
+impl Status {
+    ghost use Rattle.std.specs.Prelude.{◌≡◌};
+    ghost use Rattle.pageaudit_c.specs.Status.{number_of};
+
+    pub fn number(self) -> u32
+        ensures value { result ≡ number_of self }
+        ensures clear { result ≡ 0 → self ≡ Status.Clear }
+    {
+        match self {
+            Status::Clear => 0,
+            Status::Faulty => 1,
+            Status::BadPolicy => 2,
+            Status::BadText => 3,
+            Status::OutOfMemory => 4,
+        }
+    }
+}

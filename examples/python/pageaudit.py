@@ -1,0 +1,180 @@
+"""The proved check of viewdata page bases, over the C library. It needs Python 3.9 or later and nothing else.
+
+    import pageaudit
+
+    policy = pageaudit.Policy(ceiling=50, keyings=3)
+    verdict = pageaudit.check(base, cert, policy)
+    if verdict.cleared:
+        serve(base)
+    else:
+        print(verdict.line)
+
+`verdict.cleared` is a promise, proved of these very bytes: whatever keys a caller presses from the entry page, no frame that is
+sought is missing or closed, none shown costs more than the ceiling or writes into the service rows, and the entry page can be
+regained within the keyings.
+
+The library is `libpageaudit.so.1`, in the folder that the variable PAGEAUDIT_LIB names, or where the system finds its libraries.
+Calls keep nothing, and several threads may make them at once.
+"""
+
+from __future__ import annotations
+
+import ctypes
+import operator
+import os
+from dataclasses import dataclass
+from typing import Any, Sequence
+
+__all__ = [
+    "Audit", "Finding", "Policy", "PolicyError", "TextError", "Verdict", "audit", "change", "check", "lint",
+]  # fmt: skip
+
+# What the library answers.
+_CLEAR, _FAULTY, _BAD_POLICY, _BAD_TEXT = range(4)
+_LINE_ROOM = 128
+
+
+class PolicyError(ValueError):
+    """A ceiling or keyings out of range, or groups that are no list: see `Policy`."""
+
+
+class TextError(ValueError):
+    """A text at fault; the message is its first fault, as the program prints it."""
+
+
+@dataclass(frozen=True)
+class Policy:
+    """What a centre asks of its bases."""
+
+    ceiling: int
+    """The most that a frame may cost, in pence: 0 to 9,999."""
+    keyings: int
+    """The most route and next keys that may be needed to regain the entry page: 0 to 65,535."""
+    groups: Sequence[int] = ()
+    """The callers' closed user groups, ascending: at most 16 of 1 to 65,535."""
+
+
+@dataclass(frozen=True)
+class Verdict:
+    """What a check says."""
+
+    cleared: bool
+    """Whether the promise holds."""
+    line: str
+    """`CLEARED`, or the first condition that fails."""
+
+
+@dataclass(frozen=True)
+class Audit:
+    """What an audit says: a certificate, or faults, of which there is at least one then."""
+
+    certificate: bytes | None
+    """A certificate that the check clears; None if there are faults."""
+    faults: tuple[str, ...]
+    """A line for each fault, with the keys that show it."""
+
+
+@dataclass(frozen=True)
+class Finding:
+    """Something that lint found, at a line and a column of the base's text, both from 1."""
+
+    line: int
+    column: int
+    level: str
+    """`error` or `warning`."""
+    words: str
+
+
+def check(base: bytes, cert: bytes, policy: Policy) -> Verdict:
+    """Checks the text of a certificate against the text of a base.
+
+    Raises TextError for the first fault of the base's text, or else of the certificate's; PolicyError; or MemoryError.
+    """
+    answer, text = _call("pageaudit_check", [base, cert], policy, _LINE_ROOM)
+    return _verdict(answer, text)
+
+
+def change(old_base: bytes, old_cert: bytes, new_base: bytes, new_cert: bytes, policy: Policy) -> Verdict:
+    """Checks whether a new edition may take an old one's place while callers are inside.
+
+    Raises as `check`; TextError for the first fault of the four texts in their order.
+    """
+    answer, text = _call("pageaudit_change", [old_base, old_cert, new_base, new_cert], policy, _LINE_ROOM)
+    return _verdict(answer, text)
+
+
+def audit(base: bytes, policy: Policy) -> Audit:
+    """Audits the text of a base: its certificate, or every fault.
+
+    Raises TextError for the first fault of the text, PolicyError, or MemoryError.
+    """
+    answer, text = _call("pageaudit_audit", [base], policy, 1 << 16)
+    if answer == _CLEAR:
+        return Audit(text, ())
+    return Audit(None, tuple(text.decode("ascii").splitlines()[1:]))
+
+
+def lint(base: bytes, policy: Policy) -> list[Finding]:
+    """Every fault of the text of a base, or else of its audit, and the frames that no key reaches, in the order of their places.
+
+    Raises PolicyError or MemoryError. A text that is no base is an error among the findings, and no TextError.
+    """
+    _, text = _call("pageaudit_lint", [b"", base], policy, 1 << 16)
+    return [_finding(line) for line in text.decode("utf-8").split("\n")[:-1]]
+
+
+def _verdict(answer: int, text: bytes) -> Verdict:
+    return Verdict(answer == _CLEAR, text.decode("ascii").rstrip("\n"))
+
+
+def _finding(text: str) -> Finding:
+    """A finding of a line under the empty name."""
+    _, line, column, level, words = text.split(":", 4)
+    return Finding(int(line), int(column), level[1:], words[1:])
+
+
+def _load() -> ctypes.CDLL:
+    folder = os.environ.get("PAGEAUDIT_LIB")
+    return ctypes.CDLL(os.path.join(folder, "libpageaudit.so.1") if folder else "libpageaudit.so.1")
+
+
+_LIBRARY = _load()
+
+
+def _number(number: int) -> ctypes.c_uint32:
+    """A number as the library takes it; ctypes alone would cut it to 32 bits."""
+    if not 0 <= operator.index(number) < 1 << 32:
+        raise PolicyError(f"{number} is out of range")
+    return ctypes.c_uint32(number)
+
+
+def _slices(texts: Sequence[bytes]) -> list[Any]:
+    """Each text's address and length."""
+    for text in texts:
+        if not isinstance(text, bytes):
+            raise TypeError(f"bytes are wanted, not {type(text).__name__}")
+    return [word for text in texts for word in (ctypes.c_char_p(text), ctypes.c_size_t(len(text)))]
+
+
+def _call(name: str, texts: Sequence[bytes], policy: Policy, room: int) -> tuple[int, bytes]:
+    """The status of a call and what it printed; raises for each other status."""
+    groups = ",".join(str(operator.index(group)) for group in policy.groups).encode("ascii")
+    words = [*_slices(texts), _number(policy.ceiling), _number(policy.keyings), *_slices([groups])]
+    function, length = _LIBRARY[name], ctypes.c_size_t(room)
+    function.restype = ctypes.c_uint32
+    while True:
+        room = length.value
+        buffer = ctypes.create_string_buffer(room)
+        answer = function(*words, buffer, ctypes.c_size_t(room), ctypes.byref(length))
+        if length.value <= room:
+            return answer, _checked(answer, buffer.raw[: length.value])
+
+
+def _checked(answer: int, text: bytes) -> bytes:
+    if answer in (_CLEAR, _FAULTY):
+        return text
+    if answer == _BAD_POLICY:
+        raise PolicyError("a ceiling above 9999, keyings above 65535, or groups that don't ascend")
+    if answer == _BAD_TEXT:
+        raise TextError(text.decode("ascii").rstrip("\n"))
+    raise MemoryError("the library was refused memory")

@@ -1,0 +1,111 @@
+"""Tests of the module on the bases of examples/. Run `python3 -m unittest` in this folder."""
+
+import unittest
+from concurrent.futures import ThreadPoolExecutor
+from pathlib import Path
+
+import pageaudit
+from pageaudit import Finding, Policy, PolicyError, TextError, Verdict
+
+EXAMPLES = Path(__file__).resolve().parent.parent
+DEMO, DEMO_CERT, TOWN, TOWN_CERT, NEXT, NEXT_CERT, CLOSED, BROKEN = (
+    (EXAMPLES / name).read_bytes()
+    for name in (
+        "demo.toml", "demo.cert", "town.toml", "town.cert", "town-next.toml", "town-next.cert", "closed.toml", "town-broken.toml",
+    )
+)  # fmt: skip
+POLICY = Policy(ceiling=20, keyings=3)
+
+
+class Check(unittest.TestCase):
+    def test_clears_a_right_certificate(self):
+        self.assertEqual(pageaudit.check(DEMO, DEMO_CERT, POLICY), Verdict(True, "CLEARED"))
+
+    def test_names_the_first_condition_that_fails(self):
+        verdict = pageaudit.check(DEMO, DEMO_CERT, Policy(ceiling=0, keyings=3))
+        self.assertEqual(verdict, Verdict(False, "REFUSED K2 CeilingAbove"))
+
+    def test_raises_for_a_text_at_fault(self):
+        with self.assertRaisesRegex(TextError, "^certificate: line 1: Magic$"):
+            pageaudit.check(DEMO, b"x\n", POLICY)
+        with self.assertRaisesRegex(TextError, "^base: X4 Absent entry$"):
+            pageaudit.check(b"", b"", POLICY)
+
+    def test_takes_any_bytes(self):
+        with self.assertRaisesRegex(TextError, "^base: X2 NotToml$"):
+            pageaudit.check(b"\x00\xff", DEMO_CERT, POLICY)
+
+    def test_takes_nothing_but_bytes(self):
+        for text in DEMO.decode(), None, bytearray(DEMO), 5:
+            with self.assertRaises(TypeError):
+                pageaudit.check(text, DEMO_CERT, POLICY)
+
+    def test_answers_threads(self):
+        with ThreadPoolExecutor(8) as pool:
+            verdicts = list(pool.map(lambda _: pageaudit.check(TOWN, TOWN_CERT, POLICY), range(80)))
+        self.assertEqual(set(verdicts), {Verdict(True, "CLEARED")})
+
+
+class Policies(unittest.TestCase):
+    def test_takes_their_limits(self):
+        groups = [*range(1, 16), 65_535]
+        with self.assertRaises(TextError):
+            pageaudit.audit(b"", Policy(9_999, 65_535, groups))
+
+    def test_refuses_numbers_out_of_range(self):
+        for policy in Policy(10_000, 3), Policy(-1, 3), Policy(20, 65_536), Policy(20, -1), Policy(1 << 32, 3), Policy(20, 1 << 70):
+            with self.assertRaises(PolicyError):
+                pageaudit.audit(DEMO, policy)
+
+    def test_refuses_what_is_no_list_of_groups(self):
+        for groups in (9, 7), (7, 7), (0,), (65_536,), (-1,), range(1, 18):
+            with self.assertRaises(PolicyError):
+                pageaudit.audit(DEMO, Policy(20, 3, groups))
+
+    def test_groups_open_their_frames(self):
+        self.assertNotEqual(pageaudit.audit(CLOSED, Policy(20, 3)), pageaudit.audit(CLOSED, Policy(20, 3, [7])))
+
+
+class Change(unittest.TestCase):
+    def test_clears_a_safe_change(self):
+        self.assertEqual(pageaudit.change(TOWN, TOWN_CERT, NEXT, NEXT_CERT, POLICY), Verdict(True, "CLEARED"))
+
+    def test_refuses_to_lose_a_frame(self):
+        self.assertFalse(pageaudit.change(NEXT, NEXT_CERT, TOWN, TOWN_CERT, POLICY).cleared)
+
+    def test_says_which_edition_is_at_fault(self):
+        with self.assertRaisesRegex(TextError, "^new base: X4 Absent entry$"):
+            pageaudit.change(TOWN, TOWN_CERT, b"", b"", POLICY)
+
+
+class Audit(unittest.TestCase):
+    def test_gives_the_certificate(self):
+        self.assertEqual(pageaudit.audit(DEMO, POLICY), pageaudit.Audit(DEMO_CERT, ()))
+
+    def test_gives_every_fault(self):
+        report = (EXAMPLES / "town-broken.report").read_text("ascii").splitlines()
+        self.assertEqual(pageaudit.audit(BROKEN, POLICY), pageaudit.Audit(None, tuple(report[1:])))
+
+    def test_gives_a_certificate_longer_than_its_first_buffer(self):
+        frames = (f'[[frame]]\nid = "{page}a"\nlead = "keep"\nbody = ""\nroutes = {{ 1 = {page + 1} }}\n' for page in range(100, 5_000))
+        base = f"entry = 100\noutside = [5000]\n{''.join(frames)}".encode()
+        certificate = pageaudit.audit(base, Policy(0, 65_535)).certificate
+        self.assertIsNotNone(certificate)
+        self.assertGreater(len(certificate), 1 << 16)
+        self.assertTrue(pageaudit.check(base, certificate, Policy(0, 65_535)).cleared)
+
+
+class Lint(unittest.TestCase):
+    def test_finds_nothing_in_a_right_base(self):
+        self.assertEqual(pageaudit.lint(DEMO, POLICY), [])
+
+    def test_finds_a_fault_at_its_place(self):
+        found = pageaudit.lint(b"entry = 1\n\n[[frame]]\nid = \"1a\"\nlead = \"keep\"\n", POLICY)
+        self.assertEqual([(it.line, it.column, it.level, it.words.split(":")[0]) for it in found], [(3, 1, "error", "X4 Absent body")])
+
+    def test_a_text_that_is_no_base_is_a_finding(self):
+        self.assertEqual([type(it) for it in pageaudit.lint(b"\xff", POLICY)], [Finding])
+
+
+if __name__ == "__main__":
+    unittest.main()
