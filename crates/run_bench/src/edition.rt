@@ -130,8 +130,12 @@ impl Edition {
 
     /// Whether `check_bytes` clears both texts.
     pub fn clears(&self, alloc: Global) -> bool {
-        check_bytes(alloc, self.text.as_slice(), self.cert.as_slice(), &self.policy)
-            == Ok(Verdict::Cleared)
+        check_bytes(
+            alloc,
+            self.text.as_slice(),
+            self.cert.as_slice(),
+            &self.policy,
+        ) == Ok(Verdict::Cleared)
     }
 
     /// Whether the call for C clears both texts, for a caller outside every group.

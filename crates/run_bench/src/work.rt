@@ -4,8 +4,8 @@ use crate::edition::{Edition, certificate, listing, read_base};
 use anyhow::{Result, bail};
 use base_text::base_read;
 use checker::Policy;
-use lint_report::lint;
 use frame_records::Groups;
+use lint_report::lint;
 use std::alloc::Global;
 use std::time::{CpuClock, Duration};
 
