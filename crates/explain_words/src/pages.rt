@@ -1630,10 +1630,10 @@ Fix: add a route or 'next = true' that leads to the frame, or remove it.
 
 FRAME
 
-RANK is the least number of keys '0' to '9' and '#' back to the entry frame,
-PRICE is in pence, GROUP is the frame's closed user group. SCRIPT has keys that
-lead to the frame. Each is '-' if there is none. UNREACHED is a frame that no
-key leads this caller to. It may be closed to the caller, and is no fault.
+RANK is the least number of keys '0' to '9' and '#' back to the entry frame.
+PRICE is in pence, GROUP is the frame's closed user group, and SCRIPT has keys
+that lead to the frame; '-' is none. UNREACHED is a frame that no key leads
+this caller to, perhaps since it is closed. It is no fault.
 
 The file base.toml:
 
@@ -1666,10 +1666,10 @@ They print:
 "#,
         ..=72 => r#"FRAME
 
-RANK is the least number of keys '0' to '9' and '#' back to the entry frame,
-PRICE is in pence, GROUP is the frame's closed user group. SCRIPT has keys that
-lead to the frame. Each is '-' if there is none. UNREACHED is a frame that no
-key leads this caller to. It may be closed to the caller, and is no fault.
+RANK is the least number of keys '0' to '9' and '#' back to the entry frame.
+PRICE is in pence, GROUP is the frame's closed user group, and SCRIPT has keys
+that lead to the frame; '-' is none. UNREACHED is a frame that no key leads
+this caller to, perhaps since it is closed. It is no fault.
 
 The file base.toml:
 
