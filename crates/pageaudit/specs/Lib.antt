@@ -7,3 +7,4 @@ pub mod ChangeRun
 pub mod WalkRun
 pub mod AuditRun
 pub mod LintRun
+pub mod MapRun

@@ -17,6 +17,7 @@
 //! - [`run_change`]: the verdict on a change of edition; if the status is Clear, the promise to callers inside holds.
 //! - [`run_walk`]: what a caller sees.
 //! - [`run_lint`], [`status_of_lint`]: every finding in a base's file, and the exit status for them.
+//! - [`run_map`], [`View`], [`MapStatus`], [`status_of_map`]: the map of a base, and the exit status for it.
 //! - [`Status`], [`status_of`]: the result of another run, and the program's exit status for it.
 #![tactic(auto)]
 
@@ -27,14 +28,17 @@ mod edition;
 mod file_fault;
 mod input;
 mod lint_run;
+mod map_run;
 mod output;
 mod status;
 mod walk_run;
 
 pub use audit_run::{run_audit, run_audit_into};
+pub use base_map::View;
 pub use change_run::run_change;
 pub use check_run::run_check;
 pub use lint_report::{Counts, counted_text};
 pub use lint_run::{run_lint, status_of_lint};
+pub use map_run::{MapStatus, run_map, status_of_map};
 pub use status::{Status, status_of};
 pub use walk_run::run_walk;
