@@ -6,16 +6,16 @@ use Rattle.std.specs.List.{filter_map, cons_option}
 pub none_among : {X A : Type 0} (x : X) → Contains [] x → A
 none_among x h = absurd (omega (arith, h.1))
 
-first_among : {X : Type 0} (x : X) (xs : List X) → Contains (x ∷ xs) x
+pub first_among : {X : Type 0} (x : X) (xs : List X) → Contains (x ∷ xs) x
 first_among x xs = (0, omega arith, refl)
 
-later_among : {X : Type 0} (x y : X) (xs : List X) → Contains xs y → Contains (x ∷ xs) y
+pub later_among : {X : Type 0} (x y : X) (xs : List X) → Contains xs y → Contains (x ∷ xs) y
 later_among x y xs h = (suc h.0, omega (arith, h.1), h.2)
 
 is_first : {X : Type 0} (x y : X) (xs : List X) → x ≡ y → Contains (x ∷ xs) y
 is_first x y xs e = subst (λ z. Contains (x ∷ xs) z) e (first_among x xs)
 
-first_or_later : {X : Type 0} (x y : X) (xs : List X) → Contains (x ∷ xs) y → (x ≡ y) ⊎ Contains xs y
+pub first_or_later : {X : Type 0} (x y : X) (xs : List X) → Contains (x ∷ xs) y → (x ≡ y) ⊎ Contains xs y
 first_or_later x y xs h = by h.0 h.1 h.2 where
   by : (k : ℕ) → k < length (x ∷ xs) → slice_index_or (x ∷ xs) k y ≡ y → (x ≡ y) ⊎ Contains xs y
   by zero lt e = inl e

@@ -26,7 +26,7 @@ use Rattle.base_map.proofs.Among.{among_map, map_among, among_filter, filter_amo
 use Rattle.base_map.proofs.Distinct.{all_once, none_twice}
 use Rattle.base_map.proofs.Inserts.{has_all}
 
-abbrev exit_with : Key → Id → Exit
+abbrev pub exit_with : Key → Id → Exit
 exit_with key to = record { key = key; to = to }
 
 one_way : (f : Frame) (way : Way) (to : Id) → sought f way ≡ Some to → Contains ways way
@@ -37,11 +37,11 @@ one_way f way to e =
 same_some : (a b : Exit) → Some a ≡ Some b → a ≡ b
 same_some a b h = cc
 
-record IsExit (f : Frame) (way : Way) (e : Exit) : Type 0 where
-  offered : sought f way ≡ Some e.to
-  key : e.key ≡ way_key way
+pub record IsExit (f : Frame) (way : Way) (e : Exit) : Type 0 where
+  pub offered : sought f way ≡ Some e.to
+  pub key : e.key ≡ way_key way
 
-of_exit : (f : Frame) (way : Way) (e : Exit) → exit_by f way ≡ Some e → IsExit f way e
+pub of_exit : (f : Frame) (way : Way) (e : Exit) → exit_by f way ≡ Some e → IsExit f way e
 of_exit f way e h = by (sought f way) refl h where
   by : (o : Option Id) → sought f way ≡ o → option_map (exit_with (way_key way)) o ≡ Some e → IsExit f way e
   by None s h = absurd cc
@@ -49,7 +49,7 @@ of_exit f way e h = by (sought f way) refl h where
       let same = same_some (exit_with (way_key way) to) e h in
       record { offered = s ∙ ap (λ (x : Exit). Some x.to) same; key = sym (ap (λ (x : Exit). x.key) same) }
 
-its_exit : (f : Frame) (way : Way) (to : Id) → sought f way ≡ Some to → Contains (exits_of f) (exit_with (way_key way) to)
+pub its_exit : (f : Frame) (way : Way) (to : Id) → sought f way ≡ Some to → Contains (exits_of f) (exit_with (way_key way) to)
 its_exit f way to e =
     among_filter_map (exit_by f) ways way (exit_with (way_key way) to) (ap (option_map (exit_with (way_key way))) e) (one_way f way to e)
 
@@ -88,7 +88,7 @@ has_end f to way e =
     has_all [] ids to ∙ list_any-from_Any (id_eq to) ids (there.0, to, there.1, there.2, id_eq_refl to)
 
 -- an offered way to a frame that is found leads there, and a way that leads there is offered
-leads : (caller : List ℕ) (base : BaseView) (f : Frame) (to : Id) (way : Way) (price : ℕ) → frame_at base f.id ≡ Some f
+pub leads : (caller : List ℕ) (base : BaseView) (f : Frame) (to : Id) (way : Way) (price : ℕ) → frame_at base f.id ≡ Some f
     → seek caller base to ≡ found.Found price → sought f way ≡ Some to → Leads caller base f.id way to
 leads caller base f to way price there is e =
     record { price = price; found = goes caller base f.id f way to there e ∙ ap (sought_by base way to) is }
@@ -96,7 +96,7 @@ leads caller base f to way price there is e =
 same_frame : (a b : Frame) → Some a ≡ Some b → a ≡ b
 same_frame a b h = cc
 
-found_offered : (id : Id) (price : ℕ) → destination.Found id price ≡ destination.NotOffered → ⊥
+pub found_offered : (id : Id) (price : ℕ) → destination.Found id price ≡ destination.NotOffered → ⊥
 found_offered id price h = cc
 
 offered : (caller : List ℕ) (base : BaseView) (f : Frame) (to : Id) (way : Way) → frame_at base f.id ≡ Some f → Leads caller base f.id way to

@@ -6,3 +6,7 @@ pub mod LostSteps
 pub mod Among
 pub mod Distinct
 pub mod EdgeLaws
+pub mod HasIds
+pub mod Spans
+pub mod Leading
+pub mod Neighbouring

@@ -6,3 +6,7 @@ pub mod Lost
 pub mod Edges
 pub mod MapText
 pub mod MapLaws
+pub mod Links
+pub mod Neighbours
+pub mod Windows
+pub mod Views

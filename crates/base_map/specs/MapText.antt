@@ -21,10 +21,13 @@ ids_of found = insert_all id_eq [] (map (λ d. d.id) found)
 pub record AreReached (caller : List ℕ) (base : BaseView) (ids : List Id) : Type 0 where
   pub each : (id : Id) → IsReached caller base id ↔ (has_id ids id ≡ true)
 
+-- what comes before all nodes
+abbrev pub head : List ℕ
+head = codes "digraph {\n  rankdir=LR\n  newrank=true\n  node [shape=box]\n"
+
 -- the head, the nodes of frames by pages, the nodes of what the base lacks, the edges, and the end
 abbrev pub lines_of : MapView → List Frame → List ℕ
-lines_of m frames =
-    codes "digraph {\n  rankdir=LR\n  node [shape=box]\n" ++ cluster_lines m None frames ++ lost_lines m frames ++ flat_map (edge_lines_of m) frames ++ codes "}\n"
+lines_of m frames = head ++ cluster_lines m None frames ++ lost_lines m frames ++ flat_map (edge_lines_of m) frames ++ codes "}\n"
 
 -- of the frames that are shown
 abbrev pub map_lines : MapView → List ℕ

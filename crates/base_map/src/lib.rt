@@ -8,21 +8,30 @@
 //! ```
 //!
 //! - [`map_text`]: the text.
-//! - [`Part`]: the frames that it shows.
+//! - [`Part`]: the frames that it shows. [`from_page`], [`to_page`]: those near a page.
+//! - [`map_view`], [`View`]: the map of a part that is named by a page and a number of keys.
 //! - [`edges_are_ways`]: what its edges are.
-//! - Definitions: the text (`MapText`, `Nodes`, `Edges`, `Lost`, `Titles`), its edges (`MapLaws`).
+//! - Definitions: the text (`MapText`, `Nodes`, `Edges`, `Lost`, `Titles`), its edges (`MapLaws`), the frames near a
+//!   page (`Windows`).
 #![tactic(auto)]
 
 mod drawing;
 mod edges;
 mod exits;
 mod laws;
+mod links;
 mod lost;
 mod map;
+mod neighbours;
 mod nodes;
 mod part;
+mod span;
 mod title;
+mod view;
+mod window;
 
 pub use laws::edges_are_ways;
 pub use map::map_text;
 pub use part::Part;
+pub use view::{View, map_view};
+pub use window::{from_page, to_page};

@@ -35,7 +35,7 @@ impl<'a> Drawing<'a> {
     fn push_map(&self, alloc: Global, out: &mut Vec<u8>, frames: &[Frame]) -> Result<(), AllocError>
         ensures { OnOk result (out.new.items ≡ out.old.items ++ spec.lines_of self.now (shown self.now frames.now)) }
     {
-        out.extend_from_slice(b"digraph {\n  rankdir=LR\n  node [shape=box]\n")?;
+        out.extend_from_slice(b"digraph {\n  rankdir=LR\n  newrank=true\n  node [shape=box]\n")?;
         self.push_clusters(alloc, out, frames)?;
         self.push_lost(alloc, out, frames)?;
         self.push_edges(alloc, out, frames)?;

@@ -8,3 +8,4 @@ pub mod WalkRun
 pub mod AuditRun
 pub mod LintRun
 pub mod ListRun
+pub mod MapRun

@@ -18,6 +18,7 @@
 //! - [`run_walk`]: what a caller sees.
 //! - [`run_list`]: a line for each frame of a base.
 //! - [`run_lint`], [`status_of_lint`]: every finding in a base's file, and the exit status for them.
+//! - [`run_map`], [`View`], [`MapStatus`], [`status_of_map`]: the map of a base, and the exit status for it.
 //! - [`Status`], [`status_of`]: the result of another run, and the program's exit status for it.
 #![tactic(auto)]
 
@@ -29,15 +30,18 @@ mod file_fault;
 mod input;
 mod lint_run;
 mod list_run;
+mod map_run;
 mod output;
 mod status;
 mod walk_run;
 
 pub use audit_run::{run_audit, run_audit_into};
+pub use base_map::View;
 pub use change_run::run_change;
 pub use check_run::run_check;
 pub use lint_report::{Counts, counted_text};
 pub use lint_run::{run_lint, status_of_lint};
 pub use list_run::run_list;
+pub use map_run::{MapStatus, run_map, status_of_map};
 pub use status::{Status, status_of};
 pub use walk_run::run_walk;

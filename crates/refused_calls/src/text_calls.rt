@@ -87,15 +87,14 @@ pub fn read_whole(rt: &HostRuntime, words: &mut Words) -> Option<()> {
     let piece = words.number()? as usize;
     tried!(
         rt,
-        whole(rt.alloc(), text.as_slice(), piece.max(1)),
+        whole(rt.alloc(), text.as_slice(), piece),
         lines::of_source
     )
 }
 
-fn whole(alloc: Global, text: &[u8], piece: usize) -> Result<Vec<u8>, SourceFault>
-    requires { 0 < piece }
-{
-    audit_report::read_whole(alloc, &mut FakeSource::of(text, piece), MOST_TEXT + 1)
+fn whole(alloc: Global, text: &[u8], piece: usize) -> Result<Vec<u8>, SourceFault> {
+    let mut source = FakeSource::of(text, piece.max(1));
+    audit_report::read_whole(alloc, &mut source, MOST_TEXT + 1)
 }
 
 /// `keys KEYS`, `base BASE` or `cert CERT`, which is refused
