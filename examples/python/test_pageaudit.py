@@ -87,8 +87,8 @@ class Audit(unittest.TestCase):
         self.assertEqual(pageaudit.audit(BROKEN, POLICY), pageaudit.Audit(None, tuple(report[1:])))
 
     def test_gives_a_certificate_longer_than_its_first_buffer(self):
-        frames = (f'[[frame]]\nid = "{page}a"\nlead = "keep"\nbody = ""\nroutes = {{ 1 = {page + 1} }}\n' for page in range(100, 5_000))
-        base = f"entry = 100\noutside = [5000]\n{''.join(frames)}".encode()
+        frames = (f'[[frame]]\nid = "{page}a"\nrows = []\nroutes = {{ 0 = 1000, 1 = {page + 1} }}\n' for page in range(1_000, 9_000))
+        base = f"entry = 1000\noutside = [9000]\n{''.join(frames)}".encode()
         certificate = pageaudit.audit(base, Policy(0, 65_535)).certificate
         self.assertIsNotNone(certificate)
         self.assertGreater(len(certificate), 1 << 16)
@@ -101,7 +101,7 @@ class Lint(unittest.TestCase):
 
     def test_finds_a_fault_at_its_place(self):
         found = pageaudit.lint(b"entry = 1\n\n[[frame]]\nid = \"1a\"\nlead = \"keep\"\n", POLICY)
-        self.assertEqual([(it.line, it.column, it.level, it.words.split(":")[0]) for it in found], [(3, 1, "error", "X4 Absent body")])
+        self.assertEqual([(it.line, it.column, it.level, it.words.split(":")[0]) for it in found], [(3, 1, "error", "X4 Absent")])
 
     def test_a_text_that_is_no_base_is_a_finding(self):
         self.assertEqual([type(it) for it in pageaudit.lint(b"\xff", POLICY)], [Finding])
