@@ -20,10 +20,6 @@ pub enum Work<'a> {
     Audit(&'a [u8], &'a Policy),
     /// Both texts are read and checked.
     Check(&'a Edition),
-    /// `check_bytes` of both texts.
-    Bytes(&'a Edition),
-    /// The call for C on both texts.
-    Call(&'a Edition),
     /// Twice both texts are read, and the change between these editions is checked.
     Change(&'a Edition),
 }
@@ -37,8 +33,6 @@ impl Work<'_> {
             Work::Walk(text) => read_base(alloc, text).is_some(),
             Work::Audit(text, policy) => certificate(alloc, text, policy).is_some(),
             Work::Check(edition) => edition.count(alloc).is_some(),
-            Work::Bytes(edition) => edition.clears(alloc),
-            Work::Call(edition) => edition.clears_for_c(alloc),
             Work::Change(edition) => edition.clears_change(alloc),
         }
     }
