@@ -64,15 +64,11 @@ static void release(char *bytes, size_t length)
         fail("munmap");
 }
 
-static struct pageaudit_text guarded_text(struct pageaudit_text text)
-{
-    return pageaudit_text_of(guarded(text.bytes, text.length, PROT_READ), text.length);
-}
-
+/* A file's text that ends where a page ends. */
 static struct pageaudit_text read_file(const char *path)
 {
     FILE *file = fopen(path, "rb");
-    char *bytes;
+    char *bytes, *text;
     long length = -1;
     if (file == NULL || fseek(file, 0, SEEK_END) || (length = ftell(file)) < 0)
         fail(path);
@@ -80,7 +76,9 @@ static struct pageaudit_text read_file(const char *path)
     bytes = malloc((size_t)length + 1);
     if (bytes == NULL || fread(bytes, 1, (size_t)length, file) != (size_t)length || fclose(file))
         fail(path);
-    return pageaudit_text_of(bytes, (size_t)length);
+    text = guarded(bytes, (size_t)length, PROT_READ);
+    free(bytes);
+    return pageaudit_text_of(text, (size_t)length);
 }
 
 static struct answer make(const struct call *call, char *buffer, size_t room)
@@ -225,7 +223,7 @@ int main(int argc, char **argv)
         return 98;
     call.name = argv[2];
     for (call.count = 0; call.count < argc - 6; call.count++)
-        call.texts[call.count] = guarded_text(read_file(argv[3 + call.count]));
+        call.texts[call.count] = read_file(argv[3 + call.count]);
     call.policy.ceiling = (uint32_t)strtoul(argv[argc - 3], NULL, 10);
     call.policy.keyings = (uint32_t)strtoul(argv[argc - 2], NULL, 10);
     call.policy.groups = argv[argc - 1];

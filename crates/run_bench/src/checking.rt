@@ -20,18 +20,16 @@ fn edition(alloc: Global, text: Result<Vec<u8>, AllocError>, mark: Mark) -> Resu
     }
 }
 
-// The times of an edition's works, and what the check compared and painted.
+// The four times of an edition, and what the check compared and painted.
 fn measure_edition(rt: &HostRuntime, shape: Shape, edition: &Edition) -> Result<()> {
     let text = edition.text.as_slice();
     let works = [
         Work::Tree(text),
         Work::Walk(text),
         Work::Check(edition),
-        Work::Bytes(edition),
-        Work::Call(edition),
         Work::Change(edition),
     ];
-    let [tree, walk, check, bytes, call, change] = least_times::<6>(rt, RUNS, &works)?;
+    let [tree, walk, check, change] = least_times::<4>(rt, RUNS, &works)?;
     let Some(count) = edition.count(rt.alloc()) else {
         bail!("the certificate is refused");
     };
@@ -44,9 +42,6 @@ fn measure_edition(rt: &HostRuntime, shape: Shape, edition: &Edition) -> Result<
         Figure::share("check", check, tree, of_toml),
         Figure::of("check", count.probes.into(), "probes"),
         Figure::of("check", count.steps.into(), "steps"),
-        Figure::millis("check_bytes", bytes),
-        Figure::millis("the call for C", call),
-        Figure::share("the call for C", call, bytes, "percent of check_bytes"),
         Figure::millis("change", change),
         Figure::share(
             "change",

@@ -6,10 +6,9 @@ use base_list::list;
 use base_text::{MOST_TEXT, base_read};
 use cert_table::Certificate;
 use cert_text::CertReader;
-use checker::{ChangeVerdict, Count, Policy, Verdict, check_bytes, check_change, check_counted};
+use checker::{ChangeVerdict, Count, Policy, Verdict, check_change, check_counted};
 use fault_scripts::audit;
 use frame_records::{Base, Groups, Pence};
-use pageaudit_c::pageaudit_check;
 use std::alloc::Global;
 
 // What is asked of a certificate's file at once.
@@ -126,33 +125,6 @@ impl Edition {
             (Verdict::Cleared, count) => Some(count),
             _ => None,
         }
-    }
-
-    /// Whether `check_bytes` clears both texts.
-    pub fn clears(&self, alloc: Global) -> bool {
-        check_bytes(
-            alloc,
-            self.text.as_slice(),
-            self.cert.as_slice(),
-            &self.policy,
-        ) == Ok(Verdict::Cleared)
-    }
-
-    /// Whether the call for C clears both texts, for a caller outside every group.
-    pub fn clears_for_c(&self, alloc: Global) -> bool {
-        let mut line = [0; 128];
-        let mut length = 0;
-        let status = pageaudit_check(
-            alloc,
-            self.text.as_slice(),
-            self.cert.as_slice(),
-            self.policy.ceiling.get().into(),
-            self.policy.keyings.into(),
-            b"",
-            &mut line,
-            &mut length,
-        );
-        status == 0
     }
 
     /// Two editions of the same texts are read, the change between them is checked, and all is dropped.

@@ -26,10 +26,6 @@ pub enum Work<'a> {
     List(&'a [u8], &'a Groups),
     /// Both texts are read and checked.
     Check(&'a Edition),
-    /// `check_bytes` of both texts.
-    Bytes(&'a Edition),
-    /// The call for C on both texts.
-    Call(&'a Edition),
     /// Twice both texts are read, and the change between these editions is checked.
     Change(&'a Edition),
 }
@@ -48,8 +44,6 @@ impl Work<'_> {
             },
             Work::List(text, groups) => listing(alloc, text, groups).is_some(),
             Work::Check(edition) => edition.count(alloc).is_some(),
-            Work::Bytes(edition) => edition.clears(alloc),
-            Work::Call(edition) => edition.clears_for_c(alloc),
             Work::Change(edition) => edition.clears_change(alloc),
         }
     }
