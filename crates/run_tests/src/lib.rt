@@ -10,6 +10,8 @@ mod check;
 #[cfg(test)]
 mod lint;
 #[cfg(test)]
+mod map;
+#[cfg(test)]
 mod status;
 #[cfg(test)]
 mod told;
