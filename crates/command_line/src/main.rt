@@ -1,8 +1,8 @@
 //! The program: audits the page base of a viewdata information provider.
 //!
-//! `lint`, `audit`, `check`, `change`, `walk` and `list` open their files in the order of the words and hand them to the runs of
-//! the crate `pageaudit`, which are proved over any reader and writer. This crate only opens files, prints and picks the exit
-//! status.
+//! `lint`, `audit`, `check`, `change`, `walk`, `list` and `map` open their files in the order of the words and pass them to the
+//! runs of the crate `pageaudit`, which are proved over any reader and writer. This crate only opens files, prints and picks the
+//! exit status.
 #![tactic(auto)]
 
 mod out_file;
@@ -16,8 +16,8 @@ use explain_words::{explanation, nearest, overview};
 use frame_records::Groups;
 use out_file::{is_same_file, open_out};
 use pageaudit::{
-    Counts, Status, counted_text, run_audit, run_audit_into, run_change, run_check, run_lint,
-    run_list, run_walk, status_of, status_of_lint,
+    Counts, MapStatus, Status, View, counted_text, run_audit, run_audit_into, run_change,
+    run_check, run_lint, run_list, run_map, run_walk, status_of, status_of_lint, status_of_map,
 };
 use std::process::ExitCode;
 use std::rt::{Env, Files};
@@ -146,6 +146,7 @@ fn answer<R: Files + Print + Eprint + AllocGlobal>(rt: &R, request: &Request) ->
         Request::Walk { base, keys, groups } => walk_file(rt, base, keys, groups),
         Request::List { base, groups } => list_file(rt, base, groups),
         Request::Lint { base, policy } => return lint(rt, base, policy),
+        Request::Map { base, view, groups } => return map(rt, base, view, groups),
         Request::Explain { word } => return explain(rt, *word),
     };
     match &run {
@@ -175,6 +176,41 @@ fn lint_file<R: Files + Print + AllocGlobal>(
     let mut base = FromRead::new(base);
     let mut out = IntoWrite::new(io::writer(rt));
     run_lint(rt.alloc(), &mut base, &mut out, path, policy)
+}
+
+// Draws a map; a line on standard error if the base lacks the frame `a` of the page.
+fn map<R: Files + Print + Eprint + AllocGlobal>(
+    rt: &R,
+    base: &str,
+    view: &View,
+    groups: &Groups,
+) -> u8 {
+    let run = map_file(rt, base, view, groups);
+    match &run {
+        Ok(MapStatus::Drawn) => {}
+        Ok(MapStatus::NoPage) => tell_no_page(rt, view),
+        Err(fault) => return refused(rt, fault),
+    }
+    status_of_map(&run)
+}
+
+fn map_file<R: Files + Print + AllocGlobal>(
+    rt: &R,
+    base: &str,
+    view: &View,
+    groups: &Groups,
+) -> Result<MapStatus, RunFault> {
+    let base = opened(rt, base, RunFault::ReadBase)?;
+    let mut base = FromRead::new(base);
+    let mut out = IntoWrite::new(io::writer(rt));
+    run_map(rt.alloc(), &mut base, groups, view, &mut out)
+}
+
+fn tell_no_page<R: Eprint>(rt: &R, view: &View) {
+    if let View::From(page, _) | View::To(page, _) = view {
+        let text = page.text();
+        let _ = eprintln!(rt; "error: the base has no frame {}a", text.as_str());
+    }
 }
 
 // The numbers of findings, if there are some. Without memory for the line it isn't printed: the findings are.

@@ -1,10 +1,12 @@
 //! The program's words, read by clap: one level of subcommands, required options.
 
 use crate::help;
+use base_map::View;
 use cert_table::MOST_RANK;
 use checker::Policy;
 use clap::{Arg, ArgAction, ArgMatches, Command, Error, value_parser};
 use frame_records::{Groups, GroupsFault, MOST_PENCE, Pence};
+use page_ids::{MOST_PAGE, PageNo};
 use std::alloc::{AllocError, Global};
 use std::rt::Env;
 use std::{env, io};
@@ -138,6 +140,45 @@ fn list_command<'a>(alloc: Global) -> Result<Command<'a>, AllocError> {
     with_groups(alloc, command)
 }
 
+// A page whose frame `a` a map begins from or ends at; one of the two.
+fn page_option<'a>(alloc: Global, name: &'a str, help: &'a str) -> Result<Arg<'a>, AllocError> {
+    Arg::new(alloc, name)
+        .long(name)
+        .value_name("PAGE")
+        .action(ArgAction::Set)
+        .allow_negative_numbers(true)
+        .value_parser(value_parser!(u32).range(0..=i64::from(MOST_PAGE)))
+        .help(help)
+        .group("near")
+}
+
+fn map_command<'a>(alloc: Global) -> Result<Command<'a>, AllocError> {
+    let within = Arg::new(alloc, "within")
+        .long("within")
+        .value_name("N")
+        .action(ArgAction::Set)
+        .allow_negative_numbers(true)
+        .value_parser(value_parser!(u16).range(0..=65_535))
+        .help("At most N keys from or to PAGE; any number without it")
+        .requires_arg("near")?;
+    let command = Command::new(alloc, "map")
+        .about("Draw a base as a graph, a DOT file for Graphviz")
+        .after_help(help::MAP)
+        .arg(place(alloc, "BASE", "The base, a TOML file"))?
+        .arg(page_option(
+            alloc,
+            "page",
+            "Draw the frames that keys lead to from frame a of PAGE",
+        )?)?
+        .arg(page_option(
+            alloc,
+            "to",
+            "Draw the frames from which keys lead to frame a of PAGE",
+        )?)?
+        .arg(within)?;
+    with_groups(alloc, command)
+}
+
 fn explain_command<'a>(alloc: Global) -> Result<Command<'a>, AllocError> {
     let code = Arg::new(alloc, "CODE").action(ArgAction::Set).help(
         "A printed word, e.g. K7, MISSING or s80; without one all are listed",
@@ -160,6 +201,7 @@ fn whole_command<'a>(alloc: Global) -> Result<Command<'a>, AllocError> {
         .subcommand(change_command(alloc)?)?
         .subcommand(walk_command(alloc)?)?
         .subcommand(list_command(alloc)?)?
+        .subcommand(map_command(alloc)?)?
         .subcommand(explain_command(alloc)?)
 }
 
@@ -224,6 +266,12 @@ pub enum Request<'a> {
         base: &'a str,
         groups: Groups,
     },
+    /// The graph of a view of a base, for a caller of these groups.
+    Map {
+        base: &'a str,
+        view: View,
+        groups: Groups,
+    },
     /// What a printed word means, or all words.
     Explain {
         word: Option<&'a str>,
@@ -252,6 +300,21 @@ fn policy_of(words: &ArgMatches, groups: Groups) -> Option<Policy> {
             groups,
         }),
         None => None,
+    }
+}
+
+// A page that an option names.
+fn page_of(words: &ArgMatches, name: &str) -> Option<PageNo> {
+    PageNo::new(words.get_one::<u32>(name)?)
+}
+
+// What a map shows.
+fn view_of(words: &ArgMatches) -> View {
+    let most = words.get_one::<u16>("within");
+    match (page_of(words, "page"), page_of(words, "to")) {
+        (Some(page), _) => View::From(page, most),
+        (None, Some(page)) => View::To(page, most),
+        (None, None) => View::Whole,
     }
 }
 
@@ -287,6 +350,11 @@ pub fn asked_for<'a>(matches: &'a ArgMatches, groups: Groups) -> Option<Request<
         }),
         ("list", words) => Some(Request::List {
             base: words.get_str("BASE")?,
+            groups,
+        }),
+        ("map", words) => Some(Request::Map {
+            base: words.get_str("BASE")?,
+            view: view_of(words),
             groups,
         }),
         ("explain", words) => Some(Request::Explain {

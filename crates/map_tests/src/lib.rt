@@ -5,3 +5,5 @@
 mod maps;
 #[cfg(test)]
 mod titles;
+#[cfg(test)]
+mod windows;

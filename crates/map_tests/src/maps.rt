@@ -10,6 +10,7 @@ use std::test::Fail;
 
 const DEMO_MAP: &str = r##"digraph {
   rankdir=LR
+  newrank=true
   node [shape=box]
   subgraph cluster_123 {
     label=123
@@ -63,6 +64,7 @@ routes = { 0 = 123 }
 
 const CLOSED_MAP: &str = r##"digraph {
   rankdir=LR
+  newrank=true
   node [shape=box]
   subgraph cluster_123 {
     label=123
@@ -104,6 +106,7 @@ routes = { 0 = 4, 2 = 9 }
 
 const SHARED_MAP: &str = r##"digraph {
   rankdir=LR
+  newrank=true
   node [shape=box]
   subgraph cluster_1 {
     label=1

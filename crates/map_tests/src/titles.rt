@@ -26,7 +26,7 @@ fn base_of(alloc: Global, body: &[u8]) -> Result<Base, Fail> {
 }
 
 const BEFORE: &str =
-    "digraph {\n  rankdir=LR\n  node [shape=box]\n  subgraph cluster_7 {\n    label=7\n    \"7a\" [label=\"7a\\n";
+    "digraph {\n  rankdir=LR\n  newrank=true\n  node [shape=box]\n  subgraph cluster_7 {\n    label=7\n    \"7a\" [label=\"7a\\n";
 
 const AFTER: &str = "PRICE 12\" peripheries=2]\n  }\n}\n";
 

@@ -12,6 +12,8 @@ mod lint;
 #[cfg(test)]
 mod list;
 #[cfg(test)]
+mod map;
+#[cfg(test)]
 mod status;
 #[cfg(test)]
 mod told;
