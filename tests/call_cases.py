@@ -11,6 +11,7 @@ sys.path.insert(0, str(Path(__file__).resolve().parent))
 from program import TOP
 from second_reading import audit, base, session
 from second_reading.certificate import KEYS
+from second_reading.map import draw
 
 DEMO = (TOP / "examples" / "demo.toml").read_text("ascii")
 CERT = (TOP / "examples" / "demo.cert").read_text("ascii")
@@ -106,6 +107,7 @@ FRAME 1231a RANK 1 PRICE 5 GROUP - SCRIPT 1
 FRAME 1231b RANK 1 PRICE 0 GROUP - SCRIPT 1#
 """
 CLOSED_LIST = LIST.splitlines(keepends=True)[0] + "FRAME 1231a RANK 1 PRICE 5 GROUP - SCRIPT 1\nUNREACHED 1231b PRICE 0 GROUP 7\n"
+MAP = draw(DEMO.encode())[0]
 STRICT = "FAULTS 3\nPRICE 1231a 5 SCRIPT 1\nNORETURN 1231a SCRIPT 1\nNORETURN 1231b SCRIPT 1#\n"
 # Of an audit up to 50 pence and 3 keyings.
 FAULTS = {
@@ -240,6 +242,9 @@ RUNS = [
     ("run_change demo {0} cert {0} shorter {0} shorter_cert {0}", "50 3 -", 1, "REFUSED E2 NoLongerCovered 1231b\n"),
     ("run_walk demo {} 1010*#*#*#*#", "-", 0, REPLIES),
     ("run_walk entry_closed {} 1", "-", 1, "ENTRYCLOSED 123a\n"),
+    ("run_map demo {} -", "-", 0, MAP),
+    ("run_map demo {} 1231", "-", 0, draw(DEMO.encode(), None, "page", 1_231)[0]),
+    ("run_map demo {} 5", "-", 1, ""),
     ("run_list demo {}", "-", 0, LIST),
     ("run_list closed {}", "-", 0, CLOSED_LIST),
     ("run_list entry_closed {}", "-", 1, "ENTRYCLOSED 123a\n"),
@@ -261,6 +266,7 @@ def run_cases():
         yield Case(f"run_check demo 7/{kept} cert 7 whole 5 1 -", unread)
         yield Case(f"run_walk demo 7/{kept} 1# whole -", unread)
         yield Case(f"run_list demo 7/{kept} whole -", unread)
+        yield Case(f"run_map demo 7/{kept} - whole -", unread)
         yield Case(f"run_change demo 7/{kept} cert 7 demo 7 cert 7 whole 50 3 -", unread)
         new = ran(3, fault="new base: read failed")
         yield Case(f"run_change demo 7 cert 7 demo 7/{kept} cert 7 whole 50 3 -", new)

@@ -74,6 +74,7 @@ fn run_call(rt: &HostRuntime, name: &str, words: &mut Words) -> Option<()> {
         "run_change" => run_calls::run_change(rt, words),
         "run_walk" => run_calls::run_walk(rt, words),
         "run_list" => run_calls::run_list(rt, words),
+        "run_map" => run_calls::run_map(rt, words),
         _ => None,
     }
 }

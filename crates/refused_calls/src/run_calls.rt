@@ -5,7 +5,8 @@ use crate::lines;
 use crate::tried::{again, begin, end, show};
 use crate::words::Words;
 use audit_report::{IntoWrite, RunFault};
-use pageaudit::Status;
+use page_ids::PageNo;
+use pageaudit::{MapStatus, Status, View};
 
 /// Makes a run into an output that a word names, as `tried` makes a call.
 macro_rules! ran {
@@ -112,4 +113,26 @@ pub fn run_list(rt: &HostRuntime, words: &mut Words) -> Option<()> {
         word,
         |out| pageaudit::run_list(rt.alloc(), &mut base.source(), &groups, out)
     )
+}
+
+/// `BASE PAGE OUTPUT GROUPS`: of the frames to which keys lead from a page, or for `-` of all; faulty if there is no such page
+pub fn run_map(rt: &HostRuntime, words: &mut Words) -> Option<()> {
+    let base = File::of(rt, words)?;
+    let view = view_of(words.word()?)?;
+    let word = words.word()?;
+    let groups = words.groups()?;
+    ran!(rt, word, |out| {
+        match pageaudit::run_map(rt.alloc(), &mut base.source(), &groups, &view, out) {
+            Ok(MapStatus::Drawn) => Ok(Status::Clear),
+            Ok(MapStatus::NoPage) => Ok(Status::Faulty),
+            Err(fault) => Err(fault),
+        }
+    })
+}
+
+fn view_of(word: &str) -> Option<View> {
+    match word {
+        "-" => Some(View::Whole),
+        page => Some(View::From(PageNo::new(page.parse::<u32>().ok()?)?, None)),
+    }
 }
