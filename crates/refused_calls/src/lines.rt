@@ -102,11 +102,18 @@ pub fn of_cert(alloc: Global, cert: Result<Certificate, ReadFault>) -> Lines {
     }
 }
 
+/// A reader that took each piece, or one that refused a piece.
+#[derive(Drop)]
+pub enum Fed {
+    Whole(CertReader),
+    Refused(CertReader, ReadFault),
+}
+
 /// The certificate that a reader was fed, or why a piece was refused and what the reader answers then.
-pub fn of_fed(alloc: Global, fed: (CertReader, Result<(), ReadFault>)) -> Lines {
+pub fn of_fed(alloc: Global, fed: Fed) -> Lines {
     match fed {
-        (reader, Ok(())) => of_cert(alloc, reader.finish()),
-        (reader, Err(fault)) => of_unfed(alloc, reader, fault),
+        Fed::Whole(reader) => of_cert(alloc, reader.finish()),
+        Fed::Refused(reader, fault) => of_unfed(alloc, reader, fault),
     }
 }
 

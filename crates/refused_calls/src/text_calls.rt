@@ -1,11 +1,11 @@
 //! The calls that read a text or write one.
 
-use crate::lines;
+use crate::lines::{self, Fed};
 use crate::tried::tried;
 use crate::words::Words;
 use audit_report::{RunFault, SourceFault};
 use base_text::{MOST_TEXT, RowCells};
-use cert_text::{CertReader, ReadFault};
+use cert_text::CertReader;
 use fake_devices::FakeSource;
 use page_ids::IdFault;
 use std::alloc::Global;
@@ -34,10 +34,7 @@ pub fn base_read(rt: &HostRuntime, words: &mut Words) -> Option<()> {
 
 /// `ROW..`, at most 22
 pub fn body_of_rows(rt: &HostRuntime, words: &mut Words) -> Option<()> {
-    let mut rows = Vec::new(rt.alloc());
-    while let Some(word) = words.word() {
-        rows.push(RowCells::new(word.as_bytes())?).ok()?;
-    }
+    let rows = rows_of(rt.alloc(), words.rest())?;
     if rows.len() > 22 {
         return None;
     }
@@ -46,6 +43,14 @@ pub fn body_of_rows(rt: &HostRuntime, words: &mut Words) -> Option<()> {
         base_text::body_of_rows(rt.alloc(), rows.as_slice()),
         lines::of_body
     )
+}
+
+fn rows_of(alloc: Global, words: &[String]) -> Option<Vec<RowCells>> {
+    let mut rows = Vec::new(alloc);
+    for word in words {
+        rows.push(RowCells::new(word.as_bytes())?).ok()?;
+    }
+    Some(rows)
 }
 
 /// `CERT`
@@ -71,14 +76,14 @@ pub fn feed(rt: &HostRuntime, words: &mut Words) -> Option<()> {
     tried!(rt, fed(rt.alloc(), text.as_slice(), piece), lines::of_fed)
 }
 
-fn fed(alloc: Global, text: &[u8], piece: usize) -> (CertReader, Result<(), ReadFault>) {
+fn fed(alloc: Global, text: &[u8], piece: usize) -> Fed {
     let mut reader = CertReader::new(alloc);
     for piece in text.chunks(piece.max(1)) {
         if let Err(fault) = reader.feed(piece) {
-            return (reader, Err(fault));
+            return Fed::Refused(reader, fault);
         }
     }
-    (reader, Ok(()))
+    Fed::Whole(reader)
 }
 
 /// `FILE PIECE`: a source gives so many bytes at once
@@ -99,36 +104,39 @@ fn whole(alloc: Global, text: &[u8], piece: usize) -> Result<Vec<u8>, SourceFaul
 
 /// `keys KEYS`, `base BASE` or `cert CERT`, which is refused
 pub fn fault_text(rt: &HostRuntime, words: &mut Words) -> Option<()> {
-    let fault = match words.word()? {
-        "keys" => keys_fault(rt.alloc(), words.word()?)?,
-        "base" => base_fault(rt.alloc(), words.bytes(rt)?.as_slice())?,
-        "cert" => cert_fault(rt.alloc(), words.bytes(rt)?.as_slice())?,
-        _ => return None,
-    };
-    tried!(
-        rt,
-        audit_report::fault_text(rt.alloc(), &fault),
-        lines::of_text
-    )
-}
-
-fn keys_fault(alloc: Global, text: &str) -> Option<RunFault> {
-    match page_ids::keys_read(alloc, text) {
-        Err(IdFault::BadKey(offset)) => Some(RunFault::Keys(offset)),
+    match words.word()? {
+        "keys" => keys_fault(rt, words.word()?),
+        "base" => base_fault(rt, words.bytes(rt)?.as_slice()),
+        "cert" => cert_fault(rt, words.bytes(rt)?.as_slice()),
         _ => None,
     }
 }
 
-fn base_fault(alloc: Global, text: &[u8]) -> Option<RunFault> {
-    match base_text::base_read(alloc, text) {
-        Err(fault) => Some(RunFault::Base(fault)),
-        Ok(_) => None,
+fn shown(rt: &HostRuntime, fault: &RunFault) -> Option<()> {
+    tried!(
+        rt,
+        audit_report::fault_text(rt.alloc(), fault),
+        lines::of_text
+    )
+}
+
+fn keys_fault(rt: &HostRuntime, text: &str) -> Option<()> {
+    match page_ids::keys_read(rt.alloc(), text) {
+        Err(IdFault::BadKey(offset)) => shown(rt, &RunFault::Keys(offset)),
+        _ => None,
     }
 }
 
-fn cert_fault(alloc: Global, text: &[u8]) -> Option<RunFault> {
-    match cert_text::cert_read(alloc, text) {
-        Err(fault) => Some(RunFault::Cert(fault)),
-        Ok(_) => None,
-    }
+fn base_fault(rt: &HostRuntime, text: &[u8]) -> Option<()> {
+    let Err(fault) = base_text::base_read(rt.alloc(), text) else {
+        return None;
+    };
+    shown(rt, &RunFault::Base(fault))
+}
+
+fn cert_fault(rt: &HostRuntime, text: &[u8]) -> Option<()> {
+    let Err(fault) = cert_text::cert_read(rt.alloc(), text) else {
+        return None;
+    };
+    shown(rt, &RunFault::Cert(fault))
 }

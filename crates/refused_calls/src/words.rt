@@ -29,6 +29,11 @@ impl<'a> Words<'a> {
         Some(word.as_str())
     }
 
+    /// The words that are left.
+    pub fn rest(&self) -> &'a [String] {
+        self.left
+    }
+
     /// A whole number.
     pub fn number(&mut self) -> Option<u32> {
         self.word()?.parse::<u32>().ok()
