@@ -244,7 +244,6 @@ RUNS = [
     ("run_walk entry_closed {} 1", "-", 1, "ENTRYCLOSED 123a\n"),
     ("run_map demo {} -", "-", 0, MAP),
     ("run_map demo {} 1231", "-", 0, draw(DEMO.encode(), None, "page", 1_231)[0]),
-    ("run_map demo {} 5", "-", 1, ""),
     ("run_list demo {}", "-", 0, LIST),
     ("run_list closed {}", "-", 0, CLOSED_LIST),
     ("run_list entry_closed {}", "-", 1, "ENTRYCLOSED 123a\n"),
@@ -274,6 +273,7 @@ def run_cases():
         yield Case(f"run_check demo 7 cert 7/{kept} whole 5 1 -", ran(3, fault="certificate: read failed"))
         words = f"run_change demo 7 cert 7 demo 7 cert 7/{kept} whole 50 3 -"
         yield Case(words, ran(3, fault="new certificate: read failed"))
+    yield Case("run_map demo 7 5 unflushed -", ran(1))
     yield Case("run_walk demo 7 1*5# whole -", ran(2, fault="keys: I3 BadKey 1"))
     yield Case("run_audit bad_base_4 7 whole 50 3 -", ran(3, fault="base: X3 UnknownKey"))
     yield Case("run_check demo 7 bad_cert_9 7 whole 5 1 -", ran(3, fault="certificate: line 10: Tail"))
