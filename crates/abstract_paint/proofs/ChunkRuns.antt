@@ -30,7 +30,7 @@ all_plain (x ∷ xs) e = none_other (is_plain x) _ (length xs) _ (prefix_len-le-
 split : (d : List ℕ) (i n : ℕ) → plain_len (drop i d) ≡ cond (eqb (plain_len (chunk i n d)) (length (chunk i n d))) (length (chunk i n d) + plain_len (drop (i + n) d)) (plain_len (chunk i n d))
 split d i n = ap plain_len (chunk-drop i n d) ∙ prefix_len-append is_plain (chunk i n d) (drop (i + n) d)
 
--- no other among them: the run goes on behind them
+-- no other among them: the run goes on after them
 pub run_through : (d : List ℕ) (i n : ℕ) → i + n ≤ length d → mask_l (map is_other (chunk i n d)) ≡ 0 → plain_len (drop i d) ≡ n + plain_len (drop (i + n) d)
 run_through d i n room none =
     let c = chunk i n d in

@@ -15,7 +15,7 @@ cell_low b h = grind (arith, nat_tests)
 cell_high : (b : ℕ) → is_cell_code b ≡ true → nat_lt b 160 ≡ true
 cell_high b h = grind (arith, nat_tests)
 
--- such a code is written where no escape is pending
+-- such a code is written if no escape is pending
 cell_step : (p b : ℕ) → is_cell_code b ≡ true → (r : Bool) → nat_lt b 128 ≡ r → cursor_step (calm (Spot p)) b ≡ written_at (Spot p) b
 cell_step p b h true e = let low = cell_low b h in rw (low, e) refl
 cell_step p b h false e =

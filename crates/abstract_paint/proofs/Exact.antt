@@ -1,4 +1,4 @@
--- What painting comes to, read in both directions.
+-- The result of painting, read in both directions.
 use Rattle.std.proofs.Common.{◌≡◌, ℕ, arith, inl, inr, refl, ap, sym, subst, List}
 use Rattle.std.proofs.lemmas.Bool.{cases_lt}
 use Rattle.frame_records.specs.declared.frame.Lead.{Lead}

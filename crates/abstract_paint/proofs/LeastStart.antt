@@ -101,7 +101,7 @@ module _ (lead : Lead) (body : List ℕ) (i : ℕ) where
 pub means_at : (lead : Lead) (body : List ℕ) (i : ℕ) (s : Option Start) → s ≡ start_at lead body i → IsStartAt lead body i s
 means_at lead body i s e = subst (λ (t : Option Start). IsStartAt lead body i t) (sym e) (is_start_at lead body i (least_number lead body i) refl)
 
--- some start touches where some terminal does, so there is one at the first touch
+-- some start touches if some terminal does, so there is one at the first touch
 at_first : (lead : Lead) (body : List ℕ) (i : ℕ) (s : Option Start) → IsFirstTouch lead body i → IsStartAt lead body i s → IsStart lead body s
 at_first lead body i std.None first h = let w = touch_to_start lead body i first.touch in absurd (h w.0 w.1 w.2)
 at_first lead body i (std.Some s) first h =

@@ -14,7 +14,7 @@ use Rattle.abstract_paint.proofs.Codes.{goes_on, code_touches, same_paint}
 cell_of_plain : (b : ℕ) → is_plain b ≡ true → is_cell_code b ≡ true
 cell_of_plain b h = grind (arith, nat_tests)
 
--- where there is room for a plain byte it counts nowhere as written in a service row, and behind the room it does
+-- if there is room for a plain byte it counts nowhere as written in a service row, and after the room it does
 some_room : (p b n : ℕ) → is_plain b ≡ true → suc n ≤ room p → is_service p b ≡ false
 some_room p b n plain h = grind (arith, nat_tests)
 

@@ -108,7 +108,7 @@ high_writes s b code o e =
     let n12 = o.not_12 in
     ap (λ (c : Option ℕ). has_service (if b == 12 then byte_writes s 12 else one s.at c)) e ∙ rw n12 refl
 
--- where no escape is pending and nothing is written, nothing is written after an escape
+-- if no escape is pending and nothing is written, nothing is written after an escape
 silent : (b : ℕ) → code_of false b ≡ None → code_of true b ≡ None
 silent b e = grind (arith, nat_tests)
 

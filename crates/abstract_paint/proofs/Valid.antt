@@ -39,12 +39,12 @@ pub record StepsTo (b : ℕ) (x y : AbsCursor) : Type 0 where
 abbrev pub SomeTouches : ℕ → AbsCursor → Type 0
 SomeTouches b x = (s : Caret) × StandsFor x s × (touches s b ≡ true)
 
--- what a step comes to is right
+-- the result of a step is right
 abbrev pub IsJudged : ℕ → AbsCursor → Option AbsCursor → Type 0
 IsJudged b x None = SomeTouches b x
 IsJudged b x (Some y) = StepsTo b x y
 
--- the cursor stands for just the ends of what was sent
+-- the cursor stands for exactly the ends of what was sent
 pub record EndsBy (sent : List ℕ) (x : AbsCursor) : Type 0 where
   pub into : (c : Caret) → c.at < 960 → StandsFor x (caret_run c sent)
   pub back : (u : Caret) → StandsFor x u → (c : Caret) × (c.at < 960) × (caret_run c sent ≡ u)

@@ -7,19 +7,19 @@ use Rattle.abstract_paint.specs.declared.advance.Advance.TheVariants.{Touches, G
 use Rattle.abstract_paint.specs.Cursor.{OnScreen}
 use Rattle.abstract_paint.specs.Paint.{paint_from}
 
--- the byte behind so many touches
+-- the byte after so many touches
 pub record StopsBehind (x : AbsCursor) (bs : List ℕ) (k : ℕ) : Type 0 where
   pub within : k < length bs
   pub same : (i : ℕ) → paint_from x i bs ≡ touches_at (i + k)
 
--- painting goes on behind some bytes, from the next cursor
+-- painting goes on after some bytes, from the next cursor
 pub record GoesOn (x : AbsCursor) (bs : List ℕ) (y : AbsCursor) (n : ℕ) : Type 0 where
   pub some : 0 < n
   pub within : n ≤ length bs
   pub on_screen : OnScreen y.place
   pub same : (i : ℕ) → paint_from x i bs ≡ paint_from y (i + n) (drop n bs)
 
--- what the front of the bytes comes to
+-- what painting the front of the bytes gives
 abbrev pub IsAdvance : AbsCursor → List ℕ → Advance → Type 0
 IsAdvance x bs (Touches k) = StopsBehind x bs k
 IsAdvance x bs (Goes y n) = GoesOn x bs y n

@@ -6,7 +6,7 @@ use Rattle.abstract_paint.specs.declared.painting.Painted.TheVariants.{Touches}
 use Rattle.abstract_paint.specs.Step.{calm}
 use Rattle.abstract_paint.specs.Paint.{paint_from}
 
--- a code that is written as it stands where no escape is pending: 20 to 7F, and the attributes 80 to 9F
+-- a code that is written unchanged if no escape is pending: 20 to 7F, and the attributes 80 to 9F
 abbrev pub is_cell_code : ℕ → Bool
 is_cell_code b = nat_le 32 b && nat_lt b 160
 

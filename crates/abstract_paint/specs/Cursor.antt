@@ -48,7 +48,7 @@ pend_test Maybe q = true
 abbrev pub stands : AbsCursor → ℕ → Bool → Bool
 stands x p q = nat_lt p 960 && (place_test x.place p && pend_test x.pend q)
 
--- the cursor stands for just the ends of the body sent after its lead
+-- the cursor stands for exactly the ends of the body sent after its lead
 abbrev pub Ends : Lead → List ℕ → AbsCursor → Type 0
 Ends lead body x = (p : ℕ) (q : Bool) → p < 960 → Stands x p q ↔ EndsAt lead body p q
 
@@ -60,7 +60,7 @@ EndsAreOne = (lead : Lead) (body : List ℕ) (x y : AbsCursor) → Ends lead bod
 abbrev pub StandsIsTest : Type 0
 StandsIsTest = (x : AbsCursor) (p : ℕ) (q : Bool) → (stands x p q ≡ true) ↔ Stands x p q
 
--- a cursor stands for something exactly where its place is on the screen
+-- a cursor stands for something exactly if its place is on the screen
 abbrev pub ScreenIsStoodFor : Type 0
 ScreenIsStoodFor = (x : AbsCursor) → OnScreen x.place ↔ ((p : ℕ) × (q : Bool) × Stands x p q)
 

@@ -18,26 +18,26 @@ abbrev pub paint_from : AbsCursor → ℕ → List ℕ → Painted
 paint_from x i [] = Clean x
 paint_from x i (b ∷ bs) = or_touches i (λ y. paint_from y (i + 1) bs) (cursor_step x b)
 
--- what painting the body after its lead comes to
+-- the result of painting the body after its lead
 abbrev pub paint_of : Lead → List ℕ → Painted
 paint_of lead body = paint_from (lead_end lead) 0 body
 
--- clean, and the cursor stands for just the ends; or the first byte that touches
+-- clean, and the cursor stands for exactly the ends; or the first byte that touches
 abbrev pub IsPainted : Lead → List ℕ → Painted → Type 0
 IsPainted lead body (Clean x) = IsClean lead body × Ends lead body x
 IsPainted lead body (Touches i) = IsFirstTouch lead body i
 
--- a fact of the cursor, where painting comes to one
+-- a fact of the cursor, if painting ends in one
 abbrev pub IfClean : Painted → (AbsCursor → Type 0) → Type 0
 IfClean (Clean x) P = P x
 IfClean (Touches i) P = Unit {0}
 
--- a fact of the offset, where painting comes to one
+-- a fact of the offset, if painting ends in one
 abbrev pub IfTouches : Painted → (ℕ → Type 0) → Type 0
 IfTouches (Clean x) P = Unit {0}
 IfTouches (Touches i) P = P i
 
--- what painting comes to, in both directions
+-- the result of painting, in both directions
 pub record IsExact (lead : Lead) (body : List ℕ) : Type 0 where
   pub clean : (x : AbsCursor) → (paint_of lead body ≡ Clean x) ↔ (IsClean lead body × Ends lead body x)
   pub touches : (i : ℕ) → (paint_of lead body ≡ Touches i) ↔ IsFirstTouch lead body i

@@ -31,7 +31,7 @@ abbrev pub IsStart : Lead → List ℕ → Option Start → Type 0
 IsStart lead body None = IsClean lead body
 IsStart lead body (Some s) = IsLeastStart lead body s
 
--- none, where no start touches at the offset; else the least that does
+-- none, if no start touches at the offset; else the least that does
 abbrev pub IsStartAt : Lead → List ℕ → ℕ → Option Start → Type 0
 IsStartAt lead body i None = (c : Caret) → c.at < 960 → StartTouches lead body i c → ⊥
 IsStartAt lead body i (Some s) = (s.offset ≡ i) × IsLeastAtOffset lead body s

@@ -9,7 +9,7 @@ use Rattle.abstract_paint.specs.declared.start.Start.{Start}
 use Rattle.abstract_paint.specs.declared.painting.Painted.{Painted}
 use Rattle.abstract_paint.specs.declared.painting.Painted.TheVariants.{Clean, Touches}
 
--- the start of a number: its position is half the number, and an escape is pending where the number is odd
+-- the start of a number: its position is half the number, and an escape is pending if the number is odd
 abbrev pub caret_numbered : ℕ → Caret
 caret_numbered n = record { at = n / 2; pending = n % 2 == 1 }
 

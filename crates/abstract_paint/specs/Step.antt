@@ -40,7 +40,7 @@ control_cursor x b =
     else if b == 12 then None
     else Some (calm (place_moved x.place b))
 
--- the code written; where the flag is open, that of no pending escape
+-- the code written; if the flag is open, that of no pending escape
 abbrev pub code_by : Pend → ℕ → Option ℕ
 code_by No b = code_of false b
 code_by Yes b = code_of true b
@@ -57,7 +57,7 @@ abbrev pub written_of : Place → Option ℕ → Option AbsCursor
 written_of place None = Some (calm place)
 written_of place (Some code) = written_at place code
 
--- the cursor after a byte, or none where the byte touches
+-- the cursor after a byte, or none if the byte touches
 abbrev pub cursor_step : AbsCursor → ℕ → Option AbsCursor
 cursor_step x b = if nat_lt b 32 then control_cursor x b else written_of x.place (code_by x.pend b)
 

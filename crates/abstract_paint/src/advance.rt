@@ -12,9 +12,9 @@ use crate::cursor::{AbsCursor, Pend, Place};
 use crate::plain::{front_run, is_plain};
 use crate::step::{after_byte, calm};
 
-// What the front of some bytes comes to.
+// What painting the front of some bytes gives.
 pub enum Advance {
-    // The byte behind so many touches.
+    // The byte after so many touches.
     Touches(usize),
     // Behind so many bytes, which don't touch, the cursor is this one.
     Goes(AbsCursor, usize),

@@ -16,19 +16,19 @@ pub fn ends_are_on_screen()
     ensures { EndsAreOnScreen }
 {}
 
-/// What `AbsCursor::stands` answers is what it means.
+/// `AbsCursor::stands` answers what it means.
 pub fn stands_is_test()
     ensures { StandsIsTest }
 {}
 
-/// A cursor stands for some position and flag exactly where its place is on the screen: a column over 39 or a spot over
+/// A cursor stands for some position and flag exactly if its place is on the screen: a column over 39 or a spot over
 /// 959 stands for none.
 pub fn screen_is_stood_for()
     ensures { ScreenIsStoodFor }
 {}
 
-/// Of every frame: painting comes to a clean cursor exactly where the frame is clean and ends where the cursor stands,
-/// and to an offset exactly where that is the first that touches.
+/// Of every frame: painting ends in a clean cursor exactly if the frame is clean and ends where the cursor is,
+/// and to an offset exactly if that is the first that touches.
 pub fn paint_is_exact()
     ensures { PaintIsExact }
 {}
@@ -38,7 +38,7 @@ pub fn codes_go_on()
     ensures { CodesGoOn }
 {}
 
-/// Such a code, where it counts as written in a service row, touches.
+/// Such a code, if it counts as written in a service row, touches.
 pub fn code_touches()
     ensures { CodeTouches }
 {}

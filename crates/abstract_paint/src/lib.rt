@@ -1,6 +1,6 @@
 //! Painting judged without a screen.
 //!
-//! A frame is clean where no terminal, whatever it shows and wherever it stands, lets the frame's body write a service
+//! A frame is clean if no terminal, whatever it shows and wherever it is, lets the frame's body write a service
 //! position, or double height (8D) in row 22, whose lower half shows in row 23. `paint` decides it by folding one small
 //! cursor over the body, exactly in both directions, and says where a clean frame may end. `start_for` finds the least
 //! start that shows why a frame isn't clean, `start_at` the same for whoever has painted it already.

@@ -9,10 +9,10 @@ use crate::cursor::AbsCursor;
 use crate::step::after_lead;
 use frame_records::Lead;
 
-/// What painting a frame comes to.
+/// The result of painting a frame.
 #[derive(Debug, Clone, Copy, PartialEq, Eq)]
 pub enum Painted {
-    /// From no start a write counts as one in a service row. The cursor stands for just the ends that occur.
+    /// From no start a write counts as one in a service row. The cursor stands for exactly the ends that occur.
     Clean(AbsCursor),
     /// The offset of the first body byte whose write counts, from some start, as one in a service row.
     Touches(usize),

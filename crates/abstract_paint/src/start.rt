@@ -9,7 +9,7 @@ use crate::painting::{Painted, paint};
 use frame_records::Lead;
 use terminal_codes::{Caret, lead_bytes};
 
-/// A start from which a write of the body byte at the offset counts as one in a service row: where a terminal stands before
+/// A start from which a write of the body byte at the offset counts as one in a service row: where a terminal is before
 /// the lead.
 #[derive(Debug, Clone, Copy, PartialEq, Eq)]
 pub struct Start {
@@ -21,7 +21,7 @@ pub struct Start {
     pub offset: usize,
 }
 
-// The start of a number: position n / 2, pending where n is odd.
+// The start of a number: position n / 2, pending if n is odd.
 fn caret_numbered(n: u16) -> Caret
     requires { n < 1920 }
     ensures { result ≡ caret_numbered n }
@@ -54,8 +54,8 @@ fn least_number(lead: Lead, body: &[u8], offset: usize) -> Option<u16>
     )
 }
 
-/// The least start from which a write of the body byte at the offset counts as one in a service row, or none where no start
-/// is one, as behind the body's end.
+/// The least start from which a write of the body byte at the offset counts as one in a service row, or none if no start
+/// is one, as after the body's end.
 ///
 /// Starts are ordered by position, not pending before pending. It costs up to 1,920 runs through the body's front.
 pub fn start_at(lead: Lead, body: &[u8], offset: usize) -> Option<Start>
@@ -72,7 +72,7 @@ pub fn start_at(lead: Lead, body: &[u8], offset: usize) -> Option<Start>
     }
 }
 
-/// The least start from which a write at `paint`'s offset counts as one in a service row, or none where the frame is clean.
+/// The least start from which a write at `paint`'s offset counts as one in a service row, or none if the frame is clean.
 ///
 /// A frame that isn't clean costs what `start_at` does beside its painting. Who has painted already calls that.
 #[tactic(auto, using(crate::proofs::LeastStart::means))]

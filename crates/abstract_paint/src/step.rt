@@ -61,7 +61,7 @@ fn place_after(place: Place, byte: u8) -> Place
     }
 }
 
-// The code written. Where both flags can be, that of no pending escape: the other one writes less.
+// The code written. If both flags can be, that of no pending escape: the other one writes less.
 fn code(pend: Pend, byte: u8) -> Option<u8>
     ensures { result ≡ code_by pend byte }
 {
@@ -71,7 +71,7 @@ fn code(pend: Pend, byte: u8) -> Option<u8>
     }
 }
 
-// The cursor after a code is written, or none where the code counts as written in a service row at some position of the
+// The cursor after a code is written, or none if the code counts as written in a service row at some position of the
 // place. Of a column's positions, and of all positions, some are in a service row.
 fn after_code(place: Place, code: u8) -> Option<AbsCursor>
     requires { OnScreen place }
@@ -105,7 +105,7 @@ fn after_control(cursor: AbsCursor, byte: u8) -> Option<AbsCursor>
     }
 }
 
-// The cursor after a byte, or none where the byte writes a service position from some place of it.
+// The cursor after a byte, or none if the byte writes a service position from some place of it.
 pub fn after_byte(cursor: AbsCursor, byte: u8) -> Option<AbsCursor>
     requires { OnScreen cursor.place }
     ensures computed { result ≡ cursor_step cursor byte }

@@ -49,11 +49,11 @@ line_cause_text line_cause.Count = codes "Count"
 line_cause_text line_cause.Tail = codes "Tail"
 line_cause_text line_cause.Truncated = codes "Truncated"
 
--- what is wrong with a base's text, behind a word for its edition; none for the old or only one
+-- what is wrong with a base's text, after a word for its edition; none for the old or only one
 abbrev pub base_fault_text : List ℕ → BaseFault → List ℕ
 base_fault_text edition fault = edition ++ (base_place_text fault.frame ++ base_cause_text fault.cause)
 
--- what is wrong with a certificate's text, behind the same
+-- what is wrong with a certificate's text, after the same
 abbrev pub cert_fault_text : List ℕ → ReadFault → List ℕ
 cert_fault_text edition (read.Line n c) = edition ++ ((codes "certificate: line " ++ decimal n) ++ (codes ": " ++ line_cause_text c))
 cert_fault_text edition read.Failed = edition ++ codes "certificate: failed"

@@ -12,22 +12,22 @@ use Rattle.fault_scripts.specs.declared.outcome.Outcome.{Outcome}
 use Rattle.fault_scripts.specs.declared.outcome.Outcome.TheVariants.{Certified, Faulty}
 use Rattle.audit_report.specs.Lines.{line, with_id, with_id_number}
 
--- the keys that lead to a fault, `-` where there are none
+-- the keys that lead to a fault, `-` if there are none
 abbrev pub script_text : List Key → List ℕ
 script_text [] = codes " SCRIPT -"
 script_text (key ∷ keys) = codes " SCRIPT " ++ keys_text (key ∷ keys)
 
--- the frame that a key seeks, where the fault names one
+-- the frame that a key seeks, if the fault names one
 abbrev pub sought_text : Option Id → List ℕ
 sought_text None = []
 sought_text (Some id) = with_id (codes " ") id
 
--- the key that is pressed, where the fault names one
+-- the key that is pressed, if the fault names one
 abbrev pub pressed_text : Option Key → List ℕ
 pressed_text None = []
 pressed_text (Some key) = codes " KEY " ++ key_word key
 
--- the body byte that touches and the position of the start, where the fault names one
+-- the body byte that touches and the position of the start, if the fault names one
 abbrev pub start_text : Option Start → List ℕ
 start_text None = []
 start_text (Some start) = (codes " BYTE " ++ decimal start.offset) ++ (codes " START " ++ decimal start.at)

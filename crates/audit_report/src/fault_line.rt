@@ -120,7 +120,7 @@ fn push_cert_fault(out: &mut Vec<u8>, edition: &[u8], fault: ReadFault) -> Resul
     }
 }
 
-// Words, a number, and words behind it.
+// Words, a number, and words after it.
 #[tactic(auto, using(std::proofs::Common::append_assoc))]
 fn push_count(out: &mut Vec<u8>, words: &[u8], count: u64, behind: &[u8]) -> Result<(), AllocError>
     ensures { OnOk result (out.new.items ≡ out.old.items ++ ((words.now ++ decimal count) ++ behind.now)) }

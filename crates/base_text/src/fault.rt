@@ -56,7 +56,7 @@ pub enum Cause {
     /// X3: a key that its table doesn't have: of the top, of a frame, or of `routes`.
     #[error("unknown key")]
     UnknownKey,
-    /// X4: a required key isn't there. Where neither `body` nor `rows` is there it names `body`.
+    /// X4: a required key isn't there. If neither `body` nor `rows` is there it names `body`.
     #[error("key absent")]
     Absent(Field),
     /// X5: a value of another kind.

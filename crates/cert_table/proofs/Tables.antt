@@ -1,4 +1,4 @@
--- No refusal applies exactly where rows make a table on the screen.
+-- No refusal applies exactly if rows make a table on the screen.
 use Rattle.std.proofs.Common.{◌≡◌, ℕ, zero, suc, ◌+◌, ◌<◌, ◌≤◌, Bool, true, false, cond, ltb, List, [], ◌∷◌, length, get_or, Option, Some, None, refl, sym, ap, ◌∙◌, arith}
 use native.Mathlib.Numerals.{unary_clauses}
 use Rattle.std.specs.List.{AllAdjacentBelow}
@@ -40,7 +40,7 @@ fine_by i true true e = (refl, refl)
 fine_by i true false e = absurd cc
 fine_by i false b e = absurd cc
 
--- rows behind another: each on the screen, the first behind it, and ids ascend
+-- rows after another: each on the screen, the first after it, and ids ascend
 pub record AreBehind (before : Option Row) (rows : List Row) : Type 0 where
   pub on_screen : AreOnScreen rows
   pub first : (d : Row) → 0 < length rows → is_behind before (get_or rows 0 d).id ≡ true

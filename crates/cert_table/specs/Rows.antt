@@ -26,7 +26,7 @@ row_among rows id = find (λ r. id_eq r.id id) rows
 abbrev pub rows_compared : List Row → Id → ℕ
 rows_compared rows id = comparisons (map (λ r. id_cmp r.id id) rows)
 
--- the number, from 1, of what stands at a place, or all
+-- the number, from 1, of what is at a place, or all
 abbrev pub number_or : ℕ → Option ℕ → ℕ
 number_or all None = all
 number_or all (Some at) = at + 1

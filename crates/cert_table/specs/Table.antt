@@ -23,7 +23,7 @@ abbrev pub is_behind : Option Row → Id → Bool
 is_behind None id = true
 is_behind (Some r) id = is_lt (id_cmp r.id id)
 
--- what is wrong with the row at i, behind another
+-- what is wrong with the row at i, after another
 abbrev pub row_fault : ℕ → Option Row → Row → Option TableFault
 row_fault i before row =
     if is_on_screen row.cursor.place
@@ -35,7 +35,7 @@ abbrev pub or_later : Option TableFault → Option TableFault → Option TableFa
 or_later None later = later
 or_later (Some fault) later = Some fault
 
--- rows in turn, the first at i, behind another
+-- rows in turn, the first at i, after another
 abbrev pub rows_fault : ℕ → Option Row → List Row → Option TableFault
 rows_fault i before [] = None
 rows_fault i before (row ∷ rows) = or_later (row_fault i before row) (rows_fault (i + 1) (Some row) rows)
@@ -52,6 +52,6 @@ unless_fault (Some fault) cert = Err fault
 abbrev pub built : ℕ → ℕ → ℕ → List ℕ → List Row → Result CertView TableFault
 built entry ceiling keyings groups rows = unless_fault (table_fault rows) (record { entry = entry; ceiling = ceiling; keyings = keyings; groups = groups; rows = rows })
 
--- no refusal applies exactly where the rows are a table on the screen
+-- no refusal applies exactly if the rows are a table on the screen
 abbrev pub FaultsAreExact : Type 0
 FaultsAreExact = (rows : List Row) → (table_fault rows ≡ None) ↔ (AreRows rows × AreOnScreen rows)

@@ -68,7 +68,7 @@ fn is_behind(before: Option<&Row>, id: FrameId) -> bool
     }
 }
 
-// What is wrong with the row at i, behind another.
+// What is wrong with the row at i, after another.
 fn row_fault(i: usize, before: Option<&Row>, row: &Row) -> Option<TableFault>
     ensures { result ≡ row_fault i (option_copied before.entry) row.now }
 {
@@ -98,13 +98,13 @@ fn table_fault(rows: &[Row]) -> Option<TableFault>
     None
 }
 
-/// No refusal applies exactly where ids ascend, the rows are at most 65,535 and each cursor is on the screen.
+/// No refusal applies exactly if ids ascend, the rows are at most 65,535 and each cursor is on the screen.
 pub fn faults_are_exact()
     ensures { FaultsAreExact }
 {}
 
 impl<C: Cover + Drop> Certificate<C> {
-    /// The certificate of these parts, whose rows stand in the order of their ids.
+    /// The certificate of these parts, whose rows are in the order of their ids.
     ///
     /// Takes no memory. C2, then for each row in order C3, C1; after a refusal the rows are dropped.
     pub fn build(

@@ -36,15 +36,15 @@ pub trait Cover {
         requires { i < length (rows self.now) }
         ensures { slice_get (rows self.now) i ≡ Some result.now };
 
-    /// The row of an id; `None` where the id has no row.
+    /// The row of an id; `None` if the id has no row.
     fn row_of(&self, id: FrameId) -> Option<&Row>
         ensures { option_copied result ≡ row_among (rows self.now) id };
 
-    /// The rank of an id's row; `None` where the id has no row.
+    /// The rank of an id's row; `None` if the id has no row.
     fn rank_of(&self, id: FrameId) -> Option<u16>
         ensures { result ≡ option_map (λ r. r.rank) (row_among (rows self.now) id) };
 
-    /// The row of an id, and how many rows were compared with it: at least one where there is one, and at most `most`.
+    /// The row of an id, and how many rows were compared with it: at least one if there is one, and at most `most`.
     fn row_counted(&self, id: FrameId) -> (Option<&Row>, u32)
         ensures value { option_copied result.0 ≡ row_among (rows self.now) id }
         ensures exact { result.1 ≡ compared (rows self.now) id }

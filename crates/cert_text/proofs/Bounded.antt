@@ -70,7 +70,7 @@ at_most_one : (q : Bool) → from_bool q ≤ 1
 at_most_one false = omega arith
 at_most_one true = omega arith
 
--- the greatest number of a line that is due, and one more behind `end`
+-- the greatest number of a line that is due, and one more after `end`
 number_most : (g : Stage) (s : Said) → length s.rows ≤ 65535 → number_of g s ≤ 65542 + cond (is_over g) 1 0
 number_most Magic s few = omega arith
 number_most (Head Entry) s few = omega arith

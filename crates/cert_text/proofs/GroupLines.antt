@@ -38,7 +38,7 @@ pub has_some : (groups : List ℕ) → groups ≢ [] → has_groups groups ≡ t
 has_some [] some = absurd (some refl)
 has_some (g ∷ gs) some = refl
 
--- the line counts as one where there are groups
+-- the line counts as one if there are groups
 pub counted : (groups : List ℕ) → from_bool (has_groups groups) ≡ length (groups_lines groups)
 counted [] = refl
 counted (g ∷ gs) = refl

@@ -65,12 +65,12 @@ spaced (group ∷ groups) = 32 ∷ (decimal group ++ spaced groups)
 abbrev pub groups_line : List ℕ → List ℕ
 groups_line groups = codes "groups" ++ spaced groups
 
--- the line of the groups, where there are any
+-- the line of the groups, if there are any
 abbrev pub groups_lines : List ℕ → List (List ℕ)
 groups_lines [] = []
 groups_lines (group ∷ groups) = groups_line (group ∷ groups) ∷ []
 
--- the lines before the rows: five, and a sixth where there are groups
+-- the lines before the rows: five, and a sixth if there are groups
 abbrev pub head_lines : ℕ → ℕ → ℕ → List ℕ → ℕ → List (List ℕ)
 head_lines entry ceiling keyings groups count =
     first_line (has_groups groups) ∷ entry_line entry ∷ ceiling_line ceiling ∷ keyings_line keyings

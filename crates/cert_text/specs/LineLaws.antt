@@ -18,7 +18,7 @@ abbrev pub judged : Reading → List ℕ → Result Reading Fault
 judged s line = at_line (number_of s.stage s.said) (judge_at s.stage s.said line)
 
 pub record LinesAreJudged : Type 0 where
-  -- a line of at most 128 bytes is judged by its place, and the text behind it is read on from there
+  -- a line of at most 128 bytes is judged by its place, and the text after it is read on from there
   pub whole : (s : Reading) (line rest : List ℕ) → is_over s.stage ≡ false → HasNoEnd line
       → length s.line + length line ≤ 128 → run s (line ++ 10 ∷ rest) ≡ run_on (judged s (s.line ++ line)) rest
   -- a 129th byte is Word, whatever follows
@@ -27,7 +27,7 @@ pub record LinesAreJudged : Type 0 where
   -- a line that doesn't end is Truncated
   pub cut : (s : Reading) (line : List ℕ) → is_over s.stage ≡ false → HasNoEnd line → length s.line + length line ≤ 128
       → (run s line >>= ended) ≡ Err (number_of s.stage s.said, Truncated)
-  -- behind `end` each byte is Tail
+  -- after `end` each byte is Tail
   pub tail : (s : Reading) (b : ℕ) (rest : List ℕ) → is_over s.stage ≡ true
       → run s (b ∷ rest) ≡ Err (number_of s.stage s.said, Tail)
   -- the line that is due has a number one greater than the line ends so far

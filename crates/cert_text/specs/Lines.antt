@@ -120,6 +120,6 @@ row_of_parts (a ∷ b ∷ c ∷ d ∷ more) = Err Word
 abbrev pub in_order : List Row → Row → Result Row LineFlaw
 in_order rows r = if is_behind (slice_get rows (length rows - 1)) r.id then Ok r else Err Order
 
--- a row's line, cut at its spaces (32), behind these rows
+-- a row's line, cut at its spaces (32), after these rows
 unfoldable pub row_in : List Row → List ℕ → Result Row LineFlaw
 row_in rows line = row_of_parts (parts_of 32 line) >>= in_order rows

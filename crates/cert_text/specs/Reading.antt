@@ -60,7 +60,7 @@ pub record IsSound (s : Said) : Type 0 where
   pub rows : AreRows s.rows
   pub each : AllByRecursion IsRow s.rows
 
--- the number of the line that is due; a line of groups moves those behind it
+-- the number of the line that is due; a line of groups moves those after it
 abbrev pub number_of : Stage → Said → ℕ
 number_of Magic s = 1
 number_of (Head Entry) s = 2

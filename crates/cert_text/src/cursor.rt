@@ -1,4 +1,4 @@
-//! The texts of cursors: `any`, `c39`, `s80`, each with nothing, `+` or `?` behind it.
+//! The texts of cursors: `any`, `c39`, `s80`, each with nothing, `+` or `?` after it.
 
 ghost use Rattle.std.specs.Prelude.{◌≡◌};
 ghost use Rattle.cert_text.specs.Lines.{place_in, pend_in, without_pend, cursor_in};

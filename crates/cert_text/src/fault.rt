@@ -24,7 +24,7 @@ pub enum LineCause {
     /// The id of a row isn't greater than that of the row before, or a group isn't greater than the one before.
     #[error("Order")]
     Order,
-    /// What stands behind the rank is no cursor.
+    /// What stands after the rank is no cursor.
     #[error("Cursor")]
     Cursor,
     /// `end` stands in the place of a row, or another line in the place of `end`.

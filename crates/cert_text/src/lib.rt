@@ -2,7 +2,7 @@
 //!
 //! One spelling for each certificate, line by line: `PBC1`, the entry page, the ceiling, the keyings, the number of
 //! rows, then a line for each row in the order of ids (`1231a 1 s80`), and `end`. A certificate for callers of some
-//! groups begins with `PBC2`, and has a line `groups 7 9` behind the keyings. A certificate is read from just its own
+//! groups begins with `PBC2`, and has a line `groups 7 9` after the keyings. A certificate is read from just its own
 //! text.
 //!
 //! ```

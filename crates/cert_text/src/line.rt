@@ -87,7 +87,7 @@ fn row_of_parts(line: &[u8]) -> Result<Row, LineFlaw>
     row_of(id, rank, cursor)
 }
 
-// The row of a line, behind these rows.
+// The row of a line, after these rows.
 #[tactic(auto, unfolding(crate::specs::Lines::row_in))]
 pub fn row_in(rows: &[Row], line: &[u8]) -> Result<Row, LineFlaw>
     ensures { result ≡ row_in rows.now line.now }

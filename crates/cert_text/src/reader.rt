@@ -78,7 +78,7 @@ impl CertReader {
 
     /// The certificate, at the end of the text. Takes no memory.
     ///
-    /// L1 with `Truncated` where the text ended before its last line did; L2 where a call was refused before.
+    /// L1 with `Truncated` if the text ended before its last line did; L2 if a call was refused before.
     pub fn finish(self) -> Result<Certificate, ReadFault>
         ensures failed { self.failed ≡ true → result ≡ Err Failed }
         ensures exact { self.failed ≡ false → Gives (λ c. c) result (ended self.reading) }

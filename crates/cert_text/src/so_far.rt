@@ -150,7 +150,7 @@ impl SoFar {
         }
     }
 
-    // The certificate, where all lines have come.
+    // The certificate, if all lines have come.
     pub fn build(self) -> Certificate
         ensures { result ≡ certificate_of self }
     {

@@ -8,13 +8,13 @@ use page_ids::MOST_PAGE;
 /// The line that is due.
 #[derive(Debug, Clone, Copy, PartialEq, Eq)]
 pub enum Stage {
-    /// `PBC1`, or `PBC2` where a line of groups comes.
+    /// `PBC1`, or `PBC2` if a line of groups comes.
     Magic,
     /// A word and a number.
     Head(Field),
-    /// The groups, behind the keyings.
+    /// The groups, after the keyings.
     Groups,
-    /// A row, or `end` behind the last.
+    /// A row, or `end` after the last.
     Rows,
     /// None: `end` has come.
     After,
@@ -58,7 +58,7 @@ impl Field {
         }
     }
 
-    // The stage behind its line, in a text with a line of groups or without.
+    // The stage after its line, in a text with a line of groups or without.
     pub fn stage_after(self, grouped: bool) -> Stage
         ensures { result ≡ stage_after self grouped }
     {

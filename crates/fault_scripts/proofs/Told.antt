@@ -36,7 +36,7 @@ frame_of id keys (Missing way to) = refl
 frame_of id keys (Closed way to) = refl
 frame_of id keys NoReturn = refl
 
--- places are one where their frames and turns are
+-- places are one if their frames and turns are
 place_parts : (i j s t : ℕ) → s < 14 → t < 14 → i * 14 + s ≡ j * 14 + t → (i ≡ j) × (s ≡ t)
 place_parts i j s t a b e = (omega (arith, a, b, e), omega (arith, a, b, e))
 

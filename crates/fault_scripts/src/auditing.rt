@@ -45,7 +45,7 @@ fn judged(alloc: Global, base: &Base, policy: &Policy) -> Result<Judge, AllocErr
 }
 
 /// Every fault of a base, for a caller of exactly the policy's groups: in the order of the discovery of the frames, and of
-/// one frame Price, Touches, Missing and Closed by key (`0` to `9`, `#`), NoReturn. Where the entry frame is missing or
+/// one frame Price, Touches, Missing and Closed by key (`0` to `9`, `#`), NoReturn. If the entry frame is missing or
 /// closed that is the one fault.
 pub fn faults(alloc: Global, base: &Base, policy: &Policy) -> Result<FaultList, AllocError>
     ensures { IfOk result (AreFaults base.now policy.now) }

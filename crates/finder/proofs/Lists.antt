@@ -34,7 +34,7 @@ at_within xs j lt = ⊎_elim (λ inside. (inside.0, inside.2)) (λ past. absurd 
 pub all_at : {X : Type 0} (P : X → Type 0) (xs : List X) (j : ℕ) (x : X) → All P xs → slice_get xs j ≡ Some x → P x
 all_at P xs j x all at = subst P (get_or_from_slice_get xs j x x at) (all j x (slice_get_within xs j x at))
 
--- a value stays where another one is changed
+-- a value stays if another one is changed
 pub set_kept : {X : Type 0} (xs : List X) (i j : ℕ) (y d v : X) → get_or xs j d ≡ v → (get_or xs i d ≡ v → ⊥)
     → get_or (set xs i y) j d ≡ v
 set_kept xs i j y d v here not_there = get_or-set_other xs i j y d (λ same. not_there (ap (λ k. get_or xs k d) (sym same) ∙ here)) ∙ here

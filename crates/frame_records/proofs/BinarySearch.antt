@@ -22,7 +22,7 @@ few_asked g c some small = elim (cases_lt c 16) [ inl lt ↦ lt | inr ge ↦ abs
   big : 16 ≤ c → 1 * 2 ^ 16 ≤ g * 2 ^ c
   big ge = mul-le 1 (2 ^ 16) g (2 ^ c) (omega arith) (pow-le-pow_right (omega arith) ge)
 
--- what stands before a Less is Less, and what stands behind a Greater is Greater
+-- what is before a Less is Less, and what is after a Greater is Greater
 pub before_less : (a : Ordering) → MayFollow a Less → a ≡ Less
 before_less Less h = refl
 before_less Equal h = absurd h

@@ -63,7 +63,7 @@ put groups n are fits = record {
   each = All-append IsGroup groups (n ∷ []) are.each (All-cons IsGroup n [] fits.group (All-nil IsGroup));
 }
 
--- what the words behind some groups add to them
+-- what the words after some groups add to them
 record Adds (groups : List ℕ) (words : List (List ℕ)) (all : List ℕ) : Type 0 where
   more : List ℕ
   valid : AreGroups all
@@ -90,7 +90,7 @@ words_found groups (word ∷ words) all are e =
       spelled = ap (λ (w : List ℕ). w ∷ words) is.0 ∙ ap (λ (ws : List (List ℕ)). decimal a.0 ∷ ws) rest.spelled;
     }
 
--- the other way round: the next of a list of groups fits behind those before it
+-- the other way round: the next of a list of groups fits after those before it
 next_fits : (groups : List ℕ) (n : ℕ) (more : List ℕ) → AreGroups (groups ++ n ∷ more) → Fits groups n
 next_fits groups n more are =
     let long = length-append groups (n ∷ more) in

@@ -34,7 +34,7 @@ all_at : {A : Type 0} (P : A → Type 0) (xs : List A) (z : A) → AllByRecursio
 all_at P [] z all h = absurd (omega (arith, h.1))
 all_at P (x ∷ xs) z all h = elim (first_or_later x xs z h) [ inl e ↦ subst P e all.0 | inr later ↦ all_at P xs z all.1 later ]
 
--- behind the first element that two such lists share, one has what the other has
+-- after the first element that two such lists share, one has what the other has
 kept : {A : Type 0} (c : A → A → Ordering) → ((a b : A) → c a b ≡ Less → c b a ≡ Less → ⊥) → (x y : A) (xs ys : List A) (z : A) → x ≡ y → AllByRecursion (λ w. c x w ≡ Less) xs → Contains xs z → Contains (y ∷ ys) z → Contains ys z
 kept c one_way x y xs ys z same up has h = elim (first_or_later y ys z h) [
   | inl e ↦

@@ -17,7 +17,7 @@ use Rattle.std.specs.Option.{option_copied}
 use Rattle.frame_records.specs.BaseView.{lists_page}
 use Rattle.list_words.proofs.Finds.{find_first, find_none}
 
--- what stands before an Equal is Less, and is no Equal
+-- what is before an Equal is Less, and is no Equal
 before_equal : (o : Ordering) → MayFollow o Equal → is_eq o ≡ false
 before_equal Less h = refl
 before_equal Equal h = absurd h
@@ -69,7 +69,7 @@ module _ {A : Type 0} (compare : A → Ordering) (xs : List A) where
   none_is never = find_none (λ (a : A). is_eq (compare a)) xs (λ k d lt. not_equal (compare (get_or xs k d)) (λ e.
       never k (slice_get-map compare xs k ∙ ap (option_map compare) (slice_get-get_or xs k d lt) ∙ ap Some e)))
 
--- where one test passes, some element is found by another that agrees
+-- if one test passes, some element is found by another that agrees
 any_same : {A : Type 0} (p q : A → Bool) → ((a : A) → p a ≡ q a) → (xs : List A) → is_some (find p xs) ≡ list_any q xs
 any_same p q same [] = refl
 any_same p q same (x ∷ xs) = by (p x) (q x) (same x) (any_same p q same xs) where

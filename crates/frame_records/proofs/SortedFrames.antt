@@ -48,7 +48,7 @@ no_two xs n j k d sorted up jk kn kl same =
 id_at : (xs : List Frame) (id : Id) (k : ℕ) (d : Frame) → IsPlace (λ f. id_eq f.id id) xs k → (get_or xs k d).id ≡ id
 id_at xs id k d h = id_eq_same (get_or xs k d).id id (h.passes d)
 
--- where ids ascend none is twice there
+-- if ids ascend none is twice there
 once : (xs : List Frame) (d : Frame) (id : Id) → IsSortedById xs → IsAscending xs → frames_with xs id ≤ 1
 once xs d id sorted up =
     let no : 2 ≤ frames_with xs id → ⊥ = λ two. let p = two_places (λ f. id_eq f.id id) xs two in no_two xs (length xs) p.0 p.1 d sorted up p.2 p.4.within p.4.within (id_at xs id p.0 d p.3 ∙ sym (id_at xs id p.1 d p.4)) in
@@ -141,7 +141,7 @@ page_missing xs page i up h =
       | inr from ↦ greater_page (get_or xs k d).id.page page (p.1 k d from lt)
     ])
 
--- a binary search tells whether a page has a frame
+-- a binary search decides whether a page has a frame
 pub page_found : (xs : List Frame) (page : ℕ) (r : Result ℕ ℕ) → IsAscending xs → IsSearchInRange r (length xs) → IsBinarySearchResult (λ f. nat_cmp f.id.page page) xs r → is_ok r ≡ has_page xs page
 page_found xs page (Ok i) up within h = sym (page_at xs page i within h)
 page_found xs page (Err i) up within h = sym (page_missing xs page i up h)
@@ -158,7 +158,7 @@ named_by : (o : Option Frame) (id : Id) → Some id ≡ option_map (λ f. f.id) 
 named_by None id e = absurd cc
 named_by (Some f) id e = (f, refl, cc)
 
--- the same where the code answers the id alone
+-- the same if the code answers the id alone
 pub least_named : (test : Frame → Bool) (xs : List Frame) (id : Id) → IsSortedById xs → Some id ≡ option_map (λ f. f.id) (find test xs) → IsLeastId test xs id
 least_named test xs id sorted e =
     let n = named_by (find test xs) id e in

@@ -23,6 +23,6 @@ no_frame (f ∷ fs) id h =
     let other : id_eq f.id id ≡ false = rw n.0 refl in
     rw other (no_frame fs id n.1)
 
--- where no outside page has a frame, outside pages and frames are apart
+-- if no outside page has a frame, outside pages and frames are apart
 pub apart_from_none : (base : BaseView) → NoneInside base.outside base.frames → AreApart base
 apart_from_none base none id out = no_frame base.frames id (none id.page (contains_listed base.outside id.page out))

@@ -44,7 +44,7 @@ pages_compared pages page = comparisons (map (λ p. nat_cmp p page) pages)
 abbrev pub lists_outside : BaseView → ℕ → Bool
 lists_outside base page = lists_page base.outside page
 
--- some frame stands on the page
+-- some frame is on the page
 abbrev pub has_page : List Frame → ℕ → Bool
 has_page frames page = list_any (λ f. f.id.page == page) frames
 

@@ -37,7 +37,7 @@ pub record IsLeastInside (outside : List ℕ) (frames : List Frame) (page : ℕ)
   pub inside : has_page frames page ≡ true
   pub least : (other : ℕ) → Contains outside other → has_page frames other ≡ true → page ≤ other
 
--- the refusals in their order: each comes where those before it don't
+-- the refusals in their order: each comes if those before it don't
 abbrev pub IsBuildFault : List ℕ → List Frame → BuildFault → Type 0
 IsBuildFault outside frames TooMany = are_too_many outside frames ≡ true
 IsBuildFault outside frames (BodyTooLong id) = (are_too_many outside frames ≡ false) × IsLeastId is_body_long frames id
@@ -45,7 +45,7 @@ IsBuildFault outside frames (NextAfterZ id) = (are_too_many outside frames ≡ f
 IsBuildFault outside frames (Duplicate id) = (are_too_many outside frames ≡ false) × NoFrame is_body_long frames × NoFrame is_next_after_z frames × IsLeastTwice frames id
 IsBuildFault outside frames (OutsideInside page) = (are_too_many outside frames ≡ false) × NoFrame is_body_long frames × NoFrame is_next_after_z frames × NoneTwice frames × IsLeastInside outside frames page
 
--- the lists sorted where they stand: the same frames, and the same pages, each once
+-- the lists sorted in place: the same frames, and the same pages, each once
 pub record AreSorted (outside pages : List ℕ) (frames sorted : List Frame) : Type 0 where
   pub same_pages : (page : ℕ) → Contains pages page ↔ Contains outside page
   pub pages_ascend : IsStrictlyIncreasing pages

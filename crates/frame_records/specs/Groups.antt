@@ -22,15 +22,15 @@ pub record AreGroups (groups : List ℕ) : Type 0 where
 abbrev pub are_below : List ℕ → ℕ → Bool
 are_below groups group = list_all (λ held. nat_lt held group) groups
 
--- there is room behind these for a greater one
+-- there is room after these for a greater one
 abbrev pub has_room : List ℕ → ℕ → Bool
 has_room groups group = nat_lt (length groups) MOST_GROUPS && are_below groups group
 
--- the list with a number behind it, where it has room for it
+-- the list with a number after it, if it has room for it
 abbrev pub pushed : List ℕ → ℕ → List ℕ
 pushed groups group = if has_room groups group then groups ++ group ∷ [] else groups
 
--- a number behind these groups: no group's number, or a 17th; then one that isn't greater
+-- a number after these groups: no group's number, or a 17th; then one that isn't greater
 abbrev pub numbered : List ℕ → ℕ → Result ℕ GroupFlaw
 numbered groups n =
     if nat_lt 0 n && nat_lt (length groups) MOST_GROUPS
@@ -42,15 +42,15 @@ group_of groups (Ok n) = numbered groups n
 group_of groups (Err NotNumeral) = Err Number
 group_of groups (Err AboveLimit) = Err Range
 
--- the group of a word behind these groups
+-- the group of a word after these groups
 abbrev pub group_in : List ℕ → List ℕ → Result ℕ GroupFlaw
 group_in groups word = group_of groups (number_in MOST_GROUP word)
 
--- the groups with that of a word behind them
+-- the groups with that of a word after them
 abbrev pub added : List ℕ → List ℕ → Result (List ℕ) GroupFlaw
 added groups word = group_in groups word >>= λ group. Ok (groups ++ group ∷ [])
 
--- words in turn, behind these groups
+-- words in turn, after these groups
 abbrev pub words_in : List ℕ → List (List ℕ) → Result (List ℕ) GroupFlaw
 words_in groups [] = Ok groups
 words_in groups (word ∷ words) = added groups word >>= λ more. words_in more words

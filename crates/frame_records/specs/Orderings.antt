@@ -3,7 +3,7 @@ use Rattle.std.specs.Prelude.{ℕ, zero, suc, ◌+◌, ◌-◌, ◌/◌, ◌<◌
 use Rattle.std.specs.declared.cmp.Ordering.{Ordering}
 use Rattle.std.specs.declared.cmp.Ordering.TheVariants.{Less, Equal, Greater}
 
--- b may stand behind a
+-- b may come after a
 abbrev pub MayFollow : Ordering → Ordering → Type 0
 MayFollow Less b = Unit {0}
 MayFollow Equal Less = ⊥

@@ -21,7 +21,7 @@ abbrev pub sought_of : List ℕ → Option Frame → Sought
 sought_of caller None = Missing
 sought_of caller (Some frame) = if is_open caller frame then Found frame.price else Closed
 
--- what seeking an id comes to: found, with the frame's price; closed to the caller; or missing
+-- the result of seeking an id: found, with the frame's price; closed to the caller; or missing
 abbrev pub seek : List ℕ → BaseView → Id → Sought
 seek caller base id = sought_of caller (frame_at base id)
 
@@ -33,6 +33,6 @@ route_of frame digit = if nat_lt digit 10 then slice_index_or frame.routes digit
 abbrev pub entry_of : BaseView → Id
 entry_of base = first_frame base.entry
 
--- what seeking it comes to
+-- the result of seeking it
 abbrev pub seek_entry : List ℕ → BaseView → Sought
 seek_entry caller base = seek caller base (entry_of base)

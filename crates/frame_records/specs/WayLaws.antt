@@ -45,7 +45,7 @@ offered_place f (Route digit) to e =
     (omega (arith, lt), route_at digit lt)
 offered_place f Next to e = (omega arith, refl)
 
--- a way comes to what its frame and the id that it seeks come to
+-- a way leads where its frame and the id that it seeks lead
 pub goes : (caller : List ℕ) (base : BaseView) (f : Id) (frame : Frame) (way : Way) (to : Id) → frame_at base f ≡ Some frame → sought frame way ≡ Some to → destination caller base f way ≡ sought_by base way to (seek caller base to)
 goes caller base f frame way to there offered = ap (destination_by caller base way) there ∙ ap (offered_by caller base way) offered
 

@@ -1,4 +1,4 @@
--- What the ways of a frame seek, and what that comes to. A caller is the list of the closed user groups to which the caller
+-- What the ways of a frame seek, and where they lead. A caller is the list of the closed user groups to which the caller
 -- belongs.
 use Rattle.std.specs.Prelude.{◌≡◌, ◌&&◌, ℕ, List, Option, Some, None, option_map, nat_lt, if◌then◌else◌}
 use Rattle.page_ids.specs.Id.{Id}
@@ -13,7 +13,7 @@ use Rattle.frame_records.specs.declared.ways.Destination.TheVariants.{NotOffered
 use Rattle.frame_records.specs.BaseView.{BaseView, frame_at, lists_outside}
 use Rattle.frame_records.specs.Seek.{seek, route_of}
 
--- `#` seeks the following letter, where `next` is true; none follows `z`, which is 122
+-- `#` seeks the following letter, if `next` is true; none follows `z`, which is 122
 abbrev pub next_sought : Frame → Option Id
 next_sought f = if f.next && nat_lt f.id.letter 122 then Some (following f.id) else None
 
@@ -27,7 +27,7 @@ abbrev pub missing_by : BaseView → Way → Id → Destination
 missing_by base (Route digit) to = if lists_outside base to.page then Outside to.page else Missing to
 missing_by base Next to = Missing to
 
--- a frame that is sought, by what seeking it comes to
+-- a frame that is sought, by the result of seeking it
 abbrev pub sought_by : BaseView → Way → Id → seeking.Sought → Destination
 sought_by base way to (found.Found price) = Found to price
 sought_by base way to found.Closed = Closed to
@@ -38,16 +38,16 @@ abbrev pub offered_by : List ℕ → BaseView → Way → Option Id → Destinat
 offered_by caller base way None = NotOffered
 offered_by caller base way (Some to) = sought_by base way to (seek caller base to)
 
--- what a way of a frame comes to
+-- where a way of a frame leads
 abbrev pub destination_of : List ℕ → BaseView → Frame → Way → Destination
 destination_of caller base f way = offered_by caller base way (sought f way)
 
--- where there is no frame, no way is offered
+-- if there is no frame, no way is offered
 abbrev pub destination_by : List ℕ → BaseView → Way → Option Frame → Destination
 destination_by caller base way None = NotOffered
 destination_by caller base way (Some f) = destination_of caller base f way
 
--- what a way of the frame of an id comes to
+-- where a way of the frame of an id leads
 abbrev pub destination : List ℕ → BaseView → Id → Way → Destination
 destination caller base id way = destination_by caller base way (frame_at base id)
 

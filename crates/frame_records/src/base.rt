@@ -12,7 +12,7 @@ use crate::sorted::{find_among, is_among};
 use page_ids::{FrameId, PageNo};
 use std::marker::Model;
 
-/// What seeking an id comes to, for a caller.
+/// The result of seeking an id, for a caller.
 #[derive(Debug, Clone, Copy, PartialEq, Eq)]
 pub enum Sought {
     /// The base has the frame and it is open to the caller; its price.
@@ -44,7 +44,7 @@ impl Model for Base {
 impl Base {
     /// The base of these frames and outside pages, in any order; an outside page that is listed twice counts once.
     ///
-    /// Takes no memory: both lists are sorted where they stand, and after a refusal they are dropped.
+    /// Takes no memory: both lists are sorted in place, and after a refusal they are dropped.
     pub fn build(
         entry: PageNo,
         mut outside: Vec<PageNo>,
@@ -66,14 +66,14 @@ impl Base {
         }
     }
 
-    /// The frame of an id; `None` where the base lacks it.
+    /// The frame of an id; `None` if the base lacks it.
     pub fn find(&self, id: FrameId) -> Option<&Frame>
         ensures { option_copied result ≡ frame_at self.now id }
     {
         self.find_counted(id).0
     }
 
-    /// The frame of an id, `None` where the base lacks it, and how many frames were compared with it: at most 16. Takes no
+    /// The frame of an id, `None` if the base lacks it, and how many frames were compared with it: at most 16. Takes no
     /// memory.
     pub fn find_counted(&self, id: FrameId) -> (Option<&Frame>, u32)
         ensures value { option_copied result.0 ≡ frame_at self.now id }

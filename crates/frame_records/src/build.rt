@@ -101,7 +101,7 @@ fn outside_inside(outside: &[PageNo], frames: &[Frame]) -> Option<PageNo>
         .find(|page| page_has_frame(frames, *page))
 }
 
-// Sorts both lists where they stand, and keeps each page once.
+// Sorts both lists in place, and keeps each page once.
 pub fn sort(outside: &mut Vec<PageNo>, frames: &mut Vec<Frame>)
     requires { are_too_many outside.old.items frames.old.items ≡ false }
     ensures { AreSorted outside.old.items outside.new.items frames.old.items frames.new.items }

@@ -9,7 +9,7 @@ use std::marker::Model;
 pub enum Lead {
     /// The screen is cleared, and the position is the start of row 1.
     Clear,
-    /// Nothing: the frame is painted over what stands there.
+    /// Nothing: the frame is painted over what is there.
     Keep,
 }
 
@@ -43,7 +43,7 @@ impl Body {
     }
 }
 
-/// A frame as it stands in a base.
+/// A frame as a base holds it.
 #[derive(Debug, Drop)]
 pub struct Frame {
     pub id: FrameId,

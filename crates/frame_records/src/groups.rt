@@ -98,7 +98,7 @@ impl Groups {
         self.numbers.iter().all(|held| *held < group.get())
     }
 
-    // The group of a number, behind these.
+    // The group of a number, after these.
     fn numbered(&self, number: u16) -> Result<GroupNo, GroupFlaw>
         ensures { result ≡ numbered self.now number }
     {
@@ -113,7 +113,7 @@ impl Groups {
         }
     }
 
-    // The group of a word, behind these.
+    // The group of a word, after these.
     fn group_in(&self, word: &[u8]) -> Result<GroupNo, GroupFlaw>
         ensures { result ≡ group_in self.now word.now }
     {
@@ -124,7 +124,7 @@ impl Groups {
         }
     }
 
-    // The group of a word is put behind these.
+    // The group of a word is put after these.
     fn add(&mut self, word: &[u8]) -> Result<(), GroupFlaw>
         ensures { MatchResult result (λ _. added self.old word.now ≡ Ok self.new) (λ e. added self.old word.now ≡ Err e) }
     {
@@ -133,7 +133,7 @@ impl Groups {
         Ok(())
     }
 
-    /// Puts a group behind the others, where they are fewer than 16 and all smaller; else nothing changes.
+    /// Puts a group after the others, if they are fewer than 16 and all smaller; else nothing changes.
     ///
     /// Whether it was put there. Takes no memory.
     pub fn push(&mut self, group: GroupNo) -> bool

@@ -12,8 +12,8 @@
 //! - [`Pence`], [`GroupNo`]: numbers within their limits.
 //! - [`Groups`], [`GroupsFault`], [`GroupFlaw`]: the closed user groups of a caller, and why a text lists none.
 //! - [`Frame`], [`Lead`], [`Body`]: a frame's record.
-//! - [`Base`], [`BuildFault`], [`Sought`]: the base, why two lists make none, and what seeking an id comes to.
-//! - [`Frame::sought`], [`Base::follow`], [`Destination`]: what the ways of a frame seek, and what that comes to.
+//! - [`Base`], [`BuildFault`], [`Sought`]: the base, why two lists make none, and the result of seeking an id.
+//! - [`Frame::sought`], [`Base::follow`], [`Destination`]: what the ways of a frame seek, and where they lead.
 //! - [`binary_search`], [`Entry`]: the binary search of a list in order, with the number of its entries that were compared;
 //!   [`search`], [`Probe`]: the same of whatever can be asked how it compares.
 #![tactic(auto)]

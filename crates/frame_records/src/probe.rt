@@ -36,7 +36,7 @@ pub trait Probe {
 
 /// The index of the entry that is equal to what is wanted, by binary search: at most 16 comparisons. Takes no memory.
 ///
-/// The entries stand in order: those that are less, then at most one that is equal, then those that are greater.
+/// The entries are in order: those that are less, then at most one that is equal, then those that are greater.
 pub fn search<P: Probe>(probe: &mut P) -> Option<usize>
     requires fresh { P.count probe.old ≡ 0 }
     requires few { length (P.orderings probe.old) ≤ MOST_LISTED }

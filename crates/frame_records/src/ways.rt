@@ -1,4 +1,4 @@
-//! The ways on from a frame: what each seeks, and what that comes to.
+//! The ways on from a frame: what each seeks, and where it leads.
 
 ghost use Rattle.std.specs.Prelude.{◌≡◌};
 ghost use Rattle.frame_records.specs.Ways.{next_sought, sought, missing_by, destination_of};
@@ -9,7 +9,7 @@ use crate::groups::Groups;
 use crate::numbers::Pence;
 use page_ids::{FrameId, PageNo, Way};
 
-/// What a way of a frame comes to, for a caller.
+/// Where a way of a frame leads, for a caller.
 #[derive(Debug, Clone, Copy, PartialEq, Eq)]
 pub enum Destination {
     /// The frame doesn't offer the way.
@@ -25,14 +25,14 @@ pub enum Destination {
 }
 
 impl Frame {
-    // The frame of the following letter, where `next` offers it.
+    // The frame of the following letter, if `next` offers it.
     fn following(&self) -> Option<FrameId>
         ensures { result ≡ next_sought self.now }
     {
         if self.next { self.id.following() } else { None }
     }
 
-    /// The frame that a way seeks, where the frame offers it: a route its page's frame `a`, `#` that of the following
+    /// The frame that a way seeks, if the frame offers it: a route its page's frame `a`, `#` that of the following
     /// letter.
     pub fn sought(&self, way: Way) -> Option<FrameId>
         ensures { result ≡ sought self.now way }
@@ -55,7 +55,7 @@ impl Base {
         }
     }
 
-    /// What a way of a frame comes to, for a caller of these groups.
+    /// Where a way of a frame leads, for a caller of these groups.
     pub fn follow(&self, frame: &Frame, way: Way, groups: &Groups) -> Destination
         ensures { result ≡ destination_of groups.now self.now frame.now way }
     {

@@ -32,7 +32,7 @@ none_by : {A : Type 0} (test : A → Bool) (b : Bool) (y : A) (ys : List A) → 
 none_by test true y ys is e rest = absurd cc
 none_by test false y ys is e rest = before_more test y ys (length ys) is (rest e)
 
--- where nothing is found, each element fails the test
+-- if nothing is found, each element fails the test
 pub none_found : {A : Type 0} (test : A → Bool) (xs : List A) → find test xs ≡ None → (k : ℕ) (d : A) → k < length xs → test (get_or xs k d) ≡ false
 none_found test [] e k d lt = absurd (omega arith)
 none_found test (y ∷ ys) e k d lt = none_by test (test y) y ys refl e (none_found test ys) k d (omega arith)
@@ -45,7 +45,7 @@ find_first test (y ∷ ys) (suc i) x lt at is before =
     let fails : test y ≡ false = before 0 (omega arith) in
     rw fails (find_first test ys i x (omega arith) at is (λ k l. before (suc k) (omega arith)))
 
--- where each element fails, nothing is found
+-- if each element fails, nothing is found
 pub find_none : {A : Type 0} (test : A → Bool) (xs : List A) → ((k : ℕ) (d : A) → k < length xs → test (get_or xs k d) ≡ false) → find test xs ≡ None
 find_none test [] all = refl
 find_none test (y ∷ ys) all =
@@ -111,6 +111,6 @@ none_from : {A : Type 0} (p : A → Bool) (xs : List A) (i k : ℕ) (d : A) → 
 none_from p [] i k d h lt = absurd (omega arith)
 none_from p (x ∷ xs) i k d h lt = none_by_test p x xs i d (λ j e l. none_from p xs (i + 1) j d e l) (p x) refl h k lt
 
--- where no place is found, none passes
+-- if no place is found, none passes
 pub none_passes : {A : Type 0} (p : A → Bool) (xs : List A) (k : ℕ) (d : A) → position p xs ≡ None → k < length xs → p (get_or xs k d) ≡ false
 none_passes p xs k d h lt = none_from p xs 0 k d (sym (position_from-zero p xs) ∙ h) lt

@@ -1,4 +1,4 @@
--- What a sort, a search or a test by a key says, where the closure computes the key n.
+-- What a sort, a search or a test by a key says, if the closure computes the key n.
 use Rattle.std.proofs.Common.{◌≡◌}
 use Rattle.std.specs.Fn.{Called, ComputesKey}
 use Rattle.std.proofs.lemmas.Fn.{always_returns_same}

@@ -19,7 +19,7 @@ split_at_end text k len =
     let nothing : drop (k + 1) text ≡ [] = nil_from_length (drop (k + 1) text) (omega (arith, length-drop (k + 1) text)) in
     sym (take-append-drop k text) ∙ ap (λ (r : List ℕ). take k text ++ r) (at_place ∙ ap (λ (r : List ℕ). get_or text k 0 ∷ r) nothing)
 
--- a text is what stands before its last byte, and that byte
+-- a text is all but its last byte, and that byte
 pub split_end : (text : List ℕ) → 0 < length text → text ≡ take (length text - 1) text ++ get_or text (length text - 1) 0 ∷ []
 split_end text some = split_at_end text (length text - 1) (omega arith)
 

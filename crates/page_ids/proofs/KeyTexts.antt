@@ -178,7 +178,7 @@ unreadable text at keys lt h none = record {
   longest = λ m le r. let no : at < m → ⊥ = λ large. longer text at m keys r.0 large le h none r.1 r.2 in omega arith;
 }
 
--- the text of keys is read as these, want of memory aside
+-- the text of keys is read as these, unless memory is refused
 pub read_again : (keys : List Key) (read : Result (List Key) IdFault) → AreKeys keys → IsRead (keys_text keys) read → (read ≡ Ok keys) ⊎ (read ≡ Err Memory)
 read_again keys (Ok others) are h = let same = one_list others keys h.0 are (sym h.1) in inl (ap (λ (k : List Key). Ok k) same)
 read_again keys (Err BadPage) are h = absurd h

@@ -14,7 +14,7 @@ key_word Prev = 42 ∷ 35 ∷ []
 key_word Reprint = 42 ∷ 48 ∷ 48 ∷ []
 key_word Update = 42 ∷ 48 ∷ 57 ∷ []
 
--- the words, one behind the other
+-- the words, one after the other
 abbrev pub keys_text : List Key → List ℕ
 keys_text [] = []
 keys_text (key ∷ keys) = key_word key ++ keys_text keys
@@ -30,7 +30,7 @@ IsKey Update = Unit {0}
 abbrev pub AreKeys : List Key → Type 0
 AreKeys keys = AllByRecursion IsKey keys
 
--- the key of the bytes behind `*0`, of those behind `*`, and of any
+-- the key of the bytes after `*0`, of those after `*`, and of any
 abbrev pub key_behind_zero : List ℕ → Option Key
 key_behind_zero [] = None
 key_behind_zero (c ∷ cs) = if c == 48 then Some Reprint else if c == 57 then Some Update else None
@@ -56,7 +56,7 @@ pub record IsUnreadableAt (text : List ℕ) (n : ℕ) : Type 0 where
   pub readable : IsReadable text n
   pub longest : (m : ℕ) → m ≤ length text → IsReadable text m → m ≤ n
 
--- the one list whose words the text is, or where it can't be read; memory may be refused
+-- the one list whose words the text is, or that it can't be read; memory may be refused
 abbrev pub IsReadFault : List ℕ → IdFault → Type 0
 IsReadFault text BadPage = ⊥
 IsReadFault text BadFrame = ⊥

@@ -11,11 +11,11 @@ use Rattle.page_ids.specs.Ways.{way_at, way_place, ways}
 pub ways_length : length ways ≡ 11
 ways_length = length-map-range_with_len way_at 0 11
 
--- each stands at its place
+-- each is at its place
 pub ways_at : (n : ℕ) (d : Way) → n < 11 → get_or ways n d ≡ way_at n
 ways_at n d lt = get_or-map-range_with_len way_at 0 11 n n d lt (omega arith)
 
--- a place is that of the way which stands there
+-- a place is that of the way at it
 pub place_at : (n : ℕ) → n < 11 → way_place (way_at n) ≡ n
 place_at n lt = by (nat_lt n 10) refl where
   by : (b : Bool) → nat_lt n 10 ≡ b → way_place (cond b (Route n) Next) ≡ n

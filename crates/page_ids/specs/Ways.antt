@@ -6,11 +6,11 @@ use Rattle.page_ids.specs.declared.key.Key.TheVariants as key
 use Rattle.page_ids.specs.declared.way.Way.{Way}
 use Rattle.page_ids.specs.declared.way.Way.TheVariants.{Route, Next}
 
--- the way at a place: the digits' routes stand at 0 to 9, `#` at 10
+-- the way at a place: the digits' routes are at 0 to 9, `#` at 10
 abbrev pub way_at : ℕ → Way
 way_at n = if nat_lt n 10 then Route n else Next
 
--- where a way stands
+-- the place of a way
 abbrev pub way_place : Way → ℕ
 way_place (Route digit) = digit
 way_place Next = 10

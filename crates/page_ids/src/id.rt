@@ -44,7 +44,7 @@ impl FrameId {
         }
     }
 
-    /// The same from bytes, for readers that have no text; `None` where `read` refuses.
+    /// The same from bytes, for readers that have no text; `None` if `read` refuses.
     pub fn read_bytes(bytes: &[u8]) -> Option<FrameId>
         ensures { result ≡ id_in bytes.now }
     {
@@ -74,7 +74,7 @@ impl FrameId {
         }
     }
 
-    /// The id of the frame that follows on the same page; `None` behind `z`.
+    /// The id of the frame that follows on the same page; `None` after `z`.
     pub fn following(self) -> Option<FrameId>
         ensures { SomeIff result (self.letter < 122) (following self) }
     {

@@ -35,7 +35,7 @@ fn word_len(key: &Key) -> usize
     }
 }
 
-/// The keys whose words, one behind the other, are the text; the empty text is the empty list.
+/// The keys whose words, one after the other, are the text; the empty text is the empty list.
 ///
 /// I3, `BadKey`, carries the byte offset at which the first word that can't be read begins: the length of the longest
 /// beginning of the text that is made of words.
@@ -55,7 +55,7 @@ pub fn keys_read(alloc: Global, text: &str) -> Result<KeyList, IdFault>
     Ok(KeyList::of(keys))
 }
 
-/// Writes a key's word behind a text. Where a growth is refused nothing was written.
+/// Writes a key's word after a text. If a growth is refused, nothing was written.
 pub fn push_key(text: &mut Vec<u8>, key: Key) -> Result<(), AllocError>
     ensures { MatchResult result (λ _. text.new.items ≡ text.old.items ++ key_word key) (λ _. text.new.items ≡ text.old.items) }
 {
@@ -83,7 +83,7 @@ pub fn push_keys(text: &mut Vec<u8>, keys: &[Key]) -> Result<(), AllocError>
     Ok(())
 }
 
-/// The words of the keys, one behind the other. `keys_read` gives the keys back.
+/// The words of the keys, one after the other. `keys_read` gives the keys back.
 pub fn keys_text(alloc: Global, keys: &KeyList) -> Result<Vec<u8>, AllocError>
     ensures text { IfOk result (λ text. text.items ≡ keys_text keys.now) }
     ensures read_again { IfOk result (λ text. IsRead text.items (Ok keys.now)) }

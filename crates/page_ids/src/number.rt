@@ -72,7 +72,7 @@ pub fn number_read(bytes: &[u8], most: u32) -> Result<u32, NumberFault>
     Ok(number)
 }
 
-/// Writes a number behind a text, in decimal. Where a growth is refused nothing was written.
+/// Writes a number after a text, in decimal. If a growth is refused, nothing was written.
 pub fn push_number(text: &mut Vec<u8>, number: u64) -> Result<(), AllocError>
     ensures { MatchResult result (λ _. text.new.items ≡ text.old.items ++ decimal number) (λ _. text.new.items ≡ text.old.items) }
 {

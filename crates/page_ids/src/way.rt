@@ -16,7 +16,7 @@ impl Way {
     /// How many ways there are.
     pub const COUNT: u8 = 11;
 
-    /// The way at a place in their order, from 0: a digit's route stands at the digit, and `#` at 10 and at each greater
+    /// The way at a place in their order, from 0: a digit's route is at the digit, and `#` at 10 and at each greater
     /// place.
     pub fn at(place: u8) -> Way
         ensures { result ≡ way_at place }

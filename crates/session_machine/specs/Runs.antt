@@ -26,7 +26,7 @@ replies_to caller base state (key ∷ keys) = (key_step caller base state key).1
 abbrev pub replies_of : List ℕ → BaseView → List Key → ℕ → List Reply
 replies_of caller base keys price = opening_reply base price ∷ replies_to caller base (opening base) keys
 
--- a whole session by what seeking the entry frame came to: its replies, or why it isn't opened
+-- a whole session by the result of seeking the entry frame: its replies, or why it isn't opened
 abbrev pub session_by : List ℕ → BaseView → List Key → Sought → Result (List Reply) OpenFault
 session_by caller base keys (sought.Found price) = Ok (replies_of caller base keys price)
 session_by caller base keys sought.Closed = Err EntryClosed

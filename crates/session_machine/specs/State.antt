@@ -12,7 +12,7 @@ pub record SessionView : Type 0 where
   pub groups : List ℕ
   pub state : SessionState
 
--- the present frame; none where the caller left
+-- the present frame; none if the caller left
 abbrev pub present : SessionState → Option Id
 present (At id remembered) = Some id
 present (Left page) = None
@@ -22,7 +22,7 @@ abbrev pub left_for : SessionState → Option ℕ
 left_for (At id remembered) = None
 left_for (Left page) = Some page
 
--- the remembered frames, the latest first; none where the caller left
+-- the remembered frames, the latest first; none if the caller left
 abbrev pub remembered_of : SessionState → List Id
 remembered_of (At id remembered) = remembered
 remembered_of (Left page) = []

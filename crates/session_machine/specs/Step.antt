@@ -68,11 +68,11 @@ by_update id remembered (sought.Found price) = (At id remembered, Shown id price
 by_update id remembered sought.Closed = (At id remembered, Closed id)
 by_update id remembered sought.Missing = (At id remembered, Missing id)
 
--- a way of the present frame; where the base has no such record none is offered
+-- a way of the present frame; if the base has no such record none is offered
 abbrev pub way_step : List ℕ → BaseView → Id → List Id → Way → Outcome
 way_step caller base id remembered way = by_way id remembered (destination caller base id way)
 
--- `*#`: not offered where nothing is remembered
+-- `*#`: not offered if nothing is remembered
 abbrev pub prev_step : List ℕ → BaseView → Id → List Id → Outcome
 prev_step caller base id [] = not_offered (At id [])
 prev_step caller base id (latest ∷ older) = by_prev id latest older (seek caller base latest)

@@ -6,7 +6,7 @@ pub fn runs_in_turn()
 {}
 
 /// Of every two lists of parts, each a base and the keys that are pressed while it is served: in turn they answer and lead as
-/// their concatenation does; where both bases are the same, as the keys of both do.
+/// their concatenation does; if both bases are the same, as the keys of both do.
 pub fn parts_in_turn()
     ensures { PartsInTurn }
 {}

@@ -95,7 +95,7 @@ impl Session {
         }
     }
 
-    /// The present frame; `None` where the caller left.
+    /// The present frame; `None` if the caller left.
     pub fn at(&self) -> Option<FrameId>
         ensures { result ≡ present self.now.state }
     {
@@ -115,7 +115,7 @@ impl Session {
         }
     }
 
-    /// How many frames are remembered, 0 to 3; none where the caller left.
+    /// How many frames are remembered, 0 to 3; none if the caller left.
     pub fn remembered(&self) -> usize
         ensures { result ≡ length (remembered_of self.now.state) }
     {

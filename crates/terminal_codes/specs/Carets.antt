@@ -1,4 +1,4 @@
--- Where a terminal stands: its position and pending escape, without its cells.
+-- Where a terminal is: its position and pending escape, without its cells.
 use Rattle.terminal_codes.specs.declared.caret.Caret.{Caret}
 use Rattle.terminal_codes.specs.Screen.{Screen}
 

@@ -1,4 +1,4 @@
--- Where a terminal stands once a body was sent after its lead. Some terminal is enough.
+-- Where a terminal is once a body was sent after its lead. Some terminal is enough.
 use Rattle.std.specs.Prelude.{◌≡◌, ℕ, Bool, List, ◌++◌}
 use Rattle.frame_records.specs.declared.frame.Lead.{Lead}
 use Rattle.terminal_codes.specs.Screen.{Screen, IsScreen}

@@ -68,7 +68,7 @@ in_row_22 position = nat_le 880 position && nat_lt position 920
 abbrev pub is_double_height : ℕ → Bool
 is_double_height code = code == 141
 
--- a code at a position counts as written in a service row where it stands in one, or where its lower half shows in one:
+-- a code at a position counts as written in a service row if it is in one, or if its lower half shows in one:
 -- then the position is a service position for the code
 abbrev pub is_service : ℕ → ℕ → Bool
 is_service position code = in_service_row position || (is_double_height code && in_row_22 position)

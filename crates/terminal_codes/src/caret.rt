@@ -1,4 +1,4 @@
-//! Where a terminal stands.
+//! Where a terminal is.
 
 ghost use Rattle.std.specs.Prelude.{◌≡◌, ◌<◌};
 ghost use Rattle.terminal_codes.specs.ByteTable.{moved};
@@ -7,7 +7,7 @@ ghost use Rattle.terminal_codes.specs.Writes.{caret_step, caret_run, touches};
 use crate::table::{code_written, is_service_position, moved_by};
 use std::marker::Model;
 
-/// Where a terminal stands, without its cells. Whoever writes one shows that its position is on the screen.
+/// Where a terminal is, without its cells. Whoever writes one shows that its position is on the screen.
 #[derive(Debug, Clone, Copy, PartialEq, Eq)]
 pub struct Caret {
     /// The position, 0 to 959.

@@ -1,6 +1,6 @@
 //! The terminal of a viewdata service: 24 rows of 40 cells, written byte by byte.
 //!
-//! `Terminal` keeps the cells. A `Caret` is where one stands, its position and pending escape, without cells: what
+//! `Terminal` keeps the cells. A `Caret` is where one is, its position and pending escape, without cells: what
 //! bytes write, and where they end, depends on the caret alone. So 1,920 carets stand for all terminals, whatever they
 //! show.
 //!
