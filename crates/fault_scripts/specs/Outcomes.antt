@@ -58,3 +58,10 @@ DecidesSafety base policy (Faulty faults) = Safe policy.groups base policy.ceili
 abbrev pub AreShown : BaseView → Policy → Outcome → Type 0
 AreShown base policy (Certified cert) = Unit {0}
 AreShown base policy (Faulty faults) = (fault : Fault) → Contains faults fault → Shows base policy fault
+
+-- an outcome that an audit may have: a certificate that the check clears, of a base that is safe for the policy's groups; or
+-- all faults of a base that isn't, each shown by its script
+pub record IsOutcomeOf (base : BaseView) (policy : Policy) (outcome : Outcome) : Type 0 where
+  pub is : IsOutcome base policy outcome
+  pub safety : DecidesSafety base policy outcome
+  pub shown : AreShown base policy outcome

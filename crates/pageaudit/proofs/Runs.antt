@@ -4,6 +4,7 @@ use Rattle.frame_records.specs.BaseView.{BaseView}
 use Rattle.checker.specs.declared.policy.Policy.{Policy}
 use Rattle.fault_scripts.specs.declared.outcome.Outcome.{Outcome}
 use Rattle.fault_scripts.specs.declared.outcome.Outcome.TheVariants.{Certified, Faulty}
+use Rattle.fault_scripts.specs.Outcomes.{IsOutcomeOf}
 use Rattle.audit_report.specs.declared.run_fault.RunFault.{RunFault}
 use Rattle.audit_report.specs.declared.run_fault.RunFault.TheVariants as run
 use Rattle.audit_report.specs.ReportLines.{report_text}
@@ -11,7 +12,7 @@ use Rattle.pageaudit.specs.declared.status.Status.{Status}
 use Rattle.pageaudit.specs.Device.{Device, IsUntouched, IsTextWritten}
 use Rattle.pageaudit.specs.Files.{IsBaseOfFile}
 use Rattle.pageaudit.proofs.Within.{base_within}
-use Rattle.pageaudit.specs.AuditRun.{IsOutcomeOf, IsAuditRun, IsSplitWritten, IsAuditIntoRun, status_of_outcome}
+use Rattle.pageaudit.specs.AuditRun.{IsAuditRun, IsSplitWritten, IsAuditIntoRun, status_of_outcome}
 
 module _ (base_file out : Device) (base : BaseView) (policy : Policy) (outcome : Outcome) (read : IsBaseOfFile base_file base) (is : IsOutcomeOf base policy outcome) where
   -- an audit that read its base, by its answer

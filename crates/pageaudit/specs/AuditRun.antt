@@ -4,7 +4,7 @@ use Rattle.frame_records.specs.BaseView.{BaseView}
 use Rattle.checker.specs.declared.policy.Policy.{Policy}
 use Rattle.fault_scripts.specs.declared.outcome.Outcome.{Outcome}
 use Rattle.fault_scripts.specs.declared.outcome.Outcome.TheVariants.{Certified, Faulty}
-use Rattle.fault_scripts.specs.Outcomes.{IsOutcome, DecidesSafety, AreShown}
+use Rattle.fault_scripts.specs.Outcomes.{IsOutcomeOf}
 use Rattle.audit_report.specs.declared.run_fault.RunFault.{RunFault}
 use Rattle.audit_report.specs.declared.run_fault.RunFault.TheVariants as run
 use Rattle.audit_report.specs.ReportLines.{report_text}
@@ -17,13 +17,6 @@ use Rattle.pageaudit.specs.Files.{base_limit, IsBaseOfFile, IsBaseTextFault, IsB
 abbrev pub status_of_outcome : Outcome → Status
 status_of_outcome (Certified cert) = status.Clear
 status_of_outcome (Faulty faults) = status.Faulty
-
--- an outcome that an audit may have: a certificate that the check clears, of a base that is safe for the policy's groups; or
--- all faults of a base that isn't, each shown by its script
-pub record IsOutcomeOf (base : BaseView) (policy : Policy) (outcome : Outcome) : Type 0 where
-  pub is : IsOutcome base policy outcome
-  pub safety : DecidesSafety base policy outcome
-  pub shown : AreShown base policy outcome
 
 -- the base's file was read to its end and is right; the report of its outcome was written, and the answer is its status, or
 -- a write fault with the number of bytes written

@@ -3,13 +3,12 @@ use Rattle.std.specs.Prelude.{◌≡◌, ◌⊎◌, ℕ, List}
 use Rattle.frame_records.specs.BaseView.{BaseView}
 use Rattle.base_text.specs.Whole.{IsTextBase}
 use Rattle.checker.specs.declared.policy.Policy.{Policy}
-use Rattle.checker.specs.declared.bytes.InputFault.{InputFault}
 use Rattle.checker.specs.declared.bytes.InputFault.TheVariants as input
 use Rattle.checker.specs.Headline.{IsBaseRefused}
 use Rattle.base_text.specs.declared.fault.BaseFault.{BaseFault}
 use Rattle.fault_scripts.specs.declared.outcome.Outcome.{Outcome}
 use Rattle.fault_scripts.specs.declared.outcome.Outcome.TheVariants.{Certified, Faulty}
-use Rattle.fault_scripts.specs.Outcomes.{IsOutcome, DecidesSafety, AreShown}
+use Rattle.fault_scripts.specs.Outcomes.{IsOutcomeOf}
 use Rattle.audit_report.specs.ReportLines.{report_text}
 use Rattle.pageaudit_c.specs.declared.status.Status.{Status}
 use Rattle.pageaudit_c.specs.declared.status.Status.TheVariants as status
@@ -19,13 +18,6 @@ use Rattle.pageaudit_c.specs.Answers.{IsOutOfMemory, IsFaultAnswer}
 abbrev pub status_of_outcome : Outcome → Status
 status_of_outcome (Certified cert) = status.Clear
 status_of_outcome (Faulty faults) = status.Faulty
-
--- an outcome that an audit may have: a certificate that the check clears, of a base that is safe for the policy's groups; or
--- all faults of a base that isn't, each shown by its script
-pub record IsOutcomeOf (base : BaseView) (policy : Policy) (outcome : Outcome) : Type 0 where
-  pub is : IsOutcome base policy outcome
-  pub safety : DecidesSafety base policy outcome
-  pub shown : AreShown base policy outcome
 
 -- the text is that of a base, and its outcome was reported
 pub record IsReported (base_text : List ℕ) (policy : Policy) (due : Status) (text : List ℕ) : Type 0 where

@@ -1,5 +1,5 @@
 -- The answer of the check of a change.
-use Rattle.std.specs.Prelude.{◌≡◌, ◌⊎◌, ℕ, List}
+use Rattle.std.specs.Prelude.{◌⊎◌, ℕ, List}
 use Rattle.frame_records.specs.BaseView.{BaseView}
 use Rattle.base_text.specs.Whole.{IsTextBase}
 use Rattle.cert_table.specs.CertView.{CertView}
@@ -14,7 +14,7 @@ use Rattle.checker.specs.Headline.{IsInputFault}
 use Rattle.audit_report.specs.Lines.{change_text}
 use Rattle.pageaudit_c.specs.declared.status.Status.{Status}
 use Rattle.pageaudit_c.specs.declared.status.Status.TheVariants.{Clear, Faulty}
-use Rattle.pageaudit_c.specs.Answers.{IsAnswer, IsOutOfMemory, IsFaultAnswer, IsNewFaultAnswer}
+use Rattle.pageaudit_c.specs.Answers.{IsAnswer, IsFaultAnswer, IsNewFaultAnswer}
 
 -- the texts of an edition
 pub record EditionTexts : Type 0 where

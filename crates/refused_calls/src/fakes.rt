@@ -39,9 +39,14 @@ impl File {
 // How much of an output is at most asked to be taken.
 const MOST_TAKEN: usize = 10_000;
 
+/// Two outputs of a word.
+pub fn outputs(alloc: Global, word: &str) -> Option<(FakeSink, FakeSink)> {
+    Some((output(alloc, word)?, output(alloc, word)?))
+}
+
 /// An output with the memory that it will need: `whole` takes all, `unflushed` too and fails to send it on, `full/K` fails after
 /// K bytes, `stalling/K` takes none after K bytes.
-pub fn output(alloc: Global, word: &str) -> Option<FakeSink> {
+fn output(alloc: Global, word: &str) -> Option<FakeSink> {
     let (name, room) = word.split_once('/').unwrap_or((word, "0"));
     let room = room.parse::<usize>().ok()?;
     let mut output = match name {

@@ -1,6 +1,6 @@
 //! The runs, on files and an output that can fail.
 
-use crate::fakes::{File, output};
+use crate::fakes::{File, outputs};
 use crate::lines;
 use crate::tried::{again, begin, end, show};
 use crate::words::Words;
@@ -11,17 +11,17 @@ use pageaudit::{MapStatus, Status, View};
 /// Makes a run into an output that a word names, as `tried` makes a call.
 macro_rules! ran {
     ($rt:expr, $word:expr, |$out:ident| $run:expr) => {{
-        let mut first = output($rt.alloc(), $word)?;
-        let mut second = output($rt.alloc(), $word)?;
-        begin($rt)?;
+        let (mut first, mut second) = outputs($rt.alloc(), $word)?;
+        begin($rt);
         let $out = &mut IntoWrite::new(&mut first);
         let run = $run;
-        end($rt)?;
-        show($rt, lines::of_run($rt.alloc(), run, first.taken.as_slice()))?;
-        again($rt)?;
+        end($rt);
+        show($rt, lines::of_run($rt.alloc(), run, first.taken.as_slice()));
+        again($rt);
         let $out = &mut IntoWrite::new(&mut second);
         let run = $run;
-        show($rt, lines::of_run($rt.alloc(), run, second.taken.as_slice()))
+        show($rt, lines::of_run($rt.alloc(), run, second.taken.as_slice()));
+        Some(())
     }};
 }
 

@@ -55,16 +55,25 @@ fn measure_text(rt: &HostRuntime, shape: Shape, text: &[u8], policy: &Policy) ->
     tell(rt, shape.name(), &figures)
 }
 
-// What a list takes beside an audit.
-fn measure_list(rt: &HostRuntime, shape: Shape, text: &[u8], policy: &Policy) -> Result<()> {
-    let works = [Work::Audit(text, policy), Work::List(text, &policy.groups)];
-    let [audit, list] = &works;
+// What a list and a map take beside an audit.
+fn measure_views(rt: &HostRuntime, shape: Shape, text: &[u8], policy: &Policy) -> Result<()> {
+    let groups = &policy.groups;
+    let works = [
+        Work::Audit(text, policy),
+        Work::List(text, groups),
+        Work::Map(text, groups),
+    ];
+    let [audit, list, map] = &works;
     let audit_peak = peak_of(rt, audit)?;
     let list_peak = peak_of(rt, list)?;
-    let [audit, list] = least_times::<2>(rt, RUNS, &works)?;
+    let map_peak = peak_of(rt, map)?;
+    let [audit, list, map] = least_times::<3>(rt, RUNS, &works)?;
+    let of_memory = "percent of its memory";
     let figures = [
         Figure::share("list", list, audit, OF_AUDIT),
-        Figure::percent("list", list_peak, audit_peak, "percent of its memory"),
+        Figure::percent("list", list_peak, audit_peak, of_memory),
+        Figure::share("map", map, audit, OF_AUDIT),
+        Figure::percent("map", map_peak, audit_peak, of_memory),
     ];
     tell(rt, shape.name(), &figures)
 }
@@ -75,11 +84,11 @@ fn measure_shape(rt: &HostRuntime, shape: Shape, size: Size) -> Result<()> {
     };
     let text = shape.text_of(rt.alloc(), size, Mark::None)?;
     measure_text(rt, shape, text.as_slice(), &policy)?;
-    // The scripts of a chain have two thousand million keys together.
+    // The scripts of the chain in a list have two thousand million keys together.
     if shape == Shape::Chain {
         return Ok(());
     }
-    measure_list(rt, shape, text.as_slice(), &policy)
+    measure_views(rt, shape, text.as_slice(), &policy)
 }
 
 // Finding a row that is too long in each of many frames of a tree, against the audit of the tree without them.

@@ -3,6 +3,7 @@
 use crate::shape::Mark;
 use audit_report::{FromRead, read_whole, report};
 use base_list::list;
+use base_map::{View, map_view};
 use base_text::{MOST_TEXT, base_read};
 use cert_table::Certificate;
 use cert_text::CertReader;
@@ -79,6 +80,12 @@ pub fn listing(alloc: Global, text: &[u8], groups: &Groups) -> Option<Vec<u8>> {
     } else {
         None
     }
+}
+
+/// The map of a text's base.
+pub fn drawing(alloc: Global, text: &[u8], groups: &Groups) -> Option<Vec<u8>> {
+    let base = whole_base(alloc, text)?;
+    map_view(alloc, &base, groups, &View::Whole).ok()?
 }
 
 /// The certificate that the audit of a text finds.

@@ -1,10 +1,11 @@
 //! How long audits, checks, walks and changes of safe base texts take, against `toml` alone on the base's text.
 //!
-//! `run_bench audit` measures reading, auditing and lint in four shapes, listing in all but the chain, lint of many rows that
-//! are too long, and the faults of a long chain; `run_bench check` checks, walks and changes in these shapes, the time of a check for each row of an eighth of
-//! the frames and of all, and checks and audits for a caller of 16 groups. After either word `full` measures bases of full
-//! size, else a sixteenth. Without any word both measure a sixteenth, to show in seconds that each result is right. The figures
-//! go to standard error, of the least processor times of some runs in turns; `ok` is printed if each result was right.
+//! `run_bench audit` measures reading, auditing and lint in four shapes, a list and a map in all but the chain, lint of many
+//! rows that are too long, and the faults of a long chain. `run_bench check` measures checks, walks and changes in these
+//! shapes, the time of a check for each row of an eighth of the frames and of all, and checks and audits for a caller of 16
+//! groups. After either word `full` measures bases of full size, else a sixteenth. Without any word both measure a sixteenth, to
+//! show in seconds that each result is right. The figures go to standard error, of the least processor times of some runs in
+//! turns; `ok` is printed if each result was right.
 #![tactic(auto)]
 
 mod auditing;

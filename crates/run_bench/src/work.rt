@@ -1,6 +1,6 @@
 //! What is measured, and how long it takes.
 
-use crate::edition::{Edition, certificate, listing, read_base};
+use crate::edition::{Edition, certificate, drawing, listing, read_base};
 use anyhow::{Result, bail};
 use base_text::base_read;
 use checker::Policy;
@@ -24,6 +24,8 @@ pub enum Work<'a> {
     Lint(&'a [u8], &'a Policy, usize),
     /// The base of a text is read, and the list of its frames is written for a caller of these groups.
     List(&'a [u8], &'a Groups),
+    /// The base of a text is read, and its map is drawn for a caller of these groups.
+    Map(&'a [u8], &'a Groups),
     /// Both texts are read and checked.
     Check(&'a Edition),
     /// Twice both texts are read, and the change between these editions is checked.
@@ -43,6 +45,7 @@ impl Work<'_> {
                 Err(_) => false,
             },
             Work::List(text, groups) => listing(alloc, text, groups).is_some(),
+            Work::Map(text, groups) => drawing(alloc, text, groups).is_some(),
             Work::Check(edition) => edition.count(alloc).is_some(),
             Work::Change(edition) => edition.clears_change(alloc),
         }

@@ -1,4 +1,4 @@
-use Rattle.pageaudit.specs.AuditRun.{IsOutcomeOf}
+use Rattle.fault_scripts.specs.Outcomes.{IsOutcomeOf}
 use Rattle.pageaudit.proofs.Runs.{report_run}
 use Rattle.pageaudit.proofs.audit_run.run_audit.Goals as goal
 
