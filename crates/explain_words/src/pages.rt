@@ -1626,7 +1626,8 @@ They print:
 
     base:7:1: warning: UNREACHED: no key leads to frame 2a from the entry page
 
-Fix: add a route or 'next = true' that leads to the frame, or remove it.
+Fix: add a route or 'next = true' that leads to the frame, or remove it. If the
+edition that is served covers it, 'change' reports E2.
 
 FRAME
 
