@@ -27,37 +27,14 @@ fn entry_fault(alloc: Global, base: &Base, kind: FaultKind) -> Result<FaultList,
     Ok(FaultList::of(faults))
 }
 
-// What every base keeps, by its type: nothing is computed.
-fn keeps_limits(base: &Base)
-    ensures { IsBase base.now }
-{
-    base.frames();
-}
-
 // All discovered frames, judged.
 fn judged(alloc: Global, base: &Base, policy: &Policy) -> Result<Judge, AllocError>
+    requires { IsBase base.now }
     ensures { IfOk result (IsWhole base.now policy.now) }
 {
-    keeps_limits(base);
     let survey = Survey::of(alloc, base, &policy.groups)?;
     let judge = judge_all(alloc, &survey, policy)?;
     Ok(judge)
-}
-
-/// Every fault of a base, for a caller of exactly the policy's groups: in the order of the discovery of the frames, and of
-/// one frame Price, Touches, Missing and Closed by key (`0` to `9`, `#`), NoReturn. If the entry frame is missing or
-/// closed that is the one fault.
-pub fn faults(alloc: Global, base: &Base, policy: &Policy) -> Result<FaultList, AllocError>
-    ensures { IfOk result (AreFaults base.now policy.now) }
-{
-    match base.seek(base.entry_frame(), &policy.groups) {
-        Sought::Missing => entry_fault(alloc, base, FaultKind::EntryMissing),
-        Sought::Closed => entry_fault(alloc, base, FaultKind::EntryClosed),
-        Sought::Found(_) => {
-            let judge = judged(alloc, base, policy)?;
-            Ok(FaultList::of(judge.teller.faults))
-        }
-    }
 }
 
 // The certificate of a table's rows, in the order of their ids.
@@ -81,7 +58,8 @@ fn certificate_of(base: &Base, groups: &Groups, table: GatheredRows) -> Certific
 
 // The outcome of a base whose entry frame is found.
 fn audit_found(alloc: Global, base: &Base, policy: &Policy) -> Result<Outcome, AllocError>
-    requires { EntryIsFound policy.now.groups base.now }
+    requires valid { IsBase base.now }
+    requires found { EntryIsFound policy.now.groups base.now }
     ensures { IfOk result (IsOutcome base.now policy.now) }
 {
     let judge = judged(alloc, base, policy)?;
@@ -94,12 +72,26 @@ fn audit_found(alloc: Global, base: &Base, policy: &Policy) -> Result<Outcome, A
 
 // The outcome: a certificate, or the faults.
 fn outcome_of(alloc: Global, base: &Base, policy: &Policy) -> Result<Outcome, AllocError>
-    ensures { IfOk result (IsOutcome base.now policy.now) }
+    ensures is { IfOk result (IsOutcome base.now policy.now) }
+    ensures valid { IsBase base.now }
 {
     match base.seek(base.entry_frame(), &policy.groups) {
         Sought::Missing => Ok(Outcome::Faulty(entry_fault(alloc, base, FaultKind::EntryMissing)?)),
         Sought::Closed => Ok(Outcome::Faulty(entry_fault(alloc, base, FaultKind::EntryClosed)?)),
         Sought::Found(_) => audit_found(alloc, base, policy),
+    }
+}
+
+/// Every fault of a base, for a caller of exactly the policy's groups: in the order of the discovery of the frames, and of
+/// one frame Price, Touches, Missing and Closed by key (`0` to `9`, `#`), NoReturn. If the entry frame is missing or
+/// closed that is the one fault.
+pub fn faults(alloc: Global, base: &Base, policy: &Policy) -> Result<FaultList, AllocError>
+    ensures { IfOk result (AreFaults base.now policy.now) }
+{
+    match outcome_of(alloc, base, policy) {
+        Ok(Outcome::Certified(_)) => Ok(FaultList::of(Vec::new(alloc))),
+        Ok(Outcome::Faulty(faults)) => Ok(faults),
+        Err(error) => Err(error),
     }
 }
 
@@ -113,6 +105,5 @@ pub fn audit(alloc: Global, base: &Base, policy: &Policy) -> Result<Outcome, All
     ensures safety { IfOk result (DecidesSafety base.now policy.now) }
     ensures shown { IfOk result (AreShown base.now policy.now) }
 {
-    keeps_limits(base);
     outcome_of(alloc, base, policy)
 }

@@ -80,6 +80,7 @@ impl Base {
         ensures exact { result.1 ≡ frames_compared self.now.frames id }
         ensures most { result.1 ≤ 16 }
         ensures least { 0 < length self.now.frames → 1 ≤ result.1 }
+        ensures valid { IsBase self.now }
     {
         find_among(self.frames.as_slice(), id)
     }
@@ -132,7 +133,8 @@ impl Base {
 
     /// The frame at which every session begins: the entry page's frame `a`.
     pub fn entry_frame(&self) -> FrameId
-        ensures { result ≡ entry_of self.now }
+        ensures value { result ≡ entry_of self.now }
+        ensures valid { IsBase self.now }
     {
         FrameId::first(self.entry)
     }

@@ -7,11 +7,11 @@ use Rattle.fault_scripts.proofs.auditing.audit_found.Goals as goal
 
 pub certificate_of-requires : goal.certificate_of-requires
 certificate_of-requires c =
-    in_order_table c.args.base.now c.args.policy.now c.in_ok-judge.judge c.in_ok-judge.ensures c.requires (none_told c.in_ok-judge.judge.teller.faults.items c.as_slice.result.now c.is_empty.result c.as_slice.ensures.value c.is_empty.ensures c.if-is_empty.true)
+    in_order_table c.args.base.now c.args.policy.now c.in_ok-judge.judge c.in_ok-judge.ensures c.requires.found (none_told c.in_ok-judge.judge.teller.faults.items c.as_slice.result.now c.is_empty.result c.as_slice.ensures.value c.is_empty.ensures c.if-is_empty.true)
 
 pub returns-then-is_empty : goal.returns-then-is_empty
 returns-then-is_empty c =
-    certified_by c.args.base.now c.args.policy.now c.in_ok-judge.judge c.in_ok-judge.ensures c.requires (none_told c.in_ok-judge.judge.teller.faults.items c.as_slice.result.now c.is_empty.result c.as_slice.ensures.value c.is_empty.ensures c.if-is_empty.true) c.certificate_of.result c.certificate_of.ensures
+    certified_by c.args.base.now c.args.policy.now c.in_ok-judge.judge c.in_ok-judge.ensures c.requires.found (none_told c.in_ok-judge.judge.teller.faults.items c.as_slice.result.now c.is_empty.result c.as_slice.ensures.value c.is_empty.ensures c.if-is_empty.true) c.certificate_of.result c.certificate_of.ensures
 
 pub returns-else-is_empty : goal.returns-else-is_empty
 returns-else-is_empty c =
@@ -20,4 +20,4 @@ returns-else-is_empty c =
     let same = sym c.of.ensures in
     let along = subst (AreFaultsAlong base policy) same (told_along base policy c.in_ok-judge.judge c.in_ok-judge.ensures) in
     let some = some_told c.in_ok-judge.judge.teller.faults.items c.as_slice.result.now c.is_empty.result c.as_slice.ensures.value c.is_empty.ensures c.if-is_empty.false in
-    (from_along base policy c.requires.0 c.of.result c.requires.1 along, subst (λ (f : List Fault). f ≢ []) same some)
+    (from_along base policy c.requires.found.0 c.of.result c.requires.found.1 along, subst (λ (f : List Fault). f ≢ []) same some)

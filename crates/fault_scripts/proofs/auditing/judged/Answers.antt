@@ -4,9 +4,9 @@ use Rattle.fault_scripts.proofs.Limits.{frames_few}
 use Rattle.fault_scripts.proofs.auditing.judged.Goals as goal
 
 pub judge_all-requires-clause-few : goal.judge_all-requires-clause-few
-judge_all-requires-clause-few c = omega (arith, c.in_ok-survey.ensures.found.few, frames_few c.args.base.now c.keeps_limits.ensures)
+judge_all-requires-clause-few c = omega (arith, c.in_ok-survey.ensures.found.few, frames_few c.args.base.now c.requires)
 
 pub returns : goal.returns
 returns c =
     let found = c.in_ok-survey.survey.found in
-    record { valid = c.keeps_limits.ensures; found = found; judged = subst (λ b. IsJudged b c.args.policy.now found (length found) c.in_ok-judge.judge) c.in_ok-survey.ensures.base c.in_ok-judge.ensures }
+    record { valid = c.requires; found = found; judged = subst (λ b. IsJudged b c.args.policy.now found (length found) c.in_ok-judge.judge) c.in_ok-survey.ensures.base c.in_ok-judge.ensures }

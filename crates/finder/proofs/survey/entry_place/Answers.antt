@@ -11,4 +11,4 @@ returns-in-Some c =
 pub returns-in-None : goal.returns-in-None
 returns-in-None c =
     let notes = c.args.notes.now in
-    entry_missing notes.groups.now notes.base.now (ap (frame_at notes.base.now) (sym c.entry_frame.ensures) ∙ c.in-None.ensures)
+    entry_missing notes.groups.now notes.base.now (ap (frame_at notes.base.now) (sym c.entry_frame.ensures.value) ∙ c.in-None.ensures)
