@@ -1,5 +1,5 @@
 -- The destination of a way, of what a table has of it.
-use Rattle.std.proofs.Common.{◌≡◌, ◌≢◌, ℕ, List, Bool, true, false, cond, Option, Some, None, ◌<◌, ◌≤◌, ◌+◌, ◌*◌, length, get_or, slice_get, refl, sym, ◌∙◌, ap, arith}
+use Rattle.std.proofs.Common.{◌≡◌, ◌≢◌, ℕ, List, Bool, true, false, cond, Option, Some, None, ◌<◌, ◌≤◌, ◌+◌, ◌*◌, get_or, slice_get, refl, sym, ◌∙◌, ap, arith}
 use Rattle.std.specs.Prelude.{option_map}
 use Rattle.std.proofs.lemmas.Option.{same_Some, slice_get_within}
 use Rattle.page_ids.specs.Id.{Id}
@@ -9,7 +9,6 @@ use Rattle.page_ids.specs.Ways.{way_at}
 use Rattle.frame_records.specs.declared.frame.Frame.{Frame}
 use Rattle.frame_records.specs.declared.base.Sought.{Sought}
 use Rattle.frame_records.specs.declared.base.Sought.TheVariants as sought_is
-use Rattle.frame_records.specs.declared.ways.Destination.{Destination}
 use Rattle.frame_records.specs.declared.ways.Destination.TheVariants as destination_is
 use Rattle.frame_records.specs.BaseView.{BaseView, lists_outside}
 use Rattle.frame_records.specs.Seek.{seek}

@@ -1,10 +1,8 @@
 -- What a survey says.
-use Rattle.std.proofs.Common.{◌≡◌, ℕ, Bool, true, false, List, Some, None, if◌then◌else◌, length, refl, sym, ◌∙◌, ap, ◌<◌, ◌+◌, ◌*◌, [], ⊎_elim, slice_get, get_or, arith, ◌≤◌}
-use Rattle.finder.proofs.Words.{cases_lt, same_Some, slice_get_within, Way, way_at, Frame, BaseView, IsAscending, frame_at, entry_of, seek_entry, is_open, sought_of, destination_of, destination_by, destination, Target, IsEntryNode, IsSought, target_at, node_of, Discovered, AreNamed, aim_of, FindsReached, RanksAreLeast, IsFinding, EntryIsFound}
+use Rattle.std.proofs.Common.{◌≡◌, ℕ, Bool, true, false, List, Some, None, if◌then◌else◌, length, refl, sym, ◌∙◌, ap, ◌<◌, [], slice_get, arith, ◌≤◌}
+use Rattle.finder.proofs.Words.{same_Some, slice_get_within, Frame, BaseView, IsAscending, frame_at, entry_of, seek_entry, is_open, sought_of, Target, IsEntryNode, IsSought, target_at, node_of, Discovered, AreNamed, FindsReached, RanksAreLeast, IsFinding, EntryIsFound}
 use Rattle.frame_records.specs.declared.base.Sought.TheVariants as sought_is
 use Rattle.finder.proofs.Nodes.{frame_here, id_stands}
-use Rattle.frame_records.specs.declared.ways.Destination.TheVariants as destination_is
-use Rattle.finder.proofs.Lists.{mapped}
 use Rattle.finder.proofs.Marked.{frame_listed}
 use Rattle.finder.proofs.Targeted.{SeenFrame, seen_frame}
 use Rattle.finder.proofs.Scripted.{listed_at, scripts_lead}
