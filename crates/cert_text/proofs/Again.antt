@@ -24,7 +24,7 @@ use Rattle.abstract_paint.specs.declared.cursor.Pend.TheVariants.{No, Yes, Maybe
 use Rattle.abstract_paint.specs.Cursor.{OnScreen}
 use Rattle.cert_text.specs.Grammar.{place_text, pend_text, cursor_text, row_line, IsRow}
 use Rattle.list_words.specs.Parts.{parts_of}
-use Rattle.cert_text.specs.Lines.{number_or_flaw, line_number, number_after, place_in, pend_in, without_pend, cursor_in, row_of, row_in}
+use Rattle.cert_text.specs.Lines.{number_or_cause, line_number, number_after, place_in, pend_in, without_pend, cursor_in, row_of, row_in}
 use Rattle.page_ids.proofs.Numerals.{both}
 use Rattle.page_ids.proofs.Numbers.{number_again, decimal_digits}
 use Rattle.page_ids.proofs.IdTexts.{id_again}
@@ -33,7 +33,7 @@ use Rattle.cert_table.specs.Table.{is_behind}
 -- ---- numbers
 
 pub line_number_again : (most n : ℕ) → most ≤ 4294967295 → n ≤ most → line_number most (decimal n) ≡ Ok n
-line_number_again most n small le = ap number_or_flaw (number_again most n small le)
+line_number_again most n small le = ap number_or_cause (number_again most n small le)
 
 pub bytes_same : (xs : List ℕ) → bytes_eq xs xs ≡ true
 bytes_same xs = grind (arith, bytes_eq-Decides xs xs)

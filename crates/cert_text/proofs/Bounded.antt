@@ -2,7 +2,7 @@
 use Rattle.std.proofs.Common.{◌≡◌, ℕ, ◌+◌, ◌*◌, ◌<◌, ◌≤◌, Bool, true, false, ltb, eqb, cond, List, [], ◌∷◌, ◌++◌, length, Result, Ok, Err, refl, sym, ap, subst, inl, inr, ◌∙◌, arith, length-append}
 use Rattle.std.specs.Int.{from_bool}
 use Rattle.std.proofs.lemmas.Bool.Decides.{nat_tests}
-use Rattle.cert_text.specs.declared.fault.LineFlaw.TheVariants as flaws
+use Rattle.cert_text.specs.declared.fault.LineCause.TheVariants as causes
 use Rattle.cert_text.specs.declared.stage.Stage.{Stage}
 use Rattle.cert_text.specs.declared.stage.Stage.TheVariants.{Magic, Head, Groups, Rows, After}
 use Rattle.cert_text.specs.declared.stage.Field.TheVariants.{Entry, Ceiling, Keyings, Count}
@@ -28,7 +28,7 @@ grows_judge bytes s t b h short is e =
 
 grows_longer : (s t : Reading) (b : ℕ) → eqb b 10 ≡ false → lengthen s b ≡ Ok t → Grows s t b
 grows_longer s t b other e =
-    let a = needs (ltb (length s.line) 128) flaws.Word (Ok (longer s b)) t e in
+    let a = needs (ltb (length s.line) 128) causes.Word (Ok (longer s b)) t e in
     let room : length s.line < 128 = grind (arith, nat_tests, a.0) in
     let one : length (s.line ++ (b ∷ [])) ≡ length s.line + 1 = length-append s.line (b ∷ []) in
     subst (λ (u : Reading). Grows s u b) (ok_is (longer s b) t a.1)
@@ -38,7 +38,7 @@ grows : (bytes : List ℕ) (s t : Reading) (b : ℕ) → Holds bytes s → lengt
 unfolding step
 grows bytes s t b h short e =
     let r = at_line_ok (number_of s.stage s.said) (take_byte s b) t e in
-    let a = lacks (is_over s.stage) flaws.Tail (cond (eqb b 10) (judge s) (lengthen s b)) t r in
+    let a = lacks (is_over s.stage) causes.Tail (cond (eqb b 10) (judge s) (lengthen s b)) t r in
     elim (chosen (eqb b 10) (judge s) (lengthen s b) (Ok t) a.1) [
       | inl j ↦ grows_judge bytes s t b h short j.0 j.1
       | inr j ↦ grows_longer s t b j.0 j.1

@@ -12,8 +12,7 @@ use Rattle.frame_records.specs.Groups.{AreGroups}
 use Rattle.cert_table.specs.declared.row.Row.{Row}
 use Rattle.cert_table.specs.CertView.{CertView}
 use Rattle.cert_text.specs.declared.fault.LineCause.TheVariants as causes
-use Rattle.cert_text.specs.declared.fault.LineFlaw.{LineFlaw}
-use Rattle.cert_text.specs.declared.fault.LineFlaw.TheVariants as flaws
+use Rattle.cert_text.specs.declared.fault.LineCause.{LineCause}
 use Rattle.cert_text.specs.declared.stage.Stage.{Stage}
 use Rattle.cert_text.specs.declared.stage.Stage.TheVariants.{Magic, Head, Groups, Rows, After}
 use Rattle.cert_text.specs.declared.stage.Field.{Field}
@@ -129,13 +128,13 @@ took_first q s line t come is spelled same_reading =
 took_magic : (s : Said) (line : List ℕ) (t : Reading) → AreNone s → IsSound s → judge_magic s line ≡ Ok t
     → Took Magic s line t
 took_magic s line t come is e =
-    let plain : Result Reading LineFlaw = Ok (begins (Head Entry) (with_grouped s false)) in
-    let grouped : Result Reading LineFlaw = Ok (begins (Head Entry) (with_grouped s true)) in
+    let plain : Result Reading LineCause = Ok (begins (Head Entry) (with_grouped s false)) in
+    let grouped : Result Reading LineCause = Ok (begins (Head Entry) (with_grouped s true)) in
     let second = bytes_eq line (codes "PBC2") in
-    elim (chosen (bytes_eq line (codes "PBC1")) plain (cond second grouped (Err flaws.Magic)) (Ok t) e) [
+    elim (chosen (bytes_eq line (codes "PBC1")) plain (cond second grouped (Err causes.Magic)) (Ok t) e) [
       | inl h ↦ took_first false s line t come is (same line (codes "PBC1") h.0) (ok_is _ t h.1)
       | inr h ↦
-          let a = needs second flaws.Magic grouped t h.1 in
+          let a = needs second causes.Magic grouped t h.1 in
           took_first true s line t come is (same line (codes "PBC2") a.0) (ok_is _ t a.1)
     ]
 
@@ -163,7 +162,8 @@ took_row : (s : Said) (line : List ℕ) (t : Reading) → AreAnnounced s → IsS
     → Took Rows s line t
 took_row s line t told is room e =
     let a =
-    lacks (bytes_eq line (codes "end")) flaws.Count (row_in s.rows line >>= λ r. Ok (begins Rows (with_row s r))) t e in
+    lacks (bytes_eq line (codes "end")) causes.Count
+    (row_in s.rows line >>= λ r. Ok (begins Rows (with_row s r))) t e in
     let b = bind_ok (row_in s.rows line) (λ r. Ok (begins Rows (with_row s r))) t a.1 in
     let f = row_found s.rows line b.0 b.1 in
     let more : map row_line (s.rows ++ (b.0 ∷ [])) ≡ map row_line s.rows ++ (line ∷ []) =
@@ -179,7 +179,7 @@ took_row s line t told is room e =
 took_end : (s : Said) (line : List ℕ) (t : Reading) → HaveCome After s → IsSound s → judge_end s line ≡ Ok t
     → Took Rows s line t
 took_end s line t come is e =
-    let a = needs (bytes_eq line (codes "end")) flaws.Count (Ok (begins After s)) t e in
+    let a = needs (bytes_eq line (codes "end")) causes.Count (Ok (begins After s)) t e in
     let last = sym (same line (codes "end") a.0) in
     subst (Took Rows s line) (ok_is (begins After s) t a.1) (record {
       lines = ap (λ (l : List ℕ). head_of s ++ (map row_line s.rows ++ (l ∷ []))) last
@@ -246,7 +246,7 @@ both_ways false p q = cc
 holds_longer : (bytes : List ℕ) (s t : Reading) (b : ℕ) → Holds bytes s → is_over s.stage ≡ false → lengthen s b ≡ Ok t
     → Holds (bytes ++ (b ∷ [])) t
 holds_longer bytes s t b h going e =
-    let a = needs (ltb (length s.line) 128) flaws.Word (Ok (longer s b)) t e in
+    let a = needs (ltb (length s.line) 128) causes.Word (Ok (longer s b)) t e in
     subst (Holds (bytes ++ (b ∷ []))) (ok_is (longer s b) t a.1) (record {
       text = ap (λ (x : List ℕ). x ++ (b ∷ [])) h.text
           ∙ append_assoc (text_of (lines_before s.stage s.said)) s.line (b ∷ []);
@@ -255,7 +255,7 @@ holds_longer bytes s t b h going e =
       over = λ o. absurd (both_ways (is_over s.stage) o going);
     })
 
-pub at_line_ok : (n : ℕ) (r : Result Reading LineFlaw) (t : Reading) → at_line n r ≡ Ok t → r ≡ Ok t
+pub at_line_ok : (n : ℕ) (r : Result Reading LineCause) (t : Reading) → at_line n r ≡ Ok t → r ≡ Ok t
 at_line_ok n (Ok s) t e = ap (λ (x : Reading). Ok x) (inner s t e) where
   inner : (s t : Reading) → at_line 0 (Ok s) ≡ Ok t → s ≡ t
   inner s t e = cc
@@ -266,7 +266,7 @@ pub holds_step : (bytes : List ℕ) (s t : Reading) (b : ℕ) → Holds bytes s 
 unfolding step
 holds_step bytes s t b h e =
     let r = at_line_ok (number_of s.stage s.said) (take_byte s b) t e in
-    let a = lacks (is_over s.stage) flaws.Tail (cond (eqb b 10) (judge s) (lengthen s b)) t r in
+    let a = lacks (is_over s.stage) causes.Tail (cond (eqb b 10) (judge s) (lengthen s b)) t r in
     elim (chosen (eqb b 10) (judge s) (lengthen s b) (Ok t) a.1) [
       | inl k ↦
           let is : 10 ≡ b = grind (arith, nat_tests, k.0) in

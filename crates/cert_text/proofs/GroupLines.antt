@@ -14,9 +14,9 @@ use Rattle.frame_records.specs.declared.groups.GroupFlaw.{GroupFlaw}
 use Rattle.frame_records.specs.Limits.{IsGroup}
 use Rattle.frame_records.specs.Groups.{AreGroups, IsGroupsText, groups_in, groups_text}
 use Rattle.frame_records.proofs.GroupTexts.{texts_found, texts_only}
-use Rattle.cert_text.specs.declared.fault.LineFlaw.TheVariants.{Word}
+use Rattle.cert_text.specs.declared.fault.LineCause.TheVariants.{Word}
 use Rattle.cert_text.specs.Grammar.{has_groups, spaced, groups_line, groups_lines}
-use Rattle.cert_text.specs.Lines.{groups_or_flaw, groups_after}
+use Rattle.cert_text.specs.Lines.{groups_or_cause, groups_after}
 use Rattle.cert_text.proofs.Spelled.{needs, ok_is}
 use Rattle.cert_text.proofs.Again.{AllAbove, IsLine, above_all, above_append, above_less, above_decimal, bytes_same}
 
@@ -45,7 +45,7 @@ counted (g ∷ gs) = refl
 
 -- ---- it is read from just its own text
 
-groups_ok : (r : Result (List ℕ) GroupFlaw) (groups : List ℕ) → groups_or_flaw r ≡ Ok groups → r ≡ Ok groups
+groups_ok : (r : Result (List ℕ) GroupFlaw) (groups : List ℕ) → groups_or_cause r ≡ Ok groups → r ≡ Ok groups
 groups_ok (Ok gs) groups e = let same : gs ≡ groups = ok_is gs groups e in ap Ok same
 groups_ok (Err flaw) groups e = absurd cc
 
@@ -58,7 +58,7 @@ pub groups_found : (line groups : List ℕ) → groups_after (codes "groups ") l
 groups_found line groups e =
     let word = codes "groups " in
     let text = drop (length word) line in
-    let a = needs (bytes_eq (take (length word) line) word) Word (groups_or_flaw (groups_in 32 text)) groups e in
+    let a = needs (bytes_eq (take (length word) line) word) Word (groups_or_cause (groups_in 32 text)) groups e in
     let same : take (length word) line ≡ word = grind (arith, bytes_eq-Decides (take (length word) line) word, a.0) in
     let is : IsGroupsText 32 text groups = texts_found 32 text groups (groups_ok (groups_in 32 text) groups a.1) in
     let cut : line ≡ word ++ text = sym (take-append-drop (length word) line) ∙ ap (λ (w : List ℕ). w ++ text) same in
@@ -73,7 +73,7 @@ some_first g gs e = cc
 
 after_again : (word text groups : List ℕ) → groups_in 32 text ≡ Ok groups → groups_after word (word ++ text) ≡ Ok groups
 after_again word text groups read =
-    rw (take-append_seam word text, drop-append_seam word text, bytes_same word) (ap groups_or_flaw read)
+    rw (take-append_seam word text, drop-append_seam word text, bytes_same word) (ap groups_or_cause read)
 
 pub groups_again : (g : ℕ) (gs : List ℕ) → AreGroups (g ∷ gs)
     → groups_after (codes "groups ") (groups_line (g ∷ gs)) ≡ Ok (g ∷ gs)

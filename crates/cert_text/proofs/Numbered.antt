@@ -7,7 +7,6 @@ use Rattle.std.proofs.lemmas.Bool.Decides.{nat_tests}
 use Rattle.std.proofs.lemmas.List.{length-map}
 use Rattle.std.proofs.lemmas.List.Elements.{recursion_from_All}
 use Rattle.cert_text.specs.declared.fault.LineCause.TheVariants as causes
-use Rattle.cert_text.specs.declared.fault.LineFlaw.TheVariants as flaws
 use Rattle.cert_text.specs.declared.stage.Stage.{Stage}
 use Rattle.cert_text.specs.declared.stage.Stage.TheVariants.{Magic, Head, Groups, Rows, After}
 use Rattle.cert_text.specs.declared.stage.Field.TheVariants.{Entry, Ceiling, Keyings, Count}
@@ -112,7 +111,7 @@ number_judge bytes s t h e =
 
 number_longer : (s t : Reading) (b : ℕ) → lengthen s b ≡ Ok t → number t ≡ number s
 number_longer s t b e =
-    let a = needs (ltb (length s.line) 128) flaws.Word (Ok (longer s b)) t e in
+    let a = needs (ltb (length s.line) 128) causes.Word (Ok (longer s b)) t e in
     sym (ap number (ok_is (longer s b) t a.1))
 
 abbrev ends_of : ℕ → ℕ → ℕ
@@ -123,7 +122,7 @@ number_step : (bytes : List ℕ) (s t : Reading) (b : ℕ) → Holds bytes s →
 unfolding step
 number_step bytes s t b h e =
     let r = at_line_ok (number_of s.stage s.said) (take_byte s b) t e in
-    let a = lacks (is_over s.stage) flaws.Tail (cond (eqb b 10) (judge s) (lengthen s b)) t r in
+    let a = lacks (is_over s.stage) causes.Tail (cond (eqb b 10) (judge s) (lengthen s b)) t r in
     elim (chosen (eqb b 10) (judge s) (lengthen s b) (Ok t) a.1) [
       | inl j ↦ rw j.0 (number_judge bytes s t h j.1)
       | inr j ↦ rw j.0 (number_longer s t b j.1)

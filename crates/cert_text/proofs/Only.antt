@@ -22,7 +22,7 @@ use Rattle.abstract_paint.specs.declared.cursor.Pend.TheVariants.{No, Yes, Maybe
 use Rattle.abstract_paint.specs.Cursor.{OnScreen}
 use Rattle.cert_table.specs.CertView.{CertView}
 use Rattle.cert_text.specs.declared.fault.LineCause.TheVariants as causes
-use Rattle.cert_text.specs.declared.fault.LineFlaw.{LineFlaw}
+use Rattle.cert_text.specs.declared.fault.LineCause.{LineCause}
 use Rattle.cert_text.specs.declared.stage.Stage.{Stage}
 use Rattle.cert_text.specs.declared.stage.Stage.TheVariants.{Magic, Head, Groups, Rows, After}
 use Rattle.cert_text.specs.declared.stage.Field.{Field}
@@ -99,7 +99,7 @@ pub line_read : (g : Stage) (s : Said) (t : Reading) (line rest : List ℕ) → 
     → run (begins g s) (line ++ (10 ∷ rest)) ≡ run t rest
 line_read g s t line rest going is ok =
     run_line (begins g s) line rest going (no_ends line is.above) (omega (arith, is.short))
-    ∙ ap (λ (r : Result Reading LineFlaw). at_line (number_of g s) r >>= λ u. run u rest) ok
+    ∙ ap (λ (r : Result Reading LineCause). at_line (number_of g s) r >>= λ u. run u rest) ok
 
 above_word : (f : Field) → AllAbove 11 (word_of f)
 above_word Entry = above_all 11 (codes "entry ") refl
@@ -268,19 +268,19 @@ run_certificate c is =
     let s4 = with_groups s3 c.groups in
     let s5 = put Count n s4 in
     let rest = map row_line c.rows ++ (codes "end" ∷ []) in
-    let behind4 = rows_line n ∷ rest in
-    let behind3 = groups_lines c.groups ++ behind4 in
-    let behind2 = keyings_line c.keyings ∷ behind3 in
-    let behind1 = ceiling_line c.ceiling ∷ behind2 in
+    let after4 = rows_line n ∷ rest in
+    let after3 = groups_lines c.groups ++ after4 in
+    let after2 = keyings_line c.keyings ∷ after3 in
+    let after1 = ceiling_line c.ceiling ∷ after2 in
     let first = first_line (has_groups c.groups) in
     ap (λ (ls : List (List ℕ)). run start
     (text_of (first ∷ entry_line c.entry ∷ ceiling_line c.ceiling ∷ keyings_line c.keyings ∷ ls)))
     (append_assoc (groups_lines c.groups) (rows_line n ∷ []) rest)
-    ∙ first_read (has_groups c.groups) (text_of (entry_line c.entry ∷ behind1))
-    ∙ field_read Entry s0 c.entry (text_of behind1) is.entry
-    ∙ field_read Ceiling s1 c.ceiling (text_of behind2) is.ceiling
-    ∙ field_read Keyings s2 c.keyings (text_of behind3) is.keyings
-    ∙ groups_read c.groups s3 behind4 is.groups
+    ∙ first_read (has_groups c.groups) (text_of (entry_line c.entry ∷ after1))
+    ∙ field_read Entry s0 c.entry (text_of after1) is.entry
+    ∙ field_read Ceiling s1 c.ceiling (text_of after2) is.ceiling
+    ∙ field_read Keyings s2 c.keyings (text_of after3) is.keyings
+    ∙ groups_read c.groups s3 after4 is.groups
     ∙ field_read Count s4 n (text_of rest) is.rows.few
     ∙ run_rows s5 [] c.rows (omega arith) is.rows.ascending (recursion_from_All IsRow c.rows is.each)
 

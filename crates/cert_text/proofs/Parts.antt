@@ -3,7 +3,7 @@ use Rattle.std.proofs.Common.{◌≡◌, ℕ, ◌<◌, List, [], ◌∷◌, leng
 use Rattle.std.specs.Prelude.{◌==◌}
 use Rattle.std.proofs.lemmas.List.Splits.{length-slice_split}
 use Rattle.list_words.specs.Parts.{parts_of}
-use Rattle.cert_text.specs.declared.fault.LineFlaw.TheVariants.{Word}
+use Rattle.cert_text.specs.declared.fault.LineCause.TheVariants.{Word}
 use Rattle.cert_text.specs.Lines.{row_of_parts}
 
 four : (a b c : List ℕ) (more : List (List ℕ)) → 0 < length more → row_of_parts (a ∷ b ∷ c ∷ more) ≡ Err Word

@@ -25,12 +25,12 @@ use Rattle.abstract_paint.specs.declared.cursor.Place.TheVariants.{Any, Col, Spo
 use Rattle.abstract_paint.specs.declared.cursor.Pend.{Pend}
 use Rattle.abstract_paint.specs.declared.cursor.Pend.TheVariants.{No, Yes, Maybe}
 use Rattle.abstract_paint.specs.Cursor.{OnScreen}
-use Rattle.cert_text.specs.declared.fault.LineFlaw.{LineFlaw}
-use Rattle.cert_text.specs.declared.fault.LineFlaw.TheVariants.{Word, Order, Cursor}
+use Rattle.cert_text.specs.declared.fault.LineCause.{LineCause}
+use Rattle.cert_text.specs.declared.fault.LineCause.TheVariants.{Word, Order, Cursor}
 use Rattle.cert_text.specs.Grammar.{place_text, pend_text, cursor_text, row_line, IsRow}
 use Rattle.list_words.specs.Steps.{◌>>=◌}
 use Rattle.list_words.specs.Parts.{parts_of}
-use Rattle.cert_text.specs.Lines.{number_or_flaw, line_number, number_after, in_place, place_in, pend_in, without_pend, cursor_of, cursor_in, row_of, row_of_parts, in_order, row_in}
+use Rattle.cert_text.specs.Lines.{number_or_cause, line_number, number_after, in_place, place_in, pend_in, without_pend, cursor_of, cursor_in, row_of, row_of_parts, in_order, row_in}
 
 -- the value of a step that did not fail
 pub bind_ok : {A B E : Type 0} (r : Result A E) (f : A → Result B E) (y : B) → (r >>= f) ≡ Ok y
@@ -38,24 +38,24 @@ pub bind_ok : {A B E : Type 0} (r : Result A E) (f : A → Result B E) (y : B) �
 bind_ok (Ok x) f y e = (x, refl, e)
 bind_ok (Err d) f y e = absurd cc
 
-abbrev done : {A : Type 0} → A → Result A LineFlaw
+abbrev done : {A : Type 0} → A → Result A LineCause
 done x = Ok x
 
 pub ok_is : {A : Type 0} (x y : A) → done x ≡ done y → x ≡ y
 ok_is x y e = cc
 
 -- tests that did not fail
-pub needs : {A : Type 0} (b : Bool) (d : LineFlaw) (r : Result A LineFlaw) (y : A) → cond b r (Err d) ≡ Ok y
+pub needs : {A : Type 0} (b : Bool) (d : LineCause) (r : Result A LineCause) (y : A) → cond b r (Err d) ≡ Ok y
     → (b ≡ true) × (r ≡ Ok y)
 needs true d r y e = (refl, e)
 needs false d r y e = absurd cc
 
-pub lacks : {A : Type 0} (b : Bool) (d : LineFlaw) (r : Result A LineFlaw) (y : A) → cond b (Err d) r ≡ Ok y
+pub lacks : {A : Type 0} (b : Bool) (d : LineCause) (r : Result A LineCause) (y : A) → cond b (Err d) r ≡ Ok y
     → (b ≡ false) × (r ≡ Ok y)
 lacks true d r y e = absurd cc
 lacks false d r y e = (refl, e)
 
-number_ok : (r : Result ℕ NumberFault) (n : ℕ) → number_or_flaw r ≡ Ok n → r ≡ Ok n
+number_ok : (r : Result ℕ NumberFault) (n : ℕ) → number_or_cause r ≡ Ok n → r ≡ Ok n
 number_ok (Ok m) n e = let same : m ≡ n = ok_is m n e in ap Ok same
 number_ok (Err d) n e = absurd cc
 
@@ -116,7 +116,7 @@ place_found (c ∷ cs) p e =
           ]
     ]
 
-cursor_of_found : (pend : Pend) (r : Result Place LineFlaw) (x : AbsCursor) → cursor_of pend r ≡ Ok x
+cursor_of_found : (pend : Pend) (r : Result Place LineCause) (x : AbsCursor) → cursor_of pend r ≡ Ok x
     → (r ≡ Ok x.place) × (pend ≡ x.pend)
 cursor_of_found pend (Ok p) x e =
     let same = ok_is (record { place = p; pend = pend }) x e in
@@ -130,7 +130,7 @@ ends_in (t ∷ ts) c pos h =
     let last : get_or (t ∷ ts) (length (t ∷ ts) - 1) 0 ≡ c = grind (arith, nat_tests, h) in
     split_end (t ∷ ts) (omega arith) ∙ ap (λ (x : ℕ). take (length (t ∷ ts) - 1) (t ∷ ts) ++ x ∷ []) last
 
--- a text is what stands before the pending state, and that
+-- a text is what is before the pending state, and that
 pend_of : (text : List ℕ) (b c : Bool) → (b ≡ true → text ≡ take (length text - 1) text ++ 43 ∷ [])
     → (c ≡ true → text ≡ take (length text - 1) text ++ 63 ∷ [])
     → text ≡ without_pend text (cond b Yes (cond c Maybe No)) ++ pend_text (cond b Yes (cond c Maybe No))

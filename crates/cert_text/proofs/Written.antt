@@ -60,7 +60,7 @@ is_certificate c a b d p q r =
 first_is : {X : Type 0} (x y : X) → slice_get (x ∷ []) 0 ≡ Some y → x ≡ y
 first_is x y e = cc
 
--- what stands at a place
+-- what is at a place
 got : {X : Type 0} (xs : List X) (i : ℕ) (r : X) → slice_get xs i ≡ Some r → (i < length xs) × (get_or xs i r ≡ r)
 got [] i r e = absurd cc
 got (x ∷ xs) zero r e = (omega arith, first_is x r e)

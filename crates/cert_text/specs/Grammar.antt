@@ -105,7 +105,7 @@ pub record IsCertificate (c : CertView) : Type 0 where
   pub rows : AreRows c.rows
   pub each : All IsRow c.rows
 
--- the text stands in the grammar with the certificate
+-- the grammar pairs the text with the certificate
 pub record IsCertificateText (bytes : List ℕ) (c : CertView) : Type 0 where
   pub valid : IsCertificate c
   pub spelled : bytes ≡ certificate_text c

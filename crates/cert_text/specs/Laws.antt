@@ -13,7 +13,7 @@ pub record TextsAreCertificates : Type 0 where
   -- no text begins another
   pub no_prefix : (bytes : List ℕ) (b : ℕ) (more : List ℕ) (c d : CertView) → IsCertificateText bytes c
       → IsCertificateText (bytes ++ b ∷ more) d → ⊥
-  -- what is read from a text without a fault is the certificate that it stands in the grammar with
+  -- what is read from a text without a fault is the certificate with which the grammar pairs it
   pub no_fault : (bytes : List ℕ) (c : CertView) → (reading bytes ≡ Ok c) ↔ IsCertificateText bytes c
-  -- reading goes on where it stood
+  -- reading goes on where it was
   pub pieces : (a b : List ℕ) → run start (a ++ b) ≡ run_on (run start a) b

@@ -18,64 +18,51 @@ use Rattle.abstract_paint.specs.declared.cursor.Place.{Place}
 use Rattle.abstract_paint.specs.declared.cursor.Place.TheVariants.{Any, Col, Spot}
 use Rattle.abstract_paint.specs.declared.cursor.Pend.{Pend}
 use Rattle.abstract_paint.specs.declared.cursor.Pend.TheVariants.{No, Yes, Maybe}
-use Rattle.cert_text.specs.declared.fault.LineFlaw.{LineFlaw}
-use Rattle.cert_text.specs.declared.fault.LineFlaw.TheVariants.{Magic, Word, Number, Range, Order, Cursor, Count, Tail}
 use Rattle.cert_text.specs.declared.fault.LineCause.{LineCause}
-use Rattle.cert_text.specs.declared.fault.LineCause.TheVariants as causes
-
--- what callers are told of a line that has come
-abbrev pub cause_of : LineFlaw → LineCause
-cause_of Magic = causes.Magic
-cause_of Word = causes.Word
-cause_of Number = causes.Number
-cause_of Range = causes.Range
-cause_of Order = causes.Order
-cause_of Cursor = causes.Cursor
-cause_of Count = causes.Count
-cause_of Tail = causes.Tail
+use Rattle.cert_text.specs.declared.fault.LineCause.TheVariants.{Word, Number, Range, Order, Cursor}
 
 -- why a number is refused
-abbrev pub number_flaw : NumberFault → LineFlaw
-number_flaw NotNumeral = Number
-number_flaw AboveLimit = Range
+abbrev pub number_cause : NumberFault → LineCause
+number_cause NotNumeral = Number
+number_cause AboveLimit = Range
 
-abbrev pub number_or_flaw : Result ℕ NumberFault → Result ℕ LineFlaw
-number_or_flaw (Ok n) = Ok n
-number_or_flaw (Err fault) = Err (number_flaw fault)
+abbrev pub number_or_cause : Result ℕ NumberFault → Result ℕ LineCause
+number_or_cause (Ok n) = Ok n
+number_or_cause (Err fault) = Err (number_cause fault)
 
 -- the number of a part of a line, up to the limit
-abbrev pub line_number : ℕ → List ℕ → Result ℕ LineFlaw
-line_number most text = number_or_flaw (number_in most text)
+abbrev pub line_number : ℕ → List ℕ → Result ℕ LineCause
+line_number most text = number_or_cause (number_in most text)
 
 -- a word with its space, and then a number
-abbrev pub number_after : List ℕ → ℕ → List ℕ → Result ℕ LineFlaw
+abbrev pub number_after : List ℕ → ℕ → List ℕ → Result ℕ LineCause
 number_after word most line =
     if bytes_eq (take (length word) line) word then line_number most (drop (length word) line) else Err Word
 
 -- why a list of groups is refused
-abbrev pub group_flaw : GroupFlaw → LineFlaw
-group_flaw group.Number = Number
-group_flaw group.Range = Range
-group_flaw group.Order = Order
+abbrev pub group_cause : GroupFlaw → LineCause
+group_cause group.Number = Number
+group_cause group.Range = Range
+group_cause group.Order = Order
 
-abbrev pub groups_or_flaw : Result (List ℕ) GroupFlaw → Result (List ℕ) LineFlaw
-groups_or_flaw (Ok groups) = Ok groups
-groups_or_flaw (Err flaw) = Err (group_flaw flaw)
+abbrev pub groups_or_cause : Result (List ℕ) GroupFlaw → Result (List ℕ) LineCause
+groups_or_cause (Ok groups) = Ok groups
+groups_or_cause (Err flaw) = Err (group_cause flaw)
 
 -- the word of the groups with its space, and then numbers that are cut at each space (32)
-abbrev pub groups_after : List ℕ → List ℕ → Result (List ℕ) LineFlaw
+abbrev pub groups_after : List ℕ → List ℕ → Result (List ℕ) LineCause
 groups_after word line =
     if bytes_eq (take (length word) line) word
-    then groups_or_flaw (groups_in 32 (drop (length word) line))
+    then groups_or_cause (groups_in 32 (drop (length word) line))
     else Err Word
 
 -- a place by its first letter
-abbrev pub in_place : (ℕ → Place) → Result ℕ NumberFault → Result Place LineFlaw
+abbrev pub in_place : (ℕ → Place) → Result ℕ NumberFault → Result Place LineCause
 in_place place (Ok n) = Ok (place n)
 in_place place (Err _) = Err Cursor
 
 -- `any`, or `c` (99) and a column, or `s` (115) and a spot
-abbrev pub place_in : List ℕ → Result Place LineFlaw
+abbrev pub place_in : List ℕ → Result Place LineCause
 place_in [] = Err Cursor
 place_in (c ∷ cs) =
     if bytes_eq (c ∷ cs) (codes "any") then Ok Any
@@ -83,7 +70,7 @@ place_in (c ∷ cs) =
     else if c == 115 then in_place Spot (number_in 959 cs)
     else Err Cursor
 
--- the pending state at the end of a cursor, by its last byte `+` (43) or `?` (63), and what stands before it
+-- the pending state at the end of a cursor, by its last byte `+` (43) or `?` (63), and what is before it
 abbrev pub pend_in : List ℕ → Pend
 pend_in text =
     if get_or text (length text - 1) 0 == 43 then Yes
@@ -95,21 +82,21 @@ without_pend text Yes = take (length text - 1) text
 without_pend text Maybe = take (length text - 1) text
 
 -- a place and its pending state
-abbrev pub cursor_of : Pend → Result Place LineFlaw → Result AbsCursor LineFlaw
+abbrev pub cursor_of : Pend → Result Place LineCause → Result AbsCursor LineCause
 cursor_of pend (Ok place) = Ok (record { place = place; pend = pend })
 cursor_of pend (Err e) = Err e
 
-abbrev pub cursor_in : List ℕ → Result AbsCursor LineFlaw
+abbrev pub cursor_in : List ℕ → Result AbsCursor LineCause
 cursor_in text = cursor_of (pend_in text) (place_in (without_pend text (pend_in text)))
 
 -- the row that three parts make
-unfoldable pub row_of : List ℕ → List ℕ → List ℕ → Result Row LineFlaw
+unfoldable pub row_of : List ℕ → List ℕ → List ℕ → Result Row LineCause
 row_of id rank cursor =
     ok_or (id_in id) Word >>= λ i. line_number MOST_RANK rank >>= λ r. cursor_in cursor >>= λ x.
     Ok (record { id = i; rank = r; cursor = x })
 
 -- exactly two spaces
-abbrev pub row_of_parts : List (List ℕ) → Result Row LineFlaw
+abbrev pub row_of_parts : List (List ℕ) → Result Row LineCause
 row_of_parts [] = Err Word
 row_of_parts (a ∷ []) = Err Word
 row_of_parts (a ∷ b ∷ []) = Err Word
@@ -117,9 +104,9 @@ row_of_parts (a ∷ b ∷ c ∷ []) = row_of a b c
 row_of_parts (a ∷ b ∷ c ∷ d ∷ more) = Err Word
 
 -- the id is greater than that of the last row
-abbrev pub in_order : List Row → Row → Result Row LineFlaw
+abbrev pub in_order : List Row → Row → Result Row LineCause
 in_order rows r = if is_behind (slice_get rows (length rows - 1)) r.id then Ok r else Err Order
 
 -- a row's line, cut at its spaces (32), after these rows
-unfoldable pub row_in : List Row → List ℕ → Result Row LineFlaw
+unfoldable pub row_in : List Row → List ℕ → Result Row LineCause
 row_in rows line = row_of_parts (parts_of 32 line) >>= in_order rows

@@ -15,13 +15,11 @@ use Rattle.cert_table.specs.Rows.{AreRows}
 use Rattle.cert_text.specs.declared.fault.LineCause.{LineCause}
 use Rattle.cert_text.specs.declared.fault.LineCause.TheVariants as causes
 use Rattle.cert_text.specs.declared.stage.Stage.{Stage}
-use Rattle.cert_text.specs.declared.fault.LineFlaw.{LineFlaw}
-use Rattle.cert_text.specs.declared.fault.LineFlaw.TheVariants as flaws
 use Rattle.cert_text.specs.declared.stage.Stage.TheVariants.{Magic, Head, Groups, Rows, After}
 use Rattle.cert_text.specs.declared.stage.Field.{Field}
 use Rattle.cert_text.specs.declared.stage.Field.TheVariants.{Entry, Ceiling, Keyings, Count}
 use Rattle.list_words.specs.Steps.{◌>>=◌}
-use Rattle.cert_text.specs.Lines.{cause_of, number_after, groups_after, row_in}
+use Rattle.cert_text.specs.Lines.{number_after, groups_after, row_in}
 
 -- what the lines so far have said
 pub record Said : Type 0 where
@@ -101,41 +99,41 @@ stage_after Keyings grouped = if grouped then Groups else Head Count
 stage_after Count grouped = Rows
 
 -- line 1
-abbrev pub judge_magic : Said → List ℕ → Result Reading LineFlaw
+abbrev pub judge_magic : Said → List ℕ → Result Reading LineCause
 judge_magic s line =
     if bytes_eq line (codes "PBC1") then Ok (begins (Head Entry) (record s { grouped = false }))
     else if bytes_eq line (codes "PBC2") then Ok (begins (Head Entry) (record s { grouped = true }))
-    else Err flaws.Magic
+    else Err causes.Magic
 
 -- the line of the groups
-abbrev pub judge_groups : Said → List ℕ → Result Reading LineFlaw
+abbrev pub judge_groups : Said → List ℕ → Result Reading LineCause
 judge_groups s line =
     groups_after (codes "groups ") line >>= λ groups. Ok (begins (Head Count) (record s { groups = groups }))
 
 -- a line in the place of a row, and in the place of `end`
-abbrev pub judge_row : Said → List ℕ → Result Reading LineFlaw
+abbrev pub judge_row : Said → List ℕ → Result Reading LineCause
 judge_row s line =
-    if bytes_eq line (codes "end") then Err flaws.Count
+    if bytes_eq line (codes "end") then Err causes.Count
     else row_in s.rows line >>= λ r. Ok (begins Rows (record s { rows = s.rows ++ r ∷ [] }))
 
-abbrev pub judge_end : Said → List ℕ → Result Reading LineFlaw
-judge_end s line = if bytes_eq line (codes "end") then Ok (begins After s) else Err flaws.Count
+abbrev pub judge_end : Said → List ℕ → Result Reading LineCause
+judge_end s line = if bytes_eq line (codes "end") then Ok (begins After s) else Err causes.Count
 
 -- a whole line, by the stage at which it comes
-abbrev pub judge_at : Stage → Said → List ℕ → Result Reading LineFlaw
+abbrev pub judge_at : Stage → Said → List ℕ → Result Reading LineCause
 judge_at Magic s line = judge_magic s line
 judge_at (Head field) s line =
     number_after (word_of field) (most_of field) line >>= λ n. Ok (begins (stage_after field s.grouped) (put field n s))
 judge_at Groups s line = judge_groups s line
 judge_at Rows s line = if nat_lt (length s.rows) s.count then judge_row s line else judge_end s line
-judge_at After s line = Err flaws.Tail
+judge_at After s line = Err causes.Tail
 
-abbrev pub judge : Reading → Result Reading LineFlaw
+abbrev pub judge : Reading → Result Reading LineCause
 judge s = judge_at s.stage s.said s.line
 
 -- a byte of a line that isn't ended by it
-abbrev pub lengthen : Reading → ℕ → Result Reading LineFlaw
-lengthen s b = if nat_lt (length s.line) 128 then Ok (record s { line = s.line ++ b ∷ [] }) else Err flaws.Word
+abbrev pub lengthen : Reading → ℕ → Result Reading LineCause
+lengthen s b = if nat_lt (length s.line) 128 then Ok (record s { line = s.line ++ b ∷ [] }) else Err causes.Word
 
 abbrev pub is_over : Stage → Bool
 is_over Magic = false
@@ -144,13 +142,13 @@ is_over Groups = false
 is_over Rows = false
 is_over After = true
 
-abbrev pub take_byte : Reading → ℕ → Result Reading LineFlaw
-take_byte s b = if is_over s.stage then Err flaws.Tail else if b == 10 then judge s else lengthen s b
+abbrev pub take_byte : Reading → ℕ → Result Reading LineCause
+take_byte s b = if is_over s.stage then Err causes.Tail else if b == 10 then judge s else lengthen s b
 
--- a flaw, at its line
-abbrev pub at_line : ℕ → Result Reading LineFlaw → Result Reading Fault
+-- a cause, at its line
+abbrev pub at_line : ℕ → Result Reading LineCause → Result Reading Fault
 at_line n (Ok s) = Ok s
-at_line n (Err flaw) = Err (n, cause_of flaw)
+at_line n (Err cause) = Err (n, cause)
 
 unfoldable pub step : Reading → ℕ → Result Reading Fault
 step s b = at_line (number_of s.stage s.said) (take_byte s b)

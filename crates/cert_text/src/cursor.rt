@@ -1,15 +1,17 @@
 //! The texts of cursors: `any`, `c39`, `s80`, each with nothing, `+` or `?` after it.
 
-ghost use Rattle.std.specs.Prelude.{◌≡◌};
+ghost use Rattle.std.specs.Prelude.{◌≡◌, IfErr};
 ghost use Rattle.cert_text.specs.Lines.{place_in, pend_in, without_pend, cursor_in};
+ghost use Rattle.cert_text.specs.Outcome.{Lasts};
 
-use crate::fault::LineFlaw;
+use crate::fault::LineCause;
 use abstract_paint::{AbsCursor, Pend, Place};
 use page_ids::number_read;
 
 // A place on the screen.
-fn place_in(text: &[u8]) -> Result<Place, LineFlaw>
-    ensures { result ≡ place_in text.now }
+fn place_in(text: &[u8]) -> Result<Place, LineCause>
+    ensures value { result ≡ place_in text.now }
+    ensures lasts { IfErr result Lasts }
 {
     if text == b"any".as_slice() {
         return Ok(Place::Any);
@@ -17,13 +19,13 @@ fn place_in(text: &[u8]) -> Result<Place, LineFlaw>
     match text {
         [b'c', digits @ ..] => match number_read(digits, 39) {
             Ok(column) => Ok(Place::Col(column as u16)),
-            Err(_) => Err(LineFlaw::Cursor),
+            Err(_) => Err(LineCause::Cursor),
         },
         [b's', digits @ ..] => match number_read(digits, 959) {
             Ok(spot) => Ok(Place::Spot(spot as u16)),
-            Err(_) => Err(LineFlaw::Cursor),
+            Err(_) => Err(LineCause::Cursor),
         },
-        _ => Err(LineFlaw::Cursor),
+        _ => Err(LineCause::Cursor),
     }
 }
 
@@ -40,8 +42,9 @@ fn split_pend(text: &[u8]) -> (Pend, &[u8])
 }
 
 // The cursor of a text.
-pub fn cursor_in(text: &[u8]) -> Result<AbsCursor, LineFlaw>
-    ensures { result ≡ cursor_in text.now }
+pub fn cursor_in(text: &[u8]) -> Result<AbsCursor, LineCause>
+    ensures value { result ≡ cursor_in text.now }
+    ensures lasts { IfErr result Lasts }
 {
     let (pend, rest) = split_pend(text);
     let place = place_in(rest)?;

@@ -1,6 +1,5 @@
 ghost use Rattle.std.specs.Prelude.{◌≡◌};
 ghost use Rattle.cert_text.specs.declared.fault.LineFault.TheVariants as line;
-ghost use Rattle.cert_text.specs.Lines.{cause_of};
 
 use std::alloc::{AllocError, AllocFailed};
 use thiserror::Error;
@@ -24,10 +23,10 @@ pub enum LineCause {
     /// The id of a row isn't greater than that of the row before, or a group isn't greater than the one before.
     #[error("Order")]
     Order,
-    /// What stands after the rank is no cursor.
+    /// What follows the rank is no cursor.
     #[error("Cursor")]
     Cursor,
-    /// `end` stands in the place of a row, or another line in the place of `end`.
+    /// `end` is in the place of a row, or another line in the place of `end`.
     #[error("Count")]
     Count,
     /// A byte follows the line `end`.
@@ -52,49 +51,18 @@ pub enum ReadFault {
     Memory,
 }
 
-/// What is wrong with a line that has come: each cause but `Truncated`.
-#[derive(Debug, Clone, Copy, PartialEq, Eq)]
-pub enum LineFlaw {
-    Magic,
-    Word,
-    Number,
-    Range,
-    Order,
-    Cursor,
-    Count,
-    Tail,
-}
-
-impl LineFlaw {
-    // The cause that callers are told.
-    pub fn cause(self) -> LineCause
-        ensures { result ≡ cause_of self }
-    {
-        match self {
-            LineFlaw::Magic => LineCause::Magic,
-            LineFlaw::Word => LineCause::Word,
-            LineFlaw::Number => LineCause::Number,
-            LineFlaw::Range => LineCause::Range,
-            LineFlaw::Order => LineCause::Order,
-            LineFlaw::Cursor => LineCause::Cursor,
-            LineFlaw::Count => LineCause::Count,
-            LineFlaw::Tail => LineCause::Tail,
-        }
-    }
-}
-
-/// Why a line isn't taken.
+/// Why a line that has come isn't taken; the cause is never `Truncated`.
 #[derive(Debug, Clone, Copy, PartialEq, Eq)]
 pub enum LineFault {
     Memory,
-    Says(LineFlaw),
+    Says(LineCause),
 }
 
-impl From<LineFlaw> for LineFault {
+impl From<LineCause> for LineFault {
     ghost from_gives = { λ c e. e ≡ line.Says c };
 
-    fn from(flaw: LineFlaw) -> LineFault {
-        LineFault::Says(flaw)
+    fn from(cause: LineCause) -> LineFault {
+        LineFault::Says(cause)
     }
 }
 

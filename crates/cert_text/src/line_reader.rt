@@ -5,7 +5,7 @@ ghost use Rattle.cert_text.specs.declared.fault.ReadFault.TheVariants.{Memory};
 ghost use Rattle.cert_text.specs.Reading.{start, judge, lengthen, is_over, take_byte, step, run, ended};
 ghost use Rattle.cert_text.specs.Outcome.{Turns, Reads, Gives};
 
-use crate::fault::{LineCause, LineFault, LineFlaw, ReadFault};
+use crate::fault::{LineCause, LineFault, ReadFault};
 use crate::so_far::SoFar;
 use crate::stage::Stage;
 use arrayvec::ArrayVec;
@@ -59,7 +59,7 @@ impl LineReader {
             self.line.push(byte);
             Ok(())
         } else {
-            Err(LineFault::Says(LineFlaw::Word))
+            Err(LineFault::Says(LineCause::Word))
         }
     }
 
@@ -74,7 +74,7 @@ impl LineReader {
         ensures { Turns result self.new (take_byte self.old byte) }
     {
         if self.is_over() {
-            return Err(LineFault::Says(LineFlaw::Tail));
+            return Err(LineFault::Says(LineCause::Tail));
         }
         if byte == b'\n' {
             self.take_line()
@@ -92,7 +92,7 @@ impl LineReader {
         match self.take_byte(byte) {
             Ok(()) => Ok(()),
             Err(LineFault::Memory) => Err(ReadFault::Memory),
-            Err(LineFault::Says(flaw)) => Err(ReadFault::Line(number, flaw.cause())),
+            Err(LineFault::Says(cause)) => Err(ReadFault::Line(number, cause)),
         }
     }
 

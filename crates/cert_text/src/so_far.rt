@@ -5,7 +5,7 @@ ghost use Rattle.cert_text.specs.declared.stage.Stage.TheVariants.{Head, Rows};
 ghost use Rattle.cert_text.specs.Reading.{nothing, number_of, most_of, put, judge_at, judge_magic, judge_groups, judge_row, certificate_of};
 ghost use Rattle.cert_text.specs.Outcome.{Says};
 
-use crate::fault::{LineFault, LineFlaw};
+use crate::fault::{LineCause, LineFault};
 use crate::line::{groups_after, number_after, row_in};
 use crate::stage::{Field, Stage};
 use cert_table::{Certificate, Row};
@@ -92,7 +92,7 @@ impl SoFar {
         } else if line == b"PBC2".as_slice() {
             self.grouped = true;
         } else {
-            return Err(LineFault::Says(LineFlaw::Magic));
+            return Err(LineFault::Says(LineCause::Magic));
         }
         Ok(Stage::Head(Field::Entry))
     }
@@ -117,7 +117,7 @@ impl SoFar {
         ensures { Says result self.new (judge_row self.old line.now) }
     {
         if line == b"end".as_slice() {
-            return Err(LineFault::Says(LineFlaw::Count));
+            return Err(LineFault::Says(LineCause::Count));
         }
         let row = row_in(&self.rows, line)?;
         self.rows.push(row)?;
@@ -133,7 +133,7 @@ impl SoFar {
         } else if line == b"end".as_slice() {
             Ok(Stage::After)
         } else {
-            Err(LineFault::Says(LineFlaw::Count))
+            Err(LineFault::Says(LineCause::Count))
         }
     }
 
@@ -146,7 +146,7 @@ impl SoFar {
             Stage::Head(field) => self.take_number(field, line),
             Stage::Groups => self.take_groups(line),
             Stage::Rows => self.take_row_or_end(line),
-            Stage::After => Err(LineFault::Says(LineFlaw::Tail)),
+            Stage::After => Err(LineFault::Says(LineCause::Tail)),
         }
     }
 

@@ -199,7 +199,7 @@ pub fn cert_write<C: Cover + Drop>(
     cert: &Certificate<C>,
 ) -> Result<Vec<u8>, AllocError>
     ensures text { IfOk result (λ text. text.items ≡ certificate_text cert.now) }
-    // The text stands in the grammar with the certificate.
+    // The grammar pairs the text with the certificate.
     ensures in_grammar { IfOk result (λ text. IsCertificateText text.items cert.now) }
     // It is read as the certificate again.
     ensures read_again { IfOk result (λ text. reading text.items ≡ Ok cert.now) }

@@ -1,5 +1,5 @@
 -- The destination of a way, of what a table has of it.
-use Rattle.std.proofs.Common.{◌≡◌, ◌≢◌, ℕ, List, Bool, true, false, cond, Option, Some, None, ◌<◌, ◌≤◌, ◌+◌, ◌*◌, length, get_or, slice_get, refl, sym, ◌∙◌, ap, arith}
+use Rattle.std.proofs.Common.{◌≡◌, ◌≢◌, ℕ, List, Bool, true, false, cond, Option, Some, None, ◌<◌, ◌≤◌, ◌+◌, ◌*◌, get_or, slice_get, refl, sym, ◌∙◌, ap, arith}
 use Rattle.std.specs.Prelude.{option_map}
 use Rattle.std.proofs.lemmas.Option.{same_Some, slice_get_within}
 use Rattle.page_ids.specs.Id.{Id}
@@ -9,7 +9,6 @@ use Rattle.page_ids.specs.Ways.{way_at}
 use Rattle.frame_records.specs.declared.frame.Frame.{Frame}
 use Rattle.frame_records.specs.declared.base.Sought.{Sought}
 use Rattle.frame_records.specs.declared.base.Sought.TheVariants as sought_is
-use Rattle.frame_records.specs.declared.ways.Destination.{Destination}
 use Rattle.frame_records.specs.declared.ways.Destination.TheVariants as destination_is
 use Rattle.frame_records.specs.BaseView.{BaseView, lists_outside}
 use Rattle.frame_records.specs.Seek.{seek}
@@ -35,19 +34,19 @@ offered_lost : (caller : List ℕ) (base : BaseView) (way : Way) (o : Option Id)
 offered_lost caller base way None not = refl
 offered_lost caller base way (Some to) not = sought_lost base way to (seek caller base to) not
 
-module _ (table : WayTable) (node place : ℕ) (f : Frame) (at : slice_get table.base.now.frames node ≡ Some f) (small : place < 11) where
+module _ (table : WayTable) (node way : ℕ) (f : Frame) (at : slice_get table.base.now.frames node ≡ Some f) (small : way < 11) where
   -- a way that finds no frame
-  pub lost_is : table.count ≤ get_or table.targets.places.items (node * 11 + place) 0 → (aim : Aim) → aim ≡ get_or table.targets.aims.items (node * 11 + place) NotOffered → lost_to aim (sought f (way_at place)) ≡ destination_of table.groups.now table.base.now f (way_at place)
+  pub lost_is : table.count ≤ get_or table.targets.nodes.items (node * 11 + way) 0 → (aim : Aim) → aim ≡ get_or table.targets.aims.items (node * 11 + way) NotOffered → lost_to aim (sought f (way_at way)) ≡ destination_of table.groups.now table.base.now f (way_at way)
   lost_is past aim is =
       let inside = slice_get_within table.base.now.frames node f at in
-      let told = (table.whole.right node place f (omega (arith, inside, small, table.nodes)) small at).lost (omega (arith, past, table.nodes)) in
-      let here : aim ≡ aim_of (destination_of table.groups.now table.base.now f (way_at place)) = is ∙ told.0 in
-      ap (λ (a : Aim). lost_to a (sought f (way_at place))) here
-      ∙ offered_lost table.groups.now table.base.now (way_at place) (sought f (way_at place)) (λ found. told.1 (told.0 ∙ found))
+      let told = (table.whole.right node way f (omega (arith, inside, small, table.nodes)) small at).lost (omega (arith, past, table.nodes)) in
+      let here : aim ≡ aim_of (destination_of table.groups.now table.base.now f (way_at way)) = is ∙ told.0 in
+      ap (λ (a : Aim). lost_to a (sought f (way_at way))) here
+      ∙ offered_lost table.groups.now table.base.now (way_at way) (sought f (way_at way)) (λ found. told.1 (told.0 ∙ found))
 
   -- a way that finds one
-  pub found_is : (to : Frame) → get_or table.targets.places.items (node * 11 + place) 0 < table.count → slice_get table.base.now.frames (get_or table.targets.places.items (node * 11 + place) 0) ≡ Some to → destination_is.Found to.id to.price ≡ destination_of table.groups.now table.base.now f (way_at place)
+  pub found_is : (to : Frame) → get_or table.targets.nodes.items (node * 11 + way) 0 < table.count → slice_get table.base.now.frames (get_or table.targets.nodes.items (node * 11 + way) 0) ≡ Some to → destination_is.Found to.id to.price ≡ destination_of table.groups.now table.base.now f (way_at way)
   found_is to lt there =
       let inside = slice_get_within table.base.now.frames node f at in
-      let told = (table.whole.right node place f (omega (arith, inside, small, table.nodes)) small at).found (omega (arith, lt, table.nodes)) in
-      same_Some (destination_is.Found to.id to.price) (destination_of table.groups.now table.base.now f (way_at place)) (ap (λ (o : Option Frame). option_map (λ (h : Frame). destination_is.Found h.id h.price) o) (sym there) ∙ told)
+      let told = (table.whole.right node way f (omega (arith, inside, small, table.nodes)) small at).found (omega (arith, lt, table.nodes)) in
+      same_Some (destination_is.Found to.id to.price) (destination_of table.groups.now table.base.now f (way_at way)) (ap (λ (o : Option Frame). option_map (λ (h : Frame). destination_is.Found h.id h.price) o) (sym there) ∙ told)

@@ -1,17 +1,17 @@
 -- One more way of a listed frame is tried.
 use Rattle.std.proofs.Common.{◌≡◌, ◌<◌, ◌+◌, ◌*◌, inl, inr, ℕ, zero, suc, List, [], ◌∷◌, ◌++◌, Some, None, slice_get, length, ◌≤◌, refl, sym, ◌∙◌, ap, subst, ⊎_elim, arith, Any}
-use Rattle.finder.proofs.Words.{cases_lt, cases_order, All-nil, All-push, all_pairs_push, Any-push, slice_get_within, same_Some, slice_get-get_or, Id, place_at, way_at, way_place, way_key, Way, BaseView, entry_of, Leads, Discovered, place, IsDiscovery, Pair, HasPair, PairLeads, IsBefore, HasFirstPair, FindsReached, Walk, IsRank, EntryIsFound}
+use Rattle.finder.proofs.Words.{cases_lt, cases_order, All-nil, All-push, all_pairs_push, Any-push, slice_get_within, same_Some, slice_get-get_or, Id, place_at, way_at, way_place, way_key, Way, BaseView, entry_of, Leads, Discovered, number, IsDiscovery, Pair, HasPair, PairLeads, IsBefore, HasFirstPair, FindsReached, Walk, IsRank, EntryIsFound}
 use Rattle.page_ids.specs.declared.way.Way.TheVariants.{Route, Next}
 use Rattle.frame_records.specs.declared.ways.Destination.TheVariants.{Found}
 use Rattle.finder.proofs.Within.{known_way}
 use Rattle.finder.proofs.Lists.{at_push, push_at, all_at, any_at, any_of, any_grown}
 
--- the order of pairs is that of their places
-pub place_before : (p q : Pair) → way_place q.1 < 11 → place p < place q → IsBefore p q
-place_before p q small lt = ⊎_elim (λ same. inr (same, omega (arith, same, lt))) (λ apart. ⊎_elim (λ less. inl less) (λ more. absurd (omega (arith, more, lt, small))) apart) (cases_order p.0 q.0)
+-- the order of pairs is that of their numbers
+pub number_before : (p q : Pair) → way_place q.1 < 11 → number p < number q → IsBefore p q
+number_before p q small lt = ⊎_elim (λ same. inr (same, omega (arith, same, lt))) (λ apart. ⊎_elim (λ less. inl less) (λ more. absurd (omega (arith, more, lt, small))) apart) (cases_order p.0 q.0)
 
-pub before_place : (p q : Pair) → way_place p.1 < 11 → IsBefore p q → place p < place q
-before_place p q small before = ⊎_elim (λ less. omega (arith, less, small)) (λ same. omega (arith, same.0, same.1)) before
+pub before_number : (p q : Pair) → way_place p.1 < 11 → IsBefore p q → number p < number q
+before_number p q small before = ⊎_elim (λ less. omega (arith, less, small)) (λ same. omega (arith, same.0, same.1)) before
 
 row_of : (p q : Pair) → IsBefore p q → p.0 < q.0 + 1
 row_of p q before = ⊎_elim (λ less. omega (arith, less)) (λ same. omega (arith, same.0)) before
@@ -48,16 +48,16 @@ module _ (caller : List ℕ) (base : BaseView) where
   -- what holds of each frame that the pairs so far lead to, and of the one that the next pair leads to
   closed_more : (found : List Discovered) (P : Id → Type 0) (index way : ℕ) (from : Discovered) → way < 11
       → slice_get found index ≡ Some from
-      → ((p : Pair) (g : Id) → PairLeads caller base found p g → place p < index * 11 + way → P g)
+      → ((p : Pair) (g : Id) → PairLeads caller base found p g → number p < index * 11 + way → P g)
       → ((g : Id) → Leads caller base from.id (way_at way) g → P g) → (p : Pair) (g : Id)
-      → PairLeads caller base found p g → place p < index * 11 + way + 1 → P g
+      → PairLeads caller base found p g → number p < index * 11 + way + 1 → P g
   closed_more found P index way from small stands old here p g l lt =
       ⊎_elim (λ less. old p g l less) (λ more.
       let known = way_known found p g l in
       let row : p.0 ≡ index = omega (arith, more, lt, known.0, small) in
       let way_is : p.1 ≡ way_at way = sym known.1 ∙ ap way_at (omega (arith, more, lt, row)) in
       let same : l.from ≡ from = same_Some l.from from (sym l.stands ∙ ap (slice_get found) row ∙ stands) in
-      here g (subst (λ w. Leads caller base from.id w g) way_is (subst (λ (d : Discovered). Leads caller base d.id p.1 g) same l.leads))) (cases_lt (place p) (index * 11 + way))
+      here g (subst (λ w. Leads caller base from.id w g) way_is (subst (λ (d : Discovered). Leads caller base d.id p.1 g) same l.leads))) (cases_lt (number p) (index * 11 + way))
 
   module _ (index way : ℕ) (from : Discovered) (found : List Discovered) (small : way < 11) (stands : slice_get found index ≡ Some from) (is : IsDiscovery caller base (index * 11 + way) found) where
     -- the way leads to no frame, or to a listed one
@@ -100,7 +100,7 @@ module _ (caller : List ℕ) (base : BaseView) where
         pair = pair;
         has = record { parent = parent; key = key };
         leads = leads_on;
-        none_before = λ other l before. new (is.closed other e.id (ungrown found e other e.id (omega (arith, row_of other pair before, inside)) l) (omega (arith, before_place other pair (way_known more other e.id l).0 before, place_at way small)));
+        none_before = λ other l before. new (is.closed other e.id (ungrown found e other e.id (omega (arith, row_of other pair before, inside)) l) (omega (arith, before_number other pair (way_known more other e.id l).0 before, place_at way small)));
       }
 
       pub pushed : IsDiscovery caller base (index * 11 + way + 1) more
@@ -112,9 +112,9 @@ module _ (caller : List ℕ) (base : BaseView) where
           ranks = All-push (λ d. IsRank caller base d.id d.rank) found e is.listing.ranks ranked;
           once = all_pairs_push (λ d b. d.id ≡ b.id → ⊥) found e is.listing.once (λ k d lt same. new (any_of (λ d. d.id ≡ e.id) found k _ (slice_get-get_or found k d lt) same));
           pairs = λ i d at. ⊎_elim (λ old. kept d (is.listing.pairs i d old)) (λ end. subst (HasFirstPair caller base more) end.1 first_pair) (at_push found e (i + 1) d at);
-          ascend = all_pairs_push (λ d b. (p q : Pair) → HasPair d p → HasPair b q → IsBefore p q) found e is.listing.ascend (λ k d lt p q hp hq. let last = own q hq in place_before p q (omega (arith, last.1, small)) (omega (arith, is.before k d lt p hp, last.0, last.1)));
+          ascend = all_pairs_push (λ d b. (p q : Pair) → HasPair d p → HasPair b q → IsBefore p q) found e is.listing.ascend (λ k d lt p q hp hq. let last = own q hq in number_before p q (omega (arith, last.1, small)) (omega (arith, is.before k d lt p hp, last.0, last.1)));
         };
-        before = All-push (λ d. (p : Pair) → HasPair d p → place p < index * 11 + way + 1) found e (λ k d lt p h. omega (arith, is.before k d lt p h)) (λ p h. let last = own p h in omega (arith, last.0, last.1));
+        before = All-push (λ d. (p : Pair) → HasPair d p → number p < index * 11 + way + 1) found e (λ k d lt p h. omega (arith, is.before k d lt p h)) (λ p h. let last = own p h in omega (arith, last.0, last.1));
         closed = closed_more more (λ g. Any (λ d. d.id ≡ g) more) index way from small (push_at found e index from stands) (λ p g l lt. any_grown (λ d. d.id ≡ g) found e (is.closed p g (ungrown found e p g (omega (arith, lt, small, inside)) l) lt)) (λ g l. Any-push (λ d. d.id ≡ g) found e (one_end from.id (way_at way) e.id g leads l));
       }
 
@@ -131,7 +131,7 @@ module _ (caller : List ℕ) (base : BaseView) where
       pairs = λ i d at. absurd (omega (arith, slice_get_within (e ∷ []) (i + 1) d at));
       ascend = λ i j d lt end. absurd (omega (arith, lt, end));
     };
-    before = All-push (λ d. (p : Pair) → HasPair d p → place p < 0) [] e (All-nil _) (λ p h. let none = sym parent ∙ h.parent in absurd cc);
+    before = All-push (λ d. (p : Pair) → HasPair d p → number p < 0) [] e (All-nil _) (λ p h. let none = sym parent ∙ h.parent in absurd cc);
     closed = λ p g l lt. absurd (omega (arith, lt));
   }
 

@@ -4,8 +4,8 @@ use Rattle.finder.proofs.Words.{cases_eq, common_steps, get_or-set_at, slice_get
 use Rattle.std.proofs.lemmas.List.Folds.{sum_by-replicate}
 use Rattle.finder.proofs.Listed.{listed, finds_reached, passed, pushed, started}
 use Rattle.finder.proofs.Lists.{at_push, at_within, any_at, any_of, at_contains, contains_at, full_at, set_kept, true_within}
-use Rattle.finder.proofs.Places.{id_stands}
-use Rattle.finder.proofs.Steps.{one_place, leads_id, leads_to, rank_ids, walk_nodes}
+use Rattle.finder.proofs.Nodes.{id_stands}
+use Rattle.finder.proofs.Steps.{one_node, leads_id, leads_to, rank_ids, walk_nodes}
 
 module _ (graph : Graph) (nodes : List ℕ) (listed : List Bool) (are : AreMarked graph nodes listed) where
   pub few : length nodes ≤ graph.table.count
@@ -42,7 +42,7 @@ module _ (frames : List Frame) (nodes : List ℕ) (found : List Discovered) (nam
   node_of node id up at some =
       let d = any_at (λ d. d.id ≡ id) found some in
       let n = at_within nodes d.0 (omega (arith, slice_get_within found d.0 d.1 d.2, named.as_many)) in
-      at_contains nodes d.0 node (n.1 ∙ ap Some (one_place frames n.0 node id up (named.each d.0 n.0 d.1 n.1 d.2 ∙ ap Some d.3) at))
+      at_contains nodes d.0 node (n.1 ∙ ap Some (one_node frames n.0 node id up (named.each d.0 n.0 d.1 n.1 d.2 ∙ ap Some d.3) at))
 
   named_more : (node : ℕ) (d : Discovered) → id_at frames node ≡ Some d.id
       → AreNamed frames (nodes ++ node ∷ []) (found ++ d ∷ [])

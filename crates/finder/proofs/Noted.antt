@@ -9,11 +9,11 @@ use Rattle.finder.specs.declared.notes.Note.{Note}
 same_id : (a b : Id) → a.page ≡ b.page → a.letter ≡ b.letter → a ≡ b
 same_id a b page letter = id_eq_same a b (grind (arith, nat_tests))
 
--- the frame at a place
-pub seen_at : (caller : List ℕ) (frames : List Frame) (i : ℕ) (f : Frame) (place : ℕ) (admitted : Bool) (id : Id)
-    → slice_get frames i ≡ Some f → f.id ≡ id → place ≡ i → admitted ≡ is_open caller f
-    → IsSeen caller frames id place admitted
-seen_at caller frames i f place admitted id at same there admits = record {
+-- the frame of a node
+pub seen_at : (caller : List ℕ) (frames : List Frame) (i : ℕ) (f : Frame) (node : ℕ) (admitted : Bool) (id : Id)
+    → slice_get frames i ≡ Some f → f.id ≡ id → node ≡ i → admitted ≡ is_open caller f
+    → IsSeen caller frames id node admitted
+seen_at caller frames i f node admitted id at same there admits = record {
   stands = ap (id_at frames) there ∙ ap (option_map (λ (g : Frame). g.id)) at ∙ ap Some same;
   admits = ap (λ k. option_map (is_open caller) (slice_get frames k)) there ∙ ap (option_map (is_open caller)) at ∙ ap Some (sym admits);
 }
@@ -21,12 +21,12 @@ seen_at caller frames i f place admitted id at same there admits = record {
 -- a note of it
 pub noted : (caller : List ℕ) (frames : List Frame) (notes : List Note) (slot i : ℕ) (f : Frame) (note : Note)
     → AreNotes caller frames notes → slice_get frames i ≡ Some f → note.page ≡ f.id.page → note.letter ≡ f.id.letter
-    → note.place ≡ i → note.is_open ≡ is_open caller f → AreNotes caller frames (set notes slot note)
-noted caller frames notes slot i f note are at page letter there admits = record { each = All-set (IsNote caller frames) notes slot note (λ id of. seen_at caller frames i f note.place note.is_open id at (same_id f.id id (sym page ∙ of.page) (sym letter ∙ of.letter)) there admits) are.each }
+    → note.node ≡ i → note.is_open ≡ is_open caller f → AreNotes caller frames (set notes slot note)
+noted caller frames notes slot i f note are at page letter there admits = record { each = All-set (IsNote caller frames) notes slot note (λ id of. seen_at caller frames i f note.node note.is_open id at (same_id f.id id (sym page ∙ of.page) (sym letter ∙ of.letter)) there admits) are.each }
 
 -- blanks note nothing
-pub none_noted : (caller : List ℕ) (frames : List Frame) (slots : ℕ) → AreNotes caller frames (replicate slots (record { page = 0; place = 0; letter = 0; is_open = false }))
-none_noted caller frames slots = record { each = All-replicate (IsNote caller frames) slots (record { page = 0; place = 0; letter = 0; is_open = false }) (λ id of. absurd (omega (arith, of.named))) }
+pub none_noted : (caller : List ℕ) (frames : List Frame) (slots : ℕ) → AreNotes caller frames (replicate slots (record { page = 0; node = 0; letter = 0; is_open = false }))
+none_noted caller frames slots = record { each = All-replicate (IsNote caller frames) slots (record { page = 0; node = 0; letter = 0; is_open = false }) (λ id of. absurd (omega (arith, of.named))) }
 
 less_apart : (a b : Id) → id_cmp a b ≡ Less → id_eq a b ≡ false
 less_apart a b e = grind (arith, nat_tests)

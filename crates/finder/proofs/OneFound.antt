@@ -1,9 +1,9 @@
 -- Two lists of the reached frames with their ranks are one.
 use Rattle.std.proofs.Common.{◌≡◌, ◌<◌, ◌≤◌, ℕ, zero, suc, add-one, List, [], ◌∷◌, Option, Some, None, slice_get, refl, sym, ◌∙◌, ap, subst, ⊎_elim, arith}
-use Rattle.finder.proofs.Words.{cases_lt, same_Some, slice_get_within, Id, Key, way_at, way_key, BaseView, Leads, Discovered, place, Pair, HasPair, PairLeads, IsBefore, HasFirstPair, FindsReached, RanksAreLeast, IsRank}
+use Rattle.finder.proofs.Words.{cases_lt, same_Some, slice_get_within, Id, Key, way_at, way_key, BaseView, Leads, Discovered, number, Pair, HasPair, PairLeads, IsBefore, HasFirstPair, FindsReached, RanksAreLeast, IsRank}
 use Rattle.finder.specs.FoundLaws.{FoundIsOne}
 use Rattle.finder.proofs.Lists.{all_at, pairs_at, none_past}
-use Rattle.finder.proofs.Listed.{place_before, before_place, one_end, way_known}
+use Rattle.finder.proofs.Listed.{number_before, before_number, one_end, way_known}
 use Rattle.finder.proofs.Scripted.{one_index, listed_at, reached_at, earlier}
 
 abbrev frame_of : Id → Option ℕ → Option ℕ → Option Key → Discovered
@@ -40,21 +40,21 @@ module _ (caller : List ℕ) (base : BaseView) where
       from_there = sym (alike h.pair.0 (earlier caller base a fa (suc n) d h.pair at h.has)) ∙ h.leads.stands
 
       -- in the second list the first one's pair leads to the same frame
-      low : (x : Discovered) (m : HasFirstPair caller base b x) → x.id ≡ d.id → place m.pair ≤ place h.pair
+      low : (x : Discovered) (m : HasFirstPair caller base b x) → x.id ≡ d.id → number m.pair ≤ number h.pair
       low x m same =
           let l : PairLeads caller base b h.pair x.id = record { from = h.leads.from; stands = from_there; leads = subst (Leads caller base h.leads.from.id h.pair.1) (sym same) h.leads.leads } in
-          ⊎_elim (λ less. absurd (m.none_before h.pair l (place_before h.pair m.pair (way_known caller base b m.pair x.id m.leads).0 less))) (λ more. more) (cases_lt (place h.pair) (place m.pair))
+          ⊎_elim (λ less. absurd (m.none_before h.pair l (number_before h.pair m.pair (way_known caller base b m.pair x.id m.leads).0 less))) (λ more. more) (cases_lt (number h.pair) (number m.pair))
 
       -- so the second one's pair is no later
-      no_later : place k.pair ≤ place h.pair
+      no_later : number k.pair ≤ number h.pair
       no_later = let t = is_there (suc n) d alike at in by t.0 t.1 t.2 t.3 t.4 where
-        by : (i : ℕ) (x : Discovered) → slice_get b i ≡ Some x → x.id ≡ d.id → suc n ≤ i → place k.pair ≤ place h.pair
+        by : (i : ℕ) (x : Discovered) → slice_get b i ≡ Some x → x.id ≡ d.id → suc n ≤ i → number k.pair ≤ number h.pair
         by zero x is same le = absurd (omega (arith, le))
         by (suc i) x is same le =
             let m = fb.pairs i x (rw add-one is) in
             ⊎_elim (λ later.
             let before = pairs_at (λ x y. (p q : Pair) → HasPair x p → HasPair y q → IsBefore p q) b (suc n) (suc i) e x fb.ascend later there is k.pair m.pair k.has m.has in
-            omega (arith, low x m same, before_place k.pair m.pair (way_known caller base b k.pair e.id k.leads).0 before)) (λ end.
+            omega (arith, low x m same, before_number k.pair m.pair (way_known caller base b k.pair e.id k.leads).0 before)) (λ end.
             let e_is : x ≡ e = same_Some x e (sym is ∙ ap (slice_get b) (omega (arith, end, le)) ∙ there) in
             low e k (ap (λ (y : Discovered). y.id) (sym e_is) ∙ same)) (cases_lt (suc n) (suc i))
 
@@ -74,7 +74,7 @@ module _ (caller : List ℕ) (base : BaseView) where
         let k = fb.pairs n e (rw add-one there) in
         let hw = way_known caller base a h.pair d.id h.leads in
         let kw = way_known caller base b k.pair e.id k.leads in
-        let same : place h.pair ≡ place k.pair = omega (arith, no_later a b fa fb n d e alike at there h k, no_later b a fb fa n e d (back (suc n) alike) there at k h) in
+        let same : number h.pair ≡ number k.pair = omega (arith, no_later a b fa fb n d e alike at there h k, no_later b a fb fa n e d (back (suc n) alike) there at k h) in
         let row : h.pair.0 ≡ k.pair.0 = omega (arith, same, hw.0, kw.0) in
         let way : h.pair.1 ≡ k.pair.1 = sym hw.1 ∙ ap way_at (omega (arith, same, row)) ∙ kw.1 in
         let from : h.leads.from ≡ k.leads.from = same_Some h.leads.from k.leads.from (sym (from_there a b fa fb n d e alike at there h k) ∙ ap (slice_get b) row ∙ k.leads.stands) in

@@ -2,17 +2,17 @@
 use Rattle.std.proofs.Common.{◌≡◌, ℕ, List, Option, Some, None, option_map, length, slice_get, refl, sym, ◌∙◌, ap, ⊎_elim, ◌<◌, zero, suc, subst, arith}
 use Rattle.finder.proofs.Words.{cases_lt, same_Some, slice_get_within, Id, Way, place_at, way_at, way_place, Frame, IsAscending, BaseView, entry_of, destination_of, destination_by, destination, aim_of, Leads, id_at, Graph, Goes, NodeWalk, IsNodeRank, Walk, IsRank}
 use Rattle.frame_records.specs.declared.ways.Destination.TheVariants as destination_is
-use Rattle.finder.proofs.Places.{same_place, frame_here, id_stands}
-use Rattle.finder.proofs.Within.{place_to, told, leads_on, known_way}
+use Rattle.finder.proofs.Nodes.{same_node, frame_here, id_stands}
+use Rattle.finder.proofs.Within.{node_to, told, leads_on, known_way}
 use Rattle.finder.proofs.Lists.{mapped}
 
--- an id is at one place
-pub one_place : (frames : List Frame) (i j : ℕ) (id : Id) → IsAscending frames → id_at frames i ≡ Some id
+-- an id has one node
+pub one_node : (frames : List Frame) (i j : ℕ) (id : Id) → IsAscending frames → id_at frames i ≡ Some id
     → id_at frames j ≡ Some id → i ≡ j
-one_place frames i j id up at there =
+one_node frames i j id up at there =
     let f = id_stands frames i id at in
     let g = id_stands frames j id there in
-    same_place frames up i j f.0 g.0 f.1 g.1 (f.2 ∙ sym g.2)
+    same_node frames up i j f.0 g.0 f.1 g.1 (f.2 ∙ sym g.2)
 
 module _ (graph : Graph) where
   abbrev caller : List ℕ
@@ -44,10 +44,10 @@ module _ (graph : Graph) where
       let found : destination_of caller base from.0 (way_at (way_place way)) ≡ destination_is.Found b l.price = ap (destination_of caller base from.0) known.1 ∙ sym (ap (λ id. destination caller base id way) (sym from.2) ∙ ap (destination_by caller base way) (frame_here base.frames graph.table.valid.ascending f from.0 from.1)) ∙ l.found in
       let is = told graph f (way_place way) from.0 inside known.0 from.1 in
       ⊎_elim (λ within.
-      let to = mapped (λ (h : Frame). destination_is.Found h.id h.price) (slice_get base.frames (place_to graph f (way_place way))) _ (is.found within) in
+      let to = mapped (λ (h : Frame). destination_is.Found h.id h.price) (slice_get base.frames (node_to graph f (way_place way))) _ (is.found within) in
       (_, ap (option_map (λ (h : Frame). h.id)) to.1 ∙ ap Some (by to.0.id b to.0.price l.price (to.2 ∙ found)), record { is_way = known.0; from = inside; to = omega (arith, within, graph.table.nodes); target = refl })) (λ past.
       let lost = is.lost past in
-      absurd (lost.1 (lost.0 ∙ ap aim_of found))) (cases_lt (place_to graph f (way_place way)) (length base.frames))
+      absurd (lost.1 (lost.0 ∙ ap aim_of found))) (cases_lt (node_to graph f (way_place way)) (length base.frames))
     where
       by : (c d : Id) (p q : ℕ) → destination_is.Found c p ≡ destination_is.Found d q → c ≡ d
       by c d p q e = cc
@@ -74,7 +74,7 @@ module _ (graph : Graph) where
   to_entry : (f m : ℕ) (a : Id) → IsOf f a → Walk caller base a (entry_of base) m → NodeWalk graph f graph.entry m
   to_entry f m a at walk =
       let to = walk_nodes m f a (entry_of base) at walk in
-      let same : to.0 ≡ graph.entry = one_place base.frames to.0 graph.entry (entry_of base) graph.table.valid.ascending to.1 graph.entry_is in
+      let same : to.0 ≡ graph.entry = one_node base.frames to.0 graph.entry (entry_of base) graph.table.valid.ascending to.1 graph.entry_is in
       subst (λ g. NodeWalk graph f g m) same to.2
 
   pub rank_ids : (f : ℕ) (a : Id) (rank : Option ℕ) → IsOf f a → IsNodeRank graph f rank → IsRank caller base a rank

@@ -1,21 +1,19 @@
 -- What a survey says.
-use Rattle.std.proofs.Common.{◌≡◌, ℕ, Bool, true, false, List, Some, None, if◌then◌else◌, length, refl, sym, ◌∙◌, ap, ◌<◌, ◌+◌, ◌*◌, [], ⊎_elim, slice_get, get_or, arith, ◌≤◌}
-use Rattle.finder.proofs.Words.{cases_lt, same_Some, slice_get_within, Way, way_at, Frame, BaseView, IsAscending, frame_at, entry_of, seek_entry, is_open, sought_of, destination_of, destination_by, destination, Target, IsEntryPlace, IsSought, target_at, place_of, Discovered, AreNamed, aim_of, FindsReached, RanksAreLeast, IsFinding, EntryIsFound}
+use Rattle.std.proofs.Common.{◌≡◌, ℕ, Bool, true, false, List, Some, None, if◌then◌else◌, length, refl, sym, ◌∙◌, ap, ◌<◌, [], slice_get, arith, ◌≤◌}
+use Rattle.finder.proofs.Words.{same_Some, slice_get_within, Frame, BaseView, IsAscending, frame_at, entry_of, seek_entry, is_open, sought_of, Target, IsEntryNode, IsSought, target_at, node_of, Discovered, AreNamed, FindsReached, RanksAreLeast, IsFinding, EntryIsFound}
 use Rattle.frame_records.specs.declared.base.Sought.TheVariants as sought_is
-use Rattle.finder.proofs.Places.{frame_here, id_stands}
-use Rattle.frame_records.specs.declared.ways.Destination.TheVariants as destination_is
-use Rattle.finder.proofs.Lists.{mapped}
+use Rattle.finder.proofs.Nodes.{frame_here, id_stands}
 use Rattle.finder.proofs.Marked.{frame_listed}
 use Rattle.finder.proofs.Targeted.{SeenFrame, seen_frame}
 use Rattle.finder.proofs.Scripted.{listed_at, scripts_lead}
 
 -- whether the entry frame is found, and where it is
 module _ (caller : List ℕ) (base : BaseView) where
-  pub entry_missing : frame_at base (entry_of base) ≡ None → IsEntryPlace caller base None
+  pub entry_missing : frame_at base (entry_of base) ≡ None → IsEntryNode caller base None
   entry_missing none entry = let gone = sym (ap (sought_of caller) none) ∙ entry.1 in absurd cc
 
   pub entry_by : (target : Target) → IsAscending base.frames → IsSought caller base.frames (entry_of base) (Some target)
-      → IsEntryPlace caller base (place_of target)
+      → IsEntryNode caller base (node_of target)
   entry_by target up s = rw s.3 (by s.1 g.admits) where
     g : SeenFrame caller base.frames (entry_of base) s.0 s.1
     g = seen_frame caller base.frames (entry_of base) s.0 s.1 up s.2
@@ -24,7 +22,7 @@ module _ (caller : List ℕ) (base : BaseView) where
         → seek_entry caller base ≡ (if b then sought_is.Found g.frame.price else sought_is.Closed)
     comes b e = ap (sought_of caller) g.among ∙ ap (λ b. if b then sought_is.Found g.frame.price else sought_is.Closed) e
 
-    by : (b : Bool) → is_open caller g.frame ≡ b → IsEntryPlace caller base (place_of (target_at s.0 b))
+    by : (b : Bool) → is_open caller g.frame ≡ b → IsEntryNode caller base (node_of (target_at s.0 b))
     by true e = ((g.frame.price, comes true e), s.2.stands)
     by false e = λ entry. let closed = sym (comes false e) ∙ entry.1 in absurd cc
 

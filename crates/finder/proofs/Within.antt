@@ -12,13 +12,13 @@ pub known_way : (caller : List ℕ) (base : BaseView) (f : Id) (way : Way) (g : 
 known_way caller base f way g l = let is = going caller base f way (destination.Found g l.price) l.found (λ same. absurd cc) in offered_place is.frame way is.to is.offered
 
 module _ (graph : Graph) where
-  -- the place that a way of a node comes to
-  abbrev pub place_to : ℕ → ℕ → ℕ
-  place_to f way = get_or graph.table.targets.places.items (f * 11 + way) 0
+  -- the node to which a way of a node leads
+  abbrev pub node_to : ℕ → ℕ → ℕ
+  node_to f way = get_or graph.table.targets.nodes.items (f * 11 + way) 0
 
   pub told : (f way : ℕ) (frame : Frame) → f < graph.table.count → way < 11
       → slice_get graph.table.base.now.frames f ≡ Some frame
-      → IsTold graph.table.groups.now graph.table.base.now frame (way_at way) (place_to f way) (get_or graph.table.targets.aims.items (f * 11 + way) NotOffered)
+      → IsTold graph.table.groups.now graph.table.base.now frame (way_at way) (node_to f way) (get_or graph.table.targets.aims.items (f * 11 + way) NotOffered)
   told f way frame inside small at = graph.table.whole.right f way frame (omega (arith, inside, small)) small at
 
   -- the frames of a way that leads somewhere

@@ -23,15 +23,15 @@ pub use Rattle.frame_records.specs.WayLaws.{found_sought, frame_id, going, offer
 pub use Rattle.frame_records.specs.Ways.{Leads, destination, destination_by, destination_of, missing_by, offered_by, sought, sought_by}
 pub use Rattle.frame_records.specs.declared.frame.Frame.{Frame}
 pub use Rattle.smallvec.specs.SmallVec.{SmallVec}
-pub use Rattle.finder.specs.Discovery.{AreMarked, AreNamed, IsDiscovery, IsListed, place}
-pub use Rattle.finder.specs.Entries.{IsEntryPlace}
+pub use Rattle.finder.specs.Discovery.{AreMarked, AreNamed, IsDiscovery, IsListed, number}
+pub use Rattle.finder.specs.Entries.{IsEntryNode}
 pub use Rattle.finder.specs.Finds.{FindsReached, HasFirstPair, HasPair, IsBefore, IsFinding, Pair, PairLeads, RanksAreLeast}
 pub use Rattle.finder.specs.Graph.{Goes, IsNodeRank, NodeWalk}
 pub use Rattle.finder.specs.Notes.{AreNotes, IsNote, IsSeen, IsSought, target_at}
 pub use Rattle.finder.specs.Scripts.{ScriptsLead, keys_along, keys_back, parent_by, parent_of, script}
 pub use Rattle.finder.specs.Search.{HasRank, IsClosed, IsSearch}
 pub use Rattle.finder.specs.Survey.{SurveyView, aim_of}
-pub use Rattle.finder.specs.Targets.{AreTargets, IsTarget, aim_at, id_at, place_of}
+pub use Rattle.finder.specs.Targets.{AreTargets, IsTarget, aim_at, id_at, node_of}
 pub use Rattle.finder.specs.Turned.{AreTurned, HasSource, IsSourceList, LeadsTo}
 pub use Rattle.finder.specs.Walks.{EntryIsFound, IsRank, IsReached, KeysLead, Walk}
 pub use Rattle.finder.specs.declared.discover.Discovery.{Discovery}

@@ -12,7 +12,7 @@ use Rattle.finder.specs.Walks.{EntryIsFound}
 abbrev pub discovered_of : Id → Option ℕ → Option (ℕ × ℕ) → Discovered
 discovered_of id rank origin = record { id = id; rank = rank; parent = option_map (λ o. o.0) origin; key = option_map (λ o. way_key (way_at o.1)) origin }
 
--- the place of the entry frame, if it is found
-abbrev pub IsEntryPlace : List ℕ → BaseView → Option ℕ → Type 0
-IsEntryPlace caller base (Some place) = EntryIsFound caller base × (id_at base.frames place ≡ Some (entry_of base))
-IsEntryPlace caller base None = EntryIsFound caller base → ⊥
+-- the node of the entry frame, if it is found
+abbrev pub IsEntryNode : List ℕ → BaseView → Option ℕ → Type 0
+IsEntryNode caller base (Some node) = EntryIsFound caller base × (id_at base.frames node ≡ Some (entry_of base))
+IsEntryNode caller base None = EntryIsFound caller base → ⊥

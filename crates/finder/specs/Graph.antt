@@ -1,4 +1,4 @@
--- Where the ways lead, with frames by their places: what walks there are.
+-- Which nodes the ways lead to, and what walks there are.
 use Rattle.std.specs.Prelude.{◌≡◌, ◌<◌, ◌≤◌, ◌+◌, ◌*◌, ℕ, zero, suc, Option, Some, None, get_or}
 use Rattle.finder.specs.declared.graph.Graph.{Graph}
 
@@ -7,7 +7,7 @@ pub record Goes (graph : Graph) (f way g : ℕ) : Type 0 where
   pub is_way : way < 11
   pub from : f < graph.table.count
   pub to : g < graph.table.count
-  pub target : get_or graph.table.targets.places.items (f * 11 + way) 0 ≡ g
+  pub target : get_or graph.table.targets.nodes.items (f * 11 + way) 0 ≡ g
 
 -- n ways lead from f to g
 abbrev pub NodeWalk : Graph → ℕ → ℕ → ℕ → Type 0

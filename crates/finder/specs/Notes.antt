@@ -9,19 +9,19 @@ use Rattle.finder.specs.declared.target.Target.{Target}
 use Rattle.finder.specs.Targets.{id_at}
 use Rattle.finder.specs.declared.target.Target.TheVariants.{Found, Closed}
 
--- the frame of an id is at a place, and is open to the caller or isn't
-pub record IsSeen (caller : List ℕ) (frames : List Frame) (id : Id) (place : ℕ) (admitted : Bool) : Type 0 where
-  pub stands : id_at frames place ≡ Some id
-  pub admits : option_map (is_open caller) (slice_get frames place) ≡ Some admitted
+-- a node has the frame of an id, which is open to the caller or isn't
+pub record IsSeen (caller : List ℕ) (frames : List Frame) (id : Id) (node : ℕ) (admitted : Bool) : Type 0 where
+  pub stands : id_at frames node ≡ Some id
+  pub admits : option_map (is_open caller) (slice_get frames node) ≡ Some admitted
 
 -- the result of seeking it
 abbrev pub target_at : ℕ → Bool → Target
-target_at place admitted = if admitted then Found place else Closed
+target_at node admitted = if admitted then Found node else Closed
 
 -- the result of seeking an id; none if no frame has it
 abbrev pub IsSought : List ℕ → List Frame → Id → Option Target → Type 0
 IsSought caller frames id None = frame_among frames id ≡ None
-IsSought caller frames id (Some target) = (place : ℕ) × (admitted : Bool) × IsSeen caller frames id place admitted × (target ≡ target_at place admitted)
+IsSought caller frames id (Some target) = (node : ℕ) × (admitted : Bool) × IsSeen caller frames id node admitted × (target ≡ target_at node admitted)
 
 -- a note of the frame of an id
 pub record IsOf (note : Note) (id : Id) : Type 0 where
@@ -31,7 +31,7 @@ pub record IsOf (note : Note) (id : Id) : Type 0 where
 
 -- what is noted is so
 abbrev pub IsNote : List ℕ → List Frame → Note → Type 0
-IsNote caller frames note = (id : Id) → IsOf note id → IsSeen caller frames id note.place note.is_open
+IsNote caller frames note = (id : Id) → IsOf note id → IsSeen caller frames id note.node note.is_open
 
 pub record AreNotes (caller : List ℕ) (frames : List Frame) (notes : List Note) : Type 0 where
   pub each : All (IsNote caller frames) notes

@@ -22,12 +22,12 @@ keys_along before None = []
 keys_along before (Some p) = p.1 ∷ before p.0
 
 abbrev pub keys_back : List Discovered → ℕ → ℕ → List Key
-keys_back found zero at = []
-keys_back found (suc turns) at = keys_along (keys_back found turns) (parent_of (slice_get found at))
+keys_back found zero index = []
+keys_back found (suc turns) index = keys_along (keys_back found turns) (parent_of (slice_get found index))
 
 -- the keys along the parents from the entry frame to the frame at an index; parents are before their children
 abbrev pub script : List Discovered → ℕ → List Key
-script found at = reverse (keys_back found (length found) at)
+script found index = reverse (keys_back found (length found) index)
 
 -- a frame's script is its parent's and one key more
 abbrev pub ScriptsExtend : List Discovered → Type 0

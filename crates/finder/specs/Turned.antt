@@ -16,7 +16,7 @@ IsSourceList sources g fs = (d : SmallVec ℕ) → (get_or sources g d).items �
 abbrev pub HasSource : List (SmallVec ℕ) → ℕ → ℕ → Type 0
 HasSource sources g f = (d : SmallVec ℕ) → Contains (get_or sources g d).items f
 
--- the ways at the first places are turned round
+-- the first `done` ways are turned round
 pub record AreTurned (graph : Graph) (done : ℕ) (sources : List (SmallVec ℕ)) : Type 0 where
   pub nodes : length sources ≡ graph.table.count
   pub lead : (g : ℕ) (d : SmallVec ℕ) → g < graph.table.count → All (λ f. LeadsTo graph f g) (get_or sources g d).items

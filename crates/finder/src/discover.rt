@@ -9,20 +9,20 @@ use crate::found::Found;
 use crate::graph::Graph;
 use crate::ranks::{rank_at, ranks_of};
 use indexmap::IndexSet;
-use page_ids::FrameId;
+use page_ids::{FrameId, Way};
 use std::alloc::{AllocError, Global};
 
 // The frames that are listed by now, in the order of discovery.
 #[derive(Drop)]
 pub struct Discovery {
-    // Their places in the base.
+    // Their nodes.
     pub order: IndexSet<u16>,
     pub found: Found,
-    // For each place whether its frame is listed.
+    // For each node whether it is listed.
     listed: Vec<bool>,
 }
 
-// Enters a node last that isn't there.
+// Adds a new node at the end.
 fn enter(order: &mut IndexSet<u16>, node: u16) -> Result<(), AllocError>
     requires { Contains order.old.keys node → ⊥ }
     ensures { OnOk result (order.new.keys ≡ order.old.keys ++ node ∷ []) }
@@ -53,7 +53,7 @@ impl Discovery {
         self.listed[node as usize]
     }
 
-    // Lists a node last that isn't listed: its frame's id and rank, and the index of the frame and the place of the way that led
+    // Lists a new node at the end, with its frame's id and rank, and the index of the frame and the number of the way that led
     // to it.
     fn list(
         &mut self,
@@ -120,7 +120,7 @@ impl Discovery {
         requires listed { IsListed graph.now (index * 11) self.old }
         ensures { OnOk result (IsListed graph.now ((index + 1) * 11) self.new) }
     {
-        for way in 0..11u8 {
+        for way in 0..Way::COUNT {
             self.try_way(graph, ranks, index, from, way)?;
         }
         Ok(())

@@ -69,7 +69,7 @@ impl Found {
         })
     }
 
-    // Adds a frame, with the index of the frame from which it was discovered and the place of the way that led to it.
+    // Adds a frame, with the index of the frame from which it was discovered and the number of the way that led to it.
     pub(crate) fn push(
         &mut self,
         id: FrameId,

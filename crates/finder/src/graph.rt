@@ -1,4 +1,4 @@
-//! The frames that are found as a graph: a node is a frame's place in the base.
+//! The frames of a base as a graph, with the ways that find open frames: a node is a frame's position in the base.
 
 ghost use Rattle.std.specs.Prelude.{◌≡◌, ◌<◌, ℕ, Some, IfSome, IfNone};
 ghost use Rattle.frame_records.specs.Seek.{entry_of};
@@ -7,7 +7,7 @@ ghost use Rattle.finder.specs.Targets.{id_at};
 use crate::table::WayTable;
 use page_ids::FrameId;
 
-// A table of a base whose entry frame is found, at a place.
+// A table of a base whose entry frame is found, and its node.
 #[derive(Drop)]
 pub struct Graph<'a> {
     pub table: WayTable<'a>,
@@ -20,15 +20,15 @@ impl Graph<'_> {
     ghost use Rattle.finder.specs.Graph.{Goes};
 
     // The node to which a way of a node leads.
-    pub fn target(&self, node: u16, way: u8) -> Option<u16>
-        requires is_node { node < self.now.table.count }
+    pub fn target(&self, from: u16, way: u8) -> Option<u16>
+        requires is_node { from < self.now.table.count }
         requires is_way { way < 11 }
-        ensures leads { IfSome result (Goes self.now node way) }
-        ensures lost { IfNone result ((g : ℕ) → Goes self.now node way g → ⊥) }
+        ensures leads { IfSome result (Goes self.now from way) }
+        ensures lost { IfNone result ((g : ℕ) → Goes self.now from way g → ⊥) }
     {
-        let to = self.table.place(node, way);
-        if to < self.table.count {
-            Some(to)
+        let node = self.table.node_to(from, way);
+        if node < self.table.count {
+            Some(node)
         } else {
             None
         }

@@ -6,7 +6,7 @@
 //!
 //! ```
 //! let found = find(alloc, &base, &Groups::none())?;
-//! found.as_slice() // the frames, each with its rank, its parent's place and the key pressed there
+//! found.as_slice() // the frames, each with its rank, its parent's index and the key pressed there
 //! script_to(alloc, &found, 2)? // the keys from the entry frame to the third of them, as 1#
 //! ```
 //!
@@ -14,7 +14,7 @@
 //!   looked up once, and nothing is sought again.
 //! - [`find`], [`Found`], [`Discovered`]: the list alone.
 //! - [`script_to`]: the keys that lead to a listed frame.
-//! - [`found_is_one`]: the list's clauses pin one list; [`scripts_lead`]: its scripts lead.
+//! - [`found_is_one`]: the list's clauses hold of one list alone; [`scripts_lead`]: its scripts lead.
 //!
 //! The list is stated by what it means, and no definition computes it: its frames are those that walks reach from the entry
 //! frame, each parent and key the first that lead to its frame, each rank the length of the shortest walk back.

@@ -1,5 +1,5 @@
-//! The result of seeking a frame. Frames are noted by their ids, each near the slot of its id; one that finds no
-//! blank there is searched by binary search. A look-up rests on each note being true, not on where it is.
+//! The result of seeking a frame. A frame is noted near the slot of its id, if there is a blank; the others are found by
+//! binary search. A look-up relies on each note being true, not on its slot.
 
 ghost use Rattle.std.specs.Prelude.{◌≡◌, ◌<◌, None, Some, IsTrue, IfSome, IfOk, map, length};
 ghost use Rattle.frame_records.specs.BaseView.{IsBase};
@@ -7,7 +7,7 @@ ghost use Rattle.frame_records.specs.Seek.{is_open};
 ghost use Rattle.frame_records.specs.Ways.{missing_by};
 ghost use Rattle.finder.specs.Notes.{target_at, IsOf, AreNotes, IsSought};
 ghost use Rattle.finder.specs.Survey.{aim_of};
-ghost use Rattle.finder.specs.Targets.{aim_at, place_of, IsTarget};
+ghost use Rattle.finder.specs.Targets.{aim_at, node_of, IsTarget};
 
 use crate::target::Target;
 use frame_records::{Base, Frame, Groups};
@@ -18,8 +18,8 @@ use std::alloc::{AllocError, Global};
 #[derive(Debug, Clone, Copy, PartialEq, Eq)]
 pub struct Note {
     pub page: u32,
-    // Its place in the base.
-    pub place: u16,
+    // Its position in the base.
+    pub node: u16,
     pub letter: u8,
     pub is_open: bool,
 }
@@ -30,21 +30,21 @@ const TRIES: usize = 8;
 impl Note {
     const BLANK: Note = Note {
         page: 0,
-        place: 0,
+        node: 0,
         letter: 0,
         is_open: false,
     };
 
-    // The frame at a place, as a caller of the groups finds it.
-    fn of(frame: &Frame, place: u16, groups: &Groups) -> Note
+    // The frame of a node, as a caller of the groups finds it.
+    fn of(frame: &Frame, node: u16, groups: &Groups) -> Note
         ensures page { result.page ≡ frame.now.id.page }
         ensures letter { result.letter ≡ frame.now.id.letter }
-        ensures place { result.place ≡ place }
+        ensures node { result.node ≡ node }
         ensures is_open { result.is_open ≡ is_open groups.now frame.now }
     {
         Note {
             page: frame.id.page.get(),
-            place,
+            node,
             letter: frame.id.letter.get(),
             is_open: frame.is_open(groups),
         }
@@ -59,10 +59,10 @@ impl Note {
 
     // The result of seeking its frame.
     fn target(&self) -> Target
-        ensures { result ≡ target_at self.now.place self.now.is_open }
+        ensures { result ≡ target_at self.now.node self.now.is_open }
     {
         if self.is_open {
-            Target::Found(self.place)
+            Target::Found(self.node)
         } else {
             Target::Closed
         }
@@ -88,15 +88,15 @@ fn blank_near(notes: &[Note], id: &FrameId) -> Option<usize>
     None
 }
 
-// Notes the frame at a place, if there is a blank for it.
-fn add_note(notes: &mut Vec<Note>, frames: &[Frame], groups: &Groups, place: u16)
-    requires inside { place < length frames.now }
+// Notes the frame of a node, if there is a blank for it.
+fn add_note(notes: &mut Vec<Note>, frames: &[Frame], groups: &Groups, node: u16)
+    requires inside { node < length frames.now }
     requires noted { AreNotes groups.now frames.now notes.old.items }
     ensures { AreNotes groups.now frames.now notes.new.items }
 {
-    let frame = &frames[place as usize];
+    let frame = &frames[node as usize];
     if let Some(slot) = blank_near(notes.as_slice(), &frame.id) {
-        notes[slot] = Note::of(frame, place, groups);
+        notes[slot] = Note::of(frame, node, groups);
     }
 }
 
@@ -114,7 +114,7 @@ pub struct Notes<'a> {
 }
 
 impl<'a> Notes<'a> {
-    // All the frames of a base, as far as there are blanks near their slots. There are at least twice as many slots as
+    // Notes the frames of a base, as far as there are blanks near their slots. There are at least twice as many slots as
     // frames.
     pub fn of(alloc: Global, base: &'a Base, groups: &'a Groups) -> Result<Notes<'a>, AllocError>
         ensures base { IfOk result (λ m. m.base.now ≡ base.now) }
@@ -124,9 +124,9 @@ impl<'a> Notes<'a> {
         let slots = (frames.len() * 2).next_power_of_two();
         let mut notes = vec![in alloc; Note::BLANK; slots]?;
         let mut ids = Vec::with_capacity(alloc, frames.len())?;
-        for place in 0..frames.len() as u16 {
-            add_note(&mut notes, frames, groups, place);
-            ids.push(frames[place as usize].id)?;
+        for node in 0..frames.len() as u16 {
+            add_note(&mut notes, frames, groups, node);
+            ids.push(frames[node as usize].id)?;
         }
         Ok(Notes {
             base,
@@ -169,7 +169,7 @@ impl<'a> Notes<'a> {
     {
         let frames = self.base.frames();
         match frames.binary_search_by_key(id, |frame| frame.id) {
-            Ok(place) => Some(Note::of(&frames[place], place as u16, self.groups).target()),
+            Ok(node) => Some(Note::of(&frames[node], node as u16, self.groups).target()),
             Err(_) => None,
         }
     }
@@ -200,7 +200,7 @@ impl<'a> Notes<'a> {
     // A frame that a way seeks and the base lacks.
     fn missing(&self, way: &Way, id: &FrameId) -> Target
         ensures aim { aim_at result ≡ aim_of (missing_by self.now.base.now way.now id.now) }
-        ensures nowhere { place_of result ≡ None }
+        ensures nowhere { node_of result ≡ None }
     {
         match way {
             Way::Route(_) if self.base.is_outside(id.page) => Target::Outside,

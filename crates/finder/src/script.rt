@@ -19,17 +19,17 @@ impl Found {
 }
 
 // The keys back along the parents, from the last to the first.
-fn keys_back(alloc: Global, found: &Found, from: u32) -> Result<Vec<Key>, AllocError>
-    ensures { IfOk result (λ keys. keys.items ≡ keys_back found.now (length found.now) from) }
+fn keys_back(alloc: Global, found: &Found, start: u32) -> Result<Vec<Key>, AllocError>
+    ensures { IfOk result (λ keys. keys.items ≡ keys_back found.now (length found.now) start) }
 {
     let mut keys = Vec::new(alloc);
-    let mut at = from;
+    let mut index = start;
     for turn in 0..found.as_slice().len() {
-        let Some((parent, key)) = found.parent_of(at) else {
+        let Some((parent, key)) = found.parent_of(index) else {
             return Ok(keys);
         };
         keys.push(key)?;
-        at = parent;
+        index = parent;
     }
     Ok(keys)
 }

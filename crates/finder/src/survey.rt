@@ -1,7 +1,7 @@
 ghost use Rattle.std.specs.Prelude.{◌≡◌, ◌<◌, ◌≤◌, ◌↔◌, [], IfOk, Some, length, slice_get};
 ghost use Rattle.frame_records.specs.Ways.{destination};
 ghost use Rattle.finder.specs.declared.found.Discovered.{Discovered};
-ghost use Rattle.finder.specs.Entries.{IsEntryPlace};
+ghost use Rattle.finder.specs.Entries.{IsEntryNode};
 ghost use Rattle.finder.specs.Finds.{IsFinding, FindsReached, RanksAreLeast};
 ghost use Rattle.finder.specs.Scripts.{ScriptsLead};
 ghost use Rattle.finder.specs.Survey.{IsFrameAt};
@@ -38,12 +38,12 @@ impl<'a> Model for Survey<'a> {
     ghost invariant = { λ s. AreNamed s.table.base.now.frames s.order.keys s.found };
 }
 
-// The place of the entry frame, if it is found.
-fn entry_place(notes: &Notes<'_>) -> Option<u16>
-    ensures { IsEntryPlace notes.now.groups.now notes.now.base.now result }
+// The entry node, if its frame is found.
+fn entry_node(notes: &Notes<'_>) -> Option<u16>
+    ensures { IsEntryNode notes.now.groups.now notes.now.base.now result }
 {
     match notes.target_by_id(&notes.base.entry_frame()) {
-        Some(target) => target.place(),
+        Some(target) => target.node(),
         None => None,
     }
 }
@@ -86,7 +86,7 @@ impl<'a> Survey<'a> {
         ensures found { IfOk result (λ s. IsFinding groups.now base.now s.found) }
     {
         let notes = Notes::of(alloc, base, groups)?;
-        let entry = entry_place(&notes);
+        let entry = entry_node(&notes);
         let table = WayTable::of(alloc, notes)?;
         let Some(entry) = entry else {
             return Ok(Survey::empty(alloc, table));

@@ -15,18 +15,18 @@ use frame_records::{Base, Destination, Groups};
 use page_ids::{FrameId, Way};
 use std::alloc::{AllocError, Global};
 
-// The result of ways: of each the place of the frame that it finds, and the aim of each that finds none.
+// The results of ways: the node that each finds, and the aim of each that finds none.
 #[derive(Drop)]
 pub struct Targets {
-    pub places: Vec<u16>,
+    pub nodes: Vec<u16>,
     pub aims: Vec<Aim>,
 }
 
-// No frame is here, since a base has at most so many.
+// No node, since a base has at most so many frames.
 const NOWHERE: u16 = u16::MAX;
 
-// A way's place in the order of the ways.
-fn place_of(way: &Way) -> u8
+// A way's number in the order of the ways.
+fn number_of(way: &Way) -> u8
     ensures way { way_at result ≡ way.now }
     ensures within { result < 11 }
 {
@@ -34,6 +34,13 @@ fn place_of(way: &Way) -> u8
         Way::Route(digit) => digit.get(),
         Way::Next => 10,
     }
+}
+
+// The slot of a way of a node in a table.
+fn way_slot(node: u16, way: u8) -> usize
+    ensures { result ≡ node * 11 + way }
+{
+    node as usize * Way::COUNT as usize + way as usize
 }
 
 // The destination of a way that finds no frame, by its aim and the frame that it seeks.
@@ -54,29 +61,29 @@ fn lost_to(aim: Aim, sought: Option<FrameId>) -> Destination
 impl Targets {
     // Adds the result of the next way.
     fn add(&mut self, target: Target) -> Result<(), AllocError>
-        requires { length self.old.places.items < length self.old.aims.items }
+        requires { length self.old.nodes.items < length self.old.aims.items }
         ensures { OnOk result (IsAdded self.old self.new target) }
     {
-        match target.place() {
-            Some(place) => self.places.push(place)?,
+        match target.node() {
+            Some(node) => self.nodes.push(node)?,
             None => {
-                let way = self.places.len();
-                self.aims[way] = target.aim();
-                self.places.push(NOWHERE)?;
+                let slot = self.nodes.len();
+                self.aims[slot] = target.aim();
+                self.nodes.push(NOWHERE)?;
             }
         }
         Ok(())
     }
 
-    // Adds the result of each way of the frame at a place.
-    fn add_frame(&mut self, notes: &Notes<'_>, place: u16) -> Result<(), AllocError>
+    // Adds the result of each way of a node.
+    fn add_frame(&mut self, notes: &Notes<'_>, node: u16) -> Result<(), AllocError>
         requires few { length notes.now.base.now.frames ≤ 65535 }
-        requires inside { place < length notes.now.base.now.frames }
-        requires targets { AreTargets notes.now.groups.now notes.now.base.now (place * 11) self.old }
-        ensures { OnOk result (AreTargets notes.now.groups.now notes.now.base.now ((place + 1) * 11) self.new) }
+        requires inside { node < length notes.now.base.now.frames }
+        requires targets { AreTargets notes.now.groups.now notes.now.base.now (node * 11) self.old }
+        ensures { OnOk result (AreTargets notes.now.groups.now notes.now.base.now ((node + 1) * 11) self.new) }
     {
-        let frame = &notes.base.frames()[place as usize];
-        for way in 0..11u8 {
+        let frame = &notes.base.frames()[node as usize];
+        for way in 0..Way::COUNT {
             self.add(notes.target_of(frame, Way::at(way)))?;
         }
         Ok(())
@@ -84,7 +91,7 @@ impl Targets {
 }
 
 /// The result of each way of each frame of a base for a caller of the groups: eleven a frame, in the order of the
-/// frames.
+/// frames. A node is a frame's position in the base.
 #[derive(Drop)]
 pub struct WayTable<'a> {
     pub base: &'a Base,
@@ -106,12 +113,13 @@ impl<'a> WayTable<'a> {
         ensures groups { IfOk result (λ t. t.groups.now ≡ notes.entry.groups.now) }
     {
         let count = notes.base.frames().len() as u16;
+        let ways = count as usize * Way::COUNT as usize;
         let mut targets = Targets {
-            places: Vec::with_capacity(alloc, count as usize * 11)?,
-            aims: vec![in alloc; Aim::NotOffered; count as usize * 11]?,
+            nodes: Vec::with_capacity(alloc, ways)?,
+            aims: vec![in alloc; Aim::NotOffered; ways]?,
         };
-        for place in 0..count {
-            targets.add_frame(&notes, place)?;
+        for node in 0..count {
+            targets.add_frame(&notes, node)?;
         }
         let Notes {
             base,
@@ -128,29 +136,29 @@ impl<'a> WayTable<'a> {
         })
     }
 
-    // The place of the frame that a way of the frame at a place finds; no frame's place if it finds none.
-    pub fn place(&self, place: u16, way: u8) -> u16
-        requires is_place { place < self.now.count }
+    // The node to which a way of a node leads; `NOWHERE` if it leads to none.
+    pub fn node_to(&self, from: u16, way: u8) -> u16
+        requires is_node { from < self.now.count }
         requires is_way { way < 11 }
-        ensures { result ≡ get_or self.now.targets.places.items (place * 11 + way) 0 }
+        ensures { result ≡ get_or self.now.targets.nodes.items (from * 11 + way) 0 }
     {
-        self.targets.places[place as usize * 11 + way as usize]
+        self.targets.nodes[way_slot(from, way)]
     }
 
-    // The destination of a way of the frame at a place. Nothing is sought.
-    pub fn follow(&self, place: u16, way: &Way) -> Destination
-        requires { place < self.now.count }
-        ensures { (f : Frame) → slice_get self.now.base.now.frames place ≡ Some f → result ≡ destination_of self.now.groups.now self.now.base.now f way.now }
+    // The destination of a way of a node. Nothing is sought.
+    pub fn follow(&self, from: u16, way: &Way) -> Destination
+        requires { from < self.now.count }
+        ensures { (f : Frame) → slice_get self.now.base.now.frames from ≡ Some f → result ≡ destination_of self.now.groups.now self.now.base.now f way.now }
     {
-        let number = place_of(way);
-        let to = self.place(place, number);
+        let number = number_of(way);
+        let node = self.node_to(from, number);
         let frames = self.base.frames();
-        if to < self.count {
-            let frame = &frames[to as usize];
+        if node < self.count {
+            let frame = &frames[node as usize];
             Destination::Found(frame.id, frame.price)
         } else {
-            let aim = self.targets.aims[place as usize * 11 + number as usize];
-            lost_to(aim, frames[place as usize].sought(*way))
+            let aim = self.targets.aims[way_slot(from, number)];
+            lost_to(aim, frames[from as usize].sought(*way))
         }
     }
 }

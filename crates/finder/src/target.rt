@@ -1,9 +1,9 @@
 ghost use Rattle.std.specs.Prelude.{◌≡◌};
-ghost use Rattle.finder.specs.Targets.{aim_at, place_of};
+ghost use Rattle.finder.specs.Targets.{aim_at, node_of};
 
 use crate::aim::Aim;
 
-/// The result of a way of a frame; a frame that is found, by its place in the base.
+/// The result of a way of a frame; a frame that is found is named by its node, its position in the base.
 #[derive(Debug, Clone, Copy, PartialEq, Eq)]
 pub enum Target {
     NotOffered,
@@ -14,7 +14,7 @@ pub enum Target {
 }
 
 impl Target {
-    // The target without its place.
+    // The target without its node.
     pub fn aim(self) -> Aim
         ensures { result ≡ aim_at self }
     {
@@ -27,12 +27,12 @@ impl Target {
         }
     }
 
-    // The place of the frame that is found.
-    pub fn place(self) -> Option<u16>
-        ensures { result ≡ place_of self }
+    // The node that is found.
+    pub fn node(self) -> Option<u16>
+        ensures { result ≡ node_of self }
     {
         match self {
-            Target::Found(place) => Some(place),
+            Target::Found(node) => Some(node),
             _ => None,
         }
     }

@@ -4,10 +4,11 @@ ghost use Rattle.finder.specs.Graph.{Goes};
 ghost use Rattle.finder.specs.Turned.{AreTurned, IsSourceList};
 
 use crate::graph::Graph;
+use page_ids::Way;
 use smallvec::SmallVec;
 use std::alloc::{AllocError, Global};
 
-// The nodes from which a way leads to a node: most are few, and lie in place.
+// The nodes from which a way leads to a node. Up to 12 take no memory of their own, and most nodes have fewer.
 pub type Sources = SmallVec<u16, 12>;
 
 // The ways turned round: for each node its sources.
@@ -17,35 +18,35 @@ pub struct Turned {
 }
 
 // Whether the way before leads to the same node.
-fn repeats(graph: &Graph<'_>, node: u16, way: u8, to: u16) -> bool
-    requires is_node { node < graph.now.table.count }
+fn repeats(graph: &Graph<'_>, from: u16, way: u8, node: u16) -> bool
+    requires is_node { from < graph.now.table.count }
     requires is_way { way < 11 }
-    ensures { IsTrue result → (0 < way) × Goes graph.now node (way - 1) to }
+    ensures { IsTrue result → (0 < way) × Goes graph.now from (way - 1) node }
 {
     if way == 0 {
         return false;
     }
-    match graph.target(node, way - 1) {
-        Some(before) => before == to,
+    match graph.target(from, way - 1) {
+        Some(before) => before == node,
         None => false,
     }
 }
 
 impl Turned {
     // Turns one more way round.
-    fn add(&mut self, graph: &Graph<'_>, node: u16, way: u8) -> Result<(), AllocError>
-        requires is_node { node < graph.now.table.count }
+    fn add(&mut self, graph: &Graph<'_>, from: u16, way: u8) -> Result<(), AllocError>
+        requires is_node { from < graph.now.table.count }
         requires is_way { way < 11 }
-        requires turned { AreTurned graph.now (node * 11 + way) self.old.sources.items }
-        ensures { OnOk result (AreTurned graph.now (node * 11 + way + 1) self.new.sources.items) }
+        requires turned { AreTurned graph.now (from * 11 + way) self.old.sources.items }
+        ensures { OnOk result (AreTurned graph.now (from * 11 + way + 1) self.new.sources.items) }
     {
-        let Some(to) = graph.target(node, way) else {
+        let Some(node) = graph.target(from, way) else {
             return Ok(());
         };
-        if repeats(graph, node, way, to) {
+        if repeats(graph, from, way, node) {
             return Ok(());
         }
-        self.sources[to as usize].push(node)?;
+        self.sources[node as usize].push(from)?;
         Ok(())
     }
 
@@ -65,7 +66,7 @@ impl Turned {
     {
         let mut turned = Turned::new(alloc, graph)?;
         for node in 0..graph.table.count {
-            for way in 0..11u8 {
+            for way in 0..Way::COUNT {
                 turned.add(graph, node, way)?;
             }
         }

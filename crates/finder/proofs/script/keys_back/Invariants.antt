@@ -3,4 +3,4 @@ use Rattle.finder.specs.Scripts.{keys_back}
 use Rattle.finder.proofs.script.keys_back.Given as goal
 
 abbrev pub invariant-loop-turn : goal.invariant-loop-turn
-invariant-loop-turn l = keys_back l.found (length l.found) l.from ≡ l.keys.items ++ keys_back l.found (length l.found - l.turn) l.at
+invariant-loop-turn l = keys_back l.found (length l.found) l.start ≡ l.keys.items ++ keys_back l.found (length l.found - l.turn) l.index

@@ -16,5 +16,5 @@ invariant_of-self-2 c =
           (λ (s : Said). s.count) c.self.view_is,
     ) in
     let read : row_in c.self.inside.rows.items c.args.line.now ≡ Ok c.in_ok-row.row =
-    ap (λ (x : List Row). row_in x c.args.line.now) (sym c.deref.ensures.value) ∙ sym c.in_ok-row.ensures in
+    ap (λ (x : List Row). row_in x c.args.line.now) (sym c.deref.ensures.value) ∙ sym c.in_ok-row.ensures.value in
     row_sound _ c.args.line.now c.in_ok-row.row _ c.self.invariant room read c.in_ok-push.ensures.items

@@ -2,8 +2,8 @@ use Rattle.std.proofs.Common.{◌≡◌, map, take}
 use Rattle.finder.specs.Notes.{AreNotes}
 use Rattle.finder.proofs.notes.Notes.of.Given as goal
 
-abbrev pub invariant-loop-place : goal.invariant-loop-place
-invariant-loop-place l = record {
+abbrev pub invariant-loop-node : goal.invariant-loop-node
+invariant-loop-node l = record {
   noted : AreNotes l.groups l.base.frames l.notes.items;
-  ids : l.ids.items ≡ map (λ f. f.id) (take l.place l.base.frames);
+  ids : l.ids.items ≡ map (λ f. f.id) (take l.node l.base.frames);
 }

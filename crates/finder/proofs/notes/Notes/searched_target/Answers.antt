@@ -7,11 +7,11 @@ use Rattle.finder.proofs.notes.Notes.searched_target.Goals as goal
 pub returns-in-Ok : goal.returns-in-Ok
 returns-in-Ok c =
     let frames = c.frames-frames.result.now in
-    let f = c.index-frames-place.result in
-    let found : IsBinarySearchResult (λ g. id_cmp g.id c.args.id.now) frames (Ok c.in-Ok.place) =
-    by_key (λ (g : Frame). g.id) (λ key. IsBinarySearchResult (λ g. id_cmp (key g) c.args.id.now) frames (Ok c.in-Ok.place)) c.in-Ok.ensures.position (λ a q k h. search rules) in
-    let same = searched frames c.args.id.now c.in-Ok.place (subst IsAscending (sym c.frames-frames.ensures.all) c.frames-frames.ensures.valid.ascending) f found c.in-Ok.ensures.bound (sym c.index-frames-place.is) in
-    (c.of.result.place, c.of.result.is_open, subst (λ fs. IsSeen c.args.self.now.groups.now fs c.args.id.now c.of.result.place c.of.result.is_open) c.frames-frames.ensures.all (seen_at _ frames c.in-Ok.place f _ _ c.args.id.now (slice_get_read frames _ c.in-Ok.place f refl c.in-Ok.ensures.bound c.index-frames-place.is) same c.of.ensures.place c.of.ensures.is_open), c.target.ensures)
+    let f = c.index-frames-node.result in
+    let found : IsBinarySearchResult (λ g. id_cmp g.id c.args.id.now) frames (Ok c.in-Ok.node) =
+    by_key (λ (g : Frame). g.id) (λ key. IsBinarySearchResult (λ g. id_cmp (key g) c.args.id.now) frames (Ok c.in-Ok.node)) c.in-Ok.ensures.position (λ a q k h. search rules) in
+    let same = searched frames c.args.id.now c.in-Ok.node (subst IsAscending (sym c.frames-frames.ensures.all) c.frames-frames.ensures.valid.ascending) f found c.in-Ok.ensures.bound (sym c.index-frames-node.is) in
+    (c.of.result.node, c.of.result.is_open, subst (λ fs. IsSeen c.args.self.now.groups.now fs c.args.id.now c.of.result.node c.of.result.is_open) c.frames-frames.ensures.all (seen_at _ frames c.in-Ok.node f _ _ c.args.id.now (slice_get_read frames _ c.in-Ok.node f refl c.in-Ok.ensures.bound c.index-frames-node.is) same c.of.ensures.node c.of.ensures.is_open), c.target.ensures)
 
 pub returns-in-Err : goal.returns-in-Err
 returns-in-Err c =

@@ -1,14 +1,14 @@
 use Rattle.std.proofs.Common.{◌≡◌, Some, None, sym, subst, arith}
-use Rattle.finder.proofs.Words.{slice_get_within, BaseView, entry_of, IsEntryPlace, IsFinding, id_at}
-use Rattle.finder.proofs.Places.{id_stands}
+use Rattle.finder.proofs.Words.{slice_get_within, BaseView, entry_of, IsEntryNode, IsFinding, id_at}
+use Rattle.finder.proofs.Nodes.{id_stands}
 use Rattle.finder.proofs.Whole.{nothing}
 use Rattle.finder.proofs.survey.Survey.of.Goals as goal
 
 pub returns-in_default-clause-found : goal.returns-in_default-clause-found
 returns-in_default-clause-found c =
     let notes = c.in_ok-notes in
-    let here = subst (λ b. IsEntryPlace notes.notes.groups.now b None) notes.ensures.base c.in_default.ensures in
-    subst (IsFinding c.args.groups.now c.args.base.now) (sym c.empty.ensures.found) (nothing c.args.groups.now c.args.base.now (subst (λ g. IsEntryPlace g c.args.base.now None) notes.ensures.groups here))
+    let here = subst (λ b. IsEntryNode notes.notes.groups.now b None) notes.ensures.base c.in_default.ensures in
+    subst (IsFinding c.args.groups.now c.args.base.now) (sym c.empty.ensures.found) (nothing c.args.groups.now c.args.base.now (subst (λ g. IsEntryNode g c.args.base.now None) notes.ensures.groups here))
 
 pub invariant_of-of_graph : goal.invariant_of-of_graph
 invariant_of-of_graph c =

@@ -2,5 +2,5 @@ use Rattle.std.proofs.Common.{◌*◌}
 use Rattle.finder.specs.Targets.{AreTargets}
 use Rattle.finder.proofs.table.WayTable.of.Given as goal
 
-abbrev pub invariant-loop-place : goal.invariant-loop-place
-invariant-loop-place l = AreTargets l.notes.groups.now l.notes.base.now (l.place * 11) l.targets
+abbrev pub invariant-loop-node : goal.invariant-loop-node
+invariant-loop-node l = AreTargets l.notes.groups.now l.notes.base.now (l.node * 11) l.targets
