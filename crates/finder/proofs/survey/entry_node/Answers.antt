@@ -6,7 +6,7 @@ use Rattle.finder.proofs.survey.entry_node.Goals as goal
 pub returns-in-Some : goal.returns-in-Some
 returns-in-Some c =
     let notes = c.args.notes.now in
-    rw c.node.ensures (entry_by notes.groups.now notes.base.now c.in-Some.target notes.valid.ascending (subst (λ id. IsSought notes.groups.now notes.base.now.frames id (Some c.in-Some.target)) c.entry_frame.ensures c.in-Some.ensures))
+    rw c.node.ensures (entry_by notes.groups.now notes.base.now c.in-Some.target notes.valid.ascending (subst (λ id. IsSought notes.groups.now notes.base.now.frames id (Some c.in-Some.target)) c.entry_frame.ensures.value c.in-Some.ensures))
 
 pub returns-in-None : goal.returns-in-None
 returns-in-None c =
