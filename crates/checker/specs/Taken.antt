@@ -17,7 +17,7 @@ use Rattle.checker.specs.declared.policy.Policy.{Policy}
 use Rattle.checker.specs.declared.verdict.Cause.{Cause}
 use Rattle.checker.specs.declared.verdict.Cause.TheVariants as cause
 use Rattle.checker.specs.Good.{is_covered}
-use Rattle.checker.specs.Verdict.{row_fault, head_fault}
+use Rattle.checker.specs.Verdict.{on_row, on_head}
 use Rattle.checker.specs.Counts.{bytes_at}
 
 -- so many, if it is done
@@ -76,11 +76,11 @@ ways_compared_if compared base rows (Some f) = ways_compared compared base rows 
 abbrev pub row_probes : (List Row → Id → ℕ) → List ℕ → BaseView → CertView → Row → ℕ
 row_probes compared caller base cert row =
     frames_compared base.frames row.id
-    + counted_if (are_ways_sought (row_fault caller base cert row)) (ways_compared_if compared base cert.rows (frame_at base row.id))
+    + counted_if (are_ways_sought (on_row caller base cert row).first_cause) (ways_compared_if compared base cert.rows (frame_at base row.id))
 
 -- the bytes that are painted for a row
 abbrev pub row_steps : List ℕ → BaseView → CertView → Row → ℕ
-row_steps caller base cert row = counted_if (is_painted (row_fault caller base cert row)) (bytes_at base row)
+row_steps caller base cert row = counted_if (is_painted (on_row caller base cert row).first_cause) (bytes_at base row)
 
 -- the rest, unless there was a fault
 abbrev pub unless_fault : Option Cause → List Row → List Row
@@ -90,16 +90,16 @@ unless_fault (Some c) rows = []
 -- the rows that are judged: up to and with the first at fault
 abbrev pub judged : List ℕ → BaseView → CertView → List Row → List Row
 judged caller base cert [] = []
-judged caller base cert (row ∷ rows) = row ∷ unless_fault (row_fault caller base cert row) (judged caller base cert rows)
+judged caller base cert (row ∷ rows) = row ∷ unless_fault (on_row caller base cert row).first_cause (judged caller base cert rows)
 
 -- those that a check judges: none if K1 to K3, K15 or K4 refuse the certificate
 abbrev pub judged_rows : BaseView → Policy → CertView → List Row
-judged_rows base policy cert = unless_fault (head_fault base policy cert) (judged cert.groups base cert cert.rows)
+judged_rows base policy cert = unless_fault (on_head base policy cert).first_cause (judged cert.groups base cert cert.rows)
 
 -- how many entries a check compares: rows with the entry frame's id, and what each row takes that it judges
 abbrev pub probes_of : (List Row → Id → ℕ) → BaseView → Policy → CertView → ℕ
 probes_of compared base policy cert =
-    counted_if (is_entry_sought (head_fault base policy cert)) (compared cert.rows (entry_of base))
+    counted_if (is_entry_sought (on_head base policy cert).first_cause) (compared cert.rows (entry_of base))
     + sum_by (row_probes compared cert.groups base cert) (judged_rows base policy cert)
 
 -- how many bytes of bodies a check paints

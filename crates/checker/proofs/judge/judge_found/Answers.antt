@@ -10,10 +10,10 @@ returns-in-Some-judge_painting-clause-probes g c =
 
 pub returns-clause-probes : goal.returns-clause-probes
 returns-clause-probes g c =
-    let sought : are_ways_sought c.judge_ways-cause.result.0 ≡ true = ap are_ways_sought c.judge_ways-cause.ensures.cause ∙ (all_is_done c.args.row.now.id _ _ _ _).0 in
+    let sought : are_ways_sought c.judge_ways-cause.result.0 ≡ true = ap are_ways_sought c.judge_ways-cause.ensures.cause ∙ (all_is_done c.args.base.now c.args.cert.now.rows c.args.row.now c.args.frame.now).0 in
     rw sought c.judge_ways-cause.ensures.exact
 
 pub returns-clause-steps : goal.returns-clause-steps
 returns-clause-steps g c =
-    let painted : is_painted c.judge_ways-cause.result.0 ≡ true = ap is_painted c.judge_ways-cause.ensures.cause ∙ (all_is_done c.args.row.now.id _ _ _ _).1 in
+    let painted : is_painted c.judge_ways-cause.result.0 ≡ true = ap is_painted c.judge_ways-cause.ensures.cause ∙ (all_is_done c.args.base.now c.args.cert.now.rows c.args.row.now c.args.frame.now).1 in
     rw painted (ap length c.as_slice.ensures)
