@@ -40,17 +40,20 @@ use Rattle.checker.specs.declared.verdict.Verdict.{Verdict}
 use Rattle.checker.specs.declared.verdict.Verdict.TheVariants.{Cleared, Refused}
 use Rattle.checker.specs.Conditions.{each}
 use Rattle.checker.specs.Good.{Good, IsGoodRow, LeadsDown, LeadsOn, WaysLeadOn, is_covered}
-use Rattle.checker.specs.Verdict.{same_place, same_pend, same_cursor, goes_on, offered_on, lost_cause, rank_below, offered_down, way_down, is_down, on_head, on_frame, on_touches, touched, ends_at, on_painting, on_way, on_ways, on_found, if_found, on_row, on_rows, conditions, verdict_of, verdict}
+use Rattle.checker.specs.Verdict.{same_place, same_pend, same_cursor, goes_on, offered_on, lost_cause, rank_below, offered_down, way_down, is_down, on_terms, on_head, on_frame, on_touches, touched, ends_at, on_painting, on_way, on_ways, on_found, if_found, on_row, on_rows, conditions, verdict_of, verdict}
 use Rattle.checker.proofs.Conditions.{Agrees, by_test, by_words, by_pass, by_limit, by_both_tests, in_turn, for_each, each_all, each_at, each_of}
 
--- K1 to K3, K15 and K4
-head_agrees : (base : BaseView) (policy : Policy) (cert : CertView) → Agrees (on_head base policy cert)
-head_agrees base policy cert =
+-- K1 to K3 and K15
+terms_agree : (base : BaseView) (policy : Policy) (cert : CertView) → Agrees (on_terms base policy cert)
+terms_agree base policy cert =
     in_turn (by_test _ cause.EntryDiffers (Decides-eqb cert.entry base.entry)) (λ _.
     in_turn (by_limit cert.ceiling policy.ceiling cause.CeilingAbove) (λ _.
     in_turn (by_limit cert.keyings policy.keyings cause.KeyingsAbove) (λ _.
-    in_turn (by_test _ cause.GroupsDiffer (bytes_eq-Decides policy.groups cert.groups)) (λ _.
-    by_pass (is_covered cert.rows (entry_of base)) cause.EntryNotCovered))))
+    by_test _ cause.GroupsDiffer (bytes_eq-Decides policy.groups cert.groups))))
+
+-- those, and K4
+head_agrees : (base : BaseView) (policy : Policy) (cert : CertView) → Agrees (on_head base policy cert)
+head_agrees base policy cert = in_turn (terms_agree base policy cert) (λ _. by_pass (is_covered cert.rows (entry_of base)) cause.EntryNotCovered)
 
 -- K6, K7 and K8
 frame_agrees : (caller : List ℕ) (cert : CertView) (row : Row) (f : Frame) → Agrees (on_frame caller cert row f)
@@ -201,11 +204,11 @@ module _ (base : BaseView) (policy : Policy) (cert : CertView) where
   pub cleared_good : verdict base policy cert ≡ Cleared → Good base policy cert
   cleared_good h =
       let all = agrees.none.0 (verdict_none _ h) in
-      let head = all.0 in
-      record { entry = head.0; ceiling = head.1.0; keyings = head.1.1.0; groups = head.1.1.1.0; covered = head.1.1.1.1; rows = rows_good.0 all.1 }
+      let terms = all.0.0 in
+      record { entry = terms.0; ceiling = terms.1.0; keyings = terms.1.1.0; groups = terms.1.1.1; covered = all.0.1; rows = rows_good.0 all.1 }
 
   pub good_cleared : Good base policy cert → verdict base policy cert ≡ Cleared
-  good_cleared g = ap verdict_of (agrees.none.1 ((g.entry, (g.ceiling, (g.keyings, (g.groups, g.covered)))), rows_good.1 g.rows))
+  good_cleared g = ap verdict_of (agrees.none.1 (((g.entry, (g.ceiling, (g.keyings, g.groups))), g.covered), rows_good.1 g.rows))
 
   -- an answer that is the verdict is Cleared exactly if the certificate is good
   pub clears_good : (v : Verdict) → v ≡ verdict base policy cert → (v ≡ Cleared) ↔ Good base policy cert

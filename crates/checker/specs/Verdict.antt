@@ -82,14 +82,17 @@ way_down rows rank f way = offered_down rows rank (sought f way)
 abbrev pub is_down : List Row → ℕ → Frame → Bool
 is_down rows rank f = list_any (way_down rows rank f) ways
 
--- K1 to K3, K15 and K4
-abbrev pub on_head : BaseView → Policy → CertView → Condition
-on_head base policy cert =
+-- K1 to K3 and K15
+abbrev pub on_terms : BaseView → Policy → CertView → Condition
+on_terms base policy cert =
     must (cert.entry == base.entry) (cert.entry ≡ base.entry) cause.EntryDiffers
     then at_most cert.ceiling policy.ceiling cause.CeilingAbove
     then at_most cert.keyings policy.keyings cause.KeyingsAbove
     then must (bytes_eq policy.groups cert.groups) (policy.groups ≡ cert.groups) cause.GroupsDiffer
-    then must_pass (is_covered cert.rows (entry_of base)) cause.EntryNotCovered
+
+-- those, and K4
+abbrev pub on_head : BaseView → Policy → CertView → Condition
+on_head base policy cert = on_terms base policy cert then must_pass (is_covered cert.rows (entry_of base)) cause.EntryNotCovered
 
 -- K6, K7 and K8: the frame by itself
 abbrev pub on_frame : List ℕ → CertView → Row → Frame → Condition

@@ -81,8 +81,8 @@ fn judge_found<C: Cover + Drop>(
     frame: &Frame,
 ) -> (Option<Cause>, Count)
     ensures cause { result.0 ≡ (on_found cert.now.groups base.now cert.now row.now frame.now).first_cause }
-    ensures probes { result.1.probes ≡ counted_if (are_ways_sought result.0) (ways_compared C.compared base.now cert.now.rows frame.now) }
-    ensures steps { result.1.steps ≡ counted_if (is_painted result.0) (length frame.now.body) }
+    ensures probes { result.1.probes ≡ counted_if (are_ways_sought cert.now.groups cert.now row.now frame.now) (ways_compared C.compared base.now cert.now.rows frame.now) }
+    ensures steps { result.1.steps ≡ counted_if (is_painted cert.now.groups cert.now row.now frame.now) (length frame.now.body) }
     ensures count { IsFoundCount (C.most_among (length cert.now.rows)) cert.now.rows row.now frame.now result.0 result.1 }
 {
     if let Some(cause) = judge_frame(cert, row, frame) {
@@ -167,7 +167,7 @@ fn judge_head<C: Cover + Drop>(
     cert: &Certificate<C>,
 ) -> (Option<Cause>, u32)
     ensures cause { result.0 ≡ (on_head base.now policy.now cert.now).first_cause }
-    ensures exact { result.1 ≡ counted_if (is_entry_sought result.0) (C.compared cert.now.rows (entry_of base.now)) }
+    ensures exact { result.1 ≡ counted_if (is_entry_sought base.now policy.now cert.now) (C.compared cert.now.rows (entry_of base.now)) }
     ensures most { result.1 ≤ C.most_among (length cert.now.rows) }
     ensures small { result.1 ≤ 4294967295 }
     ensures some { result.0 ≡ None → 0 < length cert.now.rows }
