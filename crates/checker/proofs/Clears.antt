@@ -1,20 +1,21 @@
--- If no condition fails, the certificate is good.
-use Rattle.std.proofs.Common.{◌≡◌, ℕ, ◌<◌, ◌≤◌, Bool, true, false, not, List, [], ◌∷◌, get_or, Option, Some, None, refl, sym, ◌∙◌, ap, subst, arith, if◌then◌else◌, ◌==◌}
-use Rattle.std.specs.Prelude.{nat_lt}
-use Rattle.std.proofs.lemmas.Bool.{or_cases, and_parts, not-false}
-use Rattle.std.specs.Str.{bytes_eq}
-use Rattle.std.proofs.lemmas.Bool.Decides.{nat_tests}
+-- Each test decides what its condition says. So the verdict is Cleared if the certificate is good, and else names the first
+-- condition that fails.
+use Rattle.std.proofs.Common.{◌≡◌, ℕ, ◌<◌, Bool, true, false, not, ◌==◌, List, get_or, length, Option, Some, None, refl, sym, ◌∙◌, ap, subst, arith}
+use Rattle.std.specs.Prelude.{◌↔◌, nat_lt}
+use Rattle.std.specs.Bool.{Decides}
+use Rattle.std.specs.List.{AllByRecursion}
+use Rattle.std.proofs.lemmas.Bool.Decides.{nat_tests, Decides-eqb, Decides-ltb, Decides-and, Decides-or, Decides-at, Decides-like}
 use Rattle.std.proofs.lemmas.Slice.Eq.{bytes_eq-Decides}
-use Rattle.std.proofs.lemmas.List.Folds.{Any-from_list_any}
+use Rattle.std.proofs.lemmas.List.Folds.{Any-from_list_any, list_any_at}
 use Rattle.page_ids.specs.Id.{Id}
 use Rattle.page_ids.specs.Ids.{id_eq}
-use Rattle.page_ids.specs.IdLaws.{id_eq_same}
+use Rattle.page_ids.specs.IdLaws.{id_eq_same, id_eq_refl}
 use Rattle.page_ids.specs.declared.way.Way.{Way}
 use Rattle.page_ids.specs.declared.way.Way.TheVariants.{Route, Next}
 use Rattle.page_ids.specs.Ways.{ways, way_place}
 use Rattle.page_ids.specs.WayLaws.{ways_length, ways_at}
 use Rattle.frame_records.specs.declared.frame.Frame.{Frame}
-use Rattle.frame_records.specs.BaseView.{BaseView, frame_at, lists_outside}
+use Rattle.frame_records.specs.BaseView.{BaseView, frame_at}
 use Rattle.frame_records.specs.Seek.{is_open, entry_of}
 use Rattle.frame_records.specs.Ways.{sought}
 use Rattle.frame_records.specs.WayLaws.{offered_place}
@@ -25,64 +26,53 @@ use Rattle.abstract_paint.specs.declared.cursor.Pend.{Pend}
 use Rattle.abstract_paint.specs.declared.cursor.Pend.TheVariants.{No, Yes, Maybe}
 use Rattle.abstract_paint.specs.declared.painting.Painted.{Painted}
 use Rattle.abstract_paint.specs.declared.painting.Painted.TheVariants.{Clean, Touches}
+use Rattle.abstract_paint.specs.Cursor.{Ends}
 use Rattle.abstract_paint.specs.Paint.{paint_of}
 use Rattle.abstract_paint.proofs.Exact.{is_exact}
-use Rattle.std.specs.List.{AllByRecursion}
+use Rattle.terminal_codes.specs.Touch.{IsClean}
 use Rattle.cert_table.specs.declared.row.Row.{Row}
 use Rattle.cert_table.specs.Rows.{row_among}
 use Rattle.cert_table.specs.CertView.{CertView}
-use Rattle.list_words.proofs.Finds.{none_found}
 use Rattle.checker.specs.declared.policy.Policy.{Policy}
 use Rattle.checker.specs.declared.verdict.Cause.{Cause}
 use Rattle.checker.specs.declared.verdict.Cause.TheVariants as cause
-use Rattle.checker.specs.declared.verdict.Verdict.TheVariants.{Cleared}
-use Rattle.checker.specs.Refusal.{IsFair, IsPaintedAs, IsGoodHead}
+use Rattle.checker.specs.declared.verdict.Verdict.{Verdict}
+use Rattle.checker.specs.declared.verdict.Verdict.TheVariants.{Cleared, Refused}
+use Rattle.checker.specs.Conditions.{each}
 use Rattle.checker.specs.Good.{Good, IsGoodRow, LeadsDown, LeadsOn, WaysLeadOn, is_covered}
-use Rattle.checker.specs.Verdict.{◌otherwise◌, unless, goes_on, offered_on, way_on, lost_way, lost_fault, rank_below, offered_down, way_down, is_down, frame_fault, ways_fault, paint_fault, same_place, same_pend, same_cursor, found_fault, frame_or_none, row_fault, rows_fault, head_fault, verdict_of, verdict}
+use Rattle.checker.specs.Verdict.{same_place, same_pend, same_cursor, goes_on, offered_on, lost_cause, rank_below, offered_down, way_down, is_down, on_terms, on_head, on_frame, on_touches, touched, ends_at, on_painting, on_way, on_ways, on_found, if_found, on_row, on_rows, conditions, verdict_of, verdict}
+use Rattle.checker.proofs.Conditions.{Agrees, by_test, by_words, by_pass, by_limit, by_both_tests, in_turn, for_each, each_all, each_at, each_of}
 
-pub both_none : (a b : Option Cause) → (a otherwise b) ≡ None → (a ≡ None) × (b ≡ None)
-both_none None b h = (refl, h)
-both_none (Some c) b h = cc
+-- K1 to K3 and K15
+terms_agree : (base : BaseView) (policy : Policy) (cert : CertView) → Agrees (on_terms base policy cert)
+terms_agree base policy cert =
+    in_turn (by_test _ cause.EntryDiffers (Decides-eqb cert.entry base.entry)) (λ _.
+    in_turn (by_limit cert.ceiling policy.ceiling cause.CeilingAbove) (λ _.
+    in_turn (by_limit cert.keyings policy.keyings cause.KeyingsAbove) (λ _.
+    by_test _ cause.GroupsDiffer (bytes_eq-Decides policy.groups cert.groups))))
 
-pub holds : (b : Bool) (c : Cause) → unless b c ≡ None → b ≡ true
-holds true c h = refl
-holds false c h = cc
+-- those, and K4
+head_agrees : (base : BaseView) (policy : Policy) (cert : CertView) → Agrees (on_head base policy cert)
+head_agrees base policy cert = in_turn (terms_agree base policy cert) (λ _. by_pass (is_covered cert.rows (entry_of base)) cause.EntryNotCovered)
 
-pub no_way : (id : Id) (o : Option Way) → lost_fault id o ≡ None → o ≡ None
-no_way id None h = refl
-no_way id (Some way) h = cc
+-- K6, K7 and K8
+frame_agrees : (caller : List ℕ) (cert : CertView) (row : Row) (f : Frame) → Agrees (on_frame caller cert row f)
+frame_agrees caller cert row f =
+    in_turn (by_pass (is_open caller f) (cause.ClosedFrame row.id)) (λ _.
+    in_turn (by_limit f.price cert.ceiling (cause.Price row.id)) (λ _.
+    by_limit row.rank cert.keyings (cause.RankAbove row.id)))
 
-cleared_none : (o : Option Cause) → verdict_of o ≡ Cleared → o ≡ None
-cleared_none None h = refl
-cleared_none (Some c) h = cc
+place_is : (x y : Place) → Decides (same_place x y) (x ≡ y)
+place_is Any Any = (λ _. refl, λ _. refl)
+place_is (Col c) (Col d) = (λ h. ap Col (grind (arith, nat_tests)), λ e. let same : c ≡ d = cc in grind (arith, nat_tests))
+place_is (Spot s) (Spot t) = (λ h. ap Spot (grind (arith, nat_tests)), λ e. let same : s ≡ t = cc in grind (arith, nat_tests))
+place_is _ _ = (λ h. cc, λ e. cc)
 
-pub at_least : (m n : ℕ) → not (nat_lt m n) ≡ true → n ≤ m
-at_least m n h = grind (arith, nat_tests)
-
-pub same_groups : (a b : List ℕ) → bytes_eq a b ≡ true → a ≡ b
-same_groups a b h = grind (arith, bytes_eq-Decides a b)
-
-place_is : (x y : Place) → same_place x y ≡ true → x ≡ y
-place_is Any Any h = refl
-place_is Any (Col c) h = cc
-place_is Any (Spot s) h = cc
-place_is (Col c) Any h = cc
-place_is (Col c) (Col d) h = ap Col (grind (arith, nat_tests))
-place_is (Col c) (Spot s) h = cc
-place_is (Spot s) Any h = cc
-place_is (Spot s) (Col c) h = cc
-place_is (Spot s) (Spot t) h = ap Spot (grind (arith, nat_tests))
-
-pend_is : (x y : Pend) → same_pend x y ≡ true → x ≡ y
-pend_is No No h = refl
-pend_is No Yes h = cc
-pend_is No Maybe h = cc
-pend_is Yes No h = cc
-pend_is Yes Yes h = refl
-pend_is Yes Maybe h = cc
-pend_is Maybe No h = cc
-pend_is Maybe Yes h = cc
-pend_is Maybe Maybe h = refl
+pend_is : (x y : Pend) → Decides (same_pend x y) (x ≡ y)
+pend_is No No = (λ _. refl, λ _. refl)
+pend_is Yes Yes = (λ _. refl, λ _. refl)
+pend_is Maybe Maybe = (λ _. refl, λ _. refl)
+pend_is _ _ = (λ h. cc, λ e. cc)
 
 abbrev cursor_with : Place → Pend → AbsCursor
 cursor_with place pend = record { place = place; pend = pend }
@@ -90,122 +80,139 @@ cursor_with place pend = record { place = place; pend = pend }
 same_parts : (p q : Place) (d e : Pend) → p ≡ q → d ≡ e → cursor_with p d ≡ cursor_with q e
 same_parts p q d e h k = cc
 
--- the test says which cursors are one
-pub cursor_is : (x y : AbsCursor) → same_cursor x y ≡ true → x ≡ y
-cursor_is x y h =
-    let b = and_parts (same_place x.place y.place) (same_pend x.pend y.pend) h in
-    same_parts x.place y.place x.pend y.pend (place_is x.place y.place b.0) (pend_is x.pend y.pend b.1)
+cursor_is : (x y : AbsCursor) → Decides (same_cursor x y) (x ≡ y)
+cursor_is x y =
+    Decides-like _ (λ b. same_parts x.place y.place x.pend y.pend b.0 b.1) (λ e. (ap (λ (c : AbsCursor). c.place) e, ap (λ (c : AbsCursor). c.pend) e))
+    (Decides-and _ _ (place_is x.place y.place) (pend_is x.pend y.pend))
 
-pub painted : (row : Row) (p : Painted) → paint_fault row p ≡ None → p ≡ Clean row.cursor
-painted row (Touches i) h = cc
-painted row (Clean x) h = ap Clean (cursor_is x row.cursor (holds (same_cursor x row.cursor) (cause.CursorDiffers row.id) h))
+-- K9 and K10
+touches_agrees : (row : Row) (f : Frame) → Agrees (on_touches row f)
+touches_agrees row f = by (paint_of f.lead f.body) refl where
+  by : (p : Painted) → paint_of f.lead f.body ≡ p → Agrees (record (on_touches row f) { first_cause = touched row.id p })
+  by (Clean end) is = record {
+    none = (λ _. (((is_exact f.lead f.body).clean end).0 is).0, λ _. refl);
+    some = λ c. (λ h. cc, λ h. let e = ((is_exact f.lead f.body).touches h.0).1 h.2 in cc);
+  }
+  by (Touches offset) is = record {
+    none = (λ h. cc, λ clean. let e = ((is_exact f.lead f.body).some_cursor clean).1 in cc);
+    some = λ c. (λ h. (offset, cc, ((is_exact f.lead f.body).touches offset).0 is), λ h. let e = ((is_exact f.lead f.body).touches h.0).1 h.2 in cc);
+  }
 
-module _ (caller : List ℕ) (base : BaseView) (cert : CertView) where
-  found_frame : (row : Row) (o : Option Frame) → frame_or_none caller base cert row o ≡ None → (f : Frame) × (o ≡ Some f) × (found_fault caller base cert row f ≡ None)
-  found_frame row None h = cc
-  found_frame row (Some f) h = (f, refl, h)
+ends_as : (row : Row) (f : Frame) → IsClean f.lead f.body → Decides (ends_at row.cursor (paint_of f.lead f.body)) (Ends f.lead f.body row.cursor)
+ends_as row f clean =
+    let exact = is_exact f.lead f.body in
+    let end = exact.some_cursor clean in
+    let is = end.1 in
+    Decides-at _ (same_cursor end.0 row.cursor) (ap (ends_at row.cursor) is)
+    (Decides-like _ (λ e. subst (λ (x : AbsCursor). Ends f.lead f.body x) e ((exact.clean end.0).0 is).1) (λ ends. let other = (exact.clean row.cursor).1 (clean, ends) in cc) (cursor_is end.0 row.cursor))
 
-  some_below : (rank : ℕ) (o : Option Row) → rank_below rank o ≡ true → (r : Row) × (o ≡ Some r) × (r.rank < rank)
-  some_below rank None h = cc
-  some_below rank (Some r) h = (r, refl, grind (arith, nat_tests))
+painting_agrees : (row : Row) (f : Frame) → Agrees (on_painting row f)
+painting_agrees row f = in_turn (touches_agrees row f) (λ clean. by_test _ (cause.CursorDiffers row.id) (ends_as row f clean))
 
-  down_by : (f : Frame) (rank : ℕ) (way : Way) (o : Option Id) → sought f way ≡ o → offered_down cert.rows rank o ≡ true → LeadsDown cert.rows f rank
+module _ (base : BaseView) (rows : List Row) where
+  -- K11 and K12
+  goes : (way : Way) (to : Id) → Decides (goes_on base rows way to) (LeadsOn base rows way to)
+  goes (Route digit) to = Decides-or _ _ (λ h. h, λ h. h) (λ h. h, λ h. h)
+  goes Next to = (λ h. h, λ h. h)
+
+  leads : (way : Way) (o : Option Id) → Decides (offered_on base rows way o) ((to : Id) → o ≡ Some to → LeadsOn base rows way to)
+  leads way None = (λ h to e. cc, λ _. refl)
+  leads way (Some to) = (λ h other e. let same : to ≡ other = cc in subst (λ (id : Id). LeadsOn base rows way id) same ((goes way to).0 h), λ all. (goes way to).1 (all to refl))
+
+  lost : (way : Way) (o : Option Id) → ((to : Id) × (o ≡ Some to) × (LeadsOn base rows way to → ⊥)) ↔ (((to : Id) → o ≡ Some to → LeadsOn base rows way to) → ⊥)
+  lost way None = (λ h. let e = h.1 in cc, λ no. absurd (no (λ to e. cc)))
+  lost way (Some to) = (λ h all. h.2 (all h.0 h.1), λ no. (to, refl, λ on. no (λ other e. let same : to ≡ other = cc in subst (λ (id : Id). LeadsOn base rows way id) same on)))
+
+  -- K14
+  below : (rank : ℕ) (o : Option Row) → Decides (rank_below rank o) ((r : Row) × (o ≡ Some r) × (r.rank < rank))
+  below rank None = (λ h. cc, λ h. let e = h.1 in cc)
+  below rank (Some row) = (λ h. (row, refl, grind (arith, nat_tests)), λ h. let same : row ≡ h.0 = cc in let is : row.rank ≡ h.0.rank = ap (λ (r : Row). r.rank) same in let less = h.2 in grind (arith, nat_tests))
+
+  down_by : (f : Frame) (rank : ℕ) (way : Way) (o : Option Id) → sought f way ≡ o → offered_down rows rank o ≡ true → LeadsDown rows f rank
   down_by f rank way None is h = cc
   down_by f rank way (Some to) is h =
-      let r = some_below rank (row_among cert.rows to) h in
+      let r = (below rank (row_among rows to)).0 h in
       record { way = way; to = to; row = r.0; offered = is; covered = r.1; lower = r.2 }
 
-  pub leads_down : (rank : ℕ) (f : Frame) → is_down cert.rows rank f ≡ true → LeadsDown cert.rows f rank
-  leads_down rank f h =
-      let a = Any-from_list_any (way_down cert.rows rank f) ways h in
-      down_by f rank a.1 (sought f a.1) refl a.4
+  way_here : (f : Frame) (way : Way) (to : Id) → sought f way ≡ Some to → (way_place way < length ways) × (get_or ways (way_place way) way ≡ way)
+  way_here f way to e = let place = offered_place f way to e in (omega (arith, ways_length, place.0), ways_at (way_place way) way place.0 ∙ place.1)
 
-  rank_rules : (row : Row) (f : Frame) (b : Bool) → (row.rank == 0) ≡ b → (if b then unless (id_eq row.id (entry_of base)) (cause.RankZero row.id) else unless (is_down cert.rows row.rank f) (cause.NoWayDown row.id)) ≡ None → (row.rank ≡ 0 → row.id ≡ entry_of base) × (0 < row.rank → LeadsDown cert.rows f row.rank)
-  rank_rules row f true e h = (λ z. id_eq_same row.id (entry_of base) (holds (id_eq row.id (entry_of base)) (cause.RankZero row.id) h), λ lt. absurd (grind (arith, nat_tests)))
-  rank_rules row f false e h = (λ z. absurd (grind (arith, nat_tests)), λ lt. leads_down row.rank f (holds (is_down cert.rows row.rank f) (cause.NoWayDown row.id) h))
+  down_is : (f : Frame) (rank : ℕ) → Decides (is_down rows rank f) (LeadsDown rows f rank)
+  down_is f rank = (λ h. let a = Any-from_list_any (way_down rows rank f) ways h in down_by f rank a.1 (sought f a.1) refl a.4, by) where
+    by : LeadsDown rows f rank → is_down rows rank f ≡ true
+    by d =
+        let here = way_here f d.way d.to d.offered in
+        let passes = (below rank (row_among rows d.to)).1 (d.row, d.covered, d.lower) in
+        list_any_at (way_down rows rank f) ways (way_place d.way) d.way here.0 (ap (way_down rows rank f) here.1 ∙ ap (offered_down rows rank) d.offered ∙ passes)
 
-  -- a way that passes the test leads on
-  pub leads_on : (way : Way) (to : Id) → goes_on base cert.rows way to ≡ true → LeadsOn base cert.rows way to
-  leads_on (Route digit) to h = or_cases (lists_outside base to.page) (is_covered cert.rows to) h
-  leads_on Next to h = h
+  id_is : (a b : Id) → Decides (id_eq a b) (a ≡ b)
+  id_is a b = (id_eq_same a b, λ e. ap (λ (i : Id). id_eq a i) (sym e) ∙ id_eq_refl a)
 
-  pub ways_rule : (f : Frame) → lost_way base cert.rows f ≡ None → WaysLeadOn base cert.rows f
-  ways_rule f h way to e =
-      let place = offered_place f way to e in
-      let here : get_or ways (way_place way) way ≡ way = ways_at (way_place way) way place.0 ∙ place.1 in
-      let none = none_found (λ w. not (way_on base cert.rows f w)) ways h (way_place way) way (omega (arith, ways_length, place.0)) in
-      let on : not (way_on base cert.rows f way) ≡ false = subst (λ (w : Way). not (way_on base cert.rows f w) ≡ false) here none in
-      leads_on way to (not-false (goes_on base cert.rows way to) (ap (λ (o : Option Id). not (offered_on base cert.rows way o)) (sym e) ∙ on))
+  -- K11 to K14
+  ways_agree : (row : Row) (f : Frame) → Agrees (on_ways base rows row f)
+  ways_agree row f =
+      in_turn (for_each (on_way base rows row f) (λ way. by_words _ (lost_cause row.id way) (leads way (sought f way)) (lost way (sought f way))) ways) (λ _.
+      in_turn (by_both_tests (row.rank == 0) _ (cause.RankZero row.id) (Decides-eqb row.rank 0) (id_is row.id (entry_of base))) (λ _.
+      by_both_tests (nat_lt 0 row.rank) _ (cause.NoWayDown row.id) (Decides-ltb 0 row.rank) (down_is f row.rank)))
 
-  pub fair : (row : Row) (f : Frame) → frame_fault caller cert row f ≡ None → IsFair caller cert row f
-  fair row f h =
-      let a = both_none (unless (is_open caller f) (cause.ClosedFrame row.id)) _ h in
-      let b = both_none (unless (not (nat_lt cert.ceiling f.price)) (cause.Price row.id)) _ a.1 in
-      record {
-        admitted = holds (is_open caller f) (cause.ClosedFrame row.id) a.0;
-        price = at_least cert.ceiling f.price (holds _ (cause.Price row.id) b.0);
-        most = at_least cert.keyings row.rank (holds _ (cause.RankAbove row.id) b.1);
-      }
+  -- the eleven ways are all ways that a frame offers
+  ways_lead : (row : Row) (f : Frame) → (each (on_way base rows row f) ways).Holds ↔ WaysLeadOn base rows f
+  ways_lead row f = (λ h way to e. let here = way_here f way to e in subst (λ (w : Way). (on_way base rows row f w).Holds) here.1 (each_at (on_way base rows row f) ways h (way_place way) way here.0) to e, λ all. each_of (on_way base rows row f) (λ way. all way) ways)
 
-  pub painted_as : (row : Row) (f : Frame) → paint_fault row (paint_of f.lead f.body) ≡ None → IsPaintedAs row f
-  painted_as row f h =
-      let p = ((is_exact f.lead f.body).clean row.cursor).0 (painted row (paint_of f.lead f.body) h) in
-      record { clean = p.0; ends = p.1 }
+module _ (caller : List ℕ) (base : BaseView) (cert : CertView) where
+  -- K5, then K6 to K14
+  row_agrees : (row : Row) (o : Option Frame) → Agrees (if_found caller base cert row o)
+  row_agrees row None = by_test false (cause.NoFrame row.id) (λ h. cc, λ h. absurd h)
+  row_agrees row (Some f) = in_turn (frame_agrees caller cert row f) (λ _. in_turn (painting_agrees row f) (λ _. ways_agree base cert.rows row f))
 
-  pub good_row : (row : Row) → row_fault caller base cert row ≡ None → IsGoodRow caller base cert row.id row.rank row.cursor
-  good_row row h =
-      let w = found_frame row (frame_at base row.id) h in
-      let f = w.0 in
-      let n = both_none (frame_fault caller cert row f) _ w.2 in
-      let m = both_none (paint_fault row (paint_of f.lead f.body)) (ways_fault base cert.rows row f) n.1 in
-      let g = fair row f n.0 in
-      let p = painted_as row f m.0 in
-      let d = both_none (lost_fault row.id (lost_way base cert.rows f)) _ m.1 in
-      let rank = rank_rules row f (row.rank == 0) refl d.1 in
-      record {
-        frame = f;
-        found = w.1;
-        admitted = g.admitted;
-        price = g.price;
-        most = g.most;
-        clean = p.clean;
-        ends = p.ends;
-        ways = ways_rule f (no_way row.id _ d.0);
-        zero = rank.0;
-        down = rank.1;
-      }
+  good_row : (row : Row) (o : Option Frame) → frame_at base row.id ≡ o → (if_found caller base cert row o).Holds ↔ IsGoodRow caller base cert row.id row.rank row.cursor
+  good_row row None is = (λ h. absurd h, λ g. let e = g.found in cc)
+  good_row row (Some f) is = (
+    λ h. record {
+      frame = f;
+      found = is;
+      admitted = h.0.0;
+      price = h.0.1.0;
+      most = h.0.1.1;
+      clean = h.1.0.0;
+      ends = h.1.0.1;
+      ways = (ways_lead base cert.rows row f).0 h.1.1.0;
+      zero = h.1.1.1.0;
+      down = h.1.1.1.1;
+    },
+    λ g.
+        let found = g.found in
+        let same : g.frame ≡ f = cc in
+        subst (λ (x : Frame). (on_found caller base cert row x).Holds) same ((g.admitted, (g.price, g.most)), ((g.clean, g.ends), ((ways_lead base cert.rows row g.frame).1 g.ways, (g.zero, g.down)))),
+  )
 
-  good_rows : (rows : List Row) → rows_fault caller base cert rows ≡ None → AllByRecursion (λ r. IsGoodRow caller base cert r.id r.rank r.cursor) rows
-  good_rows [] h = tt
-  good_rows (row ∷ rows) h =
-      let b = both_none (row_fault caller base cert row) (rows_fault caller base cert rows) h in
-      (good_row row b.0, good_rows rows b.1)
+module _ (base : BaseView) (policy : Policy) (cert : CertView) where
+  agrees : Agrees (conditions base policy cert)
+  agrees = in_turn (head_agrees base policy cert) (λ _. for_each (on_row cert.groups base cert) (λ row. row_agrees cert.groups base cert row (frame_at base row.id)) cert.rows)
 
-  pub head_right : (policy : Policy) → head_fault base policy cert ≡ None → IsGoodHead base policy cert
-  head_right policy h =
-      let a = both_none (unless (cert.entry == base.entry) cause.EntryDiffers) _ h in
-      let b = both_none (unless (not (nat_lt policy.ceiling cert.ceiling)) cause.CeilingAbove) _ a.1 in
-      let d = both_none (unless (not (nat_lt policy.keyings cert.keyings)) cause.KeyingsAbove) _ b.1 in
-      let e = both_none (unless (bytes_eq policy.groups cert.groups) cause.GroupsDiffer) _ d.1 in
-      let test = holds (cert.entry == base.entry) cause.EntryDiffers a.0 in
-      record {
-        entry = grind (arith, nat_tests);
-        ceiling = at_least policy.ceiling cert.ceiling (holds _ cause.CeilingAbove b.0);
-        keyings = at_least policy.keyings cert.keyings (holds _ cause.KeyingsAbove d.0);
-        groups = same_groups policy.groups cert.groups (holds _ cause.GroupsDiffer e.0);
-        covered = holds (is_covered cert.rows (entry_of base)) cause.EntryNotCovered e.1;
-      }
+  rows_good : (on_rows cert.groups base cert cert.rows).Holds ↔ AllByRecursion (λ r. IsGoodRow cert.groups base cert r.id r.rank r.cursor) cert.rows
+  rows_good = each_all (on_row cert.groups base cert) _ (λ row. good_row cert.groups base cert row (frame_at base row.id) refl) cert.rows
 
-pub cleared_good : (base : BaseView) (policy : Policy) (cert : CertView) → verdict base policy cert ≡ Cleared → Good base policy cert
-cleared_good base policy cert h =
-    let n = cleared_none (head_fault base policy cert otherwise rows_fault cert.groups base cert cert.rows) h in
-    let both = both_none (head_fault base policy cert) (rows_fault cert.groups base cert cert.rows) n in
-    let head = head_right cert.groups base cert policy both.0 in
-    record {
-      entry = head.entry;
-      ceiling = head.ceiling;
-      keyings = head.keyings;
-      groups = head.groups;
-      covered = head.covered;
-      rows = good_rows cert.groups base cert cert.rows both.1;
-    }
+  verdict_none : (o : Option Cause) → verdict_of o ≡ Cleared → o ≡ None
+  verdict_none None h = refl
+  verdict_none (Some c) h = cc
+
+  verdict_some : (o : Option Cause) (c : Cause) → verdict_of o ≡ Refused c → o ≡ Some c
+  verdict_some None c h = cc
+  verdict_some (Some k) c h = cc
+
+  pub cleared_good : verdict base policy cert ≡ Cleared → Good base policy cert
+  cleared_good h =
+      let all = agrees.none.0 (verdict_none _ h) in
+      let terms = all.0.0 in
+      record { entry = terms.0; ceiling = terms.1.0; keyings = terms.1.1.0; groups = terms.1.1.1; covered = all.0.1; rows = rows_good.0 all.1 }
+
+  pub good_cleared : Good base policy cert → verdict base policy cert ≡ Cleared
+  good_cleared g = ap verdict_of (agrees.none.1 (((g.entry, (g.ceiling, (g.keyings, g.groups))), g.covered), rows_good.1 g.rows))
+
+  -- an answer that is the verdict is Cleared exactly if the certificate is good
+  pub clears_good : (v : Verdict) → v ≡ verdict base policy cert → (v ≡ Cleared) ↔ Good base policy cert
+  clears_good v e = (λ h. cleared_good (sym e ∙ h), λ g. e ∙ good_cleared g)
+
+  pub refusal : (c : Cause) → (verdict base policy cert ≡ Refused c) ↔ (conditions base policy cert).FailsFor c
+  refusal c = (λ h. (agrees.some c).0 (verdict_some _ c h), λ f. ap verdict_of ((agrees.some c).1 f))

@@ -1,10 +1,9 @@
 pub mod Steps
 pub mod RowsInTurn
+pub mod Conditions
 pub mod Clears
-pub mod IsCleared
 pub mod RowBodies
-pub mod Refusals
-pub mod WaysTold
+pub mod WaysInTurn
 pub mod Counted
 pub mod Editions
 pub mod Places

@@ -6,10 +6,11 @@ use Rattle.session_machine.specs.Open.{opening}
 use Rattle.session_machine.specs.Runs.{state_after}
 use Rattle.cert_table.specs.CertView.{CertView}
 use Rattle.checker.specs.declared.policy.Policy.{Policy}
-use Rattle.checker.specs.declared.verdict.Verdict.TheVariants.{Cleared}
+use Rattle.checker.specs.declared.verdict.Cause.{Cause}
+use Rattle.checker.specs.declared.verdict.Verdict.TheVariants.{Cleared, Refused}
 use Rattle.checker.specs.Good.{Good}
 use Rattle.checker.specs.Safe.{Safe, HasRows}
-use Rattle.checker.specs.Verdict.{verdict}
+use Rattle.checker.specs.Verdict.{conditions, verdict}
 
 -- a good certificate makes every session safe. The premise is what every base keeps: no frame is on an outside page
 abbrev pub GoodIsSafe : Type 0
@@ -22,3 +23,7 @@ GoodKeepsRows = (base : BaseView) (policy : Policy) (cert : CertView) → AreApa
 -- cleared exactly if the certificate is good
 abbrev pub ClearedIsGood : Type 0
 ClearedIsGood = (base : BaseView) (policy : Policy) (cert : CertView) → (verdict base policy cert ≡ Cleared) ↔ Good base policy cert
+
+-- refused for a cause exactly if its condition is the first that fails
+abbrev pub RefusedIsFirst : Type 0
+RefusedIsFirst = (base : BaseView) (policy : Policy) (cert : CertView) (c : Cause) → (verdict base policy cert ≡ Refused c) ↔ (conditions base policy cert).FailsFor c

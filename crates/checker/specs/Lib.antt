@@ -1,8 +1,8 @@
 pub mod Good
 pub mod Safe
+pub mod Conditions
 pub mod Verdict
 pub mod Headline
-pub mod Refusal
 pub mod Ways
 pub mod Counts
 pub mod Taken

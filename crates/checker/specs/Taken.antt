@@ -1,7 +1,7 @@
 -- What a check takes, exactly: how many entries its look-ups compare, and how many bytes of bodies it paints. How many rows a
 -- look-up of an id compares is the cover's, and so a parameter. The caller is the list of the groups to which the caller
 -- belongs.
-use Rattle.std.specs.Prelude.{ℕ, ◌+◌, Bool, true, false, List, [], ◌∷◌, Option, Some, None, if◌then◌else◌}
+use Rattle.std.specs.Prelude.{ℕ, ◌+◌, Bool, List, [], ◌∷◌, Option, Some, None, length, is_none, if◌then◌else◌}
 use Rattle.std.specs.List.{sum_by}
 use Rattle.page_ids.specs.Id.{Id}
 use Rattle.page_ids.specs.declared.way.Way.{Way}
@@ -15,40 +15,25 @@ use Rattle.cert_table.specs.declared.row.Row.{Row}
 use Rattle.cert_table.specs.CertView.{CertView}
 use Rattle.checker.specs.declared.policy.Policy.{Policy}
 use Rattle.checker.specs.declared.verdict.Cause.{Cause}
-use Rattle.checker.specs.declared.verdict.Cause.TheVariants as cause
+use Rattle.checker.specs.Conditions.{◌then◌}
 use Rattle.checker.specs.Good.{is_covered}
-use Rattle.checker.specs.Verdict.{row_fault, head_fault}
-use Rattle.checker.specs.Counts.{bytes_at}
+use Rattle.checker.specs.Verdict.{on_terms, on_head, on_frame, on_painting, on_row}
 
 -- so many, if it is done
 abbrev pub counted_if : Bool → ℕ → ℕ
 counted_if done n = if done then n else 0
 
--- the entry frame is looked up, unless K1 to K3 or K15 refuse the certificate
-abbrev pub is_entry_sought : Option Cause → Bool
-is_entry_sought (Some cause.EntryDiffers) = false
-is_entry_sought (Some cause.CeilingAbove) = false
-is_entry_sought (Some cause.KeyingsAbove) = false
-is_entry_sought (Some cause.GroupsDiffer) = false
-is_entry_sought _ = true
+-- the entry frame is looked up if K1 to K3 and K15 hold
+abbrev pub is_entry_sought : BaseView → Policy → CertView → Bool
+is_entry_sought base policy cert = is_none (on_terms base policy cert).first_cause
 
--- the body of a row's frame is painted, unless K5 to K8 refuse the row
-abbrev pub is_painted : Option Cause → Bool
-is_painted (Some (cause.NoFrame id)) = false
-is_painted (Some (cause.ClosedFrame id)) = false
-is_painted (Some (cause.Price id)) = false
-is_painted (Some (cause.RankAbove id)) = false
-is_painted _ = true
+-- the body of a row's frame is painted if K6 to K8 hold
+abbrev pub is_painted : List ℕ → CertView → Row → Frame → Bool
+is_painted caller cert row f = is_none (on_frame caller cert row f).first_cause
 
--- the ways of a row's frame are looked up, unless K5 to K10 refuse the row
-abbrev pub are_ways_sought : Option Cause → Bool
-are_ways_sought (Some (cause.NoFrame id)) = false
-are_ways_sought (Some (cause.ClosedFrame id)) = false
-are_ways_sought (Some (cause.Price id)) = false
-are_ways_sought (Some (cause.RankAbove id)) = false
-are_ways_sought (Some (cause.Touches id offset)) = false
-are_ways_sought (Some (cause.CursorDiffers id)) = false
-are_ways_sought _ = true
+-- its ways are looked up if K6 to K10 hold
+abbrev pub are_ways_sought : List ℕ → CertView → Row → Frame → Bool
+are_ways_sought caller cert row f = is_none (on_frame caller cert row f then on_painting row f).first_cause
 
 -- how many outside pages are compared with the page of a way whose frame has no row: none for next
 abbrev pub outside_compared : BaseView → Way → ℕ → ℕ
@@ -68,19 +53,21 @@ way_compared compared base rows f way = offered_compared compared base rows way 
 abbrev pub ways_compared : (List Row → Id → ℕ) → BaseView → List Row → Frame → ℕ
 ways_compared compared base rows f = sum_by (way_compared compared base rows f) ways
 
-abbrev pub ways_compared_if : (List Row → Id → ℕ) → BaseView → List Row → Option Frame → ℕ
-ways_compared_if compared base rows None = 0
-ways_compared_if compared base rows (Some f) = ways_compared compared base rows f
-
 -- what is compared for a row: frames with its id, and what its frame's ways take
+abbrev pub found_probes : (List Row → Id → ℕ) → List ℕ → BaseView → CertView → Row → Option Frame → ℕ
+found_probes compared caller base cert row None = 0
+found_probes compared caller base cert row (Some f) = counted_if (are_ways_sought caller cert row f) (ways_compared compared base cert.rows f)
+
 abbrev pub row_probes : (List Row → Id → ℕ) → List ℕ → BaseView → CertView → Row → ℕ
-row_probes compared caller base cert row =
-    frames_compared base.frames row.id
-    + counted_if (are_ways_sought (row_fault caller base cert row)) (ways_compared_if compared base cert.rows (frame_at base row.id))
+row_probes compared caller base cert row = frames_compared base.frames row.id + found_probes compared caller base cert row (frame_at base row.id)
 
 -- the bytes that are painted for a row
+abbrev pub found_steps : List ℕ → CertView → Row → Option Frame → ℕ
+found_steps caller cert row None = 0
+found_steps caller cert row (Some f) = counted_if (is_painted caller cert row f) (length f.body)
+
 abbrev pub row_steps : List ℕ → BaseView → CertView → Row → ℕ
-row_steps caller base cert row = counted_if (is_painted (row_fault caller base cert row)) (bytes_at base row)
+row_steps caller base cert row = found_steps caller cert row (frame_at base row.id)
 
 -- the rest, unless there was a fault
 abbrev pub unless_fault : Option Cause → List Row → List Row
@@ -90,16 +77,16 @@ unless_fault (Some c) rows = []
 -- the rows that are judged: up to and with the first at fault
 abbrev pub judged : List ℕ → BaseView → CertView → List Row → List Row
 judged caller base cert [] = []
-judged caller base cert (row ∷ rows) = row ∷ unless_fault (row_fault caller base cert row) (judged caller base cert rows)
+judged caller base cert (row ∷ rows) = row ∷ unless_fault (on_row caller base cert row).first_cause (judged caller base cert rows)
 
 -- those that a check judges: none if K1 to K3, K15 or K4 refuse the certificate
 abbrev pub judged_rows : BaseView → Policy → CertView → List Row
-judged_rows base policy cert = unless_fault (head_fault base policy cert) (judged cert.groups base cert cert.rows)
+judged_rows base policy cert = unless_fault (on_head base policy cert).first_cause (judged cert.groups base cert cert.rows)
 
 -- how many entries a check compares: rows with the entry frame's id, and what each row takes that it judges
 abbrev pub probes_of : (List Row → Id → ℕ) → BaseView → Policy → CertView → ℕ
 probes_of compared base policy cert =
-    counted_if (is_entry_sought (head_fault base policy cert)) (compared cert.rows (entry_of base))
+    counted_if (is_entry_sought base policy cert) (compared cert.rows (entry_of base))
     + sum_by (row_probes compared cert.groups base cert) (judged_rows base policy cert)
 
 -- how many bytes of bodies a check paints

@@ -1,5 +1,5 @@
--- The first condition that fails, in order. The caller is the list of the groups to which the caller belongs.
-use Rattle.std.specs.Prelude.{ℕ, Bool, true, false, not, ◌&&◌, ◌||◌, ◌==◌, List, [], ◌∷◌, Option, Some, None, find, nat_lt, if◌then◌else◌}
+-- The conditions of the check, in order. The caller is the list of the groups to which the caller belongs.
+use Rattle.std.specs.Prelude.{◌≡◌, ◌<◌, ℕ, Bool, true, false, ◌&&◌, ◌||◌, ◌==◌, List, Option, Some, None, nat_lt}
 use Rattle.std.specs.List.{list_any}
 use Rattle.std.specs.Str.{bytes_eq}
 use Rattle.page_ids.specs.Id.{Id}
@@ -11,6 +11,7 @@ use Rattle.frame_records.specs.declared.frame.Frame.{Frame}
 use Rattle.frame_records.specs.BaseView.{BaseView, frame_at, lists_outside}
 use Rattle.frame_records.specs.Seek.{is_open, entry_of}
 use Rattle.frame_records.specs.Ways.{sought}
+use Rattle.terminal_codes.specs.Touch.{IsClean, IsFirstTouch}
 use Rattle.abstract_paint.specs.declared.cursor.AbsCursor.{AbsCursor}
 use Rattle.abstract_paint.specs.declared.cursor.Place.{Place}
 use Rattle.abstract_paint.specs.declared.cursor.Place.TheVariants.{Any, Col, Spot}
@@ -18,6 +19,7 @@ use Rattle.abstract_paint.specs.declared.cursor.Pend.{Pend}
 use Rattle.abstract_paint.specs.declared.cursor.Pend.TheVariants.{No, Yes, Maybe}
 use Rattle.abstract_paint.specs.declared.painting.Painted.{Painted}
 use Rattle.abstract_paint.specs.declared.painting.Painted.TheVariants.{Clean, Touches}
+use Rattle.abstract_paint.specs.Cursor.{Ends}
 use Rattle.abstract_paint.specs.Paint.{paint_of}
 use Rattle.cert_table.specs.declared.row.Row.{Row}
 use Rattle.cert_table.specs.Rows.{row_among}
@@ -27,40 +29,21 @@ use Rattle.checker.specs.declared.verdict.Cause.{Cause}
 use Rattle.checker.specs.declared.verdict.Cause.TheVariants as cause
 use Rattle.checker.specs.declared.verdict.Verdict.{Verdict}
 use Rattle.checker.specs.declared.verdict.Verdict.TheVariants as verdicts
-use Rattle.checker.specs.Good.{is_covered}
-
--- the first of two causes
-infixr 20 ◌otherwise◌
-abbrev pub ◌otherwise◌ : Option Cause → Option Cause → Option Cause
-None otherwise later = later
-(Some c) otherwise later = Some c
-
--- the cause, if the condition fails
-abbrev pub unless : Bool → Cause → Option Cause
-unless holds c = if holds then None else Some c
+use Rattle.checker.specs.Conditions.{Condition, decided, must, must_pass, must_if, at_most, ◌then◌, each}
+use Rattle.checker.specs.Good.{is_covered, LeadsOn, LeadsDown}
 
 -- the same cursor, as a test
 abbrev pub same_place : Place → Place → Bool
 same_place Any Any = true
-same_place Any (Col c) = false
-same_place Any (Spot s) = false
-same_place (Col c) Any = false
 same_place (Col c) (Col d) = c == d
-same_place (Col c) (Spot s) = false
-same_place (Spot s) Any = false
-same_place (Spot s) (Col c) = false
 same_place (Spot s) (Spot t) = s == t
+same_place _ _ = false
 
 abbrev pub same_pend : Pend → Pend → Bool
 same_pend No No = true
-same_pend No Yes = false
-same_pend No Maybe = false
-same_pend Yes No = false
 same_pend Yes Yes = true
-same_pend Yes Maybe = false
-same_pend Maybe No = false
-same_pend Maybe Yes = false
 same_pend Maybe Maybe = true
+same_pend _ _ = false
 
 abbrev pub same_cursor : AbsCursor → AbsCursor → Bool
 same_cursor x y = same_place x.place y.place && same_pend x.pend y.pend
@@ -78,18 +61,10 @@ offered_on base rows way (Some to) = goes_on base rows way to
 abbrev pub way_on : BaseView → List Row → Frame → Way → Bool
 way_on base rows f way = offered_on base rows way (sought f way)
 
--- the first way that leads nowhere: the smallest digit, or next
-abbrev pub lost_way : BaseView → List Row → Frame → Option Way
-lost_way base rows f = find (λ way. not (way_on base rows f way)) ways
-
 -- K11 of a route, K12 of next
 abbrev pub lost_cause : Id → Way → Cause
 lost_cause id (Route digit) = cause.RouteNotCovered id digit
 lost_cause id Next = cause.NextNotCovered id
-
-abbrev pub lost_fault : Id → Option Way → Option Cause
-lost_fault id None = None
-lost_fault id (Some way) = Some (lost_cause id way)
 
 abbrev pub rank_below : ℕ → Option Row → Bool
 rank_below rank None = false
@@ -107,65 +82,93 @@ way_down rows rank f way = offered_down rows rank (sought f way)
 abbrev pub is_down : List Row → ℕ → Frame → Bool
 is_down rows rank f = list_any (way_down rows rank f) ways
 
--- K13 and K14, by whether some way leads down
-abbrev pub rank_fault : BaseView → Id → ℕ → Bool → Option Cause
-rank_fault base id rank down =
-    if rank == 0
-    then unless (id_eq id (entry_of base)) (cause.RankZero id)
-    else unless down (cause.NoWayDown id)
+-- K1 to K3 and K15
+abbrev pub on_terms : BaseView → Policy → CertView → Condition
+on_terms base policy cert =
+    must (cert.entry == base.entry) (cert.entry ≡ base.entry) cause.EntryDiffers
+    then at_most cert.ceiling policy.ceiling cause.CeilingAbove
+    then at_most cert.keyings policy.keyings cause.KeyingsAbove
+    then must (bytes_eq policy.groups cert.groups) (policy.groups ≡ cert.groups) cause.GroupsDiffer
+
+-- those, and K4
+abbrev pub on_head : BaseView → Policy → CertView → Condition
+on_head base policy cert = on_terms base policy cert then must_pass (is_covered cert.rows (entry_of base)) cause.EntryNotCovered
 
 -- K6, K7 and K8: the frame by itself
-abbrev pub frame_fault : List ℕ → CertView → Row → Frame → Option Cause
-frame_fault caller cert row f =
-    unless (is_open caller f) (cause.ClosedFrame row.id)
-    otherwise unless (not (nat_lt cert.ceiling f.price)) (cause.Price row.id)
-    otherwise unless (not (nat_lt cert.keyings row.rank)) (cause.RankAbove row.id)
+abbrev pub on_frame : List ℕ → CertView → Row → Frame → Condition
+on_frame caller cert row f =
+    must_pass (is_open caller f) (cause.ClosedFrame row.id)
+    then at_most f.price cert.ceiling (cause.Price row.id)
+    then at_most row.rank cert.keyings (cause.RankAbove row.id)
 
--- K9 and K10: the result of the frame's painting
-abbrev pub paint_fault : Row → Painted → Option Cause
-paint_fault row (Touches offset) = Some (cause.Touches row.id offset)
-paint_fault row (Clean cursor) = unless (same_cursor cursor row.cursor) (cause.CursorDiffers row.id)
+-- K9, which names the first byte that touches
+abbrev pub touched : Id → Painted → Option Cause
+touched id (Touches offset) = Some (cause.Touches id offset)
+touched id (Clean cursor) = None
+
+abbrev pub on_touches : Row → Frame → Condition
+on_touches row f = record {
+  first_cause = touched row.id (paint_of f.lead f.body);
+  Holds = IsClean f.lead f.body;
+  FailsFor = λ c. (offset : ℕ) × (c ≡ cause.Touches row.id offset) × IsFirstTouch f.lead f.body offset;
+}
+
+abbrev pub ends_at : AbsCursor → Painted → Bool
+ends_at cursor (Touches offset) = false
+ends_at cursor (Clean end) = same_cursor end cursor
+
+-- K9 and K10: the frame's painting
+abbrev pub on_painting : Row → Frame → Condition
+on_painting row f =
+    on_touches row f
+    then must (ends_at row.cursor (paint_of f.lead f.body)) (Ends f.lead f.body row.cursor) (cause.CursorDiffers row.id)
+
+-- K11 or K12: a way, if the frame offers it
+abbrev pub on_way : BaseView → List Row → Row → Frame → Way → Condition
+on_way base rows row f way =
+    decided (way_on base rows f way)
+    ((to : Id) → sought f way ≡ Some to → LeadsOn base rows way to)
+    ((to : Id) × (sought f way ≡ Some to) × (LeadsOn base rows way to → ⊥))
+    (lost_cause row.id way)
+
+-- K13 and K14, by whether some way leads down
+abbrev pub on_rank : BaseView → Id → ℕ → Bool → Type 0 → Condition
+on_rank base id rank down IsDown =
+    must_if (rank == 0) (rank ≡ 0) (id_eq id (entry_of base)) (id ≡ entry_of base) (cause.RankZero id)
+    then must_if (nat_lt 0 rank) (0 < rank) down IsDown (cause.NoWayDown id)
 
 -- K11 to K14: the ways on from the frame
-abbrev pub ways_fault : BaseView → List Row → Row → Frame → Option Cause
-ways_fault base rows row f =
-    lost_fault row.id (lost_way base rows f)
-    otherwise rank_fault base row.id row.rank (is_down rows row.rank f)
+abbrev pub on_ways : BaseView → List Row → Row → Frame → Condition
+on_ways base rows row f =
+    each (on_way base rows row f) ways
+    then on_rank base row.id row.rank (is_down rows row.rank f) (LeadsDown rows f row.rank)
 
 -- K6 to K14
-abbrev pub found_fault : List ℕ → BaseView → CertView → Row → Frame → Option Cause
-found_fault caller base cert row f =
-    frame_fault caller cert row f
-    otherwise paint_fault row (paint_of f.lead f.body)
-    otherwise ways_fault base cert.rows row f
+abbrev pub on_found : List ℕ → BaseView → CertView → Row → Frame → Condition
+on_found caller base cert row f =
+    on_frame caller cert row f
+    then on_painting row f
+    then on_ways base cert.rows row f
 
 -- K5, then the rest
-abbrev pub frame_or_none : List ℕ → BaseView → CertView → Row → Option Frame → Option Cause
-frame_or_none caller base cert row None = Some (cause.NoFrame row.id)
-frame_or_none caller base cert row (Some f) = found_fault caller base cert row f
+abbrev pub if_found : List ℕ → BaseView → CertView → Row → Option Frame → Condition
+if_found caller base cert row None = must false ⊥ (cause.NoFrame row.id)
+if_found caller base cert row (Some f) = on_found caller base cert row f
 
--- the first condition that fails of a row
-abbrev pub row_fault : List ℕ → BaseView → CertView → Row → Option Cause
-row_fault caller base cert row = frame_or_none caller base cert row (frame_at base row.id)
+abbrev pub on_row : List ℕ → BaseView → CertView → Row → Condition
+on_row caller base cert row = if_found caller base cert row (frame_at base row.id)
 
--- of the rows in order
-abbrev pub rows_fault : List ℕ → BaseView → CertView → List Row → Option Cause
-rows_fault caller base cert [] = None
-rows_fault caller base cert (row ∷ rows) = row_fault caller base cert row otherwise rows_fault caller base cert rows
+abbrev pub on_rows : List ℕ → BaseView → CertView → List Row → Condition
+on_rows caller base cert rows = each (on_row caller base cert) rows
 
--- K1 to K3, K15 and K4
-abbrev pub head_fault : BaseView → Policy → CertView → Option Cause
-head_fault base policy cert =
-    unless (cert.entry == base.entry) cause.EntryDiffers
-    otherwise unless (not (nat_lt policy.ceiling cert.ceiling)) cause.CeilingAbove
-    otherwise unless (not (nat_lt policy.keyings cert.keyings)) cause.KeyingsAbove
-    otherwise unless (bytes_eq policy.groups cert.groups) cause.GroupsDiffer
-    otherwise unless (is_covered cert.rows (entry_of base)) cause.EntryNotCovered
+-- all of them; the rows are judged for a caller of the certificate's groups
+abbrev pub conditions : BaseView → Policy → CertView → Condition
+conditions base policy cert = on_head base policy cert then on_rows cert.groups base cert cert.rows
 
 abbrev pub verdict_of : Option Cause → Verdict
 verdict_of None = verdicts.Cleared
 verdict_of (Some c) = verdicts.Refused c
 
--- Cleared, or the first condition that fails; the rows are judged for a caller of the certificate's groups
+-- Cleared, or the first condition that fails
 abbrev pub verdict : BaseView → Policy → CertView → Verdict
-verdict base policy cert = verdict_of (head_fault base policy cert otherwise rows_fault cert.groups base cert cert.rows)
+verdict base policy cert = verdict_of (conditions base policy cert).first_cause

@@ -1,5 +1,4 @@
 ghost use Rattle.std.specs.Prelude.{◌≡◌, ◌≤◌, ◌<◌, ◌+◌, ◌*◌, ◌↔◌, None, ℕ, List, length};
-ghost use Rattle.abstract_paint.specs.Paint.{paint_of};
 ghost use Rattle.std.specs.List.{sum_by};
 ghost use Rattle.frame_records.specs.Seek.{entry_of};
 ghost use Rattle.checker.specs.Counts.{ways_of, IsFoundCount, IsRowCount, AreAllCounted, IsCount};
@@ -9,7 +8,7 @@ ghost use Rattle.session_machine.specs.Open.{opening};
 ghost use Rattle.session_machine.specs.Runs.{state_after};
 ghost use Rattle.checker.specs.Good.{Good};
 ghost use Rattle.checker.specs.Safe.{Safe, HasRows};
-ghost use Rattle.checker.specs.Verdict.{verdict, verdict_of, same_cursor, paint_fault, frame_fault, ways_fault, found_fault, row_fault, rows_fault, head_fault};
+ghost use Rattle.checker.specs.Verdict.{verdict, verdict_of, same_cursor, on_head, on_frame, on_painting, on_ways, on_found, on_row, on_rows};
 
 use crate::count::{Count, together};
 use crate::cover::seek_row;
@@ -23,7 +22,7 @@ use frame_records::{Base, Frame};
 
 // K6, K7 and K8: the frame by itself.
 fn judge_frame<C: Cover + Drop>(cert: &Certificate<C>, row: &Row, frame: &Frame) -> Option<Cause>
-    ensures { result ≡ frame_fault cert.now.groups cert.now row.now frame.now }
+    ensures { result ≡ (on_frame cert.now.groups cert.now row.now frame.now).first_cause }
 {
     let id = row.id;
     if !frame.is_open(cert.groups()) {
@@ -46,7 +45,7 @@ fn is_same_cursor(a: AbsCursor, b: AbsCursor) -> bool
 
 // K9 and K10: the frame's painting. The body is painted once.
 fn judge_painting(row: &Row, frame: &Frame) -> Option<Cause>
-    ensures { result ≡ paint_fault row.now (paint_of frame.now.lead frame.now.body) }
+    ensures { result ≡ (on_painting row.now frame.now).first_cause }
 {
     let id = row.id;
     match paint(frame.lead, frame.body.as_slice()) {
@@ -63,7 +62,7 @@ fn judge_ways<C: Cover + Drop>(
     row: &Row,
     frame: &Frame,
 ) -> (Option<Cause>, u64)
-    ensures cause { result.0 ≡ ways_fault base.now cert.now.rows row.now frame.now }
+    ensures cause { result.0 ≡ (on_ways base.now cert.now.rows row.now frame.now).first_cause }
     ensures exact { result.1 ≡ ways_compared C.compared base.now cert.now.rows frame.now }
     ensures most { result.1 ≤ 160 + 11 * C.most_among (length cert.now.rows) }
     ensures small { result.1 ≤ 94489280490 }
@@ -81,9 +80,9 @@ fn judge_found<C: Cover + Drop>(
     row: &Row,
     frame: &Frame,
 ) -> (Option<Cause>, Count)
-    ensures cause { result.0 ≡ found_fault cert.now.groups base.now cert.now row.now frame.now }
-    ensures probes { result.1.probes ≡ counted_if (are_ways_sought result.0) (ways_compared C.compared base.now cert.now.rows frame.now) }
-    ensures steps { result.1.steps ≡ counted_if (is_painted result.0) (length frame.now.body) }
+    ensures cause { result.0 ≡ (on_found cert.now.groups base.now cert.now row.now frame.now).first_cause }
+    ensures probes { result.1.probes ≡ counted_if (are_ways_sought cert.now.groups cert.now row.now frame.now) (ways_compared C.compared base.now cert.now.rows frame.now) }
+    ensures steps { result.1.steps ≡ counted_if (is_painted cert.now.groups cert.now row.now frame.now) (length frame.now.body) }
     ensures count { IsFoundCount (C.most_among (length cert.now.rows)) cert.now.rows row.now frame.now result.0 result.1 }
 {
     if let Some(cause) = judge_frame(cert, row, frame) {
@@ -109,7 +108,7 @@ fn judge_row<C: Cover + Drop>(
     cert: &Certificate<C>,
     row: &Row,
 ) -> (Option<Cause>, Count)
-    ensures cause { result.0 ≡ row_fault cert.now.groups base.now cert.now row.now }
+    ensures cause { result.0 ≡ (on_row cert.now.groups base.now cert.now row.now).first_cause }
     ensures probes { result.1.probes ≡ row_probes C.compared cert.now.groups base.now cert.now row.now }
     ensures steps { result.1.steps ≡ row_steps cert.now.groups base.now cert.now row.now }
     ensures count { IsRowCount base.now (C.most_among (length cert.now.rows)) cert.now.rows row.now result.0 result.1 }
@@ -141,7 +140,7 @@ fn judge_row<C: Cover + Drop>(
 // The first condition that fails of the rows in order, and what they took.
 fn judge_rows<C: Cover + Drop>(base: &Base, cert: &Certificate<C>) -> (Option<Cause>, Count)
     requires some { 0 < length cert.now.rows }
-    ensures cause { result.0 ≡ rows_fault cert.now.groups base.now cert.now cert.now.rows }
+    ensures cause { result.0 ≡ (on_rows cert.now.groups base.now cert.now cert.now.rows).first_cause }
     ensures probes { result.1.probes ≡ sum_by (row_probes C.compared cert.now.groups base.now cert.now) (judged cert.now.groups base.now cert.now cert.now.rows) }
     ensures steps { result.1.steps ≡ sum_by (row_steps cert.now.groups base.now cert.now) (judged cert.now.groups base.now cert.now cert.now.rows) }
     ensures count { AreAllCounted base.now (C.most_among (length cert.now.rows)) cert.now.rows result.0 result.1 }
@@ -167,8 +166,8 @@ fn judge_head<C: Cover + Drop>(
     policy: &Policy,
     cert: &Certificate<C>,
 ) -> (Option<Cause>, u32)
-    ensures cause { result.0 ≡ head_fault base.now policy.now cert.now }
-    ensures exact { result.1 ≡ counted_if (is_entry_sought result.0) (C.compared cert.now.rows (entry_of base.now)) }
+    ensures cause { result.0 ≡ (on_head base.now policy.now cert.now).first_cause }
+    ensures exact { result.1 ≡ counted_if (is_entry_sought base.now policy.now cert.now) (C.compared cert.now.rows (entry_of base.now)) }
     ensures most { result.1 ≤ C.most_among (length cert.now.rows) }
     ensures small { result.1 ≤ 4294967295 }
     ensures some { result.0 ≡ None → 0 < length cert.now.rows }

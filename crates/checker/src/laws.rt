@@ -1,7 +1,6 @@
 ghost use Rattle.checker.specs.Change.{LostIsLeast};
 ghost use Rattle.checker.specs.Editions.{ChangesAreSafe};
-ghost use Rattle.checker.specs.Laws.{GoodIsSafe, GoodKeepsRows, ClearedIsGood};
-ghost use Rattle.checker.specs.Refusal.{RefusedIsFirst};
+ghost use Rattle.checker.specs.Laws.{GoodIsSafe, GoodKeepsRows, ClearedIsGood, RefusedIsFirst};
 ghost use Rattle.checker.specs.RowsAreClean.{RowsAreClean};
 
 /// A good certificate makes every session safe, and keeps the present and each remembered frame among its rows.

@@ -1,5 +1,6 @@
-ghost use Rattle.std.specs.Prelude.{◌≡◌};
-ghost use Rattle.checker.specs.Verdict.{◌otherwise◌, lost_cause, lost_fault, rank_fault};
+ghost use Rattle.std.specs.Prelude.{◌≡◌, true, option_map};
+ghost use Rattle.checker.specs.Conditions.{◌otherwise◌};
+ghost use Rattle.checker.specs.Verdict.{lost_cause, on_rank};
 
 use crate::verdict::Cause;
 use frame_records::Base;
@@ -7,7 +8,7 @@ use page_ids::{FrameId, Way};
 
 // K13 and K14, by whether some way leads down.
 fn rank_cause(base: &Base, id: FrameId, rank: u16, down: bool) -> Option<Cause>
-    ensures { result ≡ rank_fault base.now id rank down }
+    ensures { result ≡ (on_rank base.now id rank down (down ≡ true)).first_cause }
 {
     if rank == 0 {
         if id == base.entry_frame() {
@@ -40,7 +41,7 @@ pub fn ways_cause(
     lost: Option<Way>,
     down: bool,
 ) -> Option<Cause>
-    ensures { result ≡ (lost_fault id lost otherwise rank_fault base.now id rank down) }
+    ensures { result ≡ (option_map (lost_cause id) lost otherwise (on_rank base.now id rank down (down ≡ true)).first_cause) }
 {
     match lost {
         Some(way) => Some(lost_cause(id, &way)),

@@ -23,7 +23,7 @@ use Rattle.cert_table.specs.Table.{table_fault}
 use Rattle.cert_table.proofs.Tables.{no_fault}
 use Rattle.checker.specs.declared.policy.Policy.{Policy}
 use Rattle.checker.specs.Good.{is_covered}
-use Rattle.checker.proofs.IsCleared.{good_cleared}
+use Rattle.checker.proofs.Clears.{good_cleared}
 use Rattle.finder.specs.declared.found.Discovered.{Discovered}
 use Rattle.finder.specs.Finds.{IsFinding}
 use Rattle.finder.specs.Walks.{IsDistance, EntryIsFound, IsReached}

@@ -3,12 +3,11 @@ use Rattle.session_machine.specs.Open.{opening}
 use Rattle.session_machine.specs.Runs.{state_after}
 use Rattle.checker.specs.Safe.{Safe, HasRows}
 use Rattle.checker.proofs.Steps.{safe, keeps_rows}
-use Rattle.checker.proofs.Clears.{cleared_good}
-use Rattle.checker.proofs.IsCleared.{tells}
+use Rattle.checker.proofs.Clears.{cleared_good, clears_good}
 use Rattle.checker.proofs.judge.check.Goals as goal
 
 pub returns-clause-good : goal.returns-clause-good
-returns-clause-good g c = tells c.args.base.now c.args.policy.now c.args.cert.now c.check_counted.result.0 c.check_counted.ensures.verdict
+returns-clause-good g c = clears_good c.args.base.now c.args.policy.now c.args.cert.now c.check_counted.result.0 c.check_counted.ensures.verdict
 
 pub returns-clause-safe : goal.returns-clause-safe
 returns-clause-safe g c cleared =

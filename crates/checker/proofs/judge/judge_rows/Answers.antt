@@ -3,7 +3,7 @@ use Rattle.std.specs.Prelude.{slice_get}
 use Rattle.cert_table.specs.declared.row.Row.{Row}
 use Rattle.checker.specs.declared.verdict.Cause.{Cause}
 use Rattle.checker.specs.Counts.{IsRowCount}
-use Rattle.checker.specs.Verdict.{row_fault}
+use Rattle.checker.specs.Verdict.{on_row}
 use Rattle.checker.specs.Taken.{row_probes, row_steps}
 use Rattle.checker.proofs.Taken.{sum_next, sum_last}
 use Rattle.checker.proofs.RowsInTurn.{next_row, last_row}
@@ -17,7 +17,7 @@ record AtFault (g : Over) (c : goal.In-Some g) : Type 0 where
   few : length c.args.cert.now.rows ≤ 65535
   is : IsRowCount c.args.base.now (g.C.Cover.most_among (length c.args.cert.now.rows)) c.args.cert.now.rows c.row_at.result.now (Some c.in-Some.cause) c.judge_row-cause.result.1
   sums : (c.loop-i.total.probes + c.judge_row-cause.result.1.probes ≤ 18446744073709551615) × (c.loop-i.total.steps + c.judge_row-cause.result.1.steps ≤ 18446744073709551615)
-  fails : row_fault c.args.cert.now.groups c.args.base.now c.args.cert.now c.row_at.result.now ≡ Some c.in-Some.cause
+  fails : (on_row c.args.cert.now.groups c.args.base.now c.args.cert.now c.row_at.result.now).first_cause ≡ Some c.in-Some.cause
 
 at_fault : (g : Over) (c : goal.In-Some g) → AtFault g c
 at_fault g c =

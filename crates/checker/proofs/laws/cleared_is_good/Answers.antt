@@ -1,5 +1,4 @@
-use Rattle.checker.proofs.Clears.{cleared_good}
-use Rattle.checker.proofs.IsCleared.{good_cleared}
+use Rattle.checker.proofs.Clears.{cleared_good, good_cleared}
 use Rattle.checker.proofs.laws.cleared_is_good.Goals as goal
 
 pub returns : goal.returns

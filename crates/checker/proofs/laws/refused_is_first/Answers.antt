@@ -1,4 +1,4 @@
-use Rattle.checker.proofs.Refusals.{refusal}
+use Rattle.checker.proofs.Clears.{refusal}
 use Rattle.checker.proofs.laws.refused_is_first.Goals as goal
 
 pub returns : goal.returns

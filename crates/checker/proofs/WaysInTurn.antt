@@ -1,5 +1,5 @@
 -- The results of the ways of a frame, one after another.
-use Rattle.std.proofs.Common.{◌≡◌, ℕ, ◌+◌, Bool, true, false, not, ◌||◌, List, [], ◌∷◌, ◌++◌, Option, Some, None, refl, sym, ◌∙◌, ap, arith, is_some, if◌then◌else◌, cond}
+use Rattle.std.proofs.Common.{◌≡◌, ℕ, ◌+◌, Bool, true, false, not, ◌||◌, List, [], ◌∷◌, ◌++◌, Option, Some, None, refl, sym, ◌∙◌, ap, arith, is_some, if◌then◌else◌, cond, option_map}
 use Rattle.std.specs.Prelude.{find}
 use Rattle.std.specs.Option.{option_or}
 use Rattle.std.specs.Int.{from_bool}
@@ -8,14 +8,17 @@ use Rattle.std.proofs.lemmas.List.Folds.{find-append, list_any-append}
 use Rattle.std.proofs.lemmas.List.FromFn.{map-range_with_len_more, sum_by-map-range_with_len_more}
 use Rattle.page_ids.specs.Id.{Id}
 use Rattle.page_ids.specs.declared.way.Way.{Way}
-use Rattle.page_ids.specs.Ways.{way_at}
+use Rattle.page_ids.specs.Ways.{way_at, ways}
 use Rattle.frame_records.specs.declared.frame.Frame.{Frame}
 use Rattle.frame_records.specs.BaseView.{BaseView}
 use Rattle.frame_records.specs.Ways.{sought}
 use Rattle.cert_table.specs.declared.row.Row.{Row}
 use Rattle.checker.specs.declared.ways.WayCheck.{WayCheck}
 use Rattle.checker.specs.declared.ways.WayChecks.{WayChecks}
-use Rattle.checker.specs.Verdict.{way_on, way_down}
+use Rattle.checker.specs.declared.verdict.Cause.{Cause}
+use Rattle.checker.specs.Conditions.{◌otherwise◌, first_among}
+use Rattle.checker.specs.Good.{LeadsDown}
+use Rattle.checker.specs.Verdict.{way_on, way_down, is_down, lost_cause, on_way, on_rank, on_ways}
 use Rattle.checker.specs.Taken.{way_compared}
 use Rattle.checker.specs.Ways.{outside_of, first_ways, IsWayCheck, AreWayChecks}
 
@@ -49,3 +52,16 @@ module _ (compared : List Row → Id → ℕ) (base : BaseView) (rows : List Row
         least = λ some. omega (arith, asked, offered, before.least some, is.least some);
         exact = omega (arith, asked, taken, before.exact, is.exact);
       }
+
+one_lost : (id : Id) (way : Way) (on : Bool) (o : Option Cause) (lost : Option Way) → o ≡ option_map (lost_cause id) lost → ((if on then None else Some (lost_cause id way)) otherwise o) ≡ option_map (lost_cause id) (cond (not on) (Some way) lost)
+one_lost id way true o lost e = e
+one_lost id way false o lost e = refl
+
+-- the first cause among the ways is that of the first that leads nowhere
+pub first_lost : (base : BaseView) (rows : List Row) (row : Row) (f : Frame) (ws : List Way) → first_among (on_way base rows row f) ws ≡ option_map (lost_cause row.id) (find (λ way. not (way_on base rows f way)) ws)
+first_lost base rows row f [] = refl
+first_lost base rows row f (way ∷ ws) = one_lost row.id way (way_on base rows f way) _ _ (first_lost base rows row f ws)
+
+pub by_ways : (base : BaseView) (rows : List Row) (row : Row) (f : Frame) (lost : Option Way) (down : Bool) → lost ≡ find (λ way. not (way_on base rows f way)) ways → down ≡ is_down rows row.rank f → (option_map (lost_cause row.id) lost otherwise (on_rank base row.id row.rank down (down ≡ true)).first_cause) ≡ (on_ways base rows row f).first_cause
+by_ways base rows row f lost down is by =
+    rw (is, by) (ap (λ (o : Option Cause). o otherwise (on_rank base row.id row.rank (is_down rows row.rank f) (LeadsDown rows f row.rank)).first_cause) (sym (first_lost base rows row f ways)))
