@@ -107,6 +107,7 @@ pub fn check_change<C: Cover + Drop>(
     // E2 names the smallest id with a row in the old certificate and none in the new one.
     ensures lost { (id : Id) → result ≡ ChangeVerdict.NoLongerCovered id → IsLeastLost old_cert.now.rows new_cert.now.rows id }
 {
+    // What bases and rows promise of themselves by their types: nothing is computed.
     let _old = old.frames();
     let _new = new.frames();
     let _rows = old_cert.cover().len();

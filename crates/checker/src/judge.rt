@@ -113,7 +113,6 @@ fn judge_row<C: Cover + Drop>(
     ensures steps { result.1.steps ≡ row_steps cert.now.groups base.now cert.now row.now }
     ensures count { IsRowCount base.now (C.most_among (length cert.now.rows)) cert.now.rows row.now result.0 result.1 }
 {
-    let _frames = base.frames();
     let (frame, asked) = base.find_counted(row.id);
     let asked = u64::from(asked);
     match frame {
@@ -259,6 +258,7 @@ pub fn check<C: Cover + Drop>(base: &Base, policy: &Policy, cert: &Certificate<C
     // What is promised is within the policy.
     ensures within { result ≡ Verdict.Cleared → (cert.now.ceiling ≤ policy.now.ceiling) × (cert.now.keyings ≤ policy.now.keyings) }
 {
+    // What `Base` promises of itself by its type: nothing is computed.
     let _frames = base.frames();
     check_counted(base, policy, cert).0
 }
