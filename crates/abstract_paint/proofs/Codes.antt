@@ -4,9 +4,7 @@ use Rattle.std.proofs.lemmas.Bool.Decides.{nat_tests}
 use Rattle.terminal_codes.specs.Writes.{is_service}
 use Rattle.abstract_paint.specs.declared.cursor.AbsCursor.{AbsCursor}
 use Rattle.abstract_paint.specs.declared.cursor.Place.TheVariants.{Spot}
-use Rattle.abstract_paint.specs.Step.{calm, written_at, cursor_step}
-use Rattle.abstract_paint.specs.Paint.{or_touches, paint_from}
-use Rattle.abstract_paint.specs.Codes.{is_cell_code, codes_fit, CodesGoOn, CodeTouches}
+use Rattle.abstract_paint.specs.Paint.{calm, written_at, cursor_step, or_touches, paint_from, is_cell_code, codes_fit, CodesGoOn, CodeTouches}
 use Rattle.std.proofs.lemmas.Bool.{and_parts, not-true}
 
 cell_low : (b : ℕ) → is_cell_code b ≡ true → nat_lt b 32 ≡ false

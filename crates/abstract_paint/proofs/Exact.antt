@@ -2,12 +2,11 @@
 use Rattle.std.proofs.Common.{◌≡◌, ℕ, arith, inl, inr, refl, ap, sym, subst, List}
 use Rattle.std.proofs.lemmas.Bool.{cases_lt}
 use Rattle.frame_records.specs.declared.frame.Lead.{Lead}
-use Rattle.terminal_codes.specs.Touch.{IsClean, IsFirstTouch}
+use Rattle.terminal_codes.specs.Bodies.{IsClean, IsFirstTouch}
 use Rattle.abstract_paint.specs.declared.cursor.AbsCursor.{AbsCursor}
 use Rattle.abstract_paint.specs.declared.painting.Painted.{Painted}
 use Rattle.abstract_paint.specs.declared.painting.Painted.TheVariants.{Clean, Touches}
-use Rattle.abstract_paint.specs.Cursor.{Ends}
-use Rattle.abstract_paint.specs.Paint.{paint_of, IsPainted, IsExact}
+use Rattle.abstract_paint.specs.Paint.{Ends, paint_of, IsPainted, IsExact}
 use Rattle.abstract_paint.proofs.Unique.{ends_are_one}
 use Rattle.abstract_paint.proofs.Judged.{painted_law}
 

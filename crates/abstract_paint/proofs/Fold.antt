@@ -6,13 +6,11 @@ use Rattle.terminal_codes.specs.declared.caret.Caret.{Caret}
 use Rattle.frame_records.specs.declared.frame.Lead.{Lead}
 use Rattle.frame_records.specs.declared.frame.Lead.TheVariants.{Clear, Keep}
 use Rattle.terminal_codes.specs.Writes.{caret_step, caret_run, touches}
-use Rattle.terminal_codes.specs.Leads.{lead_codes}
-use Rattle.terminal_codes.specs.Touch.{sent, TouchesAt, IsFirstTouch}
+use Rattle.terminal_codes.specs.Bodies.{lead_codes, sent, TouchesAt, IsFirstTouch}
 use Rattle.terminal_codes.proofs.Runs.{caret_run_push}
 use Rattle.terminal_codes.proofs.Starts.{touch_to_start, touch_from_start, ends_to_start, ends_from_start}
 use Rattle.abstract_paint.specs.declared.cursor.AbsCursor.{AbsCursor}
-use Rattle.abstract_paint.specs.Cursor.{Ends}
-use Rattle.abstract_paint.specs.Step.{lead_end}
+use Rattle.abstract_paint.specs.Paint.{Ends, lead_end}
 use Rattle.abstract_paint.proofs.Valid.{StandsFor, IsCursor, StepsTo, SomeTouches, EndsBy}
 use Rattle.abstract_paint.proofs.StepLaw.{caret}
 

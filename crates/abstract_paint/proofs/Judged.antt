@@ -2,11 +2,9 @@
 use Rattle.std.proofs.Common.{◌≡◌, ℕ, ◌+◌, ◌-◌, ◌<◌, ◌≤◌, arith, refl, ap, sym, ◌∙◌, subst, List, [], ◌∷◌, ◌++◌, length, drop, get_or, Option, Some, None, add-one, drop-cons, length-drop}
 use Rattle.std.proofs.lemmas.List.{take_all}
 use Rattle.frame_records.specs.declared.frame.Lead.{Lead}
-use Rattle.terminal_codes.specs.Leads.{lead_codes}
-use Rattle.terminal_codes.specs.Touch.{sent, TouchesAt}
+use Rattle.terminal_codes.specs.Bodies.{lead_codes, sent, TouchesAt}
 use Rattle.abstract_paint.specs.declared.cursor.AbsCursor.{AbsCursor}
-use Rattle.abstract_paint.specs.Step.{cursor_step, lead_end}
-use Rattle.abstract_paint.specs.Paint.{or_touches, paint_from, paint_of, IsPainted}
+use Rattle.abstract_paint.specs.Paint.{cursor_step, lead_end, or_touches, paint_from, paint_of, IsPainted}
 use Rattle.abstract_paint.proofs.Valid.{IsCursor, StepsTo, EndsBy, SomeTouches, IsJudged}
 use Rattle.abstract_paint.proofs.StepLaw.{step_law}
 use Rattle.abstract_paint.proofs.Fold.{lead_cursor, nothing_sent, ends_more, clean_more, first_touch, whole_ends}

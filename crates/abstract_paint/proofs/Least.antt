@@ -3,7 +3,7 @@ use Rattle.std.proofs.Common.{◌≡◌, ℕ, ◌+◌, ◌*◌, arith, inl, inr,
 use Rattle.std.proofs.lemmas.Bool.{cases_lt}
 use Rattle.std.specs.Int.{from_bool}
 use Rattle.frame_records.specs.declared.frame.Lead.{Lead}
-use Rattle.terminal_codes.specs.Starts.{StartTouches}
+use Rattle.terminal_codes.specs.Bodies.{StartTouches}
 use Rattle.abstract_paint.specs.declared.start.Start.{Start}
 use Rattle.abstract_paint.specs.Start.{caret_at, IsLeastStart, StartsAreOne}
 use Rattle.abstract_paint.proofs.Exact.{first_is_one}

@@ -9,15 +9,13 @@ use Rattle.std.specs.Option.{MatchOption}
 use Rattle.frame_records.specs.declared.frame.Lead.{Lead}
 use Rattle.list_words.proofs.Finds.{first_found, none_found, find_first, find_none}
 use Rattle.terminal_codes.specs.declared.caret.Caret.{Caret}
-use Rattle.terminal_codes.specs.Touch.{IsFirstTouch}
-use Rattle.terminal_codes.specs.Starts.{StartTouches}
+use Rattle.terminal_codes.specs.Bodies.{IsFirstTouch, StartTouches}
 use Rattle.terminal_codes.proofs.Starts.{touch_to_start}
 use Rattle.abstract_paint.specs.declared.start.Start.{Start}
 use Rattle.abstract_paint.specs.declared.painting.Painted.{Painted}
 use Rattle.abstract_paint.specs.declared.painting.Painted.TheVariants.{Clean, Touches}
 use Rattle.abstract_paint.specs.Paint.{paint_of, IsPainted}
-use Rattle.abstract_paint.specs.Start.{start_number, IsStart, IsStartAt}
-use Rattle.abstract_paint.specs.StartOf.{caret_numbered, start_touches, least_number, start_at, start_of}
+use Rattle.abstract_paint.specs.Start.{start_number, IsStart, IsStartAt, caret_numbered, start_touches, least_number, start_at, start_of}
 use Rattle.abstract_paint.proofs.Judged.{painted_law}
 use Rattle.abstract_paint.proofs.StepLaw.{caret}
 

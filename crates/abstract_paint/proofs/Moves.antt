@@ -1,12 +1,10 @@
 -- What a control code makes of the positions that a place stands for.
 use Rattle.std.proofs.Common.{◌≡◌, ℕ, ◌+◌, ◌%◌, ◌<◌, ◌==◌, inl, inr, arith, refl, ap, sym, subst, false}
-use Rattle.std.proofs.lemmas.Bool.{cases_eq}
-use Rattle.terminal_codes.specs.ByteTable.{moved}
-use Rattle.std.proofs.lemmas.Bool.{ne_eqb}
+use Rattle.std.proofs.lemmas.Bool.{cases_eq, ne_eqb}
+use Rattle.terminal_codes.specs.Screen.{moved}
 use Rattle.abstract_paint.specs.declared.cursor.Place.{Place}
 use Rattle.abstract_paint.specs.declared.cursor.Place.TheVariants.{Any, Col, Spot}
-use Rattle.abstract_paint.specs.Cursor.{PlaceStands, OnScreen}
-use Rattle.abstract_paint.specs.Step.{any_moved, col_moved, place_moved}
+use Rattle.abstract_paint.specs.Paint.{PlaceStands, OnScreen, any_moved, col_moved, place_moved}
 use Rattle.abstract_paint.proofs.Valid.{MovesTo}
 
 -- none of the codes that move

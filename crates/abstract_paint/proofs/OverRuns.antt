@@ -4,9 +4,8 @@ use Rattle.std.proofs.lemmas.Bool.Decides.{nat_tests}
 use Rattle.std.proofs.lemmas.List.Sums.{prefix_len-le-length}
 use Rattle.abstract_paint.specs.declared.advance.Advance.TheVariants.{Touches, Goes}
 use Rattle.abstract_paint.specs.declared.cursor.Place.TheVariants.{Spot}
-use Rattle.abstract_paint.specs.Step.{calm}
-use Rattle.abstract_paint.specs.Plain.{is_plain, plain_len}
-use Rattle.abstract_paint.specs.Runs.{room}
+use Rattle.abstract_paint.specs.Paint.{calm}
+use Rattle.abstract_paint.specs.Plain.{is_plain, plain_len, room}
 use Rattle.abstract_paint.specs.Advance.{IsAdvance}
 use Rattle.abstract_paint.proofs.PlainRuns.{plain_goes_on, plain_reaches}
 

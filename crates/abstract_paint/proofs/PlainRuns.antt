@@ -4,11 +4,8 @@ use Rattle.std.proofs.lemmas.Bool.Decides.{nat_tests}
 use Rattle.std.proofs.lemmas.List.Sums.{prefix_len-le-length, prefix_len_passes}
 use Rattle.terminal_codes.specs.Writes.{is_service}
 use Rattle.abstract_paint.specs.declared.cursor.Place.TheVariants.{Spot}
-use Rattle.abstract_paint.specs.Step.{calm}
-use Rattle.abstract_paint.specs.Paint.{paint_from}
-use Rattle.abstract_paint.specs.Plain.{is_plain, plain_len}
-use Rattle.abstract_paint.specs.Runs.{room, PlainGoesOn, PlainReaches}
-use Rattle.abstract_paint.specs.Codes.{is_cell_code}
+use Rattle.abstract_paint.specs.Paint.{calm, paint_from, is_cell_code}
+use Rattle.abstract_paint.specs.Plain.{is_plain, plain_len, room, PlainGoesOn, PlainReaches}
 use Rattle.abstract_paint.proofs.Codes.{goes_on, code_touches, same_paint}
 
 cell_of_plain : (b : ℕ) → is_plain b ≡ true → is_cell_code b ≡ true

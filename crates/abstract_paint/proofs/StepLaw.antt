@@ -1,19 +1,17 @@
 -- One abstract step is exact.
 use Rattle.std.proofs.Common.{◌≡◌, ℕ, ◌+◌, ◌%◌, ◌<◌, inl, inr, arith, refl, ap, sym, ◌∙◌, subst, Bool, true, false, Option, Some, None, ◌==◌, nat_lt, if◌then◌else◌}
-use Rattle.std.proofs.lemmas.Bool.{cases_eq}
+use Rattle.std.proofs.lemmas.Bool.{cases_eq, ne_eqb}
 use Rattle.std.proofs.lemmas.Bool.Decides.{nat_tests}
 use Rattle.terminal_codes.specs.declared.caret.Caret.{Caret}
-use Rattle.terminal_codes.specs.ByteTable.{moved, code_of}
+use Rattle.terminal_codes.specs.Screen.{moved, code_of}
 use Rattle.terminal_codes.specs.Writes.{one, past, byte_writes, control_at, caret_step, has_service, is_service, touches}
 use Rattle.terminal_codes.proofs.Runs.{touches_12}
-use Rattle.std.proofs.lemmas.Bool.{ne_eqb}
 use Rattle.abstract_paint.specs.declared.cursor.Place.{Place}
 use Rattle.abstract_paint.specs.declared.cursor.Place.TheVariants.{Any, Col, Spot}
 use Rattle.abstract_paint.specs.declared.cursor.Pend.{Pend}
 use Rattle.abstract_paint.specs.declared.cursor.Pend.TheVariants.{No, Yes, Maybe}
 use Rattle.abstract_paint.specs.declared.cursor.AbsCursor.{AbsCursor}
-use Rattle.abstract_paint.specs.Cursor.{PlaceStands, PendStands, OnScreen}
-use Rattle.abstract_paint.specs.Step.{place_moved, calm, control_cursor, code_by, written_at, written_of, cursor_step}
+use Rattle.abstract_paint.specs.Paint.{PlaceStands, PendStands, OnScreen, place_moved, calm, control_cursor, code_by, written_at, written_of, cursor_step}
 use Rattle.abstract_paint.proofs.Valid.{StandsFor, FlagFits, IsCursor, MovesTo, StepsTo, SomeTouches, IsJudged}
 use Rattle.abstract_paint.proofs.Moves.{stands_somewhere, stays, moved_small, place_moves}
 

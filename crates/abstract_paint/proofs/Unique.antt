@@ -3,8 +3,7 @@ use Rattle.std.proofs.Common.{◌≡◌, ℕ, ◌+◌, ◌%◌, ◌<◌, ◌↔�
 use Rattle.std.proofs.lemmas.Bool.Decides.{nat_tests}
 use Rattle.std.proofs.lemmas.Bool.{and_parts}
 use Rattle.frame_records.specs.declared.frame.Lead.{Lead}
-use Rattle.terminal_codes.specs.Leads.{lead_codes}
-use Rattle.terminal_codes.specs.Ends.{EndsAt}
+use Rattle.terminal_codes.specs.Bodies.{lead_codes, EndsAt}
 use Rattle.terminal_codes.specs.Writes.{caret_run}
 use Rattle.terminal_codes.proofs.Starts.{ends_from_start, caret_run_small}
 use Rattle.abstract_paint.specs.declared.cursor.Place.{Place}
@@ -12,7 +11,7 @@ use Rattle.abstract_paint.specs.declared.cursor.Place.TheVariants.{Any, Col, Spo
 use Rattle.abstract_paint.specs.declared.cursor.Pend.{Pend}
 use Rattle.abstract_paint.specs.declared.cursor.Pend.TheVariants.{No, Yes, Maybe}
 use Rattle.abstract_paint.specs.declared.cursor.AbsCursor.{AbsCursor}
-use Rattle.abstract_paint.specs.Cursor.{PlaceStands, PendStands, Stands, OnScreen, Ends, place_test, pend_test, stands}
+use Rattle.abstract_paint.specs.Paint.{PlaceStands, PendStands, Stands, OnScreen, Ends, place_test, pend_test, stands}
 use Rattle.abstract_paint.proofs.Moves.{stands_somewhere}
 use Rattle.abstract_paint.proofs.StepLaw.{caret, pend_somewhere}
 

@@ -7,7 +7,7 @@ use Rattle.abstract_paint.specs.declared.cursor.Place.TheVariants.{Any}
 use Rattle.abstract_paint.specs.declared.cursor.Pend.{Pend}
 use Rattle.abstract_paint.specs.declared.cursor.Pend.TheVariants.{No, Yes, Maybe}
 use Rattle.abstract_paint.specs.declared.cursor.AbsCursor.{AbsCursor}
-use Rattle.abstract_paint.specs.Cursor.{PlaceStands, Stands, OnScreen}
+use Rattle.abstract_paint.specs.Paint.{PlaceStands, Stands, OnScreen}
 
 abbrev pub StandsFor : AbsCursor → Caret → Type 0
 StandsFor x c = Stands x c.at c.pending

@@ -4,8 +4,7 @@ use Rattle.abstract_paint.specs.declared.cursor.AbsCursor.{AbsCursor}
 use Rattle.abstract_paint.specs.declared.painting.Painted.TheVariants.{Touches as touches_at}
 use Rattle.abstract_paint.specs.declared.advance.Advance.{Advance}
 use Rattle.abstract_paint.specs.declared.advance.Advance.TheVariants.{Touches, Goes}
-use Rattle.abstract_paint.specs.Cursor.{OnScreen}
-use Rattle.abstract_paint.specs.Paint.{paint_from}
+use Rattle.abstract_paint.specs.Paint.{OnScreen, paint_from}
 
 -- the byte after so many touches
 pub record StopsBehind (x : AbsCursor) (bs : List ℕ) (k : ℕ) : Type 0 where

@@ -1,9 +1,4 @@
-pub mod Cursor
-pub mod Step
-pub mod Paint
-pub mod Start
-pub mod StartOf
-pub mod Plain
-pub mod Codes
-pub mod Runs
 pub mod Advance
+pub mod Paint
+pub mod Plain
+pub mod Start

@@ -2,10 +2,8 @@
 
 ghost use Rattle.std.specs.Prelude.{◌≡◌, ◌<◌, ◌≤◌, length, true, IfSome};
 ghost use Rattle.abstract_paint.specs.declared.cursor.Place.TheVariants.{Spot};
-ghost use Rattle.abstract_paint.specs.Cursor.{OnScreen};
-ghost use Rattle.abstract_paint.specs.Step.{calm};
-ghost use Rattle.abstract_paint.specs.Runs.{room};
-ghost use Rattle.abstract_paint.specs.Plain.{plain_len};
+ghost use Rattle.abstract_paint.specs.Paint.{OnScreen, calm};
+ghost use Rattle.abstract_paint.specs.Plain.{room, plain_len};
 ghost use Rattle.abstract_paint.specs.Advance.{IsAdvance};
 
 use crate::cursor::{AbsCursor, Pend, Place};

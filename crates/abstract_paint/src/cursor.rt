@@ -1,7 +1,7 @@
 //! Abstract cursors: sets of positions and pending flags that fit into a few bytes.
 
 ghost use Rattle.std.specs.Prelude.{◌≡◌, ◌↔◌, IsTrue};
-ghost use Rattle.abstract_paint.specs.Cursor.{place_test, pend_test, stands, Stands};
+ghost use Rattle.abstract_paint.specs.Paint.{place_test, pend_test, stands, Stands};
 
 /// The positions at which painting can end.
 #[derive(Debug, Clone, Copy, PartialEq, Eq)]

@@ -1,9 +1,7 @@
 //! Laws of painting: facts about its definitions, which these functions carry and which need no code.
 
-ghost use Rattle.abstract_paint.specs.Codes.{CodesGoOn, CodeTouches};
-ghost use Rattle.abstract_paint.specs.Cursor.{EndsAreOne, EndsAreOnScreen, StandsIsTest, ScreenIsStoodFor};
-ghost use Rattle.abstract_paint.specs.Paint.{PaintIsExact};
-ghost use Rattle.abstract_paint.specs.Runs.{PlainGoesOn, PlainReaches};
+ghost use Rattle.abstract_paint.specs.Paint.{CodesGoOn, CodeTouches, EndsAreOne, EndsAreOnScreen, StandsIsTest, ScreenIsStoodFor, PaintIsExact};
+ghost use Rattle.abstract_paint.specs.Plain.{PlainGoesOn, PlainReaches};
 ghost use Rattle.abstract_paint.specs.Start.{StartsAreOne};
 
 /// At most one cursor stands for the ends of a frame.

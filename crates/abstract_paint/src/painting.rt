@@ -1,8 +1,7 @@
 //! Painting a frame by one cursor, without cells.
 
 ghost use Rattle.std.specs.Prelude.{◌≡◌, ◌<◌, length};
-ghost use Rattle.abstract_paint.specs.Cursor.{OnScreen};
-ghost use Rattle.abstract_paint.specs.Paint.{paint_of, IsPainted, IfClean, IfTouches};
+ghost use Rattle.abstract_paint.specs.Paint.{OnScreen, paint_of, IsPainted, IfClean, IfTouches};
 
 use crate::advance::{Advance, advance_over};
 use crate::cursor::AbsCursor;

@@ -2,8 +2,7 @@
 
 ghost use Rattle.std.specs.Prelude.{◌≡◌, ◌<◌};
 ghost use Rattle.abstract_paint.specs.Paint.{paint_of};
-ghost use Rattle.abstract_paint.specs.Start.{IsStart, IsStartAt};
-ghost use Rattle.abstract_paint.specs.StartOf.{caret_numbered, start_touches, least_number, start_at, start_of};
+ghost use Rattle.abstract_paint.specs.Start.{IsStart, IsStartAt, caret_numbered, start_touches, least_number, start_at, start_of};
 
 use crate::painting::{Painted, paint};
 use frame_records::Lead;

@@ -1,8 +1,7 @@
 //! One byte's step of the abstract cursor.
 
 ghost use Rattle.std.specs.Prelude.{◌≡◌, ◌<◌, IfSome};
-ghost use Rattle.abstract_paint.specs.Cursor.{OnScreen};
-ghost use Rattle.abstract_paint.specs.Step.{calm, any_moved, col_moved, place_moved, code_by, written_at, control_cursor, cursor_step, lead_end};
+ghost use Rattle.abstract_paint.specs.Paint.{OnScreen, calm, any_moved, col_moved, place_moved, code_by, written_at, control_cursor, cursor_step, lead_end};
 
 use crate::cursor::{AbsCursor, Pend, Place};
 use frame_records::Lead;

@@ -1,7 +1,6 @@
 -- The printed lines. Each ends with a byte 10; ids and pages stand in their own text, numbers in decimal.
 use Rattle.std.specs.Prelude.{ℕ, Bool, true, false, List, [], ◌∷◌, ◌++◌, codes, decimal}
-use Rattle.page_ids.specs.Id.{Id}
-use Rattle.page_ids.specs.Ids.{page_text, frame_text}
+use Rattle.page_ids.specs.Ids.{Id, page_text, frame_text}
 use Rattle.session_machine.specs.declared.reply.Reply.{Reply}
 use Rattle.session_machine.specs.declared.reply.Reply.TheVariants.{Shown, Again, NotOffered, Missing, Closed, Gone}
 use Rattle.checker.specs.declared.verdict.Cause.{Cause}

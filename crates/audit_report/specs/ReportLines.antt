@@ -1,6 +1,6 @@
 -- The report of an audit: the text of a certificate, or the list of faults.
 use Rattle.std.specs.Prelude.{◌≡◌, ℕ, List, [], ◌∷◌, ◌++◌, length, Option, Some, None, codes, decimal}
-use Rattle.page_ids.specs.Id.{Id}
+use Rattle.page_ids.specs.Ids.{Id}
 use Rattle.page_ids.specs.Keys.{key_word, keys_text}
 use Rattle.page_ids.specs.declared.key.Key.{Key}
 use Rattle.abstract_paint.specs.declared.start.Start.{Start}

@@ -5,9 +5,9 @@ use Rattle.toml.specs.Data.{Members, no_members, member}
 use Rattle.base_text.specs.declared.keys.TableKind.{TableKind}
 use Rattle.base_faults.specs.declared.detail.Detail.{Detail}
 use Rattle.base_faults.specs.declared.detail.Detail.TheVariants.{UnknownKey}
-use Rattle.base_faults.specs.DraftLaws.{Agrees}
-use Rattle.base_text.specs.Keys.{is_key, has_only_keys}
-use Rattle.base_faults.specs.ListDetails.{unknown_keys}
+use Rattle.base_faults.specs.Drafts.{Agrees}
+use Rattle.base_text.specs.Fields.{is_key, has_only_keys}
+use Rattle.base_faults.specs.Fields.{unknown_keys}
 
 module _ {E F : Type 0} (answer : F → E) where
   pub then : {A B : Type 0} (r : Result A E) (xs ys : List F) (f : A → Result B E) → Agrees answer r xs → ((a : A) → Agrees answer (f a) ys) → Agrees answer (r >>= f) (xs ++ ys)

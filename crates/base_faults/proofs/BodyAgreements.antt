@@ -4,11 +4,8 @@ use Rattle.list_words.specs.Steps.{◌>>=◌}
 use Rattle.toml.specs.Data.{Data, string, integer, float, boolean, datetime, array, table, Items, no_items, item}
 use Rattle.base_faults.specs.declared.body_details.Codes.{Codes}
 use Rattle.base_faults.specs.declared.body_details.Codes.TheVariants.{Bytes, Row}
-use Rattle.base_faults.specs.Details.{cause_of}
-use Rattle.base_text.specs.Bodies.{are_bytes, bytes_of, bytes_value, body_of}
-use Rattle.base_faults.specs.BodyDetails.{may_have, first_refused, body_text_detail, body_value_detail, length_detail, codes_detail, row_details, rows_details, rows_value_details, body_details}
-use Rattle.base_text.specs.RowCodes.{are_row_codes}
-use Rattle.base_text.specs.Rows.{count, codes_or_cause, row_text, row_of, rows_of, body_of_rows, are_too_many, body_of_array, body_of_value}
+use Rattle.base_faults.specs.Fields.{cause_of, may_have, first_refused, body_text_detail, body_value_detail, length_detail, codes_detail, row_details, rows_details, rows_value_details, body_details}
+use Rattle.base_text.specs.Rows.{are_bytes, bytes_of, bytes_value, body_of, are_row_codes, count, codes_or_cause, row_text, row_of, rows_of, body_of_rows, are_too_many, body_of_array, body_of_value}
 use Rattle.base_faults.proofs.Agreements.{then, last}
 use Rattle.base_faults.proofs.FieldAgreements.{Tells}
 

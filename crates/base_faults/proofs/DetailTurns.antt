@@ -5,9 +5,8 @@ use Rattle.std.proofs.lemmas.Str.{length-encode, len_utf8_bounds}
 use Rattle.toml.specs.Data.{Members, get_member}
 use Rattle.base_faults.specs.declared.body_details.Codes.{Codes}
 use Rattle.base_faults.specs.declared.detail.Detail.{Detail}
-use Rattle.base_faults.specs.BodyDetails.{may_have, first_refused}
-use Rattle.base_text.specs.Keys.{digit_key}
-use Rattle.base_faults.specs.ListDetails.{route_detail, digits_details}
+use Rattle.base_faults.specs.Fields.{may_have, first_refused, route_detail, digits_details}
+use Rattle.base_text.specs.Fields.{digit_key}
 
 pub refused_here : (codes : Codes) (n c : ℕ) (cs : List ℕ) → may_have codes c ≡ false → first_refused codes n (c ∷ cs) ≡ Some (n, c)
 refused_here codes n c cs bad = rw bad refl

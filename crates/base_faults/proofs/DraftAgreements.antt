@@ -2,28 +2,19 @@
 use Rattle.std.proofs.Common.{◌≡◌, ℕ, ◌+◌, inl, inr, List, [], ◌∷◌, ◌++◌, map, append_assoc, codes, Option, Some, None, option_to_list, Result, Ok, Err, refl, ap}
 use Rattle.std.proofs.lemmas.List.{map-append}
 use Rattle.list_words.specs.Steps.{◌>>=◌}
-use Rattle.page_ids.specs.Id.{Id}
+use Rattle.page_ids.specs.Ids.{Id}
 use Rattle.frame_records.specs.declared.frame.Frame.{Frame}
 use Rattle.toml.specs.Data.{Data, string, integer, float, boolean, datetime, array, table, Items, no_items, item, Members, get_member}
 use Rattle.base_text.specs.declared.fault.Cause.{Cause}
 use Rattle.base_text.specs.declared.keys.TableKind.TheVariants as kind
 use Rattle.base_faults.specs.declared.detail.Detail.{Detail}
 use Rattle.base_faults.specs.declared.detail.TextFault.{TextFault}
-use Rattle.base_text.specs.Bodies.{body_of}
-use Rattle.base_faults.specs.BodyDetails.{body_details}
-use Rattle.base_faults.specs.Details.{cause_of}
-use Rattle.base_faults.specs.DraftLaws.{Agrees, base_fault, index_of}
-use Rattle.base_faults.specs.Drafts.{element_id, element_details, fault_at, element_faults, elements_faults, elements, draft_of}
-use Rattle.base_faults.specs.FieldDetails.{entry_detail, list_detail, id_detail, price_detail, group_detail, next_detail, lead_detail}
-use Rattle.base_text.specs.Fields.{entry_of, outside_of, id_of, price_of, group_of, next_of, lead_of}
-use Rattle.base_faults.specs.FrameDetails.{head_details, shown_details, frame_details}
-use Rattle.base_text.specs.FrameList.{frames_from, frames_of}
-use Rattle.base_text.specs.Frames.{head_of, shown_of, frame_with, known_frame, table_frame, frame_of}
-use Rattle.base_faults.specs.ListDetails.{unknown_keys, outside_details, routes_details}
-use Rattle.base_text.specs.Outcome.{frame_index, fault_in, located}
-use Rattle.base_text.specs.Parts.{PartsView}
-use Rattle.base_text.specs.Routes.{routes_of}
-use Rattle.base_text.specs.Text.{known_parts, table_parts}
+use Rattle.base_text.specs.Rows.{body_of}
+use Rattle.base_faults.specs.Fields.{body_details, cause_of, entry_detail, list_detail, id_detail, price_detail, group_detail, next_detail, lead_detail, head_details, shown_details, frame_details, unknown_keys, outside_details, routes_details}
+use Rattle.base_faults.specs.Drafts.{Agrees, base_fault, index_of, element_id, element_details, fault_at, element_faults, elements_faults, elements, draft_of}
+use Rattle.base_text.specs.Fields.{entry_of, outside_of, id_of, price_of, group_of, next_of, lead_of, routes_of}
+use Rattle.base_text.specs.Frames.{frames_from, frames_of, head_of, shown_of, frame_with, known_frame, table_frame, frame_of, frame_index, fault_in, located}
+use Rattle.base_text.specs.Whole.{PartsView, known_parts, table_parts}
 use Rattle.base_faults.proofs.Agreements.{then, last, unknown}
 use Rattle.base_faults.proofs.BodyAgreements.{body}
 use Rattle.base_faults.proofs.FieldAgreements as field

@@ -8,17 +8,10 @@ use Rattle.base_text.specs.declared.fault.BaseFault.{BaseFault}
 use Rattle.base_text.specs.declared.fault.Cause.{Cause}
 use Rattle.base_text.specs.declared.fault.Field.TheVariants as field
 use Rattle.base_text.specs.declared.keys.TableKind.TheVariants as kind
-use Rattle.base_faults.specs.DraftLaws.{HasParts}
-use Rattle.base_faults.specs.DraftView.{DraftView}
-use Rattle.base_faults.specs.Drafts.{elements, elements_frames, draft_of}
-use Rattle.base_text.specs.Fields.{page_of, entry_of, pages_of, outside_of}
-use Rattle.base_text.specs.FrameList.{frames_from, frames_of}
-use Rattle.base_text.specs.Frames.{frame_of}
-use Rattle.base_text.specs.Keys.{has_only_keys}
-use Rattle.base_faults.specs.Readable.{pages_read, outside_read}
-use Rattle.base_text.specs.Outcome.{frame_index, located}
-use Rattle.base_text.specs.Parts.{PartsView}
-use Rattle.base_text.specs.Text.{table_parts}
+use Rattle.base_faults.specs.Drafts.{HasParts, DraftView, elements, elements_frames, draft_of, pages_read, outside_read}
+use Rattle.base_text.specs.Fields.{page_of, entry_of, pages_of, outside_of, has_only_keys}
+use Rattle.base_text.specs.Frames.{frames_from, frames_of, frame_of, frame_index, located}
+use Rattle.base_text.specs.Whole.{PartsView, table_parts}
 
 -- one more that is read, before the others
 one_more : {A E : Type 0} (o : Result A E) (p : Result (List A) E) (read all : List A) → ((rest : List A) → p ≡ Ok rest → read ≡ rest) → (o >>= (λ a. p >>= (λ rest. Ok (a ∷ rest)))) ≡ Ok all → option_to_list (result_ok o) ++ read ≡ all

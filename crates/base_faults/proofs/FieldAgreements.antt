@@ -2,8 +2,8 @@
 use Rattle.std.proofs.Common.{◌≡◌, ℕ, zero, suc, ◌+◌, pos, negsuc, Bool, true, false, nat_le, ◌==◌, List, ◌∷◌, codes, Option, Some, None, option_map, option_to_list, Result, Ok, refl, arith, inl, inr}
 use Rattle.std.proofs.lemmas.Bool.Decides.{nat_tests}
 use Rattle.std.specs.Str.{bytes_eq}
-use Rattle.page_ids.specs.Id.{Id}
-use Rattle.page_ids.specs.Numbers.{id_in}
+use Rattle.page_ids.specs.Ids.{Id}
+use Rattle.page_ids.specs.Texts.{id_in}
 use Rattle.page_ids.specs.declared.limits.TheConstants.{MOST_PAGE}
 use Rattle.frame_records.specs.declared.limits.TheConstants.{MOST_PENCE, MOST_GROUP}
 use Rattle.list_words.specs.Steps.{◌>>=◌}
@@ -17,14 +17,9 @@ use Rattle.base_faults.specs.declared.detail.Detail.{Detail}
 use Rattle.base_faults.specs.declared.detail.ValueKind.{ValueKind}
 use Rattle.base_faults.specs.declared.misfit.Misfit.{Misfit}
 use Rattle.base_faults.specs.declared.misfit.Misfit.TheVariants.{Kind, Range}
-use Rattle.base_faults.specs.Details.{cause_of}
-use Rattle.base_faults.specs.Misfits.{kind_of, misfit_of, at_key, at_item}
-use Rattle.base_faults.specs.DraftLaws.{Agrees}
-use Rattle.base_faults.specs.FieldDetails.{number_detail, entry_detail, id_text_detail, id_detail, price_detail, group_detail, next_detail, lead_text_detail, lead_detail}
-use Rattle.base_text.specs.Fields.{number_of, page_of, entry_of, pages_of, outside_of, id_text, id_of, price_of, group_number, group_of, next_of, lead_text, lead_of}
-use Rattle.base_text.specs.Keys.{digit_key}
-use Rattle.base_faults.specs.ListDetails.{page_detail, pages_details, outside_details, route_detail, digits_details, ten_digits_details, routes_details}
-use Rattle.base_text.specs.Routes.{route_of, routes_from, all_routes, routes_of}
+use Rattle.base_faults.specs.Fields.{cause_of, kind_of, misfit_of, at_key, at_item, number_detail, entry_detail, id_text_detail, id_detail, price_detail, group_detail, next_detail, lead_text_detail, lead_detail, page_detail, pages_details, outside_details, route_detail, digits_details, ten_digits_details, routes_details}
+use Rattle.base_faults.specs.Drafts.{Agrees}
+use Rattle.base_text.specs.Fields.{number_of, page_of, entry_of, pages_of, outside_of, id_text, id_of, price_of, group_number, group_of, next_of, lead_text, lead_of, digit_key, route_of, routes_from, all_routes, routes_of}
 use Rattle.base_faults.proofs.Agreements.{then, last, unknown}
 
 -- the details agree with what is read

@@ -2,13 +2,12 @@
 use Rattle.std.proofs.Common.{◌≡◌, ◌≢◌, ℕ, zero, suc, ◌+◌, ◌<◌, ◌==◌, true, false, List, [], ◌∷◌, ◌++◌, map, append-nil, codes, Option, Some, None, arith, refl, ap}
 use Rattle.std.proofs.lemmas.Bool.Decides.{nat_tests}
 use Rattle.std.proofs.lemmas.List.Elements.{filter-append}
-use Rattle.page_ids.specs.Id.{Id}
+use Rattle.page_ids.specs.Ids.{Id}
 use Rattle.toml.specs.Data.{Data, Items, no_items, item, Members, get_member, get_item}
 use Rattle.base_faults.specs.declared.detail.Detail.{Detail}
 use Rattle.base_faults.specs.declared.detail.TextFault.{TextFault}
-use Rattle.base_faults.specs.DraftLaws.{is_in, faults_in, faults_alone}
-use Rattle.base_faults.specs.Drafts.{element_id, element_details, fault_at, element_faults, elements_faults, elements, top_faults, draft_of}
-use Rattle.base_faults.specs.FrameDetails.{top_details}
+use Rattle.base_faults.specs.Drafts.{is_in, faults_in, faults_alone, element_id, element_details, fault_at, element_faults, elements_faults, elements, top_faults, draft_of}
+use Rattle.base_faults.specs.Fields.{top_details}
 
 both : (k : ℕ) (xs ys : List TextFault) → faults_in k (xs ++ ys) ≡ faults_in k xs ++ faults_in k ys
 both k xs ys = filter-append (λ t. is_in k t.frame) xs ys

@@ -3,9 +3,8 @@ use Rattle.std.proofs.Common.{◌≡◌, [], None, Result, Ok, Err, OnOk, is_ok,
 use Rattle.std.specs.Result.{result_ok}
 use Rattle.frame_records.specs.declared.frame.Frame.{Frame}
 use Rattle.base_text.specs.declared.fault.Cause.{Cause}
-use Rattle.base_faults.specs.DraftView.{FaultyView}
+use Rattle.base_faults.specs.Drafts.{FaultyView, element_details, faulty_of, frame_or, judged}
 use Rattle.toml.specs.Data.{Data}
-use Rattle.base_faults.specs.Drafts.{element_details, faulty_of, frame_or, judged}
 use Rattle.base_text.specs.Frames.{frame_of}
 use Rattle.base_faults.proofs.DraftAgreements.{element}
 

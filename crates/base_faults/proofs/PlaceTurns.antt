@@ -11,7 +11,7 @@ use Rattle.std.proofs.lemmas.Cmp.{nat_cmp_total}
 use Rattle.std.proofs.lemmas.List.Folds.{list_any_at, list_any_none}
 use Rattle.std.proofs.lemmas.List.Sorted.{searchable_from_sorted}
 use Rattle.base_faults.specs.declared.place.Place.{Place}
-use Rattle.base_faults.specs.Places.{place_cmp}
+use Rattle.base_faults.specs.Fields.{place_cmp}
 use Rattle.base_faults.specs.WholeFaults.{has_place}
 
 pub first_not_less : (a b : Ordering) → is_lt (ordering_then a b) ≡ false → is_lt a ≡ false

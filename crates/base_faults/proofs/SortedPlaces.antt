@@ -7,11 +7,10 @@ use Rattle.std.specs.Ordering.{is_lt}
 use Rattle.std.proofs.Math.ListN.{set, get_or-map, length-map}
 use Rattle.std.proofs.lemmas.List.{map-set}
 use Rattle.std.proofs.lemmas.List.Sorted.{IsPermutation-map}
-use Rattle.page_ids.specs.Id.{Id}
-use Rattle.page_ids.specs.Ids.{id_cmp}
+use Rattle.page_ids.specs.Ids.{Id, id_cmp}
 use Rattle.frame_records.specs.declared.frame.Frame.{Frame}
 use Rattle.base_faults.specs.declared.place.Place.{Place}
-use Rattle.base_faults.specs.Places.{place_of, places_of, place_cmp}
+use Rattle.base_faults.specs.Fields.{place_of, places_of, place_cmp}
 use Rattle.base_faults.proofs.PlaceTurns.{first_not_less}
 
 -- a frame with its table

@@ -4,15 +4,13 @@ use Rattle.std.specs.Prelude.{find}
 use Rattle.frame_records.specs.declared.frame.Frame.{Frame}
 use Rattle.frame_records.specs.declared.build.BuildFault.{BuildFault}
 use Rattle.frame_records.specs.declared.build.BuildFault.TheVariants as build
-use Rattle.frame_records.specs.BaseView.{BaseView, IsAscending, are_too_many, is_body_long, is_next_after_z, NoFrame, has_page}
-use Rattle.frame_records.specs.Build.{IsLeastTwice, IsBuildFault, IsBuilt, AreSorted}
+use Rattle.frame_records.specs.Bases.{BaseView, IsAscending, are_too_many, is_body_long, is_next_after_z, NoFrame, has_page, IsLeastTwice, IsBuildFault, IsBuilt, AreSorted}
 use Rattle.frame_records.proofs.Built.{fault_back, base_back, sorted_of}
 use Rattle.frame_records.proofs.Pages.{least_inside, none_inside}
 use Rattle.frame_records.proofs.SortedFrames.{IsSortedById, none_twice, least_twice, least_of_first, no_frame_of_none}
 use Rattle.base_faults.specs.declared.whole_fault.WholeFault.{WholeFault}
-use Rattle.base_faults.specs.DraftLaws.{Agrees}
-use Rattle.base_faults.specs.WholeFaults.{long_faults, next_faults, duplicate_faults, inside_faults, ordered_faults, AreWholeFaults}
-use Rattle.base_faults.specs.WholeCauses.{build_fault}
+use Rattle.base_faults.specs.Drafts.{Agrees}
+use Rattle.base_faults.specs.WholeFaults.{long_faults, next_faults, duplicate_faults, inside_faults, ordered_faults, AreWholeFaults, build_fault}
 use Rattle.base_faults.proofs.BuildFaults.{one_fault, no_fault}
 use Rattle.base_faults.proofs.SortedPlaces.{Pair, placed, framed, AreSortedPairs, sorted_pairs}
 use Rattle.base_faults.proofs.WholeFirsts.{HasFirst, Begins, more, first_count, no_count, first_long, first_next, first_inside, OneRepeats, first_repeat}

@@ -4,19 +4,17 @@ use Rattle.std.specs.Prelude.{find}
 use Rattle.std.specs.List.{AllAdjacentBelow}
 use Rattle.std.specs.declared.cmp.Ordering.TheVariants.{Less}
 use Rattle.std.proofs.lemmas.Bool.Decides.{nat_tests}
-use Rattle.page_ids.specs.Id.{Id}
-use Rattle.page_ids.specs.Ids.{id_cmp, id_eq}
+use Rattle.page_ids.specs.Ids.{Id, id_cmp, id_eq}
 use Rattle.page_ids.specs.IdLaws.{before_of}
 use Rattle.frame_records.specs.declared.frame.Frame.{Frame}
 use Rattle.frame_records.specs.declared.build.BuildFault.{BuildFault}
 use Rattle.frame_records.specs.declared.build.BuildFault.TheVariants as build
 use Rattle.frame_records.specs.declared.limits.TheConstants.{MOST_LISTED}
-use Rattle.frame_records.specs.BaseView.{BaseView, IsAscending, is_body_long, is_next_after_z, has_page}
+use Rattle.frame_records.specs.Bases.{BaseView, IsAscending, is_body_long, is_next_after_z, has_page}
 use Rattle.frame_records.proofs.SortedFrames.{IsSortedById}
 use Rattle.base_faults.specs.declared.whole_fault.WholeFault.{WholeFault}
-use Rattle.base_faults.specs.DraftLaws.{Agrees}
-use Rattle.base_faults.specs.WholeFaults.{frames_faults, pages_faults, long_faults, next_faults, repeat_faults, has_place, inside_faults}
-use Rattle.base_faults.specs.WholeCauses.{build_fault}
+use Rattle.base_faults.specs.Drafts.{Agrees}
+use Rattle.base_faults.specs.WholeFaults.{frames_faults, pages_faults, long_faults, next_faults, repeat_faults, has_place, inside_faults, build_fault}
 use Rattle.base_faults.proofs.SortedPlaces.{Pair, placed, framed}
 
 -- the first of the faults is this one

@@ -1,19 +1,55 @@
--- What reads of a text, and every fault of it.
-use Rattle.std.specs.Prelude.{ℕ, ◌+◌, is_ok, if◌then◌else◌, List, [], ◌∷◌, ◌++◌, map, codes, Option, Some, None, option_to_list, Result, Ok, Err}
-use Rattle.std.specs.Result.{result_ok}
-use Rattle.page_ids.specs.Id.{Id}
+-- A draft: the frames that read, and every fault of the others.
+use Rattle.std.specs.Prelude.{ℕ, List, Option, [], ◌++◌, Some, option_to_list, ◌+◌, is_ok, if◌then◌else◌, ◌∷◌, map, codes, None, Result, Ok, Err, ◌≡◌, ◌==◌, Bool, false, filter}
+use Rattle.page_ids.specs.Ids.{Id}
 use Rattle.frame_records.specs.declared.frame.Frame.{Frame}
-use Rattle.toml.specs.Data.{Data, array, table, Items, no_items, item, Members, get_member}
-use Rattle.base_text.specs.declared.fault.Cause.{Cause}
-use Rattle.base_text.specs.declared.fault.Field.TheVariants as field
 use Rattle.base_faults.specs.declared.detail.Detail.{Detail}
-use Rattle.base_faults.specs.declared.detail.Detail.TheVariants.{WrongKind}
 use Rattle.base_faults.specs.declared.detail.TextFault.{TextFault}
-use Rattle.base_faults.specs.Misfits.{kind_of}
-use Rattle.base_faults.specs.DraftView.{DraftView, FaultyView}
-use Rattle.base_faults.specs.FrameDetails.{frame_details, top_details}
-use Rattle.base_text.specs.Frames.{frame_of}
-use Rattle.base_faults.specs.Readable.{entry_read, outside_read, id_read}
+use Rattle.std.specs.Result.{result_ok}
+use Rattle.toml.specs.Data.{Data, array, Items, no_items, item, table, Members, get_member, get_item}
+use Rattle.base_text.specs.declared.fault.Field.TheVariants as field
+use Rattle.base_text.specs.Fields.{page_of, entry_of, id_of}
+use Rattle.base_text.specs.declared.fault.Cause.{Cause}
+use Rattle.base_faults.specs.declared.detail.Detail.TheVariants.{WrongKind}
+use Rattle.base_faults.specs.Fields.{kind_of, frame_details, top_details, cause_of}
+use Rattle.base_text.specs.Frames.{frame_of, frame_index, fault_in}
+use Rattle.base_text.specs.declared.fault.BaseFault.{BaseFault}
+use Rattle.base_text.specs.Whole.{PartsView, table_parts}
+
+-- What contracts see of a draft, and of a frame's table that is at fault.
+
+-- what reads of a text, and all that doesn't
+pub record DraftView : Type 0 where
+  pub entry : Option ℕ
+  pub outside : List ℕ
+  pub frames : List Frame
+  pub tables : List ℕ
+  pub faults : List TextFault
+
+-- the id of a table, if it reads, and what is wrong with the table
+pub record FaultyView : Type 0 where
+  pub id : Option Id
+  pub details : List Detail
+
+-- What reads of a text, whatever is wrong with the rest.
+
+-- the entry page
+abbrev pub entry_read : Option Data → Option ℕ
+entry_read d = result_ok (entry_of d)
+
+-- the outside pages
+abbrev pub pages_read : Items → List ℕ
+pages_read no_items = []
+pages_read (item d ds) = option_to_list (result_ok (page_of field.Outside d)) ++ pages_read ds
+
+abbrev pub outside_read : Option Data → List ℕ
+outside_read (Some (array ds)) = pages_read ds
+outside_read _ = []
+
+-- a frame's id
+abbrev pub id_read : Option Data → Option Id
+id_read d = result_ok (id_of d)
+
+-- What reads of a text, and every fault of it.
 
 -- the id of an element of `frame`, if it reads
 abbrev pub element_id : Data → Option Id
@@ -88,3 +124,48 @@ draft_of ms = record {
   tables = elements_tables 0 (elements (get_member (codes "frame") ms));
   faults = top_faults ms ++ elements_faults 0 (elements (get_member (codes "frame") ms));
 }
+
+-- A draft and the reading of a base agree.
+
+-- the index of a fault's frame, as base_read answers it
+abbrev pub index_of : Option ℕ → Option ℕ
+index_of None = None
+index_of (Some i) = frame_index i
+
+-- the fault that base_read answers for one of a draft
+abbrev pub base_fault : TextFault → BaseFault
+base_fault t = fault_in (index_of t.frame) (cause_of t.detail)
+
+-- the faults are none if there is a value, else the first is the one that is answered
+abbrev pub Agrees : {A E F : Type 0} → (F → E) → Result A E → List F → Type 0
+Agrees answer (Ok a) faults = faults ≡ []
+Agrees answer (Err e) [] = ⊥
+Agrees answer (Err e) (f ∷ fs) = answer f ≡ e
+
+-- a draft without a fault has what is read
+abbrev pub HasParts : Result PartsView BaseFault → DraftView → Type 0
+HasParts (Ok p) draft = (draft.entry ≡ Some p.entry) × (draft.outside ≡ p.outside) × (draft.frames ≡ p.frames)
+HasParts (Err f) draft = Unit {0}
+
+-- of every table: its draft has no fault exactly if its parts are read, and then has these; else its first fault is that of
+-- the reading, with the index of its frame
+abbrev pub DraftsAgree : Type 0
+DraftsAgree = (ms : Members) → Agrees base_fault (table_parts ms) (draft_of ms).faults × HasParts (table_parts ms) (draft_of ms)
+
+-- a fault is in the frame of the index
+abbrev pub is_in : ℕ → Option ℕ → Bool
+is_in k None = false
+is_in k (Some i) = i == k
+
+-- the faults in the frame of an index
+abbrev pub faults_in : ℕ → List TextFault → List TextFault
+faults_in k faults = filter (λ t. is_in k t.frame) faults
+
+-- those of judging one element alone, with its index
+abbrev pub faults_alone : ℕ → Option Data → List TextFault
+faults_alone k None = []
+faults_alone k (Some d) = element_faults k d
+
+-- of every table and index: the faults in a frame are exactly those of judging its table alone
+abbrev pub FaultsAreOfFrames : Type 0
+FaultsAreOfFrames = (ms : Members) (k : ℕ) → faults_in k (draft_of ms).faults ≡ faults_alone k (get_item k (elements (get_member (codes "frame") ms)))

@@ -1,14 +1,3 @@
-pub mod Details
-pub mod Misfits
-pub mod FieldDetails
-pub mod ListDetails
-pub mod BodyDetails
-pub mod FrameDetails
-pub mod Readable
-pub mod DraftView
+pub mod Fields
 pub mod Drafts
-pub mod DraftLaws
-pub mod Places
-pub mod WholeCauses
 pub mod WholeFaults
-pub mod WholeLaws

@@ -1,5 +1,5 @@
 -- Every fault of a base as a whole.
-use Rattle.std.specs.Prelude.{◌≡◌, ◌==◌, ◌&&◌, ℕ, Bool, nat_eq, nat_lt, if◌then◌else◌, List, [], ◌∷◌, ◌++◌, length, IsPermutation}
+use Rattle.std.specs.Prelude.{◌≡◌, ◌==◌, ◌&&◌, ℕ, Bool, nat_eq, nat_lt, if◌then◌else◌, List, [], ◌∷◌, ◌++◌, length, IsPermutation, Result}
 use Rattle.std.specs.Ordering.{nat_cmp}
 use Rattle.std.specs.List.{list_any, dedup}
 use Rattle.std.specs.List.Sorted.{IsSorted}
@@ -9,7 +9,14 @@ use Rattle.frame_records.specs.declared.limits.TheConstants.{MOST_LISTED, MOST_B
 use Rattle.base_faults.specs.declared.place.Place.{Place}
 use Rattle.base_faults.specs.declared.whole_fault.WholeFault.{WholeFault}
 use Rattle.base_faults.specs.declared.whole_fault.WholeFault.TheVariants.{TooManyFrames, TooManyOutside, BodyTooLong, NextAfterZ, Duplicate, OutsideInside}
-use Rattle.base_faults.specs.Places.{place_cmp, places_of}
+use Rattle.base_faults.specs.Fields.{place_cmp, places_of}
+use Rattle.frame_records.specs.declared.build.BuildFault.{BuildFault}
+use Rattle.frame_records.specs.declared.build.BuildFault.TheVariants as build
+use Rattle.base_text.specs.declared.fault.Cause.{Cause}
+use Rattle.base_text.specs.Whole.{build_cause}
+use Rattle.frame_records.specs.Bases.{BaseView, IsBuilt}
+use Rattle.toml.specs.Data.{Members}
+use Rattle.base_faults.specs.Drafts.{Agrees, draft_of}
 
 -- more frames, and more outside pages as listed, than a base may have
 abbrev pub frames_faults : ℕ → List WholeFault
@@ -65,3 +72,32 @@ pub record AreWholeFaults (outside : List ℕ) (frames : List Frame) (tables : L
   pub places_ascend : IsSorted place_cmp places
   pub ordered_pages : AreOrderedPages outside pages
   pub all : faults ≡ ordered_faults (length frames) (length outside) places pages
+
+-- The cause of a fault of a base as a whole.
+
+-- the fault that Base::build answers for one of the whole
+abbrev pub build_fault : WholeFault → BuildFault
+build_fault (TooManyFrames n) = build.TooMany
+build_fault (TooManyOutside n) = build.TooMany
+build_fault (BodyTooLong table id n) = build.BodyTooLong id
+build_fault (NextAfterZ table id) = build.NextAfterZ id
+build_fault (Duplicate table first id) = build.Duplicate id
+build_fault (OutsideInside page) = build.OutsideInside page
+
+-- the cause that base_read answers for it
+abbrev pub whole_cause : WholeFault → Cause
+whole_cause w = build_cause (build_fault w)
+
+-- The faults of a base as a whole, and what Base::build answers.
+
+-- of every entry page, outside pages and frames, each with a table, and of what Base::build answers for them: there is no
+-- fault exactly if it is a base; else the first fault is the one that it answers
+abbrev pub WholeFaultsAgree : Type 0
+WholeFaultsAgree =
+    (entry : ℕ) (outside : List ℕ) (frames : List Frame) (tables : List ℕ) (faults : List WholeFault) (built : Result BaseView BuildFault)
+    → length tables ≡ length frames → AreWholeFaults outside frames tables faults → IsBuilt entry outside frames built
+    → Agrees build_fault built faults
+
+-- each frame of a draft has a table
+abbrev pub DraftsHaveTables : Type 0
+DraftsHaveTables = (ms : Members) → length (draft_of ms).tables ≡ length (draft_of ms).frames

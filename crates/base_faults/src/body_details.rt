@@ -1,9 +1,8 @@
 ghost use Rattle.std.specs.Prelude.{◌≡◌, ◌++◌, OnOk, length};
 ghost use Rattle.std.specs.Str.{chars};
 ghost use Rattle.toml.specs.View.{view, items_view};
-ghost use Rattle.base_faults.specs.BodyDetails.{may_have, first_refused, body_text_detail, body_value_detail, length_detail, codes_detail, row_details, rows_details, count_detail, rows_value_details, body_details};
-ghost use Rattle.base_text.specs.Rows.{count};
-ghost use Rattle.base_text.specs.Seen.{seen};
+ghost use Rattle.base_faults.specs.Fields.{may_have, first_refused, body_text_detail, body_value_detail, length_detail, codes_detail, row_details, rows_details, count_detail, rows_value_details, body_details};
+ghost use Rattle.base_text.specs.Rows.{count, seen};
 
 use crate::detail::Detail;
 use crate::list_details::add;

@@ -1,5 +1,5 @@
 ghost use Rattle.std.specs.Prelude.{◌≡◌};
-ghost use Rattle.base_faults.specs.Details.{cause_of};
+ghost use Rattle.base_faults.specs.Fields.{cause_of};
 
 use crate::word::Word;
 use base_text::{Cause, Field, TableKind};

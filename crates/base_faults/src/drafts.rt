@@ -27,7 +27,7 @@ pub struct Draft {
 }
 
 impl Model for Draft {
-    ghost use Rattle.base_faults.specs.DraftView.{DraftView};
+    ghost use Rattle.base_faults.specs.Drafts.{DraftView};
 
     ghost Value = { DraftView };
 

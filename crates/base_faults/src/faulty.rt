@@ -22,7 +22,7 @@ pub struct Faulty {
 }
 
 impl Model for Faulty {
-    ghost use Rattle.base_faults.specs.DraftView.{FaultyView};
+    ghost use Rattle.base_faults.specs.Drafts.{FaultyView};
 
     ghost Value = { FaultyView };
 

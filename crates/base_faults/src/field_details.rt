@@ -1,6 +1,6 @@
 ghost use Rattle.std.specs.Prelude.{◌≡◌, IfOk};
-ghost use Rattle.base_text.specs.Seen.{seen};
-ghost use Rattle.base_faults.specs.FieldDetails.{number_detail, entry_detail, list_detail, id_text_detail, id_detail, price_detail, group_detail, next_detail, lead_text_detail, lead_detail};
+ghost use Rattle.base_text.specs.Rows.{seen};
+ghost use Rattle.base_faults.specs.Fields.{number_detail, entry_detail, list_detail, id_text_detail, id_detail, price_detail, group_detail, next_detail, lead_text_detail, lead_detail};
 
 use crate::detail::Detail;
 use crate::misfit::{kind_of, misfit_of};

@@ -1,6 +1,6 @@
 ghost use Rattle.std.specs.Prelude.{◌≡◌, ◌++◌, OnOk, IfOk};
 ghost use Rattle.toml.specs.View.{table_view};
-ghost use Rattle.base_faults.specs.FrameDetails.{head_details, shown_details, frame_details, top_details};
+ghost use Rattle.base_faults.specs.Fields.{head_details, shown_details, frame_details, top_details};
 
 use crate::body_details::add_body;
 use crate::detail::Detail;

@@ -1,5 +1,5 @@
-ghost use Rattle.base_faults.specs.DraftLaws.{DraftsAgree, FaultsAreOfFrames};
-ghost use Rattle.base_faults.specs.WholeLaws.{WholeFaultsAgree, DraftsHaveTables};
+ghost use Rattle.base_faults.specs.Drafts.{DraftsAgree, FaultsAreOfFrames};
+ghost use Rattle.base_faults.specs.WholeFaults.{WholeFaultsAgree, DraftsHaveTables};
 
 /// Of every table: its draft has no fault exactly if its base's parts are read, and then has these parts. Else the
 /// draft's first fault is the one that `base_read` answers, with the index of its frame.

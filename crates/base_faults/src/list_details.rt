@@ -1,7 +1,7 @@
 ghost use Rattle.std.specs.Prelude.{◌≡◌, ◌++◌, OnOk, option_to_list};
 ghost use Rattle.toml.specs.View.{table_view, view, items_view};
-ghost use Rattle.base_text.specs.Seen.{seen};
-ghost use Rattle.base_faults.specs.ListDetails.{unknown_keys, page_detail, pages_details, outside_details, route_detail, ten_digits_details, routes_details};
+ghost use Rattle.base_text.specs.Rows.{seen};
+ghost use Rattle.base_faults.specs.Fields.{unknown_keys, page_detail, pages_details, outside_details, route_detail, ten_digits_details, routes_details};
 
 use crate::detail::Detail;
 use crate::misfit::{kind_of, misfit_of};

@@ -1,6 +1,6 @@
 ghost use Rattle.std.specs.Prelude.{◌≡◌};
 ghost use Rattle.toml.specs.View.{view};
-ghost use Rattle.base_faults.specs.Misfits.{kind_of, misfit_of, at_key, at_item};
+ghost use Rattle.base_faults.specs.Fields.{kind_of, misfit_of, at_key, at_item};
 
 use crate::detail::{Detail, ValueKind};
 use base_text::Field;

@@ -1,5 +1,5 @@
 ghost use Rattle.std.specs.Prelude.{◌≡◌, IfOk};
-ghost use Rattle.base_faults.specs.Places.{place_of, places_of};
+ghost use Rattle.base_faults.specs.Fields.{place_of, places_of};
 
 use frame_records::Frame;
 use page_ids::FrameId;

@@ -1,7 +1,7 @@
 ghost use Rattle.std.specs.Prelude.{◌≡◌, IfOk};
 ghost use Rattle.toml.specs.View.{items_view};
-ghost use Rattle.base_text.specs.Seen.{seen};
-ghost use Rattle.base_faults.specs.Readable.{entry_read, pages_read, outside_read, id_read};
+ghost use Rattle.base_text.specs.Rows.{seen};
+ghost use Rattle.base_faults.specs.Drafts.{entry_read, pages_read, outside_read, id_read};
 
 use base_text::{Field, page_of_value};
 use page_ids::{FrameId, PageNo};

@@ -1,6 +1,6 @@
 ghost use Rattle.std.specs.Prelude.{◌≡◌, ◌++◌, OnOk, IfOk, IsPermutation};
 ghost use Rattle.std.specs.List.Sorted.{IsSorted};
-ghost use Rattle.base_faults.specs.Places.{place_cmp, places_of};
+ghost use Rattle.base_faults.specs.Fields.{place_cmp, places_of};
 ghost use Rattle.base_faults.specs.WholeFaults.{frames_faults, pages_faults, long_faults, next_faults, duplicate_faults, has_place, inside_faults, AreOrderedPages, AreWholeFaults};
 
 use crate::drafts::Draft;

@@ -1,5 +1,5 @@
 ghost use Rattle.std.specs.Prelude.{◌≡◌};
-ghost use Rattle.base_faults.specs.WholeCauses.{whole_cause};
+ghost use Rattle.base_faults.specs.WholeFaults.{whole_cause};
 
 use base_text::Cause;
 use page_ids::{FrameId, PageNo};

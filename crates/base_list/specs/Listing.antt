@@ -1,22 +1,43 @@
--- The text of `list`: the frames that are reached, in the order of discovery, and then the others, in the order of the base.
-use Rattle.std.specs.Prelude.{◌≡◌, ℕ, zero, suc, Bool, true, false, not, List, [], ◌∷◌, ◌++◌, filter, length, slice_get, Option, Some, None}
-use Rattle.std.specs.List.{list_any}
-use Rattle.indexmap.specs.IndexSet.{contains}
-use Rattle.page_ids.specs.Id.{Id}
-use Rattle.page_ids.specs.Ids.{id_eq}
+-- The lines of `list`. Ids, numbers and keys are printed as in every text.
+use Rattle.std.specs.Prelude.{ℕ, List, ◌++◌, Option, Some, None, codes, decimal, ◌≡◌, zero, suc, Bool, true, false, not, [], ◌∷◌, filter, length, slice_get, ◌↔◌, Contains, All}
 use Rattle.page_ids.specs.declared.key.Key.{Key}
 use Rattle.frame_records.specs.declared.frame.Frame.{Frame}
+use Rattle.audit_report.specs.Lines.{line, with_id, entry_text}
+use Rattle.audit_report.specs.ReportLines.{script_text}
+use Rattle.std.specs.List.{list_any}
+use Rattle.indexmap.specs.IndexSet.{contains}
+use Rattle.page_ids.specs.Ids.{Id, id_eq}
 use Rattle.frame_records.specs.declared.base.Sought.{Sought}
 use Rattle.frame_records.specs.declared.base.Sought.TheVariants as sought
-use Rattle.frame_records.specs.BaseView.{BaseView, frame_at}
+use Rattle.frame_records.specs.Bases.{BaseView, frame_at}
 use Rattle.frame_records.specs.Seek.{entry_of, seek_entry}
 use Rattle.finder.specs.declared.found.Discovered.{Discovered}
-use Rattle.finder.specs.Finds.{IsFinding}
-use Rattle.finder.specs.Scripts.{script}
-use Rattle.audit_report.specs.Lines.{entry_text}
+use Rattle.finder.specs.Finds.{IsFinding, script, FindsReached, IsReached}
 use Rattle.base_list.specs.declared.listing.Listing.{Listing}
 use Rattle.base_list.specs.declared.reached.Reached.{Reached}
-use Rattle.base_list.specs.Lines.{frame_line, unreached_line}
+
+-- a number, or `-` if there is none
+abbrev pub or_dash : Option ℕ → List ℕ
+or_dash (Some n) = decimal n
+or_dash None = codes "-"
+
+abbrev pub with_or_dash : List ℕ → Option ℕ → List ℕ
+with_or_dash words number = words ++ or_dash number
+
+-- what a frame costs, and the group to which it is open
+abbrev pub price_and_group : Frame → List ℕ
+price_and_group f = (codes " PRICE " ++ decimal f.price) ++ with_or_dash (codes " GROUP ") f.group
+
+-- a frame that is reached: its rank, and the keys that lead to it
+abbrev pub frame_line : Frame → Option ℕ → List Key → List ℕ
+frame_line f rank keys =
+    line (with_id (codes "FRAME ") f.id ++ with_or_dash (codes " RANK ") rank ++ price_and_group f ++ script_text keys)
+
+-- one that isn't
+abbrev pub unreached_line : Frame → List ℕ
+unreached_line f = line (with_id (codes "UNREACHED ") f.id ++ price_and_group f)
+
+-- The text of `list`: the frames that are reached, in the order of discovery, and then the others, in the order of the base.
 
 -- a frame is among those that are reached
 abbrev pub is_listed : List Discovered → Id → Bool
@@ -76,3 +97,21 @@ IsListing caller base listing = IsListText caller base listing.text.items listin
 -- the ids of these frames are known
 abbrev pub Knows : List Discovered → Reached → Type 0
 Knows found reached = (id : Id) → contains id_eq reached.ids id ≡ is_listed found id
+
+-- What the list says of a base.
+
+-- a frame that is listed has its record in the base
+abbrev pub HasRecord : BaseView → Discovered → Type 0
+HasRecord base d = (f : Frame) × (frame_at base d.id ≡ Some f)
+
+-- the lines FRAME are those of exactly the frames that walks reach, and the lines UNREACHED those of exactly the others
+pub record ListsEveryFrame (caller : List ℕ) (base : BaseView) (found : List Discovered) : Type 0 where
+  pub records : All (HasRecord base) found
+  pub reached : (id : Id) → IsReached caller base id ↔ (is_listed found id ≡ true)
+  pub unreached : (f : Frame)
+      → Contains (others found base.frames) f ↔ (Contains base.frames f × (IsReached caller base f.id → ⊥))
+
+abbrev pub AllAreListed : Type 0
+AllAreListed =
+    (caller : List ℕ) (base : BaseView) (found : List Discovered) → FindsReached caller base found
+    → ListsEveryFrame caller base found

@@ -1,7 +1,7 @@
 ghost use Rattle.std.specs.Prelude.{◌≡◌, ◌++◌, OnOk};
 ghost use Rattle.audit_report.specs.Lines.{with_id};
 ghost use Rattle.audit_report.specs.ReportLines.{script_text};
-ghost use Rattle.base_list.specs.Lines.{with_or_dash, price_and_group, frame_line, unreached_line};
+ghost use Rattle.base_list.specs.Listing.{with_or_dash, price_and_group, frame_line, unreached_line};
 
 use frame_records::{Frame, GroupNo};
 use page_ids::{FrameId, Key, push_keys, push_number};

@@ -3,8 +3,7 @@ use Rattle.std.proofs.Common.{◌≡◌, ◌∙◌, sym, ap, ℕ, true, List, []
 use Rattle.std.specs.Prelude.{◌↔◌, map, filter}
 use Rattle.std.proofs.lemmas.List.Folds.{list_any-from_Any}
 use Rattle.indexmap.proofs.CallerLemmas.{Contains-list_any}
-use Rattle.page_ids.specs.Id.{Id}
-use Rattle.page_ids.specs.Ids.{id_eq}
+use Rattle.page_ids.specs.Ids.{Id, id_eq}
 use Rattle.page_ids.specs.IdLaws.{id_eq_same, id_eq_refl}
 use Rattle.page_ids.specs.WayLaws.{ways_length, ways_at}
 use Rattle.page_ids.specs.declared.key.Key.{Key}
@@ -13,15 +12,14 @@ use Rattle.page_ids.specs.declared.way.Way.TheVariants.{Route, Next}
 use Rattle.page_ids.specs.Ways.{way_key, way_place, ways}
 use Rattle.frame_records.specs.declared.frame.Frame.{Frame}
 use Rattle.frame_records.specs.declared.base.Sought.TheVariants as found
-use Rattle.frame_records.specs.BaseView.{BaseView, frame_at}
+use Rattle.frame_records.specs.Bases.{BaseView, frame_at}
 use Rattle.frame_records.specs.Seek.{seek}
 use Rattle.frame_records.specs.Ways.{sought, sought_by, Leads, destination}
 use Rattle.frame_records.specs.WayLaws.{offered_place, goes, going, found_sought}
 use Rattle.frame_records.specs.declared.ways.Destination.TheVariants as destination
 use Rattle.base_map.specs.declared.exits.Exit.{Exit}
-use Rattle.base_map.specs.Exits.{exit_by, exits_of, targets_of, keys_to}
-use Rattle.base_map.specs.MapLaws.{AreEdges, KeysLeadOn, EdgesAreWays}
-use Rattle.base_map.specs.MapView.{has_id}
+use Rattle.base_map.specs.Edges.{exit_by, exits_of, targets_of, keys_to, has_id}
+use Rattle.base_map.specs.Map.{AreEdges, KeysLeadOn, EdgesAreWays}
 use Rattle.base_map.proofs.Among.{among_map, map_among, among_filter, filter_among, among_filter_map, filter_map_among}
 use Rattle.base_map.proofs.Distinct.{all_once, none_twice}
 use Rattle.base_map.proofs.Inserts.{has_all}

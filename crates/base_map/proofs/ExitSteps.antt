@@ -4,12 +4,12 @@ use Rattle.std.specs.Prelude.{map}
 use Rattle.std.specs.List.{filter_map, range_with_len}
 use Rattle.std.proofs.lemmas.List.Elements.{filter_map-append}
 use Rattle.std.proofs.lemmas.List.FromFn.{map-range_with_len_more}
-use Rattle.page_ids.specs.Id.{Id}
+use Rattle.page_ids.specs.Ids.{Id}
 use Rattle.page_ids.specs.Ways.{way_at, way_key}
 use Rattle.frame_records.specs.declared.frame.Frame.{Frame}
 use Rattle.frame_records.specs.Ways.{sought}
 use Rattle.base_map.specs.declared.exits.Exit.{Exit}
-use Rattle.base_map.specs.Exits.{exit_by}
+use Rattle.base_map.specs.Edges.{exit_by}
 
 -- the exits of the first ways
 abbrev pub first_exits : Frame → ℕ → List Exit

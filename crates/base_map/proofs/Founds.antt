@@ -3,14 +3,13 @@ use Rattle.std.proofs.Common.{◌≡◌, ◌∙◌, sym, ap, true, false, List, 
 use Rattle.std.specs.Prelude.{◌↔◌, ℕ, map, ◌||◌, IfOk, Result, Ok, Err}
 use Rattle.std.specs.List.{list_any}
 use Rattle.std.proofs.lemmas.List.Folds.{Any-from_list_any, list_any-from_Any}
-use Rattle.page_ids.specs.Id.{Id}
-use Rattle.page_ids.specs.Ids.{id_eq}
+use Rattle.page_ids.specs.Ids.{Id, id_eq}
 use Rattle.page_ids.specs.IdLaws.{id_eq_same, id_eq_refl}
-use Rattle.frame_records.specs.BaseView.{BaseView}
+use Rattle.frame_records.specs.Bases.{BaseView}
 use Rattle.finder.specs.declared.found.Discovered.{Discovered}
 use Rattle.finder.specs.Finds.{FindsReached}
-use Rattle.base_map.specs.MapText.{ids_of, AreReached}
-use Rattle.base_map.specs.MapView.{has_id}
+use Rattle.base_map.specs.Map.{ids_of, AreReached}
+use Rattle.base_map.specs.Edges.{has_id}
 use Rattle.base_map.proofs.Inserts.{has_all}
 
 of_map : (found : List Discovered) (id : Id) → has_id (map (λ d. d.id) found) id ≡ list_any (λ (d : Discovered). id_eq id d.id) found

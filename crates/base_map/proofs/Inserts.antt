@@ -4,10 +4,9 @@ use Rattle.std.specs.Prelude.{map}
 use Rattle.std.specs.List.{list_any}
 use Rattle.std.proofs.lemmas.List.Folds.{list_any-append}
 use Rattle.indexmap.specs.IndexSet.{insert_key, insert_all}
-use Rattle.page_ids.specs.Id.{Id}
-use Rattle.page_ids.specs.Ids.{id_eq}
+use Rattle.page_ids.specs.Ids.{Id, id_eq}
 use Rattle.page_ids.specs.IdLaws.{id_eq_same}
-use Rattle.base_map.specs.MapView.{has_id}
+use Rattle.base_map.specs.Edges.{has_id}
 
 or_none : (b : Bool) → (b || false) ≡ b
 or_none true = refl

@@ -5,8 +5,7 @@ use Rattle.std.specs.List.{flat_map}
 use Rattle.std.specs.declared.cmp.Ordering.TheVariants.{Equal}
 use Rattle.std.proofs.lemmas.Bool.Decides.{nat_tests}
 use Rattle.std.proofs.lemmas.List.Folds.{list_any-append}
-use Rattle.page_ids.specs.Id.{Id}
-use Rattle.page_ids.specs.Ids.{id_eq, id_cmp, first_frame}
+use Rattle.page_ids.specs.Ids.{Id, id_eq, id_cmp, first_frame}
 use Rattle.page_ids.specs.IdLaws.{id_eq_same, id_eq_refl}
 use Rattle.page_ids.specs.declared.way.Way.{Way}
 use Rattle.page_ids.specs.Ways.{way_key, ways}
@@ -14,18 +13,16 @@ use Rattle.frame_records.specs.declared.frame.Frame.{Frame}
 use Rattle.frame_records.specs.declared.base.Sought.{Sought}
 use Rattle.frame_records.specs.declared.base.Sought.TheVariants.{Found, Closed, Missing}
 use Rattle.frame_records.specs.declared.ways.Destination.TheVariants as destination
-use Rattle.frame_records.specs.BaseView.{BaseView, IsAscending, frame_at, frame_among}
+use Rattle.frame_records.specs.Bases.{BaseView, IsAscending, frame_at, frame_among}
 use Rattle.frame_records.specs.Seek.{seek}
 use Rattle.frame_records.specs.Ways.{sought, Leads}
 use Rattle.frame_records.specs.WayLaws.{frame_id, going, found_sought}
-use Rattle.finder.specs.Walks.{Walk}
+use Rattle.finder.specs.Finds.{Walk}
 use Rattle.frame_records.proofs.SortedFrames.{found_at}
 use Rattle.base_map.specs.declared.exits.Exit.{Exit}
 use Rattle.base_map.specs.declared.links.Link.{Link}
-use Rattle.base_map.specs.Exits.{exit_by, exits_of}
-use Rattle.base_map.specs.Links.{is_found, is_found_by, links_by, links_of, turned}
-use Rattle.base_map.specs.MapView.{has_id}
-use Rattle.base_map.specs.Neighbours.{linked, linked_by}
+use Rattle.base_map.specs.Edges.{exit_by, exits_of, has_id}
+use Rattle.base_map.specs.Loops.{is_found, is_found_by, links_by, links_of, turned, linked, linked_by}
 use Rattle.base_map.specs.Windows.{Path, IsWithin, IsSpan, AreFrom, AreTo}
 use Rattle.base_map.proofs.Among.{none_among, first_among, later_among, first_or_later, among_map, map_among, among_filter, filter_among, filter_map_among}
 use Rattle.base_map.proofs.EdgeLaws.{exit_with, its_exit, of_exit, leads, found_offered}

@@ -1,8 +1,7 @@
 -- The ends of links, one link after another.
 use Rattle.std.proofs.Common.{◌≡◌, ◌∙◌, sym, ap, cond, Bool, true, false, List, [], ◌∷◌, ◌++◌, Option, Some, None, append-nil, refl}
 use Rattle.std.specs.Option.{option_map_or}
-use Rattle.page_ids.specs.Id.{Id}
-use Rattle.page_ids.specs.Ids.{id_eq}
+use Rattle.page_ids.specs.Ids.{Id, id_eq}
 use Rattle.page_ids.specs.IdLaws.{id_eq_same}
 
 pub chosen : {A : Type 0} (f : A → List Id) (b : Bool) (v : A) (o : Option A) → option_map_or f (cond b (Some v) o) [] ≡ cond b (f v) (option_map_or f o [])

@@ -5,7 +5,7 @@ use Rattle.std.specs.List.{slice_split}
 use Rattle.std.proofs.lemmas.Bool.Decides.{nat_tests}
 use Rattle.std.proofs.lemmas.List.Elements.{All-append}
 use Rattle.std.proofs.lemmas.List.Splits.{slice_split_at, slice_split_none}
-use Rattle.base_map.specs.Titles.{without_escapes, ends_run, is_title, run_in}
+use Rattle.base_map.specs.Nodes.{without_escapes, ends_run, is_title, run_in}
 
 -- the run so far, and the codes that are left, give the title's run
 pub record IsRunOf (run : List ℕ) (escaped : Bool) (left run_is : List ℕ) : Type 0 where

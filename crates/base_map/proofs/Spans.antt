@@ -5,9 +5,8 @@ use Rattle.std.proofs.Math.Seq.{take-append_seam}
 use Rattle.std.proofs.lemmas.List.{take_all}
 use Rattle.std.proofs.lemmas.Bool.Decides.{nat_tests}
 use Rattle.indexmap.specs.IndexSet.{insert_key, insert_all}
-use Rattle.page_ids.specs.Id.{Id}
-use Rattle.page_ids.specs.Ids.{id_eq}
-use Rattle.base_map.specs.MapView.{has_id}
+use Rattle.page_ids.specs.Ids.{Id, id_eq}
+use Rattle.base_map.specs.Edges.{has_id}
 use Rattle.base_map.specs.Windows.{Path, IsWithin, is_below, IsSpan}
 use Rattle.base_map.proofs.HasIds.{one_id, has_one, old_or_new, still_has, now_has, done_or_left, left_has, next_of, of_next, Grows}
 

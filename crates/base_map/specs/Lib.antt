@@ -1,12 +1,5 @@
-pub mod MapView
-pub mod Titles
-pub mod Exits
 pub mod Nodes
-pub mod Lost
 pub mod Edges
-pub mod MapText
-pub mod MapLaws
-pub mod Links
-pub mod Neighbours
+pub mod Map
+pub mod Loops
 pub mod Windows
-pub mod Views

@@ -1,11 +1,62 @@
--- The nodes of frames, by pages.
-use Rattle.std.specs.Prelude.{ℕ, ◌==◌, if◌then◌else◌, List, [], ◌∷◌, ◌++◌, codes, decimal, Option, Some, None}
-use Rattle.page_ids.specs.Id.{Id}
-use Rattle.page_ids.specs.Ids.{id_eq, frame_text, page_text}
+-- A few words by which a frame can be recognised.
+use Rattle.std.specs.Prelude.{ℕ, ◌-◌, ◌==◌, ◌&&◌, ◌||◌, Bool, true, false, not, if◌then◌else◌, List, [], ◌∷◌, ◌++◌, length, take, drop, find, codes, nat_lt, nat_le, unwrap_or, decimal, Option, Some, None}
+use Rattle.std.specs.List.{list_any, slice_split, prefix_len, suffix_len}
+use Rattle.std.specs.Char.{is_ascii_alphabetic, is_ascii_whitespace}
+use Rattle.page_ids.specs.Ids.{Id, id_eq, frame_text, page_text}
 use Rattle.frame_records.specs.declared.frame.Frame.{Frame}
 use Rattle.frame_records.specs.Seek.{entry_of, is_open}
-use Rattle.base_map.specs.MapView.{MapView, has_id}
-use Rattle.base_map.specs.Titles.{title, title_line}
+use Rattle.base_map.specs.Edges.{MapView, has_id}
+
+-- a body without its escapes, after the first code of one or not: an escape is 1B and the byte after it
+abbrev pub without_escapes : Bool → List ℕ → List ℕ
+without_escapes escaped [] = []
+without_escapes true (c ∷ cs) = without_escapes false cs
+without_escapes false (c ∷ cs) = if c == 27 then without_escapes true cs else c ∷ without_escapes false cs
+
+-- any code but 20 to 7E ends a run
+abbrev pub ends_run : ℕ → Bool
+ends_run code = nat_lt code 32 || nat_lt 126 code
+
+-- three or more codes, a letter among them
+abbrev pub is_title : List ℕ → Bool
+is_title run = nat_le 3 (length run) && list_any is_ascii_alphabetic run
+
+-- without the spaces at its start, and at its end
+abbrev pub start_trimmed : List ℕ → List ℕ
+start_trimmed run = drop (prefix_len is_ascii_whitespace run) run
+
+abbrev pub end_trimmed : List ℕ → List ℕ
+end_trimmed run = take (length run - suffix_len is_ascii_whitespace run) run
+
+-- trimmed, at most 24 characters
+abbrev pub shortened : List ℕ → List ℕ
+shortened run = take 24 (end_trimmed (start_trimmed run))
+
+-- the first run that can be a title
+abbrev pub run_in : List ℕ → List ℕ
+run_in text = unwrap_or (find is_title (slice_split ends_run text)) []
+
+-- that of a body without its escapes
+abbrev pub title_run : List ℕ → List ℕ
+title_run body = run_in (without_escapes false body)
+
+abbrev pub title : List ℕ → List ℕ
+title body = shortened (title_run body)
+
+-- a backslash before a quote and before a backslash: 34 is `"`, 92 is `\`
+abbrev pub escaped_code : ℕ → List ℕ
+escaped_code code = if code == 34 || code == 92 then 92 ∷ code ∷ [] else code ∷ []
+
+abbrev pub escaped : List ℕ → List ℕ
+escaped [] = []
+escaped (c ∷ cs) = escaped_code c ++ escaped cs
+
+-- a line of a label, if there is a title
+abbrev pub title_line : List ℕ → List ℕ
+title_line [] = []
+title_line (c ∷ cs) = codes "\\n" ++ escaped (c ∷ cs)
+
+-- The nodes of frames, by pages.
 
 -- the id, the title if there is one, and the price, each in a line
 abbrev pub label : Frame → List ℕ

@@ -1,10 +1,13 @@
 -- The frames near a page.
-use Rattle.std.specs.Prelude.{◌≡◌, ◌≤◌, ℕ, zero, suc, Bool, true, List, Option, Some, None, nat_lt}
-use Rattle.page_ids.specs.Id.{Id}
-use Rattle.page_ids.specs.Ids.{first_frame}
-use Rattle.frame_records.specs.BaseView.{BaseView, frame_at}
-use Rattle.finder.specs.Walks.{Walk}
-use Rattle.base_map.specs.MapView.{has_id}
+use Rattle.std.specs.Prelude.{◌≡◌, ◌≤◌, ℕ, zero, suc, Bool, true, List, Option, Some, None, nat_lt, Vec}
+use Rattle.page_ids.specs.Ids.{Id, first_frame}
+use Rattle.frame_records.specs.Bases.{BaseView, frame_at}
+use Rattle.finder.specs.Finds.{Walk}
+use Rattle.base_map.specs.Edges.{has_id}
+use Rattle.std.specs.declared.alloc.Global.{Global}
+use Rattle.base_map.specs.declared.view.View.{View}
+use Rattle.base_map.specs.declared.view.View.TheVariants.{Whole, From, To}
+use Rattle.base_map.specs.Map.{IsMap}
 
 -- n steps go from a to b, each to what is next to a frame
 abbrev pub Path : (Id → List Id) → Id → Id → ℕ → Type 0
@@ -45,3 +48,22 @@ pub record IsPartOf (Are : List Id → Type 0) (part : Option (List Id)) : Type 
 abbrev pub IsWindow : BaseView → ℕ → (List Id → Type 0) → Option (Option (List Id)) → Type 0
 IsWindow base page Are None = frame_at base (first_frame page) ≡ None
 IsWindow base page Are (Some part) = IsPartOf Are part
+
+-- What a map shows of a base.
+
+-- the part of a view; none if the base lacks the frame `a` of its page
+abbrev pub IsViewPart : List ℕ → BaseView → View → Option (Option (List Id)) → Type 0
+IsViewPart caller base Whole part = part ≡ Some None
+IsViewPart caller base (From page most) part = IsWindow base page (AreFrom caller base page most) part
+IsViewPart caller base (To page most) part = IsWindow base page (AreTo caller base page most) part
+
+-- the map of a view's part
+pub record IsViewMap (caller : List ℕ) (base : BaseView) (view : View) (text : List ℕ) : Type 0 where
+  pub part : Option (List Id)
+  pub is_part : IsViewPart caller base view (Some part)
+  pub map : IsMap base caller part text
+
+-- that map, or none
+abbrev pub IsViewed : List ℕ → BaseView → View → Option (Vec ℕ Global) → Type 0
+IsViewed caller base view None = IsViewPart caller base view None
+IsViewed caller base view (Some text) = IsViewMap caller base view text.items

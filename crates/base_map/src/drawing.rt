@@ -1,5 +1,5 @@
 ghost use Rattle.std.specs.Prelude.{◌≡◌};
-ghost use Rattle.base_map.specs.MapView.{has_id, is_lacked, has_node};
+ghost use Rattle.base_map.specs.Edges.{has_id, is_lacked, has_node};
 
 use crate::part::Part;
 use frame_records::{Base, Groups};
@@ -17,7 +17,7 @@ pub struct Drawing<'a> {
 }
 
 impl<'a> Model for Drawing<'a> {
-    ghost use Rattle.base_map.specs.MapView.{MapView};
+    ghost use Rattle.base_map.specs.Edges.{MapView};
 
     ghost Value = { MapView };
 

@@ -2,7 +2,7 @@
 
 ghost use Rattle.std.specs.Prelude.{◌≡◌, ◌++◌, true, OnOk};
 ghost use Rattle.std.specs.List.{flat_map};
-ghost use Rattle.base_map.specs.MapView.{shown};
+ghost use Rattle.base_map.specs.Edges.{shown};
 ghost use Rattle.base_map.specs.Edges as spec;
 
 use crate::drawing::Drawing;

@@ -1,7 +1,7 @@
 //! The ways that a frame offers.
 
 ghost use Rattle.std.specs.Prelude.{◌≡◌, IfOk};
-ghost use Rattle.base_map.specs.Exits as spec;
+ghost use Rattle.base_map.specs.Edges as spec;
 
 use frame_records::Frame;
 use indexmap::IndexSet;

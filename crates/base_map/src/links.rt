@@ -1,7 +1,7 @@
 //! The links between frames: from each frame to those to which its ways lead.
 
 ghost use Rattle.std.specs.Prelude.{◌≡◌, ◌++◌, IfOk, OnOk, map};
-ghost use Rattle.base_map.specs.Links as spec;
+ghost use Rattle.base_map.specs.Loops as spec;
 
 use crate::exits::{Exit, exits_of};
 use frame_records::{Base, Frame, Groups, Sought};

@@ -4,8 +4,8 @@ ghost use Rattle.std.specs.Prelude.{◌≡◌, ◌++◌, [], OnOk, IfOk};
 ghost use Rattle.std.specs.List.{flat_map};
 ghost use Rattle.indexmap.specs.IndexSet.{insert_all};
 ghost use Rattle.page_ids.specs.Ids.{id_eq};
-ghost use Rattle.base_map.specs.MapView.{shown};
-ghost use Rattle.base_map.specs.Lost as spec;
+ghost use Rattle.base_map.specs.Edges.{shown};
+ghost use Rattle.base_map.specs.Edges as spec;
 
 use crate::drawing::Drawing;
 use crate::exits::{Exit, exits_of};

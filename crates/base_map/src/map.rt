@@ -1,6 +1,6 @@
 ghost use Rattle.std.specs.Prelude.{◌≡◌, ◌++◌, IfOk, OnOk};
-ghost use Rattle.base_map.specs.MapText as spec;
-ghost use Rattle.base_map.specs.MapView.{shown};
+ghost use Rattle.base_map.specs.Map as spec;
+ghost use Rattle.base_map.specs.Edges.{shown};
 
 use crate::drawing::Drawing;
 use crate::part::Part;

@@ -1,9 +1,8 @@
 //! Of each frame the frames to which links go.
 
 ghost use Rattle.std.specs.Prelude.{◌≡◌, ◌++◌, [], false, IfOk, OnOk};
-ghost use Rattle.page_ids.specs.Id.{Id};
-ghost use Rattle.page_ids.specs.Ids.{id_eq};
-ghost use Rattle.base_map.specs.Neighbours.{ends_of, linked, linked_by};
+ghost use Rattle.page_ids.specs.Ids.{Id, id_eq};
+ghost use Rattle.base_map.specs.Loops.{ends_of, linked, linked_by};
 
 use crate::links::Link;
 use indexmap::IndexMap;

@@ -2,7 +2,7 @@
 
 ghost use Rattle.std.specs.Prelude.{◌≡◌, ◌++◌, OnOk, Some, None};
 ghost use Rattle.page_ids.specs.Ids.{frame_text};
-ghost use Rattle.base_map.specs.MapView.{shown};
+ghost use Rattle.base_map.specs.Edges.{shown};
 ghost use Rattle.base_map.specs.Nodes as spec;
 
 use crate::drawing::Drawing;

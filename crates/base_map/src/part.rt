@@ -1,5 +1,5 @@
 ghost use Rattle.std.specs.Prelude.{◌≡◌, Some, None};
-ghost use Rattle.base_map.specs.MapView.{shows};
+ghost use Rattle.base_map.specs.Edges.{shows};
 
 use indexmap::IndexSet;
 use page_ids::FrameId;
@@ -13,7 +13,7 @@ pub struct Part {
 
 impl Model for Part {
     ghost use Rattle.std.specs.Prelude.{List, Option, option_map};
-    ghost use Rattle.page_ids.specs.Id.{Id};
+    ghost use Rattle.page_ids.specs.Ids.{Id};
 
     ghost Value = { Option (List Id) };
 

@@ -4,7 +4,7 @@ ghost use Rattle.std.specs.Prelude.{◌≡◌, ◌≤◌, IfOk, OnOk, drop, leng
 ghost use Rattle.std.specs.List.{flat_map};
 ghost use Rattle.indexmap.specs.IndexSet.{insert_all};
 ghost use Rattle.page_ids.specs.Ids.{id_eq};
-ghost use Rattle.base_map.specs.Neighbours.{ends_of};
+ghost use Rattle.base_map.specs.Loops.{ends_of};
 ghost use Rattle.base_map.specs.Windows.{IsSpan, is_below};
 
 use crate::neighbours::Neighbours;

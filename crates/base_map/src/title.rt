@@ -3,7 +3,7 @@
 ghost use Rattle.std.specs.Prelude.{◌≡◌, ◌++◌, IfOk, OnOk};
 ghost use Rattle.std.specs.List.{list_any};
 ghost use Rattle.std.specs.Char.{is_ascii_alphabetic};
-ghost use Rattle.base_map.specs.Titles as spec;
+ghost use Rattle.base_map.specs.Nodes as spec;
 
 use std::alloc::{AllocError, Global};
 

@@ -1,5 +1,5 @@
 ghost use Rattle.std.specs.Prelude.{IfOk};
-ghost use Rattle.base_map.specs.Views.{IsViewPart, IsViewed};
+ghost use Rattle.base_map.specs.Windows.{IsViewPart, IsViewed};
 
 use crate::map::map_text;
 use crate::part::Part;

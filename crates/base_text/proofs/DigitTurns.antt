@@ -15,9 +15,7 @@ use Rattle.list_words.specs.Steps.{◌>>=◌}
 use Rattle.base_text.specs.declared.fault.Cause.{Cause}
 use Rattle.base_text.specs.declared.fault.Field.TheVariants as field
 use Rattle.base_text.specs.declared.keys.TableKind.TheVariants as kind
-use Rattle.base_text.specs.Fields.{page_of}
-use Rattle.base_text.specs.Keys.{digit_key, is_digit_key, has_only_keys}
-use Rattle.base_text.specs.Routes.{digit_of, routes_from, all_routes, no_routes}
+use Rattle.base_text.specs.Fields.{page_of, digit_key, is_digit_key, has_only_keys, digit_of, routes_from, all_routes, no_routes}
 use Rattle.base_text.proofs.FrameTurns.{moved}
 
 abbrev pub Routes : Type 0

@@ -5,8 +5,7 @@ use Rattle.list_words.specs.Steps.{◌>>=◌}
 use Rattle.toml.specs.View.{view, items_view}
 use Rattle.toml.specs.declared.value.Value.{Value}
 use Rattle.base_text.specs.declared.fault.BaseFault.{BaseFault}
-use Rattle.base_text.specs.Frames.{frame_of}
-use Rattle.base_text.specs.FrameList.{frames_from}
+use Rattle.base_text.specs.Frames.{frame_of, frames_from}
 
 -- one more in front of the rest is one more after what is done
 pub moved : {A E : Type 0} (done : List A) (a : A) (rest : Result (List A) E) → ((rest >>= (λ rs. Ok (a ∷ rs))) >>= (λ rs. Ok (done ++ rs))) ≡ (rest >>= (λ rs. Ok ((done ++ a ∷ []) ++ rs)))

@@ -2,8 +2,7 @@
 use Rattle.std.proofs.Common.{◌≡◌, ℕ, ◌<◌, ◌≤◌, ◌+◌, Result, Ok, Err, Bool, true, false, nat_le, ◌&&◌, ◌||◌, List, [], ◌∷◌, length, arith, refl, ap}
 use Rattle.std.proofs.lemmas.Bool.Decides.{nat_tests}
 use Rattle.list_words.specs.Steps.{◌>>=◌}
-use Rattle.base_text.specs.RowCodes.{is_row_code, are_row_codes}
-use Rattle.base_text.specs.Rows.{count, row_of, rows_of, are_too_many}
+use Rattle.base_text.specs.Rows.{is_row_code, are_row_codes, count, row_of, rows_of, are_too_many}
 use Rattle.base_text.specs.declared.fault.Cause.{Cause}
 use Rattle.toml.specs.Data.{Items, no_items, item}
 use Rattle.toml.specs.View.{items_view}

@@ -2,12 +2,10 @@
 use Rattle.std.proofs.Common.{◌≡◌, ℕ, List, Option, Some, None, Ok, refl}
 use Rattle.frame_records.specs.declared.build.BuildFault.{BuildFault}
 use Rattle.frame_records.specs.declared.build.BuildFault.TheVariants.{TooMany, BodyTooLong, NextAfterZ, Duplicate, OutsideInside}
-use Rattle.frame_records.specs.Build.{IsBuildFault}
+use Rattle.frame_records.specs.Bases.{IsBuildFault}
 use Rattle.base_text.specs.declared.fault.Cause.{Cause}
-use Rattle.base_text.specs.Outcome.{fault_in}
-use Rattle.base_text.specs.Parts.{PartsView}
-use Rattle.base_text.specs.Text.{parts_of}
-use Rattle.base_text.specs.Whole.{build_cause, IsFirstFault}
+use Rattle.base_text.specs.Frames.{fault_in}
+use Rattle.base_text.specs.Whole.{PartsView, parts_of, build_cause, IsFirstFault}
 
 of_build : (text : List ℕ) (p : PartsView) (b : BuildFault) (frame : Option ℕ) → frame ≡ None → parts_of text ≡ Ok p → IsBuildFault p.outside p.frames b → IsFirstFault text (fault_in frame (build_cause b))
 of_build text p TooMany None none e h = rw e (refl, h)

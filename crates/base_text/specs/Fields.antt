@@ -1,19 +1,75 @@
--- The value of each field, or its first cause.
-use Rattle.std.specs.Prelude.{ℕ, pos, negsuc, Bool, false, nat_le, ◌==◌, if◌then◌else◌, List, [], ◌∷◌, codes, Option, Some, None, Result, Ok, Err}
-use Rattle.std.specs.Option.{ok_or}
+-- The fields of a table, and its keys.
+use Rattle.std.specs.Prelude.{ℕ, List, codes, ◌+◌, Bool, true, false, ◌&&◌, ◌||◌, [], ◌∷◌, pos, negsuc, nat_le, ◌==◌, if◌then◌else◌, Option, Some, None, Result, Ok, Err, suc, zero, ◌-◌}
+use Rattle.base_text.specs.declared.fault.Field.{Field}
+use Rattle.base_text.specs.declared.fault.Field.TheVariants as field
+use Rattle.std.specs.Char.{is_ascii_digit}
 use Rattle.std.specs.Str.{bytes_eq}
-use Rattle.page_ids.specs.Id.{Id}
-use Rattle.page_ids.specs.Numbers.{id_in}
+use Rattle.toml.specs.Data.{Members, no_members, member, Data, string, integer, boolean, array, Items, no_items, item, table, get_member}
+use Rattle.base_text.specs.declared.keys.TableKind.{TableKind}
+use Rattle.base_text.specs.declared.keys.TableKind.TheVariants.{Top, Frame, Routes}
+use Rattle.std.specs.Option.{ok_or}
+use Rattle.page_ids.specs.Ids.{Id}
+use Rattle.page_ids.specs.Texts.{id_in}
 use Rattle.frame_records.specs.declared.limits.TheConstants.{MOST_PENCE, MOST_GROUP}
 use Rattle.page_ids.specs.declared.limits.TheConstants.{MOST_PAGE}
 use Rattle.frame_records.specs.declared.frame.Lead.{Lead}
 use Rattle.frame_records.specs.declared.frame.Lead.TheVariants.{Clear, Keep}
 use Rattle.list_words.specs.Steps.{◌>>=◌}
-use Rattle.toml.specs.Data.{Data, string, integer, boolean, array, Items, no_items, item}
 use Rattle.base_text.specs.declared.fault.Cause.{Cause}
-use Rattle.base_text.specs.declared.fault.Cause.TheVariants.{Absent, WrongKind, Range, BadFrame}
-use Rattle.base_text.specs.declared.fault.Field.{Field}
-use Rattle.base_text.specs.declared.fault.Field.TheVariants as field
+use Rattle.base_text.specs.declared.fault.Cause.TheVariants.{Absent, WrongKind, Range, BadFrame, UnknownKey}
+use Rattle.base_text.specs.declared.keys.TableKind.TheVariants as kind
+
+-- How a text writes the key of a field.
+
+-- the key
+abbrev pub field_name : Field → List ℕ
+field_name field.Entry = codes "entry"
+field_name field.Outside = codes "outside"
+field_name field.Frame = codes "frame"
+field_name field.Id = codes "id"
+field_name field.Price = codes "price"
+field_name field.Group = codes "group"
+field_name field.Next = codes "next"
+field_name field.Routes = codes "routes"
+field_name field.Lead = codes "lead"
+field_name field.Body = codes "body"
+field_name field.Rows = codes "rows"
+
+-- Which keys each table may have.
+
+-- the keys of the top
+abbrev pub is_top_key : List ℕ → Bool
+is_top_key k = (bytes_eq k (codes "entry") || bytes_eq k (codes "outside")) || bytes_eq k (codes "frame")
+
+-- the keys of what orders, prices and guards a frame
+abbrev pub is_head_key : List ℕ → Bool
+is_head_key k = ((bytes_eq k (codes "id") || bytes_eq k (codes "price")) || bytes_eq k (codes "group")) || bytes_eq k (codes "next")
+
+-- the keys of what a frame shows
+abbrev pub is_shown_key : List ℕ → Bool
+is_shown_key k = ((bytes_eq k (codes "routes") || bytes_eq k (codes "lead")) || bytes_eq k (codes "body")) || bytes_eq k (codes "rows")
+
+-- one digit
+abbrev pub is_digit_key : List ℕ → Bool
+is_digit_key (c ∷ []) = is_ascii_digit c
+is_digit_key _ = false
+
+-- the key of a digit's route; 48 is `0`
+abbrev pub digit_key : ℕ → List ℕ
+digit_key d = (48 + d) ∷ []
+
+-- the table may have the key
+abbrev pub is_key : TableKind → List ℕ → Bool
+is_key Top k = is_top_key k
+is_key Frame k = is_head_key k || is_shown_key k
+is_key Routes k = is_digit_key k
+
+-- it may have each of the keys
+abbrev pub has_only_keys : TableKind → Members → Bool
+has_only_keys kind no_members = true
+has_only_keys kind (member k d ms) = is_key kind k && has_only_keys kind ms
+
+-- The value of each field, or its first cause.
 
 -- a whole number from 0 to a limit
 abbrev pub number_of : Field → ℕ → Data → Result ℕ Cause
@@ -83,3 +139,41 @@ abbrev pub lead_of : Option Data → Result Lead Cause
 lead_of None = Ok Clear
 lead_of (Some (string text)) = lead_text text
 lead_of (Some _) = Err (WrongKind field.Lead)
+
+-- The routes of a frame, in the order of their digits.
+
+-- the digit of a key; 48 is `0`
+abbrev pub digit_of : List ℕ → ℕ
+digit_of [] = 0
+digit_of (c ∷ cs) = c - 48
+
+-- the page of one digit, or none
+abbrev pub route_of : Option Data → Result (Option ℕ) Cause
+route_of None = Ok None
+route_of (Some d) = page_of field.Routes d >>= (λ n. Ok (Some n))
+
+-- the routes of n digits from d on
+abbrev pub routes_from : ℕ → ℕ → Members → Result (List (Option ℕ)) Cause
+routes_from zero d ms = Ok []
+routes_from (suc n) d ms = do
+  r ← route_of (get_member (digit_key d) ms)
+  rs ← routes_from n (d + 1) ms
+  Ok (r ∷ rs)
+
+-- the routes of the ten digits
+unfoldable pub all_routes : Members → Result (List (Option ℕ)) Cause
+all_routes ms = routes_from 10 0 ms
+
+-- all keys are looked at before any value
+abbrev pub table_routes : Members → Result (List (Option ℕ)) Cause
+table_routes ms = if has_only_keys kind.Routes ms then all_routes ms else Err UnknownKey
+
+-- ten absent routes
+abbrev pub no_routes : List (Option ℕ)
+no_routes = None ∷ None ∷ None ∷ None ∷ None ∷ None ∷ None ∷ None ∷ None ∷ None ∷ []
+
+-- a frame's routes, or none
+abbrev pub routes_of : Option Data → Result (List (Option ℕ)) Cause
+routes_of None = Ok no_routes
+routes_of (Some (table ms)) = table_routes ms
+routes_of (Some _) = Err (WrongKind field.Routes)

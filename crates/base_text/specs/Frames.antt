@@ -1,18 +1,54 @@
--- A frame, or its first cause.
-use Rattle.std.specs.Prelude.{if◌then◌else◌, codes, Result, Ok, Err}
+-- A frame's table, and the list of frames.
+use Rattle.std.specs.Prelude.{◌≡◌, nat_lt, if◌then◌else◌, Option, Result, Ok, Err, Some, None, ℕ, codes, ◌+◌, List, [], ◌∷◌}
+use Rattle.base_text.specs.declared.fault.Cause.{Cause}
+use Rattle.base_text.specs.declared.fault.Cause.TheVariants.{Memory, UnknownKey, WrongKind}
+use Rattle.base_text.specs.declared.fault.BaseFault.{BaseFault}
 use Rattle.frame_records.specs.declared.frame.Frame.{Frame}
 use Rattle.list_words.specs.Steps.{◌>>=◌}
-use Rattle.toml.specs.Data.{Data, table, Members, get_member}
-use Rattle.base_text.specs.declared.fault.Cause.{Cause}
-use Rattle.base_text.specs.declared.fault.Cause.TheVariants.{UnknownKey, WrongKind}
+use Rattle.toml.specs.Data.{Data, table, Members, get_member, array, Items, no_items, item}
 use Rattle.base_text.specs.declared.fault.Field.TheVariants as field
 use Rattle.base_text.specs.declared.frames.Head.{Head}
 use Rattle.base_text.specs.declared.frames.Shown.{Shown}
 use Rattle.base_text.specs.declared.keys.TableKind.TheVariants as kind
-use Rattle.base_text.specs.Keys.{has_only_keys}
-use Rattle.base_text.specs.Fields.{id_of, price_of, group_of, next_of, lead_of}
-use Rattle.base_text.specs.Routes.{routes_of}
-use Rattle.base_text.specs.Bodies.{body_of}
+use Rattle.base_text.specs.Fields.{has_only_keys, id_of, price_of, group_of, next_of, lead_of, routes_of}
+use Rattle.base_text.specs.Rows.{body_of}
+
+-- A value, or the first cause.
+
+-- the answer is the outcome, or refused memory
+abbrev pub OrMemory : {A : Type 0} → Result A Cause → Result A Cause → Type 0
+OrMemory o (Ok a) = o ≡ Ok a
+OrMemory o (Err Memory) = Unit {0}
+OrMemory o (Err c) = o ≡ Err c
+
+-- an index as far as 32 bits hold it; no text is so long that one is greater
+abbrev pub frame_index : ℕ → Option ℕ
+frame_index i = if nat_lt i 4294967296 then Some i else None
+
+-- a fault within the frame of an index, or outside the frames; refused memory has no index
+abbrev pub fault_in : Option ℕ → Cause → BaseFault
+fault_in frame Memory = record { frame = None; cause = Memory }
+fault_in frame c = record { frame = frame; cause = c }
+
+-- a fault outside the frames
+abbrev pub top_fault : Cause → BaseFault
+top_fault c = record { frame = None; cause = c }
+
+-- an outcome whose cause is within the frame of an index, or outside the frames
+abbrev pub located : {A : Type 0} → Option ℕ → Result A Cause → Result A BaseFault
+located frame (Ok a) = Ok a
+located frame (Err c) = Err (fault_in frame c)
+
+-- the answer is the outcome, or refused memory, which has no index
+abbrev pub IsFaultOrMemory : {A : Type 0} → Result A BaseFault → BaseFault → Cause → Type 0
+IsFaultOrMemory o f Memory = f.frame ≡ None
+IsFaultOrMemory o f c = o ≡ Err f
+
+abbrev pub FaultOrMemory : {A : Type 0} → Result A BaseFault → Result A BaseFault → Type 0
+FaultOrMemory o (Ok a) = o ≡ Ok a
+FaultOrMemory o (Err f) = IsFaultOrMemory o f f.cause
+
+-- A frame, or its first cause.
 
 -- what orders, prices and guards a frame
 abbrev pub head_of : Members → Result Head Cause
@@ -50,3 +86,19 @@ table_frame ms = if has_only_keys kind.Frame ms then known_frame ms else Err Unk
 abbrev pub frame_of : Data → Result Frame Cause
 frame_of (table ms) = table_frame ms
 frame_of _ = Err (WrongKind field.Frame)
+
+-- The frames of a text, or the first fault with its index.
+
+-- frames in turn, the first with this index
+abbrev pub frames_from : ℕ → Items → Result (List Frame) BaseFault
+frames_from i no_items = Ok []
+frames_from i (item d ds) = do
+  frame ← located (frame_index i) (frame_of d)
+  frames ← frames_from (i + 1) ds
+  Ok (frame ∷ frames)
+
+-- the frames of the value of `frame`, or none
+abbrev pub frames_of : Option Data → Result (List Frame) BaseFault
+frames_of None = Ok []
+frames_of (Some (array ds)) = frames_from 0 ds
+frames_of (Some _) = Err (top_fault (WrongKind field.Frame))

@@ -1,15 +1,4 @@
-pub mod Outcome
-pub mod Seen
-pub mod FieldNames
-pub mod Keys
-pub mod Fields
-pub mod Routes
-pub mod RowCodes
 pub mod Rows
-pub mod Bodies
+pub mod Fields
 pub mod Frames
-pub mod FrameList
-pub mod Parts
-pub mod Text
 pub mod Whole
-pub mod TextLaws

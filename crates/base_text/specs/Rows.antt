@@ -1,12 +1,44 @@
--- The body of a frame that is given as rows.
-use Rattle.std.specs.Prelude.{ℕ, ◌+◌, Bool, nat_lt, if◌then◌else◌, List, [], ◌∷◌, ◌++◌, length, Result, Ok, Err}
+-- The rows and the body of a frame.
+use Rattle.std.specs.Prelude.{Option, option_map, Result, Ok, Err, List, Vec, ◌≡◌, ◌≤◌, ℕ, Bool, true, ◌&&◌, ◌||◌, nat_le, [], ◌∷◌, length, ◌+◌, nat_lt, if◌then◌else◌, ◌++◌, Some, None}
 use Rattle.std.specs.Str.{chars}
 use Rattle.toml.specs.Data.{Data, string, array, Items, no_items, item}
 use Rattle.list_words.specs.Steps.{◌>>=◌}
 use Rattle.base_text.specs.declared.fault.Cause.{Cause}
-use Rattle.base_text.specs.declared.fault.Cause.TheVariants.{WrongKind, Range, RowTooLong, RowCode}
+use Rattle.base_text.specs.declared.fault.Cause.TheVariants.{WrongKind, Range, RowTooLong, RowCode, Absent, BodyAndRows}
 use Rattle.base_text.specs.declared.fault.Field.TheVariants as field
-use Rattle.base_text.specs.RowCodes.{are_row_codes}
+-- What a look-up found, and a list that was built, as data.
+
+use denote.Ref.{Bor}
+use Rattle.std.specs.declared.alloc.Global.{Global}
+use Rattle.toml.specs.Data.{Data}
+use Rattle.toml.specs.View.{view}
+use Rattle.toml.specs.declared.value.Value.{Value}
+
+-- the data of a value that was found
+abbrev pub seen : Option (Bor Value) → Option Data
+seen value = option_map (λ v. view v.now) value
+
+-- the list of a vector
+abbrev pub listed : {A E : Type 0} → Result (Vec A Global) E → Result (List A) E
+listed (Ok v) = Ok v.items
+listed (Err c) = Err c
+
+-- Which codes are a row.
+
+-- a code that a row may hold, 20 to 7F or 80 to 9F
+abbrev pub is_row_code : ℕ → Bool
+is_row_code c = (nat_le 0x20 c && nat_le c 0x7F) || (nat_le 0x80 c && nat_le c 0x9F)
+
+-- each is a code that a row may hold
+abbrev pub are_row_codes : List ℕ → Bool
+are_row_codes [] = true
+are_row_codes (c ∷ cs) = is_row_code c && are_row_codes cs
+
+-- at most 40 such codes
+abbrev pub IsRow : List ℕ → Type 0
+IsRow cs = (length cs ≤ 40) × (are_row_codes cs ≡ true)
+
+-- The body of a frame that is given as rows.
 
 -- the row of code points that are few enough
 abbrev pub codes_or_cause : List ℕ → Result (List ℕ) Cause
@@ -65,3 +97,26 @@ body_of_array ds = if are_too_many ds then Err (Range field.Rows) else body_of_i
 abbrev pub body_of_value : Data → Result (List ℕ) Cause
 body_of_value (array ds) = body_of_array ds
 body_of_value _ = Err (WrongKind field.Rows)
+
+-- The body of a frame, given as bytes or as rows.
+
+-- each code point is a byte
+abbrev pub are_bytes : List ℕ → Bool
+are_bytes [] = true
+are_bytes (c ∷ cs) = nat_le c 255 && are_bytes cs
+
+-- the code points of a text as bytes
+abbrev pub bytes_of : List ℕ → Result (List ℕ) Cause
+bytes_of text = if are_bytes (chars text) then Ok (chars text) else Err (Range field.Body)
+
+-- the body of the value of `body`
+abbrev pub bytes_value : Data → Result (List ℕ) Cause
+bytes_value (string text) = bytes_of text
+bytes_value _ = Err (WrongKind field.Body)
+
+-- the body of the values of `body` and `rows`, exactly one of which is there
+abbrev pub body_of : Option Data → Option Data → Result (List ℕ) Cause
+body_of (Some b) (Some r) = Err BodyAndRows
+body_of (Some b) None = bytes_value b
+body_of None (Some r) = body_of_value r
+body_of None None = Err (Absent field.Body)

@@ -1,9 +1,8 @@
 ghost use Rattle.std.specs.Prelude.{◌≡◌, Some, None, OnErr, codes, string_bytes};
 ghost use Rattle.toml.specs.Data.{get_member};
 ghost use Rattle.toml.specs.View.{table_view, view};
-ghost use Rattle.base_text.specs.Outcome.{OrMemory};
-ghost use Rattle.base_text.specs.Bodies.{bytes_of, bytes_value, body_of};
-ghost use Rattle.base_text.specs.Seen.{seen};
+ghost use Rattle.base_text.specs.Frames.{OrMemory};
+ghost use Rattle.base_text.specs.Rows.{bytes_of, bytes_value, body_of, seen};
 
 use crate::fault::{Cause, Field};
 use crate::keys::member;

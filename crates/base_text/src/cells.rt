@@ -1,8 +1,7 @@
 ghost use Rattle.std.specs.Prelude.{◌≡◌, ◌≤◌, length, nat_lt};
 ghost use Rattle.std.specs.Option.{SomeIff};
 ghost use Rattle.std.specs.Str.{chars};
-ghost use Rattle.base_text.specs.RowCodes.{is_row_code, are_row_codes, IsRow};
-ghost use Rattle.base_text.specs.Rows.{codes_or_cause, row_text};
+ghost use Rattle.base_text.specs.Rows.{is_row_code, are_row_codes, IsRow, codes_or_cause, row_text};
 
 use crate::fault::Cause;
 use arrayvec::ArrayVec;
@@ -16,7 +15,7 @@ pub struct RowCells {
 
 impl Model for RowCells {
     ghost use Rattle.std.specs.Prelude.{List, ℕ};
-    ghost use Rattle.base_text.specs.RowCodes.{IsRow};
+    ghost use Rattle.base_text.specs.Rows.{IsRow};
 
     ghost Value = { List ℕ };
 

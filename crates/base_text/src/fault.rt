@@ -1,6 +1,6 @@
 ghost use Rattle.std.specs.Prelude.{◌≡◌};
-ghost use Rattle.base_text.specs.FieldNames.{field_name};
-ghost use Rattle.base_text.specs.Outcome.{frame_index, fault_in};
+ghost use Rattle.base_text.specs.Fields.{field_name};
+ghost use Rattle.base_text.specs.Frames.{frame_index, fault_in};
 ghost use Rattle.base_text.specs.Whole.{build_cause};
 
 use frame_records::BuildFault;

@@ -1,7 +1,7 @@
 ghost use Rattle.std.specs.Prelude.{◌≡◌, ◌≤◌, IfOk};
 ghost use Rattle.toml.specs.View.{view, items_view};
-ghost use Rattle.base_text.specs.Outcome.{OrMemory};
-ghost use Rattle.base_text.specs.Seen.{seen, listed};
+ghost use Rattle.base_text.specs.Frames.{OrMemory};
+ghost use Rattle.base_text.specs.Rows.{seen, listed};
 ghost use Rattle.base_text.specs.Fields.{number_of, page_of, entry_of, pages_of, outside_of, id_text, id_of, price_of, group_of, next_of, lead_text, lead_of};
 
 use crate::fault::{Cause, Field};

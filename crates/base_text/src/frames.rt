@@ -1,9 +1,7 @@
 ghost use Rattle.std.specs.Prelude.{◌≡◌, None, OnOk, OnErr, IfOk, option_map};
 ghost use Rattle.toml.specs.View.{table_view, view, items_view};
-ghost use Rattle.base_text.specs.Outcome.{OrMemory, FaultOrMemory, located};
-ghost use Rattle.base_text.specs.Frames.{head_of, shown_of, table_frame, frame_of};
-ghost use Rattle.base_text.specs.FrameList.{frames_from, frames_of};
-ghost use Rattle.base_text.specs.Seen.{listed};
+ghost use Rattle.base_text.specs.Frames.{OrMemory, FaultOrMemory, located, head_of, shown_of, table_frame, frame_of, frames_from, frames_of};
+ghost use Rattle.base_text.specs.Rows.{listed};
 
 use crate::bodies::take_body;
 use crate::fault::{Cause, Field, frame_index};

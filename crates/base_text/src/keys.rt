@@ -1,8 +1,8 @@
 ghost use Rattle.std.specs.Prelude.{◌≡◌, ◌<◌, option_map};
 ghost use Rattle.toml.specs.Data.{get_member};
 ghost use Rattle.toml.specs.View.{table_view, view};
-ghost use Rattle.base_text.specs.Keys.{is_key, is_head_key, is_shown_key, has_only_keys, digit_key};
-ghost use Rattle.base_text.specs.Seen.{seen};
+ghost use Rattle.base_text.specs.Fields.{is_key, is_head_key, is_shown_key, has_only_keys, digit_key};
+ghost use Rattle.base_text.specs.Rows.{seen};
 
 use toml::{Table, Value};
 

@@ -1,4 +1,4 @@
-ghost use Rattle.base_text.specs.TextLaws.{TextsMeanOneBase};
+ghost use Rattle.base_text.specs.Whole.{TextsMeanOneBase};
 
 /// Of every text: it means one base at most.
 pub fn texts_mean_one_base()

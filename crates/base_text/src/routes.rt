@@ -1,8 +1,7 @@
 ghost use Rattle.std.specs.Prelude.{◌≡◌, ◌<◌, true};
 ghost use Rattle.toml.specs.View.{table_view};
-ghost use Rattle.base_text.specs.Keys.{is_digit_key, has_only_keys};
-ghost use Rattle.base_text.specs.Routes.{digit_of, all_routes, table_routes, routes_of};
-ghost use Rattle.base_text.specs.Seen.{seen};
+ghost use Rattle.base_text.specs.Fields.{is_digit_key, has_only_keys, digit_of, all_routes, table_routes, routes_of};
+ghost use Rattle.base_text.specs.Rows.{seen};
 
 use crate::fault::{Cause, Field};
 use crate::fields::page_of_value;

@@ -1,8 +1,7 @@
 ghost use Rattle.std.specs.Prelude.{◌≡◌, ◌≤◌, ◌++◌, false, IfOk, OnOk, length};
 ghost use Rattle.toml.specs.View.{view, items_view};
-ghost use Rattle.base_text.specs.Outcome.{OrMemory};
-ghost use Rattle.base_text.specs.Rows.{row_of, rows_of, row_bytes, body_of_rows, body_of_items, are_too_many, body_of_array, body_of_value};
-ghost use Rattle.base_text.specs.Seen.{listed};
+ghost use Rattle.base_text.specs.Frames.{OrMemory};
+ghost use Rattle.base_text.specs.Rows.{row_of, rows_of, row_bytes, body_of_rows, body_of_items, are_too_many, body_of_array, body_of_value, listed};
 
 use crate::cells::{RowCells, row_of_text};
 use crate::fault::{Cause, Field};

@@ -1,9 +1,8 @@
 ghost use Rattle.std.specs.Prelude.{◌≡◌, ◌⊎◌, IfOk, OnOk, IfErr, Some, None};
 ghost use Rattle.toml.specs.View.{table_view};
 ghost use Rattle.base_text.specs.declared.fault.Cause.TheVariants.{Memory, NotToml};
-ghost use Rattle.base_text.specs.Outcome.{FaultOrMemory, located};
-ghost use Rattle.base_text.specs.Text.{table_parts, tree_of, parts_of};
-ghost use Rattle.base_text.specs.Whole.{IsTextBase, IsFirstFault, IsRead};
+ghost use Rattle.base_text.specs.Frames.{FaultOrMemory, located};
+ghost use Rattle.base_text.specs.Whole.{table_parts, tree_of, parts_of, IsTextBase, IsFirstFault, IsRead};
 
 use crate::fault::{BaseFault, Cause, build_cause, fault_in};
 use crate::fields::{read_entry, read_outside};
@@ -25,7 +24,7 @@ pub struct Parts {
 }
 
 impl Model for Parts {
-    ghost use Rattle.base_text.specs.Parts.{PartsView};
+    ghost use Rattle.base_text.specs.Whole.{PartsView};
 
     ghost Value = { PartsView };
 

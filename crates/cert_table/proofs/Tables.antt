@@ -9,12 +9,11 @@ use Rattle.std.proofs.lemmas.Bool.Decides.{nat_tests}
 use Rattle.page_ids.specs.Ids.{id_cmp}
 use Rattle.abstract_paint.specs.declared.cursor.Place.{Place}
 use Rattle.abstract_paint.specs.declared.cursor.Place.TheVariants.{Any, Col, Spot}
-use Rattle.abstract_paint.specs.Cursor.{OnScreen}
+use Rattle.abstract_paint.specs.Paint.{OnScreen}
 use Rattle.cert_table.specs.declared.row.Row.{Row}
 use Rattle.cert_table.specs.declared.certificate.TableFault.{TableFault}
 use Rattle.cert_table.specs.declared.certificate.TableFault.TheVariants.{TooMany, Range, Order}
-use Rattle.cert_table.specs.Rows.{AreRows, AreOnScreen}
-use Rattle.cert_table.specs.Table.{is_on_screen, is_behind, row_fault, or_later, rows_fault, table_fault}
+use Rattle.cert_table.specs.Table.{AreRows, AreOnScreen, is_on_screen, is_behind, row_fault, or_later, rows_fault, table_fault}
 
 screen_is : (place : Place) → is_on_screen place ≡ true → OnScreen place
 screen_is Any e = tt

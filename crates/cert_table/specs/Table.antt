@@ -1,16 +1,55 @@
--- Which rows make a table, or the first refusal.
-use Rattle.std.specs.Prelude.{◌≡◌, ◌↔◌, ℕ, ◌+◌, Bool, true, List, [], ◌∷◌, length, nat_lt, if◌then◌else◌, Option, Some, None, Result, Ok, Err}
-use Rattle.std.specs.Ordering.{is_lt}
-use Rattle.page_ids.specs.Id.{Id}
-use Rattle.page_ids.specs.Ids.{id_cmp}
-use Rattle.abstract_paint.specs.declared.cursor.Place.{Place}
-use Rattle.abstract_paint.specs.declared.cursor.Place.TheVariants.{Any, Col, Spot}
+-- Rows, and the map that they stand for.
+use Rattle.std.specs.Prelude.{◌≡◌, ◌≤◌, ℕ, ◌+◌, List, Option, Some, None, find, position, map, length, All, ◌↔◌, Bool, true, [], ◌∷◌, nat_lt, if◌then◌else◌, Result, Ok, Err}
+use Rattle.std.specs.List.{AllAdjacentBelow}
+use Rattle.std.specs.declared.cmp.Ordering.TheVariants.{Less}
+use Rattle.page_ids.specs.Ids.{Id, id_cmp, id_eq}
+use Rattle.frame_records.specs.Bases.{comparisons}
+use Rattle.abstract_paint.specs.Paint.{OnScreen}
 use Rattle.cert_table.specs.declared.row.Row.{Row}
 use Rattle.cert_table.specs.declared.limits.TheConstants.{MOST_ROWS}
+use Rattle.std.specs.Ordering.{is_lt}
+use Rattle.abstract_paint.specs.declared.cursor.Place.{Place}
+use Rattle.abstract_paint.specs.declared.cursor.Place.TheVariants.{Any, Col, Spot}
 use Rattle.cert_table.specs.declared.certificate.TableFault.{TableFault}
 use Rattle.cert_table.specs.declared.certificate.TableFault.TheVariants.{TooMany, Range, Order}
-use Rattle.cert_table.specs.Rows.{AreRows, AreOnScreen}
-use Rattle.cert_table.specs.CertView.{CertView}
+
+-- ids ascend, and there are at most 65,535
+pub record AreRows (rows : List Row) : Type 0 where
+  pub few : length rows ≤ MOST_ROWS
+  pub ascending : AllAdjacentBelow (λ r s. id_cmp r.id s.id ≡ Less) rows (length rows)
+
+-- each row's cursor has a place on the screen
+abbrev pub AreOnScreen : List Row → Type 0
+AreOnScreen rows = All (λ r. OnScreen r.cursor.place) rows
+
+-- the row of an id
+abbrev pub row_among : List Row → Id → Option Row
+row_among rows id = find (λ r. id_eq r.id id) rows
+
+-- how many rows a binary search for an id compares
+abbrev pub rows_compared : List Row → Id → ℕ
+rows_compared rows id = comparisons (map (λ r. id_cmp r.id id) rows)
+
+-- the number, from 1, of what is at a place, or all
+abbrev pub number_or : ℕ → Option ℕ → ℕ
+number_or all None = all
+number_or all (Some at) = at + 1
+
+-- how many rows a search from the front compares: up to and with the first of the id, or all
+abbrev pub rows_up_to : List Row → Id → ℕ
+rows_up_to rows id = number_or (length rows) (position (λ r. id_eq r.id id) rows)
+
+-- What contracts see of a certificate.
+
+-- the entry page, the greatest price, the greatest rank, the caller's groups, and the rows in the order of their ids
+pub record CertView : Type 0 where
+  pub entry : ℕ
+  pub ceiling : ℕ
+  pub keyings : ℕ
+  pub groups : List ℕ
+  pub rows : List Row
+
+-- Which rows make a table, or the first refusal.
 
 -- a column of at most 39, a spot of at most 959
 abbrev pub is_on_screen : Place → Bool

@@ -1,7 +1,6 @@
 ghost use Rattle.std.specs.Prelude.{◌≡◌};
 ghost use Rattle.std.specs.Option.{option_copied};
-ghost use Rattle.cert_table.specs.Rows.{AreRows, AreOnScreen};
-ghost use Rattle.cert_table.specs.Table.{is_on_screen, is_behind, row_fault, table_fault, built, FaultsAreExact};
+ghost use Rattle.cert_table.specs.Table.{AreRows, AreOnScreen, is_on_screen, is_behind, row_fault, table_fault, built, FaultsAreExact};
 
 use crate::cover::Cover;
 use crate::limits::MOST_ROWS;
@@ -38,11 +37,11 @@ pub struct Certificate<C: Cover + Drop = RowTable> {
 }
 
 impl<C: Cover + Drop> Model for Certificate<C> {
-    ghost use Rattle.cert_table.specs.CertView.{CertView};
+    ghost use Rattle.cert_table.specs.Table.{CertView};
 
     ghost Value = { CertView };
 
-    ghost use Rattle.cert_table.specs.Rows.{AreOnScreen};
+    ghost use Rattle.cert_table.specs.Table.{AreOnScreen};
 
     ghost view = { λ c. record { entry = c.entry; ceiling = c.ceiling; keyings = c.keyings; groups = c.groups; rows = C.rows c.cover } };
 

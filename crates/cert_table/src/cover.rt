@@ -1,6 +1,6 @@
 ghost use Rattle.std.specs.Prelude.{◌≡◌, ◌<◌, ◌≤◌, ℕ, Some, length, slice_get, option_map};
 ghost use Rattle.std.specs.Option.{option_copied};
-ghost use Rattle.cert_table.specs.Rows.{AreRows, row_among};
+ghost use Rattle.cert_table.specs.Table.{AreRows, row_among};
 
 use crate::row::Row;
 use page_ids::FrameId;
@@ -16,7 +16,7 @@ pub trait Cover {
     /// The most rows that one look-up compares, among so many.
     ghost most_among: { ℕ → ℕ };
 
-    ghost use Rattle.page_ids.specs.Id.{Id};
+    ghost use Rattle.page_ids.specs.Ids.{Id};
 
     /// How many of these rows a look-up of an id compares.
     ghost compared: { List Row → Id → ℕ };

@@ -2,7 +2,7 @@ ghost use Rattle.std.specs.Prelude.{◌≡◌, ◌<◌, ◌≤◌, length, posit
 ghost use Rattle.page_ids.specs.Ids.{id_eq};
 ghost use Rattle.std.specs.Option.{option_copied};
 ghost use Rattle.cert_table.specs.declared.limits.TheConstants.{MOST_ROWS};
-ghost use Rattle.cert_table.specs.Rows.{row_among, rows_up_to};
+ghost use Rattle.cert_table.specs.Table.{row_among, rows_up_to};
 
 use crate::cover::Cover;
 use crate::row::Row;
@@ -21,7 +21,7 @@ impl Model for RowList {
 
     ghost Value = { List Row };
 
-    ghost use Rattle.cert_table.specs.Rows.{AreRows};
+    ghost use Rattle.cert_table.specs.Table.{AreRows};
 
     ghost view = { λ l. l.rows.items };
 

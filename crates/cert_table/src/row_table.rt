@@ -1,7 +1,7 @@
 ghost use Rattle.std.specs.Prelude.{◌≡◌, ◌<◌, ◌≤◌, length};
 ghost use Rattle.std.specs.Option.{option_copied};
 ghost use Rattle.page_ids.specs.Ids.{id_cmp};
-ghost use Rattle.cert_table.specs.Rows.{AreRows, row_among, rows_compared};
+ghost use Rattle.cert_table.specs.Table.{AreRows, row_among, rows_compared};
 
 use crate::cover::Cover;
 use crate::row::Row;
@@ -22,7 +22,7 @@ impl Model for RowTable {
 
     ghost Value = { List Row };
 
-    ghost use Rattle.cert_table.specs.Rows.{AreRows};
+    ghost use Rattle.cert_table.specs.Table.{AreRows};
 
     ghost view = { λ t. t.rows.items };
 

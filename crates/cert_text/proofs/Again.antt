@@ -12,22 +12,20 @@ use Rattle.std.proofs.lemmas.List.{append-nil}
 use Rattle.std.proofs.lemmas.List.Elements.{All-from_recursion}
 use Rattle.std.proofs.lemmas.List.Splits.{slice_split_at, slice_split_none}
 use Rattle.std.proofs.Math.Seq.{take-append_seam, drop-append_seam}
-use Rattle.page_ids.proofs.IdTexts.{last_at, take_at_end, less_one}
-use Rattle.page_ids.specs.Id.{Id}
-use Rattle.page_ids.specs.Ids.{IsFrameId, frame_text}
+use Rattle.page_ids.proofs.IdTexts.{last_at, take_at_end, less_one, id_again}
+use Rattle.page_ids.specs.Ids.{Id, IsFrameId, frame_text}
 use Rattle.cert_table.specs.declared.row.Row.{Row}
 use Rattle.abstract_paint.specs.declared.cursor.AbsCursor.{AbsCursor}
 use Rattle.abstract_paint.specs.declared.cursor.Place.{Place}
 use Rattle.abstract_paint.specs.declared.cursor.Place.TheVariants.{Any, Col, Spot}
 use Rattle.abstract_paint.specs.declared.cursor.Pend.{Pend}
 use Rattle.abstract_paint.specs.declared.cursor.Pend.TheVariants.{No, Yes, Maybe}
-use Rattle.abstract_paint.specs.Cursor.{OnScreen}
+use Rattle.abstract_paint.specs.Paint.{OnScreen}
 use Rattle.cert_text.specs.Grammar.{place_text, pend_text, cursor_text, row_line, IsRow}
 use Rattle.list_words.specs.Parts.{parts_of}
 use Rattle.cert_text.specs.Lines.{number_or_cause, line_number, number_after, place_in, pend_in, without_pend, cursor_in, row_of, row_in}
 use Rattle.page_ids.proofs.Numerals.{both}
 use Rattle.page_ids.proofs.Numbers.{number_again, decimal_digits}
-use Rattle.page_ids.proofs.IdTexts.{id_again}
 use Rattle.cert_table.specs.Table.{is_behind}
 
 -- ---- numbers

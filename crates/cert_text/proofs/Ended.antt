@@ -2,12 +2,11 @@
 use Rattle.std.proofs.Common.{◌≡◌, ℕ, List, [], ◌∷◌, Option, Result, Ok, Err, ap, sym, ◌∙◌}
 use Rattle.std.specs.List.{AllByRecursion}
 use Rattle.std.proofs.lemmas.List.Elements.{All-from_recursion}
-use Rattle.abstract_paint.specs.Cursor.{OnScreen}
+use Rattle.abstract_paint.specs.Paint.{OnScreen}
 use Rattle.cert_table.specs.declared.row.Row.{Row}
 use Rattle.cert_table.specs.declared.certificate.TableFault.{TableFault}
-use Rattle.cert_table.specs.Table.{unless_fault, built}
+use Rattle.cert_table.specs.Table.{unless_fault, built, CertView}
 use Rattle.cert_table.proofs.Tables.{no_fault}
-use Rattle.cert_table.specs.CertView.{CertView}
 use Rattle.cert_text.specs.Grammar.{IsRow}
 use Rattle.cert_text.specs.Reading.{Said, IsSound, certificate_of}
 

@@ -11,7 +11,7 @@ use Rattle.std.proofs.lemmas.List.{append-nil, take-append-drop}
 use Rattle.std.proofs.lemmas.List.Elements.{recursion_from_All}
 use Rattle.std.proofs.Math.Seq.{take-append_seam, drop-append_seam}
 use Rattle.frame_records.specs.declared.groups.GroupFlaw.{GroupFlaw}
-use Rattle.frame_records.specs.Limits.{IsGroup}
+use Rattle.frame_records.specs.Bases.{IsGroup}
 use Rattle.frame_records.specs.Groups.{AreGroups, IsGroupsText, groups_in, groups_text}
 use Rattle.frame_records.proofs.GroupTexts.{texts_found, texts_only}
 use Rattle.cert_text.specs.declared.fault.LineCause.TheVariants.{Word}

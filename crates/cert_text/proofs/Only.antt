@@ -19,8 +19,8 @@ use Rattle.abstract_paint.specs.declared.cursor.Place.{Place}
 use Rattle.abstract_paint.specs.declared.cursor.Place.TheVariants.{Any, Col, Spot}
 use Rattle.abstract_paint.specs.declared.cursor.Pend.{Pend}
 use Rattle.abstract_paint.specs.declared.cursor.Pend.TheVariants.{No, Yes, Maybe}
-use Rattle.abstract_paint.specs.Cursor.{OnScreen}
-use Rattle.cert_table.specs.CertView.{CertView}
+use Rattle.abstract_paint.specs.Paint.{OnScreen}
+use Rattle.cert_table.specs.Table.{CertView, is_behind}
 use Rattle.cert_text.specs.declared.fault.LineCause.TheVariants as causes
 use Rattle.cert_text.specs.declared.fault.LineCause.{LineCause}
 use Rattle.cert_text.specs.declared.stage.Stage.{Stage}
@@ -33,7 +33,6 @@ use Rattle.cert_text.specs.Reading.{Said, Reading, Fault, nothing, begins, start
 use Rattle.page_ids.proofs.Numbers.{decimal_digits}
 use Rattle.page_ids.proofs.Numerals.{both}
 use Rattle.std.proofs.lemmas.List.Elements.{recursion_from_All}
-use Rattle.cert_table.specs.Table.{is_behind}
 use Rattle.cert_text.proofs.Again.{IsLine, AllAbove, above_all, above_append, above_less, above_decimal, above_id, above_cursor, number_after_again, row_again}
 use Rattle.cert_text.proofs.GroupLines.{groups_again, groups_is_line}
 use Rattle.cert_text.proofs.Sound.{with_grouped, with_groups, get_is, most_small}

@@ -1,14 +1,13 @@
 -- What calls return.
 use Rattle.std.proofs.Common.{◌≡◌, ℕ, Bool, true, false, cond, List, ◌++◌, None, Result, Ok, Err, refl, sym, ap, subst, ◌∙◌}
 use Rattle.std.specs.Prelude.{IfOk, IfErr, OnOk}
-use Rattle.cert_table.specs.CertView.{CertView}
+use Rattle.cert_table.specs.Table.{CertView}
 use Rattle.cert_text.specs.declared.fault.LineCause.TheVariants as causes
 use Rattle.cert_text.specs.declared.fault.ReadFault.{ReadFault}
 use Rattle.cert_text.specs.declared.fault.ReadFault.TheVariants as read
 use Rattle.cert_text.specs.Grammar.{IsCertificateText}
 use Rattle.list_words.specs.Steps.{◌>>=◌}
-use Rattle.cert_text.specs.Reading.{Reading, Fault, start, number_of, is_over, run, ended, certificate_of, reading, fault_in, cert_fault}
-use Rattle.cert_text.specs.Outcome.{Reads, Gives, Refuses, Answers, ReaderView, HasRead, lasting}
+use Rattle.cert_text.specs.Reading.{Reading, Fault, start, number_of, is_over, run, ended, certificate_of, reading, fault_in, cert_fault, Reads, Gives, Refuses, Answers, ReaderView, HasRead, lasting}
 use Rattle.cert_text.proofs.Found.{found}
 use Rattle.cert_text.proofs.Only.{only, run_append}
 

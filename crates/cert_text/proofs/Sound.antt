@@ -8,8 +8,7 @@ use Rattle.std.specs.declared.cmp.Ordering.TheVariants.{Less, Equal, Greater}
 use Rattle.std.proofs.Math.ListN.{get_or-append}
 use Rattle.std.proofs.Math.Seq.{get_or-append_seam}
 use Rattle.std.proofs.lemmas.Bool.{cases_lt}
-use Rattle.page_ids.specs.Id.{Id}
-use Rattle.page_ids.specs.Ids.{id_cmp, IsPageNumber}
+use Rattle.page_ids.specs.Ids.{Id, id_cmp, IsPageNumber}
 use Rattle.frame_records.specs.Groups.{AreGroups}
 use Rattle.cert_table.specs.declared.row.Row.{Row}
 use Rattle.cert_text.specs.Grammar.{IsRow}

@@ -10,21 +10,19 @@ use Rattle.std.proofs.lemmas.List.{take-append-drop, append-nil}
 use Rattle.std.proofs.lemmas.List.Splits.{join_with_byte-slice_split}
 use Rattle.std.specs.Option.{ok_or}
 use Rattle.page_ids.proofs.KeyTexts.{chosen}
-use Rattle.page_ids.proofs.IdTexts.{split_end}
-use Rattle.page_ids.specs.Id.{Id}
+use Rattle.page_ids.proofs.IdTexts.{split_end, id_found}
+use Rattle.page_ids.specs.Ids.{Id, frame_text}
 use Rattle.page_ids.specs.declared.number.NumberFault.{NumberFault}
-use Rattle.page_ids.specs.Numbers.{number_in, id_in}
+use Rattle.page_ids.specs.Texts.{number_in, id_in}
 use Rattle.page_ids.proofs.Numbers.{number_found}
-use Rattle.page_ids.proofs.IdTexts.{id_found}
 use Rattle.cert_table.specs.Table.{is_behind}
-use Rattle.page_ids.specs.Ids.{frame_text}
 use Rattle.cert_table.specs.declared.row.Row.{Row}
 use Rattle.abstract_paint.specs.declared.cursor.AbsCursor.{AbsCursor}
 use Rattle.abstract_paint.specs.declared.cursor.Place.{Place}
 use Rattle.abstract_paint.specs.declared.cursor.Place.TheVariants.{Any, Col, Spot}
 use Rattle.abstract_paint.specs.declared.cursor.Pend.{Pend}
 use Rattle.abstract_paint.specs.declared.cursor.Pend.TheVariants.{No, Yes, Maybe}
-use Rattle.abstract_paint.specs.Cursor.{OnScreen}
+use Rattle.abstract_paint.specs.Paint.{OnScreen}
 use Rattle.cert_text.specs.declared.fault.LineCause.{LineCause}
 use Rattle.cert_text.specs.declared.fault.LineCause.TheVariants.{Word, Order, Cursor}
 use Rattle.cert_text.specs.Grammar.{place_text, pend_text, cursor_text, row_line, IsRow}

@@ -10,9 +10,8 @@ use Rattle.abstract_paint.specs.declared.cursor.Place.{Place}
 use Rattle.abstract_paint.specs.declared.cursor.Place.TheVariants.{Any, Col, Spot}
 use Rattle.abstract_paint.specs.declared.cursor.Pend.{Pend}
 use Rattle.abstract_paint.specs.declared.cursor.Pend.TheVariants.{No, Yes, Maybe}
-use Rattle.cert_table.specs.CertView.{CertView}
-use Rattle.cert_table.specs.Rows.{AreRows}
-use Rattle.abstract_paint.specs.Cursor.{OnScreen}
+use Rattle.cert_table.specs.Table.{CertView, AreRows}
+use Rattle.abstract_paint.specs.Paint.{OnScreen}
 
 -- `any`, or `c` (99) and a column, or `s` (115) and a position
 abbrev pub place_text : Place → List ℕ

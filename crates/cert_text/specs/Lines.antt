@@ -4,7 +4,7 @@ use Rattle.std.specs.Option.{ok_or}
 use Rattle.std.specs.Str.{bytes_eq}
 use Rattle.page_ids.specs.declared.number.NumberFault.{NumberFault}
 use Rattle.page_ids.specs.declared.number.NumberFault.TheVariants.{NotNumeral, AboveLimit}
-use Rattle.page_ids.specs.Numbers.{number_in, id_in}
+use Rattle.page_ids.specs.Texts.{number_in, id_in}
 use Rattle.frame_records.specs.declared.groups.GroupFlaw.{GroupFlaw}
 use Rattle.frame_records.specs.declared.groups.GroupFlaw.TheVariants as group
 use Rattle.frame_records.specs.Groups.{groups_in}

@@ -1,5 +1,5 @@
--- Reading a certificate's text byte by byte, with the first fault.
-use Rattle.std.specs.Prelude.{ℕ, ◌+◌, List, [], ◌∷◌, ◌++◌, length, Bool, true, false, ◌==◌, ◌≤◌, nat_lt, if◌then◌else◌, Option, Some, None, Result, Ok, Err, codes}
+-- Reading a certificate's text.
+use Rattle.std.specs.Prelude.{ℕ, ◌+◌, List, [], ◌∷◌, ◌++◌, length, Bool, true, false, ◌==◌, ◌≤◌, nat_lt, if◌then◌else◌, Option, Some, None, Result, Ok, Err, codes, ◌≡◌, ◌*◌, ◌<◌, All, ◌↔◌}
 use Rattle.std.specs.Int.{from_bool}
 use Rattle.std.specs.Str.{bytes_eq}
 use Rattle.std.specs.List.{AllByRecursion}
@@ -9,9 +9,8 @@ use Rattle.frame_records.specs.declared.limits.TheConstants.{MOST_PENCE}
 use Rattle.frame_records.specs.Groups.{AreGroups}
 use Rattle.cert_table.specs.declared.limits.TheConstants.{MOST_RANK, MOST_ROWS}
 use Rattle.cert_table.specs.declared.row.Row.{Row}
-use Rattle.cert_text.specs.Grammar.{IsRow}
-use Rattle.cert_table.specs.CertView.{CertView}
-use Rattle.cert_table.specs.Rows.{AreRows}
+use Rattle.cert_text.specs.Grammar.{IsRow, IsCertificateText}
+use Rattle.cert_table.specs.Table.{CertView, AreRows}
 use Rattle.cert_text.specs.declared.fault.LineCause.{LineCause}
 use Rattle.cert_text.specs.declared.fault.LineCause.TheVariants as causes
 use Rattle.cert_text.specs.declared.stage.Stage.{Stage}
@@ -20,6 +19,13 @@ use Rattle.cert_text.specs.declared.stage.Field.{Field}
 use Rattle.cert_text.specs.declared.stage.Field.TheVariants.{Entry, Ceiling, Keyings, Count}
 use Rattle.list_words.specs.Steps.{◌>>=◌}
 use Rattle.cert_text.specs.Lines.{number_after, groups_after, row_in}
+use Rattle.cert_text.specs.declared.fault.LineFault.{LineFault}
+use Rattle.cert_text.specs.declared.fault.LineFault.TheVariants as line
+use Rattle.cert_text.specs.declared.fault.ReadFault.{ReadFault}
+use Rattle.cert_text.specs.declared.fault.ReadFault.TheVariants as read
+use Rattle.cert_text.specs.declared.fault.LineCause.TheVariants.{Word, Tail, Truncated}
+
+-- Reading a certificate's text byte by byte, with the first fault.
 
 -- what the lines so far have said
 pub record Said : Type 0 where
@@ -180,3 +186,114 @@ fault_in (Err f) = Some f
 -- the first line at fault, with its cause
 abbrev pub cert_fault : List ℕ → Option Fault
 cert_fault bytes = fault_in (reading bytes)
+
+-- What a call returned, beside what reading gives; memory may run out.
+
+-- a fault that no further byte takes away
+abbrev pub lasting_cause : ℕ → LineCause → Option Fault
+lasting_cause n causes.Truncated = None
+lasting_cause n cause = Some (n, cause)
+
+abbrev pub lasting : Option Fault → Option Fault
+lasting None = None
+lasting (Some f) = lasting_cause f.0 f.1
+
+-- the cause of such a fault
+abbrev pub Lasts : LineCause → Type 0
+Lasts cause = (n : ℕ) → lasting_cause n cause ≡ Some (n, cause)
+
+-- a whole line that leads to the next stage
+abbrev pub Says : Result Stage LineFault → Said → Result Reading LineCause → Type 0
+Says (Ok stage) new outcome = outcome ≡ Ok (begins stage new)
+Says (Err line.Memory) new outcome = Unit {0}
+Says (Err (line.Says cause)) new outcome = (outcome ≡ Err cause) × Lasts cause
+
+-- a call that changes a reading into the new one
+abbrev pub Turns : Result (Unit {0}) LineFault → Reading → Result Reading LineCause → Type 0
+Turns (Ok _) new outcome = outcome ≡ Ok new
+Turns (Err line.Memory) new outcome = Unit {0}
+Turns (Err (line.Says cause)) new outcome = (outcome ≡ Err cause) × Lasts cause
+
+-- a reading with its fault
+abbrev pub Refuses : {A : Type 0} → ReadFault → Result A Fault → Type 0
+Refuses read.Memory outcome = Unit {0}
+Refuses read.Failed outcome = ⊥
+Refuses (read.Line number cause) outcome = outcome ≡ Err (number, cause)
+
+-- the fault that a call answers
+abbrev pub Answers : ReadFault → Option Fault → Type 0
+Answers read.Memory fault = Unit {0}
+Answers read.Failed fault = ⊥
+Answers (read.Line number cause) fault = fault ≡ Some (number, cause)
+
+-- and its fault lasts
+abbrev pub Reads : Result (Unit {0}) ReadFault → Reading → Result Reading Fault → Type 0
+Reads (Ok _) new outcome = outcome ≡ Ok new
+Reads (Err e) new outcome = Refuses e outcome × Answers e (lasting (fault_in outcome))
+
+-- a certificate, or the fault
+abbrev pub Gives : {C : Type 0} → (C → CertView) → Result C ReadFault → Result CertView Fault → Type 0
+Gives view (Ok c) outcome = outcome ≡ Ok (view c)
+Gives view (Err e) outcome = Refuses e outcome
+
+-- what contracts see of a reader
+pub record ReaderView : Type 0 where
+  pub failed : Bool
+  pub reading : Reading
+
+-- the reader has taken this stream, and no call was refused
+pub record HasRead (r : ReaderView) (stream : List ℕ) : Type 0 where
+  pub going : r.failed ≡ false
+  pub so_far : run start stream ≡ Ok r.reading
+
+-- Reading goes line by line, and the first line at fault is the fault of the text.
+
+-- no byte is a line's end (10)
+abbrev pub HasNoEnd : List ℕ → Type 0
+HasNoEnd bytes = All (λ b. (b == 10) ≡ false) bytes
+
+-- how many bytes are a line's end
+abbrev pub line_ends : List ℕ → ℕ
+line_ends [] = 0
+line_ends (b ∷ bytes) = if b == 10 then line_ends bytes + 1 else line_ends bytes
+
+-- a whole line in the place that is due, with its number
+abbrev pub judged : Reading → List ℕ → Result Reading Fault
+judged s line = at_line (number_of s.stage s.said) (judge_at s.stage s.said line)
+
+pub record LinesAreJudged : Type 0 where
+  -- a line of at most 128 bytes is judged by its place, and the text after it is read on from there
+  pub whole : (s : Reading) (line rest : List ℕ) → is_over s.stage ≡ false → HasNoEnd line
+      → length s.line + length line ≤ 128 → run s (line ++ 10 ∷ rest) ≡ run_on (judged s (s.line ++ line)) rest
+  -- a 129th byte is Word, whatever follows
+  pub long : (s : Reading) (line rest : List ℕ) → is_over s.stage ≡ false → HasNoEnd line → length s.line ≤ 128
+      → length s.line + length line ≡ 129 → run s (line ++ rest) ≡ Err (number_of s.stage s.said, Word)
+  -- a line that doesn't end is Truncated
+  pub cut : (s : Reading) (line : List ℕ) → is_over s.stage ≡ false → HasNoEnd line → length s.line + length line ≤ 128
+      → (run s line >>= ended) ≡ Err (number_of s.stage s.said, Truncated)
+  -- after `end` each byte is Tail
+  pub tail : (s : Reading) (b : ℕ) (rest : List ℕ) → is_over s.stage ≡ true
+      → run s (b ∷ rest) ≡ Err (number_of s.stage s.said, Tail)
+  -- the line that is due has a number one greater than the line ends so far
+  pub numbered : (bytes : List ℕ) (s : Reading) → run start bytes ≡ Ok s
+      → number_of s.stage s.said ≡ line_ends bytes + 1
+
+-- a text of more than 65,542 lines' bytes is decided: what is read doesn't depend on what follows
+abbrev pub LongTextsAreDecided : Type 0
+LongTextsAreDecided = (bytes more : List ℕ) → 65542 * 129 < length bytes → reading (bytes ++ more) ≡ reading bytes
+
+-- Texts and certificates belong together one by one.
+
+pub record TextsAreCertificates : Type 0 where
+  -- a certificate has one text
+  pub one_text : (c : CertView) (a b : List ℕ) → IsCertificateText a c → IsCertificateText b c → a ≡ b
+  -- a text has one certificate
+  pub one_certificate : (bytes : List ℕ) (c d : CertView) → IsCertificateText bytes c → IsCertificateText bytes d
+      → c ≡ d
+  -- no text begins another
+  pub no_prefix : (bytes : List ℕ) (b : ℕ) (more : List ℕ) (c d : CertView) → IsCertificateText bytes c
+      → IsCertificateText (bytes ++ b ∷ more) d → ⊥
+  -- what is read from a text without a fault is the certificate with which the grammar pairs it
+  pub no_fault : (bytes : List ℕ) (c : CertView) → (reading bytes ≡ Ok c) ↔ IsCertificateText bytes c
+  -- reading goes on where it was
+  pub pieces : (a b : List ℕ) → run start (a ++ b) ≡ run_on (run start a) b

@@ -1,7 +1,6 @@
 //! Laws of the grammar.
 
-ghost use Rattle.cert_text.specs.Laws.{TextsAreCertificates};
-ghost use Rattle.cert_text.specs.LineLaws.{LinesAreJudged, LongTextsAreDecided};
+ghost use Rattle.cert_text.specs.Reading.{TextsAreCertificates, LinesAreJudged, LongTextsAreDecided};
 
 /// Of every text and certificate: one text for each certificate and one certificate for each text, no text begins
 /// another, and a text without a fault is a certificate's.

@@ -1,11 +1,10 @@
 //! Certificates are read from their texts, whole or in pieces.
 
 ghost use Rattle.std.specs.Prelude.{◌≡◌, ◌++◌, ℕ, true, false, List, [], Ok, Err, IfOk, IfErr, OnOk, OnErr, None};
-ghost use Rattle.cert_table.specs.CertView.{CertView};
+ghost use Rattle.cert_table.specs.Table.{CertView};
 ghost use Rattle.cert_text.specs.declared.fault.ReadFault.TheVariants.{Failed, Memory};
 ghost use Rattle.cert_text.specs.Grammar.{IsCertificateText};
-ghost use Rattle.cert_text.specs.Reading.{run, ended, reading, cert_fault};
-ghost use Rattle.cert_text.specs.Outcome.{Reads, Gives, Answers, lasting, HasRead};
+ghost use Rattle.cert_text.specs.Reading.{run, ended, reading, cert_fault, Reads, Gives, Answers, lasting, HasRead};
 
 use crate::fault::ReadFault;
 use crate::line_reader::LineReader;
@@ -23,7 +22,7 @@ pub struct CertReader {
 }
 
 impl Model for CertReader {
-    ghost use Rattle.cert_text.specs.Outcome.{ReaderView};
+    ghost use Rattle.cert_text.specs.Reading.{ReaderView};
 
     ghost Value = { ReaderView };
 

@@ -2,11 +2,11 @@
 
 ghost use Rattle.std.specs.Prelude.{◌≡◌, ◌≤◌, ◌++◌, ◌∷◌, [], Ok, IfOk, OnOk, All, decimal, map, length};
 ghost use Rattle.page_ids.specs.Ids.{IsPageNumber, IsFrameId, frame_text};
-ghost use Rattle.abstract_paint.specs.Cursor.{OnScreen};
+ghost use Rattle.abstract_paint.specs.Paint.{OnScreen};
 ghost use Rattle.frame_records.specs.declared.limits.TheConstants.{MOST_PENCE};
 ghost use Rattle.frame_records.specs.Groups.{AreGroups};
 ghost use Rattle.cert_table.specs.declared.limits.TheConstants.{MOST_RANK};
-ghost use Rattle.cert_table.specs.Rows.{AreRows, AreOnScreen};
+ghost use Rattle.cert_table.specs.Table.{AreRows, AreOnScreen};
 ghost use Rattle.cert_text.specs.Grammar.{IsRow, IsCertificateText, certificate_text, cursor_text, place_text, row_line, has_groups, first_line, spaced, groups_lines, head_lines, text_of};
 ghost use Rattle.cert_text.specs.Reading.{reading};
 

@@ -7,15 +7,14 @@ use Rattle.std.specs.List.{AllByRecursion}
 use Rattle.std.proofs.lemmas.Bool.Decides.{nat_tests, Decides-eqb, Decides-ltb, Decides-and, Decides-or, Decides-at, Decides-like}
 use Rattle.std.proofs.lemmas.Slice.Eq.{bytes_eq-Decides}
 use Rattle.std.proofs.lemmas.List.Folds.{Any-from_list_any, list_any_at}
-use Rattle.page_ids.specs.Id.{Id}
-use Rattle.page_ids.specs.Ids.{id_eq}
+use Rattle.page_ids.specs.Ids.{Id, id_eq}
 use Rattle.page_ids.specs.IdLaws.{id_eq_same, id_eq_refl}
 use Rattle.page_ids.specs.declared.way.Way.{Way}
 use Rattle.page_ids.specs.declared.way.Way.TheVariants.{Route, Next}
 use Rattle.page_ids.specs.Ways.{ways, way_place}
 use Rattle.page_ids.specs.WayLaws.{ways_length, ways_at}
 use Rattle.frame_records.specs.declared.frame.Frame.{Frame}
-use Rattle.frame_records.specs.BaseView.{BaseView, frame_at}
+use Rattle.frame_records.specs.Bases.{BaseView, frame_at}
 use Rattle.frame_records.specs.Seek.{is_open, entry_of}
 use Rattle.frame_records.specs.Ways.{sought}
 use Rattle.frame_records.specs.WayLaws.{offered_place}
@@ -26,13 +25,11 @@ use Rattle.abstract_paint.specs.declared.cursor.Pend.{Pend}
 use Rattle.abstract_paint.specs.declared.cursor.Pend.TheVariants.{No, Yes, Maybe}
 use Rattle.abstract_paint.specs.declared.painting.Painted.{Painted}
 use Rattle.abstract_paint.specs.declared.painting.Painted.TheVariants.{Clean, Touches}
-use Rattle.abstract_paint.specs.Cursor.{Ends}
-use Rattle.abstract_paint.specs.Paint.{paint_of}
+use Rattle.abstract_paint.specs.Paint.{Ends, paint_of}
 use Rattle.abstract_paint.proofs.Exact.{is_exact}
-use Rattle.terminal_codes.specs.Touch.{IsClean}
+use Rattle.terminal_codes.specs.Bodies.{IsClean}
 use Rattle.cert_table.specs.declared.row.Row.{Row}
-use Rattle.cert_table.specs.Rows.{row_among}
-use Rattle.cert_table.specs.CertView.{CertView}
+use Rattle.cert_table.specs.Table.{row_among, CertView}
 use Rattle.checker.specs.declared.policy.Policy.{Policy}
 use Rattle.checker.specs.declared.verdict.Cause.{Cause}
 use Rattle.checker.specs.declared.verdict.Cause.TheVariants as cause

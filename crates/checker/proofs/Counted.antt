@@ -8,10 +8,9 @@ use Rattle.std.proofs.lemmas.Bool.Decides.{nat_tests}
 use Rattle.std.proofs.lemmas.List.Sums.{sum_by-append, sum_by-cons, sum_by-take-le}
 use Rattle.std.proofs.lemmas.Option.{slice_get_within, get_or_from_slice_get}
 use native.Mathlib.Numerals.{add-one}
-use Rattle.page_ids.specs.Id.{Id}
-use Rattle.page_ids.specs.Ids.{id_eq}
+use Rattle.page_ids.specs.Ids.{Id, id_eq}
 use Rattle.frame_records.specs.declared.frame.Frame.{Frame}
-use Rattle.frame_records.specs.BaseView.{BaseView, IsBase, frame_at, is_body_long}
+use Rattle.frame_records.specs.Bases.{BaseView, IsBase, frame_at, is_body_long}
 use Rattle.list_words.proofs.Finds.{first_found}
 use Rattle.cert_table.specs.declared.row.Row.{Row}
 use Rattle.checker.specs.declared.count.Count.{Count}

@@ -1,16 +1,14 @@
 -- What a cleared change carries from one edition to the next.
 use Rattle.std.proofs.Common.{◌≡◌, ℕ, ◌≤◌, ◌==◌, Bool, true, false, cond, List, [], ◌∷◌, ◌++◌, Option, Some, None, refl, sym, subst, arith}
 use Rattle.std.specs.List.{AllByRecursion}
-use Rattle.page_ids.specs.Id.{Id}
-use Rattle.frame_records.specs.BaseView.{BaseView, AreApart}
+use Rattle.page_ids.specs.Ids.{Id}
+use Rattle.frame_records.specs.Bases.{BaseView, AreApart}
 use Rattle.session_machine.specs.declared.reply.Reply.{Reply}
 use Rattle.session_machine.specs.declared.reply.Reply.TheVariants.{Shown, Again, NotOffered, Missing, Closed, Gone}
-use Rattle.session_machine.specs.State.{SessionState, At, Left}
-use Rattle.session_machine.specs.Runs.{state_after, replies_to}
-use Rattle.session_machine.specs.Safe.{IsFairReply}
+use Rattle.session_machine.specs.Sessions.{SessionState, At, Left}
+use Rattle.session_machine.specs.Runs.{state_after, replies_to, IsFairReply}
 use Rattle.cert_table.specs.declared.row.Row.{Row}
-use Rattle.cert_table.specs.Rows.{row_among}
-use Rattle.cert_table.specs.CertView.{CertView}
+use Rattle.cert_table.specs.Table.{row_among, CertView}
 use Rattle.checker.specs.declared.policy.Policy.{Policy}
 use Rattle.checker.specs.declared.verdict.Verdict.{Verdict}
 use Rattle.checker.specs.declared.verdict.Verdict.TheVariants as verdicts
@@ -19,8 +17,7 @@ use Rattle.checker.specs.declared.change.ChangeVerdict.TheVariants.{Cleared, Ent
 use Rattle.checker.specs.Good.{Good, is_covered}
 use Rattle.checker.specs.Safe.{Safe, HasRows}
 use Rattle.checker.specs.Verdict.{verdict}
-use Rattle.checker.specs.Change.{lost_id, unless_lost, unless_old, unless_new, keeps_covered, change_verdict}
-use Rattle.checker.specs.Editions.{Edition, IsFoundFor, AreHeldFound, IsSafeFrom, AreCleared, HoldsOverChanges, IsSafeOverChanges, IsSafeChange, edition}
+use Rattle.checker.specs.Change.{lost_id, unless_lost, unless_old, unless_new, keeps_covered, change_verdict, Edition, IsFoundFor, AreHeldFound, IsSafeFrom, AreCleared, HoldsOverChanges, IsSafeOverChanges, IsSafeChange, edition}
 use Rattle.checker.proofs.Steps.{some_there, row_is, covered_found, rows_after, fair_replies, clean_replies, regains_at, safe}
 use Rattle.checker.proofs.Clears.{cleared_good}
 

@@ -10,15 +10,14 @@ use Rattle.std.proofs.lemmas.Bool.Decides.{nat_tests}
 use Rattle.std.proofs.lemmas.Option.{slice_get_within, get_or_from_slice_get}
 use Rattle.std.proofs.lemmas.List.{drop_all}
 use Rattle.std.proofs.lemmas.List.Sorted.{ranks_by, sorted_far}
-use Rattle.page_ids.specs.Id.{Id}
-use Rattle.page_ids.specs.Ids.{id_cmp, id_eq}
+use Rattle.page_ids.specs.Ids.{Id, id_cmp, id_eq}
 use Rattle.page_ids.specs.IdLaws.{id_cmp_total}
 use Rattle.list_words.proofs.Finds.{find_first, find_none}
 use Rattle.cert_table.specs.declared.row.Row.{Row}
-use Rattle.cert_table.specs.Rows.{AreRows}
+use Rattle.cert_table.specs.Table.{AreRows}
 use Rattle.checker.specs.Good.{is_covered}
 use Rattle.checker.specs.Change.{lost_id}
-use Rattle.checker.specs.Places.{AreBelow, IsPlaceOf}
+use Rattle.checker.specs.Loops.{AreBelow, IsPlaceOf}
 use Rattle.checker.proofs.RowsInTurn.{drop_at}
 
 not_after : (a b : Id) → id_cmp a b ≡ Less → is_lt (id_cmp b a) ≡ false

@@ -5,19 +5,16 @@ use Rattle.std.proofs.lemmas.Bool.Decides.{nat_tests}
 use Rattle.std.proofs.lemmas.List.{nil_from_length}
 use Rattle.frame_records.specs.declared.frame.Lead.{Lead}
 use Rattle.frame_records.specs.declared.frame.Lead.TheVariants.{Clear, Keep}
-use Rattle.base_text.specs.RowCodes.{is_row_code, are_row_codes, IsRow}
-use Rattle.base_text.specs.Rows.{rows_bytes, body_of_rows}
+use Rattle.base_text.specs.Rows.{is_row_code, are_row_codes, IsRow, rows_bytes, body_of_rows}
 use Rattle.terminal_codes.specs.Writes.{is_service}
 use Rattle.abstract_paint.specs.declared.cursor.AbsCursor.{AbsCursor}
 use Rattle.abstract_paint.specs.declared.cursor.Place.TheVariants.{Spot}
 use Rattle.abstract_paint.specs.declared.painting.Painted.{Painted}
 use Rattle.abstract_paint.specs.declared.painting.Painted.TheVariants.{Clean, Touches}
-use Rattle.abstract_paint.specs.Step.{calm}
-use Rattle.abstract_paint.specs.Paint.{paint_from, paint_of}
-use Rattle.abstract_paint.specs.Codes.{is_cell_code, codes_fit}
+use Rattle.abstract_paint.specs.Paint.{calm, paint_from, paint_of, is_cell_code, codes_fit}
 use Rattle.abstract_paint.proofs.Codes.{goes_on, code_touches, codes_go_on}
 use Rattle.abstract_paint.proofs.Exact.{is_exact}
-use Rattle.checker.specs.RowsAreClean.{has_double_height, row_22, RowsAreClean}
+use Rattle.checker.specs.Laws.{has_double_height, row_22, RowsAreClean}
 
 both : (a b : Bool) → (a && b) ≡ true → (a ≡ true) × (b ≡ true)
 both true b h = (refl, h)

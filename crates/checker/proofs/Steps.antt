@@ -1,8 +1,7 @@
 -- What a good certificate keeps along a session: the present id and each remembered id have rows.
 use Rattle.std.proofs.Common.{◌≡◌, ℕ, zero, suc, ◌<◌, ◌≤◌, ◌⊎◌, inl, inr, Bool, true, false, cond, List, [], ◌∷◌, length, take, Option, Some, None, refl, sym, ◌∙◌, ap, subst, arith, is_some}
 use Rattle.std.specs.List.{AllByRecursion}
-use Rattle.page_ids.specs.Id.{Id}
-use Rattle.page_ids.specs.Ids.{id_eq}
+use Rattle.page_ids.specs.Ids.{Id, id_eq}
 use Rattle.page_ids.specs.IdLaws.{id_eq_same}
 use Rattle.page_ids.specs.declared.key.Key.{Key}
 use Rattle.page_ids.specs.declared.key.Key.TheVariants as key
@@ -14,21 +13,17 @@ use Rattle.frame_records.specs.declared.base.Sought.{Sought}
 use Rattle.frame_records.specs.declared.base.Sought.TheVariants as sought
 use Rattle.frame_records.specs.declared.ways.Destination.{Destination}
 use Rattle.frame_records.specs.declared.ways.Destination.TheVariants.{NotOffered, Outside}
-use Rattle.frame_records.specs.BaseView.{BaseView, frame_at, AreApart}
+use Rattle.frame_records.specs.Bases.{BaseView, frame_at, AreApart}
 use Rattle.frame_records.specs.Seek.{seek, entry_of}
 use Rattle.frame_records.specs.Ways as led
 use Rattle.frame_records.specs.Ways.{sought_by, offered_by, destination_by, destination}
 use Rattle.frame_records.specs.WayLaws.{goes}
 use Rattle.session_machine.specs.declared.reply.Reply.TheVariants as reply
 use Rattle.session_machine.specs.declared.reply.Reply.TheVariants.{Shown}
-use Rattle.session_machine.specs.State.{SessionState, At, Left, present}
-use Rattle.session_machine.specs.Step.{Outcome, key_step, way_step, by_way, prev_step, by_prev, by_update, update_step, remember}
-use Rattle.session_machine.specs.Open.{opening}
-use Rattle.session_machine.specs.Runs.{state_after, replies_to}
-use Rattle.session_machine.specs.Safe.{Regains, LeftOrRegains, IsFairReply, IsForward}
+use Rattle.session_machine.specs.Sessions.{SessionState, At, Left, present, Outcome, key_step, way_step, by_way, prev_step, by_prev, by_update, update_step, remember, opening}
+use Rattle.session_machine.specs.Runs.{state_after, replies_to, Regains, LeftOrRegains, IsFairReply, IsForward}
 use Rattle.cert_table.specs.declared.row.Row.{Row}
-use Rattle.cert_table.specs.Rows.{row_among}
-use Rattle.cert_table.specs.CertView.{CertView}
+use Rattle.cert_table.specs.Table.{row_among, CertView}
 use Rattle.checker.specs.declared.policy.Policy.{Policy}
 use Rattle.checker.specs.Good.{Good, IsGoodRow, LeadsOn, is_covered}
 use Rattle.checker.specs.Safe.{Safe, HasRows, IsCleanAt, IsCleanReply}

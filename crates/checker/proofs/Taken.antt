@@ -3,12 +3,12 @@ use Rattle.std.proofs.Common.{◌≡◌, ℕ, ◌+◌, List, [], ◌∷◌, drop
 use Rattle.std.specs.Prelude.{slice_get}
 use Rattle.std.specs.List.{sum_by}
 use Rattle.std.proofs.lemmas.List.Sums.{sum_by-cons}
-use Rattle.frame_records.specs.BaseView.{BaseView}
+use Rattle.frame_records.specs.Bases.{BaseView}
 use Rattle.cert_table.specs.declared.row.Row.{Row}
-use Rattle.cert_table.specs.CertView.{CertView}
+use Rattle.cert_table.specs.Table.{CertView}
 use Rattle.checker.specs.declared.verdict.Cause.{Cause}
 use Rattle.checker.specs.Verdict.{on_row}
-use Rattle.checker.specs.Taken.{unless_fault, judged}
+use Rattle.checker.specs.Counts.{unless_fault, judged}
 use Rattle.checker.proofs.RowsInTurn.{drop_at}
 
 -- the sum so far and that of the rows that are still judged, one row further

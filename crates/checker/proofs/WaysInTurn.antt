@@ -6,11 +6,11 @@ use Rattle.std.specs.Int.{from_bool}
 use Rattle.std.specs.List.{list_any}
 use Rattle.std.proofs.lemmas.List.Folds.{find-append, list_any-append}
 use Rattle.std.proofs.lemmas.List.FromFn.{map-range_with_len_more, sum_by-map-range_with_len_more}
-use Rattle.page_ids.specs.Id.{Id}
+use Rattle.page_ids.specs.Ids.{Id}
 use Rattle.page_ids.specs.declared.way.Way.{Way}
 use Rattle.page_ids.specs.Ways.{way_at, ways}
 use Rattle.frame_records.specs.declared.frame.Frame.{Frame}
-use Rattle.frame_records.specs.BaseView.{BaseView}
+use Rattle.frame_records.specs.Bases.{BaseView}
 use Rattle.frame_records.specs.Ways.{sought}
 use Rattle.cert_table.specs.declared.row.Row.{Row}
 use Rattle.checker.specs.declared.ways.WayCheck.{WayCheck}
@@ -19,8 +19,8 @@ use Rattle.checker.specs.declared.verdict.Cause.{Cause}
 use Rattle.checker.specs.Conditions.{◌otherwise◌, first_among}
 use Rattle.checker.specs.Good.{LeadsDown}
 use Rattle.checker.specs.Verdict.{way_on, way_down, is_down, lost_cause, on_way, on_rank, on_ways}
-use Rattle.checker.specs.Taken.{way_compared}
-use Rattle.checker.specs.Ways.{outside_of, first_ways, IsWayCheck, AreWayChecks}
+use Rattle.checker.specs.Counts.{way_compared}
+use Rattle.checker.specs.Loops.{outside_of, first_ways, IsWayCheck, AreWayChecks}
 
 first_more : (n : ℕ) → first_ways (n + 1) ≡ first_ways n ++ way_at n ∷ []
 first_more n = map-range_with_len_more way_at 0 n n (omega arith)

@@ -1,19 +1,18 @@
 -- When a certificate is right about a base. The caller is the list of the groups to which the caller belongs.
 use Rattle.std.specs.Prelude.{◌≡◌, ℕ, ◌<◌, ◌≤◌, ◌⊎◌, Bool, true, List, Some, is_some}
 use Rattle.std.specs.List.{AllByRecursion}
-use Rattle.page_ids.specs.Id.{Id}
+use Rattle.page_ids.specs.Ids.{Id}
 use Rattle.page_ids.specs.declared.way.Way.{Way}
 use Rattle.page_ids.specs.declared.way.Way.TheVariants.{Route, Next}
 use Rattle.frame_records.specs.declared.frame.Frame.{Frame}
-use Rattle.frame_records.specs.BaseView.{BaseView, frame_at, lists_outside}
+use Rattle.frame_records.specs.Bases.{BaseView, frame_at, lists_outside}
 use Rattle.frame_records.specs.Seek.{is_open, entry_of}
 use Rattle.frame_records.specs.Ways.{sought}
-use Rattle.terminal_codes.specs.Touch.{IsClean}
+use Rattle.terminal_codes.specs.Bodies.{IsClean}
 use Rattle.abstract_paint.specs.declared.cursor.AbsCursor.{AbsCursor}
-use Rattle.abstract_paint.specs.Cursor.{Ends}
+use Rattle.abstract_paint.specs.Paint.{Ends}
 use Rattle.cert_table.specs.declared.row.Row.{Row}
-use Rattle.cert_table.specs.Rows.{row_among}
-use Rattle.cert_table.specs.CertView.{CertView}
+use Rattle.cert_table.specs.Table.{row_among, CertView}
 use Rattle.checker.specs.declared.policy.Policy.{Policy}
 
 -- the id has a row

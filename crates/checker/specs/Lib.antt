@@ -3,11 +3,7 @@ pub mod Safe
 pub mod Conditions
 pub mod Verdict
 pub mod Headline
-pub mod Ways
-pub mod Counts
-pub mod Taken
 pub mod Laws
-pub mod RowsAreClean
 pub mod Change
-pub mod Places
-pub mod Editions
+pub mod Counts
+pub mod Loops

@@ -1,18 +1,16 @@
 -- When a base is safe for a caller, whole: sessions, and what they show.
 use Rattle.std.specs.Prelude.{◌≡◌, ℕ, true, List, Some}
 use Rattle.std.specs.List.{AllByRecursion}
-use Rattle.page_ids.specs.Id.{Id}
+use Rattle.page_ids.specs.Ids.{Id}
 use Rattle.page_ids.specs.declared.key.Key.{Key}
 use Rattle.frame_records.specs.declared.frame.Frame.{Frame}
-use Rattle.frame_records.specs.BaseView.{BaseView, frame_at}
-use Rattle.terminal_codes.specs.Touch.{IsClean}
+use Rattle.frame_records.specs.Bases.{BaseView, frame_at}
+use Rattle.terminal_codes.specs.Bodies.{IsClean}
 use Rattle.session_machine.specs.declared.reply.Reply.{Reply}
 use Rattle.session_machine.specs.declared.reply.Reply.TheVariants.{Shown, Again, NotOffered, Missing, Closed, Gone}
-use Rattle.session_machine.specs.State.{SessionState, At, Left}
+use Rattle.session_machine.specs.Sessions.{SessionState, At, Left, opening}
 use Rattle.frame_records.specs.Seek.{entry_of}
-use Rattle.session_machine.specs.Open.{opening}
-use Rattle.session_machine.specs.Runs.{replies_to}
-use Rattle.session_machine.specs.Safe.{SafeSession}
+use Rattle.session_machine.specs.Runs.{replies_to, SafeSession}
 use Rattle.cert_table.specs.declared.row.Row.{Row}
 use Rattle.checker.specs.Good.{is_covered}
 

@@ -2,16 +2,15 @@
 use Rattle.std.specs.Prelude.{◌≡◌, ◌<◌, ℕ, Bool, true, false, ◌&&◌, ◌||◌, ◌==◌, List, Option, Some, None, nat_lt}
 use Rattle.std.specs.List.{list_any}
 use Rattle.std.specs.Str.{bytes_eq}
-use Rattle.page_ids.specs.Id.{Id}
-use Rattle.page_ids.specs.Ids.{id_eq}
+use Rattle.page_ids.specs.Ids.{Id, id_eq}
 use Rattle.page_ids.specs.declared.way.Way.{Way}
 use Rattle.page_ids.specs.declared.way.Way.TheVariants.{Route, Next}
 use Rattle.page_ids.specs.Ways.{ways}
 use Rattle.frame_records.specs.declared.frame.Frame.{Frame}
-use Rattle.frame_records.specs.BaseView.{BaseView, frame_at, lists_outside}
+use Rattle.frame_records.specs.Bases.{BaseView, frame_at, lists_outside}
 use Rattle.frame_records.specs.Seek.{is_open, entry_of}
 use Rattle.frame_records.specs.Ways.{sought}
-use Rattle.terminal_codes.specs.Touch.{IsClean, IsFirstTouch}
+use Rattle.terminal_codes.specs.Bodies.{IsClean, IsFirstTouch}
 use Rattle.abstract_paint.specs.declared.cursor.AbsCursor.{AbsCursor}
 use Rattle.abstract_paint.specs.declared.cursor.Place.{Place}
 use Rattle.abstract_paint.specs.declared.cursor.Place.TheVariants.{Any, Col, Spot}
@@ -19,11 +18,9 @@ use Rattle.abstract_paint.specs.declared.cursor.Pend.{Pend}
 use Rattle.abstract_paint.specs.declared.cursor.Pend.TheVariants.{No, Yes, Maybe}
 use Rattle.abstract_paint.specs.declared.painting.Painted.{Painted}
 use Rattle.abstract_paint.specs.declared.painting.Painted.TheVariants.{Clean, Touches}
-use Rattle.abstract_paint.specs.Cursor.{Ends}
-use Rattle.abstract_paint.specs.Paint.{paint_of}
+use Rattle.abstract_paint.specs.Paint.{Ends, paint_of}
 use Rattle.cert_table.specs.declared.row.Row.{Row}
-use Rattle.cert_table.specs.Rows.{row_among}
-use Rattle.cert_table.specs.CertView.{CertView}
+use Rattle.cert_table.specs.Table.{row_among, CertView}
 use Rattle.checker.specs.declared.policy.Policy.{Policy}
 use Rattle.checker.specs.declared.verdict.Cause.{Cause}
 use Rattle.checker.specs.declared.verdict.Cause.TheVariants as cause

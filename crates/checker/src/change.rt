@@ -1,9 +1,8 @@
 ghost use Rattle.std.specs.Prelude.{◌≡◌};
-ghost use Rattle.page_ids.specs.Id.{Id};
-ghost use Rattle.checker.specs.Change.{lost_id, change_verdict, IsLeastLost};
-ghost use Rattle.checker.specs.Editions.{IsSafeChange};
+ghost use Rattle.page_ids.specs.Ids.{Id};
+ghost use Rattle.checker.specs.Change.{lost_id, change_verdict, IsLeastLost, IsSafeChange};
 ghost use Rattle.checker.specs.Good.{is_covered};
-ghost use Rattle.checker.specs.Places.{AreBelow, IsPlaceOf};
+ghost use Rattle.checker.specs.Loops.{AreBelow, IsPlaceOf};
 
 use crate::judge::check;
 use crate::policy::Policy;

@@ -1,6 +1,6 @@
 ghost use Rattle.std.specs.Prelude.{◌≡◌, ◌<◌, ◌≤◌, length};
 ghost use Rattle.std.specs.Option.{option_copied};
-ghost use Rattle.cert_table.specs.Rows.{row_among};
+ghost use Rattle.cert_table.specs.Table.{row_among};
 
 use cert_table::{Certificate, Cover, Row};
 use page_ids::FrameId;

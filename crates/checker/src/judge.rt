@@ -1,10 +1,9 @@
 ghost use Rattle.std.specs.Prelude.{◌≡◌, ◌≤◌, ◌<◌, ◌+◌, ◌*◌, ◌↔◌, None, ℕ, List, length};
 ghost use Rattle.std.specs.List.{sum_by};
 ghost use Rattle.frame_records.specs.Seek.{entry_of};
-ghost use Rattle.checker.specs.Counts.{ways_of, IsFoundCount, IsRowCount, AreAllCounted, IsCount};
-ghost use Rattle.checker.specs.Taken.{counted_if, is_entry_sought, is_painted, are_ways_sought, ways_compared, row_probes, row_steps, judged, probes_of, steps_of};
+ghost use Rattle.checker.specs.Counts.{ways_of, IsFoundCount, IsRowCount, AreAllCounted, IsCount, counted_if, is_entry_sought, is_painted, are_ways_sought, ways_compared, row_probes, row_steps, judged, probes_of, steps_of};
 ghost use Rattle.page_ids.specs.declared.key.Key.{Key};
-ghost use Rattle.session_machine.specs.Open.{opening};
+ghost use Rattle.session_machine.specs.Sessions.{opening};
 ghost use Rattle.session_machine.specs.Runs.{state_after};
 ghost use Rattle.checker.specs.Good.{Good};
 ghost use Rattle.checker.specs.Safe.{Safe, HasRows};

@@ -1,7 +1,5 @@
-ghost use Rattle.checker.specs.Change.{LostIsLeast};
-ghost use Rattle.checker.specs.Editions.{ChangesAreSafe};
-ghost use Rattle.checker.specs.Laws.{GoodIsSafe, GoodKeepsRows, ClearedIsGood, RefusedIsFirst};
-ghost use Rattle.checker.specs.RowsAreClean.{RowsAreClean};
+ghost use Rattle.checker.specs.Change.{LostIsLeast, ChangesAreSafe};
+ghost use Rattle.checker.specs.Laws.{GoodIsSafe, GoodKeepsRows, ClearedIsGood, RefusedIsFirst, RowsAreClean};
 
 /// A good certificate makes every session safe, and keeps the present and each remembered frame among its rows.
 pub fn good_is_safe()

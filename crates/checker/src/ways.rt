@@ -4,7 +4,7 @@ ghost use Rattle.std.specs.Prelude.{◌≡◌, ◌≤◌, ◌+◌, ◌||◌, Som
 ghost use Rattle.page_ids.specs.Ways.{way_at};
 ghost use Rattle.frame_records.specs.Ways.{sought};
 ghost use Rattle.checker.specs.Verdict.{way_on, way_down};
-ghost use Rattle.checker.specs.Ways.{IsAbsent, IsWayCheck, AreWayChecks};
+ghost use Rattle.checker.specs.Loops.{IsAbsent, IsWayCheck, AreWayChecks};
 
 use crate::cover::seek_row;
 use cert_table::{Certificate, Cover};

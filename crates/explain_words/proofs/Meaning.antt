@@ -3,7 +3,7 @@ use Rattle.std.proofs.Common.{◌≡◌, ℕ, ◌<◌, ◌≤◌, ◌&&◌, Bool
 use Rattle.std.specs.Prelude.{if◌then◌else◌}
 use Rattle.std.specs.List.{AllByRecursion}
 use Rattle.std.proofs.lemmas.Bool.Decides.{nat_tests}
-use Rattle.explain_words.specs.Nearest.{distance, is_near, nearer, nearest, AreFurther, NoneIsNearer, IsNearest}
+use Rattle.explain_words.specs.Words.{distance, is_near, nearer, nearest, AreFurther, NoneIsNearer, IsNearest}
 
 -- if no name is near, none is nearer
 none_nearer : (word : List ℕ) (steps : ℕ) (names : List (List ℕ)) → AllByRecursion (λ name. is_near word name ≡ false) names → NoneIsNearer word steps names

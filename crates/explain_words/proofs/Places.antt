@@ -3,8 +3,7 @@ use Rattle.std.proofs.Common.{◌≡◌, ℕ, ◌+◌, ◌<◌, List, [], length
 use Rattle.std.specs.Borrow.{Bor}
 use Rattle.std.specs.Prelude.{Option}
 use Rattle.std.proofs.lemmas.List.{get_or-map, length-map, drop_more}
-use Rattle.explain_words.specs.Words.{texts_of, IsSame, IsAmong}
-use Rattle.explain_words.specs.Nearest.{nearest, nearer}
+use Rattle.explain_words.specs.Words.{texts_of, IsSame, IsAmong, nearest, nearer}
 
 -- the text at a place is that of the text there
 pub text_at : (names : List (Bor (List ℕ))) (place : ℕ) (d : Bor (List ℕ)) → place < length names → get_or (texts_of names) place [] ≡ (get_or names place d).now

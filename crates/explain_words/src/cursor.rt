@@ -1,7 +1,7 @@
 //! The form of a cursor.
 
 ghost use Rattle.std.specs.Prelude.{◌≡◌, ◌&&◌, ◌||◌};
-ghost use Rattle.explain_words.specs.Cursors.{is_mark, is_end, is_kind, spells_any, is_numbered, is_any, is_cursor};
+ghost use Rattle.explain_words.specs.Words.{is_mark, is_end, is_kind, spells_any, is_numbered, is_any, is_cursor};
 
 // The mark of an escape that is pending, or may be.
 fn is_mark(byte: u8) -> bool

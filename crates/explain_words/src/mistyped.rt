@@ -2,8 +2,7 @@
 
 ghost use Rattle.std.specs.Prelude.{◌≡◌, IfOk, option_map};
 ghost use Rattle.explain_words.specs.Listed.{listed};
-ghost use Rattle.explain_words.specs.Words.{texts_of};
-ghost use Rattle.explain_words.specs.Nearest.{distance, nearer, nearest, name_of, HasDistance, IsNearest};
+ghost use Rattle.explain_words.specs.Words.{texts_of, distance, nearer, nearest, name_of, HasDistance, IsNearest};
 
 use crate::word::words;
 use std::alloc::{AllocError, Global};

@@ -2,9 +2,7 @@
 
 ghost use Rattle.std.specs.Prelude.{◌≡◌, ◌↔◌, ◌⊎◌, true, IsSome};
 ghost use Rattle.explain_words.specs.Listed.{listed};
-ghost use Rattle.explain_words.specs.Cursors.{is_cursor};
-ghost use Rattle.explain_words.specs.Overview.{names_in_lines};
-ghost use Rattle.explain_words.specs.Words.{texts_of, IsAmong, IsListed};
+ghost use Rattle.explain_words.specs.Words.{is_cursor, names_in_lines, texts_of, IsAmong, IsListed};
 
 use crate::cursor::is_cursor;
 use crate::pages::{CURSOR, OVERVIEW, WORDS, text_at};

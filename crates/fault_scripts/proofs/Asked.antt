@@ -3,7 +3,7 @@ use Rattle.std.proofs.Common.{◌≡◌, ◌<◌, ◌≤◌, ◌+◌, ◌-◌, �
 use Rattle.std.proofs.Common as std
 use Rattle.std.proofs.lemmas.Bool.Decides.{nat_tests}
 use Rattle.std.proofs.lemmas.Option.{cond_some, same_Some}
-use Rattle.page_ids.specs.Id.{Id}
+use Rattle.page_ids.specs.Ids.{Id}
 use Rattle.page_ids.specs.declared.key.Key.{Key}
 use Rattle.page_ids.specs.declared.way.Way.{Way}
 use Rattle.page_ids.specs.declared.way.Way.TheVariants.{Route, Next}
@@ -11,24 +11,23 @@ use Rattle.page_ids.specs.Ways.{way_at, way_place, way_key}
 use Rattle.frame_records.specs.declared.frame.Frame.{Frame}
 use Rattle.frame_records.specs.declared.ways.Destination.{Destination}
 use Rattle.frame_records.specs.declared.ways.Destination.TheVariants as way
-use Rattle.frame_records.specs.BaseView.{BaseView, frame_at}
+use Rattle.frame_records.specs.Bases.{BaseView, frame_at}
 use Rattle.frame_records.specs.Seek.{entry_of}
 use Rattle.frame_records.specs.Ways.{destination_of, destination_by, destination}
 use Rattle.frame_records.specs.WayLaws.{going, offered_place}
 use Rattle.abstract_paint.specs.declared.start.Start.{Start}
 use Rattle.abstract_paint.specs.Paint.{paint_of}
-use Rattle.abstract_paint.specs.Start.{IsStart}
-use Rattle.abstract_paint.specs.StartOf.{start_of}
+use Rattle.abstract_paint.specs.Start.{IsStart, start_of}
 use Rattle.abstract_paint.proofs.Least.{starts_are_one}
 use Rattle.abstract_paint.proofs.LeastStart.{is_start}
 use Rattle.checker.specs.declared.policy.Policy.{Policy}
-use Rattle.finder.specs.Walks.{Walk, IsRank}
+use Rattle.finder.specs.Finds.{Walk, IsRank}
 use Rattle.fault_scripts.specs.declared.fault.Fault.{Fault}
 use Rattle.fault_scripts.specs.declared.fault.FaultKind.{FaultKind}
 use Rattle.fault_scripts.specs.declared.fault.FaultKind.TheVariants as kind
 use Rattle.fault_scripts.specs.declared.flaw.Flaw.{Flaw}
 use Rattle.fault_scripts.specs.declared.flaw.Flaw.TheVariants.{Price, Touches, Missing, Closed, NoReturn}
-use Rattle.fault_scripts.specs.Due.{KeyIsDue, IsDueAs, number_of, turn_of}
+use Rattle.fault_scripts.specs.Faults.{KeyIsDue, IsDueAs, number_of, turn_of}
 use Rattle.fault_scripts.specs.Flaws.{fault_of, price_flaw, way_flaw, is_far, return_flaw, asked}
 
 -- the way at a place has the place's number, and so has a way's key

@@ -3,21 +3,18 @@ use Rattle.std.proofs.Common.{◌≡◌, ◌≢◌, ◌≤◌, ℕ, List, [], le
 use Rattle.std.specs.Prelude.{Result, Ok, Err, IfOk, slice_get}
 use Rattle.std.proofs.lemmas.Bool.Decides.{nat_tests}
 use Rattle.std.proofs.lemmas.List.{take_all, nil_from_length}
-use Rattle.frame_records.specs.BaseView.{BaseView, IsBase}
+use Rattle.frame_records.specs.Bases.{BaseView, IsBase}
 use Rattle.cert_table.specs.declared.row.Row.{Row}
-use Rattle.cert_table.specs.CertView.{CertView}
+use Rattle.cert_table.specs.Table.{CertView}
 use Rattle.checker.specs.declared.policy.Policy.{Policy}
 use Rattle.finder.specs.declared.found.Discovered.{Discovered}
-use Rattle.finder.specs.Finds.{IsFinding}
-use Rattle.finder.specs.Walks.{EntryIsFound}
+use Rattle.finder.specs.Finds.{IsFinding, EntryIsFound}
 use Rattle.fault_scripts.specs.declared.frames.Judge.{Judge}
 use Rattle.fault_scripts.specs.declared.outcome.Outcome.{Outcome}
 use Rattle.fault_scripts.specs.declared.outcome.Outcome.TheVariants.{Certified, Faulty}
 use Rattle.fault_scripts.specs.Faults.{AreDue, AreFaultsAlong}
-use Rattle.fault_scripts.specs.Gathered.{IsGathered}
-use Rattle.fault_scripts.specs.Judged.{IsWhole}
+use Rattle.fault_scripts.specs.Loops.{IsGathered, IsWhole, IsTableInOrder, IsSortedTable, AreSortedRows}
 use Rattle.fault_scripts.specs.Outcomes.{IsCertificateOf, IsOutcome, DecidesSafety, AreShown}
-use Rattle.fault_scripts.specs.SortedTable.{IsTableInOrder, IsSortedTable, AreSortedRows}
 use Rattle.fault_scripts.proofs.Certified.{no_table_fault, is_certificate}
 use Rattle.fault_scripts.proofs.FaultsDue.{from_along}
 use Rattle.fault_scripts.proofs.GoodRows.{certificate}

@@ -7,29 +7,25 @@ use Rattle.std.proofs.lemmas.List.{get_or_default}
 use Rattle.std.proofs.lemmas.List.Sorted.{ranks_by, sorted_far, Contains-permutation, IsPermutation-sym, length_permutation, sum_by-IsPermutation}
 use Rattle.std.proofs.lemmas.List.Elements.{Contains-get_or}
 use Rattle.std.proofs.lemmas.Option.{same_Some}
-use Rattle.page_ids.specs.Id.{Id}
-use Rattle.page_ids.specs.Ids.{id_cmp, id_eq}
+use Rattle.page_ids.specs.Ids.{Id, id_cmp, id_eq}
 use Rattle.page_ids.specs.IdLaws.{id_cmp_total, id_eq_refl, before_of}
 use Rattle.frame_records.specs.declared.frame.Frame.{Frame}
-use Rattle.frame_records.specs.BaseView.{BaseView, frame_at}
+use Rattle.frame_records.specs.Bases.{BaseView, frame_at}
 use Rattle.frame_records.specs.Seek.{entry_of}
 use Rattle.list_words.proofs.Finds.{count_two}
-use Rattle.abstract_paint.specs.Cursor.{Ends}
+use Rattle.abstract_paint.specs.Paint.{Ends}
 use Rattle.abstract_paint.proofs.Exact.{is_exact}
 use Rattle.abstract_paint.proofs.Unique.{ends_are_on_screen}
 use Rattle.cert_table.specs.declared.row.Row.{Row}
-use Rattle.cert_table.specs.Rows.{AreRows, AreOnScreen}
-use Rattle.cert_table.specs.Table.{table_fault}
+use Rattle.cert_table.specs.Table.{AreRows, AreOnScreen, table_fault}
 use Rattle.cert_table.proofs.Tables.{no_fault}
 use Rattle.checker.specs.declared.policy.Policy.{Policy}
 use Rattle.checker.specs.Good.{is_covered}
 use Rattle.checker.proofs.Clears.{good_cleared}
 use Rattle.finder.specs.declared.found.Discovered.{Discovered}
-use Rattle.finder.specs.Finds.{IsFinding}
-use Rattle.finder.specs.Walks.{IsDistance, EntryIsFound, IsReached}
-use Rattle.fault_scripts.specs.Gathered.{price_at, rank_at, IsMost}
+use Rattle.finder.specs.Finds.{IsFinding, IsDistance, EntryIsFound, IsReached}
+use Rattle.fault_scripts.specs.Loops.{price_at, rank_at, IsMost, AreSortedRows}
 use Rattle.fault_scripts.specs.Outcomes.{IsCertificateOf}
-use Rattle.fault_scripts.specs.SortedTable.{AreSortedRows}
 use Rattle.fault_scripts.proofs.Discoveries.{listed_once, reached_listed}
 use Rattle.fault_scripts.proofs.Gathering.{most_above, most_there}
 use Rattle.fault_scripts.proofs.GoodRows.{certificate, contained_covered, covered_row, row_is, row_there, reached_covered, good}

@@ -2,18 +2,17 @@
 use Rattle.std.proofs.Common.{◌≡◌, ◌<◌, ℕ, zero, suc, inl, inr, List, Bool, true, false, cond, Option, Some, None, slice_get, refl, sym, ◌∙◌, ap, subst, arith}
 use Rattle.std.proofs.lemmas.Bool.{cases_lt}
 use Rattle.std.proofs.lemmas.Option.{slice_get_within, get_or_from_slice_get}
-use Rattle.page_ids.specs.Id.{Id}
+use Rattle.page_ids.specs.Ids.{Id}
 use Rattle.page_ids.specs.declared.way.Way.{Way}
 use Rattle.frame_records.specs.declared.frame.Frame.{Frame}
 use Rattle.frame_records.specs.declared.base.Sought.TheVariants.{Found, Closed}
 use Rattle.frame_records.specs.declared.ways.Destination.TheVariants as way
-use Rattle.frame_records.specs.BaseView.{BaseView, frame_at}
+use Rattle.frame_records.specs.Bases.{BaseView, frame_at}
 use Rattle.frame_records.specs.Seek.{is_open, sought_of, seek, entry_of}
 use Rattle.frame_records.specs.Ways.{Leads}
 use Rattle.frame_records.specs.WayLaws.{going, found_sought}
 use Rattle.finder.specs.declared.found.Discovered.{Discovered}
-use Rattle.finder.specs.Walks.{Walk, IsRank, IsReached}
-use Rattle.finder.specs.Finds.{IsFinding}
+use Rattle.finder.specs.Finds.{Walk, IsRank, IsReached, IsFinding}
 use Rattle.fault_scripts.proofs.Lists.{of_all, place_of, contains_at}
 
 -- the record of an id that is found

@@ -3,13 +3,12 @@ use Rattle.std.proofs.Common.{◌≡◌, ℕ, List, get_or, sym, ap, subst, arit
 use Rattle.std.proofs.lemmas.List.Elements.{Contains-get_or}
 use Rattle.frame_records.specs.declared.base.Sought.TheVariants as sought
 use Rattle.frame_records.specs.declared.base.Sought.{Sought}
-use Rattle.frame_records.specs.BaseView.{BaseView}
+use Rattle.frame_records.specs.Bases.{BaseView}
 use Rattle.frame_records.specs.Seek.{seek_entry}
 use Rattle.checker.specs.declared.policy.Policy.{Policy}
 use Rattle.fault_scripts.specs.declared.fault.Fault.{Fault}
-use Rattle.fault_scripts.specs.Due.{IsOfPlace, turn_at}
+use Rattle.fault_scripts.specs.Faults.{IsOfPlace, turn_at, AreFaultsAlong, AreFaultsBy, AreFaults}
 use Rattle.fault_scripts.specs.FaultLaws.{FaultsAreDue}
-use Rattle.fault_scripts.specs.Faults.{AreFaultsAlong, AreFaultsBy, AreFaults}
 use Rattle.fault_scripts.proofs.Told.{own_place}
 
 -- if the entry frame is found, they are those of the discovered frames, and the other way round

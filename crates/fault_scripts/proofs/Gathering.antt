@@ -7,12 +7,12 @@ use Rattle.std.proofs.lemmas.List.Concat.{flat_map-append}
 use Rattle.std.proofs.lemmas.List.Elements.{All-push, All-weaker, Contains-append_left, Contains-push}
 use Rattle.std.proofs.lemmas.Option.{same_Some, slice_get-map}
 use Rattle.frame_records.specs.declared.frame.Frame.{Frame}
-use Rattle.frame_records.specs.BaseView.{BaseView, frame_at}
+use Rattle.frame_records.specs.Bases.{BaseView, frame_at}
 use Rattle.abstract_paint.specs.Paint.{paint_of}
 use Rattle.cert_table.specs.declared.row.Row.{Row}
 use Rattle.finder.specs.declared.found.Discovered.{Discovered}
 use Rattle.fault_scripts.specs.declared.table.GatheredRows.{GatheredRows}
-use Rattle.fault_scripts.specs.Gathered.{row_of, row_by, row_at, price_at, rank_at, IsMost, IsGathered}
+use Rattle.fault_scripts.specs.Loops.{row_of, row_by, row_at, price_at, rank_at, IsMost, IsGathered}
 use Rattle.fault_scripts.proofs.Lists.{of_all, place_of}
 
 most_more : (values : List ℕ) (most value : ℕ) → IsMost values most → IsMost (values ++ value ∷ []) (max most value)

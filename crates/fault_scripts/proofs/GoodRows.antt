@@ -3,27 +3,24 @@ use Rattle.std.proofs.Common.{◌≡◌, ◌<◌, ◌≤◌, inl, inr, ℕ, zero
 use Rattle.std.specs.Prelude.{◌↔◌, Contains}
 use Rattle.std.proofs.lemmas.List.Elements.{Contains-get_or, recursion_from_All}
 use Rattle.std.proofs.lemmas.Option.{same_Some}
-use Rattle.page_ids.specs.Id.{Id}
-use Rattle.page_ids.specs.Ids.{id_eq}
+use Rattle.page_ids.specs.Ids.{Id, id_eq}
 use Rattle.page_ids.specs.IdLaws.{id_eq_same, id_eq_refl}
 use Rattle.page_ids.specs.declared.way.Way.{Way}
 use Rattle.page_ids.specs.declared.way.Way.TheVariants.{Route, Next}
 use Rattle.frame_records.specs.declared.frame.Frame.{Frame}
 use Rattle.frame_records.specs.declared.ways.Destination.TheVariants as way
-use Rattle.frame_records.specs.BaseView.{BaseView, frame_at}
+use Rattle.frame_records.specs.Bases.{BaseView, frame_at}
 use Rattle.frame_records.specs.Seek.{seek, entry_of}
 use Rattle.frame_records.specs.Ways.{sought, Leads}
 use Rattle.frame_records.specs.WayLaws.{going, found_sought}
 use Rattle.list_words.proofs.Finds.{first_found, none_found}
 use Rattle.abstract_paint.proofs.Exact.{is_exact}
 use Rattle.cert_table.specs.declared.row.Row.{Row}
-use Rattle.cert_table.specs.Rows.{row_among}
-use Rattle.cert_table.specs.CertView.{CertView}
+use Rattle.cert_table.specs.Table.{row_among, CertView}
 use Rattle.checker.specs.declared.policy.Policy.{Policy}
 use Rattle.checker.specs.Good.{Good, IsGoodRow, LeadsDown, LeadsOn, is_covered}
 use Rattle.finder.specs.declared.found.Discovered.{Discovered}
-use Rattle.finder.specs.Finds.{IsFinding}
-use Rattle.finder.specs.Walks.{Walk, EntryIsFound, IsReached}
+use Rattle.finder.specs.Finds.{IsFinding, Walk, EntryIsFound, IsReached}
 use Rattle.fault_scripts.proofs.Discoveries.{reached_listed}
 use Rattle.fault_scripts.proofs.Rows.{row_with, IsRowOf, gathered, row_in, row_from}
 use Rattle.fault_scripts.proofs.Sound.{IsSound, GoesOn}

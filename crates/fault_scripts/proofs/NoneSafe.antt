@@ -2,15 +2,14 @@
 use Rattle.std.proofs.Common.{◌≡◌, List, [], ◌∷◌, refl, subst, arith}
 use Rattle.frame_records.specs.declared.base.Sought.{Sought}
 use Rattle.frame_records.specs.declared.base.Sought.TheVariants as sought
-use Rattle.frame_records.specs.BaseView.{BaseView, AreApart}
+use Rattle.frame_records.specs.Bases.{BaseView, AreApart}
 use Rattle.frame_records.specs.Seek.{seek_entry}
 use Rattle.checker.specs.declared.policy.Policy.{Policy}
 use Rattle.checker.specs.Safe.{Safe}
 use Rattle.checker.proofs.Steps.{safe}
-use Rattle.finder.specs.Walks.{EntryIsFound}
+use Rattle.finder.specs.Finds.{EntryIsFound}
 use Rattle.fault_scripts.specs.declared.fault.Fault.{Fault}
-use Rattle.fault_scripts.specs.Due.{IsDue}
-use Rattle.fault_scripts.specs.Faults.{AreFaultsAlong, AreFaultsBy, AreFaults}
+use Rattle.fault_scripts.specs.Faults.{IsDue, AreFaultsAlong, AreFaultsBy, AreFaults}
 use Rattle.fault_scripts.specs.FaultLaws.{NoneIsSafe}
 use Rattle.fault_scripts.proofs.GoodRows.{certificate, good}
 use Rattle.fault_scripts.proofs.Lists.{none_in}

@@ -3,15 +3,14 @@ use Rattle.std.proofs.Common.{◌≡◌, ◌<◌, ◌⊎◌, inl, inr, ℕ, zero
 use Rattle.std.specs.Prelude.{◌↔◌, Contains, AllPairs}
 use Rattle.frame_records.specs.declared.base.Sought.TheVariants as sought
 use Rattle.frame_records.specs.declared.base.Sought.{Sought}
-use Rattle.frame_records.specs.BaseView.{BaseView}
+use Rattle.frame_records.specs.Bases.{BaseView}
 use Rattle.frame_records.specs.Seek.{seek_entry}
 use Rattle.checker.specs.declared.policy.Policy.{Policy}
 use Rattle.finder.specs.declared.found.Discovered.{Discovered}
 use Rattle.finder.specs.Finds.{IsFinding}
 use Rattle.finder.proofs.OneFound.{one_found}
 use Rattle.fault_scripts.specs.declared.fault.Fault.{Fault}
-use Rattle.fault_scripts.specs.Due.{IsDue, StandsBefore}
-use Rattle.fault_scripts.specs.Faults.{AreDue, AreFaultsAlong, AreFaultsBy}
+use Rattle.fault_scripts.specs.Faults.{IsDue, StandsBefore, AreDue, AreFaultsAlong, AreFaultsBy}
 use Rattle.fault_scripts.specs.FaultLaws.{FaultsAreOne}
 use Rattle.fault_scripts.proofs.Lists.{none_in}
 use Rattle.fault_scripts.proofs.Told.{own_place}

@@ -1,22 +1,21 @@
 -- The result of a session, key by key. The caller is the list of the groups to which the caller belongs.
 use Rattle.std.proofs.Common.{◌≡◌, ℕ, List, [], ◌∷◌, ◌++◌, refl, ◌∙◌, ap, subst}
-use Rattle.page_ids.specs.Id.{Id}
+use Rattle.page_ids.specs.Ids.{Id}
 use Rattle.page_ids.specs.Ways.{way_key}
 use Rattle.page_ids.specs.declared.key.Key.{Key}
 use Rattle.page_ids.specs.declared.way.Way.{Way}
 use Rattle.page_ids.specs.declared.way.Way.TheVariants.{Route, Next}
 use Rattle.frame_records.specs.declared.base.Sought.TheVariants as sought
-use Rattle.frame_records.specs.BaseView.{BaseView}
+use Rattle.frame_records.specs.Bases.{BaseView}
 use Rattle.frame_records.specs.Seek.{seek}
 use Rattle.frame_records.specs.Ways.{destination, Leads}
 use Rattle.session_machine.specs.declared.reply.Reply.{Reply}
 use Rattle.session_machine.specs.declared.reply.Reply.TheVariants.{Shown}
-use Rattle.session_machine.specs.State.{SessionState, At}
-use Rattle.session_machine.specs.Step.{Outcome, key_step, remember, by_way}
+use Rattle.session_machine.specs.Sessions.{SessionState, At, Outcome, key_step, remember, by_way}
 use Rattle.session_machine.specs.Runs.{state_after, replies_to}
 use Rattle.session_machine.proofs.Runs.{state_in_turn, replies_in_turn}
-use Rattle.finder.specs.Walks.{KeysLead}
-use Rattle.fault_scripts.specs.Replays.{last_of}
+use Rattle.finder.specs.Finds.{KeysLead}
+use Rattle.fault_scripts.specs.Shows.{last_of}
 use Rattle.fault_scripts.proofs.Discoveries.{leads_found}
 
 -- a way's key does what its way does

@@ -2,7 +2,7 @@
 use Rattle.std.proofs.Common.{◌≡◌, inl, inr, ℕ, Bool, true, false, cond, List, [], ◌∷◌, Some, refl, sym, ◌∙◌, ap, subst}
 use Rattle.std.specs.Prelude.{Contains}
 use Rattle.std.proofs.lemmas.List.Elements.{Contains-push_cases}
-use Rattle.page_ids.specs.Id.{Id}
+use Rattle.page_ids.specs.Ids.{Id}
 use Rattle.page_ids.specs.Ways.{way_key}
 use Rattle.page_ids.specs.declared.key.Key.{Key}
 use Rattle.frame_records.specs.declared.frame.Frame.{Frame}
@@ -10,24 +10,19 @@ use Rattle.frame_records.specs.declared.base.Sought.{Sought}
 use Rattle.frame_records.specs.declared.base.Sought.TheVariants as sought
 use Rattle.frame_records.specs.declared.ways.Destination.{Destination}
 use Rattle.frame_records.specs.declared.ways.Destination.TheVariants as way
-use Rattle.frame_records.specs.BaseView.{BaseView, frame_at}
+use Rattle.frame_records.specs.Bases.{BaseView, frame_at}
 use Rattle.frame_records.specs.Seek.{seek, sought_of, is_open, entry_of, seek_entry}
 use Rattle.session_machine.specs.declared.reply.Reply.{Reply}
 use Rattle.session_machine.specs.declared.reply.Reply.TheVariants.{Shown, Missing, Closed}
-use Rattle.session_machine.specs.State.{SessionState, At, present}
-use Rattle.session_machine.specs.Step.{Outcome, key_step, by_way}
-use Rattle.session_machine.specs.Open.{opening, opening_reply}
+use Rattle.session_machine.specs.Sessions.{SessionState, At, present, Outcome, key_step, by_way, opening, opening_reply}
 use Rattle.checker.specs.declared.policy.Policy.{Policy}
-use Rattle.finder.specs.Walks.{KeysLead}
+use Rattle.finder.specs.Finds.{KeysLead}
 use Rattle.fault_scripts.specs.declared.fault.Fault.{Fault}
 use Rattle.fault_scripts.specs.declared.fault.FaultKind.{FaultKind}
 use Rattle.fault_scripts.specs.declared.fault.FaultKind.TheVariants as kind
-use Rattle.fault_scripts.specs.Due.{PriceIsDue, TouchIsDue, KeyIsDue, NoReturnIsDue, IsDueAs}
+use Rattle.fault_scripts.specs.Faults.{PriceIsDue, TouchIsDue, KeyIsDue, NoReturnIsDue, IsDueAs, AreFaultsBy, plain_fault, price_fault, touch_fault, key_fault}
 use Rattle.fault_scripts.specs.FaultLaws.{FaultsAreShown}
-use Rattle.fault_scripts.specs.Faults.{AreFaultsBy}
-use Rattle.fault_scripts.specs.Makers.{plain_fault, price_fault, touch_fault, key_fault}
-use Rattle.fault_scripts.specs.Replays.{last_state}
-use Rattle.fault_scripts.specs.Shows.{ShowsPrice, ShowsTouch, ShowsKey, ShowsNoReturn, ShowsAs, Shows}
+use Rattle.fault_scripts.specs.Shows.{last_state, ShowsPrice, ShowsTouch, ShowsKey, ShowsNoReturn, ShowsAs, Shows}
 use Rattle.fault_scripts.proofs.Lists.{none_in}
 use Rattle.fault_scripts.proofs.Sessions.{RunsTo, keys_lead_run, way_is, state_and_key, last_and_key}
 

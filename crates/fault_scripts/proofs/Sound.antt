@@ -1,7 +1,7 @@
 -- What holds of each discovered frame if there is no fault.
 use Rattle.std.proofs.Common.{◌≡◌, ◌<◌, ◌≤◌, ◌⊎◌, inl, inr, ℕ, nat_lt, Bool, true, false, cond, List, Option, Some, None, slice_get, refl, arith}
 use Rattle.std.proofs.lemmas.Bool.Decides.{nat_tests}
-use Rattle.page_ids.specs.Id.{Id}
+use Rattle.page_ids.specs.Ids.{Id}
 use Rattle.page_ids.specs.Ways.{way_key}
 use Rattle.page_ids.specs.declared.way.Way.{Way}
 use Rattle.page_ids.specs.declared.way.Way.TheVariants.{Route, Next}
@@ -10,7 +10,7 @@ use Rattle.frame_records.specs.declared.base.Sought.{Sought}
 use Rattle.frame_records.specs.declared.base.Sought.TheVariants as sought
 use Rattle.frame_records.specs.declared.ways.Destination.{Destination}
 use Rattle.frame_records.specs.declared.ways.Destination.TheVariants as way
-use Rattle.frame_records.specs.BaseView.{BaseView, frame_at, lists_outside}
+use Rattle.frame_records.specs.Bases.{BaseView, frame_at, lists_outside}
 use Rattle.frame_records.specs.Seek.{is_open, seek, entry_of}
 use Rattle.frame_records.specs.Ways.{destination, sought, sought_by, Leads}
 use Rattle.frame_records.specs.WayLaws.{goes}
@@ -18,20 +18,16 @@ use Rattle.abstract_paint.specs.declared.start.Start.{Start}
 use Rattle.abstract_paint.specs.declared.cursor.AbsCursor.{AbsCursor}
 use Rattle.abstract_paint.specs.declared.painting.Painted.TheVariants.{Clean}
 use Rattle.abstract_paint.specs.Paint.{paint_of}
-use Rattle.abstract_paint.specs.Start.{IsStart}
-use Rattle.abstract_paint.specs.StartOf.{start_of}
+use Rattle.abstract_paint.specs.Start.{IsStart, start_of}
 use Rattle.abstract_paint.proofs.Exact.{is_exact}
 use Rattle.abstract_paint.proofs.LeastStart.{is_start}
-use Rattle.terminal_codes.specs.Touch.{IsClean}
+use Rattle.terminal_codes.specs.Bodies.{IsClean}
 use Rattle.checker.specs.declared.policy.Policy.{Policy}
 use Rattle.finder.specs.declared.found.Discovered.{Discovered}
-use Rattle.finder.specs.Finds.{IsFinding}
-use Rattle.finder.specs.Scripts.{script}
-use Rattle.finder.specs.Walks.{Walk, IsDistance, IsRank, IsReached}
+use Rattle.finder.specs.Finds.{IsFinding, script, Walk, IsDistance, IsRank, IsReached}
 use Rattle.fault_scripts.specs.declared.fault.Fault.{Fault}
 use Rattle.fault_scripts.specs.declared.fault.FaultKind.TheVariants as kind
-use Rattle.fault_scripts.specs.Due.{IsDueAs, IsDue}
-use Rattle.fault_scripts.specs.Makers.{plain_fault, price_fault, touch_fault, key_fault}
+use Rattle.fault_scripts.specs.Faults.{IsDueAs, IsDue, plain_fault, price_fault, touch_fault, key_fault}
 use Rattle.fault_scripts.proofs.Discoveries.{IsDiscovered, listed_frame}
 
 -- the frame that a way seeks is found, or a route leads to an outside page

@@ -8,23 +8,21 @@ use Rattle.std.proofs.lemmas.List.{append-nil}
 use Rattle.std.proofs.lemmas.List.Elements.{All-nil, All-push, All-weaker, All-get_or, Contains-append_left, Contains-push}
 use Rattle.std.proofs.lemmas.List.Quantifiers.{all_pairs_push}
 use Rattle.std.proofs.lemmas.Option.{same_Some, slice_get_within}
-use Rattle.page_ids.specs.Id.{Id}
+use Rattle.page_ids.specs.Ids.{Id}
 use Rattle.page_ids.specs.declared.key.Key.{Key}
 use Rattle.frame_records.specs.declared.frame.Frame.{Frame}
-use Rattle.frame_records.specs.BaseView.{BaseView, frame_at}
+use Rattle.frame_records.specs.Bases.{BaseView, frame_at}
 use Rattle.checker.specs.declared.policy.Policy.{Policy}
 use Rattle.finder.specs.declared.found.Discovered.{Discovered}
-use Rattle.finder.specs.Finds.{IsFinding}
-use Rattle.finder.specs.Scripts.{script}
+use Rattle.finder.specs.Finds.{IsFinding, script}
 use Rattle.finder.specs.Survey.{IsFrameAt, SurveyView}
 use Rattle.fault_scripts.specs.declared.fault.Fault.{Fault}
 use Rattle.fault_scripts.specs.declared.flaw.Flaw.{Flaw}
 use Rattle.fault_scripts.specs.declared.flaw.Flaw.TheVariants.{Price, Touches, Missing, Closed, NoReturn}
 use Rattle.fault_scripts.specs.declared.teller.Teller.{Teller}
-use Rattle.fault_scripts.specs.Due.{IsDue, IsOfPlace, StandsBefore, turn_of, turn_at}
-use Rattle.fault_scripts.specs.Faults.{AreDue}
+use Rattle.fault_scripts.specs.Faults.{IsDue, IsOfPlace, StandsBefore, turn_of, turn_at, AreDue}
 use Rattle.fault_scripts.specs.Flaws.{fault_of, asked}
-use Rattle.fault_scripts.specs.Judged.{HasScript, IsDueBelow, IsTold, IsTelling}
+use Rattle.fault_scripts.specs.Loops.{HasScript, IsDueBelow, IsTold, IsTelling}
 use Rattle.fault_scripts.proofs.Asked.{IsAnswer, asked_due, due_asked}
 use Rattle.fault_scripts.proofs.Discoveries.{listed_frame, listed_once}
 

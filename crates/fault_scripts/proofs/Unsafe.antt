@@ -2,7 +2,7 @@
 use Rattle.std.proofs.Common.{◌≡◌, ◌≤◌, ◌⊎◌, inl, inr, ℕ, zero, suc, List, [], ◌∷◌, ◌++◌, Some, length, refl, sym, ◌∙◌, ap, subst, arith}
 use Rattle.std.specs.List.{AllByRecursion}
 use Rattle.std.proofs.lemmas.Option.{same_Some}
-use Rattle.page_ids.specs.Id.{Id}
+use Rattle.page_ids.specs.Ids.{Id}
 use Rattle.page_ids.specs.declared.key.Key.{Key}
 use Rattle.page_ids.specs.declared.key.Key.TheVariants as key
 use Rattle.page_ids.specs.declared.way.Way.{Way}
@@ -12,26 +12,22 @@ use Rattle.frame_records.specs.declared.base.Sought.{Sought}
 use Rattle.frame_records.specs.declared.base.Sought.TheVariants as sought
 use Rattle.frame_records.specs.declared.ways.Destination.{Destination}
 use Rattle.frame_records.specs.declared.ways.Destination.TheVariants as way
-use Rattle.frame_records.specs.BaseView.{BaseView}
+use Rattle.frame_records.specs.Bases.{BaseView}
 use Rattle.frame_records.specs.Seek.{entry_of, seek_entry}
 use Rattle.frame_records.specs.Ways.{destination, Leads}
 use Rattle.session_machine.specs.declared.reply.Reply.{Reply}
 use Rattle.session_machine.specs.declared.reply.Reply.TheVariants.{Again, Missing, Closed}
-use Rattle.session_machine.specs.State.{SessionState, At, Left, present}
-use Rattle.session_machine.specs.Step.{key_step, remember, by_way}
-use Rattle.session_machine.specs.Open.{opening, opening_reply}
-use Rattle.session_machine.specs.Runs.{state_after, replies_to}
-use Rattle.session_machine.specs.Safe.{IsForward, Regains, LeftOrRegains, IsFairReply}
+use Rattle.session_machine.specs.Sessions.{SessionState, At, Left, present, key_step, remember, by_way, opening, opening_reply}
+use Rattle.session_machine.specs.Runs.{state_after, replies_to, IsForward, Regains, LeftOrRegains, IsFairReply}
 use Rattle.session_machine.proofs.Runs.{away_state}
-use Rattle.terminal_codes.specs.Touch.{IsClean}
+use Rattle.terminal_codes.specs.Bodies.{IsClean}
 use Rattle.checker.specs.declared.policy.Policy.{Policy}
 use Rattle.checker.specs.Safe.{Safe, IsCleanAt, IsCleanReply}
-use Rattle.finder.specs.Walks.{Walk}
+use Rattle.finder.specs.Finds.{Walk}
 use Rattle.fault_scripts.specs.declared.fault.Fault.{Fault}
 use Rattle.fault_scripts.specs.declared.fault.FaultKind.{FaultKind}
 use Rattle.fault_scripts.specs.declared.fault.FaultKind.TheVariants as kind
-use Rattle.fault_scripts.specs.Replays.{last_of, last_reply, last_state}
-use Rattle.fault_scripts.specs.Shows.{ShowsEntry, ShowsPrice, ShowsTouch, ShowsKey, ShowsNoReturn, ShowsAs, Shows}
+use Rattle.fault_scripts.specs.Shows.{last_of, last_reply, last_state, ShowsEntry, ShowsPrice, ShowsTouch, ShowsKey, ShowsNoReturn, ShowsAs, Shows}
 use Rattle.fault_scripts.proofs.Sessions.{last_and_key}
 
 -- what holds of each reply, and of the one before, holds of the last

@@ -1,7 +1,7 @@
 -- What the list of faults says, of every base and policy, for a caller of exactly the policy's groups.
 use Rattle.std.specs.Prelude.{◌≡◌, ◌≢◌, ◌↔◌, ℕ, List, [], Contains, AllPairs}
 use Rattle.frame_records.specs.declared.base.Sought.TheVariants as sought
-use Rattle.frame_records.specs.BaseView.{BaseView, AreApart}
+use Rattle.frame_records.specs.Bases.{BaseView, AreApart}
 use Rattle.frame_records.specs.Seek.{seek_entry}
 use Rattle.checker.specs.declared.policy.Policy.{Policy}
 use Rattle.checker.specs.Safe.{Safe}

@@ -1,22 +1,22 @@
 -- What is asked of a discovered frame, in turn, and what each answer is, for a caller of exactly the policy's groups.
 use Rattle.std.specs.Prelude.{ℕ, ◌-◌, ◌==◌, Bool, true, List, Option, Some, None, option_map, nat_lt, if◌then◌else◌}
-use Rattle.page_ids.specs.Id.{Id}
+use Rattle.page_ids.specs.Ids.{Id}
 use Rattle.page_ids.specs.declared.key.Key.{Key}
 use Rattle.page_ids.specs.declared.way.Way.{Way}
 use Rattle.page_ids.specs.Ways.{way_at, way_key}
 use Rattle.frame_records.specs.declared.frame.Frame.{Frame}
 use Rattle.frame_records.specs.declared.ways.Destination.{Destination}
 use Rattle.frame_records.specs.declared.ways.Destination.TheVariants as way
-use Rattle.frame_records.specs.BaseView.{BaseView}
+use Rattle.frame_records.specs.Bases.{BaseView}
 use Rattle.frame_records.specs.Ways.{destination_of}
 use Rattle.abstract_paint.specs.Paint.{paint_of}
-use Rattle.abstract_paint.specs.StartOf.{start_of}
+use Rattle.abstract_paint.specs.Start.{start_of}
 use Rattle.checker.specs.declared.policy.Policy.{Policy}
 use Rattle.fault_scripts.specs.declared.fault.Fault.{Fault}
 use Rattle.fault_scripts.specs.declared.fault.FaultKind.TheVariants as kind
 use Rattle.fault_scripts.specs.declared.flaw.Flaw.{Flaw}
 use Rattle.fault_scripts.specs.declared.flaw.Flaw.TheVariants.{Price, Touches, Missing, Closed, NoReturn}
-use Rattle.fault_scripts.specs.Makers.{plain_fault, price_fault, touch_fault, key_fault}
+use Rattle.fault_scripts.specs.Faults.{plain_fault, price_fault, touch_fault, key_fault}
 
 -- the fault of a frame to which the keys lead
 abbrev pub fault_of : Id → List Key → Flaw → Fault

@@ -1,11 +1,6 @@
-pub mod Makers
 pub mod Flaws
-pub mod Replays
-pub mod Shows
-pub mod Due
-pub mod Faults
 pub mod FaultLaws
 pub mod Outcomes
-pub mod Gathered
-pub mod Judged
-pub mod SortedTable
+pub mod Loops
+pub mod Shows
+pub mod Faults

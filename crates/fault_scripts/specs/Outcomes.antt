@@ -1,18 +1,17 @@
 -- What the audit answers, for a caller of exactly the policy's groups.
 use Rattle.std.specs.Prelude.{◌≡◌, ◌≢◌, ◌≤◌, ◌↔◌, ℕ, true, List, [], Some, Contains}
-use Rattle.page_ids.specs.Id.{Id}
+use Rattle.page_ids.specs.Ids.{Id}
 use Rattle.frame_records.specs.declared.frame.Frame.{Frame}
-use Rattle.frame_records.specs.BaseView.{BaseView, frame_at}
-use Rattle.abstract_paint.specs.Cursor.{Ends}
+use Rattle.frame_records.specs.Bases.{BaseView, frame_at}
+use Rattle.abstract_paint.specs.Paint.{Ends}
 use Rattle.cert_table.specs.declared.row.Row.{Row}
-use Rattle.cert_table.specs.Rows.{AreRows}
-use Rattle.cert_table.specs.CertView.{CertView}
+use Rattle.cert_table.specs.Table.{AreRows, CertView}
 use Rattle.checker.specs.declared.policy.Policy.{Policy}
 use Rattle.checker.specs.declared.verdict.Verdict.TheVariants.{Cleared}
 use Rattle.checker.specs.Good.{is_covered}
 use Rattle.checker.specs.Safe.{Safe}
 use Rattle.checker.specs.Verdict.{verdict}
-use Rattle.finder.specs.Walks.{IsReached, IsDistance}
+use Rattle.finder.specs.Finds.{IsReached, IsDistance}
 use Rattle.fault_scripts.specs.declared.fault.Fault.{Fault}
 use Rattle.fault_scripts.specs.declared.outcome.Outcome.{Outcome}
 use Rattle.fault_scripts.specs.declared.outcome.Outcome.TheVariants.{Certified, Faulty}

@@ -1,23 +1,50 @@
--- What bears a fault out: the result of its script, run as a session of a caller of exactly the policy's groups.
-use Rattle.std.specs.Prelude.{◌≡◌, ◌≤◌, ◌<◌, ◌++◌, ◌∷◌, [], ℕ, List, Some}
-use Rattle.page_ids.specs.Id.{Id}
+-- The result of a session of a list of keys. The caller is the list of the groups to which the caller belongs.
+use Rattle.std.specs.Prelude.{◌≡◌, ℕ, List, [], ◌∷◌, Result, Ok, Err, ◌≤◌, ◌<◌, ◌++◌, Some}
 use Rattle.page_ids.specs.declared.key.Key.{Key}
+use Rattle.frame_records.specs.declared.base.Sought.TheVariants.{Found}
+use Rattle.frame_records.specs.Bases.{BaseView, frame_at}
+use Rattle.session_machine.specs.declared.reply.Reply.{Reply}
+use Rattle.session_machine.specs.declared.session.OpenFault.{OpenFault}
+use Rattle.session_machine.specs.Sessions.{SessionState, present, opening, opening_reply, IsOpenFault}
+use Rattle.frame_records.specs.Seek.{seek_entry, entry_of}
+use Rattle.session_machine.specs.Runs.{state_after, replies_to}
+use Rattle.fault_scripts.specs.declared.replaying.Replayed.{Replayed}
+use Rattle.page_ids.specs.Ids.{Id}
 use Rattle.frame_records.specs.declared.frame.Frame.{Frame}
 use Rattle.frame_records.specs.declared.base.Sought.{Sought}
 use Rattle.frame_records.specs.declared.base.Sought.TheVariants as sought
-use Rattle.frame_records.specs.BaseView.{BaseView, frame_at}
 use Rattle.abstract_paint.specs.declared.start.Start.{Start}
 use Rattle.abstract_paint.specs.Start.{IsLeastStart}
-use Rattle.session_machine.specs.declared.reply.Reply.{Reply}
 use Rattle.session_machine.specs.declared.reply.Reply.TheVariants.{Shown, Missing, Closed}
-use Rattle.session_machine.specs.State.{present}
-use Rattle.frame_records.specs.Seek.{entry_of, seek_entry}
 use Rattle.checker.specs.declared.policy.Policy.{Policy}
-use Rattle.finder.specs.Walks.{Walk}
+use Rattle.finder.specs.Finds.{Walk}
 use Rattle.fault_scripts.specs.declared.fault.Fault.{Fault}
 use Rattle.fault_scripts.specs.declared.fault.FaultKind.{FaultKind}
 use Rattle.fault_scripts.specs.declared.fault.FaultKind.TheVariants as kind
-use Rattle.fault_scripts.specs.Replays.{last_reply, last_state}
+
+-- the last of some replies, which follow another
+abbrev pub last_of : Reply → List Reply → Reply
+last_of reply [] = reply
+last_of reply (next ∷ replies) = last_of next replies
+
+-- the last reply of a session whose entry frame has the price; without keys the opening one
+abbrev pub last_reply : List ℕ → BaseView → List Key → ℕ → Reply
+last_reply caller base keys price = last_of (opening_reply base price) (replies_to caller base (opening base) keys)
+
+-- the state in which it ends
+abbrev pub last_state : List ℕ → BaseView → List Key → SessionState
+last_state caller base keys = state_after caller base (opening base) keys
+
+-- the last reply and the present frame
+abbrev pub replayed : List ℕ → BaseView → List Key → ℕ → Replayed
+replayed caller base keys price = record { last = last_reply caller base keys price; at = present (last_state caller base keys) }
+
+-- the session's end, or why it isn't opened
+abbrev pub IsReplayed : List ℕ → BaseView → List Key → Result Replayed OpenFault → Type 0
+IsReplayed caller base keys (Ok end) = (price : ℕ) × (seek_entry caller base ≡ Found price) × (end ≡ replayed caller base keys price)
+IsReplayed caller base keys (Err fault) = IsOpenFault caller base fault
+
+-- What bears a fault out: the result of its script, run as a session of a caller of exactly the policy's groups.
 
 -- no session is opened: seeking the entry frame comes to this
 pub record ShowsEntry (caller : List ℕ) (base : BaseView) (fault : Fault) (what : Sought) : Type 0 where

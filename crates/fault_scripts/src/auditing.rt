@@ -1,12 +1,10 @@
 ghost use Rattle.std.specs.Prelude.{◌≡◌, ◌∷◌, [], IfOk};
-ghost use Rattle.frame_records.specs.BaseView.{IsBase};
+ghost use Rattle.frame_records.specs.Bases.{IsBase};
 ghost use Rattle.frame_records.specs.Seek.{entry_of};
-ghost use Rattle.finder.specs.Walks.{EntryIsFound};
-ghost use Rattle.fault_scripts.specs.Makers.{plain_fault};
-ghost use Rattle.fault_scripts.specs.Faults.{AreFaults};
-ghost use Rattle.fault_scripts.specs.Judged.{IsWhole};
+ghost use Rattle.finder.specs.Finds.{EntryIsFound};
+ghost use Rattle.fault_scripts.specs.Faults.{plain_fault, AreFaults};
+ghost use Rattle.fault_scripts.specs.Loops.{IsWhole, IsTableInOrder, IsSortedTable};
 ghost use Rattle.fault_scripts.specs.Outcomes.{IsOutcome, DecidesSafety, AreShown};
-ghost use Rattle.fault_scripts.specs.SortedTable.{IsTableInOrder, IsSortedTable};
 
 use crate::fault::{Fault, FaultKind, FaultList};
 use crate::frames::{Judge, judge_all};

@@ -1,5 +1,5 @@
 ghost use Rattle.std.specs.Prelude.{◌≡◌, ◌++◌, ◌∷◌, [], IfOk};
-ghost use Rattle.fault_scripts.specs.Makers.{plain_fault, price_fault, touch_fault, key_fault};
+ghost use Rattle.fault_scripts.specs.Faults.{plain_fault, price_fault, touch_fault, key_fault};
 
 use abstract_paint::Start;
 use frame_records::Pence;

@@ -1,6 +1,6 @@
 ghost use Rattle.std.specs.Prelude.{◌≡◌, IfOk, option_map};
 ghost use Rattle.abstract_paint.specs.Paint.{paint_of};
-ghost use Rattle.abstract_paint.specs.StartOf.{start_of};
+ghost use Rattle.abstract_paint.specs.Start.{start_of};
 ghost use Rattle.fault_scripts.specs.declared.flaw.Flaw.TheVariants as flaw;
 ghost use Rattle.fault_scripts.specs.Flaws.{fault_of, price_flaw, way_flaw, is_far, return_flaw};
 

@@ -1,6 +1,6 @@
 ghost use Rattle.std.specs.Prelude.{◌≡◌, ◌<◌, ◌≤◌, ◌+◌, IfOk, OnOk, length};
 ghost use Rattle.finder.specs.Finds.{IsFinding};
-ghost use Rattle.fault_scripts.specs.Judged.{IsJudged};
+ghost use Rattle.fault_scripts.specs.Loops.{IsJudged};
 
 use crate::table::GatheredRows;
 use crate::teller::{Teller, discovered_at};

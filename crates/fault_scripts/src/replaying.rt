@@ -1,4 +1,4 @@
-ghost use Rattle.fault_scripts.specs.Replays.{IsReplayed};
+ghost use Rattle.fault_scripts.specs.Shows.{IsReplayed};
 
 use frame_records::{Base, Groups};
 use page_ids::{FrameId, KeyList};

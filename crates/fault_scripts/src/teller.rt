@@ -1,10 +1,10 @@
 ghost use Rattle.std.specs.Prelude.{◌≡◌, ◌<◌, ◌*◌, ◌+◌, ◌++◌, [], None, Some, OnOk, length, slice_get, option_map};
 ghost use Rattle.std.specs.Option.{option_to_list};
 ghost use Rattle.abstract_paint.specs.Paint.{paint_of};
-ghost use Rattle.finder.specs.Scripts.{ScriptsExtend, script};
+ghost use Rattle.finder.specs.Finds.{ScriptsExtend, script};
 ghost use Rattle.finder.specs.Survey.{IsFrameAt};
 ghost use Rattle.fault_scripts.specs.Flaws.{fault_of};
-ghost use Rattle.fault_scripts.specs.Judged.{HasScript, CanLead, IsTelling};
+ghost use Rattle.fault_scripts.specs.Loops.{HasScript, CanLead, IsTelling};
 
 use crate::fault::Fault;
 use crate::flaw::{Flaw, price_flaw, return_flaw, touch_flaw, way_flaw};

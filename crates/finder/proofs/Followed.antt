@@ -2,7 +2,7 @@
 use Rattle.std.proofs.Common.{◌≡◌, ◌≢◌, ℕ, List, Bool, true, false, cond, Option, Some, None, ◌<◌, ◌≤◌, ◌+◌, ◌*◌, get_or, slice_get, refl, sym, ◌∙◌, ap, arith}
 use Rattle.std.specs.Prelude.{option_map}
 use Rattle.std.proofs.lemmas.Option.{same_Some, slice_get_within}
-use Rattle.page_ids.specs.Id.{Id}
+use Rattle.page_ids.specs.Ids.{Id}
 use Rattle.page_ids.specs.declared.way.Way.{Way}
 use Rattle.page_ids.specs.declared.way.Way.TheVariants.{Route, Next}
 use Rattle.page_ids.specs.Ways.{way_at}
@@ -10,7 +10,7 @@ use Rattle.frame_records.specs.declared.frame.Frame.{Frame}
 use Rattle.frame_records.specs.declared.base.Sought.{Sought}
 use Rattle.frame_records.specs.declared.base.Sought.TheVariants as sought_is
 use Rattle.frame_records.specs.declared.ways.Destination.TheVariants as destination_is
-use Rattle.frame_records.specs.BaseView.{BaseView, lists_outside}
+use Rattle.frame_records.specs.Bases.{BaseView, lists_outside}
 use Rattle.frame_records.specs.Seek.{seek}
 use Rattle.frame_records.specs.Ways.{sought, sought_by, missing_by, offered_by, destination_of}
 use Rattle.finder.specs.declared.aim.Aim.{Aim}

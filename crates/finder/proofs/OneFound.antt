@@ -1,7 +1,7 @@
 -- Two lists of the reached frames with their ranks are one.
 use Rattle.std.proofs.Common.{◌≡◌, ◌<◌, ◌≤◌, ℕ, zero, suc, add-one, List, [], ◌∷◌, Option, Some, None, slice_get, refl, sym, ◌∙◌, ap, subst, ⊎_elim, arith}
 use Rattle.finder.proofs.Words.{cases_lt, same_Some, slice_get_within, Id, Key, way_at, way_key, BaseView, Leads, Discovered, number, Pair, HasPair, PairLeads, IsBefore, HasFirstPair, FindsReached, RanksAreLeast, IsRank}
-use Rattle.finder.specs.FoundLaws.{FoundIsOne}
+use Rattle.finder.specs.Finds.{FoundIsOne}
 use Rattle.finder.proofs.Lists.{all_at, pairs_at, none_past}
 use Rattle.finder.proofs.Listed.{number_before, before_number, one_end, way_known}
 use Rattle.finder.proofs.Scripted.{one_index, listed_at, reached_at, earlier}

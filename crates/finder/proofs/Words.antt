@@ -8,32 +8,27 @@ pub use Rattle.std.proofs.lemmas.List.Sums.{count_by-le-length, sum_by-set}
 pub use Rattle.std.proofs.lemmas.Option.{slice_get_cases, get_or_from_slice_get, same_Some, slice_get-get_or, slice_get-map, slice_get_read, slice_get_within}
 pub use Rattle.std.specs.List.Sorted.{IsBinarySearchResult}
 pub use Rattle.std.specs.List.{AllWithin}
-pub use Rattle.page_ids.specs.Id.{Id}
+pub use Rattle.page_ids.specs.Ids.{Id, id_cmp, id_eq}
 pub use Rattle.page_ids.specs.IdLaws.{id_cmp_total, id_eq_refl, id_eq_same}
-pub use Rattle.page_ids.specs.Ids.{id_cmp, id_eq}
 pub use Rattle.page_ids.specs.WayLaws.{place_at}
 pub use Rattle.page_ids.specs.Ways.{way_at, way_key, way_place}
 pub use Rattle.page_ids.specs.declared.key.Key.{Key}
 pub use Rattle.page_ids.specs.declared.way.Way.{Way}
 pub use Rattle.list_words.proofs.Finds.{find_first, find_none}
 pub use Rattle.frame_records.proofs.SortedFrames.{apart_at, ascending_sorted, found_at}
-pub use Rattle.frame_records.specs.BaseView.{BaseView, IsAscending, frame_among, frame_at}
+pub use Rattle.frame_records.specs.Bases.{BaseView, IsAscending, frame_among, frame_at}
 pub use Rattle.frame_records.specs.Seek.{entry_of, is_open, seek, seek_entry, sought_of}
 pub use Rattle.frame_records.specs.WayLaws.{found_sought, frame_id, going, offered_place}
 pub use Rattle.frame_records.specs.Ways.{Leads, destination, destination_by, destination_of, missing_by, offered_by, sought, sought_by}
 pub use Rattle.frame_records.specs.declared.frame.Frame.{Frame}
 pub use Rattle.smallvec.specs.SmallVec.{SmallVec}
-pub use Rattle.finder.specs.Discovery.{AreMarked, AreNamed, IsDiscovery, IsListed, number}
+pub use Rattle.finder.specs.Loops.{AreMarked, AreNamed, IsDiscovery, IsListed, number, HasRank, IsClosed, IsSearch, AreTurned, HasSource, IsSourceList, LeadsTo}
 pub use Rattle.finder.specs.Entries.{IsEntryNode}
-pub use Rattle.finder.specs.Finds.{FindsReached, HasFirstPair, HasPair, IsBefore, IsFinding, Pair, PairLeads, RanksAreLeast}
+pub use Rattle.finder.specs.Finds.{FindsReached, HasFirstPair, HasPair, IsBefore, IsFinding, Pair, PairLeads, RanksAreLeast, ScriptsLead, keys_along, keys_back, parent_by, parent_of, script, EntryIsFound, IsRank, IsReached, KeysLead, Walk}
 pub use Rattle.finder.specs.Graph.{Goes, IsNodeRank, NodeWalk}
 pub use Rattle.finder.specs.Notes.{AreNotes, IsNote, IsSeen, IsSought, target_at}
-pub use Rattle.finder.specs.Scripts.{ScriptsLead, keys_along, keys_back, parent_by, parent_of, script}
-pub use Rattle.finder.specs.Search.{HasRank, IsClosed, IsSearch}
 pub use Rattle.finder.specs.Survey.{SurveyView, aim_of}
 pub use Rattle.finder.specs.Targets.{AreTargets, IsTarget, aim_at, id_at, node_of}
-pub use Rattle.finder.specs.Turned.{AreTurned, HasSource, IsSourceList, LeadsTo}
-pub use Rattle.finder.specs.Walks.{EntryIsFound, IsRank, IsReached, KeysLead, Walk}
 pub use Rattle.finder.specs.declared.discover.Discovery.{Discovery}
 pub use Rattle.finder.specs.declared.found.Discovered.{Discovered}
 pub use Rattle.finder.specs.declared.graph.Graph.{Graph}

@@ -1,12 +1,12 @@
 -- A discovered frame, and the entry frame among all.
 use Rattle.std.specs.Prelude.{◌≡◌, ℕ, List, Option, Some, None, option_map}
-use Rattle.page_ids.specs.Id.{Id}
+use Rattle.page_ids.specs.Ids.{Id}
 use Rattle.page_ids.specs.Ways.{way_at, way_key}
-use Rattle.frame_records.specs.BaseView.{BaseView}
+use Rattle.frame_records.specs.Bases.{BaseView}
 use Rattle.frame_records.specs.Seek.{entry_of}
 use Rattle.finder.specs.declared.found.Discovered.{Discovered}
 use Rattle.finder.specs.Targets.{id_at}
-use Rattle.finder.specs.Walks.{EntryIsFound}
+use Rattle.finder.specs.Finds.{EntryIsFound}
 
 -- a listed frame, with its rank, and with its parent and the key that led from it
 abbrev pub discovered_of : Id → Option ℕ → Option (ℕ × ℕ) → Discovered

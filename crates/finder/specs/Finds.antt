@@ -1,14 +1,84 @@
--- What the list of discovered frames says of its base. The caller is the list of the groups to which the caller belongs.
-use Rattle.std.specs.Prelude.{◌≡◌, ◌≢◌, ◌<◌, ◌≤◌, ◌+◌, ◌↔◌, ◌⊎◌, ℕ, List, [], Some, None, slice_get, length, All, AllPairs, Any}
-use Rattle.page_ids.specs.Id.{Id}
+-- Walks, what is found, and the scripts that lead there.
+use Rattle.std.specs.Prelude.{◌≡◌, ◌≤◌, ℕ, zero, suc, List, [], ◌∷◌, Option, Some, None, ◌<◌, ◌++◌, length, reverse, slice_get, ◌≢◌, ◌+◌, ◌↔◌, ◌⊎◌, All, AllPairs, Any}
+use Rattle.page_ids.specs.Ids.{Id}
+use Rattle.page_ids.specs.declared.key.Key.{Key}
 use Rattle.page_ids.specs.declared.way.Way.{Way}
 use Rattle.page_ids.specs.Ways.{way_key, way_place}
-use Rattle.frame_records.specs.BaseView.{BaseView}
-use Rattle.frame_records.specs.Seek.{entry_of}
+use Rattle.frame_records.specs.declared.base.Sought.TheVariants as sought
+use Rattle.frame_records.specs.Bases.{BaseView}
+use Rattle.frame_records.specs.Seek.{entry_of, seek_entry}
 use Rattle.frame_records.specs.Ways.{Leads}
 use Rattle.finder.specs.declared.found.Discovered.{Discovered}
-use Rattle.finder.specs.Walks.{IsReached, IsRank, EntryIsFound}
-use Rattle.finder.specs.Scripts.{ScriptsLead}
+
+-- Which frames the ways lead to. The caller is the list of the groups to which the caller belongs.
+
+-- n ways lead from f to g
+abbrev pub Walk : List ℕ → BaseView → Id → Id → ℕ → Type 0
+Walk caller base f g zero = f ≡ g
+Walk caller base f g (suc n) = (h : Id) × (way : Way) × Walk caller base f h n × Leads caller base h way g
+
+-- a walk of n ways leads back to the entry frame, and none of fewer
+pub record IsDistance (caller : List ℕ) (base : BaseView) (f : Id) (n : ℕ) : Type 0 where
+  pub walk : Walk caller base f (entry_of base) n
+  pub least : (m : ℕ) → Walk caller base f (entry_of base) m → n ≤ m
+
+-- a rank is the distance to the entry frame; without one no walk leads there
+abbrev pub IsRank : List ℕ → BaseView → Id → Option ℕ → Type 0
+IsRank caller base f (Some n) = IsDistance caller base f n
+IsRank caller base f None = (n : ℕ) → Walk caller base f (entry_of base) n → ⊥
+
+-- the entry frame is neither missing nor closed
+abbrev pub EntryIsFound : List ℕ → BaseView → Type 0
+EntryIsFound caller base = (price : ℕ) × (seek_entry caller base ≡ sought.Found price)
+
+-- some walk leads to g from the entry frame, which is found
+pub record IsReached (caller : List ℕ) (base : BaseView) (g : Id) : Type 0 where
+  pub steps : ℕ
+  pub entry : EntryIsFound caller base
+  pub walk : Walk caller base (entry_of base) g steps
+
+-- the keys lead in turn from one frame to another: each goes a way that is offered, and the frame that it seeks is found
+abbrev pub KeysLead : List ℕ → BaseView → Id → List Key → Id → Type 0
+KeysLead caller base f [] g = f ≡ g
+KeysLead caller base f (key ∷ keys) g = (h : Id) × (way : Way) × (key ≡ way_key way) × Leads caller base f way h × KeysLead caller base h keys g
+
+-- The keys that lead to a listed frame, along the parents.
+
+-- the parent of a discovered frame, and the key that led from it
+abbrev pub parent_by : Option ℕ → Option Key → Option (ℕ × Key)
+parent_by (Some parent) (Some key) = Some (parent, key)
+parent_by (Some parent) None = None
+parent_by None key = None
+
+abbrev pub parent_of : Option Discovered → Option (ℕ × Key)
+parent_of None = None
+parent_of (Some d) = parent_by d.parent d.key
+
+-- the keys back along the parents, from the last to the first, in at most so many turns
+abbrev pub keys_along : (ℕ → List Key) → Option (ℕ × Key) → List Key
+keys_along before None = []
+keys_along before (Some p) = p.1 ∷ before p.0
+
+abbrev pub keys_back : List Discovered → ℕ → ℕ → List Key
+keys_back found zero index = []
+keys_back found (suc turns) index = keys_along (keys_back found turns) (parent_of (slice_get found index))
+
+-- the keys along the parents from the entry frame to the frame at an index; parents are before their children
+abbrev pub script : List Discovered → ℕ → List Key
+script found index = reverse (keys_back found (length found) index)
+
+-- a frame's script is its parent's and one key more
+abbrev pub ScriptsExtend : List Discovered → Type 0
+ScriptsExtend found = (i : ℕ) (p : ℕ × Key) → parent_of (slice_get found i) ≡ Some p → (p.0 < i) × (script found i ≡ script found p.0 ++ p.1 ∷ [])
+
+-- a script leads from the entry frame to its frame; it is the parent's script and one key more
+pub record ScriptsLead (caller : List ℕ) (base : BaseView) (found : List Discovered) : Type 0 where
+  pub leads : (i : ℕ) (d : Discovered) → slice_get found i ≡ Some d
+      → KeysLead caller base (entry_of base) (script found i) d.id
+  pub first : (i : ℕ) (d : Discovered) → slice_get found i ≡ Some d → d.parent ≡ None → (i ≡ 0) × (script found i ≡ [])
+  pub extends : ScriptsExtend found
+
+-- What the list of discovered frames says of its base. The caller is the list of the groups to which the caller belongs.
 
 -- the index of a listed frame, and one of its ways
 abbrev pub Pair : Type 0
@@ -61,3 +131,13 @@ pub record IsFinding (caller : List ℕ) (base : BaseView) (found : List Discove
   pub scripts : ScriptsLead caller base found
   pub empty : found ≡ [] ↔ (EntryIsFound caller base → ⊥)
   pub few : length found ≤ length base.frames
+
+-- What holds of every list of the reached frames.
+
+-- two lists of them with their ranks are equal
+abbrev pub FoundIsOne : Type 0
+FoundIsOne = (caller : List ℕ) (base : BaseView) (a b : List Discovered) → FindsReached caller base a → RanksAreLeast caller base a → FindsReached caller base b → RanksAreLeast caller base b → a ≡ b
+
+-- their scripts lead
+abbrev pub AllScriptsLead : Type 0
+AllScriptsLead = (caller : List ℕ) (base : BaseView) (found : List Discovered) → FindsReached caller base found → ScriptsLead caller base found

@@ -1,8 +1,8 @@
 -- The result of seeking frames, and what is noted of them.
 use Rattle.std.specs.Prelude.{◌≡◌, ◌<◌, ℕ, Bool, List, Option, Some, None, All, option_map, slice_get, if◌then◌else◌}
-use Rattle.page_ids.specs.Id.{Id}
+use Rattle.page_ids.specs.Ids.{Id}
 use Rattle.frame_records.specs.declared.frame.Frame.{Frame}
-use Rattle.frame_records.specs.BaseView.{frame_among}
+use Rattle.frame_records.specs.Bases.{frame_among}
 use Rattle.frame_records.specs.Seek.{is_open}
 use Rattle.finder.specs.declared.notes.Note.{Note}
 use Rattle.finder.specs.declared.target.Target.{Target}

@@ -1,10 +1,10 @@
 -- The discovered frames of a base, with the destinations of their ways.
 use Rattle.std.specs.Prelude.{◌≡◌, ℕ, List, Option, Some, None, slice_get}
-use Rattle.page_ids.specs.Id.{Id}
+use Rattle.page_ids.specs.Ids.{Id}
 use Rattle.frame_records.specs.declared.frame.Frame.{Frame}
 use Rattle.frame_records.specs.declared.ways.Destination.{Destination}
 use Rattle.frame_records.specs.declared.ways.Destination.TheVariants as destination
-use Rattle.frame_records.specs.BaseView.{BaseView, frame_at}
+use Rattle.frame_records.specs.Bases.{BaseView, frame_at}
 use Rattle.finder.specs.declared.found.Discovered.{Discovered}
 use Rattle.finder.specs.declared.aim.Aim.{Aim}
 use Rattle.finder.specs.declared.aim.Aim.TheVariants.{NotOffered, Found, Closed, Missing, Outside}

@@ -1,10 +1,10 @@
 -- The results of the ways of a base's frames. A node is a frame's position in the base.
 use Rattle.std.specs.Prelude.{◌≡◌, ◌≢◌, ◌<◌, ◌≤◌, ◌+◌, ◌*◌, ◌++◌, ◌∷◌, [], ℕ, List, Option, Some, None, option_map, length, get_or, set, slice_get}
-use Rattle.page_ids.specs.Id.{Id}
+use Rattle.page_ids.specs.Ids.{Id}
 use Rattle.page_ids.specs.declared.way.Way.{Way}
 use Rattle.page_ids.specs.Ways.{way_at}
 use Rattle.frame_records.specs.declared.frame.Frame.{Frame}
-use Rattle.frame_records.specs.BaseView.{BaseView}
+use Rattle.frame_records.specs.Bases.{BaseView}
 use Rattle.frame_records.specs.Ways.{destination_of}
 use Rattle.frame_records.specs.declared.ways.Destination.TheVariants as destination
 use Rattle.finder.specs.Survey.{aim_of}

@@ -1,9 +1,8 @@
 ghost use Rattle.std.specs.Prelude.{◌≡◌, ◌<◌, ◌≤◌, ◌+◌, ◌*◌, ◌⊎◌, ◌++◌, ◌∷◌, [], ℕ, Some, None, true, false, Contains, OnOk, IfOk, IfSome, IfNone, slice_get, set, length, get_or};
-ghost use Rattle.finder.specs.Discovery.{AreNamed, IsListed};
+ghost use Rattle.finder.specs.Loops.{AreNamed, IsListed};
 ghost use Rattle.finder.specs.Entries.{discovered_of};
-ghost use Rattle.finder.specs.Finds.{FindsReached, RanksAreLeast};
+ghost use Rattle.finder.specs.Finds.{FindsReached, RanksAreLeast, EntryIsFound};
 ghost use Rattle.finder.specs.Graph.{IsNodeRank};
-ghost use Rattle.finder.specs.Walks.{EntryIsFound};
 
 use crate::found::Found;
 use crate::graph::Graph;

@@ -1,4 +1,4 @@
-ghost use Rattle.finder.specs.FoundLaws.{FoundIsOne, AllScriptsLead};
+ghost use Rattle.finder.specs.Finds.{FoundIsOne, AllScriptsLead};
 
 /// Of every caller and base: the reached frames in the order of their discovery, with their least ranks, are one list.
 pub fn found_is_one()

@@ -2,7 +2,7 @@
 //! binary search. A look-up relies on each note being true, not on its slot.
 
 ghost use Rattle.std.specs.Prelude.{◌≡◌, ◌<◌, None, Some, IsTrue, IfSome, IfOk, map, length};
-ghost use Rattle.frame_records.specs.BaseView.{IsBase};
+ghost use Rattle.frame_records.specs.Bases.{IsBase};
 ghost use Rattle.frame_records.specs.Seek.{is_open};
 ghost use Rattle.frame_records.specs.Ways.{missing_by};
 ghost use Rattle.finder.specs.Notes.{target_at, IsOf, AreNotes, IsSought};

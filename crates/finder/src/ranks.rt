@@ -1,7 +1,6 @@
 ghost use Rattle.std.specs.Prelude.{◌≡◌, ◌<◌, ◌≤◌, ◌+◌, ◌*◌, ◌⊎◌, ℕ, Some, None, is_some, OnOk, IfOk, IfSome, IfNone, slice_get, length, get_or};
 ghost use Rattle.finder.specs.Graph.{IsNodeRank};
-ghost use Rattle.finder.specs.Search.{HasRank, IsSearch};
-ghost use Rattle.finder.specs.Turned.{AreTurned, LeadsTo};
+ghost use Rattle.finder.specs.Loops.{HasRank, IsSearch, AreTurned, LeadsTo};
 
 use crate::graph::Graph;
 use crate::turned::Turned;

@@ -1,5 +1,5 @@
 ghost use Rattle.std.specs.Prelude.{◌≡◌, ◌<◌, IfOk, length, slice_get};
-ghost use Rattle.finder.specs.Scripts.{parent_of, keys_back, script};
+ghost use Rattle.finder.specs.Finds.{parent_of, keys_back, script};
 
 use crate::found::{Discovered, Found};
 use page_ids::{Key, KeyList};

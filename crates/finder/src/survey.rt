@@ -2,10 +2,8 @@ ghost use Rattle.std.specs.Prelude.{◌≡◌, ◌<◌, ◌≤◌, ◌↔◌, []
 ghost use Rattle.frame_records.specs.Ways.{destination};
 ghost use Rattle.finder.specs.declared.found.Discovered.{Discovered};
 ghost use Rattle.finder.specs.Entries.{IsEntryNode};
-ghost use Rattle.finder.specs.Finds.{IsFinding, FindsReached, RanksAreLeast};
-ghost use Rattle.finder.specs.Scripts.{ScriptsLead};
+ghost use Rattle.finder.specs.Finds.{IsFinding, FindsReached, RanksAreLeast, ScriptsLead, EntryIsFound};
 ghost use Rattle.finder.specs.Survey.{IsFrameAt};
-ghost use Rattle.finder.specs.Walks.{EntryIsFound};
 
 use crate::discover::{Discovery, discover};
 use crate::found::Found;
@@ -28,7 +26,7 @@ pub struct Survey<'a> {
 }
 
 impl<'a> Model for Survey<'a> {
-    ghost use Rattle.finder.specs.Discovery.{AreNamed};
+    ghost use Rattle.finder.specs.Loops.{AreNamed};
     ghost use Rattle.finder.specs.Survey.{SurveyView};
 
     ghost Value = { SurveyView };

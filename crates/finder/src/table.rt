@@ -2,7 +2,7 @@
 
 ghost use Rattle.std.specs.Prelude.{◌≡◌, ◌<◌, ◌≤◌, ◌+◌, ◌*◌, Some, OnOk, IfOk, map, length, get_or, slice_get};
 ghost use Rattle.page_ids.specs.Ways.{way_at};
-ghost use Rattle.frame_records.specs.BaseView.{IsBase};
+ghost use Rattle.frame_records.specs.Bases.{IsBase};
 ghost use Rattle.frame_records.specs.Ways.{destination_of};
 ghost use Rattle.frame_records.specs.declared.frame.Frame.{Frame};
 ghost use Rattle.finder.specs.Survey.{lost_to};

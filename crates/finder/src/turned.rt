@@ -1,7 +1,7 @@
 ghost use Rattle.std.specs.Prelude.{◌≡◌, ◌<◌, ◌+◌, ◌-◌, ◌*◌, IsTrue, OnOk, IfOk, length};
 ghost use Rattle.smallvec.specs.SmallVec.{SmallVec};
 ghost use Rattle.finder.specs.Graph.{Goes};
-ghost use Rattle.finder.specs.Turned.{AreTurned, IsSourceList};
+ghost use Rattle.finder.specs.Loops.{AreTurned, IsSourceList};
 
 use crate::graph::Graph;
 use page_ids::Way;

@@ -8,7 +8,7 @@ use Rattle.std.specs.Prelude.{slice_get, Some}
 use Rattle.std.proofs.lemmas.Nat.{mul-le, pow-add}
 use Rattle.std.specs.declared.cmp.Ordering.{Ordering}
 use Rattle.std.specs.declared.cmp.Ordering.TheVariants.{Less, Equal, Greater}
-use Rattle.frame_records.specs.Orderings.{MayFollow, IsSearchable, after_middle, compared_between}
+use Rattle.frame_records.specs.Bases.{MayFollow, IsSearchable, after_middle, compared_between}
 
 pub halved : (g h c : ℕ) → 2 * h ≤ g → g * 2 ^ c ≤ 65535 → h * 2 ^ (c + 1) ≤ 65535
 halved g h c le small =

@@ -8,14 +8,12 @@ use Rattle.std.proofs.lemmas.Bool.Decides.{nat_tests}
 use Rattle.std.proofs.lemmas.List.Sorted.{IsPermutation-sym, All-permutation, Contains-permutation, sum_by-IsPermutation, list_any-IsPermutation, length_permutation}
 use Rattle.std.proofs.lemmas.List.Kept.{Contains-dedup_nat, Contains-from_dedup}
 use Rattle.std.proofs.lemmas.Map.Keys.{IsStrictlyIncreasing-dedup}
-use Rattle.page_ids.specs.Id.{Id}
-use Rattle.page_ids.specs.Ids.{id_cmp}
+use Rattle.page_ids.specs.Ids.{Id, id_cmp}
 use Rattle.frame_records.specs.declared.frame.Frame.{Frame}
 use Rattle.frame_records.specs.declared.build.BuildFault.{BuildFault}
 use Rattle.frame_records.specs.declared.build.BuildFault.TheVariants.{TooMany, BodyTooLong, NextAfterZ, Duplicate, OutsideInside}
-use Rattle.frame_records.specs.BaseView.{IsBase, are_too_many, is_body_long, is_next_after_z, NoFrame, has_page}
-use Rattle.frame_records.specs.Build.{IsLeastId, frames_with, NoneTwice, IsLeastTwice, NoneInside, IsLeastInside, IsBuildFault, IsUnrefused, IsBaseOf, AreSorted}
-use Rattle.frame_records.specs.BaseLaws.{apart_from_none}
+use Rattle.frame_records.specs.Bases.{IsBase, are_too_many, is_body_long, is_next_after_z, NoFrame, has_page, IsLeastId, frames_with, NoneTwice, IsLeastTwice, NoneInside, IsLeastInside, IsBuildFault, IsUnrefused, IsBaseOf, AreSorted}
+use Rattle.frame_records.specs.WayLaws.{apart_from_none}
 use Rattle.frame_records.proofs.SortedFrames.{none_twice}
 
 module _ (outside pages : List ℕ) (frames sorted : List Frame) (s : AreSorted outside pages frames sorted) where

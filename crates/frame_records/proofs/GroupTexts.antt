@@ -13,11 +13,11 @@ use Rattle.std.proofs.lemmas.List.Splits.{join_with_byte-slice_split, slice_spli
 use Rattle.std.proofs.Math.Seq.{get_or-append_seam}
 use Rattle.page_ids.specs.declared.number.NumberFault.{NumberFault}
 use Rattle.page_ids.specs.declared.number.NumberFault.TheVariants.{NotNumeral, AboveLimit}
-use Rattle.page_ids.specs.Numbers.{number_in}
+use Rattle.page_ids.specs.Texts.{number_in}
 use Rattle.page_ids.proofs.Numbers.{number_found, number_again, decimal_digits}
 use Rattle.frame_records.specs.declared.groups.GroupFlaw.{GroupFlaw}
 use Rattle.frame_records.specs.declared.groups.GroupFlaw.TheVariants.{Range, Order}
-use Rattle.frame_records.specs.Limits.{IsGroup}
+use Rattle.frame_records.specs.Bases.{IsGroup}
 use Rattle.list_words.specs.Steps.{◌>>=◌}
 use Rattle.list_words.specs.Parts.{parts_of}
 use Rattle.frame_records.specs.Groups.{AreGroups, are_below, numbered, group_of, group_in, words_in, groups_in, groups_text, IsGroupsText}

@@ -10,12 +10,10 @@ use Rattle.std.proofs.lemmas.Cmp.{on_total}
 use Rattle.std.proofs.lemmas.Bool.Decides.{nat_tests}
 use Rattle.std.proofs.lemmas.List.Sorted.{IsPermutation-sym, Contains-permutation}
 use Rattle.std.proofs.lemmas.Map.Keys.{sorted_from_strictly_increasing, sorted_from_all_adjacent}
-use Rattle.page_ids.specs.Id.{Id}
-use Rattle.page_ids.specs.Ids.{id_cmp}
+use Rattle.page_ids.specs.Ids.{Id, id_cmp}
 use Rattle.page_ids.specs.IdLaws.{id_cmp_total}
 use Rattle.frame_records.specs.declared.frame.Frame.{Frame}
-use Rattle.frame_records.specs.BaseView.{BaseView, IsAscending}
-use Rattle.frame_records.specs.Build.{BasesAreOne}
+use Rattle.frame_records.specs.Bases.{BaseView, IsAscending, BasesAreOne}
 
 first_in : {A : Type 0} (x : A) (xs : List A) → Contains (x ∷ xs) x
 first_in x xs = (0, omega arith, refl)

@@ -6,8 +6,7 @@ use Rattle.std.proofs.lemmas.Bool.{cases_lt}
 use Rattle.std.proofs.lemmas.List.{get_or_default}
 use Rattle.std.proofs.lemmas.List.Sorted.{IsNonDecreasingBy-from_all_adjacent}
 use Rattle.frame_records.specs.declared.frame.Frame.{Frame}
-use Rattle.frame_records.specs.BaseView.{has_page}
-use Rattle.frame_records.specs.Build.{IsLeastInside, NoneInside}
+use Rattle.frame_records.specs.Bases.{has_page, IsLeastInside, NoneInside}
 use Rattle.list_words.proofs.Finds.{first_found, none_found}
 
 -- pages don't fall

@@ -1,7 +1,7 @@
 -- A list that ascends by a key has a binary search, and what that finds is what a search from the front finds.
 use Rattle.std.proofs.Common.{◌≡◌, ◌≢◌, ℕ, zero, suc, ◌+◌, ◌-◌, ◌<◌, Bool, true, false, List, [], ◌∷◌, length, get_or, Option, Some, None, Bor, refl, sym, ap, ◌∙◌, arith, subst, cond, ◌==◌}
 use Rattle.std.specs.Prelude.{find, map, slice_get, option_map, is_some, ◌||◌}
-use Rattle.std.specs.List.{AllAdjacentBelow}
+use Rattle.std.specs.List.{AllAdjacentBelow, list_any}
 use Rattle.std.specs.Ordering.{is_eq, nat_cmp}
 use Rattle.std.specs.List.Sorted.{IsStrictlyIncreasing}
 use Rattle.std.specs.declared.cmp.Ordering.{Ordering}
@@ -9,12 +9,9 @@ use Rattle.std.specs.declared.cmp.Ordering.TheVariants.{Less, Equal, Greater}
 use Rattle.std.proofs.lemmas.Bool.Decides.{nat_tests}
 use Rattle.std.proofs.lemmas.List.{get_or-map, get_or_default, length-map}
 use Rattle.std.proofs.lemmas.Option.{slice_get-map, slice_get_within, get_or_from_slice_get, slice_get-get_or}
-use Rattle.page_ids.specs.Id.{Id}
-use Rattle.page_ids.specs.Ids.{id_cmp}
-use Rattle.frame_records.specs.Orderings.{MayFollow, IsSearchable}
-use Rattle.std.specs.List.{list_any}
+use Rattle.page_ids.specs.Ids.{Id, id_cmp}
+use Rattle.frame_records.specs.Bases.{MayFollow, IsSearchable, lists_page}
 use Rattle.std.specs.Option.{option_copied}
-use Rattle.frame_records.specs.BaseView.{lists_page}
 use Rattle.list_words.proofs.Finds.{find_first, find_none}
 
 -- what is before an Equal is Less, and is no Equal

@@ -12,12 +12,10 @@ use Rattle.std.proofs.lemmas.Bool.Decides.{nat_tests}
 use Rattle.std.proofs.lemmas.List.Sorted.{ranks_by, sorted_far, searchable_from_sorted}
 use Rattle.std.proofs.lemmas.List.Folds.{list_any_at, list_any_none}
 use Rattle.std.proofs.lemmas.List.{get_or_default}
-use Rattle.page_ids.specs.Id.{Id}
-use Rattle.page_ids.specs.Ids.{id_cmp, id_eq}
+use Rattle.page_ids.specs.Ids.{Id, id_cmp, id_eq}
 use Rattle.page_ids.specs.IdLaws.{id_cmp_total, id_eq_same, id_eq_refl, before_of}
 use Rattle.frame_records.specs.declared.frame.Frame.{Frame}
-use Rattle.frame_records.specs.BaseView.{IsAscending, frame_among, has_page, NoFrame}
-use Rattle.frame_records.specs.Build.{IsLeastId, IsLeastTwice, NoneTwice, frames_with}
+use Rattle.frame_records.specs.Bases.{IsAscending, frame_among, has_page, NoFrame, IsLeastId, IsLeastTwice, NoneTwice, frames_with}
 use Rattle.list_words.proofs.Finds.{first_found, none_found, find_first, IsPlace, two_places, count_two}
 
 abbrev pub IsSortedById : List Frame → Type 0

@@ -4,11 +4,11 @@ use Rattle.std.specs.List.{list_all, join_with_byte}
 use Rattle.std.specs.Char.{is_ascii_digit}
 use Rattle.page_ids.specs.declared.number.NumberFault.{NumberFault}
 use Rattle.page_ids.specs.declared.number.NumberFault.TheVariants.{NotNumeral, AboveLimit}
-use Rattle.page_ids.specs.Numbers.{number_in}
+use Rattle.page_ids.specs.Texts.{number_in}
 use Rattle.frame_records.specs.declared.limits.TheConstants.{MOST_GROUP, MOST_GROUPS}
 use Rattle.frame_records.specs.declared.groups.GroupFlaw.{GroupFlaw}
 use Rattle.frame_records.specs.declared.groups.GroupFlaw.TheVariants.{Number, Range, Order}
-use Rattle.frame_records.specs.Limits.{IsGroup}
+use Rattle.frame_records.specs.Bases.{IsGroup}
 use Rattle.list_words.specs.Steps.{◌>>=◌}
 use Rattle.list_words.specs.Parts.{parts_of}
 

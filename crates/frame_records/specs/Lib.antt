@@ -1,9 +1,5 @@
-pub mod Limits
 pub mod Groups
-pub mod Orderings
-pub mod BaseView
 pub mod Seek
 pub mod Ways
+pub mod Bases
 pub mod WayLaws
-pub mod Build
-pub mod BaseLaws

@@ -1,12 +1,11 @@
 -- What a caller finds in a base. A caller is the list of the closed user groups to which the caller belongs.
 use Rattle.std.specs.Prelude.{◌==◌, ℕ, Bool, true, List, Option, Some, None, slice_index_or, nat_lt, if◌then◌else◌}
 use Rattle.std.specs.List.{list_any}
-use Rattle.page_ids.specs.Id.{Id}
-use Rattle.page_ids.specs.Ids.{first_frame}
+use Rattle.page_ids.specs.Ids.{Id, first_frame}
 use Rattle.frame_records.specs.declared.frame.Frame.{Frame}
 use Rattle.frame_records.specs.declared.base.Sought.{Sought}
 use Rattle.frame_records.specs.declared.base.Sought.TheVariants.{Found, Closed, Missing}
-use Rattle.frame_records.specs.BaseView.{BaseView, frame_at}
+use Rattle.frame_records.specs.Bases.{BaseView, frame_at}
 
 -- a frame's group admits the caller; no group admits everybody
 abbrev pub admits : List ℕ → Option ℕ → Bool

@@ -1,21 +1,44 @@
--- Laws of the ways of a frame.
-use Rattle.std.proofs.Common.{◌≡◌, ◌≢◌, ◌<◌, ◌⊎◌, inl, inr, ℕ, Bool, true, false, cond, List, [], ◌∷◌, Option, Some, None, option_map, refl, sym, ◌∙◌, ap, subst, arith}
+-- Facts of bases and of their ways.
+use Rattle.std.proofs.Common.{◌≡◌, ℕ, true, false, eqb, List, [], ◌∷◌, None, refl, subst, ◌≢◌, ◌<◌, ◌⊎◌, inl, inr, Bool, cond, Option, Some, option_map, sym, ◌∙◌, ap, arith}
+use Rattle.std.specs.Prelude.{Contains, nat_lt, slice_index_or}
+use Rattle.std.proofs.lemmas.Bool.{eqb-true, or_parts}
+use Rattle.std.proofs.lemmas.List.Folds.{Any-from_list_any}
+use Rattle.page_ids.specs.Ids.{Id, id_eq, first_frame}
+use Rattle.frame_records.specs.declared.frame.Frame.{Frame}
+use Rattle.frame_records.specs.Bases.{BaseView, frame_among, lists_page, has_page, AreApart, NoneInside, frame_at, lists_outside}
 use Rattle.std.proofs.lemmas.Bool.Decides.{nat_tests}
-use Rattle.std.specs.Prelude.{nat_lt, slice_index_or}
-use Rattle.page_ids.specs.Id.{Id}
-use Rattle.page_ids.specs.Ids.{id_eq, first_frame}
 use Rattle.page_ids.specs.IdLaws.{id_eq_same}
 use Rattle.page_ids.specs.declared.way.Way.{Way}
 use Rattle.page_ids.specs.declared.way.Way.TheVariants.{Route, Next}
 use Rattle.page_ids.specs.Ways.{way_at, way_place}
-use Rattle.frame_records.specs.declared.frame.Frame.{Frame}
 use Rattle.frame_records.specs.declared.base.Sought as seeking
 use Rattle.frame_records.specs.declared.base.Sought.TheVariants as found
 use Rattle.frame_records.specs.declared.ways.Destination.{Destination}
 use Rattle.frame_records.specs.declared.ways.Destination.TheVariants.{NotOffered, Found, Missing, Outside}
-use Rattle.frame_records.specs.BaseView.{BaseView, frame_at, frame_among, lists_outside}
 use Rattle.frame_records.specs.Seek.{seek}
 use Rattle.frame_records.specs.Ways.{sought, missing_by, sought_by, offered_by, destination_by, destination}
+
+-- Laws of bases.
+
+-- a listed page is among the pages
+pub contains_listed : (pages : List ℕ) (page : ℕ) → lists_page pages page ≡ true → Contains pages page
+contains_listed pages page e =
+    let a = Any-from_list_any (λ p. eqb p page) pages e in
+    subst (λ (p : ℕ). Contains pages p) (eqb-true a.1 page a.4) (a.0, a.2, a.3)
+
+-- a page without frames has no frame of any letter
+pub no_frame : (frames : List Frame) (id : Id) → has_page frames id.page ≡ false → frame_among frames id ≡ None
+no_frame [] id h = refl
+no_frame (f ∷ fs) id h =
+    let n = or_parts (eqb f.id.page id.page) (has_page fs id.page) h in
+    let other : id_eq f.id id ≡ false = rw n.0 refl in
+    rw other (no_frame fs id n.1)
+
+-- if no outside page has a frame, outside pages and frames are apart
+pub apart_from_none : (base : BaseView) → NoneInside base.outside base.frames → AreApart base
+apart_from_none base none id out = no_frame base.frames id (none id.page (contains_listed base.outside id.page out))
+
+-- Laws of the ways of a frame.
 
 among_by : (b : Bool) (f g : Frame) (o : Option Frame) → cond b (Some f) o ≡ Some g → ((b ≡ true) × (f ≡ g)) ⊎ (o ≡ Some g)
 among_by true f g o e = inl (refl, cc)

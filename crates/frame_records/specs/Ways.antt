@@ -1,8 +1,7 @@
 -- What the ways of a frame seek, and where they lead. A caller is the list of the closed user groups to which the caller
 -- belongs.
 use Rattle.std.specs.Prelude.{◌≡◌, ◌&&◌, ℕ, List, Option, Some, None, option_map, nat_lt, if◌then◌else◌}
-use Rattle.page_ids.specs.Id.{Id}
-use Rattle.page_ids.specs.Ids.{first_frame, following}
+use Rattle.page_ids.specs.Ids.{Id, first_frame, following}
 use Rattle.page_ids.specs.declared.way.Way.{Way}
 use Rattle.page_ids.specs.declared.way.Way.TheVariants.{Route, Next}
 use Rattle.frame_records.specs.declared.frame.Frame.{Frame}
@@ -10,7 +9,7 @@ use Rattle.frame_records.specs.declared.base.Sought as seeking
 use Rattle.frame_records.specs.declared.base.Sought.TheVariants as found
 use Rattle.frame_records.specs.declared.ways.Destination.{Destination}
 use Rattle.frame_records.specs.declared.ways.Destination.TheVariants.{NotOffered, Found, Closed, Missing, Outside}
-use Rattle.frame_records.specs.BaseView.{BaseView, frame_at, lists_outside}
+use Rattle.frame_records.specs.Bases.{BaseView, frame_at, lists_outside}
 use Rattle.frame_records.specs.Seek.{seek, route_of}
 
 -- `#` seeks the following letter, if `next` is true; none follows `z`, which is 122

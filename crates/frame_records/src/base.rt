@@ -1,7 +1,6 @@
 ghost use Rattle.std.specs.Prelude.{◌≡◌, ◌<◌, ◌≤◌, length};
 ghost use Rattle.std.specs.Option.{option_copied};
-ghost use Rattle.frame_records.specs.BaseView.{IsBase, frame_at, frames_compared, lists_outside, pages_compared};
-ghost use Rattle.frame_records.specs.Build.{IsBuilt, BasesAreOne};
+ghost use Rattle.frame_records.specs.Bases.{IsBase, frame_at, frames_compared, lists_outside, pages_compared, IsBuilt, BasesAreOne};
 ghost use Rattle.frame_records.specs.Seek.{seek, entry_of};
 
 use crate::build::{BuildFault, are_too_many, first_fault, sort};
@@ -32,7 +31,7 @@ pub struct Base {
 }
 
 impl Model for Base {
-    ghost use Rattle.frame_records.specs.BaseView.{BaseView, IsBase};
+    ghost use Rattle.frame_records.specs.Bases.{BaseView, IsBase};
 
     ghost Value = { BaseView };
 

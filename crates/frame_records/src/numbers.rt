@@ -1,6 +1,6 @@
 ghost use Rattle.std.specs.Prelude.{◌≡◌, ◌≤◌};
 ghost use Rattle.std.specs.Option.{SomeIff};
-ghost use Rattle.frame_records.specs.Limits.{IsPrice, IsGroup};
+ghost use Rattle.frame_records.specs.Bases.{IsPrice, IsGroup};
 
 use crate::limits::MOST_PENCE;
 use std::marker::Model;

@@ -3,7 +3,7 @@
 ghost use Rattle.std.specs.Prelude.{◌≡◌, ◌≢◌, ℕ, ◌<◌, ◌≤◌, ◌+◌, List, length, slice_get, IfSome, IfNone, Some};
 ghost use Rattle.std.specs.declared.cmp.Ordering.TheVariants.{Equal};
 ghost use Rattle.frame_records.specs.declared.limits.TheConstants.{MOST_LISTED};
-ghost use Rattle.frame_records.specs.Orderings.{IsSearchable, comparisons};
+ghost use Rattle.frame_records.specs.Bases.{IsSearchable, comparisons};
 
 use std::cmp::Ordering;
 

@@ -6,8 +6,7 @@ ghost use Rattle.page_ids.specs.Ids.{id_cmp};
 ghost use Rattle.std.specs.Option.{option_copied};
 ghost use Rattle.std.specs.List.Sorted.{IsStrictlyIncreasing};
 ghost use Rattle.frame_records.specs.declared.limits.TheConstants.{MOST_LISTED};
-ghost use Rattle.frame_records.specs.BaseView.{IsAscending, frame_among, frames_compared, lists_page, pages_compared};
-ghost use Rattle.frame_records.specs.Orderings.{IsSearchable, comparisons};
+ghost use Rattle.frame_records.specs.Bases.{IsAscending, frame_among, frames_compared, lists_page, pages_compared, IsSearchable, comparisons};
 
 use crate::frame::Frame;
 use crate::probe::{Probe, search};
@@ -37,7 +36,7 @@ struct EntryProbe<'a, E: Entry<K>, K> {
 
 impl<'a, E: Entry<K>, K> Model for EntryProbe<'a, E, K> {
     ghost use Rattle.std.specs.Prelude.{map};
-    ghost use Rattle.frame_records.specs.Orderings.{ProbeView};
+    ghost use Rattle.frame_records.specs.Bases.{ProbeView};
 
     ghost Value = { ProbeView };
 

@@ -7,8 +7,8 @@ use Rattle.toml.specs.Data.{Members}
 use Rattle.toml.specs.Parse.{parse_document}
 use Rattle.checker.specs.declared.policy.Policy.{Policy}
 use Rattle.base_text.specs.declared.limits.TheConstants.{MOST_TEXT}
-use Rattle.base_text.specs.Text.{tree_of}
-use Rattle.lint_report.specs.FindingView.{FindingView}
+use Rattle.base_text.specs.Whole.{tree_of}
+use Rattle.lint_report.specs.Findings.{FindingView}
 use Rattle.lint_report.specs.Lint.{IsTreeJudged, IsJudgedIf, IsJudged}
 
 pub weaken : {A E : Type 0} {P Q : A → Type 0} (r : Result A E) → ((a : A) → P a → Q a) → IfOk r P → IfOk r Q

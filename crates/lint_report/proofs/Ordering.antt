@@ -3,8 +3,7 @@ use Rattle.std.proofs.Common.{Ok, Err}
 use Rattle.std.specs.Prelude.{List, Result, OnOk, IsPermutation}
 use Rattle.std.specs.Ordering.{nat_cmp}
 use Rattle.std.specs.List.Sorted.{IsSortedByKey, IsStableByKey}
-use Rattle.lint_report.specs.FindingView.{FindingView}
-use Rattle.lint_report.specs.Order.{AreInOrder}
+use Rattle.lint_report.specs.Findings.{FindingView, AreInOrder}
 
 pub ordered : {A E Sorted : Type 0} (judged found : List FindingView) → (Sorted → IsSortedByKey (λ f. f.at) nat_cmp found) → (r : Result A E)
     → IsPermutation judged found → IsStableByKey (λ f. f.at) nat_cmp judged found → OnOk r Sorted → OnOk r (AreInOrder judged found)

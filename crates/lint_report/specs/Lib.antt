@@ -1,9 +1,4 @@
-pub mod FindingView
-pub mod Order
-pub mod Counts
-pub mod Printing
 pub mod Lookups
 pub mod Spots
-pub mod TextFindings
-pub mod AuditFindings
 pub mod Lint
+pub mod Findings

@@ -1,8 +1,7 @@
 -- Values of ids.
 use Rattle.std.specs.Prelude.{◌≡◌, if◌then◌else◌, List, [], ◌∷◌, Option, Some, None}
 use Rattle.std.specs.Option.{option_or}
-use Rattle.page_ids.specs.Id.{Id}
-use Rattle.page_ids.specs.Ids.{id_eq}
+use Rattle.page_ids.specs.Ids.{Id, id_eq}
 use Rattle.indexmap.specs.IndexMap.{get}
 use Rattle.lint_report.specs.declared.lookup.Lookup.{Lookup}
 

@@ -6,8 +6,7 @@ use Rattle.frame_records.specs.declared.limits.TheConstants.{MOST_LISTED}
 use Rattle.base_text.specs.declared.fault.Field.{Field}
 use Rattle.base_text.specs.declared.fault.Field.TheVariants as field
 use Rattle.base_text.specs.declared.keys.TableKind.TheVariants as kind
-use Rattle.base_text.specs.FieldNames.{field_name}
-use Rattle.base_text.specs.Keys.{digit_key}
+use Rattle.base_text.specs.Fields.{field_name, digit_key}
 use Rattle.base_faults.specs.declared.detail.Detail.{Detail}
 use Rattle.base_faults.specs.declared.detail.Detail.TheVariants.{UnknownKey, Absent, WrongKind, WrongItem, Number, ItemNumber, Lead, BodyCode, TooManyRows, BodyAndRows, RowTooLong, RowCode, BadFrame}
 use Rattle.base_faults.specs.declared.detail.TextFault.{TextFault}
@@ -16,8 +15,7 @@ use Rattle.base_faults.specs.declared.whole_fault.WholeFault.TheVariants.{TooMan
 use Rattle.fault_scripts.specs.declared.fault.Fault.{Fault}
 use Rattle.fault_scripts.specs.declared.fault.FaultKind.{FaultKind}
 use Rattle.fault_scripts.specs.declared.fault.FaultKind.TheVariants as fault_kind
-use Rattle.text_places.specs.Marks.{Mark}
-use Rattle.text_places.specs.Places.{header_place, key_place, route_place}
+use Rattle.text_places.specs.Places.{Mark, header_place, key_place, route_place}
 
 -- the key that a detail is about
 abbrev pub key_of : Detail → List ℕ

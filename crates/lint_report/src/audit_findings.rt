@@ -1,9 +1,8 @@
 ghost use Rattle.std.specs.Prelude.{◌≡◌, ◌++◌, ℕ, List, Option, map, IfOk, OnOk};
-ghost use Rattle.page_ids.specs.Id.{Id};
-ghost use Rattle.text_places.specs.Marks.{Mark};
-ghost use Rattle.text_places.specs.Places.{Keeps};
+ghost use Rattle.page_ids.specs.Ids.{Id};
+ghost use Rattle.text_places.specs.Places.{Mark, Keeps};
 ghost use Rattle.lint_report.specs.Lookups.{Knows, value_of};
-ghost use Rattle.lint_report.specs.AuditFindings as spec;
+ghost use Rattle.lint_report.specs.Lint as spec;
 
 use crate::finding::Finding;
 use crate::lookup::Lookup;

@@ -1,5 +1,5 @@
 ghost use Rattle.std.specs.Prelude.{◌≡◌, IfOk};
-ghost use Rattle.lint_report.specs.Counts.{count_of, counted_text};
+ghost use Rattle.lint_report.specs.Findings.{count_of, counted_text};
 
 use crate::finding::{Finding, Level};
 use lint_words::push_counted;

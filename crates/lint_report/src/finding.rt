@@ -17,7 +17,7 @@ pub struct Finding {
 }
 
 impl Model for Finding {
-    ghost use Rattle.lint_report.specs.FindingView.{FindingView};
+    ghost use Rattle.lint_report.specs.Findings.{FindingView};
 
     ghost Value = { FindingView };
 
@@ -26,7 +26,7 @@ impl Model for Finding {
 
 impl Finding {
     ghost use Rattle.std.specs.Prelude.{◌≡◌};
-    ghost use Rattle.lint_report.specs.FindingView.{error_at, warning_at};
+    ghost use Rattle.lint_report.specs.Findings.{error_at, warning_at};
 
     pub(crate) fn error(at: usize, words: Vec<u8>) -> Finding
         ensures { result ≡ error_at at words.items }

@@ -3,7 +3,7 @@ ghost use Rattle.std.specs.Str.{IsUtf8};
 ghost use Rattle.toml.specs.Data.{Members};
 ghost use Rattle.toml.specs.Parse.{parse_document};
 ghost use Rattle.toml.specs.View.{table_view};
-ghost use Rattle.base_text.specs.Text.{tree_of};
+ghost use Rattle.base_text.specs.Whole.{tree_of};
 ghost use Rattle.lint_report.specs.Lint as spec;
 
 use crate::audit_findings::{Audit, Sources};

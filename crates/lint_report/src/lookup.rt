@@ -1,5 +1,5 @@
 ghost use Rattle.std.specs.Prelude.{◌≡◌, List, IfOk};
-ghost use Rattle.page_ids.specs.Id.{Id};
+ghost use Rattle.page_ids.specs.Ids.{Id};
 ghost use Rattle.lint_report.specs.Lookups.{value_of, Knows};
 
 use indexmap::IndexMap;

@@ -1,4 +1,4 @@
-ghost use Rattle.lint_report.specs.Order.{AreInOrder};
+ghost use Rattle.lint_report.specs.Findings.{AreInOrder};
 ghost use Rattle.std.specs.Prelude.{OnOk};
 
 use crate::finding::Finding;

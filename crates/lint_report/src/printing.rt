@@ -1,5 +1,5 @@
 ghost use Rattle.std.specs.Prelude.{◌≡◌, ◌++◌, ◌∷◌, [], IfOk, OnOk, decimal};
-ghost use Rattle.lint_report.specs.Printing.{level_text, place_text, finding_line, finding_lines};
+ghost use Rattle.lint_report.specs.Findings.{level_text, place_text, finding_line, finding_lines};
 
 use crate::finding::{Finding, Level};
 use page_ids::push_number;

@@ -1,8 +1,7 @@
 //! The place of a fault: the offset of the expression that wrote what is at fault.
 
 ghost use Rattle.std.specs.Prelude.{◌≡◌, List, option_copied, option_map};
-ghost use Rattle.text_places.specs.Marks.{Mark};
-ghost use Rattle.text_places.specs.Places.{Keeps};
+ghost use Rattle.text_places.specs.Places.{Mark, Keeps};
 ghost use Rattle.lint_report.specs.Spots as spec;
 
 use base_faults::{Detail, TextFault, WholeFault};

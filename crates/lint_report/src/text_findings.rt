@@ -1,7 +1,6 @@
 ghost use Rattle.std.specs.Prelude.{◌≡◌, ◌++◌, List, map, IfOk, OnOk};
-ghost use Rattle.text_places.specs.Marks.{Mark};
-ghost use Rattle.text_places.specs.Places.{Keeps};
-ghost use Rattle.lint_report.specs.TextFindings as spec;
+ghost use Rattle.text_places.specs.Places.{Mark, Keeps};
+ghost use Rattle.lint_report.specs.Lint as spec;
 
 use crate::finding::Finding;
 use crate::spots::{text_fault_at, whole_fault_at};

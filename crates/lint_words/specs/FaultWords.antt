@@ -1,7 +1,6 @@
 -- The words of a fault of an audit, and of a frame that no walk reaches.
 use Rattle.std.specs.Prelude.{ℕ, Bool, ◌==◌, if◌then◌else◌, List, ◌++◌, codes, decimal, Option, Some, None}
-use Rattle.page_ids.specs.Id.{Id}
-use Rattle.page_ids.specs.Ids.{frame_text, page_text}
+use Rattle.page_ids.specs.Ids.{Id, frame_text, page_text}
 use Rattle.abstract_paint.specs.declared.start.Start.{Start}
 use Rattle.fault_scripts.specs.declared.fault.Fault.{Fault}
 use Rattle.fault_scripts.specs.declared.fault.FaultKind.{FaultKind}

@@ -1,11 +1,11 @@
 -- Keys of a base's text, items of their values, and integers out of their range.
 use Rattle.std.specs.Prelude.{ℕ, ℤ, pos, negsuc, suc, nat_lt, if◌then◌else◌, List, ◌++◌, codes, decimal, Option}
-use Rattle.page_ids.specs.Id.{Id}
+use Rattle.page_ids.specs.Ids.{Id}
 use Rattle.page_ids.specs.declared.limits.TheConstants.{MOST_PAGE}
 use Rattle.frame_records.specs.declared.limits.TheConstants.{MOST_PENCE, MOST_GROUP}
 use Rattle.base_text.specs.declared.fault.Field.{Field}
 use Rattle.base_text.specs.declared.fault.Field.TheVariants as field
-use Rattle.base_text.specs.FieldNames.{field_name}
+use Rattle.base_text.specs.Fields.{field_name}
 use Rattle.lint_words.specs.Pieces.{grouped, frame_name}
 
 -- the key of a field in quotes

@@ -1,8 +1,7 @@
-pub mod Pieces
 pub mod KeyPieces
 pub mod Words
-pub mod Counts
 pub mod FaultWords
 pub mod NearKeys
 pub mod TextWords
 pub mod WholeWords
+pub mod Pieces

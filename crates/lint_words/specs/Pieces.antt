@@ -2,8 +2,7 @@
 use Rattle.std.specs.Prelude.{ℕ, zero, suc, ◌+◌, ◌/◌, ◌%◌, Bool, ◌&&◌, ◌||◌, ◌==◌, nat_lt, nat_le, if◌then◌else◌, List, [], ◌∷◌, ◌++◌, length, codes, decimal, Option, Some, None}
 use Rattle.std.specs.Char.{encode_utf8}
 use Rattle.std.specs.Str.{chars}
-use Rattle.page_ids.specs.Id.{Id}
-use Rattle.page_ids.specs.Ids.{frame_text}
+use Rattle.page_ids.specs.Ids.{Id, frame_text}
 use Rattle.page_ids.specs.Keys.{key_word, keys_text}
 use Rattle.page_ids.specs.declared.key.Key.{Key}
 
@@ -93,3 +92,19 @@ pressed_text (Some key) = codes "key " ++ key_word key
 abbrev pub group_text : Option ℕ → List ℕ
 group_text None = []
 group_text (Some group) = codes "; it belongs to group " ++ decimal group
+
+-- How many findings there are.
+
+abbrev pub errors_text : ℕ → List ℕ
+errors_text n = number_of n (codes "error") (codes "errors")
+
+abbrev pub warnings_text : ℕ → List ℕ
+warnings_text n = number_of n (codes "warning") (codes "warnings")
+
+-- the errors, then the warnings; a count of 0 is left out
+abbrev pub counted : ℕ → ℕ → List ℕ
+counted errors warnings =
+    if errors == 0 && warnings == 0 then []
+    else if warnings == 0 then errors_text errors
+    else if errors == 0 then warnings_text warnings
+    else errors_text errors ++ (codes ", " ++ warnings_text warnings)

@@ -1,7 +1,6 @@
 -- The words of a fault of a base as a whole.
 use Rattle.std.specs.Prelude.{ℕ, List, ◌++◌, codes, decimal}
-use Rattle.page_ids.specs.Id.{Id}
-use Rattle.page_ids.specs.Ids.{frame_text, page_text}
+use Rattle.page_ids.specs.Ids.{Id, frame_text, page_text}
 use Rattle.frame_records.specs.declared.limits.TheConstants.{MOST_LISTED, MOST_BODY}
 use Rattle.base_faults.specs.declared.whole_fault.WholeFault.{WholeFault}
 use Rattle.base_faults.specs.declared.whole_fault.WholeFault.TheVariants.{TooManyFrames, TooManyOutside, BodyTooLong, NextAfterZ, Duplicate, OutsideInside}

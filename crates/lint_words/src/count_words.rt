@@ -1,5 +1,5 @@
 ghost use Rattle.std.specs.Prelude.{◌≡◌, ◌++◌, OnOk};
-ghost use Rattle.lint_words.specs.Counts.{counted};
+ghost use Rattle.lint_words.specs.Pieces.{counted};
 
 use crate::piece::Piece::{Count, Words};
 use crate::piece::push_pieces;

@@ -4,13 +4,11 @@ use native.Mathlib.Numerals.{unary_clauses}
 use Rattle.std.specs.Fmt.{decimal}
 use Rattle.std.specs.Prelude.{Result, Err}
 use Rattle.std.proofs.lemmas.Bool.Decides.{nat_tests}
-use Rattle.std.proofs.lemmas.List.{take-append-drop}
+use Rattle.std.proofs.lemmas.List.{take-append-drop, nil_from_length}
 use Rattle.std.proofs.Math.Seq.{take-append_seam, get_or-append_seam}
-use Rattle.std.proofs.lemmas.List.{nil_from_length}
-use Rattle.page_ids.specs.Id.{Id}
-use Rattle.page_ids.specs.Ids.{IsFrameId, frame_text}
+use Rattle.page_ids.specs.Ids.{Id, IsFrameId, frame_text}
 use Rattle.page_ids.specs.declared.number.NumberFault.{NumberFault}
-use Rattle.page_ids.specs.Numbers.{number_in, number_or_none, page_in, letter_in, id_with, id_in}
+use Rattle.page_ids.specs.Texts.{number_in, number_or_none, page_in, letter_in, id_with, id_in}
 use Rattle.page_ids.proofs.Numbers.{number_found, number_again}
 
 pub split_at_end : (text : List ℕ) (k : ℕ) → length text ≡ k + 1 → text ≡ take k text ++ get_or text k 0 ∷ []

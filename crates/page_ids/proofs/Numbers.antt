@@ -9,7 +9,7 @@ use Rattle.std.proofs.lemmas.Str.Parse.{IsNumeralModel, numerals_by_value, tells
 use Rattle.std.proofs.lemmas.Fmt.{decimal-digits_value, digits_decimal, digits_value-decimal, decimal_nonempty, first_decimal, decimal_digit}
 use Rattle.page_ids.specs.declared.number.NumberFault.{NumberFault}
 use Rattle.page_ids.specs.declared.number.NumberFault.TheVariants.{NotNumeral, AboveLimit}
-use Rattle.page_ids.specs.Numbers.{is_numeral, number_in}
+use Rattle.page_ids.specs.Texts.{is_numeral, number_in}
 use Rattle.page_ids.proofs.Numerals.{number_is}
 
 own : IsNumeralModel (AllDigits 10) (digits_value 10)

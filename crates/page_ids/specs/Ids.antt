@@ -1,9 +1,17 @@
--- Page numbers, frame ids and their texts.
+-- Letters, pages and ids, and their texts.
 use Rattle.std.specs.Prelude.{ℕ, ◌≤◌, ◌==◌, ◌&&◌, ◌+◌, Bool, List, [], ◌∷◌, ◌++◌, decimal}
 use Rattle.std.specs.Ordering.{nat_cmp, ordering_then}
 use Rattle.std.specs.declared.cmp.Ordering.{Ordering}
-use Rattle.page_ids.specs.Id.{Id}
 use Rattle.page_ids.specs.declared.limits.TheConstants.{MOST_PAGE}
+
+-- What contracts see of a frame's id.
+
+-- a page number and the byte of a letter
+pub record Id : Type 0 where
+  pub page : ℕ
+  pub letter : ℕ
+
+-- Page numbers, frame ids and their texts.
 
 -- 0 to 999,999,999
 abbrev pub IsPageNumber : ℕ → Type 0

@@ -1,5 +1,5 @@
 -- The words of keys, and what a text of keys is read as.
-use Rattle.std.specs.Prelude.{◌≡◌, ℕ, ◌+◌, ◌-◌, ◌<◌, ◌≤◌, ◌==◌, ◌&&◌, List, [], ◌∷◌, ◌++◌, length, take, Option, Some, None, Result, Ok, Err, if◌then◌else◌, nat_lt}
+use Rattle.std.specs.Prelude.{◌≡◌, ℕ, ◌+◌, ◌-◌, ◌<◌, ◌≤◌, ◌==◌, ◌&&◌, List, [], ◌∷◌, ◌++◌, length, take, Option, Some, None, Result, Ok, Err, if◌then◌else◌, nat_lt, ◌⊎◌}
 use Rattle.std.specs.List.{AllByRecursion}
 use Rattle.page_ids.specs.declared.fault.IdFault.{IdFault}
 use Rattle.page_ids.specs.declared.fault.IdFault.TheVariants.{BadPage, BadFrame, BadKey, Memory}
@@ -66,3 +66,13 @@ IsReadFault text Memory = Unit {0}
 abbrev pub IsRead : List ℕ → Result (List Key) IdFault → Type 0
 IsRead text (Ok keys) = AreKeys keys × (text ≡ keys_text keys)
 IsRead text (Err fault) = IsReadFault text fault
+
+-- Texts of keys and lists of keys belong together one by one.
+
+pub record KeysAreTexts : Type 0 where
+  -- no word is the beginning of another: if two words begin one text they are one
+  pub no_prefix : (a b : Key) (rest more : List ℕ) → IsKey a → IsKey b → key_word a ++ rest ≡ key_word b ++ more → (a ≡ b) × (rest ≡ more)
+  -- a text has one list
+  pub one_list : (keys others : List Key) → AreKeys keys → AreKeys others → keys_text keys ≡ keys_text others → keys ≡ others
+  -- the text of a list is read as that list, unless memory is refused
+  pub read_again : (keys : List Key) (read : Result (List Key) IdFault) → AreKeys keys → IsRead (keys_text keys) read → (read ≡ Ok keys) ⊎ (read ≡ Err Memory)

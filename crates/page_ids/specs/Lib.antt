@@ -1,9 +1,6 @@
-pub mod Id
-pub mod Ids
 pub mod IdLaws
-pub mod Numbers
-pub mod TextLaws
-pub mod Keys
 pub mod Ways
 pub mod WayLaws
-pub mod KeyLaws
+pub mod Ids
+pub mod Keys
+pub mod Texts

@@ -1,10 +1,8 @@
 ghost use Rattle.std.specs.Prelude.{◌≡◌, ◌<◌};
 ghost use Rattle.std.specs.Option.{SomeIff, ok_or};
 ghost use Rattle.page_ids.specs.declared.fault.IdFault.TheVariants.{BadFrame};
-ghost use Rattle.page_ids.specs.Id.{Id};
-ghost use Rattle.page_ids.specs.Ids.{frame_text, first_frame, following, id_cmp};
-ghost use Rattle.page_ids.specs.Numbers.{id_in};
-ghost use Rattle.page_ids.specs.TextLaws.{IdsAreTexts};
+ghost use Rattle.page_ids.specs.Ids.{Id, frame_text, first_frame, following, id_cmp};
+ghost use Rattle.page_ids.specs.Texts.{id_in, IdsAreTexts};
 
 use crate::fault::IdFault;
 use crate::letter::Letter;
@@ -22,7 +20,7 @@ pub struct FrameId {
 }
 
 impl Model for FrameId {
-    ghost use Rattle.page_ids.specs.Id.{Id};
+    ghost use Rattle.page_ids.specs.Ids.{Id};
 
     ghost Value = { Id };
 

@@ -1,7 +1,6 @@
 ghost use Rattle.std.specs.Prelude.{◌≡◌, ◌≤◌, ◌+◌, ◌++◌, IfOk, OnOk, MatchResult, IfSome, length, drop, map};
 ghost use Rattle.page_ids.specs.declared.key.Key.{Key};
-ghost use Rattle.page_ids.specs.Keys.{key_word, key_at, keys_text, IsRead};
-ghost use Rattle.page_ids.specs.KeyLaws.{KeysAreTexts};
+ghost use Rattle.page_ids.specs.Keys.{key_word, key_at, keys_text, IsRead, KeysAreTexts};
 
 use crate::fault::IdFault;
 use crate::key::{Digit, Key, KeyList};

@@ -3,8 +3,7 @@ ghost use Rattle.std.specs.List.{list_all};
 ghost use Rattle.std.specs.Char.{is_ascii_digit};
 ghost use Rattle.std.specs.Option.{SomeIff};
 ghost use Rattle.std.specs.Str.Parse.{AllDigits, digits_value};
-ghost use Rattle.page_ids.specs.Numbers.{is_numeral, number_in};
-ghost use Rattle.page_ids.specs.TextLaws.{NumbersAreTexts};
+ghost use Rattle.page_ids.specs.Texts.{is_numeral, number_in, NumbersAreTexts};
 
 use itoa::Buffer;
 use std::alloc::AllocError;

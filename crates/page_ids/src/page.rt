@@ -2,7 +2,7 @@ ghost use Rattle.std.specs.Prelude.{◌≡◌, ◌≤◌};
 ghost use Rattle.std.specs.Option.{SomeIff, ok_or};
 ghost use Rattle.page_ids.specs.declared.fault.IdFault.TheVariants.{BadPage};
 ghost use Rattle.page_ids.specs.Ids.{IsPageNumber, page_text};
-ghost use Rattle.page_ids.specs.Numbers.{page_in};
+ghost use Rattle.page_ids.specs.Texts.{page_in};
 
 use crate::fault::IdFault;
 use crate::limits::MOST_PAGE;

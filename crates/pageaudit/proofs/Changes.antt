@@ -2,13 +2,12 @@
 use Rattle.std.proofs.Common.{◌≡◌, false, Result, Ok, Err, refl, sym, subst}
 use Rattle.std.proofs.KnownBytes.{Keeps-refl}
 use Rattle.devices.specs.Devices.{Seen}
-use Rattle.frame_records.specs.BaseView.{BaseView}
-use Rattle.cert_table.specs.CertView.{CertView}
+use Rattle.frame_records.specs.Bases.{BaseView}
+use Rattle.cert_table.specs.Table.{CertView}
 use Rattle.checker.specs.declared.policy.Policy.{Policy}
 use Rattle.checker.specs.declared.change.ChangeVerdict.{ChangeVerdict}
 use Rattle.checker.specs.declared.change.ChangeVerdict.TheVariants as change
-use Rattle.checker.specs.Change.{change_verdict}
-use Rattle.checker.specs.Editions.{IsSafeChange}
+use Rattle.checker.specs.Change.{change_verdict, IsSafeChange}
 use Rattle.audit_report.specs.declared.run_fault.RunFault.{RunFault}
 use Rattle.audit_report.specs.declared.run_fault.RunFault.TheVariants as run
 use Rattle.audit_report.specs.Lines.{change_text}
@@ -17,8 +16,7 @@ use Rattle.pageaudit.specs.declared.status.Status.TheVariants.{Clear}
 use Rattle.pageaudit.specs.declared.file_fault.FileFault.TheVariants as file
 use Rattle.pageaudit.specs.declared.edition.EditionFault.{EditionFault}
 use Rattle.pageaudit.specs.declared.edition.EditionFault.TheVariants as edition
-use Rattle.pageaudit.specs.Device.{Device, device, IsUntouched, IsTextWritten}
-use Rattle.pageaudit.specs.Files.{base_limit, cert_limit}
+use Rattle.pageaudit.specs.Files.{Device, device, IsUntouched, IsTextWritten, base_limit, cert_limit}
 use Rattle.pageaudit.proofs.Within.{untouched_within, base_within, cert_within}
 use Rattle.pageaudit.specs.FileFaults.{old_fault, new_fault}
 use Rattle.pageaudit.specs.ChangeRun.{EditionFiles, IsEditionOf, IsEditionFault, AreUntouched, AreReadWithin, IsChangeRun, HoldsOfChange, status_of_change}

@@ -1,12 +1,11 @@
 -- Runs of the list, by what was written.
 use Rattle.std.proofs.Common.{ℕ, Bool, List, Result, Ok, Err}
-use Rattle.frame_records.specs.BaseView.{BaseView}
+use Rattle.frame_records.specs.Bases.{BaseView}
 use Rattle.audit_report.specs.declared.run_fault.RunFault.{RunFault}
 use Rattle.audit_report.specs.declared.run_fault.RunFault.TheVariants as run
 use Rattle.base_list.specs.Listing.{IsListText}
 use Rattle.pageaudit.specs.declared.status.Status.{Status}
-use Rattle.pageaudit.specs.Device.{Device, IsTextWritten}
-use Rattle.pageaudit.specs.Files.{IsBaseOfFile}
+use Rattle.pageaudit.specs.Files.{Device, IsTextWritten, IsBaseOfFile}
 use Rattle.pageaudit.specs.ListRun.{IsListRun, status_of_entry}
 use Rattle.pageaudit.proofs.Within.{base_within}
 

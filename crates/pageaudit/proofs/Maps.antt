@@ -1,13 +1,12 @@
 -- Runs of map, by what was written.
 use Rattle.std.proofs.Common.{ℕ, List, Option, Result, Ok, Err, Vec, Global}
-use Rattle.frame_records.specs.BaseView.{BaseView}
+use Rattle.frame_records.specs.Bases.{BaseView}
 use Rattle.audit_report.specs.declared.run_fault.RunFault.{RunFault}
 use Rattle.audit_report.specs.declared.run_fault.RunFault.TheVariants as run
 use Rattle.base_map.specs.declared.view.View.{View}
-use Rattle.base_map.specs.Views.{IsViewed}
+use Rattle.base_map.specs.Windows.{IsViewed}
 use Rattle.pageaudit.specs.declared.map_run.MapStatus.{MapStatus}
-use Rattle.pageaudit.specs.Device.{Device}
-use Rattle.pageaudit.specs.Files.{IsBaseOfFile}
+use Rattle.pageaudit.specs.Files.{Device, IsBaseOfFile}
 use Rattle.pageaudit.specs.MapRun.{IsMapRun, IsMapWritten}
 
 module _ (base_file out : Device) (caller : List ℕ) (view : View) (base : BaseView) (read : IsBaseOfFile base_file base) (map : Option (Vec ℕ Global)) (is : IsViewed caller base view map) where

@@ -1,6 +1,6 @@
 -- Runs of the audit, by what was written.
 use Rattle.std.proofs.Common.{Result, Ok, Err}
-use Rattle.frame_records.specs.BaseView.{BaseView}
+use Rattle.frame_records.specs.Bases.{BaseView}
 use Rattle.checker.specs.declared.policy.Policy.{Policy}
 use Rattle.fault_scripts.specs.declared.outcome.Outcome.{Outcome}
 use Rattle.fault_scripts.specs.declared.outcome.Outcome.TheVariants.{Certified, Faulty}
@@ -9,8 +9,7 @@ use Rattle.audit_report.specs.declared.run_fault.RunFault.{RunFault}
 use Rattle.audit_report.specs.declared.run_fault.RunFault.TheVariants as run
 use Rattle.audit_report.specs.ReportLines.{report_text}
 use Rattle.pageaudit.specs.declared.status.Status.{Status}
-use Rattle.pageaudit.specs.Device.{Device, IsUntouched, IsTextWritten}
-use Rattle.pageaudit.specs.Files.{IsBaseOfFile}
+use Rattle.pageaudit.specs.Files.{Device, IsUntouched, IsTextWritten, IsBaseOfFile}
 use Rattle.pageaudit.proofs.Within.{base_within}
 use Rattle.pageaudit.specs.AuditRun.{IsAuditRun, IsSplitWritten, IsAuditIntoRun, status_of_outcome}
 

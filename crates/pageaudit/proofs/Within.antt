@@ -2,14 +2,13 @@
 use Rattle.std.proofs.Common.{◌<◌, ℕ, List, [], Err, ◌++◌, arith, length-append}
 use Rattle.std.proofs.KnownBytes.{Consumes-nil, Consumes-kept, Consumes-trans}
 use Rattle.devices.specs.Devices.{Seen}
-use Rattle.frame_records.specs.BaseView.{BaseView}
-use Rattle.cert_table.specs.CertView.{CertView}
+use Rattle.frame_records.specs.Bases.{BaseView}
+use Rattle.cert_table.specs.Table.{CertView}
 use Rattle.cert_text.specs.declared.fault.ReadFault.{ReadFault}
-use Rattle.cert_text.specs.Outcome.{ReaderView, HasRead}
+use Rattle.cert_text.specs.Reading.{ReaderView, HasRead}
 use Rattle.pageaudit.specs.declared.file_fault.FileFault.{FileFault}
 use Rattle.pageaudit.specs.declared.file_fault.FileFault.TheVariants as file
-use Rattle.pageaudit.specs.Device.{Device, device, IsUntouched}
-use Rattle.pageaudit.specs.Files.{base_limit, cert_limit, IsBaseOfFile, IsCertOfFile, IsReadWithin, IsCertFileFault, IsPieceTaken, IsBeingFed}
+use Rattle.pageaudit.specs.Files.{Device, device, IsUntouched, base_limit, cert_limit, IsBaseOfFile, IsCertOfFile, IsReadWithin, IsCertFileFault, IsPieceTaken, IsBeingFed}
 
 pub untouched_within : (limit : ℕ) (d : Device) → IsUntouched d → IsReadWithin limit d
 untouched_within limit d h = record { bytes = []; within = omega (arith); given = Consumes-kept d.before.bytes d.before.bytes d.after.bytes [] (Consumes-nil d.before.bytes) h.kept; unbroken = h.unbroken }

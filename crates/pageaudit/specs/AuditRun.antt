@@ -1,6 +1,6 @@
 -- What a run of the audit does.
 use Rattle.std.specs.Prelude.{Result, Ok, Err}
-use Rattle.frame_records.specs.BaseView.{BaseView}
+use Rattle.frame_records.specs.Bases.{BaseView}
 use Rattle.checker.specs.declared.policy.Policy.{Policy}
 use Rattle.fault_scripts.specs.declared.outcome.Outcome.{Outcome}
 use Rattle.fault_scripts.specs.declared.outcome.Outcome.TheVariants.{Certified, Faulty}
@@ -10,8 +10,7 @@ use Rattle.audit_report.specs.declared.run_fault.RunFault.TheVariants as run
 use Rattle.audit_report.specs.ReportLines.{report_text}
 use Rattle.pageaudit.specs.declared.status.Status.{Status}
 use Rattle.pageaudit.specs.declared.status.Status.TheVariants as status
-use Rattle.pageaudit.specs.Device.{Device, IsUntouched, IsTextWritten}
-use Rattle.pageaudit.specs.Files.{base_limit, IsBaseOfFile, IsBaseTextFault, IsBaseBroken, IsReadWithin}
+use Rattle.pageaudit.specs.Files.{Device, IsUntouched, IsTextWritten, base_limit, IsBaseOfFile, IsBaseTextFault, IsBaseBroken, IsReadWithin}
 
 -- clear if and only if there is a certificate
 abbrev pub status_of_outcome : Outcome → Status

@@ -1,12 +1,11 @@
 -- What a run of the check of a change does.
 use Rattle.std.specs.Prelude.{Result, Ok, Err}
-use Rattle.frame_records.specs.BaseView.{BaseView}
-use Rattle.cert_table.specs.CertView.{CertView}
+use Rattle.frame_records.specs.Bases.{BaseView}
+use Rattle.cert_table.specs.Table.{CertView}
 use Rattle.checker.specs.declared.policy.Policy.{Policy}
 use Rattle.checker.specs.declared.change.ChangeVerdict.{ChangeVerdict}
 use Rattle.checker.specs.declared.change.ChangeVerdict.TheVariants as change
-use Rattle.checker.specs.Change.{change_verdict}
-use Rattle.checker.specs.Editions.{IsSafeChange}
+use Rattle.checker.specs.Change.{change_verdict, IsSafeChange}
 use Rattle.audit_report.specs.declared.run_fault.RunFault.{RunFault}
 use Rattle.audit_report.specs.declared.run_fault.RunFault.TheVariants as run
 use Rattle.audit_report.specs.Lines.{change_text}
@@ -14,8 +13,7 @@ use Rattle.pageaudit.specs.declared.status.Status.{Status}
 use Rattle.pageaudit.specs.declared.status.Status.TheVariants.{Clear, Faulty}
 use Rattle.pageaudit.specs.declared.edition.EditionFault.{EditionFault}
 use Rattle.pageaudit.specs.declared.edition.EditionFault.TheVariants as part
-use Rattle.pageaudit.specs.Device.{Device, IsUntouched, IsTextWritten}
-use Rattle.pageaudit.specs.Files.{base_limit, cert_limit, IsBaseOfFile, IsCertOfFile, IsBaseTextFault, IsCertTextFault, IsBaseBroken, IsCertBroken, IsReadWithin, IsBaseFileFault, IsCertFileFault}
+use Rattle.pageaudit.specs.Files.{Device, IsUntouched, IsTextWritten, base_limit, cert_limit, IsBaseOfFile, IsCertOfFile, IsBaseTextFault, IsCertTextFault, IsBaseBroken, IsCertBroken, IsReadWithin, IsBaseFileFault, IsCertFileFault}
 use Rattle.pageaudit.specs.CheckRun.{IsAfterBase}
 
 -- the files of an edition: its base's and its certificate's

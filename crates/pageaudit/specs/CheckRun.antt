@@ -1,7 +1,7 @@
 -- What a run of the check does.
 use Rattle.std.specs.Prelude.{ℕ, List, Result, Ok, Err}
-use Rattle.frame_records.specs.BaseView.{BaseView}
-use Rattle.cert_table.specs.CertView.{CertView}
+use Rattle.frame_records.specs.Bases.{BaseView}
+use Rattle.cert_table.specs.Table.{CertView}
 use Rattle.checker.specs.declared.policy.Policy.{Policy}
 use Rattle.checker.specs.declared.verdict.Verdict.{Verdict}
 use Rattle.checker.specs.declared.verdict.Verdict.TheVariants.{Cleared, Refused}
@@ -12,8 +12,7 @@ use Rattle.audit_report.specs.declared.run_fault.RunFault.TheVariants as run
 use Rattle.audit_report.specs.Lines.{verdict_text}
 use Rattle.pageaudit.specs.declared.status.Status.{Status}
 use Rattle.pageaudit.specs.declared.status.Status.TheVariants.{Clear, Faulty}
-use Rattle.pageaudit.specs.Device.{Device, IsUntouched, IsTextWritten}
-use Rattle.pageaudit.specs.Files.{base_limit, cert_limit, WasRead, IsBaseOfFile, IsCertOfFile, IsBaseTextFault, IsCertTextFault, IsBaseBroken, IsCertBroken, IsReadWithin}
+use Rattle.pageaudit.specs.Files.{Device, IsUntouched, IsTextWritten, base_limit, cert_limit, WasRead, IsBaseOfFile, IsCertOfFile, IsBaseTextFault, IsCertTextFault, IsBaseBroken, IsCertBroken, IsReadWithin}
 
 -- the status of a verdict: clear for Cleared, and faulty for everything else
 abbrev pub status_of_verdict : Verdict → Status

@@ -1,23 +1,50 @@
--- What a run reads of its files. Of a file that doesn't show its bytes, these definitions say nothing about which bytes.
-use Rattle.std.specs.Prelude.{◌≡◌, ◌≤◌, ◌<◌, ◌++◌, ◌+◌, ℕ, true, false, List, length, None, Result, Ok, Err}
-use Rattle.std.specs.Io.KnownBytes.{Consumes, IsAtEnd, Keeps}
-use Rattle.devices.specs.Devices.{BrokeWithin, TookWithin}
-use Rattle.frame_records.specs.BaseView.{BaseView}
+-- Devices, and the files that they gave.
+use Rattle.std.specs.Prelude.{◌≡◌, ℕ, false, List, Result, Ok, Err, ◌≤◌, ◌<◌, ◌++◌, ◌+◌, true, length, None}
+use Rattle.std.specs.Io.KnownBytes.{Keeps, Consumes, IsAtEnd}
+use Rattle.devices.specs.Devices.{Seen, WroteWhole, WrotePart, BrokeWithin, TookWithin}
+use Rattle.audit_report.specs.declared.run_fault.RunFault.{RunFault}
+use Rattle.audit_report.specs.declared.run_fault.RunFault.TheVariants as run
+use Rattle.pageaudit.specs.declared.status.Status.{Status}
+use Rattle.frame_records.specs.Bases.{BaseView}
 use Rattle.base_text.specs.declared.fault.BaseFault.{BaseFault}
 use Rattle.base_text.specs.Whole.{IsTextBase}
-use Rattle.cert_table.specs.CertView.{CertView}
+use Rattle.cert_table.specs.Table.{CertView}
 use Rattle.cert_text.specs.declared.fault.LineCause.TheVariants.{Truncated}
 use Rattle.cert_text.specs.declared.fault.ReadFault.{ReadFault}
 use Rattle.cert_text.specs.declared.fault.ReadFault.TheVariants as read
 use Rattle.cert_text.specs.Grammar.{IsCertificateText}
-use Rattle.cert_text.specs.Reading.{cert_fault}
-use Rattle.cert_text.specs.Outcome.{ReaderView, HasRead, lasting}
+use Rattle.cert_text.specs.Reading.{cert_fault, ReaderView, HasRead, lasting}
 use Rattle.checker.specs.Headline.{IsBaseRefused, IsCertRefused}
 use Rattle.base_text.specs.declared.limits.TheConstants.{MOST_TEXT}
 use Rattle.pageaudit.specs.declared.input.TheConstants.{MOST_CERT}
 use Rattle.pageaudit.specs.declared.file_fault.FileFault.{FileFault}
 use Rattle.pageaudit.specs.declared.file_fault.FileFault.TheVariants as file
-use Rattle.pageaudit.specs.Device.{Device}
+
+-- What a run did with one of its devices.
+
+-- what contracts see of a device before a call and after it
+pub record Device : Type 0 where
+  pub before : Seen
+  pub after : Seen
+
+-- for a source or a sink: `seen` is the ghost member of its type
+abbrev pub device : {D : Type 0} → (D → Seen) → D → D → Device
+device seen old new = record { before = seen old; after = seen new }
+
+-- nothing was read from it or written to it, and no call failed
+pub record IsUntouched (d : Device) : Type 0 where
+  pub kept : Keeps d.before.bytes d.after.bytes
+  pub unbroken : d.after.failed ≡ false
+
+-- the answer for a text and its status, and the output: the status if the whole text was taken; a write fault if its first
+-- bytes were taken and then a call failed; out of memory if nothing was written
+abbrev pub IsTextWritten : Device → List ℕ → Status → Result Status RunFault → Type 0
+IsTextWritten out text status (Ok s) = WroteWhole out.before out.after text × (s ≡ status)
+IsTextWritten out text status (Err (run.Write wrote)) = WrotePart out.before out.after text wrote
+IsTextWritten out text status (Err run.Memory) = IsUntouched out
+IsTextWritten out text status (Err _) = ⊥
+
+-- What a run reads of its files. Of a file that doesn't show its bytes, these definitions say nothing about which bytes.
 
 -- the most bytes that are read of each file: one more than a base may have, and enough to decide any certificate
 abbrev pub base_limit : ℕ

@@ -1,6 +1,4 @@
 pub mod Status
-pub mod Device
-pub mod Files
 pub mod FileFaults
 pub mod CheckRun
 pub mod ChangeRun
@@ -9,3 +7,4 @@ pub mod AuditRun
 pub mod LintRun
 pub mod ListRun
 pub mod MapRun
+pub mod Files

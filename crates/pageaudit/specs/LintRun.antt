@@ -7,12 +7,9 @@ use Rattle.audit_report.specs.declared.run_fault.RunFault.{RunFault}
 use Rattle.audit_report.specs.declared.run_fault.RunFault.TheVariants as run
 use Rattle.lint_report.specs.declared.counts.Counts.{Counts}
 use Rattle.lint_report.specs.declared.finding.Level.TheVariants.{Error, Warning}
-use Rattle.lint_report.specs.FindingView.{FindingView}
-use Rattle.lint_report.specs.Counts.{count_of}
-use Rattle.lint_report.specs.Printing.{finding_lines}
+use Rattle.lint_report.specs.Findings.{FindingView, count_of, finding_lines}
 use Rattle.lint_report.specs.Lint.{IsLint}
-use Rattle.pageaudit.specs.Device.{Device, IsUntouched}
-use Rattle.pageaudit.specs.Files.{base_limit, WasReadSoFar, IsBaseBroken, IsReadWithin}
+use Rattle.pageaudit.specs.Files.{Device, IsUntouched, base_limit, WasReadSoFar, IsBaseBroken, IsReadWithin}
 use Rattle.pageaudit.specs.Status.{fault_number}
 
 -- the file's text, which is all that it had, or longer than a base may be

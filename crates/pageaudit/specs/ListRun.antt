@@ -1,13 +1,12 @@
 -- What a run of the list does.
 use Rattle.std.specs.Prelude.{ℕ, Bool, List, Result, Ok, Err, if◌then◌else◌}
-use Rattle.frame_records.specs.BaseView.{BaseView}
+use Rattle.frame_records.specs.Bases.{BaseView}
 use Rattle.audit_report.specs.declared.run_fault.RunFault.{RunFault}
 use Rattle.audit_report.specs.declared.run_fault.RunFault.TheVariants as run
 use Rattle.base_list.specs.Listing.{IsListText}
 use Rattle.pageaudit.specs.declared.status.Status.{Status}
 use Rattle.pageaudit.specs.declared.status.Status.TheVariants.{Clear, Faulty}
-use Rattle.pageaudit.specs.Device.{Device, IsUntouched, IsTextWritten}
-use Rattle.pageaudit.specs.Files.{base_limit, IsBaseOfFile, IsBaseTextFault, IsBaseBroken, IsReadWithin}
+use Rattle.pageaudit.specs.Files.{Device, IsUntouched, IsTextWritten, base_limit, IsBaseOfFile, IsBaseTextFault, IsBaseBroken, IsReadWithin}
 
 -- clear if and only if the entry frame is found
 abbrev pub status_of_entry : Bool → Status

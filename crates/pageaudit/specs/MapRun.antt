@@ -2,15 +2,14 @@
 use Rattle.std.specs.Prelude.{◌≡◌, ℕ, List, Option, Some, None, Vec, Result, Ok, Err}
 use Rattle.std.specs.declared.alloc.Global.{Global}
 use Rattle.devices.specs.Devices.{WroteWhole, WrotePart}
-use Rattle.frame_records.specs.BaseView.{BaseView}
+use Rattle.frame_records.specs.Bases.{BaseView}
 use Rattle.audit_report.specs.declared.run_fault.RunFault.{RunFault}
 use Rattle.audit_report.specs.declared.run_fault.RunFault.TheVariants as run
 use Rattle.base_map.specs.declared.view.View.{View}
-use Rattle.base_map.specs.Views.{IsViewed}
+use Rattle.base_map.specs.Windows.{IsViewed}
 use Rattle.pageaudit.specs.declared.map_run.MapStatus.{MapStatus}
 use Rattle.pageaudit.specs.declared.map_run.MapStatus.TheVariants.{Drawn, NoPage}
-use Rattle.pageaudit.specs.Device.{Device, IsUntouched}
-use Rattle.pageaudit.specs.Files.{base_limit, IsBaseOfFile, IsBaseTextFault, IsBaseBroken, IsReadWithin}
+use Rattle.pageaudit.specs.Files.{Device, IsUntouched, base_limit, IsBaseOfFile, IsBaseTextFault, IsBaseBroken, IsReadWithin}
 use Rattle.pageaudit.specs.Status.{fault_number}
 
 -- there is a map, and so much holds of its text

@@ -1,6 +1,6 @@
 ghost use Rattle.std.specs.Prelude.{◌≡◌, false};
 ghost use Rattle.audit_report.specs.Lines.{change_text};
-ghost use Rattle.pageaudit.specs.Device.{device, IsTextWritten};
+ghost use Rattle.pageaudit.specs.Files.{device, IsTextWritten};
 ghost use Rattle.pageaudit.specs.ChangeRun.{IsChangeRun, HoldsOfChange, edition, status_of_change};
 
 use crate::edition::{new_fault, old_fault, read_edition};

@@ -1,6 +1,6 @@
 ghost use Rattle.std.specs.Prelude.{◌≡◌, false};
 ghost use Rattle.audit_report.specs.Lines.{verdict_text};
-ghost use Rattle.pageaudit.specs.Device.{device, IsTextWritten};
+ghost use Rattle.pageaudit.specs.Files.{device, IsTextWritten};
 ghost use Rattle.pageaudit.specs.CheckRun.{IsCheckRun, HoldsOfFiles, status_of_verdict};
 
 use crate::file_fault::{base_fault, cert_fault};

@@ -1,7 +1,7 @@
 //! Reads the two files of an edition.
 
 ghost use Rattle.std.specs.Prelude.{◌≡◌, false, Ok, Err};
-ghost use Rattle.pageaudit.specs.Device.{device};
+ghost use Rattle.pageaudit.specs.Files.{device};
 ghost use Rattle.pageaudit.specs.ChangeRun.{IsEditionRead, edition};
 ghost use Rattle.pageaudit.specs.FileFaults.{old_fault, new_fault};
 

@@ -1,9 +1,8 @@
 //! Reads a file as a base or as a certificate.
 
 ghost use Rattle.std.specs.Prelude.{◌≡◌, ◌<◌, false, Ok, Err, List, [], ℕ};
-ghost use Rattle.cert_text.specs.Outcome.{HasRead};
-ghost use Rattle.pageaudit.specs.Device.{device};
-ghost use Rattle.pageaudit.specs.Files.{IsBaseRead, IsCertRead, IsBaseAnswer, IsPieceTaken, IsFed};
+ghost use Rattle.cert_text.specs.Reading.{HasRead};
+ghost use Rattle.pageaudit.specs.Files.{device, IsBaseRead, IsCertRead, IsBaseAnswer, IsPieceTaken, IsFed};
 
 use crate::file_fault::FileFault;
 use audit_report::{Source, SourceFault, read_whole};

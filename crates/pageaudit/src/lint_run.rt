@@ -1,5 +1,5 @@
 ghost use Rattle.std.specs.Prelude.{◌≡◌, false};
-ghost use Rattle.pageaudit.specs.Device.{device};
+ghost use Rattle.pageaudit.specs.Files.{device};
 ghost use Rattle.pageaudit.specs.LintRun.{IsLintRun, AreWritten, lint_number};
 
 use crate::status::status_of;

@@ -1,5 +1,5 @@
 ghost use Rattle.std.specs.Prelude.{◌≡◌, false};
-ghost use Rattle.pageaudit.specs.Device.{device, IsTextWritten};
+ghost use Rattle.pageaudit.specs.Files.{device, IsTextWritten};
 ghost use Rattle.pageaudit.specs.ListRun.{IsListRun, status_of_entry};
 
 use crate::file_fault::base_fault;

@@ -1,5 +1,5 @@
 ghost use Rattle.std.specs.Prelude.{◌≡◌, false};
-ghost use Rattle.pageaudit.specs.Device.{device};
+ghost use Rattle.pageaudit.specs.Files.{device};
 ghost use Rattle.pageaudit.specs.MapRun.{IsMapRun, IsMapWritten, map_number};
 
 use crate::file_fault::base_fault;

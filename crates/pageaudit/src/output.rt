@@ -1,5 +1,5 @@
 ghost use Rattle.std.specs.Prelude.{◌≡◌, false};
-ghost use Rattle.pageaudit.specs.Device.{device, IsTextWritten};
+ghost use Rattle.pageaudit.specs.Files.{device, IsTextWritten};
 
 use crate::status::Status;
 use audit_report::{RunFault, Sink, write_whole};

@@ -1,6 +1,6 @@
 -- The answer of an audit.
 use Rattle.std.specs.Prelude.{◌≡◌, ◌⊎◌, ℕ, List}
-use Rattle.frame_records.specs.BaseView.{BaseView}
+use Rattle.frame_records.specs.Bases.{BaseView}
 use Rattle.base_text.specs.Whole.{IsTextBase}
 use Rattle.checker.specs.declared.policy.Policy.{Policy}
 use Rattle.checker.specs.declared.bytes.InputFault.TheVariants as input
@@ -12,7 +12,7 @@ use Rattle.fault_scripts.specs.Outcomes.{IsOutcomeOf}
 use Rattle.audit_report.specs.ReportLines.{report_text}
 use Rattle.pageaudit_c.specs.declared.status.Status.{Status}
 use Rattle.pageaudit_c.specs.declared.status.Status.TheVariants as status
-use Rattle.pageaudit_c.specs.Answers.{IsOutOfMemory, IsFaultAnswer}
+use Rattle.pageaudit_c.specs.Calls.{IsOutOfMemory, IsFaultAnswer}
 
 -- clear if and only if there is a certificate
 abbrev pub status_of_outcome : Outcome → Status

@@ -1,20 +1,19 @@
 -- The answer of the check of a change.
 use Rattle.std.specs.Prelude.{◌⊎◌, ℕ, List}
-use Rattle.frame_records.specs.BaseView.{BaseView}
+use Rattle.frame_records.specs.Bases.{BaseView}
 use Rattle.base_text.specs.Whole.{IsTextBase}
-use Rattle.cert_table.specs.CertView.{CertView}
+use Rattle.cert_table.specs.Table.{CertView}
 use Rattle.cert_text.specs.Grammar.{IsCertificateText}
 use Rattle.checker.specs.declared.policy.Policy.{Policy}
 use Rattle.checker.specs.declared.change.ChangeVerdict.{ChangeVerdict}
 use Rattle.checker.specs.declared.change.ChangeVerdict.TheVariants as change
 use Rattle.checker.specs.declared.bytes.InputFault.{InputFault}
-use Rattle.checker.specs.Change.{change_verdict}
-use Rattle.checker.specs.Editions.{IsSafeChange}
+use Rattle.checker.specs.Change.{change_verdict, IsSafeChange}
 use Rattle.checker.specs.Headline.{IsInputFault}
 use Rattle.audit_report.specs.Lines.{change_text}
 use Rattle.pageaudit_c.specs.declared.status.Status.{Status}
 use Rattle.pageaudit_c.specs.declared.status.Status.TheVariants.{Clear, Faulty}
-use Rattle.pageaudit_c.specs.Answers.{IsAnswer, IsFaultAnswer, IsNewFaultAnswer}
+use Rattle.pageaudit_c.specs.Calls.{IsAnswer, IsFaultAnswer, IsNewFaultAnswer}
 
 -- the texts of an edition
 pub record EditionTexts : Type 0 where

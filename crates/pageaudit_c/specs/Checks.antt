@@ -8,7 +8,7 @@ use Rattle.checker.specs.Headline.{IsChecked}
 use Rattle.audit_report.specs.Lines.{verdict_text}
 use Rattle.pageaudit_c.specs.declared.status.Status.{Status}
 use Rattle.pageaudit_c.specs.declared.status.Status.TheVariants.{Clear, Faulty}
-use Rattle.pageaudit_c.specs.Answers.{IsAnswer, IsFaultAnswer}
+use Rattle.pageaudit_c.specs.Calls.{IsAnswer, IsFaultAnswer}
 
 abbrev pub status_of_verdict : Verdict → Status
 status_of_verdict Cleared = Clear

@@ -2,13 +2,11 @@
 use Rattle.std.specs.Prelude.{◌≡◌, ◌⊎◌, ◌==◌, ℕ, if◌then◌else◌, List}
 use Rattle.checker.specs.declared.policy.Policy.{Policy}
 use Rattle.lint_report.specs.declared.finding.Level.TheVariants.{Error}
-use Rattle.lint_report.specs.FindingView.{FindingView}
-use Rattle.lint_report.specs.Counts.{count_of}
-use Rattle.lint_report.specs.Printing.{finding_lines}
+use Rattle.lint_report.specs.Findings.{FindingView, count_of, finding_lines}
 use Rattle.lint_report.specs.Lint.{IsLint}
 use Rattle.pageaudit_c.specs.declared.status.Status.{Status}
 use Rattle.pageaudit_c.specs.declared.status.Status.TheVariants.{Clear, Faulty}
-use Rattle.pageaudit_c.specs.Answers.{IsOutOfMemory}
+use Rattle.pageaudit_c.specs.Calls.{IsOutOfMemory}
 
 -- faulty if and only if there is an error
 abbrev pub status_of_findings : List FindingView → Status

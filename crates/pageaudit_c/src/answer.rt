@@ -1,8 +1,7 @@
 ghost use Rattle.std.specs.Prelude.{◌≡◌, [], length};
 ghost use Rattle.audit_report.specs.FaultLines.{fault_text};
 ghost use Rattle.pageaudit_c.specs.declared.status.Status.TheVariants.{BadText, BadPolicy};
-ghost use Rattle.pageaudit_c.specs.Answers.{IsOutOfMemory, IsAnswer, IsFaultAnswer, IsNewFaultAnswer};
-ghost use Rattle.pageaudit_c.specs.Calls.{laid_over};
+ghost use Rattle.pageaudit_c.specs.Calls.{IsOutOfMemory, IsAnswer, IsFaultAnswer, IsNewFaultAnswer, laid_over};
 
 use crate::status::Status;
 use audit_report::{RunFault, fault_text};

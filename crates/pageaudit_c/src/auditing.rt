@@ -1,8 +1,6 @@
 ghost use Rattle.std.specs.Prelude.{◌≡◌, ◌⊎◌};
 ghost use Rattle.base_text.specs.Whole.{IsTextBase};
-ghost use Rattle.pageaudit_c.specs.Answers.{IsOutOfMemory};
-ghost use Rattle.pageaudit_c.specs.Policies.{asked};
-ghost use Rattle.pageaudit_c.specs.Calls.{IsAskedAnswer, IsCall, buffer};
+ghost use Rattle.pageaudit_c.specs.Calls.{IsOutOfMemory, asked, IsAskedAnswer, IsCall, buffer};
 ghost use Rattle.pageaudit_c.specs.Audits.{status_of_outcome, IsReported, IsAuditAnswer};
 
 use crate::answer::{Answer, bad_policy, fault_answer, lay_over, out_of_memory};

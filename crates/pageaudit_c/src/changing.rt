@@ -2,9 +2,7 @@ ghost use Rattle.std.specs.Prelude.{◌≡◌, IfOk, IfErr};
 ghost use Rattle.checker.specs.Headline.{IsInputFault};
 ghost use Rattle.audit_report.specs.Lines.{change_text};
 ghost use Rattle.pageaudit_c.specs.declared.status.Status.TheVariants.{Clear};
-ghost use Rattle.pageaudit_c.specs.Answers.{IsAnswer};
-ghost use Rattle.pageaudit_c.specs.Policies.{asked, HoldsForPolicy};
-ghost use Rattle.pageaudit_c.specs.Calls.{IsAskedAnswer, IsCall, buffer};
+ghost use Rattle.pageaudit_c.specs.Calls.{IsAnswer, asked, HoldsForPolicy, IsAskedAnswer, IsCall, buffer};
 ghost use Rattle.pageaudit_c.specs.Changes.{edition, IsEditionOf, status_of_change, IsVerdictAnswer, IsChangeAnswer, IsSafeChangeOf};
 
 use crate::answer::{Answer, bad_policy, fault_answer, lay_over, new_fault_answer, out_of_memory};

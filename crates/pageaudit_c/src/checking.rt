@@ -2,9 +2,7 @@ ghost use Rattle.std.specs.Prelude.{◌≡◌};
 ghost use Rattle.checker.specs.Headline.{Headline};
 ghost use Rattle.audit_report.specs.Lines.{verdict_text};
 ghost use Rattle.pageaudit_c.specs.declared.status.Status.TheVariants.{Clear};
-ghost use Rattle.pageaudit_c.specs.Answers.{IsAnswer};
-ghost use Rattle.pageaudit_c.specs.Policies.{asked, HoldsForPolicy};
-ghost use Rattle.pageaudit_c.specs.Calls.{IsAskedAnswer, IsCall, buffer};
+ghost use Rattle.pageaudit_c.specs.Calls.{IsAnswer, asked, HoldsForPolicy, IsAskedAnswer, IsCall, buffer};
 ghost use Rattle.pageaudit_c.specs.Checks.{status_of_verdict, IsResultAnswer, IsCheckAnswer};
 
 use crate::answer::{Answer, bad_policy, fault_answer, lay_over, out_of_memory};

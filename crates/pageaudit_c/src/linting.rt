@@ -1,6 +1,5 @@
 ghost use Rattle.std.specs.Prelude.{◌≡◌};
-ghost use Rattle.pageaudit_c.specs.Policies.{asked};
-ghost use Rattle.pageaudit_c.specs.Calls.{IsAskedAnswer, IsCall, buffer};
+ghost use Rattle.pageaudit_c.specs.Calls.{asked, IsAskedAnswer, IsCall, buffer};
 ghost use Rattle.pageaudit_c.specs.Lints.{status_of_findings, IsLintAnswer};
 
 use crate::answer::{Answer, bad_policy, lay_over, out_of_memory};

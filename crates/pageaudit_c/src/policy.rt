@@ -1,5 +1,5 @@
 ghost use Rattle.std.specs.Prelude.{◌≡◌};
-ghost use Rattle.pageaudit_c.specs.Policies.{groups_of, IsPolicyRead, asked};
+ghost use Rattle.pageaudit_c.specs.Calls.{groups_of, IsPolicyRead, asked};
 
 use checker::Policy;
 use frame_records::{GroupFlaw, Groups, Pence};

@@ -1,7 +1,7 @@
 //! The plain form of painting: one step of the cursor for each byte.
 
 ghost use Rattle.std.specs.Prelude.{◌<◌, IfSome};
-ghost use Rattle.abstract_paint.specs.Cursor.{OnScreen};
+ghost use Rattle.abstract_paint.specs.Paint.{OnScreen};
 
 use abstract_paint::{AbsCursor, Painted, Pend, Place};
 use frame_records::Lead;

@@ -23,7 +23,7 @@ struct Counting<'a> {
 impl<'a> Model for Counting<'a> {
     ghost use Rattle.std.specs.Prelude.{map};
     ghost use Rattle.std.specs.Ordering.{nat_cmp};
-    ghost use Rattle.frame_records.specs.Orderings.{ProbeView};
+    ghost use Rattle.frame_records.specs.Bases.{ProbeView};
 
     ghost Value = { ProbeView };
 

@@ -2,13 +2,11 @@
 use Rattle.std.proofs.Common.{◌≡◌, ℕ, List, [], ◌∷◌, ◌++◌, refl, sym, ◌∙◌, ap, append_assoc}
 use Rattle.std.specs.List.{AllByRecursion}
 use Rattle.page_ids.specs.declared.key.Key.{Key}
-use Rattle.frame_records.specs.BaseView.{BaseView}
+use Rattle.frame_records.specs.Bases.{BaseView}
 use Rattle.session_machine.specs.declared.reply.Reply.{Reply}
 use Rattle.session_machine.specs.declared.reply.Reply.TheVariants.{NotOffered}
-use Rattle.session_machine.specs.State.{SessionState, Left}
-use Rattle.session_machine.specs.Step.{key_step}
-use Rattle.session_machine.specs.Runs.{state_after, replies_to}
-use Rattle.session_machine.specs.Editions.{Part, state_over, replies_over}
+use Rattle.session_machine.specs.Sessions.{SessionState, Left, key_step}
+use Rattle.session_machine.specs.Runs.{state_after, replies_to, Part, state_over, replies_over}
 
 pub state_in_turn : (caller : List ℕ) (base : BaseView) (from : SessionState) (keys more : List Key) → state_after caller base from (keys ++ more) ≡ state_after caller base (state_after caller base from keys) more
 state_in_turn caller base from [] more = refl

@@ -1,6 +1,6 @@
 -- What one key remembers and shows.
 use Rattle.std.proofs.Common.{ℕ, ◌≤◌, List, [], ◌∷◌, length, arith}
-use Rattle.page_ids.specs.Id.{Id}
+use Rattle.page_ids.specs.Ids.{Id}
 use Rattle.page_ids.specs.declared.key.Key.{Key}
 use Rattle.page_ids.specs.declared.key.Key.TheVariants.{Route, Next, Prev, Reprint, Update}
 use Rattle.page_ids.specs.declared.way.Way.TheVariants as ways
@@ -8,11 +8,10 @@ use Rattle.frame_records.specs.declared.base.Sought.{Sought}
 use Rattle.frame_records.specs.declared.base.Sought.TheVariants as sought
 use Rattle.frame_records.specs.declared.ways.Destination.{Destination}
 use Rattle.frame_records.specs.declared.ways.Destination.TheVariants as destination
-use Rattle.frame_records.specs.BaseView.{BaseView}
+use Rattle.frame_records.specs.Bases.{BaseView}
 use Rattle.frame_records.specs.Seek.{seek}
 use Rattle.frame_records.specs.Ways as led
-use Rattle.session_machine.specs.State.{SessionState, At, Left, remembered_of}
-use Rattle.session_machine.specs.Step.{Outcome, key_step, prev_step, by_way, by_prev, by_update, remember}
+use Rattle.session_machine.specs.Sessions.{SessionState, At, Left, remembered_of, Outcome, key_step, prev_step, by_way, by_prev, by_update, remember}
 use Rattle.session_machine.specs.Runs.{state_after}
 
 -- what one key keeps of what it finds

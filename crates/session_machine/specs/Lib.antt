@@ -1,8 +1,2 @@
-pub mod State
-pub mod View
-pub mod Step
-pub mod Open
+pub mod Sessions
 pub mod Runs
-pub mod Editions
-pub mod Safe
-pub mod SessionLaws

@@ -1,4 +1,4 @@
-ghost use Rattle.session_machine.specs.SessionLaws.{RunsInTurn, PartsInTurn, RemembersFew, LeftStays, ShowsWhatIsFound};
+ghost use Rattle.session_machine.specs.Runs.{RunsInTurn, PartsInTurn, RemembersFew, LeftStays, ShowsWhatIsFound};
 
 /// Of every two lists of keys: in turn they answer and lead as their concatenation does.
 pub fn runs_in_turn()

@@ -1,10 +1,8 @@
 ghost use Rattle.std.specs.Prelude.{◌≡◌, length, slice_get};
 ghost use Rattle.page_ids.specs.declared.key.Key.TheVariants.{Prev, Reprint, Update};
 ghost use Rattle.page_ids.specs.Ways.{way_key};
-ghost use Rattle.frame_records.specs.BaseView.{BaseView};
-ghost use Rattle.session_machine.specs.Open.{IsOpened};
-ghost use Rattle.session_machine.specs.State.{present, left_for, remembered_of};
-ghost use Rattle.session_machine.specs.Step.{key_step};
+ghost use Rattle.frame_records.specs.Bases.{BaseView};
+ghost use Rattle.session_machine.specs.Sessions.{IsOpened, present, left_for, remembered_of, key_step};
 
 use crate::reply::Reply;
 use circular_buffer::HeapCircularBuffer;
@@ -47,11 +45,11 @@ pub struct Session {
 }
 
 impl Model for Session {
-    ghost use Rattle.session_machine.specs.State.{SessionView};
+    ghost use Rattle.session_machine.specs.Sessions.{SessionView};
 
     ghost Value = { SessionView };
 
-    ghost use Rattle.session_machine.specs.View.{session_view, IsRing};
+    ghost use Rattle.session_machine.specs.Sessions.{session_view, IsRing};
 
     ghost view = { session_view };
 

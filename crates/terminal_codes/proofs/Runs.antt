@@ -2,12 +2,9 @@
 use Rattle.std.proofs.Common.{◌≡◌, ℕ, inl, inr, arith, refl, ap, sym, ◌∙◌, subst, Bool, true, false, List, [], ◌∷◌, ◌++◌, Option, Some, None, ◌==◌, nat_lt}
 use Rattle.std.proofs.lemmas.Bool.{cases_eq}
 use Rattle.std.proofs.lemmas.Bool.Decides.{nat_tests}
-use Rattle.terminal_codes.specs.Screen.{Screen}
-use Rattle.terminal_codes.specs.Carets.{caret_of}
+use Rattle.terminal_codes.specs.Screen.{Screen, high_code_of, control_step, with_code, byte_step, run}
+use Rattle.terminal_codes.specs.Writes.{caret_of, control_at, past, byte_writes, caret_step, caret_run, caret_writes, writes, blanks, has_service, touches, RunsAlike}
 use Rattle.terminal_codes.specs.declared.caret.Caret.{Caret}
-use Rattle.terminal_codes.specs.ByteTable.{high_code_of, control_step, with_code, byte_step, run}
-use Rattle.terminal_codes.specs.Writes.{control_at, past, byte_writes, caret_step, caret_run, caret_writes, writes, blanks, has_service, touches}
-use Rattle.terminal_codes.specs.WriteLaws.{RunsAlike}
 
 caret_of_control : (t : Screen) (b : ℕ) → caret_of (control_step t b) ≡ record { at = control_at t.at b; pending = b == 27 }
 caret_of_control t b =

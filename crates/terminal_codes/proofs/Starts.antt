@@ -3,14 +3,9 @@ use Rattle.std.proofs.Common.{◌≡◌, ℕ, ◌<◌, ap, sym, ◌∙◌, Bool,
 use Rattle.std.proofs.lemmas.List.{append-nil, length-replicate}
 use Rattle.terminal_codes.specs.declared.caret.Caret.{Caret}
 use Rattle.frame_records.specs.declared.frame.Lead.{Lead}
-use Rattle.terminal_codes.specs.Screen.{Screen, IsScreen}
-use Rattle.terminal_codes.specs.Carets.{caret_of}
-use Rattle.terminal_codes.specs.ByteTable.{run}
-use Rattle.terminal_codes.specs.Writes.{byte_writes, writes, has_service, touches, caret_run}
-use Rattle.terminal_codes.specs.Leads.{lead_codes}
-use Rattle.terminal_codes.specs.Touch.{sent, TouchesAt}
-use Rattle.terminal_codes.specs.Ends.{EndsAt}
-use Rattle.terminal_codes.specs.Starts.{StartTouches, StartEnds, screen_at, StartsAreEnough}
+use Rattle.terminal_codes.specs.Screen.{Screen, IsScreen, run}
+use Rattle.terminal_codes.specs.Writes.{caret_of, byte_writes, writes, has_service, touches, caret_run}
+use Rattle.terminal_codes.specs.Bodies.{lead_codes, sent, TouchesAt, EndsAt, StartTouches, StartEnds, screen_at, StartsAreEnough}
 use Rattle.terminal_codes.proofs.Runs.{caret_of_run}
 use Rattle.terminal_codes.proofs.Stores.{screen_of_run}
 

@@ -1,9 +1,3 @@
 pub mod Screen
-pub mod Carets
-pub mod ByteTable
 pub mod Writes
-pub mod WriteLaws
-pub mod Leads
-pub mod Touch
-pub mod Ends
-pub mod Starts
+pub mod Bodies

@@ -1,10 +1,15 @@
--- What a byte, and a list of bytes, writes: pairs of a position and a code, in order.
-use Rattle.std.specs.Prelude.{ℕ, ◌+◌, ◌%◌, ◌==◌, ◌||◌, ◌&&◌, map, Bool, List, [], ◌∷◌, ◌++◌, Option, Some, None, nat_lt, nat_le, if◌then◌else◌, set}
-use Rattle.std.specs.List.{range_with_len, list_any}
-use Rattle.terminal_codes.specs.Screen.{Screen}
-use Rattle.terminal_codes.specs.Carets.{caret_of}
+-- What bytes write, and where they leave a terminal.
 use Rattle.terminal_codes.specs.declared.caret.Caret.{Caret}
-use Rattle.terminal_codes.specs.ByteTable.{moved, code_of, byte_step}
+use Rattle.terminal_codes.specs.Screen.{Screen, moved, code_of, byte_step, IsScreen, run}
+use Rattle.std.specs.Prelude.{ℕ, ◌+◌, ◌%◌, ◌==◌, ◌||◌, ◌&&◌, map, Bool, List, [], ◌∷◌, ◌++◌, Option, Some, None, nat_lt, nat_le, if◌then◌else◌, set, ◌≡◌, false, get_or}
+use Rattle.std.specs.List.{range_with_len, list_any}
+
+-- Where a terminal is: its position and pending escape, without its cells.
+
+abbrev pub caret_of : Screen → Caret
+caret_of t = record { at = t.at; pending = t.pending }
+
+-- What a byte, and a list of bytes, writes: pairs of a position and a code, in order.
 
 -- the first n cells, blank (32, a space)
 unfoldable pub blanks : ℕ → List (ℕ × ℕ)
@@ -80,3 +85,24 @@ has_service ws = list_any (λ w. is_service w.0 w.1) ws
 -- the byte writes a service position
 abbrev pub touches : Caret → ℕ → Bool
 touches c b = has_service (byte_writes c b)
+
+-- What is said of every terminal and every list of bytes.
+
+-- the cells afterwards are those before with the pairs stored in order, and no other cell changes
+pub record StoresWrites (t : Screen) (bytes : List ℕ) : Type 0 where
+  pub cells : (run t bytes).cells ≡ stored t.cells (writes t bytes)
+  pub others : (p : ℕ) → is_written p (writes t bytes) ≡ false → get_or (run t bytes).cells p 0 ≡ get_or t.cells p 0
+  pub screen : IsScreen (run t bytes)
+
+-- of every terminal and all bytes
+abbrev pub CellsAreWrites : Type 0
+CellsAreWrites = (t : Screen) (bytes : List ℕ) → IsScreen t → StoresWrites t bytes
+
+-- the pairs and the end are the same from equal position and pending escape
+pub record RunsAlike (t u : Screen) (bytes : List ℕ) : Type 0 where
+  pub writes : writes t bytes ≡ writes u bytes
+  pub ends : caret_of (run t bytes) ≡ caret_of (run u bytes)
+
+-- of every two terminals and all bytes
+abbrev pub CaretDecides : Type 0
+CaretDecides = (t u : Screen) (bytes : List ℕ) → caret_of t ≡ caret_of u → RunsAlike t u bytes

@@ -1,7 +1,7 @@
 //! Where a terminal is.
 
 ghost use Rattle.std.specs.Prelude.{◌≡◌, ◌<◌};
-ghost use Rattle.terminal_codes.specs.ByteTable.{moved};
+ghost use Rattle.terminal_codes.specs.Screen.{moved};
 ghost use Rattle.terminal_codes.specs.Writes.{caret_step, caret_run, touches};
 
 use crate::table::{code_written, is_service_position, moved_by};

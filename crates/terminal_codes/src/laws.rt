@@ -1,7 +1,7 @@
 //! Laws of the terminal: facts about its definitions, which these functions carry and which need no code.
 
-ghost use Rattle.terminal_codes.specs.Starts.{StartsDecide};
-ghost use Rattle.terminal_codes.specs.WriteLaws.{CellsAreWrites, CaretDecides};
+ghost use Rattle.terminal_codes.specs.Bodies.{StartsDecide};
+ghost use Rattle.terminal_codes.specs.Writes.{CellsAreWrites, CaretDecides};
 
 /// Of every terminal: the cells after any bytes are those before with what was written stored in order, and no other
 /// cell changes.

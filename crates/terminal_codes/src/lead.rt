@@ -1,7 +1,7 @@
 //! What the centre sends before the body of a frame.
 
 ghost use Rattle.std.specs.Prelude.{◌≡◌};
-ghost use Rattle.terminal_codes.specs.Leads.{lead_codes};
+ghost use Rattle.terminal_codes.specs.Bodies.{lead_codes};
 
 use frame_records::Lead;
 

@@ -1,7 +1,7 @@
 //! The byte table, without a terminal: what a byte writes and where it moves.
 
 ghost use Rattle.std.specs.Prelude.{◌≡◌, ◌<◌};
-ghost use Rattle.terminal_codes.specs.ByteTable.{moved, attribute_of, code_of};
+ghost use Rattle.terminal_codes.specs.Screen.{moved, attribute_of, code_of};
 ghost use Rattle.terminal_codes.specs.Writes.{is_service};
 
 // Where a byte from 00 to 1F leaves the position, 0C aside.

@@ -1,9 +1,8 @@
 //! The terminal with its cells.
 
 ghost use Rattle.std.specs.Prelude.{◌≡◌, ◌<◌, false, true, replicate};
-ghost use Rattle.terminal_codes.specs.Screen.{Screen, IsScreen};
-ghost use Rattle.terminal_codes.specs.ByteTable.{control_step, with_code, byte_step, run};
-ghost use Rattle.terminal_codes.specs.WriteLaws.{StoresWrites};
+ghost use Rattle.terminal_codes.specs.Screen.{Screen, IsScreen, control_step, with_code, byte_step, run};
+ghost use Rattle.terminal_codes.specs.Writes.{StoresWrites};
 
 use crate::table::{code_written, moved_by};
 use std::marker::Model;

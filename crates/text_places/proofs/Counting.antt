@@ -12,8 +12,7 @@ use Rattle.toml.specs.Parse.{lines, skip_bom, parse_document}
 use Rattle.toml_parser.specs.Strings.{Key}
 use Rattle.toml.specs.Data.{Data, same_key, Items, no_items, item, push_item, Members, array, table, get_member}
 use Rattle.toml.specs.Tables.{implicit, dotted, header, Origin, Node, Nodes, no_nodes, value, open_table, open_array, get_node, Edit, header_node, along_header, key_value, std_table, array_table, redefine, at_key, put, Document, Expression, define, close, close_node, node}
-use Rattle.text_places.specs.Marks.{Mark, Section, frame_key, parts, is_frame, section_at, frame_of, mark_in, mark_of, next_section, top, marks}
-use Rattle.text_places.specs.PlaceLaws.{HeadersAreFrames, opens_frame, header_count, item_count}
+use Rattle.text_places.specs.Places.{Mark, Section, frame_key, parts, is_frame, section_at, frame_of, mark_in, mark_of, next_section, top, marks, HeadersAreFrames, opens_frame, header_count, item_count}
 use Rattle.text_places.proofs.Options.{mapped}
 use Rattle.text_places.proofs.LineSteps.{lines_keep}
 use Rattle.text_places.proofs.NodeSteps.{cases_ordering, key_is, Sets, first_of, header_passed, IsPlain, key_set, pair_set}

@@ -8,8 +8,7 @@ use Rattle.std.specs.Str.{bytes_eq}
 use Rattle.std.specs.BTreeMap.{get_by_text}
 use Rattle.text_places.specs.declared.places.Places.{Places}
 use Rattle.text_places.specs.declared.places.FramePlaces.{FramePlaces}
-use Rattle.text_places.specs.Marks.{Mark}
-use Rattle.text_places.specs.Places.{same_frame, begins, is_under, first_at, routes_key, at_if, is_key, NotesFrame, header_in, key_in, route_in, Keeps}
+use Rattle.text_places.specs.Places.{Mark, same_frame, begins, is_under, first_at, routes_key, at_if, is_key, NotesFrame, header_in, key_in, route_in, Keeps}
 
 pub option_or-none : {A : Type 0} (o : Option A) → option_or o None ≡ o
 option_or-none None = refl

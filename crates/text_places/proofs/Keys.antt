@@ -11,9 +11,7 @@ use Rattle.toml.specs.Data.{Data, same_key, Items, no_items, item, push_item, ge
 use Rattle.toml.specs.Tables.{implicit, dotted, header, redefine, close_node, Node, Nodes, no_nodes, value, open_table, open_array, get_node, Edit, header_node, along_header, Definition, key_value, std_table, array_table, at_key, put, Document, Expression, define, close}
 use Rattle.toml.specs.Parse.{lines, skip_bom, parse_document}
 use Rattle.toml.proofs.NodeLaws.{same_key-self}
-use Rattle.text_places.specs.Marks.{Mark, Section, frame_key, parts, section_at, mark_in, mark_of, next_section, top, marks}
-use Rattle.text_places.specs.Places.{same_frame, begins, first_at, at_if}
-use Rattle.text_places.specs.PlaceLaws.{item_count, FramesHaveTheirKeys}
+use Rattle.text_places.specs.Places.{Mark, Section, frame_key, parts, section_at, mark_in, mark_of, next_section, top, marks, same_frame, begins, first_at, at_if, item_count, FramesHaveTheirKeys}
 use Rattle.text_places.proofs.Options.{mapped}
 use Rattle.text_places.proofs.Firsts.{elsewhere, inside}
 use Rattle.text_places.proofs.LineSteps.{lines_keep}

@@ -6,7 +6,7 @@ use Rattle.toml_parser.specs.Lexical.{skip_blank}
 use Rattle.toml.specs.Tables.{Document, Expression, define}
 use Rattle.toml.specs.Parse.{line, lines}
 use Rattle.text_places.proofs.Options.{stepped}
-use Rattle.text_places.specs.Marks.{Mark, Section, mark_of, next_section, marks_from}
+use Rattle.text_places.specs.Places.{Mark, Section, mark_of, next_section, marks_from}
 
 marks_next : (size n : ℕ) (s : Section) (text : List ℕ) (e : Expression) (after : List ℕ) → (length (skip_blank text) == 0) ≡ false
     → line (skip_blank text) ≡ Some (e, after)

@@ -15,8 +15,7 @@ use Rattle.text_places.specs.declared.lines.Sort.{Sort}
 use Rattle.text_places.specs.declared.lines.Sort.TheVariants.{Pair, Table, ArrayTable}
 use Rattle.text_places.specs.declared.places.Places.{Places}
 use Rattle.text_places.specs.Skips.{sort_of, line_of, whole_line, Line}
-use Rattle.text_places.specs.Marks.{Mark, Section, frame_key, top, parts, is_frame, section_at, section_after, own_parts, mark_in, mark_of, next_section, marks_from, marks}
-use Rattle.text_places.specs.Places.{Keeps}
+use Rattle.text_places.specs.Places.{Mark, Section, frame_key, top, parts, is_frame, section_at, section_after, own_parts, mark_in, mark_of, next_section, marks_from, marks, Keeps}
 use Rattle.text_places.specs.Walk.{IsOpen, Walks}
 use Rattle.text_places.proofs.Follows.{line_follows}
 

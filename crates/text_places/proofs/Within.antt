@@ -4,9 +4,7 @@ use Rattle.std.proofs.lemmas.Bool.{cases_Bool}
 use Rattle.std.specs.Option.{option_or}
 use Rattle.toml_parser.specs.Lexical.{skip_blank}
 use Rattle.toml.specs.Parse.{line, skip_bom}
-use Rattle.text_places.specs.Marks.{Section, top, frame_key, mark_of, next_section, marks_from, marks}
-use Rattle.text_places.specs.Places.{is_under, first_at, routes_key}
-use Rattle.text_places.specs.PlaceLaws.{PlacesAreWithin}
+use Rattle.text_places.specs.Places.{Section, top, frame_key, mark_of, next_section, marks_from, marks, is_under, first_at, routes_key, PlacesAreWithin}
 use Rattle.text_places.proofs.Options.{cases_option}
 
 abbrev AtMost : Option ℕ → ℕ → Type 0

@@ -1,10 +1,8 @@
 -- The definitions at small texts.
 use Rattle.std.proofs.Common.{◌≡◌, [], ◌∷◌, Some, None, codes, refl}
 use Rattle.toml.proofs.OnLiterals.{toml_on_literals}
-use Rattle.text_places.specs.Skips.{after_atom, after_member, after_members, after_value}
-use Rattle.text_places.specs.Marks.{marks_from, marks}
-use Rattle.text_places.specs.Places.{header_place, key_place, route_place}
-use Rattle.text_places.specs.Scans.{line_after, column_after, place_at}
+use Rattle.text_places.specs.Skips.{after_atom, after_member, after_members, after_value, line_after, column_after, place_at}
+use Rattle.text_places.specs.Places.{marks_from, marks, header_place, key_place, route_place}
 
 a_frame : marks (codes "a = 1\n[[frame]]\nid = 1") ≡
     record { at = 0; frame = None; path = codes "a" ∷ [] } ∷ record { at = 6; frame = Some 0; path = [] }

@@ -1,11 +1,97 @@
--- The places of a base's text: where its keys are first written, frame by frame.
-use Rattle.std.specs.Prelude.{◌≡◌, ℕ, Bool, true, false, ◌&&◌, ◌==◌, if◌then◌else◌, List, [], ◌∷◌, codes, slice_get, Option, Some, None, unwrap_or}
-use Rattle.std.specs.Option.{option_or}
+-- The places of the marks of a text.
+use Rattle.std.specs.Prelude.{ℕ, zero, suc, ◌+◌, ◌-◌, Bool, false, ◌&&◌, ◌==◌, nat_lt, if◌then◌else◌, List, [], ◌∷◌, ◌++◌, length, codes, Option, Some, None, ◌≡◌, true, slice_get, unwrap_or, ◌<◌, ◌≤◌, is_some}
+use Rattle.std.specs.Option.{option_map_or, option_or}
 use Rattle.std.specs.Str.{bytes_eq}
+use Rattle.toml_parser.specs.Lexical.{skip_blank}
+use Rattle.toml_parser.specs.Strings.{Key}
+use Rattle.toml.specs.Tables.{Expression}
+use Rattle.toml.specs.Parse.{line, skip_bom, parse_document}
+use Rattle.text_places.specs.declared.lines.Sort.{Sort}
+use Rattle.text_places.specs.declared.lines.Sort.TheVariants.{Pair, Table, ArrayTable}
+use Rattle.text_places.specs.Skips.{sort_of}
 use Rattle.std.specs.BTreeMap.{get_by_text}
 use Rattle.text_places.specs.declared.places.Places.{Places}
 use Rattle.text_places.specs.declared.places.FramePlaces.{FramePlaces}
-use Rattle.text_places.specs.Marks.{Mark, frame_key}
+use Rattle.std.specs.List.{count_by}
+use Rattle.toml.specs.Data.{Items, no_items, item, get_item, Members, array, table, get_member}
+
+-- Where the expressions of a text begin, and what each of them writes.
+
+-- the offset of an expression's first byte, the frame that it writes in (none for the top), and its keys in there
+pub record Mark : Type 0 where
+  pub at : ℕ
+  pub frame : Option ℕ
+  pub path : List (List ℕ)
+
+-- After an expression: how many headers [[frame]] came so far, whether the latest header of all leads into the frame that the
+-- latest of them opened, and the keys of that header, in the frame or in the top.
+pub record Section : Type 0 where
+  pub frames : ℕ
+  pub in_frame : Bool
+  pub path : List (List ℕ)
+
+-- before the first expression
+abbrev pub top : Section
+top = record { frames = 0; in_frame = false; path = [] }
+
+abbrev pub frame_key : List ℕ
+frame_key = codes "frame"
+
+abbrev pub parts : Key → List (List ℕ)
+parts key = key.0 ++ key.1 ∷ []
+
+-- the parts of a header [[frame]], however it is spelled
+abbrev pub is_frame : List (List ℕ) → Bool
+is_frame (part ∷ []) = bytes_eq part frame_key
+is_frame _ = false
+
+-- the section of a header with these parts, after so many headers [[frame]]
+abbrev pub section_at : ℕ → List (List ℕ) → Section
+section_at frames [] = record { frames = frames; in_frame = false; path = [] }
+section_at frames (part ∷ rest) =
+    let inside = nat_lt 0 frames && bytes_eq part frame_key in
+    record { frames = frames; in_frame = inside; path = if inside then rest else part ∷ rest }
+
+-- A pair stays in its section. A header [[frame]] opens the next frame.
+abbrev pub section_after : Section → Key → Sort → Section
+section_after s key Pair = s
+section_after s key Table = section_at s.frames (parts key)
+section_after s key ArrayTable = section_at (if is_frame (parts key) then s.frames + 1 else s.frames) (parts key)
+
+-- the keys of an expression in its section: a header has them all there
+abbrev pub own_parts : Key → Sort → List (List ℕ)
+own_parts key Pair = parts key
+own_parts key Table = []
+own_parts key ArrayTable = []
+
+-- the frame that a section writes in
+abbrev pub frame_of : Section → Option ℕ
+frame_of s = if s.in_frame then Some (s.frames - 1) else None
+
+-- what an expression at this offset writes, whose section is this
+abbrev pub mark_in : Section → List (List ℕ) → ℕ → Mark
+mark_in s own at = record { at = at; frame = frame_of s; path = s.path ++ own }
+
+abbrev pub next_section : Section → Expression → Section
+next_section s e = section_after s e.0 (sort_of e.1)
+
+abbrev pub mark_of : Section → Expression → ℕ → Mark
+mark_of s e at = mark_in (next_section s e) (own_parts e.0 (sort_of e.1)) at
+
+-- What is written in the rest of a text of `size` bytes, which has fewer than n expressions. Where a line is no expression
+-- the list ends.
+unfoldable pub marks_from : ℕ → ℕ → Section → List ℕ → List Mark
+marks_from size zero s text = []
+marks_from size (suc n) s text =
+    let start = skip_blank text in
+    if length start == 0 then []
+    else option_map_or (λ e. mark_of s e.0 (size - length start) ∷ marks_from size n (next_section s e.0) e.1) (line start) []
+
+-- what each expression of a text writes, in the order of the text
+unfoldable pub marks : List ℕ → List Mark
+marks text = marks_from (length text) (suc (length text)) top (skip_bom text)
+
+-- The places of a base's text: where its keys are first written, frame by frame.
 
 abbrev pub same_frame : Option ℕ → Option ℕ → Bool
 same_frame None None = true
@@ -75,3 +161,39 @@ pub record Keeps (p : Places) (ms : List Mark) : Type 0 where
   pub headers : (k : ℕ) → header_in (slice_get p.frames.items k) ≡ first_at ms (Some k) []
   pub keys : (k : ℕ) (q : List ℕ) → key_in (slice_get p.frames.items k) q ≡ first_at ms (Some k) (q ∷ [])
   pub routes : (k : ℕ) (q : List ℕ) → route_in (slice_get p.frames.items k) q ≡ first_at ms (Some k) (routes_key ∷ q ∷ [])
+
+-- The laws of places, over the definitions.
+
+-- the mark is that of a frame's header
+abbrev pub opens_frame : Mark → Bool
+opens_frame m = is_some m.frame && length m.path == 0
+
+-- how many of the marks open a frame
+abbrev pub header_count : List Mark → ℕ
+header_count ms = count_by opens_frame ms
+
+abbrev pub item_count : Items → ℕ
+item_count no_items = 0
+item_count (item d ds) = item_count ds + 1
+
+-- Of a text that is TOML and has a header [[frame]]: the array at `frame` has one element for each such header.
+unfoldable pub HeadersAreFrames : Type 0
+HeadersAreFrames =
+    (text : List ℕ) (ms : Members) → parse_document text ≡ Some ms → 0 < header_count (marks text)
+    → (frames : Items) × (get_member frame_key ms ≡ Some (array frames)) × (item_count frames ≡ header_count (marks text))
+
+-- Of a text that is TOML: the frame with such an index has exactly the keys that the marks of the header with that index begin
+-- with. So a key that a frame has is written where its place is.
+unfoldable pub FramesHaveTheirKeys : Type 0
+FramesHaveTheirKeys =
+    (text : List ℕ) (ms : Members) (frames : Items) (k : ℕ) → parse_document text ≡ Some ms → get_member frame_key ms ≡ Some (array frames)
+    → k < header_count (marks text)
+    → (frame : Members) × (get_item k frames ≡ Some (table frame))
+    × ((key : List ℕ) → is_some (get_member key frame) ≡ is_some (first_at (marks text) (Some k) (key ∷ [])))
+
+-- Of every text: no place is past its end.
+unfoldable pub PlacesAreWithin : Type 0
+PlacesAreWithin =
+    (text : List ℕ) (frame : ℕ) (key : List ℕ)
+    → (header_place (marks text) frame ≤ length text) × (key_place (marks text) None key ≤ length text)
+    × (key_place (marks text) (Some frame) key ≤ length text) × (route_place (marks text) frame key ≤ length text)

@@ -7,8 +7,7 @@ use Rattle.text_places.specs.declared.lines.Sort.{Sort}
 use Rattle.text_places.specs.declared.lines.Sort.TheVariants.{Pair, Table, ArrayTable}
 use Rattle.text_places.specs.declared.places.Places.{Places}
 use Rattle.text_places.specs.declared.places.Section as code
-use Rattle.text_places.specs.Marks.{Section, is_frame, marks}
-use Rattle.text_places.specs.Places.{Keeps}
+use Rattle.text_places.specs.Places.{Section, is_frame, marks, Keeps}
 use Rattle.toml.specs.Parse.{parse_document}
 
 abbrev pub frame_count : Places → ℕ

@@ -1,4 +1,4 @@
-ghost use Rattle.text_places.specs.PlaceLaws.{HeadersAreFrames, FramesHaveTheirKeys, PlacesAreWithin};
+ghost use Rattle.text_places.specs.Places.{HeadersAreFrames, FramesHaveTheirKeys, PlacesAreWithin};
 
 /// Of every text that is TOML and has a header `[[frame]]`: the array at `frame` has one element for each such header. So the
 /// k-th header opens the k-th frame.

@@ -6,7 +6,7 @@ ghost use Rattle.std.specs.Str.{bytes_eq};
 ghost use Rattle.std.specs.BTreeMap.{get_by_text};
 ghost use Rattle.toml_parser.specs.Reading.{key_view, path_view};
 ghost use Rattle.toml.specs.Parse.{parse_document};
-ghost use Rattle.text_places.specs.Marks as spec;
+ghost use Rattle.text_places.specs.Places as spec;
 ghost use Rattle.text_places.specs.Places.{NotesFrame, Keeps, at_if, is_key, routes_key, first_at, header_place, key_place, route_place};
 ghost use Rattle.text_places.specs.Walk.{frame_count, section_view, frames_after, IsOpen, Walks};
 

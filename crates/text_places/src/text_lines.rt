@@ -1,7 +1,7 @@
 //! Offsets as lines and columns.
 
 ghost use Rattle.std.specs.Prelude.{◌≡◌, ◌≤◌, IfOk, length};
-ghost use Rattle.text_places.specs.Scans as spec;
+ghost use Rattle.text_places.specs.Skips as spec;
 
 use std::alloc::{AllocError, Global};
 use std::marker::Model;
@@ -20,7 +20,7 @@ pub struct TextLines<'a> {
 
 impl<'a> Model for TextLines<'a> {
     ghost use Rattle.std.specs.Prelude.{List, ℕ};
-    ghost use Rattle.text_places.specs.Scans.{ArePlaces};
+    ghost use Rattle.text_places.specs.Skips.{ArePlaces};
 
     ghost Value = { List ℕ };
 

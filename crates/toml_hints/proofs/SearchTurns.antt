@@ -2,9 +2,8 @@
 use Rattle.std.proofs.Common.{◌≡◌, ℕ, ◌<◌, ◌≤◌, ◌-◌, zero, suc, List, None, if◌then◌else◌, refl, get_or}
 use native.Mathlib.Numerals.{unary_clauses}
 use Rattle.toml_hints.specs.declared.backwards.Turn.{Turn}
-use Rattle.toml_hints.specs.Backwards.{last_place, after_turn}
+use Rattle.toml_hints.specs.Rules.{last_place, after_turn, run_start, is_in}
 use Rattle.toml_hints.specs.declared.bytes.Class.{Class}
-use Rattle.toml_hints.specs.Classes.{run_start, is_in}
 
 -- each judges the place before `n`, of which the code knows that `0 < n`
 pub last_place_turn : (judge : ℕ → Turn) (n : ℕ) → 0 < n

@@ -1,17 +1,128 @@
--- When each hint is given: by toml's message, by what the text begins with, and by what is before and after the place of the
--- message.
-use Rattle.std.specs.Prelude.{ℕ, Bool, true, false, not, ◌||◌, ◌&&◌, ◌==◌, nat_eq, nat_le, if◌then◌else◌, List, [], ◌∷◌, codes, take, drop, Option, Some, None, option_map}
-use Rattle.std.specs.Option.{option_or}
-use Rattle.std.specs.List.{take_while, starts_with, ends_with}
-use Rattle.std.specs.Str.{bytes_eq, str_eq_ignore_ascii_case}
+-- The rules of hints.
+use Rattle.std.specs.Prelude.{ℕ, zero, suc, Bool, not, ◌||◌, ◌&&◌, ◌==◌, if◌then◌else◌, List, drop, slice_index, Option, Some, None, ◌+◌, length, take, ◌-◌, true, false, nat_eq, nat_le, [], ◌∷◌, codes, option_map, ◌++◌, min, decimal}
+use Rattle.std.specs.List.{prefix_len, take_while, starts_with, ends_with}
 use Rattle.std.specs.Char.{is_ascii_alphabetic, is_ascii_digit}
-use Rattle.toml_parser.specs.Lexical.{is_bare, first, line_feed, carriage_return, quote, backslash}
+use Rattle.toml_parser.specs.Lexical.{is_ws, is_bare, first, left_bracket, right_bracket, equals, dot, line_feed, left_brace, right_brace, carriage_return, quote, backslash}
+use Rattle.toml_hints.specs.declared.bytes.Class.{Class}
+use Rattle.toml_hints.specs.declared.bytes.Class.TheVariants.{Blank, Digit, Bare, Path, Key, Line}
+use Rattle.toml_hints.specs.declared.backwards.Turn.{Turn}
+use Rattle.toml_hints.specs.declared.backwards.Turn.TheVariants.{Found, Stop, Continue}
+use Rattle.std.specs.Str.{bytes_eq, str_eq_ignore_ascii_case}
+use Rattle.std.specs.Option.{option_or}
 use Rattle.toml_hints.specs.declared.hint.Hint.{Hint}
 use Rattle.toml_hints.specs.declared.hint.Hint.TheVariants.{Utf16, NotUtf8, Certificate, CurlyQuote, Slashes, TwoBrackets, TwoBracketsOn, Defined, NotClosed, MissingQuote, LeadingZero, TrueOrFalse, Unquoted}
-use Rattle.toml_hints.specs.declared.bytes.Class.TheVariants.{Digit, Line}
-use Rattle.toml_hints.specs.Classes.{is_in, after, begins_pair, run_start}
-use Rattle.toml_hints.specs.Keys.{earlier_definition}
-use Rattle.toml_hints.specs.Brackets.{open_bracket}
+use Rattle.text_places.specs.Skips.{line_after}
+
+-- Sets of bytes, and runs of them.
+
+-- = ends the key of a pair, and ] that of a header
+abbrev pub ends_key : ℕ → Bool
+ends_key byte = byte == equals || byte == right_bracket
+
+-- a space or a tab; a digit; a letter, a digit, - or _; these and dots; all that doesn't end a key; all but a line feed
+abbrev pub is_in : Class → ℕ → Bool
+is_in Blank byte = is_ws byte
+is_in Digit byte = is_ascii_digit byte
+is_in Bare byte = is_bare byte
+is_in Path byte = is_bare byte || byte == dot
+is_in Key byte = not (ends_key byte)
+is_in Line byte = not (byte == line_feed)
+
+-- what follows the bytes of a class at the front
+abbrev pub after : Class → List ℕ → List ℕ
+after class bytes = drop (prefix_len (is_in class) bytes) bytes
+
+-- where the bytes of a class begin that end at a place
+unfoldable pub run_start : Class → List ℕ → ℕ → ℕ
+run_start class bytes zero = zero
+run_start class bytes (suc n) = if is_in class (slice_index bytes n) then run_start class bytes n else suc n
+
+-- a key that begins with a letter, and an equals sign
+abbrev pub begins_pair : List ℕ → Bool
+begins_pair bytes = is_ascii_alphabetic (first bytes) && first (after Blank (after Path bytes)) == equals
+
+-- a line that begins as an expression: with a header's bracket, or with such a pair
+abbrev pub begins_expression : List ℕ → Bool
+begins_expression line = first (after Blank line) == left_bracket || begins_pair (after Blank line)
+
+-- Searches back from a place.
+
+-- what a search results in that judged a place, if the places before it result in `others`
+abbrev pub after_turn : Turn → ℕ → Option ℕ → Option ℕ
+after_turn Found place others = Some place
+after_turn Stop place others = None
+after_turn Continue place others = others
+
+-- the last place before `end` that is sought, unless one after it stops the search
+unfoldable pub last_place : (ℕ → Turn) → ℕ → Option ℕ
+last_place judge zero = None
+last_place judge (suc n) = after_turn (judge n) n (last_place judge n)
+
+-- The key of an expression, and where it was defined before.
+
+-- the part of a key that ends at a place, blanks aside: a bare word, or nothing
+abbrev pub part_before : List ℕ → ℕ → List ℕ
+part_before text n = let end = run_start Blank text n in drop (run_start Bare text end) (take end text)
+
+-- the last part of the key of the expression at a place
+unfoldable pub name_at : List ℕ → ℕ → List ℕ
+name_at text at = part_before text (at + prefix_len (is_in Key) (drop at text))
+
+-- a byte ends a part of a key, and this part is the name
+abbrev pub ends_name : List ℕ → List ℕ → ℕ → Bool
+ends_name text name n =
+    (ends_key (slice_index text n) || slice_index text n == dot) && bytes_eq (part_before text n) name
+
+-- a header in double brackets begins
+abbrev pub begins_element : List ℕ → ℕ → Bool
+begins_element text n = slice_index text n == left_bracket && slice_index text (n + 1) == left_bracket
+
+-- A definition of a name is sought as far back as the table goes: up to a header in double brackets.
+abbrev pub definition_turn : List ℕ → List ℕ → ℕ → Turn
+definition_turn text name n = if ends_name text name n then Found else if begins_element text n then Stop else Continue
+
+-- where the name of the expression at a place was defined before, if the name is a bare word
+abbrev pub earlier_definition : List ℕ → ℕ → Option ℕ
+earlier_definition text at =
+    let name = name_at text at in if length name == 0 then None else last_place (definition_turn text name) at
+
+-- A bracket or a brace that isn't closed.
+
+abbrev pub closes : ℕ → Bool
+closes byte = byte == right_bracket || byte == right_brace
+
+abbrev pub opens : ℕ → Bool
+opens byte = byte == left_bracket || byte == left_brace
+
+-- the byte before a place, blanks aside
+abbrev pub byte_before : List ℕ → ℕ → ℕ
+byte_before text n = slice_index text (run_start Blank text n - 1)
+
+-- a bracket or a brace opens a value, after an equals sign
+abbrev pub opens_value : List ℕ → ℕ → Bool
+opens_value text n = opens (slice_index text n) && byte_before text n == equals
+
+-- An open one is sought back from a place, until one that closes.
+abbrev pub bracket_turn : List ℕ → ℕ → Turn
+bracket_turn text n = if opens_value text n then Found else if closes (slice_index text n) then Stop else Continue
+
+-- where a list or table had to be closed at the latest: at the text's end, or before a line that begins as an expression
+abbrev pub latest_end : List ℕ → ℕ → Option ℕ
+latest_end text at =
+    let start = run_start Line text at in
+    if at == length text then Some at else if begins_expression (drop start text) then Some start else None
+
+-- the bracket or brace that is open there
+abbrev pub open_at : List ℕ → Option ℕ → Option ℕ
+open_at text None = None
+open_at text (Some end) = last_place (bracket_turn text) end
+
+-- the bracket or brace that isn't closed where it had to be
+abbrev pub open_bracket : List ℕ → ℕ → Option ℕ
+open_bracket text at = open_at text (latest_end text at)
+
+-- When each hint is given: by toml's message, by what the text begins with, and by what is before and after the place of the
+-- message.
 
 -- the first of two that applies
 infixl 5 ◌<|>◌
@@ -159,3 +270,40 @@ hint_at text at message =
     <|> bracket_hint text at message
     <|> quote_hint text at message
     <|> value_hint rest message
+
+-- The words of each hint.
+
+-- words and the number of the line of a place
+abbrev pub with_line : List ℕ → List ℕ → ℕ → List ℕ
+with_line words text place = words ++ decimal (line_after (take place text))
+
+-- a name of at most 40 characters; of a longer one these and dots
+abbrev pub shown : List ℕ → List ℕ
+shown name = if nat_le (length name) 40 then name else take 40 name ++ codes "..."
+
+-- the words of a hint for a place in a text
+abbrev pub words_of : List ℕ → ℕ → Hint → List ℕ
+words_of text at Utf16 = codes "this is UTF-16, save the file as UTF-8"
+words_of text at NotUtf8 = codes "this is not UTF-8, save the file as UTF-8"
+words_of text at Certificate = codes "this is a certificate, not a base"
+words_of text at CurlyQuote = codes "use straight quotation marks"
+words_of text at Slashes = codes "a comment begins with #"
+words_of text at TwoBrackets = codes "write [[frame]] with two brackets"
+words_of text at (TwoBracketsOn place) = with_line (codes "write [[frame]] with two brackets on line ") text place
+words_of text at (Defined place) =
+    with_line (codes "\"" ++ shown (name_at text at) ++ codes "\" is defined already on line ") text place
+words_of text at (NotClosed place) =
+    with_line (slice_index text place ∷ codes " of line ") text place ++ codes " is not closed"
+words_of text at MissingQuote = codes "a quotation mark is missing"
+words_of text at LeadingZero = codes "a number has no leading zero"
+words_of text at TrueOrFalse = codes "write true or false, in small letters"
+words_of text at Unquoted = codes "put a text in quotation marks"
+
+-- what is appended to a message
+abbrev pub appended : List ℕ → ℕ → Option Hint → List ℕ
+appended text at None = []
+appended text at (Some given) = codes "; " ++ words_of text at given
+
+-- what is appended to toml's message, whose span begins at a place of the text; one past the end is the end
+unfoldable pub hint_text : List ℕ → ℕ → List ℕ → List ℕ
+hint_text text at message = let place = min at (length text) in appended text place (hint_at text place message)

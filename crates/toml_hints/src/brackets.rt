@@ -1,8 +1,8 @@
 //! A bracket or a brace that isn't closed.
 
 ghost use Rattle.std.specs.Prelude.{◌≡◌, ◌≤◌, ◌<◌, length, IfSome};
-ghost use Rattle.toml_hints.specs.Brackets as spec;
-ghost use Rattle.toml_hints.specs.Backwards.{last_place};
+ghost use Rattle.toml_hints.specs.Rules as spec;
+ghost use Rattle.toml_hints.specs.Rules.{last_place};
 
 use crate::backwards::Turn;
 use crate::bytes::{Class, begins_expression, run_start};

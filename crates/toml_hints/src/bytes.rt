@@ -2,7 +2,7 @@
 
 ghost use Rattle.std.specs.Prelude.{◌≡◌, ◌≤◌, length};
 ghost use Rattle.std.specs.List.{prefix_len};
-ghost use Rattle.toml_hints.specs.Classes as spec;
+ghost use Rattle.toml_hints.specs.Rules as spec;
 
 use toml_parser::bytes::{byte_at, is_bare, is_ws};
 

@@ -1,8 +1,8 @@
 //! The key of an expression, and where it was defined before.
 
 ghost use Rattle.std.specs.Prelude.{◌≡◌, ◌≤◌, ◌<◌, length};
-ghost use Rattle.toml_hints.specs.Keys as spec;
-ghost use Rattle.toml_hints.specs.Backwards.{last_place};
+ghost use Rattle.toml_hints.specs.Rules as spec;
+ghost use Rattle.toml_hints.specs.Rules.{last_place};
 
 use crate::backwards::Turn;
 use crate::bytes::{Class, ends_key, run_len, run_start};
@@ -19,7 +19,7 @@ fn part_before(text: &[u8], at: usize) -> &[u8]
 }
 
 // The last part of the key of the expression at a place.
-#[tactic(auto, unfolding(crate::specs::Keys::name_at))]
+#[tactic(auto, unfolding(crate::specs::Rules::name_at))]
 pub fn name_at(text: &[u8], at: usize) -> &[u8]
     requires { at ≤ length text.now }
     ensures { result.now ≡ spec.name_at text.now at }

@@ -1,8 +1,8 @@
 //! The words of each hint.
 
 ghost use Rattle.std.specs.Prelude.{◌≡◌, ◌≤◌, ◌++◌, length, take, OnOk};
-ghost use Rattle.text_places.specs.Scans.{line_after};
-ghost use Rattle.toml_hints.specs.Words as spec;
+ghost use Rattle.text_places.specs.Skips.{line_after};
+ghost use Rattle.toml_hints.specs.Rules as spec;
 
 use crate::hint::Hint;
 use crate::keys::name_at;
@@ -98,7 +98,7 @@ fn push_words(out: &mut Vec<u8>, text: &[u8], at: usize, hint: Hint) -> Result<(
 /// `at` is the byte offset at which the message's span begins; one past the end is the end. Any bytes, offset and message have
 /// an answer. The call goes over the text a few times at most, and takes memory only for what it appends. After an error `out`
 /// may hold a part of the hint.
-#[tactic(auto, using(std::proofs::Common::append_assoc), unfolding(crate::specs::Words::hint_text))]
+#[tactic(auto, using(std::proofs::Common::append_assoc), unfolding(crate::specs::Rules::hint_text))]
 pub fn push_hint(out: &mut Vec<u8>, text: &[u8], at: usize, message: &str) -> Result<(), AllocError>
     ensures { OnOk result (out.new.items ≡ out.old.items ++ spec.hint_text text.now at message.now) }
 {

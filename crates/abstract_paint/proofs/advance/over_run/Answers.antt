@@ -3,9 +3,8 @@ use Rattle.std.proofs.lemmas.List.Sums.{prefix_len-le-length}
 use Rattle.abstract_paint.specs.declared.cursor.AbsCursor.{AbsCursor}
 use Rattle.abstract_paint.specs.declared.advance.Advance.TheVariants.{Touches, Goes}
 use Rattle.abstract_paint.specs.declared.cursor.Place.TheVariants.{Spot}
-use Rattle.abstract_paint.specs.Step.{calm}
-use Rattle.abstract_paint.specs.Plain.{is_plain, plain_len}
-use Rattle.abstract_paint.specs.Runs.{room}
+use Rattle.abstract_paint.specs.Paint.{calm}
+use Rattle.abstract_paint.specs.Plain.{is_plain, plain_len, room}
 use Rattle.abstract_paint.specs.Advance.{IsAdvance}
 use Rattle.abstract_paint.proofs.OverRuns.{goes_over, stops_at, front_run, front_begins}
 use Rattle.abstract_paint.proofs.advance.over_run.Goals as goal

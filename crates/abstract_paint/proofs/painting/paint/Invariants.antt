@@ -1,6 +1,5 @@
 use Rattle.std.proofs.Common.{◌≡◌, ◌-◌, ◌≤◌, length, drop}
-use Rattle.abstract_paint.specs.Cursor.{OnScreen}
-use Rattle.abstract_paint.specs.Paint.{paint_from, paint_of}
+use Rattle.abstract_paint.specs.Paint.{OnScreen, paint_from, paint_of}
 use Rattle.abstract_paint.proofs.painting.paint.Given as goal
 
 abbrev pub invariant-loop-done : goal.invariant-loop-done

@@ -1,6 +1,6 @@
 use Rattle.std.proofs.Common.{◌≡◌, ℕ, true, false, rules, tests}
 use Rattle.std.proofs.lemmas.Iterator.{first_from_Range}
-use Rattle.abstract_paint.specs.StartOf.{caret_numbered, start_touches, least_number}
+use Rattle.abstract_paint.specs.Start.{caret_numbered, start_touches, least_number}
 use Rattle.abstract_paint.proofs.LeastStart.{found_below}
 use Rattle.abstract_paint.proofs.start.least_number.Goals as goal
 

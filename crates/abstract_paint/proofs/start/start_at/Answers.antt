@@ -1,5 +1,5 @@
 use Rattle.std.proofs.Common.{ap, sym, ◌∙◌, None, Some, option_map}
-use Rattle.abstract_paint.specs.StartOf.{start_numbered}
+use Rattle.abstract_paint.specs.Start.{start_numbered}
 use Rattle.abstract_paint.proofs.LeastStart.{means_at}
 use Rattle.abstract_paint.proofs.start.start_at.Goals as goal
 

@@ -1,6 +1,6 @@
 use Rattle.std.proofs.Common.{◌≡◌, ◌+◌, ◌++◌, drop}
 use Rattle.toml.specs.View.{items_view}
-use Rattle.base_faults.specs.BodyDetails.{rows_details}
+use Rattle.base_faults.specs.Fields.{rows_details}
 use Rattle.base_faults.proofs.body_details.add_rows.Given as goal
 
 abbrev pub invariant-loop-i : goal.invariant-loop-i

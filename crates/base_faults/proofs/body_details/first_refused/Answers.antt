@@ -1,6 +1,6 @@
 use Rattle.std.proofs.Common.{◌≡◌, rules, sym, ◌∙◌, true, false}
 use Rattle.std.proofs.lemmas.Str.{IsUtf8-past_char, chars_past_char}
-use Rattle.base_faults.specs.BodyDetails.{may_have}
+use Rattle.base_faults.specs.Fields.{may_have}
 use Rattle.base_text.proofs.CodePoints.{empty}
 use Rattle.base_faults.proofs.DetailTurns.{refused_here, passed_here, shorter}
 use Rattle.base_faults.proofs.body_details.first_refused.Goals as goal

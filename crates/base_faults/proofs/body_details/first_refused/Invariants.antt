@@ -1,6 +1,6 @@
 use Rattle.std.proofs.Common.{◌≡◌, ◌+◌, ◌≤◌, IsUtf8, chars, length}
 use Rattle.std.specs.Str.Iter.{chars_rest}
-use Rattle.base_faults.specs.BodyDetails.{first_refused}
+use Rattle.base_faults.specs.Fields.{first_refused}
 use Rattle.base_faults.proofs.body_details.first_refused.Given as goal
 
 abbrev pub invariant-loop-code : goal.invariant-loop-code

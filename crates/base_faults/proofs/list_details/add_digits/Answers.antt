@@ -1,8 +1,8 @@
 use Rattle.std.proofs.Common.{◌≡◌, ◌++◌, ◌∙◌, sym, refl, rules, option_to_list}
 use Rattle.toml.specs.Data.{get_member}
 use Rattle.toml.specs.View.{table_view}
-use Rattle.base_text.specs.Keys.{digit_key}
-use Rattle.base_faults.specs.ListDetails.{ten_digits_details, route_detail}
+use Rattle.base_text.specs.Fields.{digit_key}
+use Rattle.base_faults.specs.Fields.{ten_digits_details, route_detail}
 use Rattle.base_faults.proofs.DetailTurns.{one_digit, no_digit}
 use Rattle.base_faults.proofs.list_details.add_digits.Goals as goal
 

@@ -1,6 +1,6 @@
 use Rattle.std.proofs.Common.{◌≡◌, ◌-◌, ◌++◌}
 use Rattle.toml.specs.View.{table_view}
-use Rattle.base_faults.specs.ListDetails.{digits_details, ten_digits_details}
+use Rattle.base_faults.specs.Fields.{digits_details, ten_digits_details}
 use Rattle.base_faults.proofs.list_details.add_digits.Given as goal
 
 abbrev pub invariant-loop-digit : goal.invariant-loop-digit

@@ -1,6 +1,6 @@
 use Rattle.std.proofs.Common.{◌≡◌, ◌+◌, ◌++◌, drop}
 use Rattle.toml.specs.View.{items_view}
-use Rattle.base_faults.specs.ListDetails.{pages_details}
+use Rattle.base_faults.specs.Fields.{pages_details}
 use Rattle.base_faults.proofs.list_details.add_pages.Given as goal
 
 abbrev pub invariant-loop-i : goal.invariant-loop-i

@@ -1,6 +1,6 @@
 use Rattle.std.proofs.Common.{◌≡◌, ◌++◌}
 use Rattle.toml.specs.View.{members_view}
-use Rattle.base_faults.specs.ListDetails.{unknown_keys}
+use Rattle.base_faults.specs.Fields.{unknown_keys}
 use Rattle.base_faults.proofs.list_details.add_unknown_keys.Given as goal
 
 abbrev pub invariant-loop-key : goal.invariant-loop-key

@@ -1,6 +1,6 @@
 use Rattle.std.proofs.Common.{◌≡◌, ◌++◌, drop}
 use Rattle.toml.specs.View.{items_view}
-use Rattle.base_faults.specs.Readable.{pages_read}
+use Rattle.base_faults.specs.Drafts.{pages_read}
 use Rattle.base_faults.proofs.readable.pages_read.Given as goal
 
 abbrev pub invariant-loop-value : goal.invariant-loop-value

@@ -1,6 +1,6 @@
 use Rattle.std.proofs.Common.{◌≡◌, ◌++◌, [], rules, length}
 use Rattle.std.specs.Prelude.{IsPermutation}
-use Rattle.base_faults.specs.Places.{places_of}
+use Rattle.base_faults.specs.Fields.{places_of}
 use Rattle.base_faults.specs.WholeFaults.{frames_faults, pages_faults, long_faults, next_faults, duplicate_faults, inside_faults, AreOrderedPages}
 use Rattle.base_faults.proofs.WholeTurns.{in_turn}
 use Rattle.base_faults.proofs.whole.whole_faults.Goals as goal

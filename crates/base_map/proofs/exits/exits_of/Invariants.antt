@@ -2,7 +2,7 @@ use Rattle.std.proofs.Common.{◌≡◌}
 use Rattle.std.specs.Prelude.{map}
 use Rattle.std.specs.List.{filter_map, range_with_len}
 use Rattle.page_ids.specs.Ways.{way_at}
-use Rattle.base_map.specs.Exits.{exit_by}
+use Rattle.base_map.specs.Edges.{exit_by}
 use Rattle.base_map.proofs.exits.exits_of.Given as goal
 
 abbrev pub invariant-loop-place : goal.invariant-loop-place

@@ -1,5 +1,5 @@
 use Rattle.std.proofs.Common.{◌≡◌, ◌++◌, drop}
-use Rattle.base_map.specs.Links.{links_by}
+use Rattle.base_map.specs.Loops.{links_by}
 use Rattle.base_map.proofs.links.add_links.Given as goal
 
 abbrev pub invariant-loop-exit : goal.invariant-loop-exit

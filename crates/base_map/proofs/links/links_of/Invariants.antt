@@ -1,5 +1,5 @@
 use Rattle.std.proofs.Common.{◌≡◌, ◌++◌, drop}
-use Rattle.base_map.specs.Links as spec
+use Rattle.base_map.specs.Loops as spec
 use Rattle.base_map.proofs.links.links_of.Given as goal
 
 abbrev pub invariant-loop-frame : goal.invariant-loop-frame

@@ -1,6 +1,6 @@
 use Rattle.std.proofs.Common.{◌≡◌, ◌++◌, drop}
 use Rattle.std.specs.List.{flat_map}
-use Rattle.base_map.specs.Lost.{lost_line}
+use Rattle.base_map.specs.Edges.{lost_line}
 use Rattle.base_map.proofs.lost.push_lost_nodes.Given as goal
 
 abbrev pub invariant-loop-id : goal.invariant-loop-id

@@ -2,7 +2,7 @@ use Rattle.std.proofs.Common.{◌≡◌, ◌∙◌, ◌<◌, ◌≤◌, ◌∷�
 use Rattle.std.specs.List.{flat_map}
 use Rattle.indexmap.specs.IndexSet.{insert_key, insert_all}
 use Rattle.page_ids.specs.Ids.{id_eq}
-use Rattle.base_map.specs.Neighbours.{ends_of}
+use Rattle.base_map.specs.Loops.{ends_of}
 use Rattle.base_map.proofs.Spans.{at_start, one_level, ends_at, ends_whole}
 use Rattle.base_map.proofs.span.span.Goals as goal
 

@@ -1,5 +1,5 @@
 use Rattle.std.proofs.Common.{◌-◌, ◌^◌}
-use Rattle.base_map.specs.Neighbours.{ends_of}
+use Rattle.base_map.specs.Loops.{ends_of}
 use Rattle.base_map.proofs.Spans.{IsSpanning}
 use Rattle.base_map.proofs.span.span.Given as goal
 

@@ -1,5 +1,5 @@
 use Rattle.std.proofs.Common.{◌≡◌, ◌++◌, drop}
-use Rattle.base_map.specs.Titles.{escaped}
+use Rattle.base_map.specs.Nodes.{escaped}
 use Rattle.base_map.proofs.title.push_escaped.Given as goal
 
 abbrev pub invariant-loop-code : goal.invariant-loop-code

@@ -1,7 +1,7 @@
 use Rattle.std.proofs.Common.{◌≡◌, ◌∙◌, ap, take, refl}
 use Rattle.std.proofs.lemmas.List.{take_min}
 use Rattle.std.proofs.lemmas.Str.Ascii.{trim_ascii_is}
-use Rattle.base_map.specs.Titles.{start_trimmed, end_trimmed}
+use Rattle.base_map.specs.Nodes.{start_trimmed, end_trimmed}
 use Rattle.base_map.proofs.title.shortened.Goals as goal
 
 pub returns : goal.returns

@@ -1,6 +1,6 @@
 use Rattle.std.proofs.Common.{◌≡◌, ◌∙◌, sym, ap, subst, ◌+◌, ◌++◌, ◌∷◌, [], true, false, drop, get_or, arith}
 use Rattle.std.proofs.lemmas.List.{drop_more, drop_all}
-use Rattle.base_map.specs.Titles.{ends_run, is_title, title_run}
+use Rattle.base_map.specs.Nodes.{ends_run, is_title, title_run}
 use Rattle.base_map.proofs.Runs.{IsRunOf, after_escape, at_escape, at_plain, at_title, at_end_of_run, at_last}
 use Rattle.base_map.proofs.title.title_run.Goals as goal
 use Rattle.base_map.proofs.title.title_run.Goals.{then-is_escaped, else-is_escaped+then-byte-eq-ESCAPE, else-is_escaped+else-byte-eq-ESCAPE+then-not-ends_run+in_ok-push, else-is_escaped+else-byte-eq-ESCAPE+else-not-ends_run+else-is_title, then-not-is_title, else-not-is_title}

@@ -1,8 +1,6 @@
 use Rattle.std.proofs.Common.{◌≡◌, ◌∙◌, ap, subst}
-use Rattle.page_ids.specs.Id.{Id}
-use Rattle.page_ids.specs.Ids.{first_frame}
-use Rattle.base_map.specs.Links.{links_of}
-use Rattle.base_map.specs.Neighbours.{ends_of, linked}
+use Rattle.page_ids.specs.Ids.{Id, first_frame}
+use Rattle.base_map.specs.Loops.{links_of, ends_of, linked}
 use Rattle.base_map.specs.Windows.{IsSpan}
 use Rattle.base_map.proofs.Leading.{are_from}
 use Rattle.base_map.proofs.window.frames_from.Goals as goal

@@ -1,9 +1,7 @@
 use Rattle.std.proofs.Common.{◌≡◌, ◌∙◌, ap, subst}
 use Rattle.std.specs.Prelude.{map}
-use Rattle.page_ids.specs.Id.{Id}
-use Rattle.page_ids.specs.Ids.{first_frame}
-use Rattle.base_map.specs.Links.{links_of, turned}
-use Rattle.base_map.specs.Neighbours.{ends_of, linked}
+use Rattle.page_ids.specs.Ids.{Id, first_frame}
+use Rattle.base_map.specs.Loops.{links_of, turned, ends_of, linked}
 use Rattle.base_map.specs.Windows.{IsSpan}
 use Rattle.base_map.proofs.Leading.{are_to}
 use Rattle.base_map.proofs.window.frames_to.Goals as goal

@@ -1,6 +1,6 @@
 use Rattle.std.proofs.Common.{◌≡◌, ◌++◌, IsUtf8, chars}
 use Rattle.std.specs.Str.Iter.{chars_rest}
-use Rattle.base_text.specs.Bodies.{are_bytes}
+use Rattle.base_text.specs.Rows.{are_bytes}
 use Rattle.base_text.proofs.bodies.small_codes.Given as goal
 
 abbrev pub invariant-loop-code : goal.invariant-loop-code

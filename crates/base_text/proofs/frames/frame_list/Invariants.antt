@@ -2,7 +2,7 @@ use Rattle.std.proofs.Common.{◌≡◌, ◌++◌, Ok, length}
 use Rattle.std.specs.Vec.Iter.{into_iter_items}
 use Rattle.toml.specs.View.{items_view}
 use Rattle.list_words.specs.Steps.{◌>>=◌}
-use Rattle.base_text.specs.FrameList.{frames_from}
+use Rattle.base_text.specs.Frames.{frames_from}
 use Rattle.base_text.proofs.frames.frame_list.Given as goal
 
 abbrev pub invariant-loop-value : goal.invariant-loop-value

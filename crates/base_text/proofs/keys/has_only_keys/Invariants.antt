@@ -1,6 +1,6 @@
 use Rattle.std.proofs.Common.{◌≡◌}
 use Rattle.toml.specs.View.{members_view}
-use Rattle.base_text.specs.Keys.{has_only_keys}
+use Rattle.base_text.specs.Fields.{has_only_keys}
 use Rattle.base_text.proofs.keys.has_only_keys.Given as goal
 
 abbrev pub invariant-loop-key : goal.invariant-loop-key

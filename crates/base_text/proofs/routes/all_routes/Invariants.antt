@@ -1,8 +1,7 @@
 use Rattle.std.proofs.Common.{◌≡◌, true, length}
 use Rattle.toml.specs.View.{members_view}
 use Rattle.base_text.specs.declared.keys.TableKind.TheVariants as kind
-use Rattle.base_text.specs.Keys.{has_only_keys}
-use Rattle.base_text.specs.Routes.{no_routes}
+use Rattle.base_text.specs.Fields.{has_only_keys, no_routes}
 use Rattle.base_text.proofs.DigitTurns.{filled}
 use Rattle.base_text.proofs.routes.all_routes.Given as goal
 

@@ -1,5 +1,5 @@
 use Rattle.std.proofs.Common.{sym, subst, ◌∙◌}
-use Rattle.cert_table.specs.Rows.{AreRows}
+use Rattle.cert_table.specs.Table.{AreRows}
 use Rattle.checker.proofs.Editions.{safe_change}
 use Rattle.checker.proofs.LeastLost.{lost_is_least}
 use Rattle.checker.proofs.change.check_change.Goals as goal

@@ -1,4 +1,4 @@
-use Rattle.checker.specs.Places.{AreBelow}
+use Rattle.checker.specs.Loops.{AreBelow}
 use Rattle.checker.proofs.change.place_from.Given as goal
 
 -- the rows so far are in front of the id

@@ -1,5 +1,5 @@
 use Rattle.std.proofs.Common.{List, ℕ, sym, subst, ◌∙◌}
-use Rattle.session_machine.specs.Open.{opening}
+use Rattle.session_machine.specs.Sessions.{opening}
 use Rattle.session_machine.specs.Runs.{state_after}
 use Rattle.checker.specs.Safe.{Safe, HasRows}
 use Rattle.checker.proofs.Steps.{safe, keeps_rows}

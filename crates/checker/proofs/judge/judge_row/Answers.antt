@@ -1,7 +1,7 @@
 use Rattle.std.proofs.Common.{◌≡◌, Some, sym, ap, ◌∙◌, arith}
 use Rattle.std.specs.Option.{option_copied}
-use Rattle.frame_records.specs.BaseView.{frame_at}
-use Rattle.checker.specs.Taken.{found_probes, found_steps}
+use Rattle.frame_records.specs.Bases.{frame_at}
+use Rattle.checker.specs.Counts.{found_probes, found_steps}
 use Rattle.checker.proofs.Counted.{found_count}
 use Rattle.checker.proofs.judge.judge_row.Goals as goal
 

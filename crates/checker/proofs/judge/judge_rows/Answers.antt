@@ -2,9 +2,8 @@ use Rattle.std.proofs.Common.{◌≡◌, ◌+◌, ◌≤◌, List, Option, Some,
 use Rattle.std.specs.Prelude.{slice_get}
 use Rattle.cert_table.specs.declared.row.Row.{Row}
 use Rattle.checker.specs.declared.verdict.Cause.{Cause}
-use Rattle.checker.specs.Counts.{IsRowCount}
+use Rattle.checker.specs.Counts.{IsRowCount, row_probes, row_steps}
 use Rattle.checker.specs.Verdict.{on_row}
-use Rattle.checker.specs.Taken.{row_probes, row_steps}
 use Rattle.checker.proofs.Taken.{sum_next, sum_last}
 use Rattle.checker.proofs.RowsInTurn.{next_row, last_row}
 use Rattle.checker.proofs.Counted.{counted_more, counted_last, fit}

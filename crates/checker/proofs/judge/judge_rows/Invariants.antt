@@ -1,8 +1,7 @@
 use Rattle.std.proofs.Common.{◌≡◌, ◌+◌, drop, length}
 use Rattle.checker.specs.Verdict.{on_rows}
 use Rattle.std.specs.List.{sum_by}
-use Rattle.checker.specs.Taken.{row_probes, row_steps, judged}
-use Rattle.checker.specs.Counts.{AreCounted}
+use Rattle.checker.specs.Counts.{row_probes, row_steps, judged, AreCounted}
 use Rattle.checker.proofs.judge.judge_rows.Given as goal
 
 -- the rows so far are right, and counted

@@ -1,6 +1,6 @@
 use Rattle.std.proofs.Common.{length, subst, arith}
 use Rattle.page_ids.specs.declared.way.Way.{Way}
-use Rattle.checker.specs.Ways.{IsWayCheck}
+use Rattle.checker.specs.Loops.{IsWayCheck}
 use Rattle.checker.proofs.WaysInTurn.{next_way}
 use Rattle.checker.proofs.ways.over_ways.Goals as goal
 

@@ -1,5 +1,5 @@
 use Rattle.std.proofs.Common.{length}
-use Rattle.checker.specs.Ways.{AreWayChecks}
+use Rattle.checker.specs.Loops.{AreWayChecks}
 use Rattle.checker.proofs.ways.over_ways.Given as goal
 
 -- the ways so far

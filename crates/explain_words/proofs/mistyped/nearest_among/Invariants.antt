@@ -1,6 +1,5 @@
 use Rattle.std.proofs.Common.{◌≡◌, ◌≤◌, length, drop}
-use Rattle.explain_words.specs.Words.{texts_of}
-use Rattle.explain_words.specs.Nearest.{nearest, name_of, HasDistance}
+use Rattle.explain_words.specs.Words.{texts_of, nearest, name_of, HasDistance}
 use Rattle.explain_words.proofs.mistyped.nearest_among.Given as goal
 
 -- the nearest of the names that have been seen

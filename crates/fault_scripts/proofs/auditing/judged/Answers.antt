@@ -1,5 +1,5 @@
 use Rattle.std.proofs.Common.{length, subst, arith}
-use Rattle.fault_scripts.specs.Judged.{IsJudged}
+use Rattle.fault_scripts.specs.Loops.{IsJudged}
 use Rattle.fault_scripts.proofs.Limits.{frames_few}
 use Rattle.fault_scripts.proofs.auditing.judged.Goals as goal
 

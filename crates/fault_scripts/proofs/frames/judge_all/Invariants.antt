@@ -1,4 +1,4 @@
-use Rattle.fault_scripts.specs.Judged.{IsJudged}
+use Rattle.fault_scripts.specs.Loops.{IsJudged}
 use Rattle.fault_scripts.proofs.frames.judge_all.Given as goal
 
 abbrev pub invariant-loop-index : goal.invariant-loop-index

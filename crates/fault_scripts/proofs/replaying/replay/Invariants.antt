@@ -1,7 +1,7 @@
 -- The keys that are left lead from here where all keys lead from the start.
 use Rattle.std.proofs.Common.{◌≡◌, drop}
 use Rattle.session_machine.specs.Runs.{state_after, replies_to}
-use Rattle.fault_scripts.specs.Replays.{last_of}
+use Rattle.fault_scripts.specs.Shows.{last_of}
 use Rattle.fault_scripts.proofs.replaying.replay.Given as goal
 
 abbrev pub invariant-loop-key : goal.invariant-loop-key

@@ -1,6 +1,6 @@
 use Rattle.std.proofs.Common.{rules, ◌≡◌, ℕ, List, Option, Some, [], ◌∷◌, ◌++◌, sym, ◌∙◌, ap, subst}
 use Rattle.page_ids.specs.declared.key.Key.{Key}
-use Rattle.fault_scripts.specs.Judged.{HasScript}
+use Rattle.fault_scripts.specs.Loops.{HasScript}
 use Rattle.fault_scripts.proofs.teller.lead_on.Goals as goal
 
 -- the parent's script and the key that led from it are the script

@@ -1,5 +1,5 @@
 use Rattle.std.proofs.Common.{◌*◌}
-use Rattle.finder.specs.Discovery.{IsListed}
+use Rattle.finder.specs.Loops.{IsListed}
 use Rattle.finder.proofs.discover.discover.Given as goal
 
 abbrev pub invariant-loop-index : goal.invariant-loop-index

@@ -1,4 +1,4 @@
-use Rattle.finder.specs.Search.{IsSearch}
+use Rattle.finder.specs.Loops.{IsSearch}
 use Rattle.finder.proofs.ranks.ranks_of.Given as goal
 
 abbrev pub invariant-loop-done : goal.invariant-loop-done

@@ -1,5 +1,5 @@
 use Rattle.std.proofs.Common.{◌≡◌, ◌-◌, ◌++◌, length}
-use Rattle.finder.specs.Scripts.{keys_back}
+use Rattle.finder.specs.Finds.{keys_back}
 use Rattle.finder.proofs.script.keys_back.Given as goal
 
 abbrev pub invariant-loop-turn : goal.invariant-loop-turn

@@ -1,5 +1,5 @@
 use Rattle.std.proofs.Common.{sym}
-use Rattle.frame_records.specs.BaseView.{is_body_long, is_next_after_z}
+use Rattle.frame_records.specs.Bases.{is_body_long, is_next_after_z}
 use Rattle.frame_records.proofs.SortedFrames.{least_named, none_named, none_twice}
 use Rattle.frame_records.proofs.Pages.{least_inside, none_inside}
 use Rattle.frame_records.proofs.build.first_fault.Goals as goal

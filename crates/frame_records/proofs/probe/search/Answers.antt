@@ -3,7 +3,7 @@ use Rattle.std.specs.Prelude.{slice_get}
 use Rattle.std.specs.declared.cmp.Ordering.{Ordering}
 use Rattle.std.specs.declared.cmp.Ordering.TheVariants.{Less, Equal, Greater}
 use Rattle.frame_records.proofs.BinarySearch.{none_between, compared_more, halved, few_asked, less_to, greater_from, no_equal}
-use Rattle.frame_records.specs.Orderings.{comparisons}
+use Rattle.frame_records.specs.Bases.{comparisons}
 use Rattle.frame_records.proofs.probe.search.Goals as goal
 
 pub loop-low-preserved-in-Less : goal.loop-low-preserved-in-Less

@@ -1,6 +1,6 @@
 use Rattle.std.proofs.Common.{◌+◌, ◌-◌, ◌≡◌, ℕ, ◌<◌, ◌≤◌, ◌*◌, ◌^◌, length, get_or}
 use Rattle.std.specs.declared.cmp.Ordering.TheVariants.{Less, Greater}
-use Rattle.frame_records.specs.Orderings.{compared_between, comparisons}
+use Rattle.frame_records.specs.Bases.{compared_between, comparisons}
 use Rattle.frame_records.proofs.probe.search.Given as goal
 
 abbrev pub invariant-loop-low : goal.invariant-loop-low

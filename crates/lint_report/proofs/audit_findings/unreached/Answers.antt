@@ -1,6 +1,6 @@
 use Rattle.std.proofs.Common.{◌≡◌, ◌∙◌, ◌++◌, ◌∷◌, ◌+◌, sym, ap, drop, append_assoc, arith}
 use Rattle.std.proofs.lemmas.List.{drop_more}
-use Rattle.lint_report.specs.AuditFindings.{unreached_id, unreached}
+use Rattle.lint_report.specs.Lint.{unreached_id, unreached}
 use Rattle.lint_report.proofs.audit_findings.unreached.Goals as goal
 
 pub loop-frame-preserved : goal.loop-frame-preserved

@@ -1,7 +1,7 @@
 use Rattle.std.proofs.Common.{◌≡◌, ◌++◌, ℕ, List, Option, drop}
-use Rattle.page_ids.specs.Id.{Id}
+use Rattle.page_ids.specs.Ids.{Id}
 use Rattle.lint_report.specs.Lookups.{Knows}
-use Rattle.lint_report.specs.AuditFindings.{unreached}
+use Rattle.lint_report.specs.Lint.{unreached}
 use Rattle.lint_report.proofs.audit_findings.unreached.Given as goal
 
 abbrev pub invariant-loop-frame : goal.invariant-loop-frame

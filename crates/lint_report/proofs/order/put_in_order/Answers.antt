@@ -2,7 +2,7 @@ use Rattle.std.proofs.Common.{rules, ℕ}
 use Rattle.std.specs.Ordering.{nat_cmp}
 use Rattle.std.specs.List.Sorted.{IsSortedByKey, IsStableByKey}
 use Rattle.list_words.proofs.SortedKeys.{by_key}
-use Rattle.lint_report.specs.FindingView.{FindingView}
+use Rattle.lint_report.specs.Findings.{FindingView}
 use Rattle.lint_report.proofs.Ordering.{ordered}
 use Rattle.lint_report.proofs.order.put_in_order.Goals as goal
 

@@ -1,5 +1,5 @@
 use Rattle.std.proofs.Common.{◌≡◌, ◌++◌, drop}
-use Rattle.lint_report.specs.Printing.{finding_lines}
+use Rattle.lint_report.specs.Findings.{finding_lines}
 use Rattle.lint_report.proofs.printing.push_findings.Given as goal
 
 -- the lines so far, and those of the findings that are left, are those of all

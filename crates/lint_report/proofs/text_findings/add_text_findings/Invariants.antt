@@ -1,8 +1,7 @@
 use Rattle.std.proofs.Common.{◌≡◌, ◌++◌, List, drop}
 use Rattle.std.specs.Prelude.{map}
-use Rattle.text_places.specs.Marks.{Mark}
-use Rattle.text_places.specs.Places.{Keeps}
-use Rattle.lint_report.specs.TextFindings.{text_finding}
+use Rattle.text_places.specs.Places.{Mark, Keeps}
+use Rattle.lint_report.specs.Lint.{text_finding}
 use Rattle.lint_report.proofs.text_findings.add_text_findings.Given as goal
 
 abbrev pub invariant-loop-fault : goal.invariant-loop-fault

@@ -1,5 +1,4 @@
-use Rattle.pageaudit.specs.Device.{device}
-use Rattle.pageaudit.specs.Files.{IsBeingFed}
+use Rattle.pageaudit.specs.Files.{device, IsBeingFed}
 use Rattle.pageaudit.proofs.input.feed_whole.Given as goal
 
 -- what was read so far was taken by the reader

@@ -1,4 +1,4 @@
-use Rattle.abstract_paint.specs.Cursor.{OnScreen}
+use Rattle.abstract_paint.specs.Paint.{OnScreen}
 use Rattle.paint_bench.proofs.by_bytes.paint_by_bytes.Given as goal
 
 abbrev pub invariant-loop-i : goal.invariant-loop-i

@@ -1,5 +1,5 @@
 use Rattle.std.proofs.Common.{sym, subst}
-use Rattle.frame_records.specs.Orderings.{IsSearchable}
+use Rattle.frame_records.specs.Bases.{IsSearchable}
 use Rattle.frame_records.proofs.Searchable.{pages_searchable}
 use Rattle.record_tests.proofs.probes.sought.Goals as goal
 

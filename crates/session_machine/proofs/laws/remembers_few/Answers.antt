@@ -1,5 +1,5 @@
 use Rattle.std.proofs.Common.{arith}
-use Rattle.session_machine.specs.Open.{opening}
+use Rattle.session_machine.specs.Sessions.{opening}
 use Rattle.session_machine.proofs.Shown.{few_after}
 use Rattle.session_machine.proofs.laws.remembers_few.Goals as goal
 

@@ -1,5 +1,5 @@
 use Rattle.std.proofs.Common.{◌≡◌, take}
-use Rattle.text_places.specs.Scans.{line_after, column_after}
+use Rattle.text_places.specs.Skips.{line_after, column_after}
 use Rattle.text_places.proofs.text_lines.place_from.Given as goal
 
 abbrev pub invariant-loop-i : goal.invariant-loop-i

@@ -1,6 +1,6 @@
 use Rattle.std.proofs.Common.{◌≡◌, ◌+◌, ◌*◌, ◌++◌, ◌∷◌, [], length, refl, ap, ◌∙◌, arith}
 use Rattle.std.proofs.lemmas.List.{length-append}
-use Rattle.text_places.specs.Scans.{place_at}
+use Rattle.text_places.specs.Skips.{place_at}
 use Rattle.text_places.proofs.ScanTurns.{place_begins}
 use Rattle.text_places.proofs.TextTurns.{one_more}
 use Rattle.text_places.proofs.text_lines.places_of.Goals as goal

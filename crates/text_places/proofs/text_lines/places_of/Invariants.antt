@@ -1,6 +1,6 @@
 use Rattle.std.proofs.Common.{◌≡◌, ◌*◌, ◌+◌, ◌<◌, ℕ, length, Some}
 use Rattle.std.specs.Prelude.{slice_get}
-use Rattle.text_places.specs.Scans.{place_at}
+use Rattle.text_places.specs.Skips.{place_at}
 use Rattle.text_places.proofs.text_lines.places_of.Given as goal
 
 abbrev pub invariant-loop-step : goal.invariant-loop-step

@@ -1,6 +1,5 @@
 use Rattle.std.proofs.Common.{◌≡◌, ◌≤◌}
-use Rattle.toml_hints.specs.Backwards.{last_place}
-use Rattle.toml_hints.specs.Brackets.{bracket_turn}
+use Rattle.toml_hints.specs.Rules.{last_place, bracket_turn}
 use Rattle.toml_hints.proofs.brackets.open_before.Given as goal
 
 abbrev pub invariant-loop-at : goal.invariant-loop-at

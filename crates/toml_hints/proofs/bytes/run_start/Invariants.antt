@@ -1,5 +1,5 @@
 use Rattle.std.proofs.Common.{◌≡◌, ◌≤◌}
-use Rattle.toml_hints.specs.Classes.{run_start}
+use Rattle.toml_hints.specs.Rules.{run_start}
 use Rattle.toml_hints.proofs.bytes.run_start.Given as goal
 
 abbrev pub invariant-loop-start : goal.invariant-loop-start

@@ -1,6 +1,5 @@
 use Rattle.std.proofs.Common.{◌≡◌, ◌≤◌}
-use Rattle.toml_hints.specs.Backwards.{last_place}
-use Rattle.toml_hints.specs.Keys.{definition_turn}
+use Rattle.toml_hints.specs.Rules.{last_place, definition_turn}
 use Rattle.toml_hints.proofs.keys.last_definition.Given as goal
 
 abbrev pub invariant-loop-at : goal.invariant-loop-at

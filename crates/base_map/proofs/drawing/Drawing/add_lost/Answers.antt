@@ -2,7 +2,7 @@ use Rattle.std.proofs.Common.{◌≡◌, ◌∙◌, sym, ap, drop, ◌+◌, ◌�
 use Rattle.std.proofs.lemmas.List.{drop_more}
 use Rattle.indexmap.specs.IndexSet.{insert_all}
 use Rattle.page_ids.specs.Ids.{id_eq}
-use Rattle.base_map.specs.Lost.{lost_of}
+use Rattle.base_map.specs.Edges.{lost_of}
 use Rattle.base_map.proofs.LostSteps.{lost_more}
 use Rattle.base_map.proofs.drawing.Drawing.add_lost.Goals as goal
 use Rattle.base_map.proofs.drawing.Drawing.add_lost.Goals.{then-lacks+in_ok-insert, else-lacks}

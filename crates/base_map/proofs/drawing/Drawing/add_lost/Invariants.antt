@@ -1,7 +1,7 @@
 use Rattle.std.proofs.Common.{◌≡◌, drop}
 use Rattle.indexmap.specs.IndexSet.{insert_all}
 use Rattle.page_ids.specs.Ids.{id_eq}
-use Rattle.base_map.specs.Lost.{lost_of}
+use Rattle.base_map.specs.Edges.{lost_of}
 use Rattle.base_map.proofs.drawing.Drawing.add_lost.Given as goal
 
 abbrev pub invariant-loop-exit : goal.invariant-loop-exit

@@ -2,9 +2,8 @@ use Rattle.std.proofs.Common.{◌≡◌, drop}
 use Rattle.std.specs.List.{flat_map}
 use Rattle.indexmap.specs.IndexSet.{insert_all}
 use Rattle.page_ids.specs.Ids.{id_eq}
-use Rattle.base_map.specs.Exits.{exits_of}
-use Rattle.base_map.specs.Lost as spec
-use Rattle.base_map.specs.MapView.{shown}
+use Rattle.base_map.specs.Edges.{exits_of, shown}
+use Rattle.base_map.specs.Edges as spec
 use Rattle.base_map.proofs.drawing.Drawing.lost.Given as goal
 
 abbrev pub invariant-loop-frame : goal.invariant-loop-frame

@@ -1,5 +1,5 @@
 use Rattle.std.proofs.Common.{◌≡◌, ◌++◌, None, drop}
-use Rattle.base_map.specs.MapView.{shown}
+use Rattle.base_map.specs.Edges.{shown}
 use Rattle.base_map.specs.Nodes.{cluster_lines}
 use Rattle.base_map.proofs.drawing.Drawing.push_clusters.Given as goal
 

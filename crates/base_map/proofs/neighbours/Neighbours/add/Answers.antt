@@ -2,7 +2,7 @@ use Rattle.std.proofs.Common.{◌≡◌, ◌∙◌, ap, ◌++◌, ◌∷◌, [],
 use Rattle.std.specs.Option.{option_map_or}
 use Rattle.indexmap.specs.IndexMap.{get}
 use Rattle.page_ids.specs.Ids.{id_eq}
-use Rattle.base_map.specs.Neighbours.{ends_of}
+use Rattle.base_map.specs.Loops.{ends_of}
 use Rattle.base_map.proofs.Neighbouring.{chosen, one_end}
 use Rattle.base_map.proofs.neighbours.Neighbours.add.Goals as goal
 

@@ -1,6 +1,6 @@
 use Rattle.std.proofs.Common.{◌≡◌, ◌∙◌, ◌++◌, ◌∷◌, [], ◌+◌, sym, ap, drop, append_assoc, append-nil, arith}
 use Rattle.std.proofs.lemmas.List.{drop_more, drop_all}
-use Rattle.base_map.specs.Neighbours.{ends_of, linked, linked_by}
+use Rattle.base_map.specs.Loops.{ends_of, linked, linked_by}
 use Rattle.base_map.proofs.neighbours.Neighbours.of.Goals as goal
 
 pub loop-link-init : goal.loop-link-init

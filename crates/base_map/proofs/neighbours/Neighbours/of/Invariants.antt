@@ -1,6 +1,6 @@
 use Rattle.std.proofs.Common.{◌≡◌, ◌++◌, drop}
-use Rattle.page_ids.specs.Id.{Id}
-use Rattle.base_map.specs.Neighbours.{ends_of, linked}
+use Rattle.page_ids.specs.Ids.{Id}
+use Rattle.base_map.specs.Loops.{ends_of, linked}
 use Rattle.base_map.proofs.neighbours.Neighbours.of.Given as goal
 
 abbrev pub invariant-loop-link : goal.invariant-loop-link

@@ -1,6 +1,5 @@
 use Rattle.std.proofs.Common.{sym, ◌∙◌, ap, subst}
-use Rattle.cert_table.specs.Rows.{AreOnScreen}
-use Rattle.cert_table.specs.Table.{table_fault}
+use Rattle.cert_table.specs.Table.{AreOnScreen, table_fault}
 use Rattle.cert_table.proofs.Tables.{are_rows}
 use Rattle.cert_table.proofs.certificate.Certificate.build.Goals as goal
 

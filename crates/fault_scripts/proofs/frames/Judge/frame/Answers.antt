@@ -4,7 +4,7 @@ use Rattle.std.proofs.lemmas.Option.{get_or_from_slice_get}
 use Rattle.finder.specs.declared.found.Discovered.{Discovered}
 use Rattle.abstract_paint.specs.declared.painting.Painted.{Painted}
 use Rattle.abstract_paint.specs.Paint.{paint_of}
-use Rattle.fault_scripts.specs.Gathered.{row_of, IsGathered}
+use Rattle.fault_scripts.specs.Loops.{row_of, IsGathered}
 use Rattle.fault_scripts.proofs.Gathering.{gathered_more}
 use Rattle.fault_scripts.proofs.frames.Judge.frame.Goals as goal
 

@@ -1,5 +1,5 @@
 use Rattle.std.proofs.Common.{◌≡◌, ◌<◌, ◌+◌, ◌*◌, option_map, sym, ◌∙◌, ap, refl, arith}
-use Rattle.abstract_paint.specs.StartOf.{start_of}
+use Rattle.abstract_paint.specs.Start.{start_of}
 use Rattle.fault_scripts.specs.declared.flaw.Flaw.TheVariants.{Touches}
 use Rattle.page_ids.specs.declared.way.Way.{Way}
 use Rattle.page_ids.specs.Ways.{way_at}

@@ -1,5 +1,5 @@
 use Rattle.std.proofs.Common.{◌+◌, ◌*◌}
-use Rattle.fault_scripts.specs.Judged.{IsTelling}
+use Rattle.fault_scripts.specs.Loops.{IsTelling}
 use Rattle.fault_scripts.proofs.teller.Teller.judge.Given as goal
 
 abbrev pub invariant-loop-place : goal.invariant-loop-place

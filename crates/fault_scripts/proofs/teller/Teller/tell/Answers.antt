@@ -1,6 +1,6 @@
 use Rattle.std.proofs.Common.{List, sym, subst}
 use Rattle.finder.specs.declared.found.Discovered.{Discovered}
-use Rattle.fault_scripts.specs.Judged.{CanLead}
+use Rattle.fault_scripts.specs.Loops.{CanLead}
 use Rattle.fault_scripts.proofs.teller.Teller.tell.Goals as goal
 
 pub go-requires : goal.go-requires

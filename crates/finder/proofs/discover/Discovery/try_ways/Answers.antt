@@ -1,5 +1,5 @@
 use Rattle.std.proofs.Common.{subst, arith}
-use Rattle.finder.specs.Discovery.{IsListed}
+use Rattle.finder.specs.Loops.{IsListed}
 use Rattle.finder.proofs.discover.Discovery.try_ways.Goals as goal
 
 pub loop-way-init : goal.loop-way-init

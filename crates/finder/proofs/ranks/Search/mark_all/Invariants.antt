@@ -1,5 +1,5 @@
 use Rattle.std.proofs.Common.{◌≡◌, ◌<◌, ◌+◌, ℕ, Some, slice_get, get_or}
-use Rattle.finder.specs.Search.{HasRank, IsSearch}
+use Rattle.finder.specs.Loops.{HasRank, IsSearch}
 use Rattle.finder.proofs.ranks.Search.mark_all.Given as goal
 
 abbrev pub invariant-loop-source : goal.invariant-loop-source

@@ -1,5 +1,5 @@
 use Rattle.std.proofs.Common.{sym, ◌∙◌, subst, arith}
-use Rattle.finder.specs.Turned.{HasSource}
+use Rattle.finder.specs.Loops.{HasSource}
 use Rattle.finder.proofs.Turning.{passed, added}
 use Rattle.finder.proofs.turned.Turned.add.Goals as goal
 

@@ -1,5 +1,5 @@
 use Rattle.std.proofs.Common.{subst, arith}
-use Rattle.finder.specs.Turned.{AreTurned}
+use Rattle.finder.specs.Loops.{AreTurned}
 use Rattle.finder.proofs.turned.Turned.of.Goals as goal
 
 pub loop-way-init : goal.loop-way-init

@@ -1,5 +1,5 @@
 use Rattle.std.proofs.Common.{◌+◌, ◌*◌}
-use Rattle.finder.specs.Turned.{AreTurned}
+use Rattle.finder.specs.Loops.{AreTurned}
 use Rattle.finder.proofs.turned.Turned.of.Given as goal
 
 abbrev pub invariant-loop-node : goal.invariant-loop-node

@@ -1,9 +1,9 @@
 use Rattle.std.proofs.Common.{◌≡◌, ◌++◌, ℕ, List, Option, drop}
 use Rattle.std.specs.Prelude.{map}
-use Rattle.page_ids.specs.Id.{Id}
-use Rattle.text_places.specs.Marks.{Mark}
+use Rattle.page_ids.specs.Ids.{Id}
+use Rattle.text_places.specs.Places.{Mark}
 use Rattle.lint_report.specs.Lookups.{Knows}
-use Rattle.lint_report.specs.AuditFindings.{AreKnown, fault_finding}
+use Rattle.lint_report.specs.Lint.{AreKnown, fault_finding}
 use Rattle.lint_report.proofs.audit_findings.Sources.add_faults.Given as goal
 
 abbrev pub invariant-loop-fault : goal.invariant-loop-fault

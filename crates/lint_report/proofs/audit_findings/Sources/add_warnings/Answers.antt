@@ -1,7 +1,7 @@
 use Rattle.std.proofs.Common.{◌≡◌, ◌∙◌, ◌++◌, ◌∷◌, [], ◌+◌, sym, ap, drop, append_assoc, arith}
 use Rattle.std.specs.Prelude.{map}
 use Rattle.std.proofs.lemmas.List.{drop_more}
-use Rattle.lint_report.specs.AuditFindings.{warning}
+use Rattle.lint_report.specs.Lint.{warning}
 use Rattle.lint_report.proofs.audit_findings.Sources.add_warnings.Goals as goal
 
 pub loop-id-preserved : goal.loop-id-preserved

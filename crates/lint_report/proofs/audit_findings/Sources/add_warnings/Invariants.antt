@@ -1,8 +1,8 @@
 use Rattle.std.proofs.Common.{◌≡◌, ◌++◌, ℕ, List, drop}
 use Rattle.std.specs.Prelude.{map}
-use Rattle.page_ids.specs.Id.{Id}
-use Rattle.text_places.specs.Marks.{Mark}
-use Rattle.lint_report.specs.AuditFindings.{AreKnown, warning}
+use Rattle.page_ids.specs.Ids.{Id}
+use Rattle.text_places.specs.Places.{Mark}
+use Rattle.lint_report.specs.Lint.{AreKnown, warning}
 use Rattle.lint_report.proofs.audit_findings.Sources.add_warnings.Given as goal
 
 abbrev pub invariant-loop-id : goal.invariant-loop-id

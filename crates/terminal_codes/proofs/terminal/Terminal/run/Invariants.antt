@@ -1,5 +1,5 @@
 use Rattle.std.proofs.Common.{◌≡◌, drop}
-use Rattle.terminal_codes.specs.ByteTable.{run}
+use Rattle.terminal_codes.specs.Screen.{run}
 use Rattle.terminal_codes.proofs.terminal.Terminal.run.Given as goal
 
 abbrev pub invariant-loop-byte : goal.invariant-loop-byte

@@ -2,7 +2,7 @@ use Rattle.std.proofs.Common.{◌≡◌, ℕ, ◌-◌, Some, None, slice_get, re
 use Rattle.std.proofs.lemmas.Option.{slice_get_read}
 use Rattle.std.specs.Option.{option_copied}
 use Rattle.toml_parser.specs.Reading.{path_view}
-use Rattle.text_places.specs.Marks.{Mark, mark_in}
+use Rattle.text_places.specs.Places.{Mark, mark_in}
 use Rattle.text_places.specs.Walk.{frame_count, section_view}
 use Rattle.text_places.proofs.Firsts.{keeps_frame, keeps_top, ok_then, option_or-none}
 use Rattle.text_places.proofs.places.Places.note.Goals as goal

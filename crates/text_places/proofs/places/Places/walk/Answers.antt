@@ -3,7 +3,7 @@ use Rattle.std.proofs.lemmas.Bool.{false≢true}
 use Rattle.std.proofs.lemmas.Grind.{common_steps}
 use Rattle.toml_parser.specs.Lexical.{skip_blank}
 use Rattle.toml_parser.specs.Reading.{key_view}
-use Rattle.text_places.specs.Marks.{Section}
+use Rattle.text_places.specs.Places.{Section}
 use Rattle.text_places.specs.Skips.{whole_line}
 use Rattle.text_places.specs.Walk.{frame_count, section_view, IsOpen}
 use Rattle.text_places.specs.Lines.{line_view}

@@ -1,0 +1,116 @@
+-- Facts that hold between the turns of loops. No promise rests on them.
+use Rattle.std.specs.Prelude.{◌≡◌, ◌≤◌, ◌⊎◌, ℕ, List, [], ◌∷◌, Option, Some, None, map, All, Contains, option_map, unwrap_or, ◌<◌, ◌*◌, length, take, AllPairs, IsPermutation}
+use Rattle.std.specs.List.{flat_map}
+use Rattle.page_ids.specs.Ids.{Id, id_cmp}
+use Rattle.frame_records.specs.declared.frame.Frame.{Frame}
+use Rattle.frame_records.specs.Bases.{BaseView, frame_at, IsBase}
+use Rattle.abstract_paint.specs.declared.painting.Painted.{Painted}
+use Rattle.abstract_paint.specs.declared.painting.Painted.TheVariants.{Clean, Touches}
+use Rattle.abstract_paint.specs.Paint.{paint_of}
+use Rattle.cert_table.specs.declared.row.Row.{Row}
+use Rattle.finder.specs.declared.found.Discovered.{Discovered}
+use Rattle.fault_scripts.specs.declared.table.GatheredRows.{GatheredRows}
+use Rattle.page_ids.specs.declared.key.Key.{Key}
+use Rattle.checker.specs.declared.policy.Policy.{Policy}
+use Rattle.finder.specs.Finds.{IsFinding, ScriptsExtend, script}
+use Rattle.fault_scripts.specs.declared.fault.Fault.{Fault}
+use Rattle.fault_scripts.specs.declared.frames.Judge.{Judge}
+use Rattle.fault_scripts.specs.declared.teller.Teller.{Teller}
+use Rattle.fault_scripts.specs.Faults.{IsDue, StandsBefore, turn_at}
+use Rattle.std.specs.List.Sorted.{IsSortedByKey}
+use Rattle.cert_table.specs.Table.{CertView, table_fault}
+use Rattle.fault_scripts.specs.declared.table.GatheredRows as held
+
+-- The rows of a certificate, gathered from discovered frames, with the greatest price and the greatest rank.
+
+-- the row of a frame that has a rank and is clean
+abbrev pub row_of : Id → Option ℕ → Painted → List Row
+row_of id None painted = []
+row_of id (Some rank) (Touches offset) = []
+row_of id (Some rank) (Clean cursor) = record { id = id; rank = rank; cursor = cursor } ∷ []
+
+abbrev pub row_by : Discovered → Option Frame → List Row
+row_by d None = []
+row_by d (Some frame) = row_of d.id d.rank (paint_of frame.lead frame.body)
+
+-- the row of a discovered frame
+abbrev pub row_at : BaseView → Discovered → List Row
+row_at base d = row_by d (frame_at base d.id)
+
+-- its price and its rank
+abbrev pub price_at : BaseView → Discovered → ℕ
+price_at base d = unwrap_or (option_map (λ f. f.price) (frame_at base d.id)) 0
+
+abbrev pub rank_at : Discovered → ℕ
+rank_at d = unwrap_or d.rank 0
+
+-- the greatest of some numbers, 0 of none
+pub record IsMost (values : List ℕ) (most : ℕ) : Type 0 where
+  pub at_most : All (λ v. v ≤ most) values
+  pub some : Contains values most ⊎ (most ≡ 0)
+
+-- of these discovered frames
+pub record IsGathered (base : BaseView) (frames : List Discovered) (t : GatheredRows) : Type 0 where
+  pub rows : t.rows.items ≡ flat_map (row_at base) frames
+  pub ceiling : IsMost (map (price_at base) frames) t.ceiling
+  pub keyings : IsMost (map rank_at frames) t.keyings
+
+-- How far the frames have been judged that a caller of exactly the policy's groups discovers.
+
+-- the kept keys are the script of the frame for which they are kept
+abbrev pub HasScript : List Discovered → Option ℕ → List Key → Type 0
+HasScript found None keys = Unit {0}
+HasScript found (Some i) keys = keys ≡ script found i
+
+-- the kept keys can lead on to the frame at an index
+pub record CanLead (found : List Discovered) (index : ℕ) (at : Option ℕ) (keys : List Key) : Type 0 where
+  pub within : index < length found
+  pub extends : ScriptsExtend found
+  pub script : HasScript found at keys
+
+-- a fault that is due before a place in the order of all that is asked
+pub record IsDueBelow (base : BaseView) (policy : Policy) (found : List Discovered) (place : ℕ) (fault : Fault) : Type 0 where
+  pub due : IsDue base policy found fault
+  pub below : turn_at due.index fault < place
+
+-- exactly those have been reported, in order
+pub record IsTold (base : BaseView) (policy : Policy) (found : List Discovered) (place : ℕ) (faults : List Fault) : Type 0 where
+  pub just : All (IsDueBelow base policy found place) faults
+  pub whole : (fault : Fault) → IsDueBelow base policy found place fault → Contains faults fault
+  pub in_order : AllPairs (StandsBefore found) faults
+
+-- a teller that has reported them
+pub record IsTelling (base : BaseView) (policy : Policy) (found : List Discovered) (place : ℕ) (t : Teller) : Type 0 where
+  pub finding : IsFinding policy.groups base found
+  pub script : HasScript found t.at t.keys.items
+  pub told : IsTold base policy found place t.faults.items
+
+-- of the first frames the faults have been reported, and the rows gathered
+pub record IsJudged (base : BaseView) (policy : Policy) (found : List Discovered) (done : ℕ) (j : Judge) : Type 0 where
+  pub telling : IsTelling base policy found (done * 14) j.teller
+  pub gathered : IsGathered base (take done found) j.table
+
+-- all frames of a base have been judged
+pub record IsWhole (base : BaseView) (policy : Policy) (j : Judge) : Type 0 where
+  pub valid : IsBase base
+  pub found : List Discovered
+  pub judged : IsJudged base policy found (length found) j
+
+-- The rows of a certificate, put in order.
+
+-- the same rows in the order of their ids
+pub record AreSortedRows (rows sorted : List Row) : Type 0 where
+  pub same : IsPermutation rows sorted
+  pub in_order : IsSortedByKey (λ r. r.id) id_cmp sorted
+
+-- put in order they make a table
+abbrev pub IsTableInOrder : List Row → Type 0
+IsTableInOrder rows = (sorted : List Row) → AreSortedRows rows sorted → table_fault sorted ≡ None
+
+-- the certificate has these parts and the caller's groups, its rows in order
+pub record IsSortedTable (base : BaseView) (caller : List ℕ) (t : held.GatheredRows) (cert : CertView) : Type 0 where
+  pub entry : cert.entry ≡ base.entry
+  pub ceiling : cert.ceiling ≡ t.ceiling
+  pub keyings : cert.keyings ≡ t.keyings
+  pub groups : cert.groups ≡ caller
+  pub rows : AreSortedRows t.rows.items cert.rows
