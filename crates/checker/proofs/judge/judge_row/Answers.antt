@@ -8,7 +8,7 @@ use Rattle.checker.proofs.judge.judge_row.Goals as goal
 pub returns-in-Some-clause-count : goal.returns-in-Some-clause-count
 returns-in-Some-clause-count g c =
     let found : frame_at c.args.base.now c.args.row.now.id ≡ Some c.in-Some.frame.now = sym c.find_counted-asked.ensures.value ∙ ap option_copied c.in-Some.is in
-    found_count c.args.base.now _ c.args.cert.now.rows c.args.row.now c.in-Some.frame.now c.judge_found-cause.result.0 c.judge_found-cause.result.1 c.from-asked.result c.frames-frames.ensures.valid found (omega (arith, c.from-asked.ensures, c.find_counted-asked.ensures.most)) (λ some. omega (arith, c.from-asked.ensures, c.find_counted-asked.ensures.least some)) c.judge_found-cause.ensures.count
+    found_count c.args.base.now _ c.args.cert.now.rows c.args.row.now c.in-Some.frame.now c.judge_found-cause.result.0 c.judge_found-cause.result.1 c.from-asked.result c.find_counted-asked.ensures.valid found (omega (arith, c.from-asked.ensures, c.find_counted-asked.ensures.most)) (λ some. omega (arith, c.from-asked.ensures, c.find_counted-asked.ensures.least some)) c.judge_found-cause.ensures.count
 
 pub returns-in-Some-clause-probes : goal.returns-in-Some-clause-probes
 returns-in-Some-clause-probes g c =
