@@ -64,26 +64,32 @@ fn with_policy<'a>(alloc: Global, command: Command<'a>) -> Result<Command<'a>, A
 }
 
 fn lint_command<'a>(alloc: Global) -> Result<Command<'a>, AllocError> {
-    let ceiling = number(
-        alloc,
-        "ceiling",
-        'c',
-        MOST_PENCE,
-        "Report each frame that costs more than N pence, 0 to 9999",
-    );
-    let keyings = number(
-        alloc,
-        "keyings",
-        'k',
-        MOST_RANK,
-        "Report each frame more than N keys away from the entry page, 0 to 65535",
-    );
     let command = Command::new(alloc, "lint")
         .about("Find every fault of a base, each at its line and column")
         .after_help(help::LINT)
         .arg(place(alloc, "BASE", "The base, a TOML file"))?
-        .arg(ceiling.required(false).default_value("9999"))?
-        .arg(keyings.required(false).default_value("65535"))?;
+        .arg(
+            number(
+                alloc,
+                "ceiling",
+                'c',
+                MOST_PENCE,
+                "Report each frame that costs more than N pence, 0 to 9999",
+            )
+            .required(false)
+            .default_value("9999"),
+        )?
+        .arg(
+            number(
+                alloc,
+                "keyings",
+                'k',
+                MOST_RANK,
+                "Report each frame more than N keys away from the entry page, 0 to 65535",
+            )
+            .required(false)
+            .default_value("65535"),
+        )?;
     with_groups(alloc, command)
 }
 
@@ -152,31 +158,43 @@ fn page_option<'a>(alloc: Global, name: &'a str, help: &'a str) -> Result<Arg<'a
         .group("near")
 }
 
-fn map_command<'a>(alloc: Global) -> Result<Command<'a>, AllocError> {
-    let within = Arg::new(alloc, "within")
+// How many keys away from the page.
+fn within_option<'a>(alloc: Global) -> Result<Arg<'a>, AllocError> {
+    Arg::new(alloc, "within")
         .long("within")
         .value_name("N")
         .action(ArgAction::Set)
         .allow_negative_numbers(true)
         .value_parser(value_parser!(u16).range(0..=65_535))
         .help("At most N keys from or to PAGE; any number without it")
-        .requires_arg("near")?;
+        .requires_arg("near")
+}
+
+// A command with one more option, if there was memory for both.
+fn with_option<'a>(
+    command: Result<Command<'a>, AllocError>,
+    option: Result<Arg<'a>, AllocError>,
+) -> Result<Command<'a>, AllocError> {
+    command?.arg(option?)
+}
+
+fn map_command<'a>(alloc: Global) -> Result<Command<'a>, AllocError> {
+    let from = page_option(
+        alloc,
+        "page",
+        "Draw the frames that keys lead to from frame a of PAGE",
+    );
+    let to = page_option(
+        alloc,
+        "to",
+        "Draw the frames from which keys lead to frame a of PAGE",
+    );
     let command = Command::new(alloc, "map")
         .about("Draw a base as a graph, a DOT file for Graphviz")
         .after_help(help::MAP)
-        .arg(place(alloc, "BASE", "The base, a TOML file"))?
-        .arg(page_option(
-            alloc,
-            "page",
-            "Draw the frames that keys lead to from frame a of PAGE",
-        )?)?
-        .arg(page_option(
-            alloc,
-            "to",
-            "Draw the frames from which keys lead to frame a of PAGE",
-        )?)?
-        .arg(within)?;
-    with_groups(alloc, command)
+        .arg(place(alloc, "BASE", "The base, a TOML file"));
+    let command = with_option(with_option(command, from), to);
+    with_groups(alloc, with_option(command, within_option(alloc))?)
 }
 
 fn explain_command<'a>(alloc: Global) -> Result<Command<'a>, AllocError> {
@@ -189,20 +207,28 @@ fn explain_command<'a>(alloc: Global) -> Result<Command<'a>, AllocError> {
         .arg(code)
 }
 
+// A command with one more subcommand, if there was memory for both.
+fn with_part<'a>(
+    whole: Result<Command<'a>, AllocError>,
+    part: Result<Command<'a>, AllocError>,
+) -> Result<Command<'a>, AllocError> {
+    whole?.subcommand(part?)
+}
+
 fn whole_command<'a>(alloc: Global) -> Result<Command<'a>, AllocError> {
-    Command::new(alloc, "pageaudit")
+    let whole = Command::new(alloc, "pageaudit")
         .bin_name("pageaudit")?
         .about("Audit the page base of a viewdata information provider")
         .version(help::VERSION)
-        .subcommand_required(true)
-        .subcommand(lint_command(alloc)?)?
-        .subcommand(audit_command(alloc)?)?
-        .subcommand(check_command(alloc)?)?
-        .subcommand(change_command(alloc)?)?
-        .subcommand(walk_command(alloc)?)?
-        .subcommand(list_command(alloc)?)?
-        .subcommand(map_command(alloc)?)?
-        .subcommand(explain_command(alloc)?)
+        .subcommand_required(true);
+    let whole = with_part(Ok(whole), lint_command(alloc));
+    let whole = with_part(whole, audit_command(alloc));
+    let whole = with_part(whole, check_command(alloc));
+    let whole = with_part(whole, change_command(alloc));
+    let whole = with_part(whole, walk_command(alloc));
+    let whole = with_part(whole, list_command(alloc));
+    let whole = with_part(whole, map_command(alloc));
+    with_part(whole, explain_command(alloc))
 }
 
 /// Why there are no words.
