@@ -68,7 +68,7 @@ fn the_nearest_word_is_at_most_two_steps_away(rt: HostRuntime) -> Result<(), Fai
         ("unkownky", Some("UnknownKey")),
         ("ukownky", None),
         ("x", Some("X1")),
-        ("K16", Some("K1")),
+        ("K77", Some("K7")),
         ("NORETRUN", Some("NORETURN")),
         ("zzzzz", None),
         ("", None),
