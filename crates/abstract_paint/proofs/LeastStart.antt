@@ -1,5 +1,5 @@
 -- The first start that is found is the least.
-use Rattle.std.proofs.Common.{◌≡◌, ℕ, zero, suc, ◌+◌, ◌*◌, ◌/◌, ◌%◌, ◌==◌, ◌<◌, ◌≤◌, arith, refl, sym, ap, ◌∙◌, subst, cond, length, get_or, List, Bool, true, false, Option}
+use Rattle.std.proofs.Common.{◌≡◌, ℕ, zero, suc, ◌+◌, ◌*◌, ◌/◌, ◌%◌, ◌==◌, ◌<◌, ◌≤◌, arith, refl, sym, ap, ◌∙◌, subst, get_or, List, Bool, true, false, Option}
 use Rattle.std.proofs.Common as std
 use Rattle.std.proofs.lemmas.Bool.Decides.{nat_tests}
 use Rattle.std.proofs.lemmas.List.FromFn.{length-range_with_len, get_or-range_with_len}

@@ -1,5 +1,5 @@
 -- What is among the elements of a list that another one gives.
-use Rattle.std.proofs.Common.{◌≡◌, ◌⊎◌, ⊎_elim, inl, inr, ◌<◌, ap, sym, ◌∙◌, cond, ℕ, zero, suc, Bool, true, false, List, [], ◌∷◌, Option, Some, None, Contains, length, refl, subst, arith}
+use Rattle.std.proofs.Common.{◌≡◌, ◌⊎◌, inl, inr, ◌<◌, ap, sym, ◌∙◌, cond, ℕ, zero, suc, Bool, true, false, List, [], ◌∷◌, Option, Some, None, Contains, length, refl, subst, arith}
 use Rattle.std.specs.Prelude.{map, filter, slice_index_or}
 use Rattle.std.specs.List.{filter_map, cons_option}
 

@@ -1,8 +1,7 @@
 -- What the edges of a map are.
-use Rattle.std.proofs.Common.{◌≡◌, ◌∙◌, sym, ap, ℕ, true, List, [], Option, Some, None, option_map, Contains, length, refl, subst, arith}
-use Rattle.std.specs.Prelude.{◌↔◌, map, filter}
-use Rattle.std.proofs.lemmas.List.Folds.{list_any-from_Any}
-use Rattle.indexmap.proofs.CallerLemmas.{Contains-list_any}
+use Rattle.std.proofs.Common.{◌≡◌, ◌∙◌, sym, ap, ℕ, true, List, [], Option, Some, None, option_map, Contains, refl, subst}
+use Rattle.std.specs.Prelude.{map, filter}
+use Rattle.std.proofs.lemmas.List.Folds.{Any-from_list_any, list_any-from_Any}
 use Rattle.page_ids.specs.Ids.{Id, id_eq}
 use Rattle.page_ids.specs.IdLaws.{id_eq_same, id_eq_refl}
 use Rattle.page_ids.specs.WayLaws.{ways_length, ways_at}
@@ -19,7 +18,7 @@ use Rattle.frame_records.specs.WayLaws.{offered_place, goes, going, found_sought
 use Rattle.frame_records.specs.declared.ways.Destination.TheVariants as destination
 use Rattle.base_map.specs.declared.exits.Exit.{Exit}
 use Rattle.base_map.specs.Edges.{exit_by, exits_of, targets_of, keys_to, has_id}
-use Rattle.base_map.specs.Map.{AreEdges, KeysLeadOn, EdgesAreWays}
+use Rattle.base_map.specs.Map.{EdgesAreWays}
 use Rattle.base_map.proofs.Among.{among_map, map_among, among_filter, filter_among, among_filter_map, filter_map_among}
 use Rattle.base_map.proofs.Distinct.{all_once, none_twice}
 use Rattle.base_map.proofs.Inserts.{has_all}
@@ -74,7 +73,8 @@ has_key f to way e =
 is_end : (f : Frame) (to : Id) → has_id (targets_of (exits_of f)) to ≡ true → (way : Way) × (sought f way ≡ Some to)
 is_end f to h =
     let ids = map (λ (e : Exit). e.to) (exits_of f) in
-    let there = Contains-list_any id_eq id_eq_same ids to (sym (has_all [] ids to) ∙ h) in
+    let a = Any-from_list_any (id_eq to) ids (sym (has_all [] ids to) ∙ h) in
+    let there = subst (λ (i : Id). Contains ids i) (sym (id_eq_same to a.1 a.4)) (a.0, a.2, a.3) in
     let m = map_among (λ (e : Exit). e.to) (exits_of f) to there in
     let w = filter_map_among (exit_by f) ways m.0 m.1 in
     (w.0, (of_exit f w.0 m.0 w.2).offered ∙ ap Some m.2)

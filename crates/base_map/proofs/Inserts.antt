@@ -1,7 +1,5 @@
 -- Ids that are inserted into a list of ids, each once.
 use Rattle.std.proofs.Common.{◌≡◌, ◌∙◌, ◌||◌, sym, ap, cond, Bool, true, false, List, [], ◌∷◌, ◌++◌, refl, subst}
-use Rattle.std.specs.Prelude.{map}
-use Rattle.std.specs.List.{list_any}
 use Rattle.std.proofs.lemmas.List.Folds.{list_any-append}
 use Rattle.indexmap.specs.IndexSet.{insert_key, insert_all}
 use Rattle.page_ids.specs.Ids.{Id, id_eq}

@@ -1,6 +1,6 @@
 -- Links are the ways that lead from frame to frame.
-use Rattle.std.proofs.Common.{◌≡◌, ◌∙◌, ◌⊎◌, inl, inr, sym, ap, ◌||◌, cond, ℕ, zero, suc, Bool, true, false, List, [], ◌∷◌, ◌++◌, Option, Some, None, Contains, refl, subst, arith}
-use Rattle.std.specs.Prelude.{◌↔◌, map, filter, find}
+use Rattle.std.proofs.Common.{◌≡◌, ◌∙◌, ◌⊎◌, inl, inr, sym, ap, cond, ℕ, zero, suc, Bool, true, false, List, [], ◌∷◌, ◌++◌, Option, Some, Contains, refl, subst, arith}
+use Rattle.std.specs.Prelude.{map, filter}
 use Rattle.std.specs.List.{flat_map}
 use Rattle.std.specs.declared.cmp.Ordering.TheVariants.{Equal}
 use Rattle.std.proofs.lemmas.Bool.Decides.{nat_tests}
@@ -13,7 +13,7 @@ use Rattle.frame_records.specs.declared.frame.Frame.{Frame}
 use Rattle.frame_records.specs.declared.base.Sought.{Sought}
 use Rattle.frame_records.specs.declared.base.Sought.TheVariants.{Found, Closed, Missing}
 use Rattle.frame_records.specs.declared.ways.Destination.TheVariants as destination
-use Rattle.frame_records.specs.Bases.{BaseView, IsAscending, frame_at, frame_among}
+use Rattle.frame_records.specs.Bases.{BaseView, IsAscending, frame_among}
 use Rattle.frame_records.specs.Seek.{seek}
 use Rattle.frame_records.specs.Ways.{sought, Leads}
 use Rattle.frame_records.specs.WayLaws.{frame_id, going, found_sought}
@@ -23,7 +23,7 @@ use Rattle.base_map.specs.declared.exits.Exit.{Exit}
 use Rattle.base_map.specs.declared.links.Link.{Link}
 use Rattle.base_map.specs.Edges.{exit_by, exits_of, has_id}
 use Rattle.base_map.specs.Loops.{is_found, is_found_by, links_by, links_of, turned, linked, linked_by}
-use Rattle.base_map.specs.Windows.{Path, IsWithin, IsSpan, AreFrom, AreTo}
+use Rattle.base_map.specs.Windows.{Path, IsSpan, AreFrom, AreTo}
 use Rattle.base_map.proofs.Among.{none_among, first_among, later_among, first_or_later, among_map, map_among, among_filter, filter_among, filter_map_among}
 use Rattle.base_map.proofs.EdgeLaws.{exit_with, its_exit, of_exit, leads, found_offered}
 use Rattle.base_map.proofs.HasIds.{one_of, or_left, or_right, one_id, has_one}

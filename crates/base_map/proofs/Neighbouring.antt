@@ -1,5 +1,5 @@
 -- The ends of links, one link after another.
-use Rattle.std.proofs.Common.{◌≡◌, ◌∙◌, sym, ap, cond, Bool, true, false, List, [], ◌∷◌, ◌++◌, Option, Some, None, append-nil, refl}
+use Rattle.std.proofs.Common.{◌≡◌, ◌∙◌, sym, ap, cond, Bool, true, false, List, [], ◌∷◌, ◌++◌, Option, Some, append-nil, refl}
 use Rattle.std.specs.Option.{option_map_or}
 use Rattle.page_ids.specs.Ids.{Id, id_eq}
 use Rattle.page_ids.specs.IdLaws.{id_eq_same}

@@ -1,8 +1,8 @@
 -- A few words by which a frame can be recognised.
-use Rattle.std.specs.Prelude.{ℕ, ◌-◌, ◌==◌, ◌&&◌, ◌||◌, Bool, true, false, not, if◌then◌else◌, List, [], ◌∷◌, ◌++◌, length, take, drop, find, codes, nat_lt, nat_le, unwrap_or, decimal, Option, Some, None}
+use Rattle.std.specs.Prelude.{ℕ, ◌-◌, ◌==◌, ◌&&◌, ◌||◌, Bool, true, false, if◌then◌else◌, List, [], ◌∷◌, ◌++◌, length, take, drop, find, codes, nat_lt, nat_le, unwrap_or, decimal, Option, Some, None}
 use Rattle.std.specs.List.{list_any, slice_split, prefix_len, suffix_len}
 use Rattle.std.specs.Char.{is_ascii_alphabetic, is_ascii_whitespace}
-use Rattle.page_ids.specs.Ids.{Id, id_eq, frame_text, page_text}
+use Rattle.page_ids.specs.Ids.{id_eq, frame_text, page_text}
 use Rattle.frame_records.specs.declared.frame.Frame.{Frame}
 use Rattle.frame_records.specs.Seek.{entry_of, is_open}
 use Rattle.base_map.specs.Edges.{MapView, has_id}

@@ -11,7 +11,7 @@
 //! - [`FakeSource`]: gives its bytes in pieces, then ends or fails. It is a reader of std too.
 //! - [`FakeSink`]: takes bytes in pieces until it is full, or fails at its flush. It is a writer of std too.
 //!
-//! The crate `device_tests` tests the crate [`devices`] with them.
+//! The crate `run_tests` tests the crate [`devices`] with them.
 #![tactic(auto)]
 
 mod sink;

@@ -81,7 +81,7 @@ module _ (base : BaseView) (policy : Policy) (found : List Discovered) (finding 
   clean : IsClean is.frame.lead is.frame.body
   clean = clean_by (start_of is.frame.lead is.frame.body (paint_of is.frame.lead is.frame.body)) (is_start is.frame.lead is.frame.body)
 
-  -- no way comes to a closed or a missing frame
+  -- no way leads to a closed or a missing frame
   not_closed : (w : Way) (to : Id) → destination policy.groups base d.id w ≡ way.Closed to → ⊥
   not_closed w to e = none_here (key_fault kind.Closed d.id (script found i) (way_key w) to) (record { through = w; to = to; comes_to = e; is = refl })
 

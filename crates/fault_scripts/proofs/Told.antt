@@ -1,5 +1,5 @@
 -- The faults that are reported, one answer after another, are exactly those that are due so far, in order.
-use Rattle.std.proofs.Common.{◌≡◌, ◌<◌, ◌≤◌, ◌+◌, ◌*◌, ◌++◌, inl, inr, ℕ, List, [], ◌∷◌, length, get_or, Option, slice_get, option_map, refl, sym, ◌∙◌, ap, subst, arith}
+use Rattle.std.proofs.Common.{◌≡◌, ◌<◌, ◌+◌, ◌*◌, ◌++◌, inl, inr, ℕ, List, [], ◌∷◌, length, get_or, Option, slice_get, option_map, refl, sym, ◌∙◌, ap, subst, arith}
 use Rattle.std.proofs.Common as std
 use Rattle.std.specs.Prelude.{Contains}
 use Rattle.std.specs.Option.{option_to_list}

@@ -59,7 +59,7 @@ pub record TouchIsDue (id : Id) (frame : Frame) (keys : List Key) (fault : Fault
   pub least : IsLeastStart frame.lead frame.body start
   pub is : fault ≡ touch_fault id keys start
 
--- a way of the frame comes to this, of the frame that it seeks
+-- a way of the frame has this destination, made of the frame that it seeks
 pub record KeyIsDue (caller : List ℕ) (base : BaseView) (id : Id) (keys : List Key) (fault : Fault) (k : FaultKind) (what : Id → Destination) : Type 0 where
   pub through : Way
   pub to : Id

@@ -46,7 +46,7 @@ IsReplayed caller base keys (Err fault) = IsOpenFault caller base fault
 
 -- What bears a fault out: the result of its script, run as a session of a caller of exactly the policy's groups.
 
--- no session is opened: seeking the entry frame comes to this
+-- no session is opened: seeking the entry frame results in this
 pub record ShowsEntry (caller : List ℕ) (base : BaseView) (fault : Fault) (what : Sought) : Type 0 where
   pub frame : fault.frame ≡ entry_of base
   pub script : fault.script ≡ []

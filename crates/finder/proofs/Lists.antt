@@ -4,7 +4,7 @@ use Rattle.std.specs.Prelude.{nat_eq}
 use Rattle.std.specs.List.{list_any}
 use Rattle.std.proofs.lemmas.Bool.Decides.{nat_tests}
 use Rattle.indexmap.specs.IndexSet.{insert_key}
-use Rattle.indexmap.proofs.CallerLemmas.{Contains-list_any}
+use Rattle.std.proofs.lemmas.List.Folds.{Any-from_list_any}
 use Rattle.finder.proofs.Words.{count_by-le-length, sum_by-set, length-set, get_or-set_other, get_or_append_left, same_Some, slice_get_cases, slice_get_within, slice_get_read, get_or_from_slice_get}
 
 pub at_push : {X : Type 0} (xs : List X) (y : X) (j : ℕ) (x : X) → slice_get (xs ++ y ∷ []) j ≡ Some x
@@ -86,5 +86,7 @@ same_number a b e = grind (arith, nat_tests)
 pub insert_new : (keys : List ℕ) (key : ℕ) → (Contains keys key → ⊥) → insert_key nat_eq keys key ≡ keys ++ key ∷ []
 insert_new keys key new = by (list_any (nat_eq key) keys) refl where
   by : (b : Bool) → list_any (nat_eq key) keys ≡ b → cond b keys (keys ++ key ∷ []) ≡ keys ++ key ∷ []
-  by true e = absurd (new (Contains-list_any nat_eq same_number keys key e))
+  by true e =
+      let a = Any-from_list_any (nat_eq key) keys e in
+      absurd (new (subst (λ (k : ℕ). Contains keys k) (sym (same_number key a.1 a.4)) (a.0, a.2, a.3)))
   by false e = refl

@@ -4,7 +4,7 @@ use Rattle.finder.proofs.Words.{cases_eq, common_steps, get_or-set_at, slice_get
 use Rattle.std.proofs.lemmas.List.Folds.{sum_by-replicate}
 use Rattle.finder.proofs.Listed.{listed, finds_reached, passed, pushed, started}
 use Rattle.finder.proofs.Lists.{at_push, at_within, any_at, any_of, at_contains, contains_at, full_at, set_kept, true_within}
-use Rattle.finder.proofs.Nodes.{id_stands}
+use Rattle.finder.proofs.Nodes.{id_there}
 use Rattle.finder.proofs.Steps.{one_node, leads_id, leads_to, rank_ids, walk_nodes}
 
 module _ (graph : Graph) (nodes : List ℕ) (listed : List Bool) (are : AreMarked graph nodes listed) where
@@ -109,6 +109,6 @@ module _ (graph : Graph) (index : ℕ) (d : Discovery) (is : IsListed graph (ind
       → FindsReached graph.table.groups.now graph.table.base.now d.found
   discovered end = finds_reached graph.table.groups.now graph.table.base.now index d.found is.found (⊎_elim (λ past. listed graph.table.groups.now graph.table.base.now index d.found is.found (omega (arith, past, is.named.as_many))) (λ full n g walk.
       let to = walk_nodes graph n graph.entry (entry_of graph.table.base.now) g graph.entry_is walk in
-      let there = id_stands graph.table.base.now.frames to.0 g to.1 in
+      let there = id_there graph.table.base.now.frames to.0 g to.1 in
       let inside = slice_get_within graph.table.base.now.frames to.0 there.0 there.1 in
       listed_of graph.table.base.now.frames d.order.keys d.found is.named to.0 g to.1 (is.marked.marked to.0 (full_at (λ b. b) d.listed.items to.0 true false refl (omega (arith, full, is.marked.count, is.marked.room)) (omega (arith, inside, graph.table.nodes, is.marked.room))))) end)

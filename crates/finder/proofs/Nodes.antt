@@ -27,6 +27,6 @@ module _ (frames : List Frame) (up : IsAscending frames) where
       find_first (λ g. id_eq g.id f.id) frames i f inside here (id_eq_refl f.id) (λ k lt. ap (λ (g : Frame). id_eq (get_or frames k f).id g.id) (sym here) ∙ apart_at frames i k f up lt inside)
 
 -- the frame of a node
-pub id_stands : (frames : List Frame) (j : ℕ) (to : Id) → id_at frames j ≡ Some to
+pub id_there : (frames : List Frame) (j : ℕ) (to : Id) → id_at frames j ≡ Some to
     → (f : Frame) × (slice_get frames j ≡ Some f) × (f.id ≡ to)
-id_stands frames j to e = mapped (λ (f : Frame). f.id) (slice_get frames j) to e
+id_there frames j to e = mapped (λ (f : Frame). f.id) (slice_get frames j) to e

@@ -2,7 +2,7 @@
 use Rattle.std.proofs.Common.{◌≡◌, ℕ, List, Option, Some, None, option_map, length, slice_get, refl, sym, ◌∙◌, ap, ⊎_elim, ◌<◌, zero, suc, subst, arith}
 use Rattle.finder.proofs.Words.{cases_lt, same_Some, slice_get_within, Id, Way, place_at, way_at, way_place, Frame, IsAscending, BaseView, entry_of, destination_of, destination_by, destination, aim_of, Leads, id_at, Graph, Goes, NodeWalk, IsNodeRank, Walk, IsRank}
 use Rattle.frame_records.specs.declared.ways.Destination.TheVariants as destination_is
-use Rattle.finder.proofs.Nodes.{same_node, frame_here, id_stands}
+use Rattle.finder.proofs.Nodes.{same_node, frame_here, id_there}
 use Rattle.finder.proofs.Within.{node_to, told, leads_on, known_way}
 use Rattle.finder.proofs.Lists.{mapped}
 
@@ -10,8 +10,8 @@ use Rattle.finder.proofs.Lists.{mapped}
 pub one_node : (frames : List Frame) (i j : ℕ) (id : Id) → IsAscending frames → id_at frames i ≡ Some id
     → id_at frames j ≡ Some id → i ≡ j
 one_node frames i j id up at there =
-    let f = id_stands frames i id at in
-    let g = id_stands frames j id there in
+    let f = id_there frames i id at in
+    let g = id_there frames j id there in
     same_node frames up i j f.0 g.0 f.1 g.1 (f.2 ∙ sym g.2)
 
 module _ (graph : Graph) where
@@ -38,7 +38,7 @@ module _ (graph : Graph) where
   leads_node : (f : ℕ) (way : Way) (a b : Id) → IsOf f a → Leads caller base a way b
       → (node : ℕ) × IsOf node b × Goes graph f (way_place way) node
   leads_node f way a b at l =
-      let from = id_stands base.frames f a at in
+      let from = id_there base.frames f a at in
       let known = known_way caller base a way b l in
       let inside : f < graph.table.count = omega (arith, slice_get_within base.frames f from.0 from.1, graph.table.nodes) in
       let found : destination_of caller base from.0 (way_at (way_place way)) ≡ destination_is.Found b l.price = ap (destination_of caller base from.0) known.1 ∙ sym (ap (λ id. destination caller base id way) (sym from.2) ∙ ap (destination_by caller base way) (frame_here base.frames graph.table.valid.ascending f from.0 from.1)) ∙ l.found in

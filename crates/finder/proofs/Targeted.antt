@@ -7,7 +7,7 @@ use Rattle.finder.specs.declared.aim.Aim.TheVariants as aim
 use Rattle.finder.specs.declared.table.Targets.{Targets}
 use Rattle.finder.specs.declared.target.Target.TheVariants.{Found}
 use Rattle.finder.specs.Targets.{IsFoundAt, IsTold, IsAdded}
-use Rattle.finder.proofs.Nodes.{frame_here, id_stands}
+use Rattle.finder.proofs.Nodes.{frame_here, id_there}
 use Rattle.finder.proofs.Lists.{mapped}
 
 -- the frame of an id that is seen
@@ -21,7 +21,7 @@ pub record SeenFrame (caller : List ℕ) (frames : List Frame) (id : Id) (node :
 pub seen_frame : (caller : List ℕ) (frames : List Frame) (id : Id) (node : ℕ) (admitted : Bool) → IsAscending frames
     → IsSeen caller frames id node admitted → SeenFrame caller frames id node admitted
 seen_frame caller frames id node admitted up s =
-    let f = id_stands frames node id s.stands in
+    let f = id_there frames node id s.stands in
     record {
       frame = f.0;
       stands = f.1;

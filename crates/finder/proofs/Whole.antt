@@ -2,7 +2,7 @@
 use Rattle.std.proofs.Common.{◌≡◌, ℕ, Bool, true, false, List, Some, None, if◌then◌else◌, length, refl, sym, ◌∙◌, ap, ◌<◌, [], slice_get, arith, ◌≤◌}
 use Rattle.finder.proofs.Words.{same_Some, slice_get_within, Frame, BaseView, IsAscending, frame_at, entry_of, seek_entry, is_open, sought_of, Target, IsEntryNode, IsSought, target_at, node_of, Discovered, AreNamed, FindsReached, RanksAreLeast, IsFinding, EntryIsFound}
 use Rattle.frame_records.specs.declared.base.Sought.TheVariants as sought_is
-use Rattle.finder.proofs.Nodes.{frame_here, id_stands}
+use Rattle.finder.proofs.Nodes.{frame_here, id_there}
 use Rattle.finder.proofs.Marked.{frame_listed}
 use Rattle.finder.proofs.Targeted.{SeenFrame, seen_frame}
 use Rattle.finder.proofs.Scripted.{listed_at, scripts_lead}
@@ -32,7 +32,7 @@ pub stands : (base : BaseView) (nodes : List ℕ) (found : List Discovered) (i n
     → (f : Frame) × (slice_get base.frames node ≡ Some f) × ((d : Discovered) → slice_get found i ≡ Some d → frame_at base d.id ≡ Some f)
 stands base nodes found i node up named at =
     let e = frame_listed base.frames nodes found named i node at in
-    let f = id_stands base.frames node e.0.id e.2 in (
+    let f = id_there base.frames node e.0.id e.2 in (
       f.0,
       f.1,
       λ d there. ap (frame_at base) (sym (f.2 ∙ ap (λ (x : Discovered). x.id) (same_Some e.0 d (sym e.1 ∙ there)))) ∙ frame_here base.frames up node f.0 f.1,

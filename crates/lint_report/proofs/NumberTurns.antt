@@ -1,5 +1,5 @@
 -- Numbers of ids, one pair at a time.
-use Rattle.std.proofs.Common.{◌≡◌, ◌∙◌, sym, cond, Bool, true, false, Option, None, Some, refl}
+use Rattle.std.proofs.Common.{◌≡◌, sym, cond, Bool, true, false, Option, None, Some, refl}
 use Rattle.std.specs.Option.{option_or}
 
 -- one more number in a map: what comes later wins over it, and it wins over the map

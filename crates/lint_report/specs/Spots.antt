@@ -3,7 +3,6 @@ use Rattle.std.specs.Prelude.{ℕ, ◌==◌, nat_lt, not, Bool, if◌then◌else
 use Rattle.page_ids.specs.declared.key.Key.{Key}
 use Rattle.page_ids.specs.declared.key.Key.TheVariants as key
 use Rattle.frame_records.specs.declared.limits.TheConstants.{MOST_LISTED}
-use Rattle.base_text.specs.declared.fault.Field.{Field}
 use Rattle.base_text.specs.declared.fault.Field.TheVariants as field
 use Rattle.base_text.specs.declared.keys.TableKind.TheVariants as kind
 use Rattle.base_text.specs.Fields.{field_name, digit_key}

@@ -1,9 +1,24 @@
-//! Tests of `lint_words`. The wanted words are those of tests/cases/lint.md, or follow the front page of the crate.
+//! Tests of `base_faults`, `text_places`, `toml_hints`, `lint_words` and `lint_report`. The wanted words are those of
+//! tests/cases/lint.md, or follow the front pages of these crates.
 #![tactic(auto)]
 
 #[cfg(test)]
-mod faults;
+mod draft_wholes;
 #[cfg(test)]
-mod texts;
+mod drafts;
 #[cfg(test)]
-mod wholes;
+mod fault_words;
+#[cfg(test)]
+mod findings;
+#[cfg(test)]
+mod hint_places;
+#[cfg(test)]
+mod hints;
+#[cfg(test)]
+mod places;
+#[cfg(test)]
+mod text_lines;
+#[cfg(test)]
+mod text_words;
+#[cfg(test)]
+mod whole_words;

@@ -3,15 +3,16 @@
 //! `run_bench audit` measures reading, auditing and lint in four shapes, a list and a map in all but the chain, lint of many
 //! rows that are too long, and the faults of a long chain. `run_bench check` measures checks, walks and changes in these
 //! shapes, the time of a check for each row of an eighth of the frames and of all, and checks and audits for a caller of 16
-//! groups. After either word `full` measures bases of full size, else a sixteenth. Without any word both measure a sixteenth, to
-//! show in seconds that each result is right. The figures go to standard error, of the least processor times of some runs in
-//! turns; `ok` is printed if each result was right.
+//! groups. After either word `full` measures bases of full size, else a sixteenth. `run_bench find` measures the finder alone.
+//! Without any word all three are measured, of a sixteenth, to show in seconds that each result is right. The figures go to
+//! standard error, of the least processor times of some runs in turns; `ok` is printed if each result was right.
 #![tactic(auto)]
 
 mod auditing;
 mod checking;
 mod edition;
 mod figure;
+mod finding;
 mod memory;
 mod shape;
 mod size;
@@ -23,7 +24,8 @@ use std::env;
 
 fn run_all(rt: &HostRuntime) -> Result<()> {
     auditing::measure(rt, Size::Part)?;
-    checking::measure(rt, Size::Part)
+    checking::measure(rt, Size::Part)?;
+    finding::measure(rt)
 }
 
 fn run(rt: &HostRuntime, words: &[String]) -> Result<()> {
@@ -35,7 +37,8 @@ fn run(rt: &HostRuntime, words: &[String]) -> Result<()> {
     match word.as_str() {
         "audit" => auditing::measure(rt, size),
         "check" => checking::measure(rt, size),
-        _ => bail!("the words are audit [full] or check [full]"),
+        "find" => finding::measure(rt),
+        _ => bail!("the words are audit [full], check [full] or find"),
     }
 }
 

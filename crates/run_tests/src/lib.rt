@@ -1,4 +1,5 @@
-//! Tests of the runs of `pageaudit`. `tests/failing-devices` tries the same runs with devices that fail at each byte.
+//! Tests of `devices`, by the devices of `fake_devices`, and of the runs of `pageaudit`. `tests/failing-devices` tries the same
+//! runs with devices that fail at each byte.
 #![tactic(auto)]
 
 #[cfg(test)]
@@ -8,14 +9,22 @@ mod change;
 #[cfg(test)]
 mod check;
 #[cfg(test)]
+mod from_read;
+#[cfg(test)]
+mod into_write;
+#[cfg(test)]
 mod lint;
 #[cfg(test)]
 mod list;
 #[cfg(test)]
 mod map;
 #[cfg(test)]
+mod reading;
+#[cfg(test)]
 mod status;
 #[cfg(test)]
 mod told;
 #[cfg(test)]
 mod walk;
+#[cfg(test)]
+mod writing;

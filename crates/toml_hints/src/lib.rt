@@ -9,7 +9,7 @@
 //!   is a guess at the cause. If no rule applies, there is none.
 //! - Definitions: the rules (`Rules`), where a key was defined before (`Keys`), the bracket that isn't closed (`Brackets`), the
 //!   words (`Words`).
-//! - toml's messages are pinned by no clause: `hint_tests` has texts with toml's own faults.
+//! - toml's messages are pinned by no clause: `lint_tests` has texts with toml's own faults.
 #![tactic(auto)]
 
 mod backwards;

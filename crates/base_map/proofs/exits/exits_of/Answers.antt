@@ -1,5 +1,5 @@
-use Rattle.std.proofs.Common.{◌≡◌, ◌∙◌, sym, ap, ◌++◌, ◌∷◌, [], Some, None}
-use Rattle.page_ids.specs.Ways.{way_at, way_key}
+use Rattle.std.proofs.Common.{◌≡◌, ◌∙◌, sym, ap, Some, None}
+use Rattle.page_ids.specs.Ways.{way_at}
 use Rattle.frame_records.specs.Ways.{sought}
 use Rattle.base_map.proofs.ExitSteps.{one_more, none_more}
 use Rattle.base_map.proofs.exits.exits_of.Goals.{in-Some+in_ok-push-in-Some, in-None}

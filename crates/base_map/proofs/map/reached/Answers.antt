@@ -1,4 +1,4 @@
-use Rattle.std.proofs.Common.{◌≡◌, ◌∙◌, sym, ap, subst}
+use Rattle.std.proofs.Common.{◌∙◌, sym, ap, subst}
 use Rattle.base_map.specs.Map.{ids_of, AreReached}
 use Rattle.base_map.proofs.Founds.{are_reached, weaken}
 use Rattle.base_map.proofs.map.reached.Goals as goal

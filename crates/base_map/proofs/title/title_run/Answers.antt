@@ -1,4 +1,4 @@
-use Rattle.std.proofs.Common.{◌≡◌, ◌∙◌, sym, ap, subst, ◌+◌, ◌++◌, ◌∷◌, [], true, false, drop, get_or, arith}
+use Rattle.std.proofs.Common.{◌≡◌, ◌∙◌, sym, ap, subst, ◌+◌, ◌∷◌, [], true, false, drop, get_or, arith}
 use Rattle.std.proofs.lemmas.List.{drop_more, drop_all}
 use Rattle.base_map.specs.Nodes.{ends_run, is_title, title_run}
 use Rattle.base_map.proofs.Runs.{IsRunOf, after_escape, at_escape, at_plain, at_title, at_end_of_run, at_last}

@@ -1,4 +1,4 @@
-use Rattle.std.proofs.Common.{◌≡◌, false, drop}
+use Rattle.std.proofs.Common.{drop}
 use Rattle.base_map.specs.Nodes.{title_run}
 use Rattle.base_map.proofs.Runs.{IsRunOf}
 use Rattle.base_map.proofs.title.title_run.Given as goal

@@ -1,4 +1,4 @@
-use Rattle.std.proofs.Common.{◌≡◌, ◌∙◌, sym, ap, subst}
+use Rattle.std.proofs.Common.{◌≡◌, ◌∙◌, ap, subst}
 use Rattle.base_faults.specs.Drafts.{DraftView}
 use Rattle.lint_report.specs.Lint.{tables_of, IsAudited}
 use Rattle.lint_report.proofs.Judged.{weaken}

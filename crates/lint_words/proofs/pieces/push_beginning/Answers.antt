@@ -1,4 +1,4 @@
-use Rattle.std.proofs.Common.{◌≡◌, ◌++◌, append-nil}
+use Rattle.std.proofs.Common.{append-nil}
 use Rattle.std.proofs.lemmas.Str.{IsUtf8-past_char, chars_past_char}
 use Rattle.lint_words.proofs.Quotes.{one_more, none}
 use Rattle.lint_words.proofs.pieces.push_beginning.Goals as goal

@@ -1,4 +1,3 @@
-use Rattle.std.proofs.Common.{arith}
 use Rattle.text_places.proofs.ScanTurns.{place_begins}
 use Rattle.text_places.proofs.text_lines.place_in.Goals as goal
 

@@ -1,4 +1,4 @@
-use Rattle.std.proofs.Common.{◌≡◌, ◌∙◌, ap, ◌++◌, ◌∷◌, [], refl}
+use Rattle.std.proofs.Common.{◌∙◌, ap, ◌++◌, ◌∷◌, [], refl}
 use Rattle.std.specs.Option.{option_map_or}
 use Rattle.indexmap.specs.IndexMap.{get}
 use Rattle.page_ids.specs.Ids.{id_eq}

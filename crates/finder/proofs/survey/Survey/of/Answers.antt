@@ -1,6 +1,6 @@
 use Rattle.std.proofs.Common.{◌≡◌, Some, None, sym, subst, arith}
 use Rattle.finder.proofs.Words.{slice_get_within, BaseView, entry_of, IsEntryNode, IsFinding, id_at}
-use Rattle.finder.proofs.Nodes.{id_stands}
+use Rattle.finder.proofs.Nodes.{id_there}
 use Rattle.finder.proofs.Whole.{nothing}
 use Rattle.finder.proofs.survey.Survey.of.Goals as goal
 
@@ -15,5 +15,5 @@ invariant_of-of_graph c =
     let table = c.in_ok-table.table in
     let entry = c.in-Some.entry in
     let there : id_at table.base.now.frames entry ≡ Some (entry_of table.base.now) = subst (λ (b : BaseView). id_at b.frames entry ≡ Some (entry_of b)) (sym c.in_ok-table.ensures.base) c.in-Some.ensures.1 in
-    let f = id_stands table.base.now.frames entry (entry_of table.base.now) there in
+    let f = id_there table.base.now.frames entry (entry_of table.base.now) there in
     record { entered = omega (arith, slice_get_within table.base.now.frames entry f.0 f.1, table.nodes); entry_is = there }

@@ -1,9 +1,4 @@
-//! Finds the frames of a base of the greatest size, beside one pass of look-ups of its routes in an `IndexMap`.
-//!
-//! It does so where the routes lead to frames in a row, where they are scattered, where each frame leads to the next alone, and
-//! where the frames are a tree. It prints the least processor times of five runs each and their ratios to standard error, and
-//! `ok` where each frame was found.
-#![tactic(auto)]
+//! Finding the frames of a base of 65,535 frames, against one pass of look-ups of its routes in an `IndexMap`.
 
 use anyhow::{Result, bail};
 use finder::find;
@@ -152,7 +147,7 @@ fn least_times(rt: &HostRuntime, base: &Base) -> Result<(Duration, Duration)> {
     Ok((lookups, finding))
 }
 
-fn measure(rt: &HostRuntime, name: &str, routes: Routes) -> Result<()> {
+fn measure_routes(rt: &HostRuntime, name: &str, routes: Routes) -> Result<()> {
     let base = large_base(rt.alloc(), routes)?;
     let (lookups, finding) = least_times(rt, &base)?;
     let lookups = lookups.as_micros().max(1);
@@ -164,11 +159,10 @@ fn measure(rt: &HostRuntime, name: &str, routes: Routes) -> Result<()> {
     Ok(())
 }
 
-fn main(rt: HostRuntime) -> Result<()> {
-    measure(&rt, "in a row", Routes::InARow)?;
-    measure(&rt, "scattered", Routes::Scattered)?;
-    measure(&rt, "in a chain", Routes::Chain)?;
-    measure(&rt, "in a tree", Routes::Tree)?;
-    println!(rt; "ok")?;
-    Ok(())
+/// Bases whose routes lead to frames in a row, to scattered ones, each to the next frame alone, and in a tree.
+pub fn measure(rt: &HostRuntime) -> Result<()> {
+    measure_routes(rt, "in a row", Routes::InARow)?;
+    measure_routes(rt, "scattered", Routes::Scattered)?;
+    measure_routes(rt, "in a chain", Routes::Chain)?;
+    measure_routes(rt, "in a tree", Routes::Tree)
 }

@@ -1,5 +1,0 @@
-//! Tests of `lint_report`.
-#![tactic(auto)]
-
-#[cfg(test)]
-mod lint;

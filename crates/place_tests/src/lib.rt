@@ -1,7 +1,0 @@
-//! Tests of `text_places`.
-#![tactic(auto)]
-
-#[cfg(test)]
-mod places;
-#[cfg(test)]
-mod text_lines;
