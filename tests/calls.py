@@ -11,7 +11,7 @@ CRATE = TOP / "crates" / "refused_calls"
 
 
 def is_current():
-    sources = [path for path in (TOP / "crates").rglob("*") if path.suffix in (".rt", ".antt") and "out" not in path.parts]
+    sources = [path for part in ("src", "specs", "proofs") for path in TOP.glob(f"crates/*/{part}/**/*.*")]
     built = CALLS.stat().st_mtime if CALLS.exists() else 0
     return all(path.stat().st_mtime <= built for path in [*sources, TOP / "crates.txt"])
 

@@ -9,7 +9,6 @@ use Rattle.checker.specs.declared.change.ChangeVerdict.{ChangeVerdict}
 use Rattle.checker.specs.declared.change.ChangeVerdict.TheVariants as change
 use Rattle.checker.specs.Change.{change_verdict, IsSafeChange}
 use Rattle.audit_report.specs.declared.run_fault.RunFault.{RunFault}
-use Rattle.audit_report.specs.declared.run_fault.RunFault.TheVariants as run
 use Rattle.audit_report.specs.Lines.{change_text}
 use Rattle.pageaudit.specs.declared.status.Status.{Status}
 use Rattle.pageaudit.specs.declared.status.Status.TheVariants.{Clear}
@@ -18,6 +17,7 @@ use Rattle.pageaudit.specs.declared.edition.EditionFault.{EditionFault}
 use Rattle.pageaudit.specs.declared.edition.EditionFault.TheVariants as edition
 use Rattle.pageaudit.specs.Files.{Device, device, IsUntouched, IsTextWritten, base_limit, cert_limit}
 use Rattle.pageaudit.proofs.Within.{untouched_within, base_within, cert_within}
+use Rattle.pageaudit.proofs.Runs.{by_answer}
 use Rattle.pageaudit.specs.FileFaults.{old_fault, new_fault}
 use Rattle.pageaudit.specs.ChangeRun.{EditionFiles, IsEditionOf, IsEditionFault, AreUntouched, AreReadWithin, IsChangeRun, HoldsOfChange, status_of_change}
 
@@ -65,19 +65,11 @@ module _ (old_files new_files : EditionFiles) (out : Device) (policy : Policy) w
       IsWritten v r = IsTextWritten out (change_text v) (status_of_change v) r
 
       written_run : (r : Result Status RunFault) → IsWritten (change_verdict policy old old_cert new new_cert) r → IsChangeRun old_files new_files out policy r
-      written_run (Ok s) w = record { old = old; old_cert = old_cert; new = new; new_cert = new_cert; old_read = old_read; new_read = new_read; written = w }
-      written_run (Err (run.Write wrote)) w = record { old = old; old_cert = old_cert; new = new; new_cert = new_cert; old_read = old_read; new_read = new_read; written = w }
-      written_run (Err run.Memory) w = (edition_within old_files old old_cert old_read, edition_within new_files new new_cert new_read, w)
-      written_run (Err (run.Base fault)) w = absurd w
-      written_run (Err (run.Cert fault)) w = absurd w
-      written_run (Err (run.Keys offset)) w = absurd w
-      written_run (Err run.Groups) w = absurd w
-      written_run (Err run.ReadBase) w = absurd w
-      written_run (Err run.ReadCert) w = absurd w
-      written_run (Err (run.NewBase fault)) w = absurd w
-      written_run (Err (run.NewCert fault)) w = absurd w
-      written_run (Err run.ReadNewBase) w = absurd w
-      written_run (Err run.ReadNewCert) w = absurd w
+      written_run =
+          by_answer out _ _ (IsChangeRun old_files new_files out policy)
+            (λ s w. record { old = old; old_cert = old_cert; new = new; new_cert = new_cert; old_read = old_read; new_read = new_read; written = w })
+            (λ wrote w. record { old = old; old_cert = old_cert; new = new; new_cert = new_cert; old_read = old_read; new_read = new_read; written = w })
+            (λ w. (edition_within old_files old old_cert old_read, edition_within new_files new new_cert new_read, w))
 
       cleared_is : (v : ChangeVerdict) → Clear ≡ status_of_change v → v ≡ change.Cleared
       cleared_is change.Cleared e = refl

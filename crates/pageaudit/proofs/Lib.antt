@@ -1,5 +1,3 @@
 mod Within
 mod Runs
 mod Changes
-mod Lists
-mod Maps

@@ -1,5 +1,5 @@
--- Runs of the audit, by what was written.
-use Rattle.std.proofs.Common.{Result, Ok, Err}
+-- Runs over a base, by what was written.
+use Rattle.std.proofs.Common.{ℕ, Bool, List, Option, Some, None, Result, Ok, Err, Vec, Global}
 use Rattle.frame_records.specs.Bases.{BaseView}
 use Rattle.checker.specs.declared.policy.Policy.{Policy}
 use Rattle.fault_scripts.specs.declared.outcome.Outcome.{Outcome}
@@ -8,52 +8,72 @@ use Rattle.fault_scripts.specs.Outcomes.{IsOutcomeOf}
 use Rattle.audit_report.specs.declared.run_fault.RunFault.{RunFault}
 use Rattle.audit_report.specs.declared.run_fault.RunFault.TheVariants as run
 use Rattle.audit_report.specs.ReportLines.{report_text}
+use Rattle.base_list.specs.Listing.{IsListText}
+use Rattle.base_map.specs.declared.view.View.{View}
+use Rattle.base_map.specs.Windows.{IsViewed}
 use Rattle.pageaudit.specs.declared.status.Status.{Status}
-use Rattle.pageaudit.specs.Files.{Device, IsUntouched, IsTextWritten, IsBaseOfFile}
+use Rattle.pageaudit.specs.declared.map_run.MapStatus.{MapStatus}
+use Rattle.pageaudit.specs.declared.map_run.MapStatus.TheVariants.{Drawn}
+use Rattle.pageaudit.specs.Files.{Device, IsUntouched, IsTextWritten, IsBaseOfFile, IsBaseRun}
+use Rattle.pageaudit.specs.AuditRun.{IsAuditRun, IsAuditIntoRun, IsSplitWritten, status_of_outcome}
+use Rattle.pageaudit.specs.ListRun.{IsListRun, status_of_entry}
+use Rattle.pageaudit.specs.MapRun.{IsMapRun, IsMapWritten}
 use Rattle.pageaudit.proofs.Within.{base_within}
-use Rattle.pageaudit.specs.AuditRun.{IsAuditRun, IsSplitWritten, IsAuditIntoRun, status_of_outcome}
 
-module _ (base_file out : Device) (base : BaseView) (policy : Policy) (outcome : Outcome) (read : IsBaseOfFile base_file base) (is : IsOutcomeOf base policy outcome) where
-  -- an audit that read its base, by its answer
-  pub report_run : (r : Result Status RunFault) → IsTextWritten out (report_text outcome) (status_of_outcome outcome) r → IsAuditRun base_file out policy r
-  report_run (Ok s) written = record { base = base; base_read = read; outcome = outcome; is = is; written = written }
-  report_run (Err (run.Write wrote)) written = record { base = base; base_read = read; outcome = outcome; is = is; written = written }
-  report_run (Err run.Memory) written = (base_within base_file base read, written)
-  report_run (Err (run.Base fault)) written = absurd written
-  report_run (Err (run.Cert fault)) written = absurd written
-  report_run (Err (run.Keys offset)) written = absurd written
-  report_run (Err run.Groups) written = absurd written
-  report_run (Err run.ReadBase) written = absurd written
-  report_run (Err run.ReadCert) written = absurd written
-  report_run (Err (run.NewBase fault)) written = absurd written
-  report_run (Err (run.NewCert fault)) written = absurd written
-  report_run (Err run.ReadNewBase) written = absurd written
-  report_run (Err run.ReadNewCert) written = absurd written
+-- by the answer after a text: a status, a write fault or out of memory
+pub by_answer : {A : Type 0} (out : Device) (text : List ℕ) (status : A) (P : Result A RunFault → Type 0)
+    → ((s : A) → IsTextWritten out text status (Ok s) → P (Ok s))
+    → ((wrote : ℕ) → IsTextWritten out text status (Err (run.Write wrote)) → P (Err (run.Write wrote)))
+    → (IsUntouched out → P (Err run.Memory)) → (r : Result A RunFault) → IsTextWritten out text status r → P r
+by_answer out text status P all part none (Ok s) w = all s w
+by_answer out text status P all part none (Err (run.Write wrote)) w = part wrote w
+by_answer out text status P all part none (Err run.Memory) w = none w
+by_answer out text status P all part none (Err (run.Base fault)) w = absurd w
+by_answer out text status P all part none (Err (run.Cert fault)) w = absurd w
+by_answer out text status P all part none (Err (run.Keys offset)) w = absurd w
+by_answer out text status P all part none (Err run.Groups) w = absurd w
+by_answer out text status P all part none (Err run.ReadBase) w = absurd w
+by_answer out text status P all part none (Err run.ReadCert) w = absurd w
+by_answer out text status P all part none (Err (run.NewBase fault)) w = absurd w
+by_answer out text status P all part none (Err (run.NewCert fault)) w = absurd w
+by_answer out text status P all part none (Err run.ReadNewBase) w = absurd w
+by_answer out text status P all part none (Err run.ReadNewCert) w = absurd w
 
-module _ (base_file cert out : Device) where
-  -- of the two outputs one has the report
-  pub report_of : (o : Outcome) (r : Result Status RunFault) → IsSplitWritten cert out o r → (d : Device) × IsTextWritten d (report_text o) (status_of_outcome o) r
-  report_of (Certified c) r written = (cert, written.0)
-  report_of (Faulty faults) r written = (out, written.0)
+module _ (base_file out : Device) (base : BaseView) (read : IsBaseOfFile base_file base) where
+  -- a run that read its base and wrote a text
+  pub text_run : {A : Type 0} (Nothing : Type 0) (Written : BaseView → Result A RunFault → Type 0) (text : List ℕ) (status : A)
+      → (IsUntouched out → Nothing) → ((r : Result A RunFault) → IsTextWritten out text status r → Written base r)
+      → (r : Result A RunFault) → IsTextWritten out text status r → IsBaseRun base_file Nothing Written r
+  text_run Nothing Written text status none is =
+      by_answer out text status (IsBaseRun base_file Nothing Written)
+        (λ s w. record { base = base; base_read = read; written = is (Ok s) w })
+        (λ wrote w. record { base = base; base_read = read; written = is (Err (run.Write wrote)) w })
+        (λ w. (base_within base_file base read, none w))
 
-  -- out of memory: neither has anything
-  pub none_of : (o : Outcome) → IsSplitWritten cert out o (Err run.Memory) → IsUntouched cert × IsUntouched out
-  none_of (Certified c) written = written
-  none_of (Faulty faults) written = (written.1, written.0)
+  pub report_run : (policy : Policy) (o : Outcome) → IsOutcomeOf base policy o
+      → (r : Result Status RunFault) → IsTextWritten out (report_text o) (status_of_outcome o) r → IsAuditRun base_file out policy r
+  report_run policy o is =
+      text_run _ _ (report_text o) (status_of_outcome o) (λ none. none) (λ r w. record { outcome = o; is = is; written = w })
 
-  -- an audit that read its base, with a file of its own for a certificate
-  pub split_run : (base : BaseView) (policy : Policy) (o : Outcome) → IsBaseOfFile base_file base → IsOutcomeOf base policy o
-      → (r : Result Status RunFault) → IsSplitWritten cert out o r → IsAuditIntoRun base_file cert out policy r
-  split_run base policy o read is (Ok s) written = record { base = base; base_read = read; outcome = o; is = is; written = written }
-  split_run base policy o read is (Err (run.Write wrote)) written = record { base = base; base_read = read; outcome = o; is = is; written = written }
-  split_run base policy o read is (Err run.Memory) written = (base_within base_file base read, (none_of o written).0, (none_of o written).1)
-  split_run base policy o read is (Err (run.Base fault)) written = absurd (report_of o _ written).1
-  split_run base policy o read is (Err (run.Cert fault)) written = absurd (report_of o _ written).1
-  split_run base policy o read is (Err (run.Keys offset)) written = absurd (report_of o _ written).1
-  split_run base policy o read is (Err run.Groups) written = absurd (report_of o _ written).1
-  split_run base policy o read is (Err run.ReadBase) written = absurd (report_of o _ written).1
-  split_run base policy o read is (Err run.ReadCert) written = absurd (report_of o _ written).1
-  split_run base policy o read is (Err (run.NewBase fault)) written = absurd (report_of o _ written).1
-  split_run base policy o read is (Err (run.NewCert fault)) written = absurd (report_of o _ written).1
-  split_run base policy o read is (Err run.ReadNewBase) written = absurd (report_of o _ written).1
-  split_run base policy o read is (Err run.ReadNewCert) written = absurd (report_of o _ written).1
+  pub list_run : (caller text : List ℕ) (is_found : Bool) → IsListText caller base text is_found
+      → (r : Result Status RunFault) → IsTextWritten out text (status_of_entry is_found) r → IsListRun base_file out caller r
+  list_run caller text is_found is =
+      text_run _ _ text (status_of_entry is_found) (λ none. none) (λ r w. record { text = text; is_found = is_found; is = is; written = w })
+
+  pub map_run : (caller : List ℕ) (view : View) (map : Option (Vec ℕ Global)) → IsViewed caller base view map
+      → (r : Result MapStatus RunFault) → IsMapWritten out map r → IsMapRun base_file out caller view r
+  map_run caller view (Some text) is r w =
+      text_run _ _ text.items Drawn (λ none. none) (λ r w. record { map = Some text; is = is; written = w }) r w
+  map_run caller view None is (Ok s) w = record { base = base; base_read = read; written = record { map = None; is = is; written = w } }
+  map_run caller view None is (Err fault) w = absurd (cc (w.0))
+
+-- an audit with a file of its own for a certificate
+pub split_run : (base_file cert out : Device) (base : BaseView) → IsBaseOfFile base_file base
+    → (policy : Policy) (o : Outcome) → IsOutcomeOf base policy o
+    → (r : Result Status RunFault) → IsSplitWritten cert out o r → IsAuditIntoRun base_file cert out policy r
+split_run base_file cert out base read policy (Certified c) is r w =
+    text_run base_file cert base read _ _ (report_text (Certified c)) (status_of_outcome (Certified c)) (λ none. (none, w.1))
+      (λ r text. record { outcome = Certified c; is = is; written = (text, w.1) }) r w.0
+split_run base_file cert out base read policy (Faulty faults) is r w =
+    text_run base_file out base read _ _ (report_text (Faulty faults)) (status_of_outcome (Faulty faults)) (λ none. (w.1, none))
+      (λ r text. record { outcome = Faulty faults; is = is; written = (text, w.1) }) r w.0

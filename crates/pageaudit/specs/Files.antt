@@ -4,7 +4,6 @@ use Rattle.std.specs.Io.KnownBytes.{Keeps, Consumes, IsAtEnd}
 use Rattle.devices.specs.Devices.{Seen, WroteWhole, WrotePart, BrokeWithin, TookWithin}
 use Rattle.audit_report.specs.declared.run_fault.RunFault.{RunFault}
 use Rattle.audit_report.specs.declared.run_fault.RunFault.TheVariants as run
-use Rattle.pageaudit.specs.declared.status.Status.{Status}
 use Rattle.frame_records.specs.Bases.{BaseView}
 use Rattle.base_text.specs.declared.fault.BaseFault.{BaseFault}
 use Rattle.base_text.specs.Whole.{IsTextBase}
@@ -38,7 +37,7 @@ pub record IsUntouched (d : Device) : Type 0 where
 
 -- the answer for a text and its status, and the output: the status if the whole text was taken; a write fault if its first
 -- bytes were taken and then a call failed; out of memory if nothing was written
-abbrev pub IsTextWritten : Device → List ℕ → Status → Result Status RunFault → Type 0
+abbrev pub IsTextWritten : {A : Type 0} → Device → List ℕ → A → Result A RunFault → Type 0
 IsTextWritten out text status (Ok s) = WroteWhole out.before out.after text × (s ≡ status)
 IsTextWritten out text status (Err (run.Write wrote)) = WrotePart out.before out.after text wrote
 IsTextWritten out text status (Err run.Memory) = IsUntouched out
@@ -127,6 +126,22 @@ IsBaseRead d (Err fault) = IsBaseFileFault d fault
 abbrev pub IsCertRead : Device → Result CertView (FileFault ReadFault) → Type 0
 IsCertRead d (Ok cert) = IsCertOfFile d cert
 IsCertRead d (Err fault) = IsCertFileFault d fault
+
+-- the base's file was read to its end and is right, and so much of it was written and answered
+pub record IsReadAndWritten {A : Type 0} (base_file : Device) (Written : BaseView → Result A RunFault → Type 0) (answer : Result A RunFault) : Type 0 where
+  pub base : BaseView
+  pub base_read : IsBaseOfFile base_file base
+  pub written : Written base answer
+
+-- a run over a base by its answer: a status or a write fault after what was written, or the first fault of the base's file. On
+-- every fault except Write, `Nothing` was written
+abbrev pub IsBaseRun : {A : Type 0} → Device → Type 0 → (BaseView → Result A RunFault → Type 0) → Result A RunFault → Type 0
+IsBaseRun base_file Nothing Written (Ok status) = IsReadAndWritten base_file Written (Ok status)
+IsBaseRun base_file Nothing Written (Err (run.Write wrote)) = IsReadAndWritten base_file Written (Err (run.Write wrote))
+IsBaseRun base_file Nothing Written (Err (run.Base fault)) = IsBaseTextFault base_file fault × Nothing
+IsBaseRun base_file Nothing Written (Err run.ReadBase) = IsBaseBroken base_file × Nothing
+IsBaseRun base_file Nothing Written (Err run.Memory) = IsReadWithin base_limit base_file × Nothing
+IsBaseRun base_file Nothing Written (Err _) = ⊥
 
 -- the answer for a text alone
 abbrev pub IsBaseAnswer : List ℕ → Result BaseView (FileFault BaseFault) → Type 0

@@ -1,7 +1,6 @@
 -- What a run of lint does.
-use Rattle.std.specs.Prelude.{◌≡◌, ◌<◌, ◌==◌, ℕ, if◌then◌else◌, List, length, Result, Ok, Err}
+use Rattle.std.specs.Prelude.{◌<◌, ◌==◌, ℕ, if◌then◌else◌, List, length, Result, Ok, Err}
 use Rattle.std.specs.Io.KnownBytes.{IsAtEnd}
-use Rattle.devices.specs.Devices.{WroteWhole, WrotePart}
 use Rattle.checker.specs.declared.policy.Policy.{Policy}
 use Rattle.audit_report.specs.declared.run_fault.RunFault.{RunFault}
 use Rattle.audit_report.specs.declared.run_fault.RunFault.TheVariants as run
@@ -9,7 +8,7 @@ use Rattle.lint_report.specs.declared.counts.Counts.{Counts}
 use Rattle.lint_report.specs.declared.finding.Level.TheVariants.{Error, Warning}
 use Rattle.lint_report.specs.Findings.{FindingView, count_of, finding_lines}
 use Rattle.lint_report.specs.Lint.{IsLint}
-use Rattle.pageaudit.specs.Files.{Device, IsUntouched, base_limit, WasReadSoFar, IsBaseBroken, IsReadWithin}
+use Rattle.pageaudit.specs.Files.{Device, IsUntouched, IsTextWritten, base_limit, WasReadSoFar, IsBaseBroken, IsReadWithin}
 use Rattle.pageaudit.specs.Status.{fault_number}
 
 -- the file's text, which is all that it had, or longer than a base may be
@@ -17,25 +16,17 @@ pub record IsTextOfFile (d : Device) (text : List ℕ) : Type 0 where
   pub read : WasReadSoFar base_limit d text
   pub whole : length text < base_limit → IsAtEnd d.after.bytes
 
-pub record AreCounted (findings : List FindingView) (counts : Counts) : Type 0 where
-  pub errors : counts.errors ≡ count_of Error findings
-  pub warnings : counts.warnings ≡ count_of Warning findings
+abbrev pub counts_of : List FindingView → Counts
+counts_of findings = record { errors = count_of Error findings; warnings = count_of Warning findings }
 
--- the answer for findings, and the output: their numbers if all lines were taken; a write fault if the first bytes of the
--- lines were taken and then a call failed; out of memory if nothing was written
-abbrev pub AreWritten : Device → List ℕ → List ℕ → List FindingView → Result Counts RunFault → Type 0
-AreWritten out path text findings (Ok counts) = WroteWhole out.before out.after (finding_lines path text findings) × AreCounted findings counts
-AreWritten out path text findings (Err (run.Write wrote)) = WrotePart out.before out.after (finding_lines path text findings) wrote
-AreWritten out path text findings (Err run.Memory) = IsUntouched out
-AreWritten out path text findings (Err _) = ⊥
-
--- the base's file was read, and the lines of all findings in its text were written
+-- the base's file was read, the lines of all findings in its text were written, and the answer is their numbers, or a write
+-- fault with the number of bytes written
 pub record IsLinted (base_file out : Device) (path : List ℕ) (policy : Policy) (answer : Result Counts RunFault) : Type 0 where
   pub text : List ℕ
   pub read : IsTextOfFile base_file text
   pub findings : List FindingView
   pub is : IsLint text policy findings
-  pub written : AreWritten out path text findings answer
+  pub written : IsTextWritten out (finding_lines path text findings) (counts_of findings) answer
 
 -- a run by its answer: the numbers of findings, or the first fault of a device
 abbrev pub IsLintRun : Device → Device → List ℕ → Policy → Result Counts RunFault → Type 0

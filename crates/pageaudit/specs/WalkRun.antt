@@ -14,7 +14,7 @@ use Rattle.audit_report.specs.declared.run_fault.RunFault.TheVariants as run
 use Rattle.audit_report.specs.Lines.{walk_text, entry_text}
 use Rattle.pageaudit.specs.declared.status.Status.{Status}
 use Rattle.pageaudit.specs.declared.status.Status.TheVariants.{Clear, Faulty}
-use Rattle.pageaudit.specs.Files.{Device, IsUntouched, IsTextWritten, base_limit, IsBaseOfFile, IsBaseTextFault, IsBaseBroken, IsReadWithin}
+use Rattle.pageaudit.specs.Files.{Device, IsUntouched, IsTextWritten, base_limit, IsReadWithin, IsBaseRun}
 
 -- what a session prints: a line for each reply, or the line of an entry frame that isn't found
 abbrev pub session_text : BaseView → Result (List Reply) OpenFault → List ℕ
@@ -37,32 +37,21 @@ pub record AreKeysOf (words : List ℕ) (keys : List Key) : Type 0 where
   pub are_keys : AreKeys keys
   pub spelled : words ≡ keys_text keys
 
--- the keys were read, and the base's file was read to its end and is right; the text of the caller's session was written, and
--- the answer is its status, or a write fault with the number of bytes written
-pub record IsSessionRun (base_file out : Device) (caller words : List ℕ) (answer : Result Status RunFault) : Type 0 where
+-- the text of the caller's session was written, and the answer is its status, or a write fault with the number of bytes written
+abbrev pub IsSessionWritten : Device → List ℕ → List Key → BaseView → Result Status RunFault → Type 0
+IsSessionWritten out caller keys base answer = IsTextWritten out (session_text base (session_of caller base keys)) (session_status (session_of caller base keys)) answer
+
+-- the keys were read, and then the base
+pub record IsKeysRun (base_file out : Device) (caller words : List ℕ) (answer : Result Status RunFault) : Type 0 where
   pub keys : List Key
   pub keys_read : AreKeysOf words keys
-  pub base : BaseView
-  pub base_read : IsBaseOfFile base_file base
-  pub written : IsTextWritten out (session_text base (session_of caller base keys)) (session_status (session_of caller base keys)) answer
+  pub run : IsBaseRun base_file (IsUntouched out) (IsSessionWritten out caller keys) answer
 
--- the keys were read, `Why` holds of the base's file, and nothing was written
-pub record IsAfterKeys (out : Device) (words : List ℕ) (Why : Type 0) : Type 0 where
-  pub keys : List Key
-  pub keys_read : AreKeysOf words keys
-  pub why : Why
-  pub nothing : IsUntouched out
-
--- a run by its answer: a status after a session, or the first fault. After a fault of the keys nothing was read of the base,
--- and on every fault except Write nothing was written
+-- a run by its answer. After a fault of the keys nothing was read of the base
 abbrev pub IsWalkRun : Device → Device → List ℕ → List ℕ → Result Status RunFault → Type 0
-IsWalkRun base_file out caller words (Ok status) = IsSessionRun base_file out caller words (Ok status)
 IsWalkRun base_file out caller words (Err (run.Keys offset)) = IsUnreadableAt words offset × IsUntouched base_file × IsUntouched out
-IsWalkRun base_file out caller words (Err (run.Base fault)) = IsAfterKeys out words (IsBaseTextFault base_file fault)
-IsWalkRun base_file out caller words (Err run.ReadBase) = IsAfterKeys out words (IsBaseBroken base_file)
-IsWalkRun base_file out caller words (Err (run.Write wrote)) = IsSessionRun base_file out caller words (Err (run.Write wrote))
 IsWalkRun base_file out caller words (Err run.Memory) = IsReadWithin base_limit base_file × IsUntouched out
-IsWalkRun base_file out caller words (Err _) = ⊥
+IsWalkRun base_file out caller words answer = IsKeysRun base_file out caller words answer
 
 -- the answer for the words of keys
 abbrev pub IsKeysAnswer : List ℕ → Result (List Key) RunFault → Type 0

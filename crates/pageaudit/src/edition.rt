@@ -15,7 +15,7 @@ use frame_records::Base;
 use std::alloc::Global;
 
 /// Why the files of an edition don't give one: the first fault.
-#[derive(Debug, Clone, Copy, PartialEq, Eq)]
+#[derive(Clone, Copy)]
 pub enum EditionFault {
     /// The base's file.
     Base(FileFault<BaseFault>),

@@ -6,7 +6,7 @@ use base_text::BaseFault;
 use cert_text::ReadFault;
 
 /// Why a file gives neither a base nor a certificate.
-#[derive(Debug, Clone, Copy, PartialEq, Eq)]
+#[derive(Clone, Copy)]
 pub enum FileFault<F> {
     /// Its text is refused.
     Text(F),

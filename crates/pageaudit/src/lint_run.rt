@@ -1,6 +1,7 @@
 ghost use Rattle.std.specs.Prelude.{◌≡◌, false};
-ghost use Rattle.pageaudit.specs.Files.{device};
-ghost use Rattle.pageaudit.specs.LintRun.{IsLintRun, AreWritten, lint_number};
+ghost use Rattle.lint_report.specs.Findings.{finding_lines};
+ghost use Rattle.pageaudit.specs.Files.{device, IsTextWritten};
+ghost use Rattle.pageaudit.specs.LintRun.{IsLintRun, counts_of, lint_number};
 
 use crate::status::status_of;
 use audit_report::{RunFault, Sink, Source, SourceFault, read_whole, write_whole};
@@ -18,7 +19,7 @@ fn write_findings<O: Sink>(
     findings: &[Finding],
 ) -> Result<Counts, RunFault>
     requires { (O.seen out.old).failed ≡ false }
-    ensures { AreWritten (device O.seen out.old out.new) path.now text.now findings.now result }
+    ensures { IsTextWritten (device O.seen out.old out.new) (finding_lines path.now text.now findings.now) (counts_of findings.now) result }
 {
     let Ok(lines) = lint_text(alloc, path.as_bytes(), text, findings) else {
         return Err(RunFault::Memory);

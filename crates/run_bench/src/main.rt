@@ -3,17 +3,20 @@
 //! `run_bench audit` measures reading, auditing and lint in four shapes, a list and a map in all but the chain, lint of many
 //! rows that are too long, and the faults of a long chain. `run_bench check` measures checks, walks and changes in these
 //! shapes, the time of a check for each row of an eighth of the frames and of all, and checks and audits for a caller of 16
-//! groups. After either word `full` measures bases of full size, else a sixteenth. `run_bench find` measures the finder alone.
-//! Without any word all three are measured, of a sixteenth, to show in seconds that each result is right. The figures go to
-//! standard error, of the least processor times of some runs in turns; `ok` is printed if each result was right.
+//! groups. After either word `full` measures bases of full size, else a sixteenth. `run_bench find` measures the finder alone,
+//! and `run_bench paint` painting. Without any word all are measured, of a sixteenth, to show in seconds that each result is
+//! right. The figures go to standard error, of the least processor times of some runs in turns; `ok` is printed if each result
+//! was right.
 #![tactic(auto)]
 
 mod auditing;
+mod by_bytes;
 mod checking;
 mod edition;
 mod figure;
 mod finding;
 mod memory;
+mod painting;
 mod shape;
 mod size;
 mod work;
@@ -25,7 +28,8 @@ use std::env;
 fn run_all(rt: &HostRuntime) -> Result<()> {
     auditing::measure(rt, Size::Part)?;
     checking::measure(rt, Size::Part)?;
-    finding::measure(rt)
+    finding::measure(rt)?;
+    painting::measure(rt, Size::Part)
 }
 
 fn run(rt: &HostRuntime, words: &[String]) -> Result<()> {
@@ -38,7 +42,8 @@ fn run(rt: &HostRuntime, words: &[String]) -> Result<()> {
         "audit" => auditing::measure(rt, size),
         "check" => checking::measure(rt, size),
         "find" => finding::measure(rt),
-        _ => bail!("the words are audit [full], check [full] or find"),
+        "paint" => painting::measure(rt, Size::Full),
+        _ => bail!("the words are audit [full], check [full], find or paint"),
     }
 }
 

@@ -1,3 +1,5 @@
+//! The texts of `explain`.
+
 use assertions::{same, same_in};
 use explain_words::{explanation, nearest, overview};
 use std::test::Fail;

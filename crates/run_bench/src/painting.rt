@@ -1,20 +1,17 @@
 //! How fast bodies are painted, beside painting byte by byte, and how fast plain bytes are passed over, beside a copy.
 //!
-//! It prints the speeds of the least processor times of some runs in turn, and their ratios, to standard error, and a line
-//! for each kind of body on which both forms answer alike.
-#![tactic(auto)]
+//! Both forms have to answer alike on each kind of body.
 
-mod by_bytes;
-
+use crate::by_bytes::paint_by_bytes;
+use crate::size::Size;
 use abstract_paint::{Painted, paint, plain_run};
 use anyhow::{Result, bail};
-use by_bytes::paint_by_bytes;
 use frame_records::Lead;
 use std::time::{CpuClock, Duration};
 
 const BODY: usize = 4_096;
 
-const BODIES: usize = 4_096;
+const BODIES: u32 = 4_096;
 
 const RUNS: usize = 9;
 
@@ -76,11 +73,14 @@ fn byte_at(kind: Kind, place: usize) -> u8 {
     }
 }
 
-fn bodies(rt: &HostRuntime, kind: Kind) -> Result<Vec<u8>> {
+// So many bodies.
+fn bodies(rt: &HostRuntime, kind: Kind, count: u32) -> Result<Vec<u8>> {
     let page = page_length(kind).max(1);
-    let mut bytes = Vec::with_capacity(rt.alloc(), BODY * BODIES)?;
-    for place in 0..BODY * BODIES {
-        bytes.push(byte_at(kind, place % BODY % page))?;
+    let mut bytes = Vec::new(rt.alloc());
+    for _ in 0..count {
+        for place in 0..BODY {
+            bytes.push(byte_at(kind, place % page))?;
+        }
     }
     Ok(bytes)
 }
@@ -122,8 +122,8 @@ fn percent(speed: u128, other: u128) -> u128 {
     speed.saturating_mul(100) / other.max(1)
 }
 
-fn measure(rt: &HostRuntime, kind: Kind) -> Result<()> {
-    let bytes = bodies(rt, kind)?;
+fn measure_kind(rt: &HostRuntime, kind: Kind, count: u32) -> Result<()> {
+    let bytes = bodies(rt, kind, count)?;
     let (mut by_runs, all) = paint_time(rt, Form::Runs, &bytes)?;
     let (mut by_bytes, all_bytes) = paint_time(rt, Form::Bytes, &bytes)?;
     for _ in 1..RUNS {
@@ -161,9 +161,9 @@ fn copy_time(rt: &HostRuntime, bytes: &[u8], copy: &mut [u8]) -> Result<Duration
 }
 
 // Plain bytes passed over, beside a copy of them into room that is there.
-fn measure_run(rt: &HostRuntime) -> Result<()> {
-    let bytes = bodies(rt, Kind::Plain)?;
-    let mut copy = bodies(rt, Kind::Moves)?;
+fn measure_run(rt: &HostRuntime, count: u32) -> Result<()> {
+    let bytes = bodies(rt, Kind::Plain, count)?;
+    let mut copy = bodies(rt, Kind::Moves, count)?;
     let mut copying = copy_time(rt, &bytes, &mut copy)?;
     let mut running = run_time(rt, &bytes)?;
     for _ in 1..RUNS {
@@ -181,9 +181,10 @@ fn measure_run(rt: &HostRuntime) -> Result<()> {
     Ok(())
 }
 
-fn main(rt: HostRuntime) -> Result<()> {
-    measure_run(&rt)?;
-    println!(rt; "plain_run ok")?;
+/// Measures both, of bodies with 16,777,216 bytes in all or of a sixteenth.
+pub fn measure(rt: &HostRuntime, size: Size) -> Result<()> {
+    let count = size.of(BODIES);
+    measure_run(rt, count)?;
     for kind in [
         Kind::Plain,
         Kind::Pages,
@@ -191,8 +192,7 @@ fn main(rt: HostRuntime) -> Result<()> {
         Kind::Escapes,
         Kind::Moves,
     ] {
-        measure(&rt, kind)?;
-        println!(rt; "{kind:?} ok")?;
+        measure_kind(rt, kind, count)?;
     }
     Ok(())
 }

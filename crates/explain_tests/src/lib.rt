@@ -1,5 +1,0 @@
-//! Tests of `explain_words`.
-#![tactic(auto)]
-
-#[cfg(test)]
-mod words;
