@@ -12,7 +12,7 @@ use std::alloc::AllocError;
 use toml::Value;
 
 // The codes that a body or a row may have.
-#[derive(Debug, Clone, Copy, PartialEq, Eq)]
+#[derive(Clone, Copy)]
 pub enum Codes {
     Bytes,
     Row,

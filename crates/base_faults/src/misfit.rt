@@ -7,7 +7,7 @@ use base_text::Field;
 use toml::Value;
 
 // How a value isn't a whole number within limits.
-#[derive(Debug, Clone, Copy, PartialEq, Eq)]
+#[derive(Clone, Copy)]
 pub enum Misfit {
     Kind(ValueKind),
     Range(i64),

@@ -6,7 +6,7 @@ use page_ids::FrameId;
 use std::alloc::{AllocError, Global};
 
 // A frame by its id and its table, with what is judged of it. Places are ordered by id, then by table.
-#[derive(Debug, Clone, Copy, PartialEq, Eq, PartialOrd, Ord)]
+#[derive(Clone, Copy, PartialEq, Eq, PartialOrd, Ord)]
 pub struct Place {
     pub id: FrameId,
     pub table: usize,

@@ -9,7 +9,7 @@ use page_ids::{FrameId, Key, Way};
 use std::alloc::{AllocError, Global};
 
 // A way that a frame offers: its key, and what it seeks.
-#[derive(Debug, Clone, Copy, PartialEq, Eq)]
+#[derive(Clone, Copy)]
 pub struct Exit {
     pub key: Key,
     pub to: FrameId,

@@ -9,7 +9,7 @@ use page_ids::FrameId;
 use std::alloc::{AllocError, Global};
 
 // A way leads from one frame to another.
-#[derive(Debug, Clone, Copy, PartialEq, Eq)]
+#[derive(Clone, Copy)]
 pub struct Link {
     pub from: FrameId,
     pub to: FrameId,

@@ -52,7 +52,7 @@ pub enum ReadFault {
 }
 
 /// Why a line that has come isn't taken; the cause is never `Truncated`.
-#[derive(Debug, Clone, Copy, PartialEq, Eq)]
+#[derive(Clone, Copy)]
 pub enum LineFault {
     Memory,
     Says(LineCause),

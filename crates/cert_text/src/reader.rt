@@ -50,8 +50,10 @@ impl CertReader {
         // It has read the stream so far, and this piece.
         ensures stream { (stream : List ℕ) → HasRead self.old stream → OnOk result (HasRead self.new (stream ++ piece.now)) }
         // A fault is the stream's, whatever follows, and is reported at once.
-        ensures fault { (stream : List ℕ) → HasRead self.old stream → IfErr result (λ e. Answers e (lasting (cert_fault (stream ++ piece.now)))) }
-        ensures none { (stream : List ℕ) → HasRead self.old stream → OnOk result (lasting (cert_fault (stream ++ piece.now)) ≡ None) }
+        ensures fault { (stream : List ℕ) → HasRead self.old stream →
+            IfErr result (λ e. Answers e (lasting (cert_fault (stream ++ piece.now)))) }
+        ensures none { (stream : List ℕ) → HasRead self.old stream →
+            OnOk result (lasting (cert_fault (stream ++ piece.now)) ≡ None) }
     {
         self.take_piece(piece)
     }

@@ -6,7 +6,7 @@ use frame_records::MOST_PENCE;
 use page_ids::MOST_PAGE;
 
 /// The line that is due.
-#[derive(Debug, Clone, Copy, PartialEq, Eq)]
+#[derive(Clone, Copy)]
 pub enum Stage {
     /// `PBC1`, or `PBC2` if a line of groups comes.
     Magic,
@@ -21,7 +21,7 @@ pub enum Stage {
 }
 
 /// What a line of a word and a number tells.
-#[derive(Debug, Clone, Copy, PartialEq, Eq)]
+#[derive(Clone, Copy)]
 pub enum Field {
     /// The entry page.
     Entry,

@@ -167,7 +167,8 @@ fn push_cert_head<C: Cover + Drop>(
     cert: &Certificate<C>,
 ) -> Result<(), AllocError>
     requires { out.old.items ≡ [] }
-    ensures text { OnOk result (out.new.items ≡ text_of (head_lines cert.now.entry cert.now.ceiling cert.now.keyings cert.now.groups (length cert.now.rows))) }
+    ensures text { OnOk result (out.new.items ≡ text_of
+        (head_lines cert.now.entry cert.now.ceiling cert.now.keyings cert.now.groups (length cert.now.rows))) }
     ensures entry { IsPageNumber cert.now.entry }
     ensures ceiling { cert.now.ceiling ≤ MOST_PENCE }
     ensures keyings { cert.now.keyings ≤ MOST_RANK }

@@ -104,7 +104,8 @@ pub fn check_change<C: Cover + Drop>(
     ensures safe { result ≡ ChangeVerdict.Cleared → IsSafeChange policy.now old.now old_cert.now new.now new_cert.now }
 
     // E2 names the smallest id with a row in the old certificate and none in the new one.
-    ensures lost { (id : Id) → result ≡ ChangeVerdict.NoLongerCovered id → IsLeastLost old_cert.now.rows new_cert.now.rows id }
+    ensures lost { (id : Id) → result ≡ ChangeVerdict.NoLongerCovered id →
+        IsLeastLost old_cert.now.rows new_cert.now.rows id }
 {
     // What bases and rows promise of themselves by their types: nothing is computed.
     let _old = old.frames();

@@ -80,8 +80,10 @@ fn judge_found<C: Cover + Drop>(
     frame: &Frame,
 ) -> (Option<Cause>, Count)
     ensures cause { result.0 ≡ (on_found cert.now.groups base.now cert.now row.now frame.now).first_cause }
-    ensures probes { result.1.probes ≡ counted_if (are_ways_sought cert.now.groups cert.now row.now frame.now) (ways_compared C.compared base.now cert.now.rows frame.now) }
-    ensures steps { result.1.steps ≡ counted_if (is_painted cert.now.groups cert.now row.now frame.now) (length frame.now.body) }
+    ensures probes { result.1.probes ≡ counted_if (are_ways_sought cert.now.groups cert.now row.now frame.now)
+        (ways_compared C.compared base.now cert.now.rows frame.now) }
+    ensures steps { result.1.steps ≡ counted_if (is_painted cert.now.groups cert.now row.now frame.now)
+        (length frame.now.body) }
     ensures count { IsFoundCount (C.most_among (length cert.now.rows)) cert.now.rows row.now frame.now result.0 result.1 }
 {
     if let Some(cause) = judge_frame(cert, row, frame) {
@@ -139,8 +141,10 @@ fn judge_row<C: Cover + Drop>(
 fn judge_rows<C: Cover + Drop>(base: &Base, cert: &Certificate<C>) -> (Option<Cause>, Count)
     requires some { 0 < length cert.now.rows }
     ensures cause { result.0 ≡ (on_rows cert.now.groups base.now cert.now cert.now.rows).first_cause }
-    ensures probes { result.1.probes ≡ sum_by (row_probes C.compared cert.now.groups base.now cert.now) (judged cert.now.groups base.now cert.now cert.now.rows) }
-    ensures steps { result.1.steps ≡ sum_by (row_steps cert.now.groups base.now cert.now) (judged cert.now.groups base.now cert.now cert.now.rows) }
+    ensures probes { result.1.probes ≡ sum_by (row_probes C.compared cert.now.groups base.now cert.now)
+        (judged cert.now.groups base.now cert.now cert.now.rows) }
+    ensures steps { result.1.steps ≡ sum_by (row_steps cert.now.groups base.now cert.now)
+        (judged cert.now.groups base.now cert.now cert.now.rows) }
     ensures count { AreAllCounted base.now (C.most_among (length cert.now.rows)) cert.now.rows result.0 result.1 }
 {
     let cover = cert.cover();
@@ -165,7 +169,8 @@ fn judge_head<C: Cover + Drop>(
     cert: &Certificate<C>,
 ) -> (Option<Cause>, u32)
     ensures cause { result.0 ≡ (on_head base.now policy.now cert.now).first_cause }
-    ensures exact { result.1 ≡ counted_if (is_entry_sought base.now policy.now cert.now) (C.compared cert.now.rows (entry_of base.now)) }
+    ensures exact { result.1 ≡ counted_if (is_entry_sought base.now policy.now cert.now)
+        (C.compared cert.now.rows (entry_of base.now)) }
     ensures most { result.1 ≤ C.most_among (length cert.now.rows) }
     ensures small { result.1 ≤ 4294967295 }
     ensures some { result.0 ≡ None → 0 < length cert.now.rows }
@@ -252,10 +257,12 @@ pub fn check<C: Cover + Drop>(base: &Base, policy: &Policy, cert: &Certificate<C
     ensures safe { result ≡ Verdict.Cleared → Safe policy.now.groups base.now cert.now.ceiling cert.now.keyings }
 
     // At every moment the present frame and each remembered one have rows.
-    ensures covered { result ≡ Verdict.Cleared → (keys : List Key) → HasRows cert.now.rows (state_after policy.now.groups base.now (opening base.now) keys) }
+    ensures covered { result ≡ Verdict.Cleared → (keys : List Key) →
+        HasRows cert.now.rows (state_after policy.now.groups base.now (opening base.now) keys) }
 
     // What is promised is within the policy.
-    ensures within { result ≡ Verdict.Cleared → (cert.now.ceiling ≤ policy.now.ceiling) × (cert.now.keyings ≤ policy.now.keyings) }
+    ensures within { result ≡ Verdict.Cleared →
+        (cert.now.ceiling ≤ policy.now.ceiling) × (cert.now.keyings ≤ policy.now.keyings) }
 {
     // What `Base` promises of itself by its type: nothing is computed.
     let _frames = base.frames();

@@ -41,7 +41,8 @@ pub fn ways_cause(
     lost: Option<Way>,
     down: bool,
 ) -> Option<Cause>
-    ensures { result ≡ (option_map (lost_cause id) lost otherwise (on_rank base.now id rank down (down ≡ true)).first_cause) }
+    ensures { result ≡ (option_map (lost_cause id) lost otherwise
+        (on_rank base.now id rank down (down ≡ true)).first_cause) }
 {
     match lost {
         Some(way) => Some(lost_cause(id, &way)),

@@ -56,7 +56,8 @@ fn over_way<C: Cover + Drop>(
     frame: &Frame,
     way: &Way,
 ) -> WayCheck
-    ensures { IsWayCheck C.compared base.now cert.now.rows (C.most_among (length cert.now.rows)) rank frame.now way.now result }
+    ensures { IsWayCheck C.compared base.now cert.now.rows (C.most_among (length cert.now.rows))
+        rank frame.now way.now result }
 {
     let Some(to) = frame.sought(*way) else {
         return WayCheck {
@@ -78,7 +79,8 @@ fn over_way<C: Cover + Drop>(
 
 // The ways so far, and the one at the next place.
 fn with_check(seen: WayChecks, place: u8, check: WayCheck) -> WayChecks
-    ensures lost { result.lost ≡ (if is_some seen.lost then seen.lost else if check.leads_on then None else Some (way_at place)) }
+    ensures lost { result.lost ≡ (if is_some seen.lost then seen.lost
+        else if check.leads_on then None else Some (way_at place)) }
     ensures down { result.down ≡ (seen.down || check.down) }
     ensures asked { seen.asked + check.asked ≤ 18446744073709551615 → result.asked ≡ seen.asked + check.asked }
 {
@@ -99,7 +101,8 @@ pub fn over_ways<C: Cover + Drop>(
     rank: u16,
     frame: &Frame,
 ) -> WayChecks
-    ensures { AreWayChecks C.compared base.now cert.now.rows (C.most_among (length cert.now.rows)) rank frame.now 11 result }
+    ensures { AreWayChecks C.compared base.now cert.now.rows (C.most_among (length cert.now.rows))
+        rank frame.now 11 result }
 {
     let mut seen = WayChecks {
         lost: None,

@@ -11,7 +11,7 @@ use page_ids::{FrameId, Key, Way};
 use std::alloc::{AllocError, Global};
 
 // What is wrong at a frame.
-#[derive(Debug, Clone, Copy, PartialEq, Eq)]
+#[derive(Clone, Copy)]
 pub enum Flaw {
     // It costs this, which is above the ceiling.
     Price(Pence),

@@ -105,7 +105,8 @@ impl Teller {
         requires extends { ScriptsExtend survey.now.found }
         requires script { HasScript survey.now.found self.old.at self.old.keys.items }
         ensures script { OnOk result (HasScript survey.now.found self.new.at self.new.keys.items) }
-        ensures told { OnOk result (self.new.faults.items ≡ self.old.faults.items ++ option_to_list (option_map (fault_of id (script survey.now.found index)) flaw)) }
+        ensures told { OnOk result (self.new.faults.items ≡ self.old.faults.items ++
+            option_to_list (option_map (fault_of id (script survey.now.found index)) flaw)) }
     {
         let Some(flaw) = flaw else {
             return Ok(());

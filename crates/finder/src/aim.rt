@@ -1,5 +1,5 @@
 /// The destination of a way without its frame, in one byte.
-#[derive(Debug, Clone, Copy, PartialEq, Eq)]
+#[derive(Clone, Copy)]
 pub enum Aim {
     /// The frame doesn't offer the way.
     NotOffered,

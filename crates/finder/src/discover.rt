@@ -36,7 +36,8 @@ impl Discovery {
     // The node at an index, if there is one and not every node is listed.
     fn waiting(&self, graph: &Graph<'_>, index: u16) -> Option<u16>
         ensures some { IfSome result (λ node. slice_get self.now.order.keys index ≡ Some node) }
-        ensures none { IfNone result ((length self.now.order.keys ≤ index) ⊎ (graph.now.table.count ≤ length self.now.order.keys)) }
+        ensures none { IfNone result ((length self.now.order.keys ≤ index)
+            ⊎ (graph.now.table.count ≤ length self.now.order.keys)) }
     {
         if self.order.len() >= graph.table.count as usize {
             return None;

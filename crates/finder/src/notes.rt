@@ -15,7 +15,7 @@ use page_ids::{FrameId, Way};
 use std::alloc::{AllocError, Global};
 
 // A frame that is noted; a blank has the letter 0.
-#[derive(Debug, Clone, Copy, PartialEq, Eq)]
+#[derive(Clone, Copy)]
 pub struct Note {
     pub page: u32,
     // Its position in the base.

@@ -7,7 +7,7 @@ use crate::turned::Turned;
 use std::alloc::{AllocError, Global};
 
 // A node and its rank: the least number of ways that lead back to the entry node.
-#[derive(Debug, Clone, Copy, PartialEq, Eq)]
+#[derive(Clone, Copy)]
 pub struct Ranked {
     pub node: u16,
     pub rank: u16,
@@ -32,7 +32,8 @@ impl Search {
     // The node at an index of the queue, if there is one and not every node has a rank.
     fn waiting(&self, graph: &Graph<'_>, index: u16) -> Option<Ranked>
         ensures some { IfSome result (λ to. slice_get self.now.queue.items index ≡ Some to) }
-        ensures none { IfNone result ((length self.now.queue.items ≤ index) ⊎ (graph.now.table.count ≤ length self.now.queue.items)) }
+        ensures none { IfNone result ((length self.now.queue.items ≤ index)
+            ⊎ (graph.now.table.count ≤ length self.now.queue.items)) }
     {
         if self.queue.len() >= graph.table.count as usize {
             return None;

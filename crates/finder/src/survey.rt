@@ -118,7 +118,8 @@ impl<'a> Survey<'a> {
     /// again.
     pub fn follow(&self, index: usize, way: &Way) -> Destination
         requires { index < length self.now.found }
-        ensures { (d : Discovered) → slice_get self.now.found index ≡ Some d → result ≡ destination self.now.groups self.now.base d.id way.now }
+        ensures { (d : Discovered) → slice_get self.now.found index ≡ Some d →
+            result ≡ destination self.now.groups self.now.base d.id way.now }
     {
         self.table.follow(self.order[index], way)
     }

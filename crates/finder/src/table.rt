@@ -148,7 +148,8 @@ impl<'a> WayTable<'a> {
     // The destination of a way of a node. Nothing is sought.
     pub fn follow(&self, from: u16, way: &Way) -> Destination
         requires { from < self.now.count }
-        ensures { (f : Frame) → slice_get self.now.base.now.frames from ≡ Some f → result ≡ destination_of self.now.groups.now self.now.base.now f way.now }
+        ensures { (f : Frame) → slice_get self.now.base.now.frames from ≡ Some f →
+            result ≡ destination_of self.now.groups.now self.now.base.now f way.now }
     {
         let number = number_of(way);
         let node = self.node_to(from, number);

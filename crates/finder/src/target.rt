@@ -4,7 +4,7 @@ ghost use Rattle.finder.specs.Targets.{aim_at, node_of};
 use crate::aim::Aim;
 
 /// The result of a way of a frame; a frame that is found is named by its node, its position in the base.
-#[derive(Debug, Clone, Copy, PartialEq, Eq)]
+#[derive(Clone, Copy)]
 pub enum Target {
     NotOffered,
     Found(u16),

@@ -67,9 +67,9 @@ module _ (old_files new_files : EditionFiles) (out : Device) (policy : Policy) w
       written_run : (r : Result Status RunFault) → IsWritten (change_verdict policy old old_cert new new_cert) r → IsChangeRun old_files new_files out policy r
       written_run =
           by_answer out _ _ (IsChangeRun old_files new_files out policy)
-            (λ s w. record { old = old; old_cert = old_cert; new = new; new_cert = new_cert; old_read = old_read; new_read = new_read; written = w })
-            (λ wrote w. record { old = old; old_cert = old_cert; new = new; new_cert = new_cert; old_read = old_read; new_read = new_read; written = w })
-            (λ w. (edition_within old_files old old_cert old_read, edition_within new_files new new_cert new_read, w))
+          (λ s w. record { old = old; old_cert = old_cert; new = new; new_cert = new_cert; old_read = old_read; new_read = new_read; written = w })
+          (λ wrote w. record { old = old; old_cert = old_cert; new = new; new_cert = new_cert; old_read = old_read; new_read = new_read; written = w })
+          (λ w. (edition_within old_files old old_cert old_read, edition_within new_files new new_cert new_read, w))
 
       cleared_is : (v : ChangeVerdict) → Clear ≡ status_of_change v → v ≡ change.Cleared
       cleared_is change.Cleared e = refl

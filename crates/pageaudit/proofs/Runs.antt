@@ -46,9 +46,9 @@ module _ (base_file out : Device) (base : BaseView) (read : IsBaseOfFile base_fi
       → (r : Result A RunFault) → IsTextWritten out text status r → IsBaseRun base_file Nothing Written r
   text_run Nothing Written text status none is =
       by_answer out text status (IsBaseRun base_file Nothing Written)
-        (λ s w. record { base = base; base_read = read; written = is (Ok s) w })
-        (λ wrote w. record { base = base; base_read = read; written = is (Err (run.Write wrote)) w })
-        (λ w. (base_within base_file base read, none w))
+      (λ s w. record { base = base; base_read = read; written = is (Ok s) w })
+      (λ wrote w. record { base = base; base_read = read; written = is (Err (run.Write wrote)) w })
+      (λ w. (base_within base_file base read, none w))
 
   pub report_run : (policy : Policy) (o : Outcome) → IsOutcomeOf base policy o
       → (r : Result Status RunFault) → IsTextWritten out (report_text o) (status_of_outcome o) r → IsAuditRun base_file out policy r
@@ -73,7 +73,7 @@ pub split_run : (base_file cert out : Device) (base : BaseView) → IsBaseOfFile
     → (r : Result Status RunFault) → IsSplitWritten cert out o r → IsAuditIntoRun base_file cert out policy r
 split_run base_file cert out base read policy (Certified c) is r w =
     text_run base_file cert base read _ _ (report_text (Certified c)) (status_of_outcome (Certified c)) (λ none. (none, w.1))
-      (λ r text. record { outcome = Certified c; is = is; written = (text, w.1) }) r w.0
+    (λ r text. record { outcome = Certified c; is = is; written = (text, w.1) }) r w.0
 split_run base_file cert out base read policy (Faulty faults) is r w =
     text_run base_file out base read _ _ (report_text (Faulty faults)) (status_of_outcome (Faulty faults)) (λ none. (w.1, none))
-      (λ r text. record { outcome = Faulty faults; is = is; written = (text, w.1) }) r w.0
+    (λ r text. record { outcome = Faulty faults; is = is; written = (text, w.1) }) r w.0

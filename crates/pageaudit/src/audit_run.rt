@@ -25,7 +25,8 @@ fn status_of_outcome(outcome: &Outcome) -> Status
 // Writes the report of an outcome.
 fn write_report<O: Sink>(alloc: Global, out: &mut O, outcome: &Outcome) -> Result<Status, RunFault>
     requires { (O.seen out.old).failed ≡ false }
-    ensures { IsTextWritten (device O.seen out.old out.new) (report_text outcome.now) (status_of_outcome outcome.now) result }
+    ensures { IsTextWritten (device O.seen out.old out.new) (report_text outcome.now)
+        (status_of_outcome outcome.now) result }
 {
     match report(alloc, outcome) {
         Ok(text) => write_text(out, text.as_slice(), status_of_outcome(outcome)),
@@ -92,7 +93,8 @@ pub fn run_audit_into<B: Source, C: Sink, O: Sink>(
     requires out_open { (O.seen out.old).failed ≡ false }
 
     // As for `run_audit`. Of the two outputs at most one is written: the certificate's file if and only if there is one.
-    ensures { IsAuditIntoRun (device B.seen base.old base.new) (device C.seen cert.old cert.new) (device O.seen out.old out.new) policy.now result }
+    ensures { IsAuditIntoRun (device B.seen base.old base.new) (device C.seen cert.old cert.new)
+        (device O.seen out.old out.new) policy.now result }
 {
     let base = match read_base(alloc, base) {
         Ok(base) => base,

@@ -27,7 +27,8 @@ fn write_change<O: Sink>(
     verdict: &ChangeVerdict,
 ) -> Result<Status, RunFault>
     requires { (O.seen out.old).failed ≡ false }
-    ensures { IsTextWritten (device O.seen out.old out.new) (change_text verdict.now) (status_of_change verdict.now) result }
+    ensures { IsTextWritten (device O.seen out.old out.new) (change_text verdict.now)
+        (status_of_change verdict.now) result }
 {
     match change_text(alloc, verdict) {
         Ok(text) => write_text(out, text.as_slice(), status_of_change(verdict)),

@@ -14,7 +14,8 @@ use std::alloc::Global;
 // Writes the line of a verdict.
 fn write_verdict<O: Sink>(alloc: Global, out: &mut O, verdict: &Verdict) -> Result<Status, RunFault>
     requires { (O.seen out.old).failed ≡ false }
-    ensures { IsTextWritten (device O.seen out.old out.new) (verdict_text verdict.now) (status_of_verdict verdict.now) result }
+    ensures { IsTextWritten (device O.seen out.old out.new) (verdict_text verdict.now)
+        (status_of_verdict verdict.now) result }
 {
     match verdict_text(alloc, verdict) {
         Ok(text) => write_text(out, text.as_slice(), status_of_verdict(verdict)),

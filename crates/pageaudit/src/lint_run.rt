@@ -19,7 +19,8 @@ fn write_findings<O: Sink>(
     findings: &[Finding],
 ) -> Result<Counts, RunFault>
     requires { (O.seen out.old).failed ≡ false }
-    ensures { IsTextWritten (device O.seen out.old out.new) (finding_lines path.now text.now findings.now) (counts_of findings.now) result }
+    ensures { IsTextWritten (device O.seen out.old out.new) (finding_lines path.now text.now findings.now)
+        (counts_of findings.now) result }
 {
     let Ok(lines) = lint_text(alloc, path.as_bytes(), text, findings) else {
         return Err(RunFault::Memory);

@@ -25,7 +25,8 @@ fn status_of_entry(is_found: bool) -> Status
 // Writes a list.
 fn write_listing<O: Sink>(out: &mut O, listing: &Listing) -> Result<Status, RunFault>
     requires { (O.seen out.old).failed ≡ false }
-    ensures { IsTextWritten (device O.seen out.old out.new) listing.now.text.items (status_of_entry listing.now.entry_is_found) result }
+    ensures { IsTextWritten (device O.seen out.old out.new) listing.now.text.items
+        (status_of_entry listing.now.entry_is_found) result }
 {
     write_text(
         out,

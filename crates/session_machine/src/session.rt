@@ -26,7 +26,7 @@ pub enum OpenFault {
     Memory,
 }
 
-#[derive(Debug, Clone, Copy, PartialEq, Eq)]
+#[derive(Clone, Copy)]
 enum Whereabouts {
     At(FrameId),
     Left(PageNo),

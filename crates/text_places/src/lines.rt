@@ -12,7 +12,7 @@ use toml_parser::text::{byte_at, first, skip, skip_ws};
 use toml_parser::{ErrorKind, Key, ParseError, RECURSION_LIMIT, dotted_key};
 
 // What an expression is.
-#[derive(Clone, Copy, Debug, PartialEq, Eq)]
+#[derive(Clone, Copy)]
 pub enum Sort {
     Pair,
     Table,

@@ -1,5 +1,5 @@
 // What may be wrong with a text that isn't TOML. A payload is a place in the text.
-#[derive(Clone, Copy, Debug, PartialEq, Eq)]
+#[derive(Clone, Copy)]
 pub enum Hint {
     Utf16,
     NotUtf8,
