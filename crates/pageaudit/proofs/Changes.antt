@@ -9,17 +9,16 @@ use Rattle.checker.specs.declared.change.ChangeVerdict.{ChangeVerdict}
 use Rattle.checker.specs.declared.change.ChangeVerdict.TheVariants as change
 use Rattle.checker.specs.Change.{change_verdict, IsSafeChange}
 use Rattle.audit_report.specs.declared.run_fault.RunFault.{RunFault}
-use Rattle.audit_report.specs.Lines.{change_text}
 use Rattle.pageaudit.specs.declared.status.Status.{Status}
 use Rattle.pageaudit.specs.declared.status.Status.TheVariants.{Clear}
 use Rattle.pageaudit.specs.declared.file_fault.FileFault.TheVariants as file
 use Rattle.pageaudit.specs.declared.edition.EditionFault.{EditionFault}
 use Rattle.pageaudit.specs.declared.edition.EditionFault.TheVariants as edition
-use Rattle.pageaudit.specs.Files.{Device, device, IsUntouched, IsTextWritten, base_limit, cert_limit}
+use Rattle.pageaudit.specs.Files.{Device, device, IsUntouched, base_limit, cert_limit}
 use Rattle.pageaudit.proofs.Within.{untouched_within, base_within, cert_within}
 use Rattle.pageaudit.proofs.Runs.{by_answer}
 use Rattle.pageaudit.specs.FileFaults.{old_fault, new_fault}
-use Rattle.pageaudit.specs.ChangeRun.{EditionFiles, IsEditionOf, IsEditionFault, AreUntouched, AreReadWithin, IsChangeRun, HoldsOfChange, status_of_change}
+use Rattle.pageaudit.specs.ChangeRun.{EditionFiles, IsEditionOf, IsEditionFault, AreUntouched, AreReadWithin, IsOfEditions, IsVerdictWritten, IsChangeRun, HoldsOfChange, status_of_change}
 
 -- a device that was not called
 pub untouched : {D : Type 0} (seen : D → Seen) (d : D) → (seen d).failed ≡ false → IsUntouched (device seen d d)
@@ -61,14 +60,14 @@ module _ (old_files new_files : EditionFiles) (out : Device) (policy : Policy) w
     new_files_failed fault answer is h nothing = subst IsFault (sym is) (new_failed fault h nothing)
 
     module _ (new : BaseView) (new_cert : CertView) (new_read : IsEditionOf new_files new new_cert) where
-      abbrev IsWritten : ChangeVerdict → Result Status RunFault → Type 0
-      IsWritten v r = IsTextWritten out (change_text v) (status_of_change v) r
+      of_editions : {What : BaseView → CertView → BaseView → CertView → Type 0} → What old old_cert new new_cert → IsOfEditions old_files new_files What
+      of_editions what = record { old = old; old_cert = old_cert; new = new; new_cert = new_cert; old_read = old_read; new_read = new_read; what = what }
 
-      written_run : (r : Result Status RunFault) → IsWritten (change_verdict policy old old_cert new new_cert) r → IsChangeRun old_files new_files out policy r
+      written_run : (r : Result Status RunFault) → IsVerdictWritten out r (change_verdict policy old old_cert new new_cert) → IsChangeRun old_files new_files out policy r
       written_run =
           by_answer out _ _ (IsChangeRun old_files new_files out policy)
-          (λ s w. record { old = old; old_cert = old_cert; new = new; new_cert = new_cert; old_read = old_read; new_read = new_read; written = w })
-          (λ wrote w. record { old = old; old_cert = old_cert; new = new; new_cert = new_cert; old_read = old_read; new_read = new_read; written = w })
+          (λ s w. of_editions w)
+          (λ wrote w. of_editions w)
           (λ w. (edition_within old_files old old_cert old_read, edition_within new_files new new_cert new_read, w))
 
       cleared_is : (v : ChangeVerdict) → Clear ≡ status_of_change v → v ≡ change.Cleared
@@ -79,15 +78,15 @@ module _ (old_files new_files : EditionFiles) (out : Device) (policy : Policy) w
       cleared_is (change.NoLongerCovered id) e = absurd cc
 
       -- a verdict and its line
-      module _ (v : ChangeVerdict) (is : v ≡ change_verdict policy old old_cert new new_cert) (r : Result Status RunFault) (w : IsWritten v r) where
+      module _ (v : ChangeVerdict) (is : v ≡ change_verdict policy old old_cert new new_cert) (r : Result Status RunFault) (w : IsVerdictWritten out r v) where
         pub change_run : IsChangeRun old_files new_files out policy r
-        change_run = written_run r (subst (λ (x : ChangeVerdict). IsWritten x r) is w)
+        change_run = written_run r (subst (IsVerdictWritten out r) is w)
 
-        clear_status : (r : Result Status RunFault) → IsWritten v r → r ≡ Ok Clear → Clear ≡ status_of_change v
+        clear_status : (r : Result Status RunFault) → IsVerdictWritten out r v → r ≡ Ok Clear → Clear ≡ status_of_change v
         clear_status (Ok s) written e = subst (λ (x : Status). x ≡ status_of_change v) (ok_is s e) written.1 where
           ok_is : (s : Status) → ◌≡◌ {A = Result Status RunFault} (Ok s) (Ok Clear) → s ≡ Clear
           ok_is s e = cc
         clear_status (Err fault) written e = absurd cc
 
         pub change_holds : (v ≡ change.Cleared → IsSafeChange policy old old_cert new new_cert) → r ≡ Ok Clear → HoldsOfChange old_files new_files policy
-        change_holds safe clear = record { old = old; old_cert = old_cert; new = new; new_cert = new_cert; old_read = old_read; new_read = new_read; safe = safe (cleared_is v (clear_status r w clear)) }
+        change_holds safe clear = of_editions (safe (cleared_is v (clear_status r w clear)))

@@ -16,25 +16,23 @@ abbrev pub status_of_outcome : Outcome → Status
 status_of_outcome (Certified cert) = status.Clear
 status_of_outcome (Faulty faults) = status.Faulty
 
--- the report of the base's outcome was written, and the answer is its status, or a write fault with the number of bytes written
-pub record IsReportWritten (out : Device) (policy : Policy) (base : BaseView) (answer : Result Status RunFault) : Type 0 where
+-- so much was written of the base's outcome and answered
+pub record IsOutcomeWritten (Written : Outcome → Result Status RunFault → Type 0) (policy : Policy) (base : BaseView) (answer : Result Status RunFault) : Type 0 where
   pub outcome : Outcome
   pub is : IsOutcomeOf base policy outcome
-  pub written : IsTextWritten out (report_text outcome) (status_of_outcome outcome) answer
+  pub written : Written outcome answer
+
+-- the report of an outcome was written, and the answer is its status, or a write fault with the number of bytes written
+abbrev pub IsReportWritten : Device → Outcome → Result Status RunFault → Type 0
+IsReportWritten out outcome answer = IsTextWritten out (report_text outcome) (status_of_outcome outcome) answer
 
 abbrev pub IsAuditRun : Device → Device → Policy → Result Status RunFault → Type 0
-IsAuditRun base_file out policy = IsBaseRun base_file (IsUntouched out) (IsReportWritten out policy)
+IsAuditRun base_file out policy = IsBaseRun base_file (IsUntouched out) (IsOutcomeWritten (IsReportWritten out) policy)
 
 -- a certificate was written to its own file, and nothing to the output; or every fault to the output, and nothing to that file
 abbrev pub IsSplitWritten : Device → Device → Outcome → Result Status RunFault → Type 0
-IsSplitWritten cert out (Certified c) answer = IsTextWritten cert (report_text (Certified c)) status.Clear answer × IsUntouched out
-IsSplitWritten cert out (Faulty faults) answer = IsTextWritten out (report_text (Faulty faults)) status.Faulty answer × IsUntouched cert
-
--- as IsReportWritten, with a file of its own for a certificate
-pub record IsReportSplit (cert out : Device) (policy : Policy) (base : BaseView) (answer : Result Status RunFault) : Type 0 where
-  pub outcome : Outcome
-  pub is : IsOutcomeOf base policy outcome
-  pub written : IsSplitWritten cert out outcome answer
+IsSplitWritten cert out (Certified c) answer = IsReportWritten cert (Certified c) answer × IsUntouched out
+IsSplitWritten cert out (Faulty faults) answer = IsReportWritten out (Faulty faults) answer × IsUntouched cert
 
 abbrev pub IsAuditIntoRun : Device → Device → Device → Policy → Result Status RunFault → Type 0
-IsAuditIntoRun base_file cert out policy = IsBaseRun base_file (IsUntouched cert × IsUntouched out) (IsReportSplit cert out policy)
+IsAuditIntoRun base_file cert out policy = IsBaseRun base_file (IsUntouched cert × IsUntouched out) (IsOutcomeWritten (IsSplitWritten cert out) policy)

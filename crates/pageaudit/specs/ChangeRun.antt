@@ -1,5 +1,5 @@
 -- What a run of the check of a change does.
-use Rattle.std.specs.Prelude.{Result, Ok, Err}
+use Rattle.std.specs.Prelude.{Result, MatchResult, Ok, Err}
 use Rattle.frame_records.specs.Bases.{BaseView}
 use Rattle.cert_table.specs.Table.{CertView}
 use Rattle.checker.specs.declared.policy.Policy.{Policy}
@@ -36,8 +36,7 @@ IsEditionFault files (part.Base fault) = IsBaseFileFault files.base fault × IsU
 IsEditionFault files (part.Cert fault) = (base : BaseView) × IsBaseOfFile files.base base × IsCertFileFault files.cert fault
 
 abbrev pub IsEditionRead : EditionFiles → Result (BaseView × CertView) EditionFault → Type 0
-IsEditionRead files (Ok (base, cert)) = IsEditionOf files base cert
-IsEditionRead files (Err fault) = IsEditionFault files fault
+IsEditionRead files answer = MatchResult answer (λ edition. IsEditionOf files edition.0 edition.1) (IsEditionFault files)
 
 -- no read of either file failed, and at most the limit was read of each
 abbrev pub AreReadWithin : EditionFiles → Type 0
@@ -50,31 +49,30 @@ AreUntouched files = IsUntouched files.base × IsUntouched files.cert
 -- the status of a verdict: clear for Cleared, and faulty for everything else
 abbrev pub status_of_change : ChangeVerdict → Status
 status_of_change change.Cleared = Clear
-status_of_change (change.Old cause) = Faulty
-status_of_change (change.New cause) = Faulty
-status_of_change change.EntryMoved = Faulty
-status_of_change (change.NoLongerCovered id) = Faulty
+status_of_change _ = Faulty
 
--- all four files were read to their ends and are right; the line of their verdict was written, and the answer is its status,
--- or a write fault with the number of bytes written
-pub record IsChangeVerdictRun (old_files new_files : EditionFiles) (out : Device) (policy : Policy) (answer : Result Status RunFault) : Type 0 where
+-- all four files were read to their ends and are right, and so much holds of the two editions
+pub record IsOfEditions (old_files new_files : EditionFiles) (What : BaseView → CertView → BaseView → CertView → Type 0) : Type 0 where
   pub old : BaseView
   pub old_cert : CertView
   pub new : BaseView
   pub new_cert : CertView
   pub old_read : IsEditionOf old_files old old_cert
   pub new_read : IsEditionOf new_files new new_cert
-  pub written : IsTextWritten out (change_text (change_verdict policy old old_cert new new_cert)) (status_of_change (change_verdict policy old old_cert new new_cert)) answer
+  pub what : What old old_cert new new_cert
 
--- the change is safe for callers inside; the editions are those of the files, which were read whole
-pub record HoldsOfChange (old_files new_files : EditionFiles) (policy : Policy) : Type 0 where
-  pub old : BaseView
-  pub old_cert : CertView
-  pub new : BaseView
-  pub new_cert : CertView
-  pub old_read : IsEditionOf old_files old old_cert
-  pub new_read : IsEditionOf new_files new new_cert
-  pub safe : IsSafeChange policy old old_cert new new_cert
+-- the line of a verdict was written, and the answer is its status, or a write fault with the number of bytes written
+abbrev pub IsVerdictWritten : Device → Result Status RunFault → ChangeVerdict → Type 0
+IsVerdictWritten out answer v = IsTextWritten out (change_text v) (status_of_change v) answer
+
+-- the same of the verdict on the editions of the files
+abbrev pub IsChangeVerdictRun : EditionFiles → EditionFiles → Device → Policy → Result Status RunFault → Type 0
+IsChangeVerdictRun old_files new_files out policy answer =
+    IsOfEditions old_files new_files (λ old old_cert new new_cert. IsVerdictWritten out answer (change_verdict policy old old_cert new new_cert))
+
+-- the change is safe for callers inside
+abbrev pub HoldsOfChange : EditionFiles → EditionFiles → Policy → Type 0
+HoldsOfChange old_files new_files policy = IsOfEditions old_files new_files (IsSafeChange policy)
 
 -- the old edition's files were read to their ends and are right, `Why` holds of the new edition's, and nothing was written
 pub record IsAfterOld (old_files : EditionFiles) (out : Device) (Why : Type 0) : Type 0 where

@@ -1,5 +1,5 @@
 -- Devices, and the files that they gave.
-use Rattle.std.specs.Prelude.{◌≡◌, ℕ, false, List, Result, Ok, Err, ◌≤◌, ◌<◌, ◌++◌, ◌+◌, true, length, None}
+use Rattle.std.specs.Prelude.{◌≡◌, ℕ, false, List, Result, MatchResult, Ok, Err, ◌≤◌, ◌<◌, ◌++◌, ◌+◌, true, length, None}
 use Rattle.std.specs.Io.KnownBytes.{Keeps, Consumes, IsAtEnd}
 use Rattle.devices.specs.Devices.{Seen, WroteWhole, WrotePart, BrokeWithin, TookWithin}
 use Rattle.audit_report.specs.declared.run_fault.RunFault.{RunFault}
@@ -75,11 +75,15 @@ pub record IsCertOfFile (d : Device) (cert : CertView) : Type 0 where
   pub read : WasRead cert_limit d text
   pub is : IsCertificateText text cert
 
--- the first fault of a base's text, which is all that the file had, or longer than a base may be
-pub record IsBaseTextFault (d : Device) (fault : BaseFault) : Type 0 where
-  pub text : List ℕ
+-- the text of a base's file, which is all that it had, or longer than a base may be
+pub record IsTextOfFile (d : Device) (text : List ℕ) : Type 0 where
   pub read : WasReadSoFar base_limit d text
   pub whole : length text < base_limit → IsAtEnd d.after.bytes
+
+-- the first fault of such a text
+pub record IsBaseTextFault (d : Device) (fault : BaseFault) : Type 0 where
+  pub text : List ℕ
+  pub is : IsTextOfFile d text
   pub first : IsBaseRefused text fault
 
 -- a line that ended early
@@ -120,12 +124,10 @@ IsCertFileFault d file.Broken = IsCertBroken d
 IsCertFileFault d file.Memory = IsReadWithin cert_limit d
 
 abbrev pub IsBaseRead : Device → Result BaseView (FileFault BaseFault) → Type 0
-IsBaseRead d (Ok base) = IsBaseOfFile d base
-IsBaseRead d (Err fault) = IsBaseFileFault d fault
+IsBaseRead d answer = MatchResult answer (IsBaseOfFile d) (IsBaseFileFault d)
 
 abbrev pub IsCertRead : Device → Result CertView (FileFault ReadFault) → Type 0
-IsCertRead d (Ok cert) = IsCertOfFile d cert
-IsCertRead d (Err fault) = IsCertFileFault d fault
+IsCertRead d answer = MatchResult answer (IsCertOfFile d) (IsCertFileFault d)
 
 -- the base's file was read to its end and is right, and so much of it was written and answered
 pub record IsReadAndWritten {A : Type 0} (base_file : Device) (Written : BaseView → Result A RunFault → Type 0) (answer : Result A RunFault) : Type 0 where
@@ -191,5 +193,4 @@ pub record WasFed (d : Device) (reader : ReaderView) : Type 0 where
   pub taken : HasRead reader text
 
 abbrev pub IsFed : Device → ReaderView → Result (Unit {0}) (FileFault ReadFault) → Type 0
-IsFed d reader (Ok _) = WasFed d reader
-IsFed d reader (Err fault) = IsCertFileFault d fault
+IsFed d reader answer = MatchResult answer (λ _. WasFed d reader) (IsCertFileFault d)

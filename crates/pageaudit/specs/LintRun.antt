@@ -1,6 +1,5 @@
 -- What a run of lint does.
-use Rattle.std.specs.Prelude.{◌<◌, ◌==◌, ℕ, if◌then◌else◌, List, length, Result, Ok, Err}
-use Rattle.std.specs.Io.KnownBytes.{IsAtEnd}
+use Rattle.std.specs.Prelude.{◌==◌, ℕ, if◌then◌else◌, List, Result, Ok, Err}
 use Rattle.checker.specs.declared.policy.Policy.{Policy}
 use Rattle.audit_report.specs.declared.run_fault.RunFault.{RunFault}
 use Rattle.audit_report.specs.declared.run_fault.RunFault.TheVariants as run
@@ -8,13 +7,8 @@ use Rattle.lint_report.specs.declared.counts.Counts.{Counts}
 use Rattle.lint_report.specs.declared.finding.Level.TheVariants.{Error, Warning}
 use Rattle.lint_report.specs.Findings.{FindingView, count_of, finding_lines}
 use Rattle.lint_report.specs.Lint.{IsLint}
-use Rattle.pageaudit.specs.Files.{Device, IsUntouched, IsTextWritten, base_limit, WasReadSoFar, IsBaseBroken, IsReadWithin}
+use Rattle.pageaudit.specs.Files.{Device, IsUntouched, IsTextWritten, base_limit, IsTextOfFile, IsBaseBroken, IsReadWithin}
 use Rattle.pageaudit.specs.Status.{fault_number}
-
--- the file's text, which is all that it had, or longer than a base may be
-pub record IsTextOfFile (d : Device) (text : List ℕ) : Type 0 where
-  pub read : WasReadSoFar base_limit d text
-  pub whole : length text < base_limit → IsAtEnd d.after.bytes
 
 abbrev pub counts_of : List FindingView → Counts
 counts_of findings = record { errors = count_of Error findings; warnings = count_of Warning findings }

@@ -7,18 +7,10 @@ use Rattle.pageaudit.specs.declared.status.Status.TheVariants.{Clear, Faulty}
 
 -- of a fault: bad groups or keys 2, a file or the output 3, out of memory 4
 abbrev pub fault_number : RunFault → ℕ
-fault_number (run.Base fault) = 3
-fault_number (run.Cert fault) = 3
 fault_number run.Groups = 2
 fault_number (run.Keys offset) = 2
-fault_number run.ReadBase = 3
-fault_number run.ReadCert = 3
-fault_number (run.NewBase fault) = 3
-fault_number (run.NewCert fault) = 3
-fault_number run.ReadNewBase = 3
-fault_number run.ReadNewCert = 3
-fault_number (run.Write wrote) = 3
 fault_number run.Memory = 4
+fault_number _ = 3
 
 abbrev pub status_number : Result Status RunFault → ℕ
 status_number (Ok Clear) = 0
