@@ -16,7 +16,7 @@ abbrev pub status_of_outcome : Outcome → Status
 status_of_outcome (Certified cert) = status.Clear
 status_of_outcome (Faulty faults) = status.Faulty
 
--- so much was written of the base's outcome and answered
+-- `Written` holds of the base's outcome and the answer
 pub record IsOutcomeWritten (Written : Outcome → Result Status RunFault → Type 0) (policy : Policy) (base : BaseView) (answer : Result Status RunFault) : Type 0 where
   pub outcome : Outcome
   pub is : IsOutcomeOf base policy outcome
@@ -26,6 +26,7 @@ pub record IsOutcomeWritten (Written : Outcome → Result Status RunFault → Ty
 abbrev pub IsReportWritten : Device → Outcome → Result Status RunFault → Type 0
 IsReportWritten out outcome answer = IsTextWritten out (report_text outcome) (status_of_outcome outcome) answer
 
+-- a run that prints the report
 abbrev pub IsAuditRun : Device → Device → Policy → Result Status RunFault → Type 0
 IsAuditRun base_file out policy = IsBaseRun base_file (IsUntouched out) (IsOutcomeWritten (IsReportWritten out) policy)
 
@@ -34,5 +35,6 @@ abbrev pub IsSplitWritten : Device → Device → Outcome → Result Status RunF
 IsSplitWritten cert out (Certified c) answer = IsReportWritten cert (Certified c) answer × IsUntouched out
 IsSplitWritten cert out (Faulty faults) answer = IsReportWritten out (Faulty faults) answer × IsUntouched cert
 
+-- a run with a file of its own for a certificate
 abbrev pub IsAuditIntoRun : Device → Device → Device → Policy → Result Status RunFault → Type 0
 IsAuditIntoRun base_file cert out policy = IsBaseRun base_file (IsUntouched cert × IsUntouched out) (IsOutcomeWritten (IsSplitWritten cert out) policy)

@@ -51,7 +51,7 @@ abbrev pub status_of_change : ChangeVerdict → Status
 status_of_change change.Cleared = Clear
 status_of_change _ = Faulty
 
--- all four files were read to their ends and are right, and so much holds of the two editions
+-- all four files were read to their ends and are right; `What` holds of the two editions
 pub record IsOfEditions (old_files new_files : EditionFiles) (What : BaseView → CertView → BaseView → CertView → Type 0) : Type 0 where
   pub old : BaseView
   pub old_cert : CertView
@@ -65,7 +65,7 @@ pub record IsOfEditions (old_files new_files : EditionFiles) (What : BaseView �
 abbrev pub IsVerdictWritten : Device → Result Status RunFault → ChangeVerdict → Type 0
 IsVerdictWritten out answer v = IsTextWritten out (change_text v) (status_of_change v) answer
 
--- the same of the verdict on the editions of the files
+-- that line, of the verdict on the editions of the files
 abbrev pub IsChangeVerdictRun : EditionFiles → EditionFiles → Device → Policy → Result Status RunFault → Type 0
 IsChangeVerdictRun old_files new_files out policy answer =
     IsOfEditions old_files new_files (λ old old_cert new new_cert. IsVerdictWritten out answer (change_verdict policy old old_cert new new_cert))

@@ -129,14 +129,14 @@ IsBaseRead d answer = MatchResult answer (IsBaseOfFile d) (IsBaseFileFault d)
 abbrev pub IsCertRead : Device → Result CertView (FileFault ReadFault) → Type 0
 IsCertRead d answer = MatchResult answer (IsCertOfFile d) (IsCertFileFault d)
 
--- the base's file was read to its end and is right, and so much of it was written and answered
+-- the base's file was read to its end and is right; `Written` holds of the base and the answer
 pub record IsReadAndWritten {A : Type 0} (base_file : Device) (Written : BaseView → Result A RunFault → Type 0) (answer : Result A RunFault) : Type 0 where
   pub base : BaseView
   pub base_read : IsBaseOfFile base_file base
   pub written : Written base answer
 
--- a run over a base by its answer: a status or a write fault after what was written, or the first fault of the base's file. On
--- every fault except Write, `Nothing` was written
+-- a run over a base, by its answer: after a status or a write fault `Written` holds of the base; after the first fault of the
+-- base's file `Nothing` holds, which says that nothing was written
 abbrev pub IsBaseRun : {A : Type 0} → Device → Type 0 → (BaseView → Result A RunFault → Type 0) → Result A RunFault → Type 0
 IsBaseRun base_file Nothing Written (Ok status) = IsReadAndWritten base_file Written (Ok status)
 IsBaseRun base_file Nothing Written (Err (run.Write wrote)) = IsReadAndWritten base_file Written (Err (run.Write wrote))
