@@ -18,7 +18,7 @@
 #include <stdint.h>
 #include <string.h>
 
-#define PAGEAUDIT_VERSION "0.9.0"
+#define PAGEAUDIT_VERSION "1.0.0"
 
 /* Room for each line that pageaudit_check_base and pageaudit_check_change print. */
 #define PAGEAUDIT_LINE_ROOM 128

@@ -13,7 +13,7 @@
 use std::fmt::Debug;
 use std::test::Fail;
 
-/// Fails, with both values, where they differ.
+/// Fails if the two differ, with both values.
 pub fn same<T: PartialEq + Debug + Drop>(got: T, wanted: T) -> Result<(), Fail> {
     if got == wanted {
         Ok(())
@@ -22,7 +22,7 @@ pub fn same<T: PartialEq + Debug + Drop>(got: T, wanted: T) -> Result<(), Fail> 
     }
 }
 
-/// Fails, with both values and the row of the test at which it stands, where they differ.
+/// Fails if the two differ, with both values and the row of the test.
 pub fn same_in<T: PartialEq + Debug + Drop>(
     row: impl Debug + Drop,
     got: T,

@@ -122,11 +122,11 @@ fn push_cert_fault(out: &mut Vec<u8>, edition: &[u8], fault: ReadFault) -> Resul
 
 // Words, a number, and words after it.
 #[tactic(auto, using(std::proofs::Common::append_assoc))]
-fn push_count(out: &mut Vec<u8>, words: &[u8], count: u64, behind: &[u8]) -> Result<(), AllocError>
-    ensures { OnOk result (out.new.items ≡ out.old.items ++ ((words.now ++ decimal count) ++ behind.now)) }
+fn push_count(out: &mut Vec<u8>, words: &[u8], count: u64, after: &[u8]) -> Result<(), AllocError>
+    ensures { OnOk result (out.new.items ≡ out.old.items ++ ((words.now ++ decimal count) ++ after.now)) }
 {
     push_words_number(out, words, count)?;
-    out.extend_from_slice(behind)?;
+    out.extend_from_slice(after)?;
     Ok(())
 }
 

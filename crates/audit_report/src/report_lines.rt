@@ -157,7 +157,7 @@ fn fault_list_text(alloc: Global, faults: &[Fault]) -> Result<Vec<u8>, AllocErro
 /// Linear in the text, which for faults is as long as their scripts together.
 pub fn report(alloc: Global, outcome: &Outcome) -> Result<Vec<u8>, AllocError>
     ensures text { IfOk result (λ text. text.items ≡ report_text outcome.now) }
-    // A certificate's text stands in the grammar with it.
+    // A certificate's text is in the grammar with it.
     ensures in_grammar { IfOk result (λ text. IsReport text.items outcome.now) }
 {
     match outcome {

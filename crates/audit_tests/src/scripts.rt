@@ -1,4 +1,4 @@
-//! Audits of large bases, and the replay of scripts. What the program prints of audits stands in `tests/cases`.
+//! Audits of large bases, and the replay of scripts. What the program prints of audits is in `tests/cases`.
 
 use crate::bases::{base_of, chain};
 use crate::policies::policy;
@@ -91,7 +91,7 @@ fn report_of(alloc: Global, base: &Base, policy: &Policy) -> Result<Vec<u8>, Fai
     Ok(report(alloc, &outcome)?)
 }
 
-// The one fault of a chain is a missing frame behind the last of 20,000.
+// The one fault of a chain is a missing frame after the last of 20,000.
 #[test]
 fn a_script_of_20_000_keys_is_printed_and_replays(rt: HostRuntime) -> Result<(), Fail> {
     let [last, missing] = [FrameId::read("19999a")?, FrameId::read("999999a")?];

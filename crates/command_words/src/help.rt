@@ -1,7 +1,7 @@
 //! What follows the options in each command's help: an example, and the exit statuses.
 
 /// The program's version, which the list of changes names too.
-pub const VERSION: &str = "0.9.0";
+pub const VERSION: &str = "1.0.0";
 
 /// Of `lint`.
 pub const LINT: &str = concat!(

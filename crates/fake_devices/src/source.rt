@@ -4,12 +4,12 @@ use devices::{Broken, Source};
 use std::io;
 use std::io::{ErrorKind, Read};
 
-/// Gives its bytes, `step` of them a call, then ends or fails once, and then gives the bytes in `behind`.
+/// Gives its bytes, `step` of them a call, then ends or fails once, and then gives the bytes in `after`.
 #[derive(Drop)]
 pub struct FakeSource<'a> {
     /// What it gives before it ends or fails.
     pub bytes: &'a [u8],
-    behind: &'a [u8],
+    after: &'a [u8],
     step: usize,
     fails: bool,
     /// How many reads there were.
@@ -19,13 +19,13 @@ pub struct FakeSource<'a> {
 }
 
 impl<'a> FakeSource<'a> {
-    /// It ends, and then gives the bytes in `behind`.
-    pub fn with_more(bytes: &'a [u8], step: usize, behind: &'a [u8]) -> FakeSource<'a>
+    /// It ends, and then gives the bytes in `after`.
+    pub fn with_more(bytes: &'a [u8], step: usize, after: &'a [u8]) -> FakeSource<'a>
         ensures { result.failed ≡ false }
     {
         FakeSource {
             bytes,
-            behind,
+            after,
             step,
             fails: false,
             calls: 0,
@@ -44,10 +44,10 @@ impl<'a> FakeSource<'a> {
     pub fn broken(bytes: &'a [u8], step: usize, kept: usize) -> FakeSource<'a>
         ensures { result.failed ≡ false }
     {
-        let (front, behind) = bytes.split_at(kept.min(bytes.len()));
+        let (front, after) = bytes.split_at(kept.min(bytes.len()));
         FakeSource {
             bytes: front,
-            behind,
+            after,
             step,
             fails: true,
             calls: 0,
@@ -62,8 +62,8 @@ impl Source for FakeSource<'_> {
     fn read(&mut self, into: &mut [u8]) -> Result<usize, Broken> {
         self.calls = self.calls.wrapping_add(1);
         if self.bytes.is_empty() {
-            self.bytes = self.behind;
-            self.behind = &[];
+            self.bytes = self.after;
+            self.after = &[];
             if self.fails {
                 self.fails = false;
                 self.failed = true;

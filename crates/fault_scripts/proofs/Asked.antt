@@ -61,18 +61,18 @@ module _ (base : BaseView) (policy : Policy) (id : Id) (frame : Frame) (at : fra
   -- the flaw is due, in this turn
   pub record IsDueIn (turn : ℕ) (flaw : Flaw) : Type 0 where
     pub due : IsDueAs (fault flaw).kind base policy id frame keys (fault flaw)
-    pub stands : turn_of (fault flaw).kind (fault flaw).key ≡ turn
+    pub placed : turn_of (fault flaw).kind (fault flaw).key ≡ turn
 
   price_due : (flaw : Flaw) → price_flaw policy.ceiling frame.price ≡ std.Some flaw → IsDueIn 0 flaw
   price_due flaw e =
       let c = cond_some (nat_lt policy.ceiling frame.price) (Price frame.price) flaw e in
       let above : policy.ceiling < frame.price = grind (arith, nat_tests, c.0) in
-      subst (IsDueIn 0) c.1 (record { due = record { above = above; is = refl }; stands = refl })
+      subst (IsDueIn 0) c.1 (record { due = record { above = above; is = refl }; placed = refl })
 
   touch_due : (flaw : Flaw) (s : Option Start) → IsStart frame.lead frame.body s → option_map Touches s ≡ std.Some flaw
       → IsDueIn 1 flaw
   touch_due flaw std.None is e = absurd cc
-  touch_due flaw (std.Some start) is e = subst (IsDueIn 1) (same_Some (Touches start) flaw e) (record { due = record { start = start; least = is; is = refl }; stands = refl })
+  touch_due flaw (std.Some start) is e = subst (IsDueIn 1) (same_Some (Touches start) flaw e) (record { due = record { start = start; least = is; is = refl }; placed = refl })
 
   comes : (w : Way) (d : Destination) → destination_of policy.groups base frame w ≡ d
       → destination policy.groups base id w ≡ d
@@ -82,8 +82,8 @@ module _ (base : BaseView) (policy : Policy) (id : Id) (frame : Frame) (at : fra
       → way_flaw (way_at n) d ≡ std.Some flaw → IsDueIn (n + 2) flaw
   way_due flaw n lt way.NotOffered is e = absurd cc
   way_due flaw n lt (way.Found to price) is e = absurd cc
-  way_due flaw n lt (way.Closed to) is e = subst (IsDueIn (n + 2)) (same_Some (Closed (way_at n) to) flaw e) (record { due = record { through = way_at n; to = to; comes_to = comes (way_at n) (way.Closed to) is; is = refl }; stands = ap (λ (m : ℕ). m + 2) (number_at n lt) })
-  way_due flaw n lt (way.Missing to) is e = subst (IsDueIn (n + 2)) (same_Some (Missing (way_at n) to) flaw e) (record { due = record { through = way_at n; to = to; comes_to = comes (way_at n) (way.Missing to) is; is = refl }; stands = ap (λ (m : ℕ). m + 2) (number_at n lt) })
+  way_due flaw n lt (way.Closed to) is e = subst (IsDueIn (n + 2)) (same_Some (Closed (way_at n) to) flaw e) (record { due = record { through = way_at n; to = to; comes_to = comes (way_at n) (way.Closed to) is; is = refl }; placed = ap (λ (m : ℕ). m + 2) (number_at n lt) })
+  way_due flaw n lt (way.Missing to) is e = subst (IsDueIn (n + 2)) (same_Some (Missing (way_at n) to) flaw e) (record { due = record { through = way_at n; to = to; comes_to = comes (way_at n) (way.Missing to) is; is = refl }; placed = ap (λ (m : ℕ). m + 2) (number_at n lt) })
   way_due flaw n lt (way.Outside page) is e = absurd cc
 
   abbrev Far : Type 0
@@ -103,7 +103,7 @@ module _ (base : BaseView) (policy : Policy) (id : Id) (frame : Frame) (at : fra
   return_due : (flaw : Flaw) → return_flaw policy.keyings rank ≡ std.Some flaw → IsDueIn 13 flaw
   return_due flaw e =
       let c = cond_some (is_far policy.keyings rank) NoReturn flaw e in
-      subst (IsDueIn 13) c.1 (record { due = record { far = far_of rank is_rank c.0; is = refl }; stands = refl })
+      subst (IsDueIn 13) c.1 (record { due = record { far = far_of rank is_rank c.0; is = refl }; placed = refl })
 
   -- an answer is due
   pub asked_due : (turn : ℕ) → turn < 14 → (flaw : Flaw) → answer turn ≡ std.Some flaw → IsDueIn turn flaw

@@ -71,7 +71,7 @@ module _ (base : BaseView) (policy : Policy) (found : List Discovered) (finding 
         → (due : IsDue base policy found (fault_of d.id (script found i) flaw)) × (turn_at due.index (fault_of d.id (script found i) flaw) ≡ i * 14 + turn)
     due_there flaw e =
         let a = asked_due base policy d.id frame at d.rank (listed_frame policy.groups base found finding i d listed).rank (script found i) turn small flaw e in
-        (record { index = i; discovered = d; frame = frame; keys = script found i; place = record { listed = listed; of_frame = at; script = refl }; due = a.due }, ap (λ (t : ℕ). i * 14 + t) a.stands)
+        (record { index = i; discovered = d; frame = frame; keys = script found i; place = record { listed = listed; of_frame = at; script = refl }; due = a.due }, ap (λ (t : ℕ). i * 14 + t) a.placed)
 
     -- what is due there is the answer
     there_is : (f : Fault) (due : IsDue base policy found f) → turn_at due.index f ≡ i * 14 + turn

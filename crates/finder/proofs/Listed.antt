@@ -36,12 +36,12 @@ module _ (caller : List ℕ) (base : BaseView) where
 
   module _ (found : List Discovered) (e : Discovered) (p : Pair) (g : Id) where
     grown : PairLeads caller base found p g → PairLeads caller base (found ++ e ∷ []) p g
-    grown l = record { from = l.from; stands = push_at found e p.0 l.from l.stands; leads = l.leads }
+    grown l = record { from = l.from; placed = push_at found e p.0 l.from l.placed; leads = l.leads }
 
     ungrown : p.0 < length found → PairLeads caller base (found ++ e ∷ []) p g → PairLeads caller base found p g
     ungrown lt l = record {
       from = l.from;
-      stands = ⊎_elim (λ old. old) (λ end. absurd (omega (arith, lt, end.0))) (at_push found e p.0 l.from l.stands);
+      placed = ⊎_elim (λ old. old) (λ end. absurd (omega (arith, lt, end.0))) (at_push found e p.0 l.from l.placed);
       leads = l.leads;
     }
 
@@ -51,22 +51,22 @@ module _ (caller : List ℕ) (base : BaseView) where
       → ((p : Pair) (g : Id) → PairLeads caller base found p g → number p < index * 11 + way → P g)
       → ((g : Id) → Leads caller base from.id (way_at way) g → P g) → (p : Pair) (g : Id)
       → PairLeads caller base found p g → number p < index * 11 + way + 1 → P g
-  closed_more found P index way from small stands old here p g l lt =
+  closed_more found P index way from small placed old here p g l lt =
       ⊎_elim (λ less. old p g l less) (λ more.
       let known = way_known found p g l in
       let row : p.0 ≡ index = omega (arith, more, lt, known.0, small) in
       let way_is : p.1 ≡ way_at way = sym known.1 ∙ ap way_at (omega (arith, more, lt, row)) in
-      let same : l.from ≡ from = same_Some l.from from (sym l.stands ∙ ap (slice_get found) row ∙ stands) in
+      let same : l.from ≡ from = same_Some l.from from (sym l.placed ∙ ap (slice_get found) row ∙ placed) in
       here g (subst (λ w. Leads caller base from.id w g) way_is (subst (λ (d : Discovered). Leads caller base d.id p.1 g) same l.leads))) (cases_lt (number p) (index * 11 + way))
 
-  module _ (index way : ℕ) (from : Discovered) (found : List Discovered) (small : way < 11) (stands : slice_get found index ≡ Some from) (is : IsDiscovery caller base (index * 11 + way) found) where
+  module _ (index way : ℕ) (from : Discovered) (found : List Discovered) (small : way < 11) (placed : slice_get found index ≡ Some from) (is : IsDiscovery caller base (index * 11 + way) found) where
     -- the way leads to no frame, or to a listed one
     pub passed : ((g : Id) → Leads caller base from.id (way_at way) g → Any (λ d. d.id ≡ g) found)
         → IsDiscovery caller base (index * 11 + way + 1) found
     passed here = record {
       listing = is.listing;
       before = λ k d lt p h. omega (arith, is.before k d lt p h);
-      closed = closed_more found (λ g. Any (λ d. d.id ≡ g) found) index way from small stands is.closed here;
+      closed = closed_more found (λ g. Any (λ d. d.id ≡ g) found) index way from small placed is.closed here;
     }
 
     -- it leads to a frame that isn't listed, and that goes last
@@ -78,21 +78,21 @@ module _ (caller : List ℕ) (base : BaseView) where
       pair = (index, way_at way)
 
       inside : index < length found
-      inside = slice_get_within found index from stands
+      inside = slice_get_within found index from placed
 
       -- its one pair
       own : (p : Pair) → HasPair e p → (p.0 ≡ index) × (way_place p.1 ≡ way)
       own p h = (sym (same_Some index p.0 (sym parent ∙ h.parent)), ap way_place (sym (same_way (way_at way) p.1 (same_Some (way_key (way_at way)) (way_key p.1) (sym key ∙ h.key)))) ∙ place_at way small)
 
       leads_on : PairLeads caller base more pair e.id
-      leads_on = record { from = from; stands = push_at found e index from stands; leads = leads }
+      leads_on = record { from = from; placed = push_at found e index from placed; leads = leads }
 
       kept : (d : Discovered) → HasFirstPair caller base found d → HasFirstPair caller base more d
       kept d h = record {
         pair = h.pair;
         has = h.has;
         leads = grown found e h.pair d.id h.leads;
-        none_before = λ other l before. h.none_before other (ungrown found e other d.id (omega (arith, row_of other h.pair before, slice_get_within found h.pair.0 h.leads.from h.leads.stands)) l) before;
+        none_before = λ other l before. h.none_before other (ungrown found e other d.id (omega (arith, row_of other h.pair before, slice_get_within found h.pair.0 h.leads.from h.leads.placed)) l) before;
       }
 
       first_pair : HasFirstPair caller base more e
@@ -108,14 +108,14 @@ module _ (caller : List ℕ) (base : BaseView) where
         listing = record {
           first = λ d at. ⊎_elim (is.listing.first d) (λ end. absurd (omega (arith, end.0, inside))) (at_push found e 0 d at);
           entry = any_grown (λ d. d.id ≡ entry_of base) found e is.listing.entry;
-          walked = All-push (λ d. (n : ℕ) × Walk caller base (entry_of base) d.id n) found e is.listing.walked (let walk = all_at (λ d. (n : ℕ) × Walk caller base (entry_of base) d.id n) found index from is.listing.walked stands in (suc walk.0, (from.id, way_at way, walk.1, leads)));
+          walked = All-push (λ d. (n : ℕ) × Walk caller base (entry_of base) d.id n) found e is.listing.walked (let walk = all_at (λ d. (n : ℕ) × Walk caller base (entry_of base) d.id n) found index from is.listing.walked placed in (suc walk.0, (from.id, way_at way, walk.1, leads)));
           ranks = All-push (λ d. IsRank caller base d.id d.rank) found e is.listing.ranks ranked;
           once = all_pairs_push (λ d b. d.id ≡ b.id → ⊥) found e is.listing.once (λ k d lt same. new (any_of (λ d. d.id ≡ e.id) found k _ (slice_get-get_or found k d lt) same));
           pairs = λ i d at. ⊎_elim (λ old. kept d (is.listing.pairs i d old)) (λ end. subst (HasFirstPair caller base more) end.1 first_pair) (at_push found e (i + 1) d at);
           ascend = all_pairs_push (λ d b. (p q : Pair) → HasPair d p → HasPair b q → IsBefore p q) found e is.listing.ascend (λ k d lt p q hp hq. let last = own q hq in number_before p q (omega (arith, last.1, small)) (omega (arith, is.before k d lt p hp, last.0, last.1)));
         };
         before = All-push (λ d. (p : Pair) → HasPair d p → number p < index * 11 + way + 1) found e (λ k d lt p h. omega (arith, is.before k d lt p h)) (λ p h. let last = own p h in omega (arith, last.0, last.1));
-        closed = closed_more more (λ g. Any (λ d. d.id ≡ g) more) index way from small (push_at found e index from stands) (λ p g l lt. any_grown (λ d. d.id ≡ g) found e (is.closed p g (ungrown found e p g (omega (arith, lt, small, inside)) l) lt)) (λ g l. Any-push (λ d. d.id ≡ g) found e (one_end from.id (way_at way) e.id g leads l));
+        closed = closed_more more (λ g. Any (λ d. d.id ≡ g) more) index way from small (push_at found e index from placed) (λ p g l lt. any_grown (λ d. d.id ≡ g) found e (is.closed p g (ungrown found e p g (omega (arith, lt, small, inside)) l) lt)) (λ g l. Any-push (λ d. d.id ≡ g) found e (one_end from.id (way_at way) e.id g leads l));
       }
 
   -- the entry frame alone
@@ -143,7 +143,7 @@ module _ (caller : List ℕ) (base : BaseView) where
     listed all (suc n) g walk =
         let there = any_at (λ d. d.id ≡ walk.0) found (listed all n walk.0 walk.2) in
         let pair : Pair = (there.0, walk.1) in
-        let l : PairLeads caller base found pair g = record { from = there.1; stands = there.2; leads = subst (λ x. Leads caller base x walk.1 g) (sym there.3) walk.3 } in
+        let l : PairLeads caller base found pair g = record { from = there.1; placed = there.2; leads = subst (λ x. Leads caller base x walk.1 g) (sym there.3) walk.3 } in
         is.closed pair g l (omega (arith, slice_get_within found there.0 there.1 there.2, all, (way_known found pair g l).0))
 
     -- all are listed that are reached

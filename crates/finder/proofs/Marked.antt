@@ -74,12 +74,12 @@ module _ (graph : Graph) (d : Discovery) (frame : Discovered) where
         found = rw found (started graph.table.groups.now graph.table.base.now frame same parent key (rank_ids graph graph.entry frame.id frame.rank at ranked));
       }
 
-module _ (graph : Graph) (index way from : ℕ) (d : Discovery) (small : way < 11) (stands : slice_get d.order.keys index ≡ Some from) (is : IsListed graph (index * 11 + way) d) where
+module _ (graph : Graph) (index way from : ℕ) (d : Discovery) (small : way < 11) (placed : slice_get d.order.keys index ≡ Some from) (is : IsListed graph (index * 11 + way) d) where
   abbrev e : (e : Discovered) × (slice_get d.found index ≡ Some e) × (id_at graph.table.base.now.frames from ≡ Some e.id)
-  e = frame_listed graph.table.base.now.frames d.order.keys d.found is.named index from stands
+  e = frame_listed graph.table.base.now.frames d.order.keys d.found is.named index from placed
 
   pub node_inside : from < graph.table.count
-  node_inside = omega (arith, is.marked.room, true_within d.listed.items from (All-contains (λ g. get_or d.listed.items g false ≡ true) d.order.keys from is.marked.marks (at_contains d.order.keys index from stands)))
+  node_inside = omega (arith, is.marked.room, true_within d.listed.items from (All-contains (λ g. get_or d.listed.items g false ≡ true) d.order.keys from is.marked.marks (at_contains d.order.keys index from placed)))
 
   -- the way leads to no node, or to a marked one
   pub way_passed : ((node : ℕ) → Goes graph from way node → get_or d.listed.items node false ≡ true)

@@ -14,7 +14,7 @@ pub seen_at : (caller : List ℕ) (frames : List Frame) (i : ℕ) (f : Frame) (n
     → slice_get frames i ≡ Some f → f.id ≡ id → node ≡ i → admitted ≡ is_open caller f
     → IsSeen caller frames id node admitted
 seen_at caller frames i f node admitted id at same there admits = record {
-  stands = ap (id_at frames) there ∙ ap (option_map (λ (g : Frame). g.id)) at ∙ ap Some same;
+  placed = ap (id_at frames) there ∙ ap (option_map (λ (g : Frame). g.id)) at ∙ ap Some same;
   admits = ap (λ k. option_map (is_open caller) (slice_get frames k)) there ∙ ap (option_map (is_open caller)) at ∙ ap Some (sym admits);
 }
 

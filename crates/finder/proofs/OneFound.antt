@@ -37,12 +37,12 @@ module _ (caller : List ℕ) (base : BaseView) where
 
     module _ (n : ℕ) (d e : Discovered) (alike : IsAlike a b (suc n)) (at : slice_get a (suc n) ≡ Some d) (there : slice_get b (suc n) ≡ Some e) (h : HasFirstPair caller base a d) (k : HasFirstPair caller base b e) where
       from_there : slice_get b h.pair.0 ≡ Some h.leads.from
-      from_there = sym (alike h.pair.0 (earlier caller base a fa (suc n) d h.pair at h.has)) ∙ h.leads.stands
+      from_there = sym (alike h.pair.0 (earlier caller base a fa (suc n) d h.pair at h.has)) ∙ h.leads.placed
 
       -- in the second list the first one's pair leads to the same frame
       low : (x : Discovered) (m : HasFirstPair caller base b x) → x.id ≡ d.id → number m.pair ≤ number h.pair
       low x m same =
-          let l : PairLeads caller base b h.pair x.id = record { from = h.leads.from; stands = from_there; leads = subst (Leads caller base h.leads.from.id h.pair.1) (sym same) h.leads.leads } in
+          let l : PairLeads caller base b h.pair x.id = record { from = h.leads.from; placed = from_there; leads = subst (Leads caller base h.leads.from.id h.pair.1) (sym same) h.leads.leads } in
           ⊎_elim (λ less. absurd (m.none_before h.pair l (number_before h.pair m.pair (way_known caller base b m.pair x.id m.leads).0 less))) (λ more. more) (cases_lt (number h.pair) (number m.pair))
 
       -- so the second one's pair is no later
@@ -77,7 +77,7 @@ module _ (caller : List ℕ) (base : BaseView) where
         let same : number h.pair ≡ number k.pair = omega (arith, no_later a b fa fb n d e alike at there h k, no_later b a fb fa n e d (back (suc n) alike) there at k h) in
         let row : h.pair.0 ≡ k.pair.0 = omega (arith, same, hw.0, kw.0) in
         let way : h.pair.1 ≡ k.pair.1 = sym hw.1 ∙ ap way_at (omega (arith, same, row)) ∙ kw.1 in
-        let from : h.leads.from ≡ k.leads.from = same_Some h.leads.from k.leads.from (sym (from_there a b fa fb n d e alike at there h k) ∙ ap (slice_get b) row ∙ k.leads.stands) in
+        let from : h.leads.from ≡ k.leads.from = same_Some h.leads.from k.leads.from (sym (from_there a b fa fb n d e alike at there h k) ∙ ap (slice_get b) row ∙ k.leads.placed) in
         let l = subst (λ (f : Discovered). Leads caller base f.id k.pair.1 d.id) from (subst (λ w. Leads caller base h.leads.from.id w d.id) way h.leads.leads) in
         same_frame (suc n) d e at there (one_end caller base k.leads.from.id k.pair.1 d.id e.id l k.leads.leads) (h.has.parent ∙ ap Some row ∙ sym k.has.parent) (h.has.key ∙ ap (λ w. Some (way_key w)) way ∙ sym k.has.key)
 

@@ -70,7 +70,7 @@ module _ (caller : List ℕ) (base : BaseView) (found : List Discovered) (finds 
         let h_at = listed_at walk.0 before in
         let less = stays n walk.0 before one walk.2 h_at.0 h_at.1 h_at.2 h_at.3 in
         ⊎_elim (λ lt. lt) (λ more.
-        let leads : PairLeads caller base found (h_at.0, walk.1) e.id = record { from = h_at.1; stands = h_at.2; leads = subst (λ x. Leads caller base x walk.1 e.id) (sym h_at.3) (subst (Leads caller base walk.0 walk.1) (sym same) walk.3) } in
+        let leads : PairLeads caller base found (h_at.0, walk.1) e.id = record { from = h_at.1; placed = h_at.2; leads = subst (λ x. Leads caller base x walk.1 e.id) (sym h_at.3) (subst (Leads caller base walk.0 walk.1) (sym same) walk.3) } in
         absurd (omega (arith, less, low k e (h_at.0, walk.1) one more there leads))) (cases_lt k i)
 
   -- the parent is before
@@ -96,7 +96,7 @@ module _ (caller : List ℕ) (base : BaseView) (found : List Discovered) (finds 
   -- a parent is before, and its way leads on
   record IsChild (i : ℕ) (p : ℕ × Key) : Type 0 where
     d : Discovered
-    stands : slice_get found i ≡ Some d
+    placed : slice_get found i ≡ Some d
     way : Way
     key : p.1 ≡ way_key way
     leads : PairLeads caller base found (p.0, way) d.id
@@ -110,7 +110,7 @@ module _ (caller : List ℕ) (base : BaseView) (found : List Discovered) (finds 
     by (suc i) (Some d) is e =
         let h = finds.pairs i d (rw add-one is) in
         let same : (h.pair.0, way_key h.pair.1) ≡ p = same_Some (h.pair.0, way_key h.pair.1) p (sym (ap (λ a. parent_by a d.key) h.has.parent ∙ ap (parent_by (Some h.pair.0)) h.has.key) ∙ e) in
-        subst (IsChild (suc i)) same (record { d = d; stands = is; way = h.pair.1; key = refl; leads = h.leads; before = earlier caller base found finds (suc i) d h.pair is h.has })
+        subst (IsChild (suc i)) same (record { d = d; placed = is; way = h.pair.1; key = refl; leads = h.leads; before = earlier caller base found finds (suc i) d h.pair is h.has })
 
   -- each turn more changes nothing, if there are enough
   steady : (n i : ℕ) → i < n → keys_back found n i ≡ keys_back found (suc n) i
@@ -127,8 +127,8 @@ module _ (caller : List ℕ) (base : BaseView) (found : List Discovered) (finds 
   one_more i p is =
       let child = child_at i p is in
       let last = length found - 1 in
-      let full : length found ≡ suc last = omega (arith, slice_get_within found i child.d child.stands) in
-      let rest = steady last p.0 (omega (arith, child.before, full, slice_get_within found i child.d child.stands)) ∙ ap (λ n. keys_back found n p.0) (sym full) in
+      let full : length found ≡ suc last = omega (arith, slice_get_within found i child.d child.placed) in
+      let rest = steady last p.0 (omega (arith, child.before, full, slice_get_within found i child.d child.placed)) ∙ ap (λ n. keys_back found n p.0) (sym full) in
       ap reverse (ap (λ n. keys_back found n i) full ∙ ap (keys_along (keys_back found last)) is ∙ ap (λ (keys : List Key). p.1 ∷ keys) rest) ∙ reverse_onto (keys_back found (length found) p.0) p.1 []
 
   none_back : (i : ℕ) → parent_of (slice_get found i) ≡ None → script found i ≡ []
@@ -151,8 +151,8 @@ module _ (caller : List ℕ) (base : BaseView) (found : List Discovered) (finds 
   leads_within zero i d le at (Some p) is = absurd (omega (arith, (child_at i p is).before, le))
   leads_within (suc n) i d le at (Some p) is =
       let child = child_at i p is in
-      let same : child.d ≡ d = same_Some child.d d (sym child.stands ∙ at) in
-      let before = leads_within n p.0 child.leads.from (omega (arith, child.before, le)) child.leads.stands (parent_of (slice_get found p.0)) refl in
+      let same : child.d ≡ d = same_Some child.d d (sym child.placed ∙ at) in
+      let before = leads_within n p.0 child.leads.from (omega (arith, child.before, le)) child.leads.placed (parent_of (slice_get found p.0)) refl in
       rw (one_more i p is) (subst (λ (e : Discovered). KeysLead caller base (entry_of base) (script found p.0 ++ p.1 ∷ []) e.id) same (lead_more caller base (script found p.0) (entry_of base) child.leads.from.id child.d.id p.1 child.way child.key child.leads.leads before))
 
   pub scripts_lead : ScriptsLead caller base found

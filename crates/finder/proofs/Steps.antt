@@ -28,11 +28,11 @@ module _ (graph : Graph) where
   pub leads_id : (f way g : ℕ) (a b : Id) → Goes graph f way g → IsOf f a → IsOf g b → Leads caller base a (way_at way) b
   leads_id f way g a b goes at there =
       let l = leads_on graph f way g goes in
-      let from : l.from.id ≡ a = same_Some l.from.id a (sym (ap (option_map (λ (h : Frame). h.id)) l.stands) ∙ at) in
+      let from : l.from.id ≡ a = same_Some l.from.id a (sym (ap (option_map (λ (h : Frame). h.id)) l.placed) ∙ at) in
       let to : l.to.id ≡ b = same_Some l.to.id b (sym (ap (option_map (λ (h : Frame). h.id)) l.there) ∙ there) in
       record {
         price = l.to.price;
-        found = ap (λ id. destination caller base id (way_at way)) (sym from) ∙ ap (destination_by caller base (way_at way)) (frame_here base.frames graph.table.valid.ascending f l.from l.stands) ∙ l.found ∙ ap (λ id. destination_is.Found id l.to.price) to;
+        found = ap (λ id. destination caller base id (way_at way)) (sym from) ∙ ap (destination_by caller base (way_at way)) (frame_here base.frames graph.table.valid.ascending f l.from l.placed) ∙ l.found ∙ ap (λ id. destination_is.Found id l.to.price) to;
       }
 
   leads_node : (f : ℕ) (way : Way) (a b : Id) → IsOf f a → Leads caller base a way b
@@ -60,7 +60,7 @@ module _ (graph : Graph) where
   walk_ids zero f g a b at there same = same_Some a b (sym at ∙ ap (id_at base.frames) same ∙ there)
   walk_ids (suc n) f g a b at there walk =
       let l = leads_on graph walk.0 walk.1 g walk.3 in
-      let h : IsOf walk.0 l.from.id = ap (option_map (λ (k : Frame). k.id)) l.stands in
+      let h : IsOf walk.0 l.from.id = ap (option_map (λ (k : Frame). k.id)) l.placed in
       (l.from.id, way_at walk.1, walk_ids n f walk.0 a l.from.id at h walk.2, leads_id walk.0 walk.1 g l.from.id b walk.3 h there)
 
   pub walk_nodes : (n f : ℕ) (a b : Id) → IsOf f a → Walk caller base a b n → (g : ℕ) × IsOf g b × NodeWalk graph f g n

@@ -13,7 +13,7 @@ use Rattle.finder.proofs.Lists.{mapped}
 -- the frame of an id that is seen
 pub record SeenFrame (caller : List ℕ) (frames : List Frame) (id : Id) (node : ℕ) (admitted : Bool) : Type 0 where
   pub frame : Frame
-  pub stands : slice_get frames node ≡ Some frame
+  pub placed : slice_get frames node ≡ Some frame
   pub is_of : frame.id ≡ id
   pub among : frame_among frames id ≡ Some frame
   pub admits : is_open caller frame ≡ admitted
@@ -21,10 +21,10 @@ pub record SeenFrame (caller : List ℕ) (frames : List Frame) (id : Id) (node :
 pub seen_frame : (caller : List ℕ) (frames : List Frame) (id : Id) (node : ℕ) (admitted : Bool) → IsAscending frames
     → IsSeen caller frames id node admitted → SeenFrame caller frames id node admitted
 seen_frame caller frames id node admitted up s =
-    let f = id_there frames node id s.stands in
+    let f = id_there frames node id s.placed in
     record {
       frame = f.0;
-      stands = f.1;
+      placed = f.1;
       is_of = f.2;
       among = ap (frame_among frames) (sym f.2) ∙ frame_here frames up node f.0 f.1;
       admits = same_Some (is_open caller f.0) admitted (sym (ap (option_map (is_open caller)) f.1) ∙ s.admits);
@@ -45,7 +45,7 @@ module _ (caller : List ℕ) (base : BaseView) (f : Frame) (way : Way) (to : Id)
     by : (b : Bool) → is_open caller g.frame ≡ b → IsTarget caller base f way (target_at s.0 b)
     by true e = record {
       aim = ap aim_of (sym (comes true e));
-      found = λ node is. ap (λ p. option_map (λ (h : Frame). destination.Found h.id h.price) (slice_get base.frames p)) (sym (same_Some s.0 node is)) ∙ ap (option_map (λ (h : Frame). destination.Found h.id h.price)) g.stands ∙ ap (λ id. Some (destination.Found id g.frame.price)) g.is_of ∙ ap Some (sym (comes true e));
+      found = λ node is. ap (λ p. option_map (λ (h : Frame). destination.Found h.id h.price) (slice_get base.frames p)) (sym (same_Some s.0 node is)) ∙ ap (option_map (λ (h : Frame). destination.Found h.id h.price)) g.placed ∙ ap (λ id. Some (destination.Found id g.frame.price)) g.is_of ∙ ap Some (sym (comes true e));
     }
     by false e = record { aim = ap aim_of (sym (comes false e)); found = λ node is. absurd cc }
 
@@ -74,15 +74,15 @@ module _ (caller : List ℕ) (base : BaseView) (node way : ℕ) (f : Frame) (tar
     slots : length new.aims.items ≡ length old.aims.items
     kept : (k : ℕ) → k < last → get_or new.aims.items k aim.NotOffered ≡ get_or old.aims.items k aim.NotOffered
 
-  stands : (p : ℕ) → IsFoundAt caller base f (way_at way) p → (g : Frame) × (slice_get base.frames p ≡ Some g)
-  stands p found = let g = mapped (λ (h : Frame). destination.Found h.id h.price) (slice_get base.frames p) _ found in (g.0, g.1)
+  placed : (p : ℕ) → IsFoundAt caller base f (way_at way) p → (g : Frame) × (slice_get base.frames p ≡ Some g)
+  placed p found = let g = mapped (λ (h : Frame). destination.Found h.id h.price) (slice_get base.frames p) _ found in (g.0, g.1)
 
   are_added : (o : Option ℕ) → node_of target ≡ o → AreAdded
   are_added (Some p) e =
       let there = is.found p e in
       let same = added.found p e in
       record {
-        told = record { found = λ lt. rw same.0 there; lost = λ past. absurd (omega (arith, same.0, past, slice_get_within base.frames p (stands p there).0 (stands p there).1)) };
+        told = record { found = λ lt. rw same.0 there; lost = λ past. absurd (omega (arith, same.0, past, slice_get_within base.frames p (placed p there).0 (placed p there).1)) };
         slots = ap length same.1;
         kept = λ k lt. ap (λ l. get_or l k aim.NotOffered) same.1;
       }

@@ -23,14 +23,14 @@ module _ (caller : List ℕ) (base : BaseView) where
     comes b e = ap (sought_of caller) g.among ∙ ap (λ b. if b then sought_is.Found g.frame.price else sought_is.Closed) e
 
     by : (b : Bool) → is_open caller g.frame ≡ b → IsEntryNode caller base (node_of (target_at s.0 b))
-    by true e = ((g.frame.price, comes true e), s.2.stands)
+    by true e = ((g.frame.price, comes true e), s.2.placed)
     by false e = λ entry. let closed = sym (comes false e) ∙ entry.1 in absurd cc
 
 -- the frame of a listed node is in the base
-pub stands : (base : BaseView) (nodes : List ℕ) (found : List Discovered) (i node : ℕ) → IsAscending base.frames
+pub placed : (base : BaseView) (nodes : List ℕ) (found : List Discovered) (i node : ℕ) → IsAscending base.frames
     → AreNamed base.frames nodes found → slice_get nodes i ≡ Some node
     → (f : Frame) × (slice_get base.frames node ≡ Some f) × ((d : Discovered) → slice_get found i ≡ Some d → frame_at base d.id ≡ Some f)
-stands base nodes found i node up named at =
+placed base nodes found i node up named at =
     let e = frame_listed base.frames nodes found named i node at in
     let f = id_there base.frames node e.0.id e.2 in (
       f.0,
@@ -40,7 +40,7 @@ stands base nodes found i node up named at =
 
 pub node_within : (base : BaseView) (nodes : List ℕ) (found : List Discovered) (i node : ℕ) → IsAscending base.frames
     → AreNamed base.frames nodes found → slice_get nodes i ≡ Some node → node < length base.frames
-node_within base nodes found i node up named at = let f = stands base nodes found i node up named at in slice_get_within base.frames node f.0 f.1
+node_within base nodes found i node up named at = let f = placed base nodes found i node up named at in slice_get_within base.frames node f.0 f.1
 
 -- if the entry frame is found it is listed
 not_empty : (caller : List ℕ) (base : BaseView) (found : List Discovered) → FindsReached caller base found → found ≡ []

@@ -24,7 +24,7 @@ module _ (graph : Graph) where
   -- the frames of a way that leads somewhere
   pub record LeadsOn (f way g : ℕ) : Type 0 where
     pub from : Frame
-    pub stands : slice_get graph.table.base.now.frames f ≡ Some from
+    pub placed : slice_get graph.table.base.now.frames f ≡ Some from
     pub to : Frame
     pub there : slice_get graph.table.base.now.frames g ≡ Some to
     pub found : destination_of graph.table.groups.now graph.table.base.now from (way_at way) ≡ destination.Found to.id to.price
@@ -34,4 +34,4 @@ module _ (graph : Graph) where
       let from = at_within graph.table.base.now.frames f (omega (arith, goes.from, graph.table.nodes)) in
       let is = (told f way from.0 goes.from goes.is_way from.1).found (omega (arith, goes.target, goes.to, graph.table.nodes)) in
       let to = mapped (λ (h : Frame). destination.Found h.id h.price) (slice_get graph.table.base.now.frames g) _ (ap (λ p. option_map (λ (h : Frame). destination.Found h.id h.price) (slice_get graph.table.base.now.frames p)) (sym goes.target) ∙ is) in
-      record { from = from.0; stands = from.1; to = to.0; there = to.1; found = sym to.2 }
+      record { from = from.0; placed = from.1; to = to.0; there = to.1; found = sym to.2 }

@@ -92,7 +92,7 @@ pub record HasPair (d : Discovered) (pair : Pair) : Type 0 where
 -- the pair's way leads to the id from the frame listed at the pair's index
 pub record PairLeads (caller : List ℕ) (base : BaseView) (found : List Discovered) (pair : Pair) (id : Id) : Type 0 where
   pub from : Discovered
-  pub stands : slice_get found pair.0 ≡ Some from
+  pub placed : slice_get found pair.0 ≡ Some from
   pub leads : Leads caller base from.id pair.1 id
 
 -- a pair comes before another: its frame is listed before, or it has the same frame and its way is tried before

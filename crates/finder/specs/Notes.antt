@@ -11,7 +11,7 @@ use Rattle.finder.specs.declared.target.Target.TheVariants.{Found, Closed}
 
 -- a node has the frame of an id, which is open to the caller or isn't
 pub record IsSeen (caller : List ℕ) (frames : List Frame) (id : Id) (node : ℕ) (admitted : Bool) : Type 0 where
-  pub stands : id_at frames node ≡ Some id
+  pub placed : id_at frames node ≡ Some id
   pub admits : option_map (is_open caller) (slice_get frames node) ≡ Some admitted
 
 -- the result of seeking it

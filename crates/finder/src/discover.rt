@@ -84,11 +84,11 @@ impl Discovery {
         way: u8,
     ) -> Result<(), AllocError>
         requires is_way { way < 11 }
-        requires stands { slice_get self.old.order.keys index ≡ Some from }
+        requires placed { slice_get self.old.order.keys index ≡ Some from }
         requires len { length ranks.now ≡ graph.now.table.count }
         requires ranks { (f : ℕ) → IsNodeRank graph.now f (get_or ranks.now f None) }
         requires listed { IsListed graph.now (index * 11 + way) self.old }
-        ensures stands { OnOk result (slice_get self.new.order.keys index ≡ Some from) }
+        ensures placed { OnOk result (slice_get self.new.order.keys index ≡ Some from) }
         ensures listed { OnOk result (IsListed graph.now (index * 11 + way + 1) self.new) }
     {
         let Some(node) = graph.target(from, way) else {
@@ -114,7 +114,7 @@ impl Discovery {
         index: u16,
         from: u16,
     ) -> Result<(), AllocError>
-        requires stands { slice_get self.old.order.keys index ≡ Some from }
+        requires placed { slice_get self.old.order.keys index ≡ Some from }
         requires len { length ranks.now ≡ graph.now.table.count }
         requires ranks { (f : ℕ) → IsNodeRank graph.now f (get_or ranks.now f None) }
         requires listed { IsListed graph.now (index * 11) self.old }

@@ -83,9 +83,9 @@ impl Groups {
     {
         let mut groups = Groups::none();
         let mut rest = text;
-        while let Some((word, behind)) = cut(rest, separator) {
+        while let Some((word, after)) = cut(rest, separator) {
             groups.add(word)?;
-            rest = behind;
+            rest = after;
         }
         groups.add(rest)?;
         Ok(groups)

@@ -67,7 +67,7 @@ fn paints_an_attribute_in_each_row() -> Result<(), Fail> {
     Ok(())
 }
 
-// Codes in each column of rows 21 and 22, and behind them, after letters from the start of row 21 on.
+// Codes in each column of rows 21 and 22 and below them, after letters from the start of row 21 on.
 #[test]
 fn paints_double_height_up_to_row_21() -> Result<(), Fail> {
     let mut body = [0x41; 85];

@@ -157,8 +157,8 @@ fn body_of(
     Ok(body)
 }
 
-// Runs that end before, at and behind position 919, from the start and from the end of row 22, from row 0, and from row
-// 23, behind whose last cell comes position 0.
+// Runs that end before, at and after position 919, from the start and from the end of row 22, from row 0, and from row
+// 23, after whose last cell comes position 0.
 #[test]
 fn agrees_on_runs_near_the_service_rows(rt: HostRuntime) -> Result<(), Fail> {
     let heads: [&[u8]; 6] = [
@@ -178,7 +178,7 @@ fn agrees_on_runs_near_the_service_rows(rt: HostRuntime) -> Result<(), Fail> {
     Ok(())
 }
 
-// Double height, other attributes, and letters, in rows 21 and 22 and behind them.
+// Double height, other attributes, and letters, in rows 21 and 22 and after them.
 #[test]
 fn agrees_on_double_height_near_the_last_row(rt: HostRuntime) -> Result<(), Fail> {
     let codes: [&[u8]; 6] = [

@@ -109,7 +109,7 @@ fn opens_for_a_caller_of_16_groups(rt: HostRuntime) -> Result<(), Fail> {
 // The frame and the page of a session, and the frames that it remembers.
 type Kept = (Option<FrameId>, Option<PageNo>, [Option<FrameId>; 3], usize);
 
-// The latest frame comes first; neither an update nor a reprint is remembered, and behind an outside page nothing is.
+// The latest frame comes first; neither an update nor a reprint is remembered, and after an outside page nothing is.
 #[test]
 fn remembers_the_latest_first(rt: HostRuntime) -> Result<(), Fail> {
     let [entry, first, second] = ids()?;

@@ -1,4 +1,4 @@
-//! Texts of safe bases. Each frame stands on a page of its own.
+//! Texts of safe bases. Each frame is on a page of its own.
 
 use crate::size::Size;
 use base_text::MOST_TEXT;

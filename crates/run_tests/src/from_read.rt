@@ -24,7 +24,7 @@ fn a_reader_of_std_is_asked_for_whole_pieces(rt: HostRuntime) -> Result<(), Fail
     same((is_whole, reader.calls), (true, 5))
 }
 
-// The reader would go on behind the call that fails.
+// The reader would go on after the call that fails.
 #[test]
 fn a_failed_read_is_kept_in_mind() -> Result<(), Fail> {
     let mut reader = FakeSource::broken(TEXT, 100, 0);
@@ -47,7 +47,7 @@ fn a_reader_that_fails_is_broken(rt: HostRuntime) -> Result<(), Fail> {
     Ok(())
 }
 
-// The reader would give more behind its end.
+// The reader would give more after its end.
 #[test]
 fn the_end_of_a_reader_is_taken_for_it() -> Result<(), Fail> {
     let mut reader = FakeSource::with_more(b"", 4, b"more");

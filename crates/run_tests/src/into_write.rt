@@ -14,7 +14,7 @@ fn a_writer_of_std_takes_a_text(rt: HostRuntime) -> Result<(), Fail> {
     Ok(())
 }
 
-// A write that takes none of some bytes is an error. The writer would take more behind it.
+// A write that takes none of some bytes is an error. The writer would take more after it.
 #[test]
 fn a_writer_that_takes_nothing_more_has_failed(rt: HostRuntime) -> Result<(), Fail> {
     for room in 0..8u32 {
@@ -38,7 +38,7 @@ fn a_write_of_no_bytes_is_no_error(rt: HostRuntime) -> Result<(), Fail> {
     Ok(())
 }
 
-// The writer would go on behind the call that fails.
+// The writer would go on after the call that fails.
 #[test]
 fn a_failed_write_or_flush_is_kept_in_mind(rt: HostRuntime) -> Result<(), Fail> {
     let mut writer = FakeSink::full(rt.alloc(), 1, 0);

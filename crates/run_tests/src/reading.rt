@@ -33,7 +33,7 @@ fn reading_stops_at_the_limit(rt: HostRuntime) -> Result<(), Fail> {
     Ok(())
 }
 
-// The source would go on behind the call that fails. The 13th would tell the end.
+// The source would go on after the call that fails. The 13th would report the end.
 #[test]
 fn a_source_that_fails_is_broken_wherever_it_fails(rt: HostRuntime) -> Result<(), Fail> {
     for kept in 0..13u32 {

@@ -15,7 +15,7 @@ fn all_is_taken_and_flushed_however_little_a_call_takes(rt: HostRuntime) -> Resu
         same_in(step, write_whole(&mut sink, TEXT), Ok(()))?;
         same_in(step, sink.taken.as_slice(), TEXT)?;
         same_in(step, (sink.writes, sink.flushes), (calls, 1))?;
-        same_in("flushed behind the bytes", sink.flushed, 8)?;
+        same_in("flushed after the bytes", sink.flushed, 8)?;
         same_in(step, sink.failed(), false)?;
     }
     Ok(())
@@ -29,7 +29,7 @@ fn a_text_without_bytes_is_flushed_alone(rt: HostRuntime) -> Result<(), Fail> {
     Ok(())
 }
 
-// The sink would go on behind the call that fails.
+// The sink would go on after the call that fails.
 #[test]
 fn a_failed_write_ends_it_with_the_bytes_that_were_taken(rt: HostRuntime) -> Result<(), Fail> {
     for (step, calls) in STEPS {

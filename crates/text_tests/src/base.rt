@@ -19,7 +19,7 @@ const SECOND: &str =
 const THIRD: &str =
     "[[frame]]\nid = \"1231b\"\nlead = \"keep\"\nbody = \"\\u001E\\u000APART TWO\"\nroutes = { 0 = 123 }\n";
 
-// The base that the parts, one behind the other, are read to.
+// The base that the parts, one after the other, are read to.
 fn base_of(alloc: Global, parts: &[&str]) -> Result<Base, Fail> {
     let text = parts.concat(alloc)?;
     Ok(
@@ -29,7 +29,7 @@ fn base_of(alloc: Global, parts: &[&str]) -> Result<Base, Fail> {
     )
 }
 
-// The bodies of a base's frames, one behind the other.
+// The bodies of a base's frames, one after the other.
 fn bodies(alloc: Global, base: &Base) -> Result<Vec<u8>, AllocError> {
     let mut bytes = Vec::new(alloc);
     for frame in base.frames() {

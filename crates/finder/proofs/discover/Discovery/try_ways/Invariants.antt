@@ -4,6 +4,6 @@ use Rattle.finder.proofs.discover.Discovery.try_ways.Given as goal
 
 abbrev pub invariant-loop-way : goal.invariant-loop-way
 invariant-loop-way l = record {
-  stands : slice_get l.self.order.keys l.index ≡ Some l.from;
+  placed : slice_get l.self.order.keys l.index ≡ Some l.from;
   listed : IsListed l.graph (l.index * 11 + l.way) l.self;
 }
