@@ -15,13 +15,13 @@ from second_reading.map import draw
 
 DEMO = (TOP / "examples" / "demo.toml").read_text("ascii")
 CERT = (TOP / "examples" / "demo.cert").read_text("ascii")
-MEMORY = "Memory\n"
-FAILED = "Failed\n" * 4
+MEMORY = "memory refused\n"
+FAILED = "Err(Failed)\n" * 3 + "Some(Failed)\n"
 
 
 @dataclass
 class Case:
-    """A call with its words, its answer if no memory is refused, and what it is if memory is refused."""
+    """A call with its words, its answer if no memory is refused, and one beside MEMORY that it may give if memory is refused."""
 
     words: str
     answer: str
@@ -95,11 +95,6 @@ BAD_CERTS = {
     "line 10: Tail": CERT + "X",
 }
 TRUNCATED = CERT[:80]
-FOUND = """\
-123a rank 0 parent - key -
-1231a rank 1 parent 0 key 1
-1231b rank {} parent 1 key #
-"""
 REPLIES = "SHOWN 123a 0\n" + "SHOWN 1231a 5\nSHOWN 123a 0\n" * 3 + "SHOWN 1231a 5\nNOTOFFERED\n"
 LIST = """\
 FRAME 123a RANK 0 PRICE 0 GROUP - SCRIPT -
@@ -120,37 +115,66 @@ FAULTS = {
 }
 
 
+def debug_id(id):
+    """An id as `{:?}` prints it."""
+    return f"FrameId {{ page: PageNo {{ number: {id[:-1]} }}, letter: Letter {{ byte: {ord(id[-1])} }} }}"
+
+
+def debug_option(text):
+    return "None" if text is None else f"Some({text})"
+
+
+def debug_found(frames):
+    """The discovered frames as `{:?}` prints them: of each its id, its rank, its parent's place and the key pressed there."""
+    keys = {None: None, "#": "Next"} | {str(digit): f"Route(Digit {{ number: {digit} }})" for digit in range(10)}
+    texts = [
+        f"Discovered {{ id: {debug_id(id)}, rank: {debug_option(rank)}, "
+        f"parent: {debug_option(parent)}, key: {debug_option(keys[key])} }}"
+        for id, rank, parent, key in frames
+    ]
+    return f"Found {{ frames: [{', '.join(texts)}] }}\n"
+
+
+def debug_replayed(last, at):
+    return f"Ok(Replayed {{ last: {last}, at: {debug_option(at and debug_id(at))} }})\n"
+
+
+def debug_shown(id, pence):
+    return f"Shown({debug_id(id)}, Pence {{ number: {pence} }})"
+
+
 def key_cases():
     for keys in "1#*#*00*09", "1010*#*#*#*#", "":
         yield Case(f"keys_read {keys}", keys)
-        yield Case(f"keys_text {keys}", keys)
     yield Case("keys_read *0", "keys: I3 BadKey 0\n")
     yield Case("keys_read 1*5#", "keys: I3 BadKey 1\n")
 
 
 def base_cases():
-    yield Case("base_read demo", CERT)
+    yield base_case("demo", CERT)
     for name in ("no_entry", "closed", "missing", "no_return", "touches", "entry_closed"):
-        yield Case(f"base_read {name}", audited(base.base_of(BASES[name].encode())))
+        yield base_case(name, audited(base.base_of(BASES[name].encode())))
     for place, fault in enumerate(BAD_BASES):
-        yield Case(f"base_read bad_base_{place}", f"base: {fault}\n")
+        yield base_case(f"bad_base_{place}", f"base: {fault}\n")
         yield Case(f"check_bytes bad_base_{place} cert 5 1 -", f"base: {fault}\n")
-        yield Case(f"fault_text base bad_base_{place}", f"base: {fault}\n")
-    yield Case("body_of_rows", "body\n1e0a")
-    yield Case("body_of_rows WELCOME", "body\n1e0a57454c434f4d450d0a")
+    yield Case("body_of_rows", "Body { bytes: [30, 10] }\n")
+    yield Case("body_of_rows WELCOME", f"Body {{ bytes: {[30, 10, *b'WELCOME', 13, 10]} }}\n")
+
+
+def base_case(name, answer):
+    """A base that is read, and its audit with the greatest policy for callers of no group."""
+    return Case(f"base_read {name} 9999 65535 -", answer, "base: memory refused\n")
 
 
 def cert_cases():
     for name, text in ("cert", CERT), ("grouped", GROUPED):
         yield Case(f"cert_read {name}", text)
-        yield Case(f"cert_write {name}", text)
         for piece in 1, 2, 3, 7, 4_096:
             yield Case(f"feed {name} {piece}", text, MEMORY + FAILED)
     for place, fault in enumerate(BAD_CERTS):
         line = f"certificate: {fault}\n"
         yield Case(f"cert_read bad_cert_{place}", line)
         yield Case(f"check_bytes demo bad_cert_{place} 5 1 -", line)
-        yield Case(f"fault_text cert bad_cert_{place}", line)
         for piece in 1, 4_096:
             yield Case(f"feed bad_cert_{place} {piece}", line + FAILED, MEMORY + FAILED)
     yield Case("cert_read truncated", "certificate: line 9: Truncated\n")
@@ -158,62 +182,41 @@ def cert_cases():
 
 
 def session_cases():
-    yield Case("session_open demo -", "SHOWN 123a 0\nat 123a\n")
-    yield Case("session_open entry_closed 7,9", "SHOWN 123a 0\nat 123a\n")
-    for call in "session_open", "entry_text":
-        yield Case(f"{call} entry_closed -", "ENTRYCLOSED 123a\n")
-        yield Case(f"{call} no_entry -", "ENTRYMISSING 0a\n")
-    yield Case("walk_text demo - 1010*#*#*#*#", REPLIES)
-    yield Case("walk_text demo - 01*00", "SHOWN 123a 0\nGONE 0\nNOTOFFERED\nNOTOFFERED\n")
-    yield Case("replay closed - 1#", "CLOSED 1231b\nat 1231a\n")
-    yield Case("replay closed 7 1#", "SHOWN 1231b 0\nat 1231b\n")
-    yield Case("replay demo - 0", "GONE 0\nleft\n")
-    yield Case("replay demo - ", "SHOWN 123a 0\nat 123a\n")
-    yield Case("replay no_entry - 1", "ENTRYMISSING 0a\n")
+    def replay(words, last, at):
+        return Case(f"replay {words}", debug_replayed(last, at), "Err(Memory)\n")
+
+    yield replay("closed - 1#", f"Closed({debug_id('1231b')})", "1231a")
+    yield replay("closed 7 1#", debug_shown("1231b", 0), "1231b")
+    yield replay("demo - 0", "Gone(PageNo { number: 0 })", None)
+    yield replay("demo - ", debug_shown("123a", 0), "123a")
+    yield Case("replay no_entry - 1", "Err(EntryMissing)\n")
 
 
 def verdict_cases():
-    for call in "check_bytes", "verdict_text":
-        yield Case(f"{call} demo cert 5 1 -", "CLEARED\n")
-        yield Case(f"{call} demo cert 4 1 -", "REFUSED K2 CeilingAbove\n")
-        yield Case(f"{call} demo cert 5 0 -", "REFUSED K3 KeyingsAbove\n")
-        yield Case(f"{call} closed grouped 5 1 7", "CLEARED\n")
-        yield Case(f"{call} closed grouped 5 1 -", "REFUSED K15 GroupsDiffer\n")
-        yield Case(f"{call} touches cert 5 1 -", "REFUSED K9 Touches 1231b 0\n")
-        yield Case(f"{call} missing cert 5 1 -", "REFUSED K11 RouteNotCovered 1231b 9\n")
-        yield Case(f"{call} no_return cert 5 1 -", "REFUSED K14 NoWayDown 1231b\n")
-
-
-def change_cases():
-    for words, answer in {
-        "demo cert demo cert 50 3 -": "CLEARED",
-        "closed grouped closed grouped 50 3 7": "CLEARED",
-        "demo cert demo cert 4 1 -": "OLD REFUSED K2 CeilingAbove",
-        "demo cert missing cert 50 3 -": "NEW REFUSED K11 RouteNotCovered 1231b 9",
-        "demo cert moved moved_cert 50 3 -": "REFUSED E1 EntryMoved",
-        "demo cert shorter shorter_cert 50 3 -": "REFUSED E2 NoLongerCovered 1231b",
-    }.items():
-        yield Case(f"change_text {words}", f"{answer}\n")
+    yield Case("check_bytes demo cert 5 1 -", "CLEARED\n")
+    yield Case("check_bytes demo cert 4 1 -", "REFUSED K2 CeilingAbove\n")
+    yield Case("check_bytes demo cert 5 0 -", "REFUSED K3 KeyingsAbove\n")
+    yield Case("check_bytes closed grouped 5 1 7", "CLEARED\n")
+    yield Case("check_bytes closed grouped 5 1 -", "REFUSED K15 GroupsDiffer\n")
+    yield Case("check_bytes touches cert 5 1 -", "REFUSED K9 Touches 1231b 0\n")
+    yield Case("check_bytes missing cert 5 1 -", "REFUSED K11 RouteNotCovered 1231b 9\n")
+    yield Case("check_bytes no_return cert 5 1 -", "REFUSED K14 NoWayDown 1231b\n")
 
 
 def audit_cases():
-    yield Case("find demo -", FOUND.format(1))
-    yield Case("find no_return -", FOUND.format("-"))
-    yield Case("find no_entry -", "")
+    for name, rank in ("demo", 1), ("no_return", None):
+        yield Case(f"find {name} -", debug_found([("123a", 0, None, None), ("1231a", 1, 0, "1"), ("1231b", rank, 1, "#")]))
+    yield Case("find no_entry -", debug_found([]))
     for place, keys in enumerate(["", "1", "1#"]):
         yield Case(f"script_to demo - {place}", keys)
     yield Case("script_to closed - 1", "1")
-    for call in "audit", "report":
-        yield Case(f"{call} demo 50 3 -", CERT)
-        yield Case(f"{call} closed 50 3 7", GROUPED)
-    for call in "audit", "report", "faults":
+    yield Case("audit demo 50 3 -", CERT)
+    yield Case("audit closed 50 3 7", GROUPED)
+    for call in "audit", "faults":
         yield Case(f"{call} demo 4 0 -", STRICT)
         for name, faults in FAULTS.items():
             yield Case(f"{call} {name} 50 3 -", faults)
     yield Case("faults demo 50 3 -", "FAULTS 0\n")
-    yield Case("fault_text keys 1*5#", "keys: I3 BadKey 1\n")
-    for piece in 7, 4_096:
-        yield Case(f"read_whole demo {piece}", DEMO)
 
 
 def ran(status, text="", fault=""):
@@ -239,8 +242,17 @@ RUNS = [
     ("run_check demo {0} cert {0}", "5 0 -", 1, "REFUSED K3 KeyingsAbove\n"),
     ("run_check missing {0} cert {0}", "5 1 -", 1, "REFUSED K11 RouteNotCovered 1231b 9\n"),
     ("run_change demo {0} cert {0} demo {0} cert {0}", "50 3 -", 0, "CLEARED\n"),
+    ("run_change closed {0} grouped {0} closed {0} grouped {0}", "50 3 7", 0, "CLEARED\n"),
+    ("run_change demo {0} cert {0} demo {0} cert {0}", "4 1 -", 1, "OLD REFUSED K2 CeilingAbove\n"),
+    ("run_change demo {0} cert {0} missing {0} cert {0}", "50 3 -", 1, "NEW REFUSED K11 RouteNotCovered 1231b 9\n"),
+    ("run_change demo {0} cert {0} moved {0} moved_cert {0}", "50 3 -", 1, "REFUSED E1 EntryMoved\n"),
     ("run_change demo {0} cert {0} shorter {0} shorter_cert {0}", "50 3 -", 1, "REFUSED E2 NoLongerCovered 1231b\n"),
     ("run_walk demo {} 1010*#*#*#*#", "-", 0, REPLIES),
+    ("run_walk demo {} 01*00", "-", 0, "SHOWN 123a 0\nGONE 0\nNOTOFFERED\nNOTOFFERED\n"),
+    ("run_walk demo {} ", "-", 0, "SHOWN 123a 0\n"),
+    ("run_walk entry_closed {} ", "7,9", 0, "SHOWN 123a 0\n"),
+    ("run_walk entry_closed {} ", "-", 1, "ENTRYCLOSED 123a\n"),
+    ("run_walk no_entry {} ", "-", 1, "ENTRYMISSING 0a\n"),
     ("run_walk entry_closed {} 1", "-", 1, "ENTRYCLOSED 123a\n"),
     ("run_map demo {} -", "-", 0, MAP),
     ("run_map demo {} 1231", "-", 0, draw(DEMO.encode(), None, "page", 1_231)[0]),
@@ -252,7 +264,7 @@ RUNS = [
 
 def run_cases():
     for front, after, status, text in RUNS:
-        for piece in 1, 4_096:
+        for piece in 1, 7, 4_096:
             yield Case(f"{front.format(piece)} whole {after}", ran(status, text))
         for room in {0, 1, len(text) - 1} if text else ():
             fault = UNWRITTEN.format(room)
@@ -273,7 +285,7 @@ def run_cases():
         yield Case(f"run_check demo 7 cert 7/{kept} whole 5 1 -", ran(3, fault="certificate: read failed"))
         words = f"run_change demo 7 cert 7 demo 7 cert 7/{kept} whole 50 3 -"
         yield Case(words, ran(3, fault="new certificate: read failed"))
-    yield Case("run_map demo 7 5 unflushed -", ran(1))
+    yield Case("run_map demo 7 5 unflushed -", ran(2))
     yield Case("run_walk demo 7 1*5# whole -", ran(2, fault="keys: I3 BadKey 1"))
     yield Case("run_audit bad_base_4 7 whole 50 3 -", ran(3, fault="base: X3 UnknownKey"))
     yield Case("run_check demo 7 bad_cert_9 7 whole 5 1 -", ran(3, fault="certificate: line 10: Tail"))
@@ -312,15 +324,14 @@ def audited(whole):
     return audit.outcome(whole, (9_999, 65_535, []))[0]
 
 
-def found_lines(whole, groups):
-    """The discovered frames as the program prints them."""
+def found(whole, groups):
+    """Of each discovered frame its id, its rank, its parent's place and the key pressed there."""
     scripts = audit.discover(whole, groups)
     ranks = audit.ranks_of(whole, scripts)
     places = {script: place for place, script in enumerate(scripts.values())}
     for id, script in scripts.items():
-        parent, key = (places[script[:-1]], script[-1]) if script else ("-", "-")
-        assert key in [*KEYS, "-"]
-        yield f"{base.id_text(id)} rank {ranks.get(id, '-')} parent {parent} key {key}\n"
+        parent, key = (places[script[:-1]], script[-1]) if script else (None, None)
+        yield base.id_text(id), ranks.get(id), parent, key
 
 
 def large_files():
@@ -341,30 +352,26 @@ def large_cases(files):
     keys = "10" * 2_000
     yield from [
         Case(f"keys_read {keys}", keys),
-        Case(f"keys_text {keys}", keys),
-        Case("base_read large", audited(whole)),
-        Case("base_read large_bad", unknown),
-        Case("body_of_rows" + f" {'W' * 40}" * 22, "body\n1e0a" + "57" * 880),
-        Case("session_open large -", "SHOWN 100000a 0\nat 100000a\n"),
-        Case(f"walk_text large - {keys}", session.walk(text.encode(), keys)[0]),
-        Case(f"replay large - {keys}", "SHOWN 100000a 0\nat 100000a\n"),
+        base_case("large", audited(whole)),
+        base_case("large_bad", unknown),
+        Case("body_of_rows" + f" {'W' * 40}" * 22, f"Body {{ bytes: {[30, 10, *b'W' * 880]} }}\n"),
+        Case(f"replay large - {keys}", debug_replayed(debug_shown("100000a", 0), "100000a"), "Err(Memory)\n"),
+        Case("run_walk large 4096  whole -", ran(0, "SHOWN 100000a 0\n")),
+        Case(f"run_walk large 4096 {keys} whole -", ran(0, session.walk(text.encode(), keys)[0])),
+        Case("run_audit large 4096 whole 9 9 7", ran(0, cert)),
         Case("cert_read large_cert", cert),
-        Case("cert_write large_cert", cert),
         Case("cert_read large_tail", tail),
         Case("feed large_cert 4096", cert, MEMORY + FAILED),
         Case("feed large_tail 4096", tail + FAILED, MEMORY + FAILED),
         Case("check_bytes large large_cert 9 9 7", "CLEARED\n"),
         Case("check_bytes large large_tail 9 9 7", tail),
         Case("check_bytes large_bad large_cert 9 9 7", unknown),
-        Case("find large 7", "".join(found_lines(whole, [7]))),
-        Case("find large -", "".join(found_lines(whole, []))),
+        Case("find large 7", debug_found(found(whole, [7]))),
+        Case("find large -", debug_found(found(whole, []))),
         Case(f"script_to large 7 {len(scripts) - 1}", scripts[-1]),
         Case("audit large 9 9 7", cert),
-        Case("report large 9 9 7", cert),
         Case("audit large 4 2 -", faults),
         Case("faults large 4 2 -", faults),
-        Case("report large 4 2 -", faults),
-        Case("read_whole large 4096", text),
     ]
 
 
@@ -381,7 +388,7 @@ def cases(folder):
     large = large_files()
     for name, text in {**small_files(), **large}.items():
         (folder / name).write_text(text, "ascii")
-    for part in key_cases, base_cases, cert_cases, session_cases, verdict_cases, change_cases, audit_cases, run_cases:
+    for part in key_cases, base_cases, cert_cases, session_cases, verdict_cases, audit_cases, run_cases:
         yield from part()
     for case in large_cases(large):
         case.is_large = True

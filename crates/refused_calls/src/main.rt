@@ -1,80 +1,78 @@
 //! Makes one call that takes memory, on the input that the words name, and shows what it answered.
 //!
 //! `refused_calls CALL WORD..` makes the input, prints on standard error where the call begins and where it has ended, and
-//! prints the answer: `Memory` if a growth was refused, else its text. After the line `again` comes the answer of the same call
-//! made once more with what was lent to it before. Each call is a function of its name, which says what words it takes: files
-//! are named by their paths, and `-` stands for no groups.
+//! prints the text of its answer, `memory refused` if a growth was refused. After the line `again` comes the answer of the
+//! same call made once more with what was lent to it before. The tables have a row for each call: the words that it takes,
+//! each with what it names (`words`), and the text of its answer.
 //!
 //! The program refuses no request for memory by itself: `tests/refuse-calls` does, between the two lines on standard error.
 #![tactic(auto)]
 
-mod base_calls;
-mod fakes;
-mod lines;
-mod run_calls;
-mod text_calls;
+mod answers;
 mod tried;
 mod words;
 
-use anyhow::{Result, bail};
+use answers::{of_base, of_cert, of_fed, of_keys, of_script, of_verdict, shown};
+use anyhow::{Context, Result};
+use audit_report::report;
+use base_text::{base_read, body_of_rows};
+use cert_text::cert_read;
+use checker::check_bytes;
+use fault_scripts::{Outcome, audit, faults, replay};
+use finder::find;
+use page_ids::keys_read;
+use pageaudit::{
+    run_audit, run_change, run_check, run_lint, run_list, run_map, run_walk, status_of,
+    status_of_lint, status_of_map,
+};
 use std::env;
+use tried::{calls, ran};
 use words::Words;
 
 fn main(rt: HostRuntime) -> Result<()> {
     let words: Vec<String> = env::args(&rt)?.collect(rt.alloc())?;
-    match called(&rt, words.as_slice()) {
-        Some(()) => Ok(()),
-        None => bail!("no such call, or its words say nothing that it takes"),
-    }
+    called(&rt, &mut words.iter()).context("no such call, or its words name nothing that it takes")
 }
 
 // Makes the call of the first word after the program's own, on what the other words name.
-fn called(rt: &HostRuntime, words: &[String]) -> Option<()> {
-    let name = words.get(1)?.as_str();
-    let words = &mut Words::of(words.get(2..)?);
-    match name {
-        "keys_read" => text_calls::keys_read(rt, words),
-        "keys_text" => text_calls::keys_text(rt, words),
-        "base_read" => text_calls::base_read(rt, words),
-        "body_of_rows" => text_calls::body_of_rows(rt, words),
-        "cert_read" => text_calls::cert_read(rt, words),
-        "cert_write" => text_calls::cert_write(rt, words),
-        "feed" => text_calls::feed(rt, words),
-        "read_whole" => text_calls::read_whole(rt, words),
-        "fault_text" => text_calls::fault_text(rt, words),
-        _ => base_call(rt, name, words),
+fn called(rt: &HostRuntime, words: &mut Words) -> Option<()> {
+    let _program = words.next()?;
+    let name = words.next()?.as_str();
+    calls! { rt, name, words, alloc;
+        keys_read(text: word) => of_keys(alloc, keys_read(alloc, text));
+        body_of_rows(rows: rows) => shown(alloc, &body_of_rows(alloc, rows.as_slice())?);
+        base_read(text: bytes, policy: policy) => of_base(alloc, base_read(alloc, text.as_slice()), &policy);
+        cert_read(text: bytes) => of_cert(alloc, cert_read(alloc, text.as_slice()));
+        feed(text: bytes, piece: number) => of_fed(alloc, text.as_slice(), piece as usize);
+        check_bytes(base: bytes, cert: bytes, policy: policy) =>
+            of_verdict(alloc, check_bytes(alloc, base.as_slice(), cert.as_slice(), &policy));
+        replay(base: base, groups: groups, keys: keys) => shown(alloc, &replay(alloc, &base, &groups, &keys));
+        find(base: base, groups: groups) => shown(alloc, &find(alloc, &base, &groups)?);
+        script_to(base: base, groups: groups, index: number) => of_script(alloc, &base, &groups, index);
+        audit(base: base, policy: policy) => report(alloc, &audit(alloc, &base, &policy)?);
+        faults(base: base, policy: policy) => report(alloc, &Outcome::Faulty(faults(alloc, &base, &policy)?));
+        _ => run(rt, name, words)
     }
 }
 
-// The calls on bases.
-fn base_call(rt: &HostRuntime, name: &str, words: &mut Words) -> Option<()> {
-    match name {
-        "session_open" => base_calls::session_open(rt, words),
-        "walk_text" => base_calls::walk_text(rt, words),
-        "entry_text" => base_calls::entry_text(rt, words),
-        "replay" => base_calls::replay(rt, words),
-        "check_bytes" => base_calls::check_bytes(rt, words),
-        "verdict_text" => base_calls::verdict_text(rt, words),
-        "change_text" => base_calls::change_text(rt, words),
-        "find" => base_calls::find(rt, words),
-        "script_to" => base_calls::script_to(rt, words),
-        "audit" => base_calls::audit(rt, words),
-        "faults" => base_calls::faults(rt, words),
-        "report" => base_calls::report(rt, words),
-        _ => run_call(rt, name, words),
-    }
-}
-
-// The runs.
-fn run_call(rt: &HostRuntime, name: &str, words: &mut Words) -> Option<()> {
-    match name {
-        "run_lint" => run_calls::run_lint(rt, words),
-        "run_audit" => run_calls::run_audit(rt, words),
-        "run_check" => run_calls::run_check(rt, words),
-        "run_change" => run_calls::run_change(rt, words),
-        "run_walk" => run_calls::run_walk(rt, words),
-        "run_list" => run_calls::run_list(rt, words),
-        "run_map" => run_calls::run_map(rt, words),
-        _ => None,
+// The runs, on files and an output that can fail.
+fn run(rt: &HostRuntime, name: &str, words: &mut Words) -> Option<()> {
+    calls! { rt, name, words, alloc;
+        run_audit(base: file, out: word, policy: policy) =>
+            ran!(alloc, out, status_of, run_audit(alloc, &mut base.source(), out, &policy));
+        run_check(base: file, cert: file, out: word, policy: policy) =>
+            ran!(alloc, out, status_of, run_check(alloc, &mut base.source(), &mut cert.source(), out, &policy));
+        run_change(old: file, old_cert: file, new: file, new_cert: file, out: word, policy: policy) =>
+            ran!(alloc, out, status_of, run_change(alloc, &mut old.source(), &mut old_cert.source(), &mut new.source(),
+                &mut new_cert.source(), out, &policy));
+        run_walk(base: file, keys: word, out: word, groups: groups) =>
+            ran!(alloc, out, status_of, run_walk(alloc, &mut base.source(), keys, &groups, out));
+        run_list(base: file, out: word, groups: groups) =>
+            ran!(alloc, out, status_of, run_list(alloc, &mut base.source(), &groups, out));
+        run_map(base: file, view: view, out: word, groups: groups) =>
+            ran!(alloc, out, status_of_map, run_map(alloc, &mut base.source(), &groups, &view, out));
+        run_lint(base: file, out: word, policy: policy) =>
+            ran!(alloc, out, status_of_lint, run_lint(alloc, &mut base.source(), out, "base.toml", &policy));
+        _ => None
     }
 }

@@ -1,92 +1,118 @@
-//! What the program's words name, taken in turn. If a word is missing or says nothing, there is no answer.
+//! What words name.
+
+ghost use Rattle.std.specs.Prelude.{◌≡◌, ◌≤◌, IfSome, length, false};
 
 use audit_report::{FromRead, read_whole};
-use base_text::{MOST_TEXT, base_read};
-use cert_table::Certificate;
-use cert_text::cert_read;
+use base_text::{MOST_TEXT, RowCells, base_read};
 use checker::Policy;
+use fake_devices::{FakeSink, FakeSource};
 use frame_records::{Base, Groups, Pence};
-use page_ids::{KeyList, keys_read};
-use std::alloc::Global;
+use page_ids::{KeyList, PageNo, keys_read};
+use pageaudit::View;
+use std::alloc::{AllocError, Global};
 use std::fs;
+use std::slice::Iter;
 
-/// The words that haven't been taken yet.
-#[derive(Drop)]
-pub struct Words<'a> {
-    left: &'a [String],
+/// Words that haven't been taken yet. Each function takes the next one, or more; `None` if it is missing or names nothing.
+pub type Words<'a> = Iter<'a, String>;
+
+pub fn word<'a>(words: &mut Words<'a>, _rt: &HostRuntime) -> Option<&'a str> {
+    Some(words.next()?.as_str())
 }
 
-impl<'a> Words<'a> {
-    /// All of these words.
-    pub fn of(words: &'a [String]) -> Words<'a> {
-        Words { left: words }
-    }
+pub fn number(words: &mut Words, rt: &HostRuntime) -> Option<u32> {
+    word(words, rt)?.parse::<u32>().ok()
+}
 
-    /// The next word.
-    pub fn word(&mut self) -> Option<&'a str> {
-        let (word, left) = self.left.split_first()?;
-        self.left = left;
-        Some(word.as_str())
+/// Groups, as `7,9`; `-` for none.
+pub fn groups(words: &mut Words, rt: &HostRuntime) -> Option<Groups> {
+    match word(words, rt)? {
+        "-" => Some(Groups::none()),
+        list => Groups::read(list).ok(),
     }
+}
 
-    /// The words that are left.
-    pub fn rest(&self) -> &'a [String] {
-        self.left
+/// Keys, as `1#*#`.
+pub fn keys(words: &mut Words, rt: &HostRuntime) -> Option<KeyList> {
+    keys_read(rt.alloc(), word(words, rt)?).ok()
+}
+
+/// A ceiling, keyings and groups.
+pub fn policy(words: &mut Words, rt: &HostRuntime) -> Option<Policy> {
+    Some(Policy {
+        ceiling: Pence::new(u16::try_from(number(words, rt)?).ok()?)?,
+        keyings: u16::try_from(number(words, rt)?).ok()?,
+        groups: groups(words, rt)?,
+    })
+}
+
+/// A page from which a map is drawn; `-` for all of it.
+pub fn view(words: &mut Words, rt: &HostRuntime) -> Option<View> {
+    match word(words, rt)? {
+        "-" => Some(View::Whole),
+        page => Some(View::From(PageNo::new(page.parse::<u32>().ok()?)?, None)),
     }
+}
 
-    /// A whole number.
-    pub fn number(&mut self) -> Option<u32> {
-        self.word()?.parse::<u32>().ok()
+/// All words that are left, at most 22, as rows of cells.
+pub fn rows(words: &mut Words, rt: &HostRuntime) -> Option<Vec<RowCells>>
+    ensures { IfSome result (λ rows. length rows.items ≤ 22) }
+{
+    let mut rows = Vec::new(rt.alloc());
+    for word in words {
+        rows.push(RowCells::new(word.as_bytes())?).ok()?;
     }
+    if rows.len() <= 22 { Some(rows) } else { None }
+}
 
-    /// Groups, as `7,9`; `-` for none.
-    pub fn groups(&mut self) -> Option<Groups> {
-        match self.word()? {
-            "-" => Some(Groups::none()),
-            list => Groups::read(list).ok(),
+/// The bytes of a file, up to one more than a base's text may have.
+pub fn bytes(words: &mut Words, rt: &HostRuntime) -> Option<Vec<u8>> {
+    let file = fs::open(rt, word(words, rt)?).ok()?;
+    read_whole(rt.alloc(), &mut FromRead::new(file), MOST_TEXT + 1).ok()
+}
+
+pub fn base(words: &mut Words, rt: &HostRuntime) -> Option<Base> {
+    base_read(rt.alloc(), bytes(words, rt)?.as_slice()).ok()
+}
+
+/// A file, and how it is read.
+pub fn file<'a>(words: &mut Words<'a>, rt: &HostRuntime) -> Option<Pieces<'a>> {
+    let text = bytes(words, rt)?;
+    let how = word(words, rt)?;
+    Some(Pieces { text, how })
+}
+
+/// A file that comes in pieces of so many bytes; after a `/`, it fails after so many.
+#[derive(Drop)]
+pub struct Pieces<'a> {
+    text: Vec<u8>,
+    how: &'a str,
+}
+
+impl Pieces<'_> {
+    pub fn source(&self) -> FakeSource
+        ensures { result.failed ≡ false }
+    {
+        let (piece, kept) = self.how.split_once('/').unwrap_or((self.how, ""));
+        let piece = piece.parse::<usize>().unwrap_or(1).max(1);
+        match kept.parse::<usize>() {
+            Ok(kept) => FakeSource::broken(self.text.as_slice(), piece, kept),
+            Err(_) => FakeSource::of(self.text.as_slice(), piece),
         }
     }
+}
 
-    /// Keys, as `1#*#`.
-    pub fn keys(&mut self, alloc: Global) -> Option<KeyList> {
-        keys_read(alloc, self.word()?).ok()
-    }
-
-    /// A ceiling, keyings and groups.
-    pub fn policy(&mut self) -> Option<Policy> {
-        let ceiling = Pence::new(u16::try_from(self.number()?).ok()?)?;
-        let keyings = u16::try_from(self.number()?).ok()?;
-        let groups = self.groups()?;
-        Some(Policy {
-            ceiling,
-            keyings,
-            groups,
-        })
-    }
-
-    /// The bytes of a file, up to one more than a base's text may have.
-    pub fn bytes(&mut self, rt: &HostRuntime) -> Option<Vec<u8>> {
-        match fs::open(rt, self.word()?) {
-            Ok(file) => read_whole(rt.alloc(), &mut FromRead::new(file), MOST_TEXT + 1).ok(),
-            Err(_) => None,
-        }
-    }
-
-    /// The base of a file.
-    pub fn base(&mut self, rt: &HostRuntime) -> Option<Base> {
-        let text = self.bytes(rt)?;
-        match base_read(rt.alloc(), text.as_slice()) {
-            Ok(base) => Some(base),
-            Err(_) => None,
-        }
-    }
-
-    /// The certificate of a file.
-    pub fn cert(&mut self, rt: &HostRuntime) -> Option<Certificate> {
-        let text = self.bytes(rt)?;
-        match cert_read(rt.alloc(), text.as_slice()) {
-            Ok(cert) => Some(cert),
-            Err(_) => None,
-        }
-    }
+/// An output, with memory for a million bytes: `full/K` fails after K bytes, `stalling/K` takes none after K bytes, and
+/// `unflushed` fails to send on what it took. Another one never fails.
+pub fn output(alloc: Global, how: &str) -> Result<FakeSink, AllocError> {
+    let (name, room) = how.split_once('/').unwrap_or((how, ""));
+    let room = room.parse::<usize>().unwrap_or(0);
+    let mut sink = match name {
+        "full" => FakeSink::full(alloc, 7, room),
+        "stalling" => FakeSink::stalling(alloc, 7, room),
+        "unflushed" => FakeSink::unflushed(alloc, 7),
+        _ => FakeSink::of(alloc, 7),
+    };
+    sink.taken.reserve(1_000_000)?;
+    Ok(sink)
 }
