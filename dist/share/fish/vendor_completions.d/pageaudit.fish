@@ -1,4 +1,4 @@
-# Completion of pageaudit 0.9.0 for fish.
+# Completion of pageaudit 1.0.0 for fish.
 complete -c pageaudit -n __fish_use_subcommand -f -a lint -d 'Find every fault of a base, each at its line and column'
 complete -c pageaudit -n __fish_use_subcommand -f -a audit -d 'Find a base'\''s certificate, or list its faults with the keys that show them'
 complete -c pageaudit -n __fish_use_subcommand -f -a check -d 'Check a certificate against a base, without any search'
