@@ -10,7 +10,6 @@ from pathlib import Path
 sys.path.insert(0, str(Path(__file__).resolve().parent))
 from program import TOP
 from second_reading import audit, base, session
-from second_reading.certificate import KEYS
 from second_reading.map import draw
 
 DEMO = (TOP / "examples" / "demo.toml").read_text("ascii")
