@@ -152,12 +152,12 @@ def lead_flaw(lead, name):
 def text_flaws(table, name):
     if "body" in table and "rows" in table:
         yield ("rows",), f'X7 BodyAndRows: {name} has both "body" and "rows", leave out one'
-    elif "rows" in table:
-        yield from ((("rows",), flaw) for flaw in rows_flaws(table["rows"], name))
-    elif "body" not in table:
-        yield (), f'X4 Absent: {name} has no "body" and no "rows"'
-    elif flaw := body_flaw(table["body"], name):
+    if "body" in table and (flaw := body_flaw(table["body"], name)):
         yield ("body",), flaw
+    if "rows" in table:
+        yield from ((("rows",), flaw) for flaw in rows_flaws(table["rows"], name))
+    if "body" not in table and "rows" not in table:
+        yield (), f'X4 Absent: {name} has no "body" and no "rows"'
 
 
 def body_flaw(body, name):

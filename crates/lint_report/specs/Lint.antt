@@ -17,9 +17,9 @@ use Rattle.lint_report.specs.declared.audit_findings.Sources.{Sources}
 use Rattle.lint_report.specs.Findings.{FindingView, error_at, warning_at, AreInOrder}
 use Rattle.lint_report.specs.Lookups.{value_of, Knows}
 use Rattle.lint_report.specs.Spots.{has_rows, audit_fault_place, text_fault_place, whole_fault_place}
-use Rattle.base_faults.specs.declared.detail.TextFault.{TextFault}
-use Rattle.base_faults.specs.declared.whole_fault.WholeFault.{WholeFault}
-use Rattle.base_faults.specs.declared.whole_fault.WholeFault.TheVariants.{Duplicate}
+use Rattle.base_text.specs.declared.detail.TextFault.{TextFault}
+use Rattle.base_text.specs.declared.whole_fault.WholeFault.{WholeFault}
+use Rattle.base_text.specs.declared.whole_fault.WholeFault.TheVariants.{Duplicate}
 use Rattle.text_places.specs.Skips.{place_at}
 use Rattle.lint_words.specs.TextWords.{text_fault_words}
 use Rattle.lint_words.specs.WholeWords.{whole_fault_words}
@@ -27,8 +27,8 @@ use Rattle.toml.specs.Data.{Members}
 use Rattle.toml.specs.Parse.{parse_document}
 use Rattle.base_text.specs.declared.limits.TheConstants.{MOST_TEXT}
 use Rattle.base_text.specs.Whole.{tree_of}
-use Rattle.base_faults.specs.Drafts.{DraftView, draft_of}
-use Rattle.base_faults.specs.WholeFaults.{AreWholeFaults}
+use Rattle.base_text.specs.Drafts.{DraftView, draft_of}
+use Rattle.base_text.specs.WholeFaults.{AreWholeFaults}
 use Rattle.toml_hints.specs.Rules.{hint_text}
 
 -- The findings of an audit: its faults, and the frames that no key reaches.

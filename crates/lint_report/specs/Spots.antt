@@ -5,12 +5,13 @@ use Rattle.page_ids.specs.declared.key.Key.TheVariants as key
 use Rattle.frame_records.specs.declared.limits.TheConstants.{MOST_LISTED}
 use Rattle.base_text.specs.declared.fault.Field.TheVariants as field
 use Rattle.base_text.specs.declared.keys.TableKind.TheVariants as kind
-use Rattle.base_text.specs.Fields.{field_name, digit_key}
-use Rattle.base_faults.specs.declared.detail.Detail.{Detail}
-use Rattle.base_faults.specs.declared.detail.Detail.TheVariants.{UnknownKey, Absent, WrongKind, WrongItem, Number, ItemNumber, Lead, BodyCode, TooManyRows, BodyAndRows, RowTooLong, RowCode, BadFrame}
-use Rattle.base_faults.specs.declared.detail.TextFault.{TextFault}
-use Rattle.base_faults.specs.declared.whole_fault.WholeFault.{WholeFault}
-use Rattle.base_faults.specs.declared.whole_fault.WholeFault.TheVariants.{TooManyFrames, TooManyOutside, BodyTooLong, NextAfterZ, Duplicate, OutsideInside}
+use Rattle.base_text.specs.Details.{field_name}
+use Rattle.base_text.specs.Fields.{digit_key}
+use Rattle.base_text.specs.declared.detail.Detail.{Detail}
+use Rattle.base_text.specs.declared.detail.Detail.TheVariants.{UnknownKey, Absent, WrongKind, WrongItem, Number, ItemNumber, Lead, BodyCode, TooManyRows, BodyAndRows, RowTooLong, RowCode, BadFrame}
+use Rattle.base_text.specs.declared.detail.TextFault.{TextFault}
+use Rattle.base_text.specs.declared.whole_fault.WholeFault.{WholeFault}
+use Rattle.base_text.specs.declared.whole_fault.WholeFault.TheVariants.{TooManyFrames, TooManyOutside, BodyTooLong, NextAfterZ, Duplicate, OutsideInside}
 use Rattle.fault_scripts.specs.declared.fault.Fault.{Fault}
 use Rattle.fault_scripts.specs.declared.fault.FaultKind.{FaultKind}
 use Rattle.fault_scripts.specs.declared.fault.FaultKind.TheVariants as fault_kind

@@ -11,10 +11,10 @@ use crate::finding::Finding;
 use crate::lookup::Lookup;
 use crate::order::put_in_order;
 use crate::text_findings::{add_text_findings, add_whole_findings};
-use base_faults::{
-    Draft, TextFault, WholeFault, draft_of, drafts_agree, whole_faults, whole_faults_agree,
+use base_text::{
+    Draft, MOST_TEXT, TextFault, WholeFault, draft_of, drafts_are_sound, whole_faults,
+    whole_faults_agree,
 };
-use base_text::MOST_TEXT;
 use checker::Policy;
 use frame_records::{Base, Frame};
 use page_ids::FrameId;
@@ -127,7 +127,7 @@ fn base_of(draft: Draft) -> Base
     requires { spec.IsSound draft }
     ensures { spec.IsBaseOfDraft draft result }
 {
-    drafts_agree();
+    drafts_are_sound();
     whole_faults_agree();
     let Draft {
         entry,

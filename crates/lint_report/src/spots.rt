@@ -4,8 +4,7 @@ ghost use Rattle.std.specs.Prelude.{◌≡◌, List, option_copied, option_map};
 ghost use Rattle.text_places.specs.Places.{Mark, Keeps};
 ghost use Rattle.lint_report.specs.Spots as spec;
 
-use base_faults::{Detail, TextFault, WholeFault};
-use base_text::{Field, TableKind, digit_key};
+use base_text::{Detail, Field, TableKind, TextFault, WholeFault, digit_key};
 use fault_scripts::{Fault, FaultKind};
 use frame_records::MOST_LISTED;
 use page_ids::Key;

@@ -4,7 +4,7 @@ ghost use Rattle.lint_report.specs.Lint as spec;
 
 use crate::finding::Finding;
 use crate::spots::{text_fault_at, whole_fault_at};
-use base_faults::{TextFault, WholeFault};
+use base_text::{TextFault, WholeFault};
 use lint_words::{push_text_fault, push_whole_fault};
 use std::alloc::{AllocError, Global};
 use text_places::{Places, TextLines};

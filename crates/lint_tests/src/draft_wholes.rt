@@ -1,8 +1,7 @@
 //! The faults of bases as a whole.
 
 use assertions::same;
-use base_faults::{WholeFault, draft_of, whole_faults};
-use base_text::Cause;
+use base_text::{Cause, WholeFault, draft_of, whole_faults};
 use page_ids::{FrameId, PageNo};
 use std::test::Fail;
 

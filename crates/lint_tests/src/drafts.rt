@@ -1,8 +1,7 @@
 //! The drafts of texts: what reads, and every fault.
 
 use assertions::{same, same_in};
-use base_faults::{Detail, Draft, TextFault, Word, draft_of};
-use base_text::base_read;
+use base_text::{Detail, Draft, TextFault, Word, base_read, draft_of};
 use std::alloc::{AllocError, Global};
 use std::test::Fail;
 
@@ -140,7 +139,7 @@ fn faults_of_a_frame_show_what_was_found(rt: HostRuntime) -> Result<(), Fail> {
             "Some(0) 1a UnknownKey(Routes, Word { text: \"10\" })\nSome(0) 1a UnknownKey(Routes, Word { text: \"a\" })\nSome(0) 1a WrongItem(Routes, 3, Array)\nSome(0) 1a ItemNumber(Routes, 9, -9)\n",
         ),
         ("id = '1a'", "Some(0) 1a Absent(Body)\n"),
-        ("id = '1a', body = 1, rows = 2", "Some(0) 1a BodyAndRows\n"),
+        ("id = '1a', body = 1, rows = 2", "Some(0) 1a BodyAndRows\nSome(0) 1a WrongKind(Body, Integer)\nSome(0) 1a WrongKind(Rows, Integer)\n"),
         (
             "id = '1a', body = 1",
             "Some(0) 1a WrongKind(Body, Integer)\n",

@@ -1,8 +1,7 @@
 //! The words of a text's faults.
 
 use assertions::same_in;
-use base_faults::{Detail, TextFault, ValueKind, Word};
-use base_text::{Field, TableKind};
+use base_text::{Detail, Field, TableKind, TextFault, ValueKind, Word};
 use lint_words::push_text_fault;
 use page_ids::FrameId;
 use std::alloc::Global;

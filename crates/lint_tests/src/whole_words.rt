@@ -1,7 +1,7 @@
 //! The words of a base's faults as a whole.
 
 use assertions::same_in;
-use base_faults::WholeFault;
+use base_text::WholeFault;
 use lint_words::push_whole_fault;
 use page_ids::{FrameId, PageNo};
 use std::test::Fail;

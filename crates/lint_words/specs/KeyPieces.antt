@@ -5,7 +5,7 @@ use Rattle.page_ids.specs.declared.limits.TheConstants.{MOST_PAGE}
 use Rattle.frame_records.specs.declared.limits.TheConstants.{MOST_PENCE, MOST_GROUP}
 use Rattle.base_text.specs.declared.fault.Field.{Field}
 use Rattle.base_text.specs.declared.fault.Field.TheVariants as field
-use Rattle.base_text.specs.Fields.{field_name}
+use Rattle.base_text.specs.Details.{field_name}
 use Rattle.lint_words.specs.Pieces.{grouped, frame_name}
 
 -- the key of a field in quotes

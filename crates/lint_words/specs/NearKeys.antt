@@ -6,7 +6,7 @@ use Rattle.base_text.specs.declared.fault.Field.{Field}
 use Rattle.base_text.specs.declared.fault.Field.TheVariants as field
 use Rattle.base_text.specs.declared.keys.TableKind.{TableKind}
 use Rattle.base_text.specs.declared.keys.TableKind.TheVariants as table
-use Rattle.base_text.specs.Fields.{field_name}
+use Rattle.base_text.specs.Details.{field_name}
 
 -- how many steps lead from one list of characters to the other: by the table, if both have some
 abbrev pub steps : List ℕ → List ℕ → ℕ

@@ -5,11 +5,11 @@ use Rattle.base_text.specs.declared.fault.Field.{Field}
 use Rattle.base_text.specs.declared.fault.Field.TheVariants as field
 use Rattle.base_text.specs.declared.keys.TableKind.{TableKind}
 use Rattle.base_text.specs.declared.keys.TableKind.TheVariants as table
-use Rattle.base_faults.specs.declared.detail.Detail.{Detail}
-use Rattle.base_faults.specs.declared.detail.Detail.TheVariants.{UnknownKey, Absent, WrongKind, WrongItem, Number, ItemNumber, Lead, BodyCode, TooManyRows, BodyAndRows, RowTooLong, RowCode, BadFrame}
-use Rattle.base_faults.specs.declared.detail.ValueKind.{ValueKind}
-use Rattle.base_faults.specs.declared.detail.ValueKind.TheVariants as value
-use Rattle.base_faults.specs.declared.detail.TextFault.{TextFault}
+use Rattle.base_text.specs.declared.detail.Detail.{Detail}
+use Rattle.base_text.specs.declared.detail.Detail.TheVariants.{UnknownKey, Absent, WrongKind, WrongItem, Number, ItemNumber, Lead, BodyCode, TooManyRows, BodyAndRows, RowTooLong, RowCode, BadFrame}
+use Rattle.base_text.specs.declared.detail.ValueKind.{ValueKind}
+use Rattle.base_text.specs.declared.detail.ValueKind.TheVariants as value
+use Rattle.base_text.specs.declared.detail.TextFault.{TextFault}
 use Rattle.lint_words.specs.Pieces.{grouped, quoted, char_text, frame_name}
 use Rattle.lint_words.specs.KeyPieces.{key_text, key_subject, item_text, out_of_range_text}
 use Rattle.lint_words.specs.NearKeys.{nearest, named_keys}

@@ -2,8 +2,8 @@
 use Rattle.std.specs.Prelude.{ℕ, List, ◌++◌, codes, decimal}
 use Rattle.page_ids.specs.Ids.{Id, frame_text, page_text}
 use Rattle.frame_records.specs.declared.limits.TheConstants.{MOST_LISTED, MOST_BODY}
-use Rattle.base_faults.specs.declared.whole_fault.WholeFault.{WholeFault}
-use Rattle.base_faults.specs.declared.whole_fault.WholeFault.TheVariants.{TooManyFrames, TooManyOutside, BodyTooLong, NextAfterZ, Duplicate, OutsideInside}
+use Rattle.base_text.specs.declared.whole_fault.WholeFault.{WholeFault}
+use Rattle.base_text.specs.declared.whole_fault.WholeFault.TheVariants.{TooManyFrames, TooManyOutside, BodyTooLong, NextAfterZ, Duplicate, OutsideInside}
 use Rattle.lint_words.specs.Pieces.{grouped}
 
 -- more frames, or more outside pages as listed, than a base may have

@@ -1,13 +1,12 @@
 ghost use Rattle.std.specs.Prelude.{◌≡◌, ◌++◌, OnOk, Some, None};
-ghost use Rattle.base_faults.specs.declared.detail.Detail.TheVariants.{WrongKind};
+ghost use Rattle.base_text.specs.declared.detail.Detail.TheVariants.{WrongKind};
 ghost use Rattle.lint_words.specs.KeyPieces.{key_subject, item_text};
 ghost use Rattle.lint_words.specs.TextWords.{kind_text, needed_text, kind_advice, item_needed, item_advice, code_advice, unknown_text, unknown_as, unknown_words, absent_words, no_table_words, is_element, misfit_words, wrong_kind_words, wrong_item_words, range_words, item_range_words, lead_words, body_code_words, too_many_rows_words, body_and_rows_words, long_row_words, row_code_words, bad_frame_words, detail_words, text_fault_words};
 
 use crate::near_key::nearest;
 use crate::piece::Piece::{Char, Frame, Grouped, Item, Key, OutOfRange, Quoted, Subject, Words};
 use crate::piece::push_pieces;
-use base_faults::{Detail, TextFault, ValueKind};
-use base_text::{Field, TableKind};
+use base_text::{Detail, Field, TableKind, TextFault, ValueKind};
 use page_ids::FrameId;
 use std::alloc::{AllocError, Global};
 

@@ -3,7 +3,7 @@ ghost use Rattle.lint_words.specs.WholeWords.{too_many_frames_words, too_many_ou
 
 use crate::piece::Piece::{Grouped, Id, Number, Page, Words};
 use crate::piece::push_pieces;
-use base_faults::WholeFault;
+use base_text::WholeFault;
 use frame_records::{MOST_BODY, MOST_LISTED};
 use page_ids::{FrameId, PageNo};
 use std::alloc::AllocError;

@@ -1,6 +1,6 @@
 use Rattle.std.proofs.Common.{◌≡◌, [], length, Err, sym, subst}
 use Rattle.frame_records.specs.Bases.{IsBuilt}
-use Rattle.base_faults.specs.Drafts.{DraftView}
+use Rattle.base_text.specs.Drafts.{DraftView}
 use Rattle.lint_report.specs.Lint.{IsSound}
 use Rattle.lint_report.proofs.judging.base_of.Goals as goal
 

@@ -1,5 +1,5 @@
 use Rattle.std.proofs.Common.{◌≡◌, ◌∙◌, ap, subst}
-use Rattle.base_faults.specs.Drafts.{DraftView}
+use Rattle.base_text.specs.Drafts.{DraftView}
 use Rattle.lint_report.specs.Lint.{tables_of, IsAudited}
 use Rattle.lint_report.proofs.Judged.{weaken}
 use Rattle.lint_report.proofs.judging.sound.Goals as goal
