@@ -1,0 +1,4 @@
+mod Steps
+mod SameFields
+mod SameBodies
+mod SameTables
