@@ -1,4 +1,0 @@
-mod Steps
-mod SameFields
-mod SameBodies
-mod SameTables

@@ -1,4 +1,0 @@
-pub mod Rows
-pub mod Fields
-pub mod Frames
-pub mod Whole
