@@ -4,7 +4,7 @@ use Rattle.page_ids.specs.Ids.{page_text}
 use Rattle.base_text.specs.declared.fault.BaseFault.{BaseFault}
 use Rattle.base_text.specs.declared.fault.Cause.{Cause}
 use Rattle.base_text.specs.declared.fault.Cause.TheVariants as cause
-use Rattle.base_text.specs.Details.{field_name}
+use Rattle.base_text.specs.Fields.{field_name}
 use Rattle.cert_text.specs.declared.fault.LineCause.{LineCause}
 use Rattle.cert_text.specs.declared.fault.LineCause.TheVariants as line_cause
 use Rattle.cert_text.specs.declared.fault.ReadFault.{ReadFault}

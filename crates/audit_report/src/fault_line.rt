@@ -1,5 +1,5 @@
 ghost use Rattle.std.specs.Prelude.{◌≡◌, ◌++◌, IfOk, OnOk, decimal};
-ghost use Rattle.base_text.specs.Details.{field_name};
+ghost use Rattle.base_text.specs.Fields.{field_name};
 ghost use Rattle.audit_report.specs.FaultLines.{base_cause_text, base_place_text, base_fault_text, line_cause_text, cert_fault_text, fault_words, fault_text};
 
 use crate::push::{push_id, push_page, push_words_number};

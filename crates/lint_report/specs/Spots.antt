@@ -3,9 +3,9 @@ use Rattle.std.specs.Prelude.{ℕ, ◌==◌, nat_lt, not, Bool, if◌then◌else
 use Rattle.page_ids.specs.declared.key.Key.{Key}
 use Rattle.page_ids.specs.declared.key.Key.TheVariants as key
 use Rattle.frame_records.specs.declared.limits.TheConstants.{MOST_LISTED}
-use Rattle.base_text.specs.declared.fault.Field.TheVariants as field
+use Rattle.base_text.specs.declared.keys.Field.TheVariants as field
 use Rattle.base_text.specs.declared.keys.TableKind.TheVariants as kind
-use Rattle.base_text.specs.Details.{field_name}
+use Rattle.base_text.specs.Fields.{field_name}
 use Rattle.base_text.specs.Fields.{digit_key}
 use Rattle.base_text.specs.declared.detail.Detail.{Detail}
 use Rattle.base_text.specs.declared.detail.Detail.TheVariants.{UnknownKey, Absent, WrongKind, WrongItem, Number, ItemNumber, Lead, BodyCode, TooManyRows, BodyAndRows, RowTooLong, RowCode, BadFrame}

@@ -3,9 +3,9 @@ use Rattle.std.specs.Prelude.{ℕ, ℤ, pos, negsuc, suc, nat_lt, if◌then◌el
 use Rattle.page_ids.specs.Ids.{Id}
 use Rattle.page_ids.specs.declared.limits.TheConstants.{MOST_PAGE}
 use Rattle.frame_records.specs.declared.limits.TheConstants.{MOST_PENCE, MOST_GROUP}
-use Rattle.base_text.specs.declared.fault.Field.{Field}
-use Rattle.base_text.specs.declared.fault.Field.TheVariants as field
-use Rattle.base_text.specs.Details.{field_name}
+use Rattle.base_text.specs.declared.keys.Field.{Field}
+use Rattle.base_text.specs.declared.keys.Field.TheVariants as field
+use Rattle.base_text.specs.Fields.{field_name}
 use Rattle.lint_words.specs.Pieces.{grouped, frame_name}
 
 -- the key of a field in quotes

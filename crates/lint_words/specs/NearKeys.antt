@@ -2,11 +2,11 @@
 use Rattle.std.specs.Prelude.{ℕ, ◌&&◌, Bool, nat_eq, nat_lt, nat_le, if◌then◌else◌, List, [], ◌∷◌, length, Option, Some, None}
 use Rattle.std.specs.Str.{bytes_eq, chars}
 use Rattle.strsim.specs.Edits.{damerau}
-use Rattle.base_text.specs.declared.fault.Field.{Field}
-use Rattle.base_text.specs.declared.fault.Field.TheVariants as field
+use Rattle.base_text.specs.declared.keys.Field.{Field}
+use Rattle.base_text.specs.declared.keys.Field.TheVariants as field
 use Rattle.base_text.specs.declared.keys.TableKind.{TableKind}
 use Rattle.base_text.specs.declared.keys.TableKind.TheVariants as table
-use Rattle.base_text.specs.Details.{field_name}
+use Rattle.base_text.specs.Fields.{field_name}
 
 -- how many steps lead from one list of characters to the other: by the table, if both have some
 abbrev pub steps : List ℕ → List ℕ → ℕ

@@ -1,8 +1,8 @@
 -- The words of a fault of a base's text.
 use Rattle.std.specs.Prelude.{ℕ, ℤ, Bool, true, false, ◌||◌, ◌==◌, if◌then◌else◌, List, [], ◌++◌, codes, Option, Some, None}
 use Rattle.page_ids.specs.Ids.{Id}
-use Rattle.base_text.specs.declared.fault.Field.{Field}
-use Rattle.base_text.specs.declared.fault.Field.TheVariants as field
+use Rattle.base_text.specs.declared.keys.Field.{Field}
+use Rattle.base_text.specs.declared.keys.Field.TheVariants as field
 use Rattle.base_text.specs.declared.keys.TableKind.{TableKind}
 use Rattle.base_text.specs.declared.keys.TableKind.TheVariants as table
 use Rattle.base_text.specs.declared.detail.Detail.{Detail}

@@ -1,5 +1,5 @@
 ghost use Rattle.std.specs.Prelude.{◌≡◌, ◌++◌, OnOk, None};
-ghost use Rattle.base_text.specs.declared.fault.Field.TheVariants as field;
+ghost use Rattle.base_text.specs.declared.keys.Field.TheVariants as field;
 ghost use Rattle.lint_words.specs.KeyPieces.{key_text, key_subject, integer_text, least_of, most_of, least_text, most_text, limit_text, item_text, out_of_range_text};
 
 use crate::pieces::{push_between, push_decimal, push_frame, push_grouped};

@@ -1,6 +1,6 @@
 ghost use Rattle.std.specs.Prelude.{◌≡◌, IfOk};
 ghost use Rattle.lint_words.specs.NearKeys.{distance, is_near, is_no_further, nearer, nearest, named_keys};
-ghost use Rattle.base_text.specs.Details.{field_name};
+ghost use Rattle.base_text.specs.Fields.{field_name};
 
 use base_text::{Field, TableKind};
 use std::alloc::{AllocError, Global};
