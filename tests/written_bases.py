@@ -518,30 +518,36 @@ class FaultyText(Written):
 
     def spoil_text(self, frame):
         fields, share = frame.fields, self.random.random()
-        if share < 0.1:
-            fields["rows"], fields["body"] = [], ""
-            frame.fault("text", 'X7 BodyAndRows: {F} has both "body" and "rows", leave out one', "rows")
-            return
         fields.pop("rows", None)
         fields.pop("body", None)
-        if share < 0.2:
+        if share < 0.1:
             frame.fault("text", 'X4 Absent: {F} has no "body" and no "rows"')
-        elif share < 0.3:
-            fields["body"], words = self.wrong_kind('"body" of {F}', "a string", ["a string"])
-            frame.fault("text", words, "body")
-        elif share < 0.45:
-            before = self.pick([0, 1, 11, 999, 1_500])
-            code, shown, advice = self.pick(FAR_CODES)
-            fields["body"] = "\xa3\t" * (before // 2) + "A" * (before % 2) + code + self.pick(["", "\u2019", "B"])
-            where = f'character {before + 1:,} of "body" of {{F}}'
-            frame.fault("text", f"X6 Range: {where} is {shown}, at most U+00FF is allowed{advice}", "body")
-        elif share < 0.55:
-            fields["rows"], words = self.wrong_kind('"rows" of {F}', "a list of strings", ["a list"])
-            frame.fault("text", words, "rows")
+        elif share < 0.25:
+            frame.fault("text", 'X7 BodyAndRows: {F} has both "body" and "rows", leave out one', "rows")
+            fields["rows"], fields["body"] = [], ""
+            for spoil in self.pick([[], [self.spoil_body], [self.spoil_rows], [self.spoil_body, self.spoil_rows]]):
+                spoil(frame)
+        elif share < 0.5:
+            self.spoil_body(frame)
         else:
             self.spoil_rows(frame)
 
+    def spoil_body(self, frame):
+        if self.chance(0.4):
+            frame.fields["body"], words = self.wrong_kind('"body" of {F}', "a string", ["a string"])
+            frame.fault("text", words, "body")
+            return
+        before = self.pick([0, 1, 11, 999, 1_500])
+        code, shown, advice = self.pick(FAR_CODES)
+        frame.fields["body"] = "\xa3\t" * (before // 2) + "A" * (before % 2) + code + self.pick(["", "\u2019", "B"])
+        where = f'character {before + 1:,} of "body" of {{F}}'
+        frame.fault("text", f"X6 Range: {where} is {shown}, at most U+00FF is allowed{advice}", "body")
+
     def spoil_rows(self, frame):
+        if self.chance(0.2):
+            frame.fields["rows"], words = self.wrong_kind('"rows" of {F}', "a list of strings", ["a list"])
+            frame.fault("text", words, "rows")
+            return
         rows = frame.fields["rows"] = []
         many = self.pick([1, 2, 5, 22, 23, 30])
         if many > 22:
