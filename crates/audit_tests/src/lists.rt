@@ -6,7 +6,7 @@ use assertions::same_in;
 use audit_report::report;
 use cert_text::cert_read;
 use demo_texts::{CERT, DEMO};
-use fault_scripts::{Outcome, faults};
+use fault_scripts::{Outcome, faults, judge_base};
 use page_ids::PageNo;
 use std::alloc::{AllocError, Global};
 use std::test::Fail;
@@ -24,6 +24,21 @@ fn the_faults_alone_are_those_of_the_audit(rt: HostRuntime) -> Result<(), Fail> 
         let outcome = Outcome::Faulty(faults(rt.alloc(), &base, &policy)?);
         let told = report(rt.alloc(), &outcome)?;
         same_in(lines, told.as_slice(), lines.as_bytes())?;
+    }
+    Ok(())
+}
+
+// The frames that are reached go with the faults: of the three of the demo, or of none.
+#[test]
+fn a_base_is_judged_with_the_frames_that_are_reached(rt: HostRuntime) -> Result<(), Fail> {
+    let policy = policy(50, 3)?;
+    for (text, faults, reached) in [(DEMO, 0, 3), ("entry = 0\n", 1, 0)] {
+        let judgement = judge_base(rt.alloc(), &base_of(rt.alloc(), text)?, &policy)?;
+        let counts = (
+            judgement.faults.as_slice().len(),
+            judgement.found.as_slice().len(),
+        );
+        same_in(text, counts, (faults, reached))?;
     }
     Ok(())
 }

@@ -43,10 +43,14 @@ pub record IsCertificateOf (base : BaseView) (policy : Policy) (cert : CertView)
   pub keyings : IsGreatestRank cert.rows cert.keyings
   pub cleared : verdict base policy cert ≡ Cleared
 
--- a certificate exactly if there is no fault, else all faults
+-- all faults of a base that has some
+abbrev pub AreAllFaults : BaseView → Policy → List Fault → Type 0
+AreAllFaults base policy faults = AreFaults base policy faults × (faults ≢ [])
+
+-- a certificate if and only if there is no fault, else all faults
 abbrev pub IsOutcome : BaseView → Policy → Outcome → Type 0
 IsOutcome base policy (Certified cert) = AreFaults base policy [] × IsCertificateOf base policy cert
-IsOutcome base policy (Faulty faults) = AreFaults base policy faults × (faults ≢ [])
+IsOutcome base policy (Faulty faults) = AreAllFaults base policy faults
 
 -- Certified says that the base is safe within the policy, and Faulty that it isn't
 abbrev pub DecidesSafety : BaseView → Policy → Outcome → Type 0

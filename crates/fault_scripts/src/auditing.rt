@@ -1,14 +1,13 @@
-ghost use Rattle.std.specs.Prelude.{◌≡◌, ◌∷◌, [], IfOk};
+ghost use Rattle.std.specs.Prelude.{◌≡◌, IfOk, MatchOption};
 ghost use Rattle.frame_records.specs.Bases.{IsBase};
-ghost use Rattle.frame_records.specs.Seek.{entry_of};
-ghost use Rattle.finder.specs.Finds.{EntryIsFound};
-ghost use Rattle.fault_scripts.specs.Faults.{plain_fault, AreFaults};
+ghost use Rattle.finder.specs.Finds.{EntryIsFound, IsFinding};
+ghost use Rattle.fault_scripts.specs.Faults.{AreFaults};
 ghost use Rattle.fault_scripts.specs.Loops.{IsWhole, IsTableInOrder, IsSortedTable};
-ghost use Rattle.fault_scripts.specs.Outcomes.{IsOutcome, DecidesSafety, AreShown};
+ghost use Rattle.fault_scripts.specs.Outcomes.{AreAllFaults, IsOutcome, DecidesSafety, AreShown};
 
 use crate::fault::{Fault, FaultKind, FaultList};
 use crate::frames::{Judge, judge_all};
-use crate::outcome::Outcome;
+use crate::outcome::{Judgement, Outcome};
 use crate::table::GatheredRows;
 use cert_table::Certificate;
 use checker::Policy;
@@ -16,22 +15,34 @@ use finder::Survey;
 use frame_records::{Base, Groups, Sought};
 use std::alloc::{AllocError, Global};
 
-// The one fault of a base whose entry frame isn't found.
-fn entry_fault(alloc: Global, base: &Base, kind: FaultKind) -> Result<FaultList, AllocError>
-    ensures { IfOk result (λ list. list ≡ plain_fault kind (entry_of base.now) [] ∷ []) }
+// The one fault of a base whose entry frame isn't found; `None` if it is found.
+fn entry_fault(
+    alloc: Global,
+    base: &Base,
+    policy: &Policy,
+) -> Result<Option<FaultList>, AllocError>
+    ensures fault { IfOk result (λ list. MatchOption list (EntryIsFound policy.now.groups base.now) (AreAllFaults base.now policy.now)) }
+    ensures valid { IsBase base.now }
 {
+    let entry = base.entry_frame();
+    let kind = match base.seek(entry, &policy.groups) {
+        Sought::Missing => FaultKind::EntryMissing,
+        Sought::Closed => FaultKind::EntryClosed,
+        Sought::Found(_) => return Ok(None),
+    };
     let mut faults = Vec::new(alloc);
-    faults.push(Fault::plain(alloc, kind, base.entry_frame(), &[])?)?;
-    Ok(FaultList::of(faults))
+    faults.push(Fault::plain(alloc, kind, entry, &[])?)?;
+    Ok(Some(FaultList::of(faults)))
 }
 
 // All discovered frames, judged.
-fn judged(alloc: Global, base: &Base, policy: &Policy) -> Result<Judge, AllocError>
-    requires { IsBase base.now }
-    ensures { IfOk result (IsWhole base.now policy.now) }
+fn judged(alloc: Global, survey: &Survey, policy: &Policy) -> Result<Judge, AllocError>
+    requires valid { IsBase survey.now.base }
+    requires groups { survey.now.groups ≡ policy.now.groups }
+    requires finding { IsFinding policy.now.groups survey.now.base survey.now.found }
+    ensures { IfOk result (IsWhole survey.now.base policy.now) }
 {
-    let survey = Survey::of(alloc, base, &policy.groups)?;
-    let judge = judge_all(alloc, &survey, policy)?;
+    let judge = judge_all(alloc, survey, policy)?;
     Ok(judge)
 }
 
@@ -60,7 +71,8 @@ fn audit_found(alloc: Global, base: &Base, policy: &Policy) -> Result<Outcome, A
     requires found { EntryIsFound policy.now.groups base.now }
     ensures { IfOk result (IsOutcome base.now policy.now) }
 {
-    let judge = judged(alloc, base, policy)?;
+    let survey = Survey::of(alloc, base, &policy.groups)?;
+    let judge = judged(alloc, &survey, policy)?;
     if judge.teller.faults.as_slice().is_empty() {
         Ok(Outcome::Certified(certificate_of(base, &policy.groups, judge.table)))
     } else {
@@ -73,28 +85,42 @@ fn outcome_of(alloc: Global, base: &Base, policy: &Policy) -> Result<Outcome, Al
     ensures is { IfOk result (IsOutcome base.now policy.now) }
     ensures valid { IsBase base.now }
 {
-    match base.seek(base.entry_frame(), &policy.groups) {
-        Sought::Missing => Ok(Outcome::Faulty(entry_fault(alloc, base, FaultKind::EntryMissing)?)),
-        Sought::Closed => Ok(Outcome::Faulty(entry_fault(alloc, base, FaultKind::EntryClosed)?)),
-        Sought::Found(_) => audit_found(alloc, base, policy),
+    match entry_fault(alloc, base, policy)? {
+        Some(faults) => Ok(Outcome::Faulty(faults)),
+        None => audit_found(alloc, base, policy),
     }
 }
 
-/// Every fault of a base, for a caller of exactly the policy's groups: in the order of the discovery of the frames, and of
-/// one frame Price, Touches, Missing and Closed by key (`0` to `9`, `#`), NoReturn. If the entry frame is missing or
-/// closed that is the one fault.
+/// Every fault of a base, for a caller who is in the policy's groups and no others, and the frames that this caller can
+/// reach, each looked for once.
+///
+/// The faults are in the order of the discovery of their frames, and within a frame Price, Touches, Missing and Closed by key
+/// (`0` to `9`, `#`), NoReturn. If the entry frame is missing or closed, that is the one fault, and no frame is reached.
+pub fn judge_base(alloc: Global, base: &Base, policy: &Policy) -> Result<Judgement, AllocError>
+    ensures faults { IfOk result (λ j. AreFaults base.now policy.now j.faults) }
+    ensures found { IfOk result (λ j. IsFinding policy.now.groups base.now j.found) }
+{
+    let survey = Survey::of(alloc, base, &policy.groups)?;
+    let faults = match entry_fault(alloc, base, policy)? {
+        Some(faults) => faults,
+        None => FaultList::of(judged(alloc, &survey, policy)?.teller.faults),
+    };
+    Ok(Judgement {
+        faults,
+        found: survey.into_found(),
+    })
+}
+
+/// The faults alone.
 pub fn faults(alloc: Global, base: &Base, policy: &Policy) -> Result<FaultList, AllocError>
     ensures { IfOk result (AreFaults base.now policy.now) }
 {
-    match outcome_of(alloc, base, policy) {
-        Ok(Outcome::Certified(_)) => Ok(FaultList::of(Vec::new(alloc))),
-        Ok(Outcome::Faulty(faults)) => Ok(faults),
-        Err(error) => Err(error),
-    }
+    let Judgement { faults, .. } = judge_base(alloc, base, policy)?;
+    Ok(faults)
 }
 
-/// Audits a base for a caller of exactly the policy's groups: a certificate exactly if every session is safe within the
-/// policy, else every fault.
+/// Audits a base for a caller of exactly the policy's groups: a certificate if and only if every session is
+/// safe within the policy, else every fault.
 ///
 /// The certificate covers exactly the frames that can be reached, with least ranks, the greatest price of a covered frame as
 /// its ceiling, the greatest rank as its keyings, and the policy's groups; `check` clears it. Each frame is painted once.

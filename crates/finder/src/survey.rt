@@ -92,8 +92,8 @@ impl<'a> Survey<'a> {
         Survey::of_graph(alloc, Graph { table, entry })
     }
 
-    // The list alone.
-    fn into_found(self) -> Found
+    /// The list alone.
+    pub fn into_found(self) -> Found
         ensures { result ≡ self.entry.found }
     {
         self.found

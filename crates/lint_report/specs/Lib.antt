@@ -2,3 +2,4 @@ pub mod Lookups
 pub mod Spots
 pub mod Lint
 pub mod Findings
+pub mod Laws

@@ -1,8 +1,9 @@
 -- Every finding of a text.
-use Rattle.std.specs.Prelude.{◌≡◌, ℕ, Bool, true, false, ◌&&◌, if◌then◌else◌, List, [], ◌∷◌, ◌++◌, map, Option, Some, None, unwrap_or, is_none, option_and_then, codes, nat_lt, length, zip}
+use Rattle.std.specs.Prelude.{◌≡◌, ℕ, Bool, true, false, ◌&&◌, if◌then◌else◌, List, [], ◌∷◌, ◌++◌, map, Option, Some, None, unwrap_or, is_none, option_and_then, codes, nat_lt, length, zip, filter}
 use Rattle.page_ids.specs.Ids.{Id}
 use Rattle.frame_records.specs.declared.frame.Frame.{Frame}
-use Rattle.frame_records.specs.Bases.{BaseView, frame_at, IsBaseOf}
+use Rattle.frame_records.specs.declared.build.BuildFault.{BuildFault}
+use Rattle.frame_records.specs.Bases.{BaseView, frame_at, IsBaseOf, IsBuildFault}
 use Rattle.frame_records.specs.Seek.{is_open}
 use Rattle.checker.specs.declared.policy.Policy.{Policy}
 use Rattle.finder.specs.declared.found.Discovered.{Discovered}
@@ -24,16 +25,15 @@ use Rattle.text_places.specs.Skips.{place_at}
 use Rattle.lint_words.specs.TextWords.{text_fault_words}
 use Rattle.lint_words.specs.WholeWords.{whole_fault_words}
 use Rattle.toml.specs.Data.{Members}
-use Rattle.toml.specs.Parse.{parse_document}
 use Rattle.base_text.specs.declared.limits.TheConstants.{MOST_TEXT}
-use Rattle.base_text.specs.Whole.{tree_of}
+use Rattle.base_text.specs.Whole.{tree_of, IsTextBase}
 use Rattle.base_text.specs.Drafts.{DraftView, draft_of}
 use Rattle.base_text.specs.WholeFaults.{AreWholeFaults}
 use Rattle.toml_hints.specs.Rules.{hint_text}
 
 -- The findings of an audit: its faults, and the frames that no key reaches.
 
--- of each frame that is reached the fewest keys back to the entry frame
+-- the fewest keys from each frame that is reached back to the entry frame
 abbrev pub ranks_of : List Discovered → List (Id × Option ℕ)
 ranks_of found = map (λ d. (d.id, d.rank)) found
 
@@ -41,17 +41,16 @@ ranks_of found = map (λ d. (d.id, d.rank)) found
 abbrev pub is_unreached : List ℕ → List (Id × Option ℕ) → Frame → Bool
 is_unreached groups ranks f = is_open groups f && is_none (value_of ranks f.id)
 
-abbrev pub unreached_id : List ℕ → List (Id × Option ℕ) → Frame → List Id
-unreached_id groups ranks f = if is_unreached groups ranks f then f.id ∷ [] else []
+abbrev pub unreached : List ℕ → List (Id × Option ℕ) → List Frame → List Frame
+unreached groups ranks frames = filter (is_unreached groups ranks) frames
 
-abbrev pub unreached : List ℕ → List (Id × Option ℕ) → List Frame → List Id
-unreached groups ranks [] = []
-unreached groups ranks (f ∷ fs) = unreached_id groups ranks f ++ unreached groups ranks fs
-
--- the frames that a warning is about, if the entry frame is found
-abbrev pub warned : List ℕ → List Discovered → List Frame → List Id
+-- the frames that a warning is about; none if the entry frame isn't found
+abbrev pub warned : List ℕ → List Discovered → List Frame → List Frame
 warned groups [] frames = []
 warned groups (d ∷ ds) frames = unreached groups (ranks_of (d ∷ ds)) frames
+
+abbrev pub ids_of : List Frame → List Id
+ids_of frames = map (λ f. f.id) frames
 
 -- the faults of a base, and what is reached of it
 pub record IsAudit (base : BaseView) (policy : Policy) (audit : Audit) : Type 0 where
@@ -60,7 +59,7 @@ pub record IsAudit (base : BaseView) (policy : Policy) (audit : Audit) : Type 0 
   pub reached : FindsReached policy.groups base found
   pub least : RanksAreLeast policy.groups base found
   pub known : Knows (ranks_of found) audit.ranks
-  pub unreached : audit.unreached.items ≡ warned policy.groups found base.frames
+  pub unreached : audit.unreached.items ≡ ids_of (warned policy.groups found base.frames)
 
 abbrev pub is_clear : List Fault → List Id → Bool
 is_clear [] [] = true
@@ -105,14 +104,14 @@ pub record AreAuditFindings (ms : List Mark) (tables : List (Id × ℕ)) (base :
   pub are_faults : AreFaults base policy faults
   pub reached : FindsReached policy.groups base found
   pub least : RanksAreLeast policy.groups base found
-  pub all : findings ≡ map (fault_finding ms tables base policy (ranks_of found)) faults ++ map (warning ms tables) (warned policy.groups found base.frames)
+  pub all : findings ≡ map (fault_finding ms tables base policy (ranks_of found)) faults ++ map (warning ms tables) (ids_of (warned policy.groups found base.frames))
 
 -- The findings of the faults of a base's text.
 
 abbrev pub text_finding : List Mark → TextFault → FindingView
 text_finding ms fault = error_at (text_fault_place ms fault) (text_fault_words fault)
 
--- the line of the first frame of an id, of whose further frames the fault is one
+-- the line of the first frame with the id, if the fault is a further frame with it
 abbrev pub first_line : List ℕ → List Mark → WholeFault → ℕ
 first_line text ms (Duplicate table first id) = (place_at text (key_place ms (Some first) (codes "id"))).0
 first_line text ms _ = 0
@@ -120,74 +119,85 @@ first_line text ms _ = 0
 abbrev pub whole_finding : List ℕ → List Mark → WholeFault → FindingView
 whole_finding text ms fault = error_at (whole_fault_place ms fault) (whole_fault_words fault (first_line text ms fault))
 
+-- What a finding of a text is about, if it isn't one of the audit.
+
+-- the text's length; toml's message and its place, which are taken as given; a fault of the text; one of its base as a whole
+pub data Subject : Type 0 where
+  Length : Subject
+  Toml : (at : ℕ) (message : List ℕ) → Subject
+  Text : (fault : TextFault) → Subject
+  Whole : (fault : WholeFault) → Subject
+
+abbrev pub finding_of : List ℕ → Subject → FindingView
+finding_of text Length = error_at 0 (codes "X1 TooLong: the text has more than 16,777,216 bytes")
+finding_of text (Toml at message) = error_at at (codes "X2 NotToml: " ++ message ++ hint_text text at message)
+finding_of text (Text fault) = text_finding (marks text) fault
+finding_of text (Whole fault) = whole_finding text (marks text) fault
+
+-- the faults of a text and of its base as a whole, in the order of judging
+abbrev pub faulty : List TextFault → List WholeFault → List Subject
+faulty faults whole = map Text faults ++ map Whole whole
+
+abbrev pub AreDraftSubjects : DraftView → List Subject → Type 0
+AreDraftSubjects draft subjects =
+    (whole : List WholeFault) × AreWholeFaults draft.outside draft.frames draft.tables whole × (subjects ≡ faulty draft.faults whole)
+
+-- a text that isn't TOML has nothing else
+abbrev pub AreTreeSubjects : Option Members → List Subject → Type 0
+AreTreeSubjects None subjects = (at : ℕ) × (message : List ℕ) × (subjects ≡ Toml at message ∷ [])
+AreTreeSubjects (Some ms) subjects = AreDraftSubjects (draft_of ms) subjects
+
+-- nor has one that is too long, which isn't read
+abbrev pub AreSubjectsIf : Bool → List ℕ → List Subject → Type 0
+AreSubjectsIf true text subjects = subjects ≡ Length ∷ []
+AreSubjectsIf false text subjects = AreTreeSubjects (tree_of text) subjects
+
+-- all that is wrong with a text before its base is audited, in the order of judging
+abbrev pub AreSubjects : List ℕ → List Subject → Type 0
+AreSubjects text subjects = AreSubjectsIf (nat_lt MOST_TEXT (length text)) text subjects
+
 -- What lint finds in a text.
 
-abbrev pub one : ℕ → List ℕ → List FindingView
-one at words = error_at at words ∷ []
-
-abbrev pub too_long : List FindingView
-too_long = one 0 (codes "X1 TooLong: the text has more than 16,777,216 bytes")
-
--- toml's message and its place are taken as given
-abbrev pub not_toml : List ℕ → ℕ → List ℕ → List FindingView
-not_toml text at message = one at (codes "X2 NotToml: " ++ message ++ hint_text text at message)
-
-abbrev pub IsNotToml : List ℕ → List FindingView → Type 0
-IsNotToml text findings = (at : ℕ) × (message : List ℕ) × (findings ≡ not_toml text at message)
-
--- the findings of the faults of a text and of its base as a whole, in the order of judging
-abbrev pub faulty : List ℕ → List TextFault → List WholeFault → List FindingView
-faulty text faults whole = map (text_finding (marks text)) faults ++ map (whole_finding text (marks text)) whole
-
--- the frames of a text by their ids, each with the index of its table
+-- the frames of a draft by their ids, each with the index of its table
 abbrev pub tables_of : List Frame → List ℕ → List (Id × ℕ)
 tables_of frames tables = map (λ p. (p.0.id, p.1)) (zip frames tables)
 
-abbrev pub IsBaseOfDraft : DraftView → BaseView → Type 0
-IsBaseOfDraft draft base = (entry : ℕ) × (draft.entry ≡ Some entry) × IsBaseOf entry draft.outside draft.frames base
+abbrev pub tree_tables : Option Members → List (Id × ℕ)
+tree_tables None = []
+tree_tables (Some ms) = tables_of (draft_of ms).frames (draft_of ms).tables
 
--- the findings of the audit of a text's base
-abbrev pub IsAudited : List ℕ → List (Id × ℕ) → BaseView → Policy → List FindingView → Type 0
-IsAudited text tables base policy findings = AreAuditFindings (marks text) tables base policy findings
+abbrev pub text_tables : List ℕ → List (Id × ℕ)
+text_tables text = tree_tables (tree_of text)
 
--- a draft without a fault has a base, which is audited
-abbrev pub IsSoundJudged : List ℕ → Policy → DraftView → List FindingView → Type 0
-IsSoundJudged text policy draft findings =
-    (base : BaseView) × IsBaseOfDraft draft base × IsAudited text (tables_of draft.frames draft.tables) base policy findings
+-- the findings of the audit of a base of the text
+abbrev pub IsAudited : List ℕ → Policy → BaseView → List FindingView → Type 0
+IsAudited text policy base findings = AreAuditFindings (marks text) (text_tables text) base policy findings
 
--- of any other each fault is a finding
-abbrev pub IsJudgedBy : List ℕ → Policy → DraftView → List TextFault → List WholeFault → List FindingView → Type 0
-IsJudgedBy text policy draft [] [] findings = IsSoundJudged text policy draft findings
-IsJudgedBy text policy draft faults whole findings = findings ≡ faulty text faults whole
-
-abbrev pub IsDraftJudged : List ℕ → Policy → DraftView → List FindingView → Type 0
-IsDraftJudged text policy draft findings =
-    (whole : List WholeFault) × AreWholeFaults draft.outside draft.frames draft.tables whole × IsJudgedBy text policy draft draft.faults whole findings
-
--- a text that is TOML has a draft
-abbrev pub IsTreeJudged : List ℕ → Policy → Option Members → List FindingView → Type 0
-IsTreeJudged text policy None findings = IsNotToml text findings
-IsTreeJudged text policy (Some ms) findings = IsDraftJudged text policy (draft_of ms) findings
-
--- a text that is too long isn't read
-abbrev pub IsJudgedIf : Bool → List ℕ → Policy → List FindingView → Type 0
-IsJudgedIf true text policy findings = findings ≡ too_long
-IsJudgedIf false text policy findings = IsTreeJudged text policy (tree_of text) findings
+-- if nothing is wrong with the text, its base is audited
+abbrev pub IsJudgedBy : List Subject → List ℕ → Policy → List FindingView → Type 0
+IsJudgedBy [] text policy findings = (base : BaseView) × IsTextBase text base × IsAudited text policy base findings
+IsJudgedBy (s ∷ ss) text policy findings = findings ≡ map (finding_of text) (s ∷ ss)
 
 abbrev pub IsJudged : List ℕ → Policy → List FindingView → Type 0
-IsJudged text policy findings = IsJudgedIf (nat_lt MOST_TEXT (length text)) text policy findings
-
--- the draft of the text's TOML
-abbrev pub IsDraftOf : List ℕ → DraftView → Type 0
-IsDraftOf text draft = (ms : Members) × (parse_document text ≡ Some ms) × (draft ≡ draft_of ms)
-
--- no fault, neither of the text nor of its base as a whole
-pub record IsSound (draft : DraftView) : Type 0 where
-  pub tree : Members
-  pub is : draft ≡ draft_of tree
-  pub text : draft.faults ≡ []
-  pub whole : AreWholeFaults draft.outside draft.frames draft.tables []
+IsJudged text policy findings = (subjects : List Subject) × AreSubjects text subjects × IsJudgedBy subjects text policy findings
 
 -- the findings in the order of their places
 abbrev pub IsLint : List ℕ → Policy → List FindingView → Type 0
 IsLint text policy findings = (judged : List FindingView) × IsJudged text policy judged × AreInOrder judged findings
+
+-- What the steps of lint say.
+
+abbrev pub IsNotToml : List ℕ → List FindingView → Type 0
+IsNotToml text findings = (at : ℕ) × (message : List ℕ) × (findings ≡ map (finding_of text) (Toml at message ∷ []))
+
+-- the base of what a draft without a fault lists
+abbrev pub IsListed : List TextFault → Option ℕ → List ℕ → List Frame → BaseView → Type 0
+IsListed faults entry outside frames base = (faults ≡ []) × (e : ℕ) × (entry ≡ Some e) × IsBaseOf e outside frames base
+
+-- if a draft has no fault, what it lists is refused as a whole
+abbrev pub IsRefused : List TextFault → Option ℕ → List ℕ → List Frame → Type 0
+IsRefused faults entry outside frames = faults ≡ [] → (e : ℕ) → entry ≡ Some e → (fault : BuildFault) × IsBuildFault outside frames fault
+
+-- the draft of the TOML of a text that isn't too long
+abbrev pub IsDraftOf : List ℕ → DraftView → Type 0
+IsDraftOf text draft = (ms : Members) × (nat_lt MOST_TEXT (length text) ≡ false) × (tree_of text ≡ Some ms) × (draft ≡ draft_of ms)

@@ -8,15 +8,15 @@ use crate::finding::Finding;
 use crate::lookup::Lookup;
 use crate::spots::{audit_fault_at, has_rows};
 use checker::Policy;
-use fault_scripts::{Fault, FaultList, faults};
-use finder::{Discovered, find};
+use fault_scripts::{Fault, FaultList, Judgement, judge_base};
+use finder::Discovered;
 use frame_records::{Base, Frame, GroupNo, Groups};
 use lint_words::{Judged, push_fault, push_unreached};
 use page_ids::FrameId;
 use std::alloc::{AllocError, Global};
 use text_places::Places;
 
-// Of each frame that is reached the fewest keys back to the entry frame.
+// The fewest keys from each frame that is reached back to the entry frame.
 pub type Ranks = Lookup<Option<u16>>;
 
 // An audit of a base: its faults, and the frames that no key reaches.
@@ -42,20 +42,6 @@ fn is_unreached(ranks: &Ranks, groups: &Groups, frame: &Frame) -> bool
     frame.is_open(groups) && ranks.get(frame.id).is_none()
 }
 
-fn add_if_unreached(
-    ranks: &Ranks,
-    groups: &Groups,
-    frame: &Frame,
-    ids: &mut Vec<FrameId>,
-) -> Result<(), AllocError>
-    ensures { OnOk result ((known : List (Id × Option ℕ)) → Knows known ranks.now → ids.new.items ≡ ids.old.items ++ spec.unreached_id groups.now known frame.now) }
-{
-    if is_unreached(ranks, groups, frame) {
-        ids.push(frame.id)?;
-    }
-    Ok(())
-}
-
 // The frames that are open to a caller of the groups and that no key reaches.
 fn unreached(
     alloc: Global,
@@ -63,11 +49,13 @@ fn unreached(
     groups: &Groups,
     frames: &[Frame],
 ) -> Result<Vec<FrameId>, AllocError>
-    ensures { IfOk result (λ ids. (known : List (Id × Option ℕ)) → Knows known ranks.now → ids.items ≡ spec.unreached groups.now known frames.now) }
+    ensures { IfOk result (λ ids. (known : List (Id × Option ℕ)) → Knows known ranks.now → ids.items ≡ spec.ids_of (spec.unreached groups.now known frames.now)) }
 {
     let mut ids = Vec::new(alloc);
     for frame in frames {
-        add_if_unreached(ranks, groups, frame, &mut ids)?;
+        if is_unreached(ranks, groups, frame) {
+            ids.push(frame.id)?;
+        }
     }
     Ok(ids)
 }
@@ -81,7 +69,7 @@ fn warned(
     ranks: &Ranks,
 ) -> Result<Vec<FrameId>, AllocError>
     requires { Knows (spec.ranks_of found.now) ranks.now }
-    ensures { IfOk result (λ ids. ids.items ≡ spec.warned groups.now found.now base.now.frames) }
+    ensures { IfOk result (λ ids. ids.items ≡ spec.ids_of (spec.warned groups.now found.now base.now.frames)) }
 {
     match found {
         [] => Ok(Vec::new(alloc)),
@@ -93,8 +81,7 @@ impl Audit {
     pub fn of(alloc: Global, base: &Base, policy: &Policy) -> Result<Audit, AllocError>
         ensures { IfOk result (spec.IsAudit base.now policy.now) }
     {
-        let faults = faults(alloc, base, policy)?;
-        let found = find(alloc, base, &policy.groups)?;
+        let Judgement { faults, found } = judge_base(alloc, base, policy)?;
         let ranks = Lookup::of(alloc, ranks_of(alloc, found.as_slice())?.as_slice())?;
         let unreached = warned(alloc, base, &policy.groups, found.as_slice(), &ranks)?;
         Ok(Audit {
@@ -112,11 +99,11 @@ impl Audit {
     }
 }
 
-// What the words of an audit's findings say, and where they are.
+// What the words and places of an audit's findings are made of.
 #[derive(Drop)]
 pub struct Sources<'a> {
     pub places: &'a Places,
-    // Of each frame the index of its table.
+    // The index of each frame's table.
     pub tables: Lookup<usize>,
     pub base: &'a Base,
     pub policy: &'a Policy,

@@ -1,13 +1,17 @@
-ghost use Rattle.std.specs.Prelude.{◌≡◌, ℕ, List, IfOk, OnOk, OnErr, Some, None};
+ghost use Rattle.std.specs.Prelude.{◌≡◌, ◌++◌, ◌∷◌, [], ℕ, List, map, IfOk, OnOk, OnErr, MatchOption, Some, None};
 ghost use Rattle.std.specs.Str.{IsUtf8};
 ghost use Rattle.toml.specs.Data.{Members};
 ghost use Rattle.toml.specs.Parse.{parse_document};
 ghost use Rattle.toml.specs.View.{table_view};
 ghost use Rattle.base_text.specs.Whole.{tree_of};
+ghost use Rattle.text_places.specs.Places.{marks};
+ghost use Rattle.lint_report.specs.Findings.{error_at};
+ghost use Rattle.lint_report.specs.Laws.{FollowsBaseRead, DecidesSafety, WarnsOfUnreached};
 ghost use Rattle.lint_report.specs.Lint as spec;
 
 use crate::audit_findings::{Audit, Sources};
 use crate::finding::Finding;
+use crate::laws::{lint_follows_base_read, lint_warns_of_unreached, no_error_is_safe};
 use crate::lookup::Lookup;
 use crate::order::put_in_order;
 use crate::text_findings::{add_text_findings, add_whole_findings};
@@ -17,7 +21,7 @@ use base_text::{
 };
 use checker::Policy;
 use frame_records::{Base, Frame};
-use page_ids::FrameId;
+use page_ids::{FrameId, PageNo};
 use std::alloc::{AllocError, Global};
 use text_places::{Places, TextLines};
 use toml::Table;
@@ -25,7 +29,7 @@ use toml::de::Error;
 use toml_hints::push_hint;
 
 fn one(alloc: Global, at: usize, words: Vec<u8>) -> Result<Vec<Finding>, AllocError>
-    ensures { IfOk result (λ fs. fs.items ≡ spec.one at words.items) }
+    ensures { IfOk result (λ fs. fs.items ≡ error_at at words.items ∷ []) }
 {
     let mut findings = Vec::new(alloc);
     findings.push(Finding::error(at, words))?;
@@ -34,7 +38,7 @@ fn one(alloc: Global, at: usize, words: Vec<u8>) -> Result<Vec<Finding>, AllocEr
 
 // X1, of a text that is longer than a base may be.
 fn too_long(alloc: Global) -> Result<Vec<Finding>, AllocError>
-    ensures { IfOk result (λ fs. fs.items ≡ spec.too_long) }
+    ensures { IfOk result (λ fs. (text : List ℕ) → fs.items ≡ map (spec.finding_of text) (spec.Length ∷ [])) }
 {
     let mut words = Vec::new(alloc);
     words.extend_from_slice(b"X1 TooLong: the text has more than 16,777,216 bytes")?;
@@ -48,7 +52,7 @@ fn not_toml(
     at: usize,
     message: &str,
 ) -> Result<Vec<Finding>, AllocError>
-    ensures { IfOk result (λ fs. fs.items ≡ spec.not_toml text.now at message.now) }
+    ensures { IfOk result (λ fs. fs.items ≡ map (spec.finding_of text.now) (spec.Toml at message.now ∷ [])) }
 {
     let mut words = Vec::new(alloc);
     words.extend_from_slice(b"X2 NotToml: ")?;
@@ -73,7 +77,7 @@ fn faulty(
     faults: &[TextFault],
     whole: &[WholeFault],
 ) -> Result<Vec<Finding>, AllocError>
-    ensures { IfOk result (λ fs. (ms : Members) → parse_document text.now ≡ Some ms → fs.items ≡ spec.faulty text.now faults.now whole.now) }
+    ensures { IfOk result (λ fs. (ms : Members) → parse_document text.now ≡ Some ms → fs.items ≡ map (spec.text_finding (marks text.now)) faults.now ++ map (spec.whole_finding text.now (marks text.now)) whole.now) }
 {
     let places = Places::of(alloc, text)?;
     let lines = TextLines::of(alloc, text.as_bytes())?;
@@ -91,7 +95,7 @@ fn audited(
     base: &Base,
     policy: &Policy,
 ) -> Result<Vec<Finding>, AllocError>
-    ensures { IfOk result (λ fs. (ms : Members) → parse_document text.now ≡ Some ms → spec.IsAudited text.now tables.now base.now policy.now fs.items) }
+    ensures { IfOk result (λ fs. (ms : Members) → parse_document text.now ≡ Some ms → spec.AreAuditFindings (marks text.now) tables.now base.now policy.now fs.items) }
 {
     let audit = Audit::of(alloc, base, policy)?;
     if audit.is_clear() {
@@ -122,42 +126,19 @@ fn tables_of(
         .collect(alloc)
 }
 
-// The base of a draft without a fault.
-fn base_of(draft: Draft) -> Base
-    requires { spec.IsSound draft }
-    ensures { spec.IsBaseOfDraft draft result }
+// The base of what a draft lists, if the draft has no fault and the base isn't refused as a whole.
+fn base_of(
+    faults: &[TextFault],
+    entry: Option<PageNo>,
+    outside: Vec<PageNo>,
+    frames: Vec<Frame>,
+) -> Option<Base>
+    ensures { MatchOption result (spec.IsRefused faults.now entry outside.items frames.items) (spec.IsListed faults.now entry outside.items frames.items) }
 {
-    drafts_are_sound();
-    whole_faults_agree();
-    let Draft {
-        entry,
-        outside,
-        frames,
-        ..
-    } = draft;
-    match entry {
-        None => unreachable!(),
-        Some(entry) => match Base::build(entry, outside, frames) {
-            Ok(base) => base,
-            Err(_) => unreachable!(),
-        },
+    match (faults, entry) {
+        ([], Some(entry)) => Base::build(entry, outside, frames).ok(),
+        _ => None,
     }
-}
-
-// The findings of a draft without a fault.
-fn sound(
-    alloc: Global,
-    text: &str,
-    draft: Draft,
-    policy: &Policy,
-) -> Result<Vec<Finding>, AllocError>
-    requires text { spec.IsDraftOf text.now draft }
-    requires sound { spec.IsSound draft }
-    ensures { IfOk result (λ fs. spec.IsSoundJudged text.now policy.now draft fs.items) }
-{
-    let tables = tables_of(alloc, draft.frames.as_slice(), draft.tables.as_slice())?;
-    let base = base_of(draft);
-    audited(alloc, text, tables.as_slice(), &base, policy)
 }
 
 fn judged_draft(
@@ -167,12 +148,22 @@ fn judged_draft(
     policy: &Policy,
 ) -> Result<Vec<Finding>, AllocError>
     requires { spec.IsDraftOf text.now draft }
-    ensures { IfOk result (λ fs. spec.IsDraftJudged text.now policy.now draft fs.items) }
+    ensures { IfOk result (λ fs. spec.IsJudged text.now policy.now fs.items) }
 {
+    drafts_are_sound();
+    whole_faults_agree();
     let whole = whole_faults(alloc, &draft)?;
-    match (draft.faults.as_slice(), whole.as_slice()) {
-        ([], []) => sound(alloc, text, draft, policy),
-        (faults, whole) => faulty(alloc, text, faults, whole),
+    let tables = tables_of(alloc, draft.frames.as_slice(), draft.tables.as_slice())?;
+    let Draft {
+        entry,
+        outside,
+        frames,
+        faults,
+        ..
+    } = draft;
+    match base_of(faults.as_slice(), entry, outside, frames) {
+        Some(base) => audited(alloc, text, tables.as_slice(), &base, policy),
+        None => faulty(alloc, text, faults.as_slice(), whole.as_slice()),
     }
 }
 
@@ -213,8 +204,16 @@ fn judged(alloc: Global, text: &[u8], policy: &Policy) -> Result<Vec<Finding>, A
 /// Every finding of a base's text, in the order of their places: all faults of the text, or if it has none those of the
 /// audit, and the frames that no key reaches.
 pub fn lint(alloc: Global, text: &[u8], policy: &Policy) -> Result<Vec<Finding>, AllocError>
-    ensures { IfOk result (λ fs. spec.IsLint text.now policy.now fs.items) }
+    ensures findings { IfOk result (λ fs. spec.IsLint text.now policy.now fs.items) }
+
+    // What they mean.
+    ensures text { IfOk result (λ fs. FollowsBaseRead text.now policy.now fs.items) }
+    ensures errors { IfOk result (λ fs. DecidesSafety text.now policy.now fs.items) }
+    ensures warnings { IfOk result (λ fs. WarnsOfUnreached text.now policy.now fs.items) }
 {
+    lint_follows_base_read();
+    no_error_is_safe();
+    lint_warns_of_unreached();
     let mut findings = judged(alloc, text, policy)?;
     put_in_order(&mut findings)?;
     Ok(findings)

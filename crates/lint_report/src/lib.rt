@@ -8,13 +8,15 @@
 //!
 //! - [`lint`], [`Finding`], [`Level`]: the findings in the order of their places.
 //! - [`lint_text`], [`Counts`], [`counted_text`]: what is printed of them.
-//! - Definitions: what is found (`Lint`, `TextFindings`, `AuditFindings`), where (`Spots`), in which order (`Order`).
+//! - [`lint_follows_base_read`], [`no_error_is_safe`], [`lint_warns_of_unreached`]: what the findings of a text mean.
+//! - Definitions: what is found (`Lint`), at which places (`Spots`), its order and lines (`Findings`), the laws (`Laws`).
 #![tactic(auto)]
 
 mod audit_findings;
 mod counts;
 mod finding;
 mod judging;
+mod laws;
 mod lookup;
 mod order;
 mod printing;
@@ -24,4 +26,5 @@ mod text_findings;
 pub use counts::{Counts, counted_text};
 pub use finding::{Finding, Level};
 pub use judging::lint;
+pub use laws::{lint_follows_base_read, lint_warns_of_unreached, no_error_is_safe};
 pub use printing::lint_text;

@@ -32,7 +32,7 @@ pub fn add_text_findings(
     Ok(())
 }
 
-// The line of the first frame of an id, of whose further frames the fault is one.
+// The line of the first frame with the id, if the fault is a further frame with it.
 fn first_line(places: &Places, lines: &TextLines<'_>, fault: &WholeFault) -> usize
     ensures { (ms : List Mark) → Keeps places.now ms → result ≡ spec.first_line lines.now ms fault.now }
 {

@@ -18,7 +18,7 @@ use audit_report::report;
 use base_text::{base_read, body_of_rows};
 use cert_text::cert_read;
 use checker::check_bytes;
-use fault_scripts::{Outcome, audit, faults, replay};
+use fault_scripts::{Outcome, audit, faults, judge_base, replay};
 use finder::find;
 use page_ids::keys_read;
 use pageaudit::{
@@ -50,6 +50,8 @@ fn called(rt: &HostRuntime, words: &mut Words) -> Option<()> {
         find(base: base, groups: groups) => shown(alloc, &find(alloc, &base, &groups)?);
         script_to(base: base, groups: groups, index: number) => of_script(alloc, &base, &groups, index);
         audit(base: base, policy: policy) => report(alloc, &audit(alloc, &base, &policy)?);
+        judge_base(base: base, policy: policy) =>
+            report(alloc, &Outcome::Faulty(judge_base(alloc, &base, &policy)?.faults));
         faults(base: base, policy: policy) => report(alloc, &Outcome::Faulty(faults(alloc, &base, &policy)?));
         _ => run(rt, name, words)
     }
