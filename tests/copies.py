@@ -9,7 +9,7 @@ from program import PROGRAM, TOP
 
 SHIPPED = Path("dist", "pageaudit-x86_64-linux")
 FOLDERS = ["dist", "docs", "examples", "include"]
-FILES = ["pageaudit", "install", "crates.txt"]
+FILES = ["pageaudit", "install", "test", "crates.txt"]
 
 
 def sums(top, paths):
@@ -34,6 +34,14 @@ def ship(top):
     for folder, name in (top, "SOURCES"), (top / "dist", "SHA256SUMS"):
         listed = [line.split()[1] for line in (top / "dist" / name).read_text().splitlines()]
         (top / "dist" / name).write_text(sums(folder, [path for path in listed if (folder / path).exists()]))
+
+
+def judged(found):
+    """What a case found: whether all was right, and what was not. A case gives one such pair, or several."""
+    if isinstance(found, tuple):
+        return found
+    results = list(found)
+    return all(is_right for is_right, _ in results), [what for is_right, what in results if not is_right]
 
 
 def without_rt():
