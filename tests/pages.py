@@ -152,14 +152,18 @@ def surroundings(folder):
 
 
 def patched(lines, diff):
-    """Lines with a unified diff applied, or None if a hunk's old lines aren't where it says."""
+    """Lines with a unified diff applied, or None if the old lines of a hunk aren't there; of several places the one nearest to what
+    the hunk says. An empty line is one that stays, as its blank is easily lost."""
     new, at = [], 0
     for hunk in re.split("^@@ -", diff, flags=re.M)[1:]:
         head, *body = hunk.splitlines(True)
-        begin = int(re.match(r"\d+", head)[0]) - 1
+        body = [" \n" if line == "\n" else line for line in body]
+        said = int(re.match(r"\d+", head)[0]) - 1
         old = [line[1:] for line in body if line[0] in " -"]
-        if begin < at or lines[begin : begin + len(old)] != old:
+        places = [place for place in range(at, len(lines)) if lines[place : place + len(old)] == old]
+        if not places:
             return None
+        begin = min(places, key=lambda place: abs(place - said))
         new += lines[at:begin] + [line[1:] for line in body if line[0] in " +"]
         at = begin + len(old)
     return new + lines[at:]
