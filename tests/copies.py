@@ -8,9 +8,8 @@ from pathlib import Path
 from program import PROGRAM, TOP
 
 SHIPPED = Path("dist", "pageaudit-x86_64-linux")
-LIBRARIES = ["libpageaudit.a", "libpageaudit.so.1"]
 FOLDERS = ["dist", "docs", "examples", "include"]
-FILES = ["pageaudit", "install", "crates.txt"]
+FILES = ["pageaudit", "install", "test", "crates.txt"]
 
 
 def sums(top, paths):
@@ -31,10 +30,18 @@ def copied(top):
 
 
 def ship(top):
-    """Writes the lists of checksums for the shipped program and the sources as they are now."""
-    of_program = (line.split()[1] for line in (TOP / "dist" / "SOURCES").read_text().splitlines())
-    (top / "dist" / "SOURCES").write_text(sums(top, of_program))
-    (top / "dist" / "SHA256SUMS").write_text(sums(top / "dist", [SHIPPED.name, *LIBRARIES]))
+    """Writes the lists of checksums anew for the listed files as they are now, without those that aren't there."""
+    for folder, name in (top, "SOURCES"), (top / "dist", "SHA256SUMS"):
+        listed = [line.split()[1] for line in (top / "dist" / name).read_text().splitlines()]
+        (top / "dist" / name).write_text(sums(folder, [path for path in listed if (folder / path).exists()]))
+
+
+def judged(found):
+    """What a case found: whether all was right, and what was not. A case gives one such pair, or several."""
+    if isinstance(found, tuple):
+        return found
+    results = list(found)
+    return all(is_right for is_right, _ in results), [what for is_right, what in results if not is_right]
 
 
 def without_rt():

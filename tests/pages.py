@@ -151,17 +151,41 @@ def surroundings(folder):
     return kept | own
 
 
-def unready(block, folder, env):
-    """What hinders a diff or the commands of a setup, or None."""
-    if isinstance(block, Setup):
-        words, given = ["bash", "-e", "-o", "pipefail", "-c", block.commands], None
-    else:
-        words, given = ["patch", "--silent", "--force", "--fuzz=0", block.name], block.text
+def patched(lines, diff):
+    """Lines with a unified diff applied, or None if the old lines of a hunk aren't there; of several places the one nearest to what
+    the hunk says. An empty line is one that stays, as its blank is easily lost."""
+    new, at = [], 0
+    for hunk in re.split("^@@ -", diff, flags=re.M)[1:]:
+        head, *body = hunk.splitlines(True)
+        body = [" \n" if line == "\n" else line for line in body]
+        said = int(re.match(r"\d+", head)[0]) - 1
+        old = [line[1:] for line in body if line[0] in " -"]
+        places = [place for place in range(at, len(lines)) if lines[place : place + len(old)] == old]
+        if not places:
+            return None
+        begin = min(places, key=lambda place: abs(place - said))
+        new += lines[at:begin] + [line[1:] for line in body if line[0] in " +"]
+        at = begin + len(old)
+    return new + lines[at:]
+
+
+def change(diff, folder):
+    """Changes a file by a diff; what hinders it, or None."""
+    path = folder / diff.name
+    lines = patched(path.read_text("utf-8").splitlines(True), diff.text)
+    if lines is None:
+        return f"line {diff.line}: the diff doesn't fit {diff.name}"
+    path.write_text("".join(lines), "utf-8")
+    return None
+
+
+def prepare(setup, folder, env):
+    """Runs the commands of a setup; what hinders them, or None."""
     done = subprocess.run(
-        words, cwd=folder, env=env, input=given, capture_output=True, encoding="utf-8", errors="replace",
-        timeout=60, check=False,
+        ["bash", "-e", "-o", "pipefail", "-c", setup.commands], cwd=folder, env=env, capture_output=True, encoding="utf-8",
+        errors="replace", timeout=60, check=False,
     )
-    return None if done.returncode == 0 else f"line {block.line}: status {done.returncode}, {done.stdout}{done.stderr}"
+    return None if done.returncode == 0 else f"line {setup.line}: status {done.returncode}, {done.stdout}{done.stderr}"
 
 
 def wrong_in(run, folder, env):
@@ -187,15 +211,15 @@ def tried(blocks, given=()):
                 (folder / block.name).write_text(block.text, "utf-8")
             elif isinstance(block, Run):
                 yield wrong_in(block, folder, env)
-            elif hindrance := unready(block, folder, env):
+            elif hindrance := prepare(block, folder, env) if isinstance(block, Setup) else change(block, folder):
                 yield hindrance
 
 
-def count(outcomes):
-    """Prints what is wrong and the last line, 'N passed, M failed'; the exit status."""
+def count(outcomes, skipped=0):
+    """Prints what is wrong and the last line, 'N passed, M failed', with ', K skipped' if any was; the exit status."""
     outcomes = list(outcomes)
     wrong = [outcome for outcome in outcomes if outcome]
     for outcome in wrong:
         print(outcome)
-    print(f"{len(outcomes) - len(wrong)} passed, {len(wrong)} failed")
+    print(f"{len(outcomes) - len(wrong)} passed, {len(wrong)} failed" + (f", {skipped} skipped" if skipped else ""))
     return 1 if wrong or not outcomes else 0

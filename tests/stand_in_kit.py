@@ -1,0 +1,117 @@
+"""A stand-in for the kit, as far as dist/make and ./test ask: it proves anything, and what it builds shows what of.
+
+A library is the last line of its src/lib.rt, and the program prints the lines of those that it uses. As with the kit, 'rt ci' puts
+the libraries back at its end that it found, and writes no stamp.
+"""
+
+import os
+import re
+
+from copies import without_rt
+from program import PROGRAM
+
+RT = r"""#!/bin/bash
+kit=$(dirname "$(readlink -f "$0")")/..
+
+make() {
+    local rlib=$1/out/rlib/${1##*/}.rlib
+    mkdir -p "$rlib" && tail -n 1 "$1/src/lib.rt" >"$rlib/format"
+}
+
+put_back() {
+    local kept name
+    for kept in .git/rt-aside/*/rlib; do
+        [ -d "$kept" ] || continue
+        name=$(basename "${kept%/rlib}")
+        rm -rf "crates/$name/out/rlib"
+        mkdir -p "crates/$name/out" && mv "$kept" "crates/$name/out/rlib"
+    done
+    rm -rf .git/rt-aside
+}
+
+ci() {
+    local crate
+    put_back
+    mkdir -p .git/rt-aside
+    for crate in crates/*/src/lib.rt; do
+        crate=${crate%/src/lib.rt}
+        [ ! -d "$crate/out" ] || mv "$crate/out" ".git/rt-aside/${crate##*/}"
+        make "$crate"
+    done
+    put_back
+    echo "1 passed, 0 failed"
+}
+
+case $1 in
+    version) cat "$kit/WHAT" ;;
+    ci) ci ;;
+    lib) make "$PWD" && cp "out/rlib/${PWD##*/}.rlib/format" out/rlib/stamp ;;
+esac
+"""
+
+RTLIB = '''from pathlib import Path
+
+
+class Crate:
+    def __init__(self, folder):
+        self.name, self.folder = folder.name, folder
+        self.rlib = str(folder / "out" / "rlib" / f"{folder.name}.rlib")
+
+    def is_built(self):
+        return Path(self.rlib).with_name("stamp").read_text() == (self.folder / "src" / "lib.rt").read_text().splitlines()[-1] + "\\n"
+
+
+def crates_below(top):
+    return [Crate(path.parents[1]) for path in Path(top).glob("crates/*/src/lib.rt")]
+'''
+
+RATTLE = '''#!/usr/bin/env python3
+import sys
+from pathlib import Path
+
+libraries = [Path(word.partition("=")[2]) for word in sys.argv if word.endswith(".rlib")]
+Path(sys.argv[sys.argv.index("-o") + 1]).write_text("".join((it / "format").read_text() for it in libraries))
+print("\\nlogic=proved functions=1")
+'''
+
+# What it links prints 'built of' the libraries; its help is the program's own.
+LINK = f'''#!/usr/bin/env python3
+import sys
+from pathlib import Path
+
+to, made = map(Path, sys.argv[sys.argv.index("-o") + 1 :][:2])
+shown = "\\n".join(["built of", made.read_text()])
+to.write_text("#!/bin/sh\\ncase $* in *--help) exec -a pageaudit '{PROGRAM}' \\"$@\\" ;; esac\\ncat <<'END'\\n" + shown + "END\\n")
+to.chmod(0o755)
+'''.replace("#!/bin/sh", "#!/bin/bash")
+
+FILES = {
+    "WHAT": "rattle-kit-1 logic 1\n",
+    "bin/rt": RT,
+    "bin/rtlib.py": RTLIB,
+    "bin/rattle": RATTLE,
+    "bin/rattle-link": LINK,
+    "toolchain/bin/llvm-ar": '#!/bin/sh\nshift\nto=$1\nshift\ncat "$@" >"$to"\n',
+    "toolchain/bin/ld.lld": '#!/bin/sh\nwhile [ "$1" != -o ]; do shift; done\ncp "$4" "$2"\n',
+    "c/liblibc_c.a": "malloc\n",
+}
+
+
+def kit_crates(top):
+    """The kit's crates that those of a repository name."""
+    lines = [line.partition("#")[0].partition(":") for line in (top / "crates.txt").read_text().splitlines()]
+    own = {name.split()[0] for name, colon, _ in lines if colon}
+    return {dep for _, _, deps in lines for dep in deps.split()} - own | {"std"}
+
+
+def with_kit(top, files=None):
+    """Writes the stand-in beside a copy of the repository, some of its files changed, and gives an environment that has it."""
+    home = top / "kit"
+    texts = {**FILES, **{f"rlibs/{name}.rlib/format": "" for name in kit_crates(top)}, **(files or {})}
+    for name, text in texts.items():
+        path = home / name
+        path.parent.mkdir(parents=True, exist_ok=True)
+        path.write_text(text)
+        path.chmod(0o755 if re.match(r"(toolchain/)?bin/", name) else 0o644)
+    env = without_rt()
+    return env | {"PATH": f"{home / 'bin'}{os.pathsep}{env['PATH']}"}
