@@ -86,9 +86,10 @@ static inline struct pageaudit_text pageaudit_groups_of(const struct pageaudit_p
 
 /* Checks the text of a certificate against the text of a base.
 
-   PAGEAUDIT_CLEAR is a promise, proved of these very bytes: whatever keys a caller of the policy's groups presses from the
-   entry page, no frame that is sought is missing or closed, no frame shown costs more than the ceiling or writes into the
-   service rows, and the entry page can be regained within the keyings.
+   PAGEAUDIT_CLEAR is a promise, proved of the bytes that are passed: whatever keys a caller in exactly the policy's groups
+   presses from the entry page on, no key leads to a frame that is missing or closed, no frame shown costs more than the
+   ceiling or writes into the service rows, and until the caller leaves the base, at most `keyings` keys lead back to the
+   entry page.
 
    line    the verdict, or the first fault of the base's text, else of the certificate's; may be null if room is 0
    length  the line's whole length; may be null */

@@ -9,9 +9,9 @@
     else:
         print(verdict.line)
 
-`verdict.cleared` is a promise, proved of these very bytes: whatever keys a caller presses from the entry page, no frame that is
-sought is missing or closed, none shown costs more than the ceiling or writes into the service rows, and the entry page can be
-regained within the keyings.
+`verdict.cleared` is a promise, proved of the bytes that are passed: whatever keys a caller in exactly the policy's groups
+presses from the entry page on, no key leads to a frame that is missing or closed, no frame shown costs more than the ceiling or
+writes into the service rows, and until the caller leaves the base, at most `keyings` keys lead back to the entry page.
 
 The library is `libpageaudit.so.1`, in the folder that the variable PAGEAUDIT_LIB names, or where the system finds its libraries.
 Calls keep nothing, and several threads may make them at once.

@@ -1,0 +1,108 @@
+"""The functions of the crates, and their edits: what tests/contracts and tests/plain-edits share."""
+
+import re
+from dataclasses import dataclass, field
+from pathlib import Path
+
+CRATES = Path(__file__).resolve().parents[1] / "crates"
+
+OWNER = re.compile(r"(?:pub )?(?:impl(?:<.*?>)? (?:(?P<trait>\w+).* for )?|trait )(?P<type>\w+)")
+FUNCTION = re.compile(r'( *)(pub )?(?:extern "C" )?fn (\w+)')
+CLAUSE = re.compile(r" *ensures (?:(\w+) )?\{ (.*?)(?: \})?$")
+
+
+@dataclass
+class Function:
+    """A function: its module, the trait and type that it belongs to, its first and last line, and its clauses."""
+
+    module: str
+    trait: str
+    owner: str
+    name: str
+    is_pub: bool
+    begin: int
+    end: int = 0
+    clauses: list = field(default_factory=list)
+
+    @property
+    def title(self):
+        return f"{self.owner}::{self.name}" if self.owner else self.name
+
+    @property
+    def path(self):
+        """Its path below the crate, as rt has it."""
+        owner = f"{self.owner}+{self.trait}" if self.trait else self.owner
+        return "::".join(part for part in (self.module.replace("lib", ""), owner, self.name) if part)
+
+
+def functions(path):
+    """The functions of a file, in their order."""
+    lines = path.read_text("utf-8").split("\n")
+    found, owner = [], ("", "")
+    for number, line in enumerate(lines):
+        if named := OWNER.match(line):
+            owner = named["trait"] or "", named["type"]
+        elif line == "}":
+            owner = "", ""
+        if header := FUNCTION.match(line):
+            found.append(Function(path.stem, *(owner if header[1] else ("", "")), header[3], bool(header[2]), number))
+        elif found and (clause := CLAUSE.match(line)):
+            found[-1].clauses.append((clause[1], clause[2]))
+    for one, following in zip(found, found[1:] + [None]):
+        one.end = following.begin if following else len(lines)
+    return found
+
+
+@dataclass
+class Change:
+    """One text of a file of a crate, and the text in its place."""
+
+    path: Path
+    old: str
+    new: str
+
+    def places(self):
+        """Where the old text is: in a function, or None outside of all."""
+        source, found = self.path.read_text("utf-8"), functions(self.path)
+        lines = [source.count("\n", 0, place.start()) for place in re.finditer(re.escape(self.old), source)]
+        return [next((one for one in found if one.begin <= line < one.end), None) for line in lines]
+
+
+@dataclass
+class Edit:
+    """A wrong change of a crate, and its name."""
+
+    name: str
+    changes: list
+
+    def functions(self):
+        """The functions that it changes, None for what is outside of all."""
+        return [place for change in self.changes for place in change.places()]
+
+    def applied(self, texts):
+        """The texts of files with the change made too, or None if an old text isn't there once."""
+        texts = dict(texts)
+        for change in self.changes:
+            text = texts.get(change.path) or change.path.read_text("utf-8")
+            if text.count(change.old) != 1:
+                return None
+            texts[change.path] = text.replace(change.old, change.new)
+        return texts
+
+
+def edit_of(path):
+    crate, file, old, changes = path.parents[1], None, None, []
+    for line in path.read_text("utf-8").split("\n"):
+        word, _, rest = line.partition(":")
+        if word == "file":
+            file = crate / rest.strip()
+        elif word == "old":
+            old = rest[1:]
+        elif word == "new":
+            changes.append(Change(file, old, rest[1:]))
+    return Edit(path.stem, changes)
+
+
+def edits(crate, folder="must-fail"):
+    """The edits of a folder of a crate."""
+    return [edit_of(path) for path in sorted((CRATES / crate / folder).glob("*.edit"))]
