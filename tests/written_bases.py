@@ -202,6 +202,13 @@ class Sheet:
         self.expression(names, f"[[{pad}{inside}{pad}]]" if is_element else f"[{pad}{inside}{pad}]")
 
 
+def listed(faults, where):
+    """The first 1,000 faults of one table, and one finding for the others, where the first of these is."""
+    key, words = faults[1_000] if len(faults) > 1_000 else (None, "")
+    others = f"{len(faults) - 1_000:,} more fault{'s' * (len(faults) > 1_001)}"
+    return faults[:1_000] + [(key, f"{words.split(': ')[0]}: {others} {where}, not listed")] * (len(faults) > 1_000)
+
+
 class Frame:
     """A frame's fields, and the words of the faults of each field with the keys to their place."""
 
@@ -220,10 +227,10 @@ class Frame:
 
     def in_order(self):
         """The faults in the order of judging, with the frame's name in the words."""
-        has_id = self.fields.get("id") == self.id
-        for field in JUDGED:
-            for keys, words in self.faults.get(field, []):
-                yield keys, words.replace("{F}", f"frame {self.id}" if has_id else "this frame")
+        name = f"frame {self.id}" if self.fields.get("id") == self.id else "this frame"
+        faults = [fault for field in JUDGED for fault in self.faults.get(field, [])]
+        for keys, words in listed(faults, "in {F}"):
+            yield keys, words.replace("{F}", name)
 
 
 class Written:
@@ -314,7 +321,7 @@ class Written:
 
     def findings(self):
         """Each finding with its place, in the order of judging; after `write`."""
-        for key, words in self.top_faults:
+        for key, words in listed(self.top_faults, "at the top"):
             yield (1, 1) if key is None else self.sheet.places["top", key], "error", words
         for index, frame in enumerate(self.frames):
             for keys, words in frame.in_order():
@@ -332,7 +339,7 @@ class Written:
         counts = []
         for word in "error", "warning":
             number = sum(level == word for _, level, _ in found)
-            counts += [f"{number} {word}{'s' * (number > 1)}"] if number else []
+            counts += [f"{number:,} {word}{'s' * (number > 1)}"] if number else []
         return "".join(lines), ", ".join(counts) + "\n" if counts else "", 1 if "error" in "".join(counts) else 0
 
 
@@ -445,10 +452,11 @@ class FaultyText(Written):
             return
         outside = [self.page() for _ in range(self.pick([0, 1, 3]))]
         if share < 0.4:
-            for _ in range(self.pick([0, 1, 3])):
+            many = self.frames and self.chance(0.05)
+            for _ in range(self.pick([998, 1_001, 1_300] if many else [0, 1, 3])):
                 outside.append(1_000)
-                if self.chance(0.6):
-                    name = f'item {len(outside)} of "outside"'
+                if many or self.chance(0.6):
+                    name = f'item {len(outside):,} of "outside"'
                     outside[-1], words = self.wrong_number(name, 0, 999_999_999)
                     self.top_faults.append(("outside", words))
         if outside or self.chance(0.5):
@@ -549,17 +557,17 @@ class FaultyText(Written):
             frame.fault("text", words, "rows")
             return
         rows = frame.fields["rows"] = []
-        many = self.pick([1, 2, 5, 22, 23, 30])
+        many = self.pick([997, 1_000, 1_200] if self.chance(0.02) else [1, 2, 5, 22, 23, 30])
         if many > 22:
-            frame.fault("text", f"X6 Range: {{F}} has {many} rows, at most 22 are allowed", "rows")
-        wrong = set(self.random.sample(range(many), min(many, 3 if many <= 22 else self.pick([0, 2]))))
+            frame.fault("text", f"X6 Range: {{F}} has {many:,} rows, at most 22 are allowed", "rows")
+        wrong = set(self.random.sample(range(many), min(many, 3 if many <= 22 else self.pick([0, 2, many]))))
         for number in range(many):
             rows.append(self.pick(["", "A ROW", "C" * 40, "\x80\x9f ~\x7f"]))
             if number in wrong:
                 self.spoil_row(frame, number)
 
     def spoil_row(self, frame, number):
-        rows, name, share = frame.fields["rows"], f"row {number + 1} of {{F}}", self.random.random()
+        rows, name, share = frame.fields["rows"], f"row {number + 1:,} of {{F}}", self.random.random()
         if share < 0.3:
             rows[number], words = self.wrong_kind(name, "a string", ["a string"])
             frame.fault("text", words, "rows")

@@ -6,12 +6,13 @@ A fault is an offset of the text and words; a flaw is the words alone.
 import re
 
 from .base import FRAME_KEYS, MOST_BODY, MOST_LISTED, MOST_PAGE, frame_in, id_in, id_text, is_integer
-from .words import code, counted, hint, kind, nearest, quoted
+from .words import code, counted, hint, kind, nearest, number_of, quoted
 
 TOP_KEYS = ["entry", "outside", "frame"]
 KEYS_OF_A_FRAME = ["id", "price", "group", "next", "routes", "lead", "body", "rows"]
 assert set(KEYS_OF_A_FRAME) == FRAME_KEYS
 MOST_ROWS = 22
+MOST_FAULTS = 1_000
 
 
 class Places:
@@ -225,14 +226,23 @@ def base_faults(tree, frames, places, lines):
         yield places.top["outside"], words
 
 
+def listed(faults, where):
+    """The faults of one table; from the 1,001st on they are one, at its place and with its code."""
+    yield from faults[:MOST_FAULTS]
+    if rest := faults[MOST_FAULTS:]:
+        place, words = rest[0]
+        name, _, _ = words.partition(": ")
+        yield place, f"{name}: {number_of(len(rest), 'more fault', 'more faults')} {where}, not listed"
+
+
 def text_faults(tree, places, lines):
     """Each fault of the text with its place, in the order of judging."""
-    yield from top_faults(tree, places)
+    yield from listed(list(top_faults(tree, places)), "at the top")
     tables = tree.get("frame", [])
     right = []
     for index, table in enumerate(tables if isinstance(tables, list) else []):
         faults = list(frame_faults(index, table, places))
-        yield from faults
+        yield from listed(faults, f"in {name_of(table)}" if faults[1:] else "")
         if not faults:
             right.append((index, frame_in(table, index)))
     yield from base_faults(tree, right, places, lines)

@@ -16,11 +16,7 @@ use frame_records::{Base, Groups, Sought};
 use std::alloc::{AllocError, Global};
 
 // The one fault of a base whose entry frame isn't found; `None` if it is found.
-fn entry_fault(
-    alloc: Global,
-    base: &Base,
-    policy: &Policy,
-) -> Result<Option<FaultList>, AllocError>
+fn entry_fault(alloc: Global, base: &Base, policy: &Policy) -> Result<Option<FaultList>, AllocError>
     ensures fault { IfOk result (λ list. MatchOption list (EntryIsFound policy.now.groups base.now) (AreAllFaults base.now policy.now)) }
     ensures valid { IsBase base.now }
 {

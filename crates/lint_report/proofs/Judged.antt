@@ -10,7 +10,7 @@ use Rattle.checker.specs.declared.policy.Policy.{Policy}
 use Rattle.base_text.specs.declared.limits.TheConstants.{MOST_TEXT}
 use Rattle.base_text.specs.declared.detail.TextFault.{TextFault}
 use Rattle.base_text.specs.declared.whole_fault.WholeFault.{WholeFault}
-use Rattle.base_text.specs.Drafts.{DraftView, draft_of, SoundDraftsHaveEntries}
+use Rattle.base_text.specs.Drafts.{DraftView, draft_of, text_faults, SoundDraftsHaveEntries, BeginAlike, DraftsBeginAlike}
 use Rattle.base_text.specs.Whole.{PartsView, tree_of, parts_of}
 use Rattle.base_text.specs.WholeFaults.{AreWholeFaults, WholeFaultsAgree, DraftsHaveTables}
 use Rattle.frame_records.specs.Bases.{BaseView}
@@ -66,17 +66,21 @@ pub record HasNone (text : List ℕ) (findings : List FindingView) (d : DraftVie
   pub refused : IsRefused d.faults d.entry d.outside d.frames
   pub are_findings : findings ≡ map (text_finding (marks text)) d.faults ++ map (whole_finding text (marks text)) whole
 
-module _ (agree : WholeFaultsAgree) (tables : DraftsHaveTables) (entries : SoundDraftsHaveEntries) (text : List ℕ) (policy : Policy) (findings : List FindingView) where
+module _ (agree : WholeFaultsAgree) (tables : DraftsHaveTables) (entries : SoundDraftsHaveEntries) (begins : DraftsBeginAlike) (text : List ℕ) (policy : Policy) (findings : List FindingView) where
   parts : (ms : Members) (e : ℕ) → nat_lt MOST_TEXT (length text) ≡ false → tree_of text ≡ Some ms → (draft_of ms).faults ≡ [] → (draft_of ms).entry ≡ Some e
       → parts_of text ≡ Ok (record { entry = e; outside = (draft_of ms).outside; frames = (draft_of ms).frames })
-  parts ms e short tree sound entry = rw (short, tree, sound, entry) refl
+  parts ms e short tree sound entry = rw (short, tree, none (draft_of ms).faults (text_faults ms) (begins ms) sound, entry) refl where
+    none : (listed all : List TextFault) → BeginAlike listed all → listed ≡ [] → all ≡ []
+    none [] [] alike e = refl
+    none [] (u ∷ us) alike e = absurd alike
+    none (t ∷ ts) all alike e = absurd cc
 
   pub of_base : (base : BaseView) (draft : DraftView) → IsDraftOf text draft → HasBase text policy findings base draft → IsJudged text policy findings
   of_base base draft is has =
       let ms = is.0 in
       let h = subst (HasBase text policy findings base) is.3 has in
       let l = h.listed in
-      let none = nothing agree tables entries ms h.whole h.are l.0 l.1 base l.3 in
+      let none = nothing agree tables entries begins ms h.whole h.are l.0 l.1 base l.3 in
       let p : PartsView = record { entry = l.1; outside = (draft_of ms).outside; frames = (draft_of ms).frames } in
       let tables = subst (λ t. AreAuditFindings (marks text) (tree_tables t) base policy findings) (sym is.2) h.audited in
       ([], in_tree text (Some ms) [] is.1 is.2 (h.whole, h.are, sym none), (base, (p, parts ms l.1 is.1 is.2 l.0 l.2, l.3), tables))
@@ -86,7 +90,7 @@ module _ (agree : WholeFaultsAgree) (tables : DraftsHaveTables) (entries : Sound
       let ms = is.0 in
       let h = subst (HasNone text findings) is.3 has in
       let subjects = faulty (draft_of ms).faults h.whole in
-      (subjects, in_tree text (Some ms) subjects is.1 is.2 (h.whole, h.are, refl), of_some text policy findings subjects (something agree tables entries ms h.whole h.are h.refused) (h.are_findings ∙ each text (draft_of ms).faults h.whole))
+      (subjects, in_tree text (Some ms) subjects is.1 is.2 (h.whole, h.are, refl), of_some text policy findings subjects (something agree tables entries begins ms h.whole h.are h.refused) (h.are_findings ∙ each text (draft_of ms).faults h.whole))
 
 -- which text has no tree, and which has one
 pub no_tree : (bs : List ℕ) → (IsUtf8 bs → parse_document bs ≡ None) → tree_of bs ≡ None

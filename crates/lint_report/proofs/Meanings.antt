@@ -3,21 +3,20 @@ use Rattle.std.proofs.Common.{◌≡◌, ◌∙◌, ℕ, List, [], ◌∷◌, le
 use Rattle.std.proofs.lemmas.List.{nil_from_length}
 use Rattle.frame_records.specs.Bases.{BaseView}
 use Rattle.base_text.specs.declared.fault.BaseFault.{BaseFault}
-use Rattle.base_text.specs.Drafts.{SoundDraftsHaveEntries}
+use Rattle.base_text.specs.Drafts.{SoundDraftsHaveEntries, DraftsBeginAlike}
 use Rattle.base_text.specs.Whole.{IsTextBase, TextsMeanOneBase}
 use Rattle.base_text.specs.WholeFaults.{WholeFaultsAgree, DraftsHaveTables, Agrees}
 use Rattle.checker.specs.declared.policy.Policy.{Policy}
-use Rattle.fault_scripts.specs.declared.fault.Fault.{Fault}
 use Rattle.fault_scripts.specs.Faults.{AreFaults}
 use Rattle.fault_scripts.specs.FaultLaws.{FaultsAreOne, NoneIsSafe}
 use Rattle.lint_report.specs.declared.finding.Level.TheVariants.{Error}
 use Rattle.lint_report.specs.Findings.{FindingView, count_of, AreInOrder}
-use Rattle.lint_report.specs.Lint.{Subject, finding_of, AreSubjects, IsJudgedBy, IsAudited, IsLint}
-use Rattle.lint_report.specs.Laws.{IsAnswer, answer_of, AreOfAudit, AreByAnswer, LintFollowsBaseRead, IsCertified, IsSafe, DecidesSafety, NoErrorIsSafe}
+use Rattle.lint_report.specs.Lint.{Subject, IsJudgedBy, IsAudited, IsLint}
+use Rattle.lint_report.specs.Laws.{IsAnswer, answer_of, AreOfAudit, AreByAnswer, LintFollowsBaseRead, IsCertified, DecidesSafety}
 use Rattle.lint_report.proofs.Errors.{text_errors, audit_errors}
 use Rattle.lint_report.proofs.Readings.{agreed}
 
-module _ (one : TextsMeanOneBase) (agree : WholeFaultsAgree) (tables : DraftsHaveTables) (entries : SoundDraftsHaveEntries) where
+module _ (one : TextsMeanOneBase) (agree : WholeFaultsAgree) (tables : DraftsHaveTables) (entries : SoundDraftsHaveEntries) (begins : DraftsBeginAlike) where
   -- by what is wrong with the text, which base_read answers
   by_subjects : (text : List ℕ) (policy : Policy) (judged findings : List FindingView) (answer : Result BaseView BaseFault) (subjects : List Subject)
       → IsJudgedBy subjects text policy judged → AreInOrder judged findings → IsAnswer text answer → Agrees answer_of answer subjects
@@ -31,7 +30,7 @@ module _ (one : TextsMeanOneBase) (agree : WholeFaultsAgree) (tables : DraftsHav
 
   pub by_answer : LintFollowsBaseRead
   by_answer text policy findings lint answer is =
-      by_subjects text policy lint.0 findings answer lint.1.0 lint.1.2 lint.2 is (agreed agree tables entries text lint.1.0 answer lint.1.1 is)
+      by_subjects text policy lint.0 findings answer lint.1.0 lint.1.2 lint.2 is (agreed agree tables entries begins text lint.1.0 answer lint.1.1 is)
 
 -- The rest follows from that.
 module _ (follows : LintFollowsBaseRead) (faults_are_one : FaultsAreOne) (none_is_safe : NoneIsSafe) (text : List ℕ) (policy : Policy) (findings : List FindingView) (lint : IsLint text policy findings) where

@@ -11,11 +11,11 @@ use Rattle.base_text.specs.declared.fault.Cause.{Cause}
 use Rattle.base_text.specs.declared.fault.Cause.TheVariants as cause
 use Rattle.base_text.specs.declared.detail.TextFault.{TextFault}
 use Rattle.base_text.specs.declared.whole_fault.WholeFault.{WholeFault}
-use Rattle.base_text.specs.Drafts.{DraftView, draft_of, SoundDraftsHaveEntries, base_fault}
+use Rattle.base_text.specs.Drafts.{DraftView, draft_of, text_faults, SoundDraftsHaveEntries, BeginAlike, DraftsBeginAlike, base_fault}
 use Rattle.base_text.specs.Frames.{top_fault}
 use Rattle.base_text.specs.Whole.{PartsView, parts_or, parts_of, table_parts, tree_parts, tree_of, build_cause, IsWholeCause, IsFaultOf}
 use Rattle.base_text.specs.WholeFaults.{AreWholeFaults, WholeFaultsAgree, DraftsHaveTables, Agrees, build_fault, whole_cause}
-use Rattle.lint_report.specs.Lint.{Subject, Length, Toml, Text, Whole, faulty, AreTreeSubjects, AreSubjectsIf, AreSubjects, IsRefused}
+use Rattle.lint_report.specs.Lint.{Subject, Length, Toml, Text, Whole, faulty, AreTreeSubjects, AreSubjects, IsRefused}
 use Rattle.lint_report.specs.Laws.{IsAnswer, answer_of}
 
 -- the refusal of a whole that has the cause
@@ -58,7 +58,7 @@ of_itself first s ss (Ok base) e a = absurd (clash a.1) where
   clash e = cc
 of_itself first s ss (Err fault) e a = e ∙ sym a
 
-module _ (agree : WholeFaultsAgree) (tables : DraftsHaveTables) (entries : SoundDraftsHaveEntries) (ms : Members) (whole : List WholeFault) where
+module _ (agree : WholeFaultsAgree) (tables : DraftsHaveTables) (entries : SoundDraftsHaveEntries) (begins : DraftsBeginAlike) (ms : Members) (whole : List WholeFault) where
   abbrev d : DraftView
   d = draft_of ms
 
@@ -79,23 +79,27 @@ module _ (agree : WholeFaultsAgree) (tables : DraftsHaveTables) (entries : Sound
         let p : PartsView = record { entry = entry; outside = d.outside; frames = d.frames } in
         let same : a.0 ≡ p = same_parts a.0 p (sym a.1) in
         ap (map Whole) (built entry (Ok base) (subst (λ (q : PartsView). IsBaseOf q.entry q.outside q.frames base) same a.2)) where
-      listed : PartsView → Result PartsView BaseFault
-      listed p = Ok p
+          listed : PartsView → Result PartsView BaseFault
+          listed p = Ok p
 
-      same_parts : (p q : PartsView) → listed p ≡ listed q → p ≡ q
-      same_parts p q e = cc
+          same_parts : (p q : PartsView) → listed p ≡ listed q → p ≡ q
+          same_parts p q e = cc
     of_listed entry (Err fault) a =
         let r = refusal d.outside d.frames fault.cause a.1 in
         first_of_whole fault r.fault whole r.same a.0 (built entry (Err r.fault) r.is)
 
     of_draft : (answer : Result BaseView BaseFault) → IsAnswerTo (table_parts ms) answer → Agrees answer_of answer (faulty d.faults whole)
-    of_draft answer a = on d.faults refl where
+    of_draft answer a = on d.faults (text_faults ms) refl (begins ms) a where
       entered : (entry : Option ℕ) → d.entry ≡ entry → (e : ℕ) × (d.entry ≡ Some e) → IsAnswerTo (parts_or [] entry d) answer → Agrees answer_of answer (map Whole whole)
       entered (Some e) is has b = of_listed e answer b
       entered None is has b = absurd cc
-      on : (faults : List TextFault) → d.faults ≡ faults → Agrees answer_of answer (faulty faults whole)
-      on [] e = entered d.entry refl (entries ms e) (subst (λ fs. IsAnswerTo (parts_or fs d.entry d) answer) e a)
-      on (t ∷ ts) e = of_itself (base_fault t) (Text t) _ answer refl (subst (λ fs. IsAnswerTo (parts_or fs d.entry d) answer) e a)
+
+      on : (listed all : List TextFault) → d.faults ≡ listed → BeginAlike listed all → IsAnswerTo (parts_or all d.entry d) answer
+          → Agrees answer_of answer (faulty listed whole)
+      on [] [] e alike b = entered d.entry refl (entries ms e) b
+      on [] (u ∷ us) e alike b = absurd alike
+      on (t ∷ ts) [] e alike b = absurd alike
+      on (t ∷ ts) (u ∷ us) e alike b = of_itself (base_fault u) (Text t) _ answer alike b
 
     -- a base leaves nothing wrong, and a refusal something
     pub nothing : d.faults ≡ [] → (entry : ℕ) (base : BaseView) → IsBaseOf entry d.outside d.frames base → faulty d.faults whole ≡ []
@@ -106,6 +110,7 @@ module _ (agree : WholeFaultsAgree) (tables : DraftsHaveTables) (entries : Sound
       some : (ws : List WholeFault) (b : BuildFault) → Agrees {A = BaseView} build_fault (Err b) ws → map Whole ws ≡ [] → ⊥
       some [] b h e = h
       some (w ∷ ws) b h e = cc
+
       on : (faults : List TextFault) → d.faults ≡ faults → (d.faults ≡ [] → (e : ℕ) × (d.entry ≡ Some e)) → ⊥
       on [] e has =
           let entry = has e in
@@ -115,11 +120,11 @@ module _ (agree : WholeFaultsAgree) (tables : DraftsHaveTables) (entries : Sound
         clash : {s : Subject} {ss : List Subject} → s ∷ ss ≡ [] → ⊥
         clash e = cc
 
-module _ (agree : WholeFaultsAgree) (tables : DraftsHaveTables) (entries : SoundDraftsHaveEntries) where
+module _ (agree : WholeFaultsAgree) (tables : DraftsHaveTables) (entries : SoundDraftsHaveEntries) (begins : DraftsBeginAlike) where
   of_tree : (tree : Option Members) (subjects : List Subject) (answer : Result BaseView BaseFault) → AreTreeSubjects tree subjects
       → IsAnswerTo (tree_parts tree) answer → Agrees answer_of answer subjects
   of_tree None subjects answer are a = subst (Agrees answer_of answer) (sym are.2) (of_itself (top_fault cause.NotToml) (Toml are.0 are.1) [] answer refl a)
-  of_tree (Some ms) subjects answer are a = subst (Agrees answer_of answer) (sym are.2) (of_draft agree tables entries ms are.0 are.1 answer a)
+  of_tree (Some ms) subjects answer are a = subst (Agrees answer_of answer) (sym are.2) (of_draft agree tables entries begins ms are.0 are.1 answer a)
 
   -- nothing is wrong with a text if base_read answers a base; else the first is what it answers
   pub agreed : (text : List ℕ) (subjects : List Subject) (answer : Result BaseView BaseFault) → AreSubjects text subjects → IsAnswer text answer
@@ -128,6 +133,7 @@ module _ (agree : WholeFaultsAgree) (tables : DraftsHaveTables) (entries : Sound
     as_parts : (r : Result BaseView BaseFault) → IsAnswer text r → IsAnswerTo (parts_of text) r
     as_parts (Ok base) b = b
     as_parts (Err fault) b = b
+
     on : (long : Bool) → nat_lt MOST_TEXT (length text) ≡ long → IsAnswerTo (parts_of text) answer → Agrees answer_of answer subjects
     on true e b = subst (Agrees answer_of answer) (sym (rw e at are)) (of_itself (top_fault cause.TooLong) Length [] answer refl (rw e at b))
     on false e b = of_tree (tree_of text) subjects answer (rw e at are) (rw e at b)

@@ -1,5 +1,5 @@
 -- The frames that are warned of.
-use Rattle.std.proofs.Common.{◌≡◌, ◌∙◌, ◌≢◌, ◌&&◌, ◌||◌, ℕ, Bool, true, false, cond, not, List, [], ◌∷◌, ◌++◌, length, map, get_or, Option, Some, None, is_none, refl, sym, ap, subst, Contains, All, inl, inr, arith}
+use Rattle.std.proofs.Common.{◌≡◌, ◌∙◌, ◌≢◌, ◌&&◌, ◌||◌, ℕ, Bool, true, false, cond, not, List, [], ◌∷◌, ◌++◌, map, get_or, Option, Some, None, is_none, refl, sym, ap, subst, Contains, inl, inr, arith}
 use Rattle.std.specs.Option.{option_or}
 use Rattle.std.specs.Prelude.{filter, AllPairs, ◌⊎◌, ◌↔◌}
 use Rattle.std.specs.List.{list_any}
@@ -17,7 +17,7 @@ use Rattle.checker.specs.declared.policy.Policy.{Policy}
 use Rattle.finder.specs.declared.found.Discovered.{Discovered}
 use Rattle.finder.specs.Finds.{EntryIsFound, IsReached, FindsReached}
 use Rattle.base_text.specs.Whole.{IsTextBase}
-use Rattle.text_places.specs.Places.{Mark, marks}
+use Rattle.text_places.specs.Places.{marks}
 use Rattle.lint_report.specs.declared.finding.Level.TheVariants.{Error}
 use Rattle.lint_report.specs.Findings.{FindingView, AreInOrder}
 use Rattle.lint_report.specs.Lookups.{value_of}
@@ -31,6 +31,7 @@ module _ {X : Type 0} (p : X → Bool) (xs : List X) (x : X) where
     failed : (b : Bool) → b ≡ true → not b ≡ true → ⊥
     failed true h e = absurd cc
     failed false h e = absurd cc
+
     on : Contains (filter p xs) x ⊎ Contains (filter (λ y. not (p y)) xs) x → Contains (filter p xs) x
     on (inl here) = here
     on (inr out) = absurd (failed (p x) h (All-contains (λ y. not (p y) ≡ true) (filter (λ y. not (p y)) xs) x (filter_passes (λ y. not (p y)) xs) out))

@@ -16,8 +16,8 @@ use crate::lookup::Lookup;
 use crate::order::put_in_order;
 use crate::text_findings::{add_text_findings, add_whole_findings};
 use base_text::{
-    Draft, MOST_TEXT, TextFault, WholeFault, draft_of, drafts_are_sound, whole_faults,
-    whole_faults_agree,
+    Draft, MOST_TEXT, TextFault, WholeFault, draft_of, drafts_are_sound, faults_are_listed,
+    whole_faults, whole_faults_agree,
 };
 use checker::Policy;
 use frame_records::{Base, Frame};
@@ -151,6 +151,7 @@ fn judged_draft(
     ensures { IfOk result (λ fs. spec.IsJudged text.now policy.now fs.items) }
 {
     drafts_are_sound();
+    faults_are_listed();
     whole_faults_agree();
     let whole = whole_faults(alloc, &draft)?;
     let tables = tables_of(alloc, draft.frames.as_slice(), draft.tables.as_slice())?;

@@ -1,6 +1,6 @@
 ghost use Rattle.lint_report.specs.Laws.{LintFollowsBaseRead, NoErrorIsSafe, LintWarnsOfUnreached};
 
-use base_text::{drafts_are_sound, texts_mean_one_base, whole_faults_agree};
+use base_text::{drafts_are_sound, faults_are_listed, texts_mean_one_base, whole_faults_agree};
 use fault_scripts::{faults_are_one, none_is_safe};
 
 /// The findings of a text follow what `base_read` answers for it, unless it is out of memory. If that is a base, they are
@@ -11,6 +11,7 @@ pub fn lint_follows_base_read()
 {
     texts_mean_one_base();
     drafts_are_sound();
+    faults_are_listed();
     whole_faults_agree();
 }
 

@@ -139,7 +139,10 @@ fn faults_of_a_frame_show_what_was_found(rt: HostRuntime) -> Result<(), Fail> {
             "Some(0) 1a UnknownKey(Routes, Word { text: \"10\" })\nSome(0) 1a UnknownKey(Routes, Word { text: \"a\" })\nSome(0) 1a WrongItem(Routes, 3, Array)\nSome(0) 1a ItemNumber(Routes, 9, -9)\n",
         ),
         ("id = '1a'", "Some(0) 1a Absent(Body)\n"),
-        ("id = '1a', body = 1, rows = 2", "Some(0) 1a BodyAndRows\nSome(0) 1a WrongKind(Body, Integer)\nSome(0) 1a WrongKind(Rows, Integer)\n"),
+        (
+            "id = '1a', body = 1, rows = 2",
+            "Some(0) 1a BodyAndRows\nSome(0) 1a WrongKind(Body, Integer)\nSome(0) 1a WrongKind(Rows, Integer)\n",
+        ),
         (
             "id = '1a', body = 1",
             "Some(0) 1a WrongKind(Body, Integer)\n",

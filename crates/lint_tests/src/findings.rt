@@ -52,6 +52,27 @@ fn all_faults_of_a_text_are_printed_in_the_order_of_their_places(
     prints(rt.alloc(), text, &policy(9_999, 9, "")?, lines, (4, 0))
 }
 
+// 1,500 outside pages below 0 are 1,000 findings, and one more for the 500 others; a frame's own fault is listed besides.
+#[test]
+fn beyond_1_000_faults_of_a_table_one_finding_has_their_number(
+    rt: HostRuntime,
+) -> Result<(), Fail> {
+    let pages = "-1, ".repeat(rt.alloc(), 1_500)?;
+    let text = format!(in rt.alloc(); "entry = 1\noutside = [{pages}]\n[[frame]]\nid = \"1a\"\n")?;
+    let findings = lint(rt.alloc(), text.as_bytes(), &policy(5, 1, "")?)?;
+    let printed = lint_text(rt.alloc(), b"b.toml", text.as_bytes(), findings.as_slice())?;
+    let lines = str::from_utf8(printed.as_slice())?;
+    let last: Vec<&str> = lines.lines().skip(999).collect(rt.alloc())?;
+    same(
+        last.as_slice(),
+        &[
+            "b.toml:2:1: error: X6 Range: item 1,000 of \"outside\" is -1, at least 0 is needed",
+            "b.toml:2:1: error: X6 Range: 500 more faults at the top, not listed",
+            "b.toml:3:1: error: X4 Absent: frame 1a has no \"body\" and no \"rows\"",
+        ],
+    )
+}
+
 const SHOP: &str =
     "entry = 1\n[[frame]]\nid = \"1a\"\nnext = true\nprice = 5\nrows = []\nroutes = { 3 = 4 }\n\
     [[frame]]\nid = \"1b\"\nrows = []\nroutes.0 = 1\n[[frame]]\nid = \"2a\"\nrows = []\n\

@@ -19,6 +19,7 @@ fn words_of(
         frame,
         id: *id,
         detail,
+        unlisted: 0,
     };
     push_text_fault(alloc, &mut out, &fault)?;
     Ok(out)
@@ -33,6 +34,34 @@ fn say(
 ) -> Result<(), Fail> {
     for (detail, words) in details {
         let out = words_of(alloc, frame, &id, detail)?;
+        same_in(words, out.as_slice(), words.as_bytes())?;
+    }
+    Ok(())
+}
+
+#[test]
+fn a_fault_that_is_listed_for_others_has_their_number(rt: HostRuntime) -> Result<(), Fail> {
+    let rows = [
+        (
+            None,
+            1,
+            "X8 RowTooLong: 1 more fault at the top, not listed",
+        ),
+        (
+            Some(0),
+            7_999_000,
+            "X8 RowTooLong: 7,999,000 more faults in this frame, not listed",
+        ),
+    ];
+    for (frame, unlisted, words) in rows {
+        let mut out = Vec::new(rt.alloc());
+        let fault = TextFault {
+            frame,
+            id: None,
+            detail: Detail::RowTooLong(1_000, 41),
+            unlisted,
+        };
+        push_text_fault(rt.alloc(), &mut out, &fault)?;
         same_in(words, out.as_slice(), words.as_bytes())?;
     }
     Ok(())
@@ -182,10 +211,8 @@ fn near_keys_are_proposed(rt: HostRuntime) -> Result<(), Fail> {
         ),
     ];
     for (table, key, words) in keys {
-        let mut out = Vec::new(rt.alloc());
         let detail = Detail::UnknownKey(table, Word::of(rt.alloc(), key)?);
-        let (frame, id) = (None, None);
-        push_text_fault(rt.alloc(), &mut out, &TextFault { frame, id, detail })?;
+        let out = words_of(rt.alloc(), None, &None, detail)?;
         same_in(
             words,
             out.as_slice().strip_prefix(b"X3 UnknownKey: "),
@@ -216,10 +243,8 @@ fn texts_of_the_file_are_quoted(rt: HostRuntime) -> Result<(), Fail> {
         ),
     ];
     for (text, quoted) in texts {
-        let mut out = Vec::new(rt.alloc());
         let detail = Detail::BadFrame(Word::of(rt.alloc(), text)?);
-        let (frame, id) = (Some(0), None);
-        push_text_fault(rt.alloc(), &mut out, &TextFault { frame, id, detail })?;
+        let out = words_of(rt.alloc(), Some(0), &None, detail)?;
         let end = b" is not a frame id; write a page number and one small letter, as 1231a";
         let words = out.as_slice().strip_prefix(b"I2 BadFrame: ").ok_or("name")?;
         same_in(text, words.strip_suffix(end), Some(quoted.as_bytes()))?;

@@ -22,13 +22,13 @@ price_words ceiling fault =
     codes "PRICE: frame " ++ (frame_text fault.frame ++ (codes " costs " ++ (decimal fault.price ++
     (codes ", the ceiling is " ++ (decimal ceiling ++ shown_by fault.script)))))
 
--- Of a frame that is given as rows only double height in row 22 writes into a service row: the law `rows_are_clean`.
+-- In a frame that is given as rows only double height in row 22 writes into a service row: the law `rows_are_clean`.
 abbrev pub row_touches_words : Fault → List ℕ
 row_touches_words fault =
     codes "TOUCHES: row 22 of frame " ++ (frame_text fault.frame ++
     (codes " has double height, which writes into the last row" ++ shown_by fault.script))
 
--- Of a body the byte is named that writes, and the position of the start from which it does.
+-- For a body the words name the byte that writes, and the position of the start from which it does.
 abbrev pub body_touches_words : Option Start → Fault → List ℕ
 body_touches_words None fault =
     codes "TOUCHES: the body of frame " ++ (frame_text fault.frame ++ (codes " writes into a service row" ++

@@ -59,7 +59,7 @@ char_text c = if is_control c || is_blank c then code_text c else shown_text c
 abbrev pub escaped : ℕ → List ℕ
 escaped c = if is_control c then codes "\\u" ++ hex4 c else if c == 34 || c == 92 then 92 ∷ c ∷ [] else encode_utf8 c
 
--- at most so many characters of a text, and dots if it has more
+-- a text up to this number of characters, and dots if it has more
 abbrev pub escaped_up_to : ℕ → List ℕ → List ℕ
 escaped_up_to most [] = []
 escaped_up_to zero (c ∷ cs) = codes "..."

@@ -10,7 +10,7 @@ use Rattle.base_text.specs.declared.detail.Detail.TheVariants.{UnknownKey, Absen
 use Rattle.base_text.specs.declared.detail.ValueKind.{ValueKind}
 use Rattle.base_text.specs.declared.detail.ValueKind.TheVariants as value
 use Rattle.base_text.specs.declared.detail.TextFault.{TextFault}
-use Rattle.lint_words.specs.Pieces.{grouped, quoted, char_text, frame_name}
+use Rattle.lint_words.specs.Pieces.{grouped, number_of, quoted, char_text, frame_name}
 use Rattle.lint_words.specs.KeyPieces.{key_text, key_subject, item_text, out_of_range_text}
 use Rattle.lint_words.specs.NearKeys.{nearest, named_keys}
 
@@ -88,29 +88,29 @@ unknown_text table.Routes = codes " is not a key of routes, use the digits 0 to 
 
 -- with the key that was probably meant, if there is one
 abbrev pub unknown_as : TableKind → List ℕ → Option Field → List ℕ
-unknown_as t key None = codes "X3 UnknownKey: " ++ (quoted key ++ unknown_text t)
+unknown_as t key None = quoted key ++ unknown_text t
 unknown_as t key (Some f) =
-    codes "X3 UnknownKey: " ++ (quoted key ++ (unknown_text t ++ (codes "; did you mean " ++ (key_text f ++
-    codes "?"))))
+    quoted key ++ (unknown_text t ++ (codes "; did you mean " ++ (key_text f ++
+    codes "?")))
 
 abbrev pub unknown_words : TableKind → List ℕ → List ℕ
 unknown_words t key = unknown_as t key (nearest key (named_keys t))
 
 -- a key that has to be there and isn't; a frame has one of `body` and `rows`
 abbrev pub absent_words : Field → Option Id → List ℕ
-absent_words field.Entry id = codes "X4 Absent: the base has no \"entry\""
-absent_words field.Body id = codes "X4 Absent: " ++ (frame_name id ++ codes " has no \"body\" and no \"rows\"")
-absent_words f id = codes "X4 Absent: " ++ (frame_name id ++ (codes " has no " ++ key_text f))
+absent_words field.Entry id = codes "the base has no \"entry\""
+absent_words field.Body id = frame_name id ++ codes " has no \"body\" and no \"rows\""
+absent_words f id = frame_name id ++ (codes " has no " ++ key_text f)
 
 -- an element of `frame` that is no table
 abbrev pub no_table_words : ValueKind → List ℕ
-no_table_words k = codes "X5 WrongKind: an item of \"frame\" is " ++ (kind_text k ++ codes ", a table is needed")
+no_table_words k = codes "an item of \"frame\" is " ++ (kind_text k ++ codes ", a table is needed")
 
 -- of a key or an item: what is found, what is needed, and how to fix it
 abbrev pub misfit_words : List ℕ → List ℕ → List ℕ → List ℕ → List ℕ
 misfit_words subject found needed advice =
-    codes "X5 WrongKind: " ++ (subject ++ (codes " is " ++ (found ++ (codes ", " ++ (needed ++ (codes " is needed" ++
-    advice))))))
+    subject ++ (codes " is " ++ (found ++ (codes ", " ++ (needed ++ (codes " is needed" ++
+    advice)))))
 
 abbrev pub wrong_kind_words : Field → ValueKind → Option Id → List ℕ
 wrong_kind_words f k id = misfit_words (key_subject f id) (kind_text k) (needed_text f) (kind_advice f k)
@@ -120,51 +120,51 @@ wrong_item_words f n k id = misfit_words (item_text f n id) (kind_text k) (item_
 
 -- an integer out of its range
 abbrev pub range_words : Field → ℤ → Option Id → List ℕ
-range_words f z id = codes "X6 Range: " ++ (key_subject f id ++ out_of_range_text f z)
+range_words f z id = key_subject f id ++ out_of_range_text f z
 
 abbrev pub item_range_words : Field → ℕ → ℤ → Option Id → List ℕ
-item_range_words f n z id = codes "X6 Range: " ++ (item_text f n id ++ out_of_range_text f z)
+item_range_words f n z id = item_text f n id ++ out_of_range_text f z
 
 abbrev pub lead_words : List ℕ → Option Id → List ℕ
 lead_words text id =
-    codes "X6 Range: " ++ (key_subject field.Lead id ++ (codes " is " ++ (quoted text ++
-    codes ", \"clear\" or \"keep\" is needed")))
+    key_subject field.Lead id ++ (codes " is " ++ (quoted text ++
+    codes ", \"clear\" or \"keep\" is needed"))
 
 -- a character of the body that is no byte
 abbrev pub body_code_words : ℕ → ℕ → Option Id → List ℕ
 body_code_words n c id =
-    codes "X6 Range: character " ++ (grouped n ++ (codes " of " ++ (key_subject field.Body id ++ (codes " is " ++
+    codes "character " ++ (grouped n ++ (codes " of " ++ (key_subject field.Body id ++ (codes " is " ++
     (char_text c ++ (codes ", at most U+00FF is allowed" ++ code_advice c))))))
 
 abbrev pub too_many_rows_words : ℕ → Option Id → List ℕ
 too_many_rows_words n id =
-    codes "X6 Range: " ++ (frame_name id ++ (codes " has " ++ (grouped n ++ codes " rows, at most 22 are allowed")))
+    frame_name id ++ (codes " has " ++ (grouped n ++ codes " rows, at most 22 are allowed"))
 
 abbrev pub body_and_rows_words : Option Id → List ℕ
 body_and_rows_words id =
-    codes "X7 BodyAndRows: " ++ (frame_name id ++ codes " has both \"body\" and \"rows\", leave out one")
+    frame_name id ++ codes " has both \"body\" and \"rows\", leave out one"
 
 abbrev pub long_row_words : ℕ → ℕ → Option Id → List ℕ
 long_row_words row n id =
-    codes "X8 RowTooLong: " ++ (item_text field.Rows row id ++ (codes " has " ++ (grouped n ++
-    codes " characters, at most 40 are allowed")))
+    item_text field.Rows row id ++ (codes " has " ++ (grouped n ++
+    codes " characters, at most 40 are allowed"))
 
 abbrev pub row_code_words : ℕ → ℕ → ℕ → Option Id → List ℕ
 row_code_words row n c id =
-    codes "X9 RowCode: character " ++ (grouped n ++ (codes " of " ++ (item_text field.Rows row id ++ (codes " is " ++
+    codes "character " ++ (grouped n ++ (codes " of " ++ (item_text field.Rows row id ++ (codes " is " ++
     (char_text c ++ (codes ", which no row may have" ++ code_advice c))))))
 
 abbrev pub bad_frame_words : List ℕ → List ℕ
 bad_frame_words text =
-    codes "I2 BadFrame: " ++ (quoted text ++
-    codes " is not a frame id; write a page number and one small letter, as 1231a")
+    quoted text ++
+    codes " is not a frame id; write a page number and one small letter, as 1231a"
 
 -- whether `frame` names the frame of an index, and not the key of the top
 abbrev pub is_element : Option ℕ → Field → Bool
 is_element (Some i) field.Frame = true
 is_element frame f = false
 
--- the code, the name and the words of what is wrong, in a frame's table or at the top
+-- what is wrong, in a frame's table or at the top
 abbrev pub detail_words : Option ℕ → Option Id → Detail → List ℕ
 detail_words frame id (UnknownKey t key) = unknown_words t key
 detail_words frame id (Absent f) = absent_words f id
@@ -180,6 +180,30 @@ detail_words frame id (RowTooLong row n) = long_row_words row n id
 detail_words frame id (RowCode row n c) = row_code_words row n c id
 detail_words frame id (BadFrame text) = bad_frame_words text
 
--- a fault of a text
+-- how many faults of a frame's table or of the top aren't listed
+abbrev pub unlisted_words : Option ℕ → Option Id → ℕ → List ℕ
+unlisted_words None id n = number_of n (codes "more fault") (codes "more faults") ++ codes " at the top, not listed"
+unlisted_words (Some i) id n =
+    number_of n (codes "more fault") (codes "more faults") ++ (codes " in " ++ (frame_name id ++ codes ", not listed"))
+
+-- the code and the name of what is wrong
+abbrev pub code_text : Detail → List ℕ
+code_text (UnknownKey t key) = codes "X3 UnknownKey: "
+code_text (Absent f) = codes "X4 Absent: "
+code_text (WrongKind f k) = codes "X5 WrongKind: "
+code_text (WrongItem f n k) = codes "X5 WrongKind: "
+code_text (Number f z) = codes "X6 Range: "
+code_text (ItemNumber f n z) = codes "X6 Range: "
+code_text (Lead text) = codes "X6 Range: "
+code_text (BodyCode n c) = codes "X6 Range: "
+code_text (TooManyRows n) = codes "X6 Range: "
+code_text BodyAndRows = codes "X7 BodyAndRows: "
+code_text (RowTooLong row n) = codes "X8 RowTooLong: "
+code_text (RowCode row n c) = codes "X9 RowCode: "
+code_text (BadFrame text) = codes "I2 BadFrame: "
+
+-- a fault of a text, or the one that is listed for all others of its table
 abbrev pub text_fault_words : TextFault → List ℕ
-text_fault_words fault = detail_words fault.frame fault.id fault.detail
+text_fault_words fault =
+    code_text fault.detail ++
+    (if fault.unlisted == 0 then detail_words fault.frame fault.id fault.detail else unlisted_words fault.frame fault.id fault.unlisted)

@@ -11,13 +11,15 @@
 //! Each call appends to a list of bytes. If a growth is refused, a part of the words may have been appended. The words
 //! are UTF-8 and have no control character, whatever the base file has, so a finding is one line.
 //!
-//! - A count of bytes, characters, rows, frames, pages or keys has commas (4,130), and so has the number of a byte, a
-//!   character, a row or an item. A price, a page, a group, a line, or an integer of the file has none.
+//! - A count of bytes, characters, rows, frames, pages, keys or faults has commas (4,130), and so has the number of a byte,
+//!   a character, a row or an item. A price, a page, a group, a line, or an integer of the file has none.
 //! - A text of the file is in double quotes, at most 40 characters of it and then `...`. In it a control character (up
 //!   to U+001F, and U+007F to U+009F) is written as `\u0007`, and `"` and `\` follow a `\`.
 //! - A character of the file is shown with its code point, as `£ (U+00A3)`. A control character or a space is shown by
 //!   its code point alone.
 //! - A frame whose `id` doesn't read is `this frame`: the one at the place of the finding.
+//! - A fault that is listed for all others of its table has their number: `X8 RowTooLong: 500 more faults in frame 1a, not
+//!   listed`.
 //! - For an unknown key of the top or of a frame the nearest key of that table is proposed, by the distance of Damerau
 //!   and Levenshtein, in the same case of letters. It is at most two steps away, and fewer than it has letters. Of
 //!   several the first is taken, in the order `entry`, `outside`, `frame`, or `id`, `price`, `group`, `next`, `routes`,

@@ -17,12 +17,12 @@ pub enum Piece<'a> {
     Words(&'a str),
     Page(PageNo),
     Id(FrameId),
-    // A frame, whose id may not read.
+    // A frame by its id, or `this frame`.
     Frame(Option<FrameId>),
     Number(u64),
     // A number with commas.
     Grouped(usize),
-    // A number with commas and a word, for one and for others.
+    // A number with commas, and a word in the singular and in the plural.
     Count(usize, &'a str, &'a str),
     // A text of the file.
     Quoted(&'a str),
@@ -40,7 +40,7 @@ pub enum Piece<'a> {
     Subject(Field, Option<FrameId>),
     // An item of the value of a key.
     Item(Field, usize, Option<FrameId>),
-    // An integer, and what is allowed in its place.
+    // An integer, and the least or the most that is allowed.
     OutOfRange(Field, i64),
 }
 

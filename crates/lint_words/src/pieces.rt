@@ -218,7 +218,7 @@ pub fn push_id(out: &mut Vec<u8>, id: FrameId) -> Result<(), AllocError>
     out.extend_from_slice(id.text().as_bytes())
 }
 
-// A frame, whose id may not read.
+// A frame by its id, or `this frame`.
 #[tactic(auto, using(std::proofs::Common::append_assoc))]
 pub fn push_frame(out: &mut Vec<u8>, id: Option<FrameId>) -> Result<(), AllocError>
     ensures { OnOk result (out.new.items ≡ out.old.items ++ frame_name id) }

@@ -1,10 +1,12 @@
 ghost use Rattle.std.specs.Prelude.{◌≡◌, ◌++◌, OnOk, Some, None};
 ghost use Rattle.base_text.specs.declared.detail.Detail.TheVariants.{WrongKind};
 ghost use Rattle.lint_words.specs.KeyPieces.{key_subject, item_text};
-ghost use Rattle.lint_words.specs.TextWords.{kind_text, needed_text, kind_advice, item_needed, item_advice, code_advice, unknown_text, unknown_as, unknown_words, absent_words, no_table_words, is_element, misfit_words, wrong_kind_words, wrong_item_words, range_words, item_range_words, lead_words, body_code_words, too_many_rows_words, body_and_rows_words, long_row_words, row_code_words, bad_frame_words, detail_words, text_fault_words};
+ghost use Rattle.lint_words.specs.TextWords.{kind_text, needed_text, kind_advice, item_needed, item_advice, code_advice, unknown_text, unknown_as, unknown_words, absent_words, no_table_words, is_element, misfit_words, wrong_kind_words, wrong_item_words, range_words, item_range_words, lead_words, body_code_words, too_many_rows_words, body_and_rows_words, long_row_words, row_code_words, bad_frame_words, detail_words, unlisted_words, code_text, text_fault_words};
 
 use crate::near_key::nearest;
-use crate::piece::Piece::{Char, Frame, Grouped, Item, Key, OutOfRange, Quoted, Subject, Words};
+use crate::piece::Piece::{
+    Char, Count, Frame, Grouped, Item, Key, OutOfRange, Quoted, Subject, Words,
+};
 use crate::piece::push_pieces;
 use base_text::{Detail, Field, TableKind, TextFault, ValueKind};
 use page_ids::FrameId;
@@ -106,14 +108,7 @@ fn unknown_text(table: TableKind) -> &'static str
 fn push_unknown_alone(out: &mut Vec<u8>, table: TableKind, key: &str) -> Result<(), AllocError>
     ensures { OnOk result (out.new.items ≡ out.old.items ++ unknown_as table key.now None) }
 {
-    push_pieces(
-        out,
-        &[
-            Words("X3 UnknownKey: "),
-            Quoted(key),
-            Words(unknown_text(table)),
-        ],
-    )
+    push_pieces(out, &[Quoted(key), Words(unknown_text(table))])
 }
 
 // A key with the one that was probably meant.
@@ -128,7 +123,6 @@ fn push_mistyped(
     push_pieces(
         out,
         &[
-            Words("X3 UnknownKey: "),
             Quoted(key),
             Words(unknown_text(table)),
             Words("; did you mean "),
@@ -156,14 +150,10 @@ fn push_unknown(
 fn push_absent(out: &mut Vec<u8>, field: Field, id: Option<FrameId>) -> Result<(), AllocError>
     ensures { OnOk result (out.new.items ≡ out.old.items ++ absent_words field id) }
 {
-    let name = Words("X4 Absent: ");
     match field {
-        Field::Entry => push_pieces(out, &[name, Words("the base has no \"entry\"")]),
-        Field::Body => push_pieces(
-            out,
-            &[name, Frame(id), Words(" has no \"body\" and no \"rows\"")],
-        ),
-        _ => push_pieces(out, &[name, Frame(id), Words(" has no "), Key(field)]),
+        Field::Entry => push_pieces(out, &[Words("the base has no \"entry\"")]),
+        Field::Body => push_pieces(out, &[Frame(id), Words(" has no \"body\" and no \"rows\"")]),
+        _ => push_pieces(out, &[Frame(id), Words(" has no "), Key(field)]),
     }
 }
 
@@ -174,7 +164,7 @@ fn push_no_table(out: &mut Vec<u8>, kind: ValueKind) -> Result<(), AllocError>
     push_pieces(
         out,
         &[
-            Words("X5 WrongKind: an item of \"frame\" is "),
+            Words("an item of \"frame\" is "),
             Words(kind_text(kind)),
             Words(", a table is needed"),
         ],
@@ -196,7 +186,6 @@ fn push_key_misfit<'a>(
     push_pieces(
         out,
         &[
-            Words("X5 WrongKind: "),
             Subject(field, id),
             Words(" is "),
             Words(found),
@@ -224,7 +213,6 @@ fn push_item_misfit<'a>(
     push_pieces(
         out,
         &[
-            Words("X5 WrongKind: "),
             Item(field, number, id),
             Words(" is "),
             Words(found),
@@ -269,14 +257,7 @@ fn push_range(
 ) -> Result<(), AllocError>
     ensures { OnOk result (out.new.items ≡ out.old.items ++ range_words field number id) }
 {
-    push_pieces(
-        out,
-        &[
-            Words("X6 Range: "),
-            Subject(field, id),
-            OutOfRange(field, number),
-        ],
-    )
+    push_pieces(out, &[Subject(field, id), OutOfRange(field, number)])
 }
 
 fn push_item_range(
@@ -288,14 +269,7 @@ fn push_item_range(
 ) -> Result<(), AllocError>
     ensures { OnOk result (out.new.items ≡ out.old.items ++ item_range_words field item number id) }
 {
-    push_pieces(
-        out,
-        &[
-            Words("X6 Range: "),
-            Item(field, item, id),
-            OutOfRange(field, number),
-        ],
-    )
+    push_pieces(out, &[Item(field, item, id), OutOfRange(field, number)])
 }
 
 fn push_lead(out: &mut Vec<u8>, text: &str, id: Option<FrameId>) -> Result<(), AllocError>
@@ -304,7 +278,6 @@ fn push_lead(out: &mut Vec<u8>, text: &str, id: Option<FrameId>) -> Result<(), A
     push_pieces(
         out,
         &[
-            Words("X6 Range: "),
             Subject(Field::Lead, id),
             Words(" is "),
             Quoted(text),
@@ -325,7 +298,7 @@ fn push_body_code(
     push_pieces(
         out,
         &[
-            Words("X6 Range: character "),
+            Words("character "),
             Grouped(number),
             Words(" of "),
             Subject(Field::Body, id),
@@ -347,7 +320,6 @@ fn push_too_many_rows(
     push_pieces(
         out,
         &[
-            Words("X6 Range: "),
             Frame(id),
             Words(" has "),
             Grouped(count),
@@ -362,7 +334,6 @@ fn push_body_and_rows(out: &mut Vec<u8>, id: Option<FrameId>) -> Result<(), Allo
     push_pieces(
         out,
         &[
-            Words("X7 BodyAndRows: "),
             Frame(id),
             Words(" has both \"body\" and \"rows\", leave out one"),
         ],
@@ -380,7 +351,6 @@ fn push_long_row(
     push_pieces(
         out,
         &[
-            Words("X8 RowTooLong: "),
             Item(Field::Rows, row, id),
             Words(" has "),
             Grouped(length),
@@ -401,7 +371,7 @@ fn push_row_code(
     push_pieces(
         out,
         &[
-            Words("X9 RowCode: character "),
+            Words("character "),
             Grouped(number),
             Words(" of "),
             Item(Field::Rows, row, id),
@@ -419,7 +389,6 @@ fn push_bad_frame(out: &mut Vec<u8>, text: &str) -> Result<(), AllocError>
     push_pieces(
         out,
         &[
-            Words("I2 BadFrame: "),
             Quoted(text),
             Words(" is not a frame id; write a page number and one small letter, as 1231a"),
         ],
@@ -453,13 +422,9 @@ fn push_wrong_value(
     }
 }
 
-/// Appends the code, the name and the words of a fault of a text, with what was found and how to fix it.
-pub fn push_text_fault(
-    alloc: Global,
-    out: &mut Vec<u8>,
-    fault: &TextFault,
-) -> Result<(), AllocError>
-    ensures { OnOk result (out.new.items ≡ out.old.items ++ text_fault_words fault.now) }
+// What is wrong, and how to fix it.
+fn push_detail(alloc: Global, out: &mut Vec<u8>, fault: &TextFault) -> Result<(), AllocError>
+    ensures { OnOk result (out.new.items ≡ out.old.items ++ detail_words fault.now.frame fault.now.id fault.now.detail) }
 {
     let id = fault.id;
     match &fault.detail {
@@ -476,5 +441,57 @@ pub fn push_text_fault(
         Detail::RowTooLong(row, length) => push_long_row(out, *row, *length, id),
         Detail::RowCode(row, n, c) => push_row_code(out, *row, *n, *c, id),
         Detail::BadFrame(text) => push_bad_frame(out, text.as_str()),
+    }
+}
+
+// How many faults of a frame or of the top aren't listed.
+fn push_unlisted(out: &mut Vec<u8>, fault: &TextFault) -> Result<(), AllocError>
+    ensures { OnOk result (out.new.items ≡ out.old.items ++ unlisted_words fault.now.frame fault.now.id fault.now.unlisted) }
+{
+    let count = Count(fault.unlisted, "more fault", "more faults");
+    match fault.frame {
+        None => push_pieces(out, &[count, Words(" at the top, not listed")]),
+        Some(_) => push_pieces(
+            out,
+            &[count, Words(" in "), Frame(fault.id), Words(", not listed")],
+        ),
+    }
+}
+
+// The code and the name of what is wrong.
+fn code_text(detail: &Detail) -> &'static str
+    ensures { result.now ≡ code_text detail.now }
+{
+    match detail {
+        Detail::UnknownKey(_, _) => "X3 UnknownKey: ",
+        Detail::Absent(_) => "X4 Absent: ",
+        Detail::WrongKind(_, _) | Detail::WrongItem(_, _, _) => "X5 WrongKind: ",
+        Detail::Number(_, _)
+        | Detail::ItemNumber(_, _, _)
+        | Detail::Lead(_)
+        | Detail::BodyCode(_, _)
+        | Detail::TooManyRows(_) => "X6 Range: ",
+        Detail::BodyAndRows => "X7 BodyAndRows: ",
+        Detail::RowTooLong(_, _) => "X8 RowTooLong: ",
+        Detail::RowCode(_, _, _) => "X9 RowCode: ",
+        Detail::BadFrame(_) => "I2 BadFrame: ",
+    }
+}
+
+/// Appends the code, the name and the words of a fault of a text, with what was found and how to fix it; if it is the one
+/// that is listed for all others of its table, how many these are.
+#[tactic(auto, using(std::proofs::Common::append_assoc))]
+pub fn push_text_fault(
+    alloc: Global,
+    out: &mut Vec<u8>,
+    fault: &TextFault,
+) -> Result<(), AllocError>
+    ensures { OnOk result (out.new.items ≡ out.old.items ++ text_fault_words fault.now) }
+{
+    out.extend_from_slice(code_text(&fault.detail).as_bytes())?;
+    if fault.unlisted == 0 {
+        push_detail(alloc, out, fault)
+    } else {
+        push_unlisted(out, fault)
     }
 }

@@ -18,13 +18,13 @@ returns-in-Some c =
     c.as_slice-in-Some.ensures.value ∙ c.in_ok-tables.ensures ∙ rw (c.as_slice.ensures.value, c.as_slice-2.ensures.value)
     (ap (λ (v : DraftView). tables_of v.frames v.tables) c.draft.view_is) in
     weaken c.audited.result (λ fs audited.
-      let has : HasBase text policy fs.items base draft = record {
-        whole = c.in_ok-whole.whole.items;
-        are = c.in_ok-whole.ensures;
-        listed = listed;
-        audited = subst (λ t. AreAuditFindings (marks text) t base policy fs.items) tables (audited c.requires.0 (parsed text c.requires.0 c.requires.2));
-      } in
-      of_base c.whole_faults_agree.ensures.agree c.whole_faults_agree.ensures.tables c.drafts_are_sound.ensures.entry text policy fs.items base draft c.requires has) c.audited.ensures
+    let has : HasBase text policy fs.items base draft = record {
+      whole = c.in_ok-whole.whole.items;
+      are = c.in_ok-whole.ensures;
+      listed = listed;
+      audited = subst (λ t. AreAuditFindings (marks text) t base policy fs.items) tables (audited c.requires.0 (parsed text c.requires.0 c.requires.2));
+    } in
+    of_base c.whole_faults_agree.ensures.agree c.whole_faults_agree.ensures.tables c.drafts_are_sound.ensures.entry c.faults_are_listed.ensures.first text policy fs.items base draft c.requires has) c.audited.ensures
 
 pub returns : goal.returns
 returns c =
@@ -36,12 +36,12 @@ returns c =
     (subst (λ faults. IsRefused faults d.entry d.outside.items d.frames.items) c.as_slice-3.ensures.value c.in-None.ensures) in
     let faults = c.as_slice-in-None.ensures.value ∙ ap (λ (v : DraftView). v.faults) c.draft.view_is in
     weaken c.faulty.result (λ fs found.
-      let has : HasNone text fs.items draft = record {
-        whole = c.in_ok-whole.whole.items;
-        are = c.in_ok-whole.ensures;
-        refused = refused;
-        are_findings = found c.requires.0 (parsed text c.requires.0 c.requires.2)
-        ∙ ap (λ faults. map (text_finding (marks text)) faults ++ map (whole_finding text (marks text)) c.as_slice-in-None-2.result.now) faults
-        ∙ ap (λ whole. map (text_finding (marks text)) draft.faults ++ map (whole_finding text (marks text)) whole) c.as_slice-in-None-2.ensures.value;
-      } in
-      of_faults c.whole_faults_agree.ensures.agree c.whole_faults_agree.ensures.tables c.drafts_are_sound.ensures.entry text policy fs.items draft c.requires has) c.faulty.ensures
+    let has : HasNone text fs.items draft = record {
+      whole = c.in_ok-whole.whole.items;
+      are = c.in_ok-whole.ensures;
+      refused = refused;
+      are_findings = found c.requires.0 (parsed text c.requires.0 c.requires.2)
+          ∙ ap (λ faults. map (text_finding (marks text)) faults ++ map (whole_finding text (marks text)) c.as_slice-in-None-2.result.now) faults
+          ∙ ap (λ whole. map (text_finding (marks text)) draft.faults ++ map (whole_finding text (marks text)) whole) c.as_slice-in-None-2.ensures.value;
+    } in
+    of_faults c.whole_faults_agree.ensures.agree c.whole_faults_agree.ensures.tables c.drafts_are_sound.ensures.entry c.faults_are_listed.ensures.first text policy fs.items draft c.requires has) c.faulty.ensures
