@@ -30,9 +30,10 @@ class Function:
 
     @property
     def path(self):
-        """Its path below the crate, as rt has it."""
-        owner = f"{self.owner}+{self.trait}" if self.trait else self.owner
-        return "::".join(part for part in (self.module.replace("lib", ""), owner, self.name) if part)
+        """The end of its name as rt has it: a type's module needn't be the one of its methods."""
+        if self.owner:
+            return f"{self.owner}+{self.trait}::{self.name}" if self.trait else self.title
+        return self.name if self.module == "lib" else f"{self.module}::{self.name}"
 
 
 def functions(path):
