@@ -1,5 +1,5 @@
 ghost use Rattle.std.specs.Prelude.{◌≡◌, false, OnOk, IfErr};
-ghost use Rattle.devices.specs.Devices.{WroteWhole, WrotePart};
+ghost use Rattle.devices.specs.Devices.{TookAll, WroteWhole, WrotePart};
 
 use crate::device::Sink;
 use thiserror::Error;
@@ -15,7 +15,7 @@ pub struct WriteFault {
 // Writes all the bytes, without a flush.
 fn write_all<S: Sink>(sink: &mut S, bytes: &[u8]) -> Result<(), WriteFault>
     requires { (S.seen sink.old).failed ≡ false }
-    ensures whole { OnOk result (WroteWhole (S.seen sink.old) (S.seen sink.new) bytes.now) }
+    ensures whole { OnOk result (TookAll (S.seen sink.old) (S.seen sink.new) bytes.now) }
     ensures part { IfErr result (λ fault. WrotePart (S.seen sink.old) (S.seen sink.new) bytes.now fault.wrote) }
 {
     let mut wrote = 0;
