@@ -59,6 +59,20 @@ pub record TookAll (old new : Seen) (bytes : List ℕ) : Type 0 where
   pub unbroken : new.failed ≡ false
   pub unflushed : new.flushes ≡ old.flushes
 
+-- the sink took the first n of the bytes, but not all, was not flushed and failed
+pub record TookPart (old new : Seen) (bytes : List ℕ) (n : ℕ) : Type 0 where
+  pub short : n < length bytes
+  pub taken : Appends old.bytes new.bytes (take n bytes)
+  pub broken : new.failed ≡ true
+  pub unflushed : new.flushes ≡ old.flushes
+
+-- of the first bytes of a text the sink took `wrote`, and the others are kept
+pub record IsOnItsWay (old new : Seen) (kept : List ℕ) (wrote : ℕ) (text : List ℕ) : Type 0 where
+  pub front : List ℕ
+  pub all : text ≡ front ++ kept
+  pub counted : length front ≡ wrote
+  pub took : TookAll old new front
+
 -- the sink took all of the bytes, was flushed once and has not failed
 pub record WroteWhole (old new : Seen) (bytes : List ℕ) : Type 0 where
   pub taken : Appends old.bytes new.bytes bytes
