@@ -13,7 +13,7 @@ use Rattle.frame_records.specs.Bases.{BaseView, frame_at}
 use Rattle.frame_records.specs.Seek.{entry_of, seek_entry}
 use Rattle.finder.specs.declared.found.Discovered.{Discovered}
 use Rattle.finder.specs.Finds.{IsFinding, script, FindsReached, IsReached}
-use Rattle.base_list.specs.declared.listing.Listing.{Listing}
+use Rattle.base_list.specs.Views.{ListingView}
 use Rattle.base_list.specs.declared.reached.Reached.{Reached}
 
 -- a number, or `-` if there is none
@@ -91,8 +91,8 @@ IsTextBy (sought.Found price) caller base text is_found = AreAllLines caller bas
 abbrev pub IsListText : List ℕ → BaseView → List ℕ → Bool → Type 0
 IsListText caller base text is_found = IsTextBy (seek_entry caller base) caller base text is_found
 
-abbrev pub IsListing : List ℕ → BaseView → Listing → Type 0
-IsListing caller base listing = IsListText caller base listing.text.items listing.entry_is_found
+abbrev pub IsListing : List ℕ → BaseView → ListingView → Type 0
+IsListing caller base listing = IsListText caller base listing.text listing.entry_is_found
 
 -- the ids of these frames are known
 abbrev pub Knows : List Discovered → Reached → Type 0

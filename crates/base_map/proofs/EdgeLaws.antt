@@ -13,7 +13,7 @@ use Rattle.frame_records.specs.declared.frame.Frame.{Frame}
 use Rattle.frame_records.specs.declared.base.Sought.TheVariants as found
 use Rattle.frame_records.specs.Bases.{BaseView, frame_at}
 use Rattle.frame_records.specs.Seek.{seek}
-use Rattle.frame_records.specs.Ways.{sought, sought_by, Leads, destination}
+use Rattle.frame_records.specs.Ways.{sought, sought_by, Leads}
 use Rattle.frame_records.specs.WayLaws.{offered_place, goes, going, found_sought}
 use Rattle.frame_records.specs.declared.ways.Destination.TheVariants as destination
 use Rattle.base_map.specs.declared.exits.Exit.{Exit}

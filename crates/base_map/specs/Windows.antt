@@ -1,9 +1,9 @@
 -- The frames near a page.
-use Rattle.std.specs.Prelude.{◌≡◌, ◌≤◌, ℕ, zero, suc, Bool, true, List, Option, Some, None, nat_lt, Vec}
+use Rattle.std.specs.Prelude.{◌≡◌, ◌≤◌, ℕ, zero, suc, Bool, true, false, List, Option, Some, None, nat_lt, Vec}
 use Rattle.page_ids.specs.Ids.{Id, first_frame}
-use Rattle.frame_records.specs.Bases.{BaseView, frame_at}
+use Rattle.frame_records.specs.Bases.{BaseView}
 use Rattle.finder.specs.Finds.{Walk}
-use Rattle.base_map.specs.Edges.{has_id}
+use Rattle.base_map.specs.Edges.{has_id, is_lacked}
 use Rattle.std.specs.declared.alloc.Global.{Global}
 use Rattle.base_map.specs.declared.view.View.{View}
 use Rattle.base_map.specs.declared.view.View.TheVariants.{Whole, From, To}
@@ -39,15 +39,16 @@ pub record AreTo (caller : List ℕ) (base : BaseView) (page : ℕ) (most : Opti
   pub sound : (id : Id) → has_id ids id ≡ true → (n : ℕ) × IsWithin most n × Walk caller base id (first_frame page) n
   pub whole : (id : Id) (n : ℕ) → IsWithin most n → Walk caller base id (first_frame page) n → has_id ids id ≡ true
 
--- a part of these frames, if the base has the page's frame `a`
+-- a part that shows these frames
 pub record IsPartOf (Are : List Id → Type 0) (part : Option (List Id)) : Type 0 where
   pub ids : List Id
   pub only : part ≡ Some ids
   pub are : Are ids
 
+-- that part, or none if the base lacks the frame
 abbrev pub IsWindow : BaseView → ℕ → (List Id → Type 0) → Option (Option (List Id)) → Type 0
-IsWindow base page Are None = frame_at base (first_frame page) ≡ None
-IsWindow base page Are (Some part) = IsPartOf Are part
+IsWindow base page Are None = is_lacked base (first_frame page) ≡ true
+IsWindow base page Are (Some part) = (is_lacked base (first_frame page) ≡ false) × IsPartOf Are part
 
 -- What a map shows of a base.
 

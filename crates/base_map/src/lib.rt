@@ -11,8 +11,7 @@
 //! - [`Part`]: the frames that it shows. [`from_page`], [`to_page`]: those near a page.
 //! - [`map_view`], [`View`]: the map of a part that is named by a page and a number of keys.
 //! - [`edges_are_ways`]: what its edges are.
-//! - Definitions: the text (`MapText`, `Nodes`, `Edges`, `Lost`, `Titles`), its edges (`MapLaws`), the frames near a
-//!   page (`Windows`).
+//! - Definitions: the text (`Map`, `Nodes`, `Edges`), the frames near a page (`Windows`).
 #![tactic(auto)]
 
 mod drawing;

@@ -53,7 +53,8 @@ pub fn from_page(
 ) -> Result<Option<Part>, AllocError>
     ensures { IfOk result (IsWindow base.now page (AreFrom groups.now base.now page most)) }
 {
-    if base.find(FrameId::first(page)).is_none() {
+    let from = FrameId::first(page);
+    if base.find(from).is_none() {
         return Ok(None);
     }
     Ok(Some(frames_from(alloc, base, groups, page, most)?))
@@ -70,7 +71,8 @@ pub fn to_page(
 ) -> Result<Option<Part>, AllocError>
     ensures { IfOk result (IsWindow base.now page (AreTo groups.now base.now page most)) }
 {
-    if base.find(FrameId::first(page)).is_none() {
+    let to = FrameId::first(page);
+    if base.find(to).is_none() {
         return Ok(None);
     }
     Ok(Some(frames_to(alloc, base, groups, page, most)?))

@@ -13,7 +13,7 @@ pub struct FromRead<R> {
 impl<R: Read> FromRead<R> {
     /// A source of the bytes that the reader still gives.
     pub fn new(inner: R) -> FromRead<R>
-        ensures { ⟦<FromRead<R> as Source>⟧.seen result ≡ record { bytes = R.remaining inner; failed = false } }
+        ensures { ⟦<FromRead<R> as Source>⟧.seen result ≡ record { bytes = R.remaining inner; failed = false; flushes = 0 } }
     {
         FromRead {
             inner,
@@ -23,7 +23,7 @@ impl<R: Read> FromRead<R> {
 }
 
 impl<R: Read> Source for FromRead<R> {
-    ghost seen = { λ s. record { bytes = R.remaining s.inner; failed = s.failed } };
+    ghost seen = { λ s. record { bytes = R.remaining s.inner; failed = s.failed; flushes = 0 } };
 
     fn read(&mut self, into: &mut [u8]) -> Result<usize, Broken> {
         match self.inner.read(into) {

@@ -8,22 +8,24 @@ use std::io::Write;
 pub struct IntoWrite<W> {
     inner: W,
     failed: bool,
+    flushes: u8,
 }
 
 impl<W: Write> IntoWrite<W> {
     /// A sink whose bytes go to the writer.
     pub fn new(inner: W) -> IntoWrite<W>
-        ensures { ⟦<IntoWrite<W> as Sink>⟧.seen result ≡ record { bytes = W.contents inner; failed = false } }
+        ensures { ⟦<IntoWrite<W> as Sink>⟧.seen result ≡ record { bytes = W.contents inner; failed = false; flushes = 0 } }
     {
         IntoWrite {
             inner,
             failed: false,
+            flushes: 0,
         }
     }
 }
 
 impl<W: Write> Sink for IntoWrite<W> {
-    ghost seen = { λ s. record { bytes = W.contents s.inner; failed = s.failed } };
+    ghost seen = { λ s. record { bytes = W.contents s.inner; failed = s.failed; flushes = s.flushes } };
 
     fn write(&mut self, bytes: &[u8]) -> Result<usize, Broken> {
         match self.inner.write(bytes) {
@@ -36,6 +38,7 @@ impl<W: Write> Sink for IntoWrite<W> {
     }
 
     fn flush(&mut self) -> Result<(), Broken> {
+        self.flushes = self.flushes.saturating_add(1);
         match self.inner.flush() {
             Ok(()) => Ok(()),
             Err(_) => {

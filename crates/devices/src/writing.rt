@@ -1,5 +1,5 @@
 ghost use Rattle.std.specs.Prelude.{◌≡◌, false, OnOk, IfErr};
-ghost use Rattle.devices.specs.Devices.{WroteWhole, WrotePart};
+ghost use Rattle.devices.specs.Devices.{TookAll, TookPart, WroteWhole, WrotePart};
 
 use crate::device::Sink;
 use thiserror::Error;
@@ -13,10 +13,10 @@ pub struct WriteFault {
 }
 
 // Writes all the bytes, without a flush.
-fn write_all<S: Sink>(sink: &mut S, bytes: &[u8]) -> Result<(), WriteFault>
+pub fn write_all<S: Sink>(sink: &mut S, bytes: &[u8]) -> Result<(), WriteFault>
     requires { (S.seen sink.old).failed ≡ false }
-    ensures whole { OnOk result (WroteWhole (S.seen sink.old) (S.seen sink.new) bytes.now) }
-    ensures part { IfErr result (λ fault. WrotePart (S.seen sink.old) (S.seen sink.new) bytes.now fault.wrote) }
+    ensures whole { OnOk result (TookAll (S.seen sink.old) (S.seen sink.new) bytes.now) }
+    ensures part { IfErr result (λ fault. TookPart (S.seen sink.old) (S.seen sink.new) bytes.now fault.wrote) }
 {
     let mut wrote = 0;
     while wrote < bytes.len() {

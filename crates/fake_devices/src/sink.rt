@@ -1,4 +1,5 @@
-ghost use Rattle.std.specs.Prelude.{◌≡◌, true, false, None};
+ghost use Rattle.std.specs.Prelude.{◌≡◌, true, false, None, min, MatchResult};
+ghost use Rattle.devices.specs.Devices.{WritesSome, one_more};
 
 use devices::{Broken, Sink};
 use std::alloc::Global;
@@ -71,18 +72,20 @@ impl FakeSink {
 
     // The call fails, and there is room again.
     fn fail(&mut self) -> Broken
-        ensures { self.new.failed ≡ true }
+        ensures failed { self.new.failed ≡ true }
+        ensures unflushed { self.new.flushes ≡ self.old.flushes }
     {
         self.failed = true;
         self.room = usize::MAX;
         Broken
     }
-}
 
-impl Sink for FakeSink {
-    ghost seen = { λ s. record { bytes = None; failed = s.failed } };
-
-    fn write(&mut self, bytes: &[u8]) -> Result<usize, Broken> {
+    // A write, also to a sink that has failed.
+    fn take(&mut self, bytes: &[u8]) -> Result<usize, Broken>
+        ensures fits { WritesSome result bytes.now }
+        ensures unflushed { self.new.flushes ≡ self.old.flushes }
+        ensures flag { MatchResult result (λ _. self.new.failed ≡ self.old.failed) (λ _. self.new.failed ≡ true) }
+    {
         self.writes = self.writes.wrapping_add(1);
         let count = bytes.len().min(self.step.max(1)).min(self.room);
         let is_full = count == 0 && !bytes.is_empty();
@@ -93,14 +96,30 @@ impl Sink for FakeSink {
         Ok(count)
     }
 
-    fn flush(&mut self) -> Result<(), Broken> {
-        self.flushes = self.flushes.wrapping_add(1);
+    // A flush, also of a sink that has failed.
+    fn send(&mut self) -> Result<(), Broken>
+        ensures flushed { min self.new.flushes 255 ≡ one_more (min self.old.flushes 255) }
+        ensures flag { MatchResult result (λ _. self.new.failed ≡ self.old.failed) (λ _. self.new.failed ≡ true) }
+    {
+        self.flushes = self.flushes.saturating_add(1);
         if self.flush_fails {
             self.flush_fails = false;
             return Err(self.fail());
         }
         self.flushed = self.taken.len();
         Ok(())
+    }
+}
+
+impl Sink for FakeSink {
+    ghost seen = { λ s. record { bytes = None; failed = s.failed; flushes = min s.flushes 255 } };
+
+    fn write(&mut self, bytes: &[u8]) -> Result<usize, Broken> {
+        self.take(bytes)
+    }
+
+    fn flush(&mut self) -> Result<(), Broken> {
+        self.send()
     }
 
     fn failed(&self) -> bool {
@@ -110,7 +129,7 @@ impl Sink for FakeSink {
 
 impl Write for FakeSink {
     fn write(&mut self, bytes: &[u8]) -> io::Result<usize> {
-        match Sink::write(self, bytes) {
+        match self.take(bytes) {
             Ok(count) => Ok(count),
             Err(_) if self.stalls => Ok(0),
             Err(_) => Err(io::Error::from(ErrorKind::Other)),
@@ -118,6 +137,6 @@ impl Write for FakeSink {
     }
 
     fn flush(&mut self) -> io::Result<()> {
-        Sink::flush(self).map_err(|_| io::Error::from(ErrorKind::Other))
+        self.send().map_err(|_| io::Error::from(ErrorKind::Other))
     }
 }

@@ -1,4 +1,5 @@
-ghost use Rattle.std.specs.Prelude.{◌≡◌, false, None};
+ghost use Rattle.std.specs.Prelude.{◌≡◌, true, false, None, MatchResult};
+ghost use Rattle.std.specs.Io.{ReadsAtMost};
 
 use devices::{Broken, Source};
 use std::io;
@@ -54,12 +55,12 @@ impl<'a> FakeSource<'a> {
             failed: false,
         }
     }
-}
 
-impl Source for FakeSource<'_> {
-    ghost seen = { λ s. record { bytes = None; failed = s.failed } };
-
-    fn read(&mut self, into: &mut [u8]) -> Result<usize, Broken> {
+    // A read, also of a source that has failed.
+    fn give(&mut self, into: &mut [u8]) -> Result<usize, Broken>
+        ensures fits { ReadsAtMost result into.new }
+        ensures flag { MatchResult result (λ _. self.new.failed ≡ self.old.failed) (λ _. self.new.failed ≡ true) }
+    {
         self.calls = self.calls.wrapping_add(1);
         if self.bytes.is_empty() {
             self.bytes = self.after;
@@ -76,6 +77,14 @@ impl Source for FakeSource<'_> {
         self.bytes = &self.bytes[count..];
         Ok(count)
     }
+}
+
+impl Source for FakeSource<'_> {
+    ghost seen = { λ s. record { bytes = None; failed = s.failed; flushes = 0 } };
+
+    fn read(&mut self, into: &mut [u8]) -> Result<usize, Broken> {
+        self.give(into)
+    }
 
     fn failed(&self) -> bool {
         self.failed
@@ -84,6 +93,6 @@ impl Source for FakeSource<'_> {
 
 impl Read for FakeSource<'_> {
     fn read(&mut self, into: &mut [u8]) -> io::Result<usize> {
-        Source::read(self, into).map_err(|_| io::Error::from(ErrorKind::Other))
+        self.give(into).map_err(|_| io::Error::from(ErrorKind::Other))
     }
 }

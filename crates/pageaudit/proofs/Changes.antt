@@ -22,7 +22,7 @@ use Rattle.pageaudit.specs.ChangeRun.{EditionFiles, IsEditionOf, IsEditionFault,
 
 -- a device that was not called
 pub untouched : {D : Type 0} (seen : D → Seen) (d : D) → (seen d).failed ≡ false → IsUntouched (device seen d d)
-untouched seen d unbroken = record { kept = Keeps-refl (seen d).bytes; unbroken = unbroken }
+untouched seen d unbroken = record { kept = Keeps-refl (seen d).bytes; unbroken = unbroken; unflushed = refl }
 
 files_within : (files : EditionFiles) → AreUntouched files → AreReadWithin files
 files_within files h = (untouched_within base_limit files.base h.0, untouched_within cert_limit files.cert h.1)

@@ -30,13 +30,14 @@ pub record Device : Type 0 where
 abbrev pub device : {D : Type 0} → (D → Seen) → D → D → Device
 device seen old new = record { before = seen old; after = seen new }
 
--- nothing was read from it or written to it, and no call failed
+-- nothing was read from it or written to it, it was not flushed, and no call failed
 pub record IsUntouched (d : Device) : Type 0 where
   pub kept : Keeps d.before.bytes d.after.bytes
   pub unbroken : d.after.failed ≡ false
+  pub unflushed : d.after.flushes ≡ d.before.flushes
 
--- the answer for a text and its status, and the output: the status if the whole text was taken; a write fault if its first
--- bytes were taken and then a call failed; out of memory if nothing was written
+-- the answer for a text and its status, and the output: the status if the whole text was taken and flushed once; a write fault
+-- if its first bytes were taken and then a call failed, the flush if these are all; out of memory if nothing was written
 abbrev pub IsTextWritten : {A : Type 0} → Device → List ℕ → A → Result A RunFault → Type 0
 IsTextWritten out text status (Ok s) = WroteWhole out.before out.after text × (s ≡ status)
 IsTextWritten out text status (Err (run.Write wrote)) = WrotePart out.before out.after text wrote

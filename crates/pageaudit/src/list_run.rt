@@ -4,7 +4,6 @@ ghost use Rattle.pageaudit.specs.ListRun.{IsListRun, status_of_entry};
 
 use crate::file_fault::base_fault;
 use crate::input::read_base;
-use crate::output::write_text;
 use crate::status::Status;
 use audit_report::{RunFault, Sink, Source};
 use base_list::{Listing, list};
@@ -23,23 +22,23 @@ fn status_of_entry(is_found: bool) -> Status
 }
 
 // Writes a list.
-fn write_listing<O: Sink>(out: &mut O, listing: &Listing) -> Result<Status, RunFault>
+fn write_listing<O: Sink>(out: &mut O, listing: Listing<'_>) -> Result<Status, RunFault>
     requires { (O.seen out.old).failed ≡ false }
-    ensures { IsTextWritten (device O.seen out.old out.new) listing.now.text.items
-        (status_of_entry listing.now.entry_is_found) result }
+    ensures { IsTextWritten (device O.seen out.old out.new) listing.entry.text
+        (status_of_entry listing.entry.entry_is_found) result }
 {
-    write_text(
-        out,
-        listing.text.as_slice(),
-        status_of_entry(listing.entry_is_found),
-    )
+    let status = status_of_entry(listing.entry_is_found());
+    match listing.write(out) {
+        Ok(()) => Ok(status),
+        Err(fault) => Err(RunFault::Write(fault.wrote)),
+    }
 }
 
 /// Lists the frames of a base: those that a caller of the groups can reach, and then the others. If the entry frame is missing
 /// or closed to the caller, its line is the only one, and the status is Faulty.
 ///
-/// The base is read whole and judged first. On every fault except `Write`, nothing was written. A device is not called
-/// again after it returned an error.
+/// The base is read whole and judged first, and all the memory is taken that the list needs, which is written piece by piece. On
+/// every fault except `Write`, nothing was written. A device is not called again after it returned an error.
 pub fn run_list<B: Source, O: Sink>(
     alloc: Global,
     base: &mut B,
@@ -58,7 +57,7 @@ pub fn run_list<B: Source, O: Sink>(
         Err(fault) => return Err(base_fault(fault)),
     };
     match list(alloc, &base, groups) {
-        Ok(listing) => write_listing(out, &listing),
+        Ok(listing) => write_listing(out, listing),
         Err(_) => Err(RunFault::Memory),
     }
 }

@@ -1,11 +1,13 @@
 //! The list of a base.
 
-use assertions::same_in;
+use assertions::{same, same_in};
 use base_list::list;
 use base_text::base_read;
 use demo_texts::DEMO;
-use frame_records::Groups;
-use std::alloc::Global;
+use devices::WriteFault;
+use fake_devices::FakeSink;
+use frame_records::{Base, Groups};
+use std::alloc::{AllocError, Global};
 use std::test::Fail;
 
 // What the list of a base is, for a caller of these groups.
@@ -24,8 +26,10 @@ fn lists(
     match (base_read(alloc, base.as_bytes()), groups) {
         (Ok(base), Ok(groups)) => {
             let listing = list(alloc, &base, &groups)?;
-            same_in(text, str::from_utf8(listing.text.as_slice()), Ok(text))?;
-            same_in(text, listing.entry_is_found, entry_is_found)
+            same_in(text, listing.entry_is_found(), entry_is_found)?;
+            let mut out = FakeSink::of(alloc, 1_000);
+            same_in(text, listing.write(&mut out), Ok(()))?;
+            same_in(text, str::from_utf8(out.taken.as_slice()), Ok(text))
         }
         _ => Err(Fail::new("no base, or no groups")),
     }
@@ -90,4 +94,45 @@ fn an_entry_frame_that_is_not_found_is_the_only_line(rt: HostRuntime) -> Result<
 #[test]
 fn a_base_of_no_frames_lacks_its_entry_frame(rt: HostRuntime) -> Result<(), Fail> {
     lists(rt.alloc(), "entry = 1\n", "", "ENTRYMISSING 1a\n", false)
+}
+
+// A chain of frames, in which the key 1 leads to the next one, and its list: no key leads back.
+fn chain(alloc: Global, count: u32) -> Result<(String, String), AllocError> {
+    let mut base = String::from_str(alloc, "entry = 1\n")?;
+    let mut list = String::new(alloc);
+    let mut keys = String::new(alloc);
+    for page in 1..=count {
+        let next = page + 1;
+        let text = format!(in alloc; "[[frame]]\nid = \"{page}a\"\nrows = []\nroutes.1 = {next}\n")?;
+        base.push_str(text.as_str())?;
+        let rank = if page == 1 { "0" } else { "-" };
+        let script = if page == 1 { "-" } else { keys.as_str() };
+        let line = format!(in alloc; "FRAME {page}a RANK {rank} PRICE 0 GROUP - SCRIPT {script}\n")?;
+        list.push_str(line.as_str())?;
+        keys.push('1')?;
+    }
+    Ok((base, list))
+}
+
+// The text of 400 frames has some 95,000 bytes: it is written in two pieces and flushed once, and a write that fails is told with
+// all the bytes that were taken.
+#[test]
+fn a_long_list_is_written_in_pieces(rt: HostRuntime) -> Result<(), Fail> {
+    let alloc = rt.alloc();
+    let (text, wanted) = chain(alloc, 400)?;
+    let base: Base = base_read(alloc, text.as_str().as_bytes())?;
+    let mut out = FakeSink::of(alloc, 1_000_000);
+    same(list(alloc, &base, &Groups::none())?.write(&mut out), Ok(()))?;
+    same(str::from_utf8(out.taken.as_slice()), Ok(wanted.as_str()))?;
+    same((out.writes, out.flushes), (2, 1))?;
+    for room in [0usize, 65_535, 65_536, 80_000, wanted.len() - 1] {
+        let mut out = FakeSink::full(alloc, 1_000, room);
+        let fault = WriteFault {
+            wrote: room as u64,
+        };
+        same_in(room, list(alloc, &base, &Groups::none())?.write(&mut out), Err(fault))?;
+        same_in(room, Some(out.taken.as_slice()), wanted.as_str().as_bytes().get(..room))?;
+        same_in(room, out.flushes, 0)?;
+    }
+    Ok(())
 }

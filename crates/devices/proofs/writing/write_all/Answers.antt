@@ -9,6 +9,7 @@ loop-wrote-preserved g c =
     let more = Appends-trans _ _ _ _ _ held.taken c.in-Ok.ensures.bytes in
     record {
       unbroken = search rules;
+      unflushed = search rules;
       within = search rules;
       taken = rw (first_and_more c.args.bytes.now c.loop-wrote.wrote c.in-Ok.count held.within) at more;
     }

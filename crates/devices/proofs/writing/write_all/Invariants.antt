@@ -5,6 +5,7 @@ use Rattle.devices.proofs.writing.write_all.Given as goal
 abbrev pub invariant-loop-wrote : goal.invariant-loop-wrote
 invariant-loop-wrote g l = record {
   unbroken : (g.S.Sink.seen l.sink).failed ≡ false;
+  unflushed : (g.S.Sink.seen l.sink).flushes ≡ (g.S.Sink.seen l.initial.sink).flushes;
   within : l.wrote ≤ length l.bytes;
   taken : Appends (g.S.Sink.seen l.initial.sink).bytes (g.S.Sink.seen l.sink).bytes (take l.wrote l.bytes);
 }

@@ -1,0 +1,14 @@
+-- What contracts see of a list.
+use Rattle.std.specs.Prelude.{ℕ, List, Bool}
+use Rattle.frame_records.specs.Bases.{BaseView}
+use Rattle.finder.specs.declared.found.Discovered.{Discovered}
+
+-- its text, and whether the entry frame is found
+pub record ListingView : Type 0 where
+  pub text : List ℕ
+  pub entry_is_found : Bool
+
+-- of the lines of frames: the base, and the reached frames
+pub record LinesView : Type 0 where
+  pub base : BaseView
+  pub found : List Discovered
