@@ -93,6 +93,7 @@ impl Source for FakeSource<'_> {
 
 impl Read for FakeSource<'_> {
     fn read(&mut self, into: &mut [u8]) -> io::Result<usize> {
-        self.give(into).map_err(|_| io::Error::from(ErrorKind::Other))
+        self.give(into)
+            .map_err(|_| io::Error::from(ErrorKind::Other))
     }
 }

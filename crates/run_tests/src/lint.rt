@@ -21,13 +21,7 @@ fn linted(alloc: Global, kept: usize, room: usize, policy: &Policy) -> Linted {
     let mut out = sink(alloc, LINE, room);
     let answer = run_lint(alloc, &mut base, &mut out, "x/b.toml", policy);
     let status = status_of_lint(&answer);
-    (
-        answer,
-        status,
-        base.calls,
-        out.flushes,
-        taken(&out, LINE),
-    )
+    (answer, status, base.calls, out.flushes, taken(&out, LINE))
 }
 
 #[test]
@@ -52,13 +46,7 @@ fn a_lint_that_fails_asks_for_no_more(rt: HostRuntime) -> Result<(), Fail> {
         (
             ALL,
             LINE.len(),
-            (
-                Err(RunFault::Write(LINE.len() as u64)),
-                3,
-                2,
-                1,
-                LINE.len(),
-            ),
+            (Err(RunFault::Write(LINE.len() as u64)), 3, 2, 1, LINE.len()),
         ),
     ];
     for (kept, room, wanted) in rows {

@@ -103,11 +103,15 @@ fn chain(alloc: Global, count: u32) -> Result<(String, String), AllocError> {
     let mut keys = String::new(alloc);
     for page in 1..=count {
         let next = page + 1;
-        let text = format!(in alloc; "[[frame]]\nid = \"{page}a\"\nrows = []\nroutes.1 = {next}\n")?;
+        let text = format!(in alloc;
+            "[[frame]]\nid = \"{page}a\"\nrows = []\nroutes.1 = {next}\n"
+        )?;
         base.push_str(text.as_str())?;
         let rank = if page == 1 { "0" } else { "-" };
         let script = if page == 1 { "-" } else { keys.as_str() };
-        let line = format!(in alloc; "FRAME {page}a RANK {rank} PRICE 0 GROUP - SCRIPT {script}\n")?;
+        let line = format!(in alloc;
+            "FRAME {page}a RANK {rank} PRICE 0 GROUP - SCRIPT {script}\n"
+        )?;
         list.push_str(line.as_str())?;
         keys.push('1')?;
     }
@@ -127,11 +131,17 @@ fn a_long_list_is_written_in_pieces(rt: HostRuntime) -> Result<(), Fail> {
     same((out.writes, out.flushes), (2, 1))?;
     for room in [0usize, 65_535, 65_536, 80_000, wanted.len() - 1] {
         let mut out = FakeSink::full(alloc, 1_000, room);
-        let fault = WriteFault {
-            wrote: room as u64,
-        };
-        same_in(room, list(alloc, &base, &Groups::none())?.write(&mut out), Err(fault))?;
-        same_in(room, Some(out.taken.as_slice()), wanted.as_str().as_bytes().get(..room))?;
+        let fault = WriteFault { wrote: room as u64 };
+        same_in(
+            room,
+            list(alloc, &base, &Groups::none())?.write(&mut out),
+            Err(fault),
+        )?;
+        same_in(
+            room,
+            Some(out.taken.as_slice()),
+            wanted.as_str().as_bytes().get(..room),
+        )?;
         same_in(room, out.flushes, 0)?;
     }
     Ok(())

@@ -32,13 +32,7 @@ fn mapped(alloc: Global, text: &str, kept: usize, room: usize, view: &View) -> M
     let mut out = sink(alloc, MAP, room);
     let answer = run_map(alloc, &mut base, &Groups::none(), view, &mut out);
     let status = status_of_map(&answer);
-    (
-        answer,
-        status,
-        base.calls,
-        out.flushes,
-        taken(&out, MAP),
-    )
+    (answer, status, base.calls, out.flushes, taken(&out, MAP))
 }
 
 #[test]
@@ -63,8 +57,13 @@ fn a_map_that_fails_asks_for_no_more(rt: HostRuntime) -> Result<(), Fail> {
         (TEXT, ALL, MAP.len(), (3, 2, 1, MAP.len())),
     ];
     for (text, kept, room, wanted) in rows {
-        let (answer, status, reads, flushes, taken) =
-            mapped(rt.alloc(), text, kept, room, &View::Whole);
+        let (answer, status, reads, flushes, taken) = mapped(
+            rt.alloc(),
+            text,
+            kept,
+            room,
+            &View::Whole,
+        );
         same_in((kept, room), (status, reads, flushes, taken), wanted)?;
         let is_written = matches!(answer, Err(RunFault::Write(wrote)) if wrote == room as u64);
         same_in((kept, room), is_written, room != ALL)?;
