@@ -14,23 +14,23 @@ use clap::{ArgMatches, Error};
 use command_words::{Request, WordsFault, asked_for, groups_of, matches, words};
 use explain_words::{explanation, nearest, overview};
 use frame_records::Groups;
-use out_file::{is_same_file, open_out};
+use out_file::{Out, is_same_file, open_out};
 use pageaudit::{
     Counts, MapStatus, Status, View, counted_text, run_audit, run_audit_into, run_change,
     run_check, run_lint, run_list, run_map, run_walk, status_of, status_of_lint, status_of_map,
 };
 use std::process::ExitCode;
-use std::rt::{Env, Files};
+use std::rt::{Env, Files, Stderr};
 use std::{fs, io};
 
 fn main(rt: HostRuntime) -> ExitCode {
-    ExitCode::from(run(&rt))
+    ExitCode::from(run(&rt, rt.stderr()))
 }
 
 // Reads the words and does what they ask; the exit status.
-fn run<R: Files + Env + Print + Eprint + AllocGlobal>(rt: &R) -> u8 {
+fn run<R: Files + Env + Print + Eprint + AllocGlobal>(rt: &R, errors: Stderr) -> u8 {
     match words(rt, rt.alloc()) {
-        Ok(words) => obey(rt, words.as_slice()),
+        Ok(words) => obey(rt, errors, words.as_slice()),
         Err(WordsFault::Memory) => refused(rt, &RunFault::Memory),
         Err(WordsFault::NotUtf8) => {
             let _ = eprintln!(rt; "error: a word on the command line isn't valid UTF-8");
@@ -39,9 +39,13 @@ fn run<R: Files + Env + Print + Eprint + AllocGlobal>(rt: &R) -> u8 {
     }
 }
 
-fn obey<R: Files + Print + Eprint + AllocGlobal>(rt: &R, words: &[String]) -> u8 {
+fn obey<R: Files + Print + Eprint + AllocGlobal>(
+    rt: &R,
+    errors: Stderr,
+    words: &[String],
+) -> u8 {
     match matches(rt.alloc(), words) {
-        Ok(matches) => dispatch(rt, &matches),
+        Ok(matches) => dispatch(rt, errors, &matches),
         Err(error) => report(rt, &error),
     }
 }
@@ -102,7 +106,11 @@ fn refused<R: Eprint + AllocGlobal>(rt: &R, fault: &RunFault) -> u8 {
 }
 
 // Does what was asked for; the exit status. The groups are read first; files are opened in the order of the words.
-fn dispatch<R: Files + Print + Eprint + AllocGlobal>(rt: &R, matches: &ArgMatches) -> u8 {
+fn dispatch<R: Files + Print + Eprint + AllocGlobal>(
+    rt: &R,
+    errors: Stderr,
+    matches: &ArgMatches,
+) -> u8 {
     match groups_of(matches).map(|groups| asked_for(matches, groups)) {
         Ok(
             Some(
@@ -116,14 +124,18 @@ fn dispatch<R: Files + Print + Eprint + AllocGlobal>(rt: &R, matches: &ArgMatche
             let _ = eprintln!(rt; "error: --out names the base itself");
             2
         }
-        Ok(Some(request)) => answer(rt, &request),
+        Ok(Some(request)) => answer(rt, errors, &request),
         Ok(None) => 2,
         Err(_) => refused(rt, &RunFault::Groups),
     }
 }
 
 // Runs what was asked for.
-fn answer<R: Files + Print + Eprint + AllocGlobal>(rt: &R, request: &Request) -> u8 {
+fn answer<R: Files + Print + Eprint + AllocGlobal>(
+    rt: &R,
+    errors: Stderr,
+    request: &Request,
+) -> u8 {
     let run = match request {
         Request::Audit {
             base,
@@ -134,7 +146,7 @@ fn answer<R: Files + Print + Eprint + AllocGlobal>(rt: &R, request: &Request) ->
             base,
             out: Some(out),
             policy,
-        } => audit_into(rt, base, out, policy),
+        } => audit_into(rt, errors, base, out, policy),
         Request::Check { base, cert, policy } => check_files(rt, base, cert, policy),
         Request::Change {
             old,
@@ -253,24 +265,45 @@ fn audit_file<R: Files + Print + AllocGlobal>(
     run_audit(rt.alloc(), &mut base, &mut out, policy)
 }
 
-// The certificate goes into a file of its own.
+// The certificate goes into a file of its own. Without memory to open it, that is the fault.
 fn audit_into<R: Files + Print + AllocGlobal>(
     rt: &R,
+    errors: Stderr,
     base: &str,
     path: &str,
     policy: &Policy,
 ) -> Result<Status, RunFault> {
     let base = opened(rt, base, RunFault::ReadBase)?;
-    let Ok((cert_file, cert)) = open_out(rt, path) else {
-        return Err(RunFault::Write(0));
-    };
-    let run = {
-        let mut base = FromRead::new(base);
-        let mut cert = IntoWrite::new(cert);
-        let mut out = IntoWrite::new(io::writer(rt));
-        run_audit_into(rt.alloc(), &mut base, &mut cert, &mut out, policy)
-    };
-    cert_file.close(rt, run)
+    match open_out(rt, path) {
+        Ok(out) => audit_to(rt, errors, base, out, policy),
+        Err(error) if error.kind() == io::ErrorKind::OutOfMemory => Err(RunFault::Memory),
+        Err(_) => Err(RunFault::Write(0)),
+    }
+}
+
+fn audit_to<R: Files + Print + AllocGlobal>(
+    rt: &R,
+    errors: Stderr,
+    base: R::File,
+    out: Out<R::File>,
+    policy: &Policy,
+) -> Result<Status, RunFault> {
+    let mut base = FromRead::new(base);
+    let mut output = IntoWrite::new(io::writer(rt));
+    match out {
+        Out::Output => run_audit(rt.alloc(), &mut base, &mut output, policy),
+        Out::Errors => {
+            let mut cert = IntoWrite::new(io::writer(&errors));
+            run_audit_into(rt.alloc(), &mut base, &mut cert, &mut output, policy)
+        }
+        Out::File(names, file) => {
+            let run = {
+                let mut cert = IntoWrite::new(file);
+                run_audit_into(rt.alloc(), &mut base, &mut cert, &mut output, policy)
+            };
+            names.close(rt, run)
+        }
+    }
 }
 
 fn check_files<R: Files + Print + AllocGlobal>(

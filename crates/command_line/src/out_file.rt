@@ -1,38 +1,86 @@
 //! The file that `--out` names. A certificate is written beside it under another name, which then takes its place, so that an
-//! old certificate is never lost to a failed audit. What isn't a regular file, as a pipe, is written directly.
+//! old certificate is never lost to a failed audit. What isn't a regular file, as a pipe, is written directly, and the file of
+//! standard output or standard error through that stream, whose other text is kept.
 
 use audit_report::RunFault;
 use pageaudit::Status;
 use std::fs::{File, Metadata, OpenOptions};
 use std::os::unix::fs::MetadataExt;
+use std::path::PathBuf;
 use std::rt::Files;
 use std::{fs, io};
+
+/// What a certificate is written to.
+#[derive(Drop)]
+pub enum Out<F: Drop> {
+    /// The file of standard output, after what is in it.
+    Output,
+    /// The file of standard error.
+    Errors,
+    /// A file that is open for the certificate alone.
+    File(OutFile, F),
+}
 
 /// A file that is open for a certificate.
 #[derive(Drop)]
 pub struct OutFile {
     // The name that takes the file's place, and that of the file; none if the file itself is written.
-    names: Option<(String, String)>,
+    names: Option<(String, PathBuf)>,
 }
+
+// As many links as the system follows.
+const MOST_LINKS: usize = 40;
 
 fn are_same(one: &Metadata, other: &Metadata) -> bool {
     one.dev() == other.dev() && one.ino() == other.ino()
 }
 
-/// Whether both paths lead to one file. A file that isn't there is no other's.
-pub fn is_same_file(rt: &impl Files, one: &str, other: &str) -> bool {
-    match (fs::metadata(rt, one), fs::metadata(rt, other)) {
-        (Ok(one), Ok(other)) => are_same(&one, &other),
-        _ => false,
+// Whether a path leads to a file. A path that leads nowhere doesn't.
+fn leads_to(rt: &impl Files, path: &str, file: &Metadata) -> bool {
+    match fs::metadata(rt, path) {
+        Ok(there) => are_same(&there, file),
+        Err(_) => false,
     }
 }
 
-// The file that a path leads to, through links, or the path itself if there is none yet.
-fn followed<R: Files + AllocGlobal>(rt: &R, path: &str) -> io::Result<String> {
-    match fs::canonicalize(rt, path) {
-        Ok(target) => Ok(String::from_str(rt.alloc(), target.as_str())?),
-        Err(_) => Ok(String::from_str(rt.alloc(), path)?),
+/// Whether both paths lead to one file. A file that isn't there is no other's.
+pub fn is_same_file(rt: &impl Files, one: &str, other: &str) -> bool {
+    match fs::metadata(rt, one) {
+        Ok(there) => leads_to(rt, other, &there),
+        Err(_) => false,
     }
+}
+
+// What a link leads to, from the folder that it is in. The links of the system's own folder of processes are open files: no name
+// takes the place of one.
+fn target_of<R: Files + AllocGlobal>(rt: &R, link: &str, target: &str) -> io::Result<PathBuf> {
+    let link = PathBuf::from_str(rt.alloc(), link)?;
+    let folder = match link.as_path().parent() {
+        Some(folder) if !folder.as_str().is_empty() => folder.as_str(),
+        _ => ".",
+    };
+    let folder = fs::canonicalize(rt, folder)?;
+    if folder.as_path().starts_with("/proc") {
+        return Err(io::Error::from(io::ErrorKind::PermissionDenied));
+    }
+    Ok(folder.as_path().join(rt.alloc(), target)?)
+}
+
+// The path that a path leads to through links. There need not be such a file yet.
+fn followed<R: Files + AllocGlobal>(rt: &R, path: &str) -> io::Result<PathBuf> {
+    let mut path = PathBuf::from_str(rt.alloc(), path)?;
+    for _ in 0..MOST_LINKS {
+        match fs::read_link(rt, &path) {
+            Ok(target) => path = target_of(rt, path.as_path().as_str(), target.as_path().as_str())?,
+            Err(error) => {
+                return match error.kind() {
+                    io::ErrorKind::InvalidInput | io::ErrorKind::NotFound => Ok(path),
+                    _ => Err(error),
+                };
+            }
+        }
+    }
+    Err(io::Error::from(io::ErrorKind::FilesystemLoop))
 }
 
 // A new file beside a path: FILE.tmp0, or the next number if that is taken.
@@ -48,28 +96,50 @@ fn new_beside<R: Files + AllocGlobal>(rt: &R, path: &str) -> io::Result<(String,
     Err(io::Error::from(io::ErrorKind::AlreadyExists))
 }
 
-fn open_beside<R: Files + AllocGlobal>(rt: &R, path: &str) -> io::Result<(OutFile, R::File)> {
+// Opens a new file beside one that is there, with its permissions, or beside a place where there is none yet.
+fn open_beside<R: Files + AllocGlobal>(
+    rt: &R,
+    path: &str,
+    there: Option<&Metadata>,
+) -> io::Result<Out<R::File>> {
     let path = followed(rt, path)?;
-    let (name, file) = new_beside(rt, path.as_str())?;
-    if let Ok(old) = fs::metadata(rt, path.as_str()) {
-        let _ = fs::set_permissions(rt, name.as_str(), old.permissions());
+    if let Some(there) = there && !leads_to(rt, path.as_path().as_str(), there) {
+        return Err(io::Error::from(io::ErrorKind::NotFound));
     }
-    Ok((
-        OutFile {
-            names: Some((name, path)),
-        },
-        file,
-    ))
+    let (name, file) = new_beside(rt, path.as_path().as_str())?;
+    if let Some(there) = there {
+        let _ = fs::set_permissions(rt, name.as_str(), there.permissions());
+    }
+    let names = Some((name, path));
+    Ok(Out::File(OutFile { names }, file))
 }
 
-/// Opens what the certificate is written to.
-pub fn open_out<R: Files + AllocGlobal>(rt: &R, path: &str) -> io::Result<(OutFile, R::File)> {
+// Opens what is there for the certificate.
+fn open_there<R: Files + AllocGlobal>(
+    rt: &R,
+    path: &str,
+    there: &Metadata,
+) -> io::Result<Out<R::File>> {
+    if leads_to(rt, "/proc/self/fd/1", there) {
+        return Ok(Out::Output);
+    }
+    if leads_to(rt, "/proc/self/fd/2", there) {
+        return Ok(Out::Errors);
+    }
+    if there.is_file() {
+        return open_beside(rt, path, Some(there));
+    }
+    let file = OpenOptions::new().write(true).open(rt, path)?;
+    Ok(Out::File(OutFile { names: None }, file))
+}
+
+/// Opens what the certificate is written to. A regular file that is reached through a descriptor of another stream, as
+/// /dev/fd/3, is refused: neither a new file in its place nor one that is written from its beginning is what its reader expects.
+pub fn open_out<R: Files + AllocGlobal>(rt: &R, path: &str) -> io::Result<Out<R::File>> {
     match fs::metadata(rt, path) {
-        Ok(there) if !there.is_file() => {
-            let file = OpenOptions::new().write(true).open(rt, path)?;
-            Ok((OutFile { names: None }, file))
-        }
-        _ => open_beside(rt, path),
+        Ok(there) => open_there(rt, path, &there),
+        Err(error) if error.kind() == io::ErrorKind::NotFound => open_beside(rt, path, None),
+        Err(error) => Err(error),
     }
 }
 
@@ -83,7 +153,7 @@ impl OutFile {
         let Some((name, path)) = &self.names else {
             return run;
         };
-        if run == Ok(Status::Clear) && fs::rename(rt, name.as_str(), path.as_str()).is_ok() {
+        if run == Ok(Status::Clear) && fs::rename(rt, name.as_str(), path).is_ok() {
             return run;
         }
         let _ = fs::remove_file(rt, name.as_str());
