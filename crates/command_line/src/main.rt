@@ -39,11 +39,7 @@ fn run<R: Files + Env + Print + Eprint + AllocGlobal>(rt: &R, errors: Stderr) ->
     }
 }
 
-fn obey<R: Files + Print + Eprint + AllocGlobal>(
-    rt: &R,
-    errors: Stderr,
-    words: &[String],
-) -> u8 {
+fn obey<R: Files + Print + Eprint + AllocGlobal>(rt: &R, errors: Stderr, words: &[String]) -> u8 {
     match matches(rt.alloc(), words) {
         Ok(matches) => dispatch(rt, errors, &matches),
         Err(error) => report(rt, &error),

@@ -103,7 +103,9 @@ fn open_beside<R: Files + AllocGlobal>(
     there: Option<&Metadata>,
 ) -> io::Result<Out<R::File>> {
     let path = followed(rt, path)?;
-    if let Some(there) = there && !leads_to(rt, path.as_path().as_str(), there) {
+    if let Some(there) = there
+        && !leads_to(rt, path.as_path().as_str(), there)
+    {
         return Err(io::Error::from(io::ErrorKind::NotFound));
     }
     let (name, file) = new_beside(rt, path.as_path().as_str())?;

@@ -14,11 +14,15 @@ use Rattle.base_map.specs.Windows.{IsViewed}
 use Rattle.pageaudit.specs.declared.status.Status.{Status}
 use Rattle.pageaudit.specs.declared.map_run.MapStatus.{MapStatus}
 use Rattle.pageaudit.specs.declared.map_run.MapStatus.TheVariants.{Drawn}
-use Rattle.pageaudit.specs.Files.{Device, IsUntouched, IsTextWritten, IsBaseOfFile, IsBaseRun}
+use Rattle.pageaudit.specs.Files.{Device, IsUntouched, IsTextWritten, IsTextOfFile, IsBaseOfFile, IsBaseRun}
 use Rattle.pageaudit.specs.AuditRun.{IsAuditRun, IsAuditIntoRun, IsSplitWritten, status_of_outcome}
 use Rattle.pageaudit.specs.ListRun.{IsListRun, status_of_entry}
 use Rattle.pageaudit.specs.MapRun.{IsMapRun, IsMapWritten}
-use Rattle.pageaudit.proofs.Within.{base_within}
+use Rattle.lint_report.specs.declared.counts.Counts.{Counts}
+use Rattle.lint_report.specs.Findings.{FindingView, finding_lines}
+use Rattle.lint_report.specs.Lint.{IsLint}
+use Rattle.pageaudit.specs.LintRun.{IsLintRun, counts_of}
+use Rattle.pageaudit.proofs.Within.{base_within, text_within}
 
 -- by the answer after a text: a status, a write fault or out of memory
 pub by_answer : {A : Type 0} (out : Device) (text : List ℕ) (status : A) (P : Result A RunFault → Type 0)
@@ -77,3 +81,12 @@ split_run base_file cert out base read policy (Certified c) is r w =
 split_run base_file cert out base read policy (Faulty faults) is r w =
     text_run base_file out base read _ _ (report_text (Faulty faults)) (status_of_outcome (Faulty faults)) (λ none. (w.1, none))
     (λ r text. record { outcome = Faulty faults; is = is; written = (text, w.1) }) r w.0
+
+-- a run of lint that read its text and wrote the lines of its findings
+pub lint_run : (base_file out : Device) (path text : List ℕ) → IsTextOfFile base_file text → (policy : Policy) (findings : List FindingView) → IsLint text policy findings
+    → (r : Result Counts RunFault) → IsTextWritten out (finding_lines path text findings) (counts_of findings) r → IsLintRun base_file out path policy r
+lint_run base_file out path text read policy findings is =
+    by_answer out (finding_lines path text findings) (counts_of findings) (IsLintRun base_file out path policy)
+    (λ s w. record { text = text; read = read; findings = findings; is = is; written = w })
+    (λ wrote w. record { text = text; read = read; findings = findings; is = is; written = w })
+    (λ none. (text_within base_file text read, none))

@@ -8,13 +8,16 @@ use Rattle.cert_text.specs.declared.fault.ReadFault.{ReadFault}
 use Rattle.cert_text.specs.Reading.{ReaderView, HasRead}
 use Rattle.pageaudit.specs.declared.file_fault.FileFault.{FileFault}
 use Rattle.pageaudit.specs.declared.file_fault.FileFault.TheVariants as file
-use Rattle.pageaudit.specs.Files.{Device, device, IsUntouched, base_limit, cert_limit, IsBaseOfFile, IsCertOfFile, IsReadWithin, IsCertFileFault, IsPieceTaken, IsBeingFed}
+use Rattle.pageaudit.specs.Files.{Device, device, IsUntouched, base_limit, cert_limit, IsTextOfFile, IsBaseOfFile, IsCertOfFile, IsReadWithin, IsCertFileFault, IsPieceTaken, IsBeingFed}
 
 pub untouched_within : (limit : ℕ) (d : Device) → IsUntouched d → IsReadWithin limit d
 untouched_within limit d h = record { bytes = []; within = omega (arith); given = Consumes-kept d.before.bytes d.before.bytes d.after.bytes [] (Consumes-nil d.before.bytes) h.kept; unbroken = h.unbroken }
 
 pub base_within : (d : Device) (base : BaseView) → IsBaseOfFile d base → IsReadWithin base_limit d
 base_within d base h = let so_far = h.read.so_far in record { bytes = h.text; within = so_far.within; given = so_far.given; unbroken = so_far.unbroken }
+
+pub text_within : (d : Device) (text : List ℕ) → IsTextOfFile d text → IsReadWithin base_limit d
+text_within d text h = record { bytes = text; within = h.read.within; given = h.read.given; unbroken = h.read.unbroken }
 
 pub cert_within : (d : Device) (cert : CertView) → IsCertOfFile d cert → IsReadWithin cert_limit d
 cert_within d cert h = let so_far = h.read.so_far in record { bytes = h.text; within = so_far.within; given = so_far.given; unbroken = so_far.unbroken }

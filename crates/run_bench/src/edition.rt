@@ -1,7 +1,7 @@
 //! A base's text with its certificate, and how both are read and checked.
 
 use crate::shape::Mark;
-use audit_report::{FromRead, read_whole, report};
+use audit_report::{FromRead, IntoWrite, read_whole, report};
 use base_list::list;
 use base_map::{View, map_view};
 use base_text::{MOST_TEXT, base_read};
@@ -11,6 +11,7 @@ use checker::{ChangeVerdict, Count, Policy, Verdict, check_change, check_counted
 use fault_scripts::audit;
 use frame_records::{Base, Groups, Pence};
 use std::alloc::Global;
+use std::io;
 
 // What is asked of a certificate's file at once.
 const PIECE: usize = 4_096;
@@ -71,15 +72,13 @@ pub fn audited(alloc: Global, base: &Base, policy: &Policy) -> Option<Vec<u8>> {
     }
 }
 
-/// The list of the frames of a text's base, if its entry frame is found.
-pub fn listing(alloc: Global, text: &[u8], groups: &Groups) -> Option<Vec<u8>> {
+/// Writes the list of the frames of a text's base to a sink that keeps nothing; whether the entry frame is found.
+pub fn listing(alloc: Global, text: &[u8], groups: &Groups) -> Option<bool> {
     let base = whole_base(alloc, text)?;
     let listing = list(alloc, &base, groups).ok()?;
-    if listing.entry_is_found {
-        Some(listing.text)
-    } else {
-        None
-    }
+    let is_found = listing.entry_is_found();
+    listing.write(&mut IntoWrite::new(io::sink())).ok()?;
+    Some(is_found)
 }
 
 /// The map of a text's base.

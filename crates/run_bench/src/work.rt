@@ -44,7 +44,7 @@ impl Work<'_> {
                 Ok(findings) => findings.len() == *count,
                 Err(_) => false,
             },
-            Work::List(text, groups) => listing(alloc, text, groups).is_some(),
+            Work::List(text, groups) => listing(alloc, text, groups) == Some(true),
             Work::Map(text, groups) => drawing(alloc, text, groups).is_some(),
             Work::Check(edition) => edition.count(alloc).is_some(),
             Work::Change(edition) => edition.clears_change(alloc),
