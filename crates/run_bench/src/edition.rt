@@ -1,7 +1,7 @@
 //! A base's text with its certificate, and how both are read and checked.
 
 use crate::shape::Mark;
-use audit_report::{FromRead, read_whole, report};
+use audit_report::{FromRead, IntoWrite, read_whole, report};
 use base_list::list;
 use base_map::{View, map_view};
 use base_text::{MOST_TEXT, base_read};
@@ -71,12 +71,12 @@ pub fn audited(alloc: Global, base: &Base, policy: &Policy) -> Option<Vec<u8>> {
     }
 }
 
-/// The list of the frames of a text's base, if its entry frame is found.
-pub fn listing(alloc: Global, text: &[u8], groups: &Groups) -> Option<Vec<u8>> {
+/// Writes the list of the frames of a text's base into memory, if its entry frame is found.
+pub fn listing(alloc: Global, text: &[u8], groups: &Groups) -> Option<()> {
     let base = whole_base(alloc, text)?;
     let listing = list(alloc, &base, groups).ok()?;
-    if listing.entry_is_found {
-        Some(listing.text)
+    if listing.entry_is_found() {
+        listing.write(&mut IntoWrite::new(Vec::new(alloc))).ok()
     } else {
         None
     }
