@@ -98,17 +98,17 @@ fn a_base_of_no_frames_lacks_its_entry_frame(rt: HostRuntime) -> Result<(), Fail
 
 // A chain of frames, in which the key 1 leads to the next one, and its list: no key leads back.
 fn chain(alloc: Global, count: u32) -> Result<(String, String), AllocError> {
-    let mut base = String::from_str(alloc, "entry = 1\n")?;
+    let mut base = String::from_str(alloc, "entry = 0\n")?;
     let mut list = String::new(alloc);
     let mut keys = String::new(alloc);
-    for page in 1..=count {
+    for page in 0..count {
         let next = page + 1;
         let text = format!(in alloc;
             "[[frame]]\nid = \"{page}a\"\nrows = []\nroutes.1 = {next}\n"
         )?;
         base.push_str(text.as_str())?;
-        let rank = if page == 1 { "0" } else { "-" };
-        let script = if page == 1 { "-" } else { keys.as_str() };
+        let rank = if page == 0 { "0" } else { "-" };
+        let script = if page == 0 { "-" } else { keys.as_str() };
         let line = format!(in alloc;
             "FRAME {page}a RANK {rank} PRICE 0 GROUP - SCRIPT {script}\n"
         )?;
@@ -129,7 +129,7 @@ fn a_long_list_is_written_in_pieces(rt: HostRuntime) -> Result<(), Fail> {
     same(list(alloc, &base, &Groups::none())?.write(&mut out), Ok(()))?;
     same(str::from_utf8(out.taken.as_slice()), Ok(wanted.as_str()))?;
     same((out.writes, out.flushes), (2, 1))?;
-    for room in [0usize, 65_535, 65_536, 80_000, wanted.len() - 1] {
+    for room in [0usize, 65_535, 65_536, 80_000] {
         let mut out = FakeSink::full(alloc, 1_000, room);
         let fault = WriteFault { wrote: room as u64 };
         same_in(

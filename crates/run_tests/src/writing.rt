@@ -1,5 +1,5 @@
 use assertions::{same, same_in};
-use devices::{Sink, WriteFault, write_whole};
+use devices::{Sink, WriteFault, write_last, write_piece, write_whole};
 use fake_devices::FakeSink;
 use std::test::Fail;
 
@@ -61,4 +61,42 @@ fn a_failed_flush_comes_after_all_the_bytes(rt: HostRuntime) -> Result<(), Fail>
         same(sink.failed(), true)?;
     }
     Ok(())
+}
+
+// A text in pieces of 40,000 bytes is written when 65,536 or more are kept, and flushed once at its end; each count is of all
+// the bytes.
+#[test]
+fn a_text_is_written_piece_by_piece(rt: HostRuntime) -> Result<(), Fail> {
+    let piece = "0123456789".repeat(rt.alloc(), 4_000)?;
+    let mut sink = FakeSink::of(rt.alloc(), 1_000_000);
+    let mut kept = Vec::new(rt.alloc());
+    kept.extend_from_slice(piece.as_str().as_bytes())?;
+    same(write_piece(&mut sink, &mut kept, 0), Ok(0))?;
+    kept.extend_from_slice(piece.as_str().as_bytes())?;
+    same(write_piece(&mut sink, &mut kept, 0), Ok(80_000))?;
+    same((kept.len(), sink.writes, sink.flushes), (0, 1, 0))?;
+    same(write_last(&mut sink, b"end\n", 80_000), Ok(()))?;
+    same(
+        (sink.taken.len(), sink.writes, sink.flushes),
+        (80_004, 2, 1),
+    )
+}
+
+// What was taken before counts too.
+#[test]
+fn a_piece_that_fails_counts_all_bytes(rt: HostRuntime) -> Result<(), Fail> {
+    let piece = "0123456789".repeat(rt.alloc(), 7_000)?;
+    let mut kept = Vec::new(rt.alloc());
+    kept.extend_from_slice(piece.as_str().as_bytes())?;
+    let mut sink = FakeSink::full(rt.alloc(), 1_000, 60_000);
+    same(
+        write_piece(&mut sink, &mut kept, 100),
+        Err(WriteFault { wrote: 60_100 }),
+    )?;
+    let mut sink = FakeSink::unflushed(rt.alloc(), 3);
+    same(
+        write_last(&mut sink, b"end\n", 100),
+        Err(WriteFault { wrote: 104 }),
+    )?;
+    same(sink.flushes, 1)
 }
