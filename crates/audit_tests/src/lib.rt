@@ -6,6 +6,8 @@ mod bases;
 #[cfg(test)]
 mod checks;
 #[cfg(test)]
+mod covers;
+#[cfg(test)]
 mod finds;
 #[cfg(test)]
 mod inputs;

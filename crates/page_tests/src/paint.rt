@@ -13,11 +13,13 @@ fn spot(at: u16) -> Painted {
     clean(Place::Spot(at), Pend::No)
 }
 
-// More of them stand in `tests/cases`.
+// More of them are in `tests/cases`.
 #[test]
 fn paints_short_bodies() -> Result<(), Fail> {
-    let rows: [(Lead, &[u8], Painted); 3] = [
+    let rows: [(Lead, &[u8], Painted); 5] = [
         (Lead::Keep, &[], clean(Place::Any, Pend::Maybe)),
+        (Lead::Keep, &[0x41], Painted::Touches(0)),
+        (Lead::Keep, &[0x0d, 0x0a, 0x41], Painted::Touches(2)),
         (Lead::Clear, &[0x1e, 0x0b, 0x41], Painted::Touches(2)),
         (Lead::Keep, &[0x1b, 0x40], Painted::Touches(1)),
     ];
