@@ -99,7 +99,7 @@ probes_of compared base policy cert =
 abbrev pub steps_of : BaseView → Policy → CertView → ℕ
 steps_of base policy cert = sum_by (row_steps cert.groups base cert) (judged_rows base policy cert)
 
--- Bounds of how much a check compares, and of how much it paints. The exact numbers are in Taken.antt.
+-- Bounds of how much a check compares, and of how much it paints. The exact numbers are `probes_of` and `steps_of`.
 
 -- how many ways a frame offers: its routes, and next
 abbrev pub ways_of : Frame → ℕ

@@ -1,7 +1,7 @@
 //! A caller's session: what each key answers, and where it leads.
 //!
 //! A [`Session`] is at a frame, with at most three remembered ones, or has left for an outside page. Each key looks into
-//! the base that is handed in with it. `Session::key` is the table of keys in `specs/Step.antt`.
+//! the base that is handed in with it. `Session::key` is the table of keys in `specs/Sessions.antt`.
 //!
 //! ```
 //! let (mut session, opening) = Session::open(alloc, &base, &Groups::none())?;
@@ -12,7 +12,7 @@
 //! - [`Session`], [`OpenFault`]: the session, and why none is opened.
 //! - [`Reply`]: what the centre answers to a key.
 //! - [`runs_in_turn`], [`remembers_few`], [`left_stays`], [`shows_what_is_found`]: laws over whole lists of keys.
-//! - [`parts_in_turn`]: the same of sessions during which the edition changes (`specs/Editions.antt`).
+//! - [`parts_in_turn`]: the same of sessions during which the edition changes (`specs/Runs.antt`).
 #![tactic(auto)]
 
 mod laws;

@@ -17,7 +17,7 @@
 //! - A frame is the k-th header `[[frame]]`, however it is spelled, and what follows up to the next. A frame in an inline array
 //!   has no header: all of it is at the key `frame` of the top.
 //! - Of a text that isn't TOML the places are some offsets in it.
-//! - Definitions: what an expression writes (`Marks`), which mark is the place of a key (`Places`), lines and columns (`Scans`).
+//! - Definitions: what an expression writes, and which mark is the place of a key (`Places`); lines and columns (`Skips`).
 #![tactic(auto)]
 
 mod laws;

@@ -7,8 +7,7 @@
 //!
 //! - The rules go by toml's message and by the bytes around its place. They read no TOML, also not where a string ends: a hint
 //!   is a guess at the cause. If no rule applies, there is none.
-//! - Definitions: the rules (`Rules`), where a key was defined before (`Keys`), the bracket that isn't closed (`Brackets`), the
-//!   words (`Words`).
+//! - Definitions: the rules, where a key was defined before, the bracket that isn't closed, the words (`Rules`).
 //! - toml's messages are pinned by no clause: `lint_tests` has texts with toml's own faults.
 #![tactic(auto)]
 
