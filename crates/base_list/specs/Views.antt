@@ -8,7 +8,7 @@ pub record ListingView : Type 0 where
   pub text : List ℕ
   pub entry_is_found : Bool
 
--- of the lines of frames: the base, and the reached frames
+-- what the lines of the frames are written from: the base, and the reached frames
 pub record LinesView : Type 0 where
   pub base : BaseView
   pub found : List Discovered
