@@ -1,5 +1,4 @@
-//! Checks of one certificate over each kind of rows: a table that is searched by halves, and a list that is searched from the
-//! front.
+//! Checks of one certificate over each kind of rows: a table, searched by halves, and a list, searched row by row.
 
 use crate::bases::base_of;
 use crate::policies::policy;

@@ -50,7 +50,7 @@ module _ (a b c : Seen) (xs ys : List ℕ) (first : TookAll a b xs) where
         flushed = next.flushed ∙ ap (λ m. if n == length ys then one_more m else m) first.unflushed ∙ ap (λ t. if t then one_more a.flushes else a.flushes) same;
       }
 
--- of a text
+-- facts about one text
 module _ (start now new : Seen) (kept : List ℕ) (wrote : ℕ) (text : List ℕ) (way : IsOnItsWay start now kept wrote text) where
   pub taken_on : TookAll now new kept → (n : ℕ) → n ≡ wrote + length kept → IsOnItsWay start new [] n text
   taken_on took n is = record {

@@ -66,7 +66,7 @@ pub record TookPart (old new : Seen) (bytes : List ℕ) (n : ℕ) : Type 0 where
   pub broken : new.failed ≡ true
   pub unflushed : new.flushes ≡ old.flushes
 
--- of the first bytes of a text the sink took `wrote`, and the others are kept
+-- the first bytes of a text: the sink took `wrote` of them, and the others are kept
 pub record IsOnItsWay (old new : Seen) (kept : List ℕ) (wrote : ℕ) (text : List ℕ) : Type 0 where
   pub front : List ℕ
   pub all : text ≡ front ++ kept

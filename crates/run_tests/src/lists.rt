@@ -118,7 +118,7 @@ fn chain(alloc: Global, count: u32) -> Result<(String, String), AllocError> {
     Ok((base, list))
 }
 
-// The text of 400 frames has some 95,000 bytes: it is written in two pieces and flushed once, and a write that fails is told with
+// The text of 400 frames has some 95,000 bytes: it is written in two pieces and flushed once, and a write that fails reports
 // all the bytes that were taken.
 #[test]
 fn a_long_list_is_written_in_pieces(rt: HostRuntime) -> Result<(), Fail> {
