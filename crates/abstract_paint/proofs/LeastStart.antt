@@ -7,7 +7,7 @@ use Rattle.std.specs.Int.{from_bool}
 use Rattle.std.specs.List.{find, range_with_len}
 use Rattle.std.specs.Option.{MatchOption}
 use Rattle.frame_records.specs.declared.frame.Lead.{Lead}
-use Rattle.list_words.proofs.Finds.{first_found, none_found, find_first, find_none}
+use Rattle.frame_records.proofs.Finds.{first_found, none_found, find_first, find_none}
 use Rattle.terminal_codes.specs.declared.caret.Caret.{Caret}
 use Rattle.terminal_codes.specs.Bodies.{IsFirstTouch, StartTouches}
 use Rattle.terminal_codes.proofs.Starts.{touch_to_start}

@@ -2,7 +2,7 @@ ghost use Rattle.std.specs.Prelude.{◌≡◌, ◌++◌, IfOk, OnOk, decimal};
 ghost use Rattle.base_text.specs.Fields.{field_name};
 ghost use Rattle.audit_report.specs.FaultLines.{base_cause_text, base_place_text, base_fault_text, line_cause_text, cert_fault_text, fault_words, fault_text};
 
-use crate::push::{push_id, push_page, push_words_number};
+use crate::push::{push_words_id, push_words_number, push_words_page};
 use crate::run_fault::RunFault;
 use base_text::{BaseFault, Cause, Field};
 use cert_text::{LineCause, ReadFault};
@@ -34,10 +34,10 @@ fn push_base_cause(out: &mut Vec<u8>, cause: Cause) -> Result<(), AllocError>
         Cause::RowCode => out.extend_from_slice(b"X9 RowCode"),
         Cause::BadFrame => out.extend_from_slice(b"I2 BadFrame"),
         Cause::TooMany => out.extend_from_slice(b"B4 TooMany"),
-        Cause::BodyTooLong(id) => push_id(out, b"B5 BodyTooLong ", id),
-        Cause::NextAfterZ(id) => push_id(out, b"B3 NextAfterZ ", id),
-        Cause::Duplicate(id) => push_id(out, b"B1 Duplicate ", id),
-        Cause::OutsideInside(page) => push_page(out, b"B2 OutsideInside ", page),
+        Cause::BodyTooLong(id) => push_words_id(out, b"B5 BodyTooLong ", id),
+        Cause::NextAfterZ(id) => push_words_id(out, b"B3 NextAfterZ ", id),
+        Cause::Duplicate(id) => push_words_id(out, b"B1 Duplicate ", id),
+        Cause::OutsideInside(page) => push_words_page(out, b"B2 OutsideInside ", page),
         Cause::Memory => out.extend_from_slice(b"memory refused"),
     }
 }

@@ -9,13 +9,22 @@
 //!   defined.
 //! - [`RunFault`]: why a run ends without its work done.
 //!
-//! What texts are read from and written to is the crate [`devices`]; its names stand here too.
+//! - [`list`], [`Listing`]: the text of `list`, a line for each frame: the frames that a caller can reach, in the order of their
+//!   discovery, and then the others, in the order of their ids. Its memory is taken before its first line is written.
+//! - [`lists_every_frame`]: each frame of the base has one line: FRAME if a walk reaches it, and otherwise UNREACHED.
+//!
+//! What texts are read from and written to is the crate [`devices`]; its names are re-exported here.
 #![tactic(auto)]
 
 mod fault_line;
+mod laws;
+mod list_lines;
+mod listing;
 mod push;
+mod reached;
 mod report_lines;
 mod run_fault;
+mod script;
 mod verdict_line;
 mod walk_lines;
 
@@ -23,6 +32,8 @@ pub use devices::{
     Broken, FromRead, IntoWrite, Sink, Source, SourceFault, WriteFault, read_whole, write_whole,
 };
 pub use fault_line::fault_text;
+pub use laws::lists_every_frame;
+pub use listing::{Listing, list};
 pub use report_lines::report;
 pub use run_fault::RunFault;
 pub use verdict_line::{change_text, verdict_text};

@@ -2,7 +2,7 @@ ghost use Rattle.std.specs.Prelude.{◌≡◌, ◌++◌, OnOk, decimal};
 ghost use Rattle.page_ids.specs.Ids.{page_text};
 ghost use Rattle.audit_report.specs.Lines.{with_id, with_id_number};
 
-use page_ids::{FrameId, PageNo, push_number};
+use page_ids::{FrameId, PageNo, push_id, push_number, push_page};
 use std::alloc::AllocError;
 
 // Words and a number.
@@ -17,22 +17,20 @@ pub fn push_words_number(out: &mut Vec<u8>, words: &[u8], number: u64) -> Result
 
 // Words and a page.
 #[tactic(auto, using(std::proofs::Common::append_assoc))]
-pub fn push_page(out: &mut Vec<u8>, words: &[u8], page: PageNo) -> Result<(), AllocError>
+pub fn push_words_page(out: &mut Vec<u8>, words: &[u8], page: PageNo) -> Result<(), AllocError>
     ensures { OnOk result (out.new.items ≡ out.old.items ++ (words.now ++ page_text page)) }
 {
     out.extend_from_slice(words)?;
-    out.extend_from_slice(page.text().as_bytes())?;
-    Ok(())
+    push_page(out, page)
 }
 
 // Words and an id.
 #[tactic(auto, using(std::proofs::Common::append_assoc))]
-pub fn push_id(out: &mut Vec<u8>, words: &[u8], id: FrameId) -> Result<(), AllocError>
+pub fn push_words_id(out: &mut Vec<u8>, words: &[u8], id: FrameId) -> Result<(), AllocError>
     ensures { OnOk result (out.new.items ≡ out.old.items ++ with_id words.now id) }
 {
     out.extend_from_slice(words)?;
-    out.extend_from_slice(id.text().as_bytes())?;
-    Ok(())
+    push_id(out, id)
 }
 
 // Words, an id, a space and a number.
@@ -45,7 +43,7 @@ pub fn push_id_number(
 ) -> Result<(), AllocError>
     ensures { OnOk result (out.new.items ≡ out.old.items ++ with_id_number words.now id number) }
 {
-    push_id(out, words, id)?;
+    push_words_id(out, words, id)?;
     out.extend_from_slice(b" ")?;
     push_number(out, number)?;
     Ok(())

@@ -3,7 +3,7 @@ ghost use Rattle.page_ids.specs.Keys.{key_word, keys_text};
 ghost use Rattle.audit_report.specs.Lines.{line};
 ghost use Rattle.audit_report.specs.ReportLines.{script_text, sought_text, pressed_text, start_text, price_words, touches_words, sought_words, no_return_words, words_as, fault_lines, fault_list_text, report_text, IsReport};
 
-use crate::push::{push_id, push_id_number, push_words_number};
+use crate::push::{push_id_number, push_words_id, push_words_number};
 use abstract_paint::Start;
 use cert_text::cert_write;
 use fault_scripts::{Fault, FaultKind, Outcome};
@@ -30,7 +30,7 @@ fn push_sought(out: &mut Vec<u8>, sought: Option<FrameId>) -> Result<(), AllocEr
 {
     match sought {
         None => Ok(()),
-        Some(id) => push_id(out, b" ", id),
+        Some(id) => push_words_id(out, b" ", id),
     }
 }
 
@@ -74,7 +74,7 @@ fn push_price(out: &mut Vec<u8>, fault: &Fault) -> Result<(), AllocError>
 fn push_touches(out: &mut Vec<u8>, fault: &Fault) -> Result<(), AllocError>
     ensures { OnOk result (out.new.items ≡ out.old.items ++ touches_words fault.now) }
 {
-    push_id(out, b"TOUCHES ", fault.frame)?;
+    push_words_id(out, b"TOUCHES ", fault.frame)?;
     push_start(out, fault.start)?;
     push_script(out, fault.script.as_slice())
 }
@@ -86,7 +86,7 @@ fn push_unfound(out: &mut Vec<u8>, words: &[u8], fault: &Fault) -> Result<(), Al
 {
     out.extend_from_slice(words)?;
     push_sought(out, fault.sought)?;
-    push_id(out, b" AT ", fault.frame)?;
+    push_words_id(out, b" AT ", fault.frame)?;
     push_pressed(out, fault.key)?;
     push_script(out, fault.script.as_slice())
 }
@@ -95,7 +95,7 @@ fn push_unfound(out: &mut Vec<u8>, words: &[u8], fault: &Fault) -> Result<(), Al
 fn push_no_return(out: &mut Vec<u8>, fault: &Fault) -> Result<(), AllocError>
     ensures { OnOk result (out.new.items ≡ out.old.items ++ no_return_words fault.now) }
 {
-    push_id(out, b"NORETURN ", fault.frame)?;
+    push_words_id(out, b"NORETURN ", fault.frame)?;
     push_script(out, fault.script.as_slice())
 }
 
@@ -104,8 +104,8 @@ fn push_words(out: &mut Vec<u8>, fault: &Fault) -> Result<(), AllocError>
     ensures { OnOk result (out.new.items ≡ out.old.items ++ words_as fault.now.kind fault.now) }
 {
     match fault.kind {
-        FaultKind::EntryMissing => push_id(out, b"ENTRYMISSING ", fault.frame),
-        FaultKind::EntryClosed => push_id(out, b"ENTRYCLOSED ", fault.frame),
+        FaultKind::EntryMissing => push_words_id(out, b"ENTRYMISSING ", fault.frame),
+        FaultKind::EntryClosed => push_words_id(out, b"ENTRYCLOSED ", fault.frame),
         FaultKind::Price => push_price(out, fault),
         FaultKind::Touches => push_touches(out, fault),
         FaultKind::Missing => push_unfound(out, b"MISSING", fault),

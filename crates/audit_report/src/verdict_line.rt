@@ -1,7 +1,7 @@
 ghost use Rattle.std.specs.Prelude.{◌≡◌, ◌++◌, IfOk, OnOk};
 ghost use Rattle.audit_report.specs.Lines.{cause_text, verdict_words, verdict_text, change_words, change_text};
 
-use crate::push::{push_id, push_id_number};
+use crate::push::{push_id_number, push_words_id};
 use checker::{Cause, ChangeVerdict, Verdict};
 use std::alloc::{AllocError, Global};
 
@@ -15,21 +15,21 @@ fn push_cause(out: &mut Vec<u8>, cause: Cause) -> Result<(), AllocError>
         Cause::KeyingsAbove => out.extend_from_slice(b"REFUSED K3 KeyingsAbove"),
         Cause::GroupsDiffer => out.extend_from_slice(b"REFUSED K15 GroupsDiffer"),
         Cause::EntryNotCovered => out.extend_from_slice(b"REFUSED K4 EntryNotCovered"),
-        Cause::NoFrame(id) => push_id(out, b"REFUSED K5 NoFrame ", id),
-        Cause::ClosedFrame(id) => push_id(out, b"REFUSED K6 ClosedFrame ", id),
-        Cause::Price(id) => push_id(out, b"REFUSED K7 Price ", id),
-        Cause::RankAbove(id) => push_id(out, b"REFUSED K8 RankAbove ", id),
+        Cause::NoFrame(id) => push_words_id(out, b"REFUSED K5 NoFrame ", id),
+        Cause::ClosedFrame(id) => push_words_id(out, b"REFUSED K6 ClosedFrame ", id),
+        Cause::Price(id) => push_words_id(out, b"REFUSED K7 Price ", id),
+        Cause::RankAbove(id) => push_words_id(out, b"REFUSED K8 RankAbove ", id),
         Cause::Touches(id, at) => push_id_number(out, b"REFUSED K9 Touches ", id, at as u64),
-        Cause::CursorDiffers(id) => push_id(out, b"REFUSED K10 CursorDiffers ", id),
+        Cause::CursorDiffers(id) => push_words_id(out, b"REFUSED K10 CursorDiffers ", id),
         Cause::RouteNotCovered(id, digit) => push_id_number(
             out,
             b"REFUSED K11 RouteNotCovered ",
             id,
             u64::from(digit.get()),
         ),
-        Cause::NextNotCovered(id) => push_id(out, b"REFUSED K12 NextNotCovered ", id),
-        Cause::RankZero(id) => push_id(out, b"REFUSED K13 RankZero ", id),
-        Cause::NoWayDown(id) => push_id(out, b"REFUSED K14 NoWayDown ", id),
+        Cause::NextNotCovered(id) => push_words_id(out, b"REFUSED K12 NextNotCovered ", id),
+        Cause::RankZero(id) => push_words_id(out, b"REFUSED K13 RankZero ", id),
+        Cause::NoWayDown(id) => push_words_id(out, b"REFUSED K14 NoWayDown ", id),
     }
 }
 
@@ -71,7 +71,9 @@ fn push_change(out: &mut Vec<u8>, verdict: &ChangeVerdict) -> Result<(), AllocEr
         ChangeVerdict::Old(cause) => push_edition(out, b"OLD ", *cause),
         ChangeVerdict::New(cause) => push_edition(out, b"NEW ", *cause),
         ChangeVerdict::EntryMoved => out.extend_from_slice(b"REFUSED E1 EntryMoved"),
-        ChangeVerdict::NoLongerCovered(id) => { push_id(out, b"REFUSED E2 NoLongerCovered ", *id) }
+        ChangeVerdict::NoLongerCovered(id) => {
+            push_words_id(out, b"REFUSED E2 NoLongerCovered ", *id)
+        }
     }
 }
 

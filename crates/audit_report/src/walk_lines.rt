@@ -1,7 +1,7 @@
 ghost use Rattle.std.specs.Prelude.{◌≡◌, ◌++◌, IfOk, OnOk};
 ghost use Rattle.audit_report.specs.Lines.{line, reply_text, walk_text, entry_words, entry_text};
 
-use crate::push::{push_id, push_id_number, push_page};
+use crate::push::{push_id_number, push_words_id, push_words_page};
 use page_ids::FrameId;
 use session_machine::Reply;
 use std::alloc::{AllocError, Global};
@@ -11,11 +11,11 @@ fn push_reply(out: &mut Vec<u8>, reply: Reply) -> Result<(), AllocError>
 {
     match reply {
         Reply::Shown(id, price) => push_id_number(out, b"SHOWN ", id, u64::from(price.get())),
-        Reply::Again(id) => push_id(out, b"AGAIN ", id),
+        Reply::Again(id) => push_words_id(out, b"AGAIN ", id),
         Reply::NotOffered => out.extend_from_slice(b"NOTOFFERED"),
-        Reply::Missing(id) => push_id(out, b"MISSING ", id),
-        Reply::Closed(id) => push_id(out, b"CLOSED ", id),
-        Reply::Gone(page) => push_page(out, b"GONE ", page),
+        Reply::Missing(id) => push_words_id(out, b"MISSING ", id),
+        Reply::Closed(id) => push_words_id(out, b"CLOSED ", id),
+        Reply::Gone(page) => push_words_page(out, b"GONE ", page),
     }
 }
 
@@ -46,7 +46,7 @@ pub fn entry_text(alloc: Global, id: FrameId, closed: bool) -> Result<Vec<u8>, A
 {
     let mut text = Vec::new(alloc);
     let words = entry_words(closed);
-    push_id(&mut text, words, id)?;
+    push_words_id(&mut text, words, id)?;
     text.push(b'\n')?;
     Ok(text)
 }

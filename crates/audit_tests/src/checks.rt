@@ -2,11 +2,10 @@
 
 use crate::bases::base_of;
 use crate::policies::policy;
-use assertions::{same, same_in};
+use test_support::{CERT, DEMO, same, same_in};
 use audit_report::verdict_text;
 use cert_text::cert_read;
 use checker::{ChangeVerdict, Verdict, check, check_bytes, check_change, check_counted};
-use demo_texts::{CERT, DEMO};
 use page_ids::PageNo;
 use std::alloc::{AllocError, Global};
 use std::test::Fail;

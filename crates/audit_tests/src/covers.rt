@@ -2,12 +2,11 @@
 
 use crate::bases::base_of;
 use crate::policies::policy;
-use assertions::same_in;
+use test_support::{CERT, DEMO, same_in};
 use audit_report::verdict_text;
 use cert_table::{Certificate, Cover, RowList};
 use cert_text::cert_read;
 use checker::check;
-use demo_texts::{CERT, DEMO};
 use std::alloc::Global;
 use std::test::Fail;
 

@@ -1,8 +1,7 @@
 //! The discovered frames of small bases.
 
 use crate::bases::{base_of, chain};
-use assertions::same;
-use demo_texts::DEMO;
+use test_support::{DEMO, same};
 use finder::{Found, Survey, find, script_to};
 use frame_records::{Base, Destination, Groups, Pence};
 use page_ids::{Digit, FrameId, Key, PageNo, Way, keys_text};

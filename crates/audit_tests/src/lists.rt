@@ -2,10 +2,9 @@
 
 use crate::bases::base_of;
 use crate::policies::policy;
-use assertions::same_in;
+use test_support::{CERT, DEMO, same_in};
 use audit_report::report;
 use cert_text::cert_read;
-use demo_texts::{CERT, DEMO};
 use fault_scripts::{Outcome, faults, judge_base};
 use page_ids::PageNo;
 use std::alloc::{AllocError, Global};

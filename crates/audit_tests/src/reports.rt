@@ -1,6 +1,6 @@
 //! Printed lines, beside the words that the program's formats give; most of them stand in `tests/cases`.
 
-use assertions::{same, same_in};
+use test_support::{same, same_in};
 use audit_report::{RunFault, change_text, entry_text, fault_text, verdict_text, walk_text};
 use cert_text::ReadFault;
 use checker::{Cause, ChangeVerdict, Verdict};

@@ -2,11 +2,10 @@
 
 use crate::bases::{base_of, chain};
 use crate::policies::policy;
-use assertions::{same, same_in};
+use test_support::{DEMO, same, same_in};
 use audit_report::report;
 use cert_table::{Certificate, Cover};
 use checker::Policy;
-use demo_texts::DEMO;
 use fault_scripts::{Outcome, audit, replay};
 use frame_records::{Base, Groups, Pence};
 use page_ids::{FrameId, PageNo, keys_read};

@@ -8,9 +8,8 @@ ghost use Rattle.base_map.specs.Edges as spec;
 use crate::drawing::Drawing;
 use crate::exits::{Exit, exits_of, targets_of};
 use crate::lost::push_name;
-use crate::nodes::push_id;
 use frame_records::Frame;
-use page_ids::{FrameId, push_key};
+use page_ids::{FrameId, push_id, push_key};
 use std::alloc::{AllocError, Global};
 
 // The keys of the exits that seek an id, with a space between them.

@@ -9,10 +9,9 @@ ghost use Rattle.base_map.specs.Edges as spec;
 
 use crate::drawing::Drawing;
 use crate::exits::{Exit, exits_of};
-use crate::nodes::push_id;
 use frame_records::{Base, Frame};
 use indexmap::IndexSet;
-use page_ids::{FrameId, push_number};
+use page_ids::{FrameId, push_id, push_page};
 use std::alloc::{AllocError, Global};
 
 // The name of a node: an outside page's number, or an id.
@@ -20,7 +19,7 @@ pub fn push_name(out: &mut Vec<u8>, base: &Base, id: FrameId) -> Result<(), Allo
     ensures { OnOk result (out.new.items ≡ out.old.items ++ spec.node_name base.now id) }
 {
     if base.is_outside(id.page) {
-        push_number(out, id.page.get() as u64)
+        push_page(out, id.page)
     } else {
         push_id(out, id)
     }

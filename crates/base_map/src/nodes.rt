@@ -1,24 +1,14 @@
 //! The nodes of frames, by pages.
 
 ghost use Rattle.std.specs.Prelude.{◌≡◌, ◌++◌, OnOk, Some, None};
-ghost use Rattle.page_ids.specs.Ids.{frame_text};
 ghost use Rattle.base_map.specs.Edges.{shown};
 ghost use Rattle.base_map.specs.Nodes as spec;
 
 use crate::drawing::Drawing;
 use crate::title::push_title;
 use frame_records::Frame;
-use page_ids::{FrameId, PageNo, push_number};
+use page_ids::{PageNo, push_id, push_number, push_page};
 use std::alloc::{AllocError, Global};
-
-#[tactic(auto, using(std::proofs::Common::append_assoc))]
-pub fn push_id(out: &mut Vec<u8>, id: FrameId) -> Result<(), AllocError>
-    ensures { OnOk result (out.new.items ≡ out.old.items ++ frame_text id) }
-{
-    push_number(out, id.page.get() as u64)?;
-    out.push(id.letter.get())?;
-    Ok(())
-}
 
 // The id, the title and the price.
 #[tactic(auto, using(std::proofs::Common::append_assoc))]
@@ -38,9 +28,9 @@ fn push_open(out: &mut Vec<u8>, page: PageNo) -> Result<(), AllocError>
     ensures { OnOk result (out.new.items ≡ out.old.items ++ spec.opened page) }
 {
     out.extend_from_slice(b"  subgraph cluster_")?;
-    push_number(out, page.get() as u64)?;
+    push_page(out, page)?;
     out.extend_from_slice(b" {\n    label=")?;
-    push_number(out, page.get() as u64)?;
+    push_page(out, page)?;
     out.extend_from_slice(b"\n")?;
     Ok(())
 }

@@ -18,7 +18,7 @@ use Rattle.cert_text.specs.declared.stage.Stage.TheVariants.{Magic, Head, Groups
 use Rattle.cert_text.specs.declared.stage.Field.{Field}
 use Rattle.cert_text.specs.declared.stage.Field.TheVariants.{Entry, Ceiling, Keyings, Count}
 use Rattle.cert_text.specs.Grammar.{has_groups, first_line, groups_lines, entry_line, ceiling_line, keyings_line, rows_line, row_line, text_of, IsRow, IsCertificateText}
-use Rattle.list_words.specs.Steps.{◌>>=◌}
+use Rattle.frame_records.specs.Steps.{◌>>=◌}
 use Rattle.cert_text.specs.Lines.{number_after, groups_after, row_in}
 use Rattle.cert_text.specs.Reading.{Said, Reading, IsSound, Fault, nothing, begins, start, number_of, word_of, most_of, put, stage_after, judge, judge_at, judge_magic, judge_groups, judge_row, judge_end, lengthen, is_over, take_byte, at_line, step, run, ended, certificate_of, reading}
 use Rattle.cert_text.proofs.Spelled.{bind_ok, ok_is, needs, lacks, number_after_found, row_found}

@@ -11,7 +11,7 @@ use Rattle.cert_text.specs.declared.stage.Stage.{Stage}
 use Rattle.cert_text.specs.declared.stage.Stage.TheVariants.{Magic, Head, Groups, Rows, After}
 use Rattle.cert_text.specs.declared.stage.Field.TheVariants.{Entry, Ceiling, Keyings, Count}
 use Rattle.cert_text.specs.Grammar.{has_groups, groups_lines, rows_line, row_line}
-use Rattle.list_words.specs.Steps.{◌>>=◌}
+use Rattle.frame_records.specs.Steps.{◌>>=◌}
 use Rattle.cert_text.specs.Reading.{Said, Reading, Fault, start, number_of, judge, lengthen, is_over, take_byte, step, run, run_on, ended, HasNoEnd, line_ends, judged}
 use Rattle.cert_text.proofs.Spelled.{bind_ok, needs, lacks, ok_is}
 use Rattle.page_ids.proofs.KeyTexts.{chosen}

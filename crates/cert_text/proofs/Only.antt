@@ -28,7 +28,7 @@ use Rattle.cert_text.specs.declared.stage.Stage.TheVariants.{Magic, Head, Groups
 use Rattle.cert_text.specs.declared.stage.Field.{Field}
 use Rattle.cert_text.specs.declared.stage.Field.TheVariants.{Entry, Ceiling, Keyings, Count}
 use Rattle.cert_text.specs.Grammar.{has_groups, first_line, groups_line, groups_lines, entry_line, ceiling_line, keyings_line, rows_line, row_line, place_text, pend_text, cursor_text, text_of, certificate_text, IsRow, IsCertificate, IsCertificateText}
-use Rattle.list_words.specs.Steps.{◌>>=◌}
+use Rattle.frame_records.specs.Steps.{◌>>=◌}
 use Rattle.cert_text.specs.Reading.{Said, Reading, Fault, nothing, begins, start, number_of, word_of, most_of, put, stage_after, judge, judge_at, is_over, at_line, step, run, ended, reading}
 use Rattle.page_ids.proofs.Numbers.{decimal_digits}
 use Rattle.page_ids.proofs.Numerals.{both}

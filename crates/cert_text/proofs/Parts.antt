@@ -2,7 +2,7 @@
 use Rattle.std.proofs.Common.{◌≡◌, ℕ, ◌<◌, List, [], ◌∷◌, length, Err, refl, arith}
 use Rattle.std.specs.Prelude.{◌==◌}
 use Rattle.std.proofs.lemmas.List.Splits.{length-slice_split}
-use Rattle.list_words.specs.Parts.{parts_of}
+use Rattle.page_ids.specs.Parts.{parts_of}
 use Rattle.cert_text.specs.declared.fault.LineCause.TheVariants.{Word}
 use Rattle.cert_text.specs.Lines.{row_of_parts}
 

@@ -26,8 +26,8 @@ use Rattle.abstract_paint.specs.Paint.{OnScreen}
 use Rattle.cert_text.specs.declared.fault.LineCause.{LineCause}
 use Rattle.cert_text.specs.declared.fault.LineCause.TheVariants.{Word, Order, Cursor}
 use Rattle.cert_text.specs.Grammar.{place_text, pend_text, cursor_text, row_line, IsRow}
-use Rattle.list_words.specs.Steps.{◌>>=◌}
-use Rattle.list_words.specs.Parts.{parts_of}
+use Rattle.frame_records.specs.Steps.{◌>>=◌}
+use Rattle.page_ids.specs.Parts.{parts_of}
 use Rattle.cert_text.specs.Lines.{number_or_cause, line_number, number_after, in_place, place_in, pend_in, without_pend, cursor_of, cursor_in, row_of, row_of_parts, in_order, row_in}
 
 -- the value of a step that did not fail

@@ -8,8 +8,8 @@ use Rattle.page_ids.specs.Texts.{number_in, id_in}
 use Rattle.frame_records.specs.declared.groups.GroupFlaw.{GroupFlaw}
 use Rattle.frame_records.specs.declared.groups.GroupFlaw.TheVariants as group
 use Rattle.frame_records.specs.Groups.{groups_in}
-use Rattle.list_words.specs.Parts.{parts_of}
-use Rattle.list_words.specs.Steps.{◌>>=◌}
+use Rattle.page_ids.specs.Parts.{parts_of}
+use Rattle.frame_records.specs.Steps.{◌>>=◌}
 use Rattle.cert_table.specs.Table.{is_behind}
 use Rattle.cert_table.specs.declared.limits.TheConstants.{MOST_RANK}
 use Rattle.cert_table.specs.declared.row.Row.{Row}

@@ -17,7 +17,7 @@ use Rattle.cert_text.specs.declared.stage.Stage.{Stage}
 use Rattle.cert_text.specs.declared.stage.Stage.TheVariants.{Magic, Head, Groups, Rows, After}
 use Rattle.cert_text.specs.declared.stage.Field.{Field}
 use Rattle.cert_text.specs.declared.stage.Field.TheVariants.{Entry, Ceiling, Keyings, Count}
-use Rattle.list_words.specs.Steps.{◌>>=◌}
+use Rattle.frame_records.specs.Steps.{◌>>=◌}
 use Rattle.cert_text.specs.Lines.{number_after, groups_after, row_in}
 use Rattle.cert_text.specs.declared.fault.LineFault.{LineFault}
 use Rattle.cert_text.specs.declared.fault.LineFault.TheVariants as line

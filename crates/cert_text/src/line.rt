@@ -1,7 +1,7 @@
 //! What a line says: a word and a number, or a row.
 
 ghost use Rattle.std.specs.Prelude.{◌≡◌, ◌≤◌, IfOk, IfErr};
-ghost use Rattle.list_words.specs.Parts.{parts_of};
+ghost use Rattle.page_ids.specs.Parts.{parts_of};
 ghost use Rattle.cert_text.specs.Lines.{line_number, number_after, group_cause, groups_after, row_of, row_of_parts, row_in};
 ghost use Rattle.cert_text.specs.Reading.{Lasts};
 
@@ -9,8 +9,7 @@ use crate::cursor::cursor_in;
 use crate::fault::LineCause;
 use cert_table::{MOST_RANK, Row};
 use frame_records::{GroupFlaw, Groups};
-use list_words::cut;
-use page_ids::{FrameId, NumberFault, number_read};
+use page_ids::{FrameId, NumberFault, cut, number_read};
 
 // The number of a part of a line, up to the limit.
 fn line_number(text: &[u8], most: u32) -> Result<u32, LineCause>

@@ -1,7 +1,7 @@
 //! The text of a certificate.
 
 ghost use Rattle.std.specs.Prelude.{◌≡◌, ◌≤◌, ◌++◌, ◌∷◌, [], Ok, IfOk, OnOk, All, decimal, map, length};
-ghost use Rattle.page_ids.specs.Ids.{IsPageNumber, IsFrameId, frame_text};
+ghost use Rattle.page_ids.specs.Ids.{IsPageNumber};
 ghost use Rattle.abstract_paint.specs.Paint.{OnScreen};
 ghost use Rattle.frame_records.specs.declared.limits.TheConstants.{MOST_PENCE};
 ghost use Rattle.frame_records.specs.Groups.{AreGroups};
@@ -13,7 +13,7 @@ ghost use Rattle.cert_text.specs.Reading.{reading};
 use abstract_paint::{AbsCursor, Pend, Place};
 use cert_table::{Certificate, Cover, Row};
 use frame_records::Groups;
-use page_ids::{FrameId, push_number};
+use page_ids::{push_id, push_number};
 use std::alloc::{AllocError, Global};
 
 // A word with its space, a number and the line's end.
@@ -54,17 +54,6 @@ fn push_cursor(out: &mut Vec<u8>, cursor: AbsCursor) -> Result<(), AllocError>
         Pend::Yes => out.push(b'+')?,
         Pend::Maybe => out.push(b'?')?,
     }
-    Ok(())
-}
-
-#[tactic(auto, using(std::proofs::Common::append_assoc))]
-fn push_id(out: &mut Vec<u8>, id: FrameId) -> Result<(), AllocError>
-    ensures text { OnOk result (out.new.items ≡ out.old.items ++ frame_text id) }
-    ensures in_range { IsFrameId id }
-{
-    let letter = id.letter.get();
-    push_number(out, u64::from(id.page.get()))?;
-    out.push(letter)?;
     Ok(())
 }
 

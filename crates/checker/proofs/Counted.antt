@@ -11,7 +11,7 @@ use native.Mathlib.Numerals.{add-one}
 use Rattle.page_ids.specs.Ids.{Id, id_eq}
 use Rattle.frame_records.specs.declared.frame.Frame.{Frame}
 use Rattle.frame_records.specs.Bases.{BaseView, IsBase, frame_at, is_body_long}
-use Rattle.list_words.proofs.Finds.{first_found}
+use Rattle.frame_records.proofs.Finds.{first_found}
 use Rattle.cert_table.specs.declared.row.Row.{Row}
 use Rattle.checker.specs.declared.count.Count.{Count}
 use Rattle.checker.specs.declared.verdict.Cause.{Cause}

@@ -12,7 +12,7 @@ use Rattle.std.proofs.lemmas.List.{drop_all}
 use Rattle.std.proofs.lemmas.List.Sorted.{ranks_by, sorted_far}
 use Rattle.page_ids.specs.Ids.{Id, id_cmp, id_eq}
 use Rattle.page_ids.specs.IdLaws.{id_cmp_total}
-use Rattle.list_words.proofs.Finds.{find_first, find_none}
+use Rattle.frame_records.proofs.Finds.{find_first, find_none}
 use Rattle.cert_table.specs.declared.row.Row.{Row}
 use Rattle.cert_table.specs.Table.{AreRows}
 use Rattle.checker.specs.Good.{is_covered}

@@ -12,7 +12,7 @@ use checker::Policy;
 use clap::error::ErrorKind;
 use clap::{ArgMatches, Error};
 use command_words::{Request, WordsFault, asked_for, groups_of, matches, words};
-use explain_words::{explanation, nearest, overview};
+use explain::{explanation, nearest, overview};
 use frame_records::Groups;
 use out_file::{Out, is_same_file, open_out};
 use pageaudit::{

@@ -12,7 +12,7 @@ use Rattle.page_ids.specs.IdLaws.{id_cmp_total, id_eq_refl, before_of}
 use Rattle.frame_records.specs.declared.frame.Frame.{Frame}
 use Rattle.frame_records.specs.Bases.{BaseView, frame_at}
 use Rattle.frame_records.specs.Seek.{entry_of}
-use Rattle.list_words.proofs.Finds.{count_two}
+use Rattle.frame_records.proofs.Finds.{count_two}
 use Rattle.abstract_paint.specs.Paint.{Ends}
 use Rattle.abstract_paint.proofs.Exact.{is_exact}
 use Rattle.abstract_paint.proofs.Unique.{ends_are_on_screen}

@@ -13,7 +13,7 @@ use Rattle.frame_records.specs.Bases.{BaseView, frame_at}
 use Rattle.frame_records.specs.Seek.{seek, entry_of}
 use Rattle.frame_records.specs.Ways.{sought, Leads}
 use Rattle.frame_records.specs.WayLaws.{going, found_sought}
-use Rattle.list_words.proofs.Finds.{first_found, none_found}
+use Rattle.frame_records.proofs.Finds.{first_found, none_found}
 use Rattle.abstract_paint.proofs.Exact.{is_exact}
 use Rattle.cert_table.specs.declared.row.Row.{Row}
 use Rattle.cert_table.specs.Table.{row_among, CertView}

@@ -7,7 +7,7 @@ use Rattle.std.proofs.lemmas.Option.{same_Some, get_or_from_slice_get, slice_get
 use Rattle.page_ids.specs.Ids.{Id, id_eq}
 use Rattle.page_ids.specs.IdLaws.{id_eq_same}
 use Rattle.frame_records.specs.Bases.{BaseView}
-use Rattle.list_words.proofs.Finds.{IsPlace, two_places}
+use Rattle.frame_records.proofs.Finds.{IsPlace, two_places}
 use Rattle.abstract_paint.specs.declared.cursor.AbsCursor.{AbsCursor}
 use Rattle.abstract_paint.specs.Paint.{paint_of}
 use Rattle.cert_table.specs.declared.row.Row.{Row}

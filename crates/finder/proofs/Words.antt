@@ -14,7 +14,7 @@ pub use Rattle.page_ids.specs.WayLaws.{place_at}
 pub use Rattle.page_ids.specs.Ways.{way_at, way_key, way_place}
 pub use Rattle.page_ids.specs.declared.key.Key.{Key}
 pub use Rattle.page_ids.specs.declared.way.Way.{Way}
-pub use Rattle.list_words.proofs.Finds.{find_first, find_none}
+pub use Rattle.frame_records.proofs.Finds.{find_first, find_none}
 pub use Rattle.frame_records.proofs.SortedFrames.{apart_at, ascending_sorted, found_at}
 pub use Rattle.frame_records.specs.Bases.{BaseView, IsAscending, frame_among, frame_at}
 pub use Rattle.frame_records.specs.Seek.{entry_of, is_open, seek, seek_entry, sought_of}

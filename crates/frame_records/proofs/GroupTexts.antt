@@ -18,8 +18,8 @@ use Rattle.page_ids.proofs.Numbers.{number_found, number_again, decimal_digits}
 use Rattle.frame_records.specs.declared.groups.GroupFlaw.{GroupFlaw}
 use Rattle.frame_records.specs.declared.groups.GroupFlaw.TheVariants.{Range, Order}
 use Rattle.frame_records.specs.Bases.{IsGroup}
-use Rattle.list_words.specs.Steps.{◌>>=◌}
-use Rattle.list_words.specs.Parts.{parts_of}
+use Rattle.frame_records.specs.Steps.{◌>>=◌}
+use Rattle.page_ids.specs.Parts.{parts_of}
 use Rattle.frame_records.specs.Groups.{AreGroups, are_below, numbered, group_of, group_in, words_in, groups_in, groups_text, IsGroupsText}
 
 -- room for one more, which is greater than all

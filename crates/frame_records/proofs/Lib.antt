@@ -5,3 +5,5 @@ pub mod OneBase
 pub mod BinarySearch
 pub mod Searchable
 pub mod GroupTexts
+pub mod Finds
+pub mod SortedKeys

@@ -7,7 +7,7 @@ use Rattle.std.proofs.lemmas.List.{get_or_default}
 use Rattle.std.proofs.lemmas.List.Sorted.{IsNonDecreasingBy-from_all_adjacent}
 use Rattle.frame_records.specs.declared.frame.Frame.{Frame}
 use Rattle.frame_records.specs.Bases.{has_page, IsLeastInside, NoneInside}
-use Rattle.list_words.proofs.Finds.{first_found, none_found}
+use Rattle.frame_records.proofs.Finds.{first_found, none_found}
 
 -- pages don't fall
 pub rise : (pages : List ℕ) → IsStrictlyIncreasing pages → (i j : ℕ) (d : ℕ) → i ≤ j → j < length pages → get_or pages i d ≤ get_or pages j d

@@ -12,7 +12,7 @@ use Rattle.std.proofs.lemmas.Option.{slice_get-map, slice_get_within, get_or_fro
 use Rattle.page_ids.specs.Ids.{Id, id_cmp}
 use Rattle.frame_records.specs.Bases.{MayFollow, IsSearchable, lists_page}
 use Rattle.std.specs.Option.{option_copied}
-use Rattle.list_words.proofs.Finds.{find_first, find_none}
+use Rattle.frame_records.proofs.Finds.{find_first, find_none}
 
 -- what is before an Equal is Less, and is no Equal
 before_equal : (o : Ordering) → MayFollow o Equal → is_eq o ≡ false

@@ -16,7 +16,7 @@ use Rattle.page_ids.specs.Ids.{Id, id_cmp, id_eq}
 use Rattle.page_ids.specs.IdLaws.{id_cmp_total, id_eq_same, id_eq_refl, before_of}
 use Rattle.frame_records.specs.declared.frame.Frame.{Frame}
 use Rattle.frame_records.specs.Bases.{IsAscending, frame_among, has_page, NoFrame, IsLeastId, IsLeastTwice, NoneTwice, frames_with}
-use Rattle.list_words.proofs.Finds.{first_found, none_found, find_first, IsPlace, two_places, count_two}
+use Rattle.frame_records.proofs.Finds.{first_found, none_found, find_first, IsPlace, two_places, count_two}
 
 abbrev pub IsSortedById : List Frame → Type 0
 IsSortedById frames = IsSortedByKey (λ f. f.id) id_cmp frames

@@ -9,8 +9,8 @@ use Rattle.frame_records.specs.declared.limits.TheConstants.{MOST_GROUP, MOST_GR
 use Rattle.frame_records.specs.declared.groups.GroupFlaw.{GroupFlaw}
 use Rattle.frame_records.specs.declared.groups.GroupFlaw.TheVariants.{Number, Range, Order}
 use Rattle.frame_records.specs.Bases.{IsGroup}
-use Rattle.list_words.specs.Steps.{◌>>=◌}
-use Rattle.list_words.specs.Parts.{parts_of}
+use Rattle.frame_records.specs.Steps.{◌>>=◌}
+use Rattle.page_ids.specs.Parts.{parts_of}
 
 -- at most 16 numbers of groups, strictly ascending
 pub record AreGroups (groups : List ℕ) : Type 0 where

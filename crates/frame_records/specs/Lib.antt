@@ -3,3 +3,4 @@ pub mod Seek
 pub mod Ways
 pub mod Bases
 pub mod WayLaws
+pub mod Steps

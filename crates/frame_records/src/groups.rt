@@ -10,8 +10,7 @@ use crate::frame::Frame;
 use crate::limits::{MOST_GROUP, MOST_GROUPS};
 use crate::numbers::GroupNo;
 use arrayvec::ArrayVec;
-use list_words::cut;
-use page_ids::{NumberFault, number_read};
+use page_ids::{NumberFault, cut, number_read};
 use std::marker::Model;
 use thiserror::Error;
 

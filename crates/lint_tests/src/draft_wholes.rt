@@ -1,6 +1,6 @@
 //! The faults of bases as a whole.
 
-use assertions::same;
+use test_support::same;
 use base_text::{Cause, WholeFault, draft_of, whole_faults};
 use page_ids::{FrameId, PageNo};
 use std::test::Fail;

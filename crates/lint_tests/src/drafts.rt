@@ -1,6 +1,6 @@
 //! The drafts of texts: what reads, and every fault.
 
-use assertions::{same, same_in};
+use test_support::{same, same_in};
 use base_text::{Detail, Draft, TextFault, Word, base_read, draft_of};
 use std::alloc::{AllocError, Global};
 use std::test::Fail;

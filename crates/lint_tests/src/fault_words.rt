@@ -1,7 +1,7 @@
 //! The words of an audit's faults, of frames that no walk reaches, and of counts.
 
 use abstract_paint::Start;
-use assertions::same_in;
+use test_support::same_in;
 use fault_scripts::{Fault, FaultKind};
 use frame_records::{GroupNo, Pence};
 use lint_words::{Judged, push_counted, push_fault, push_unreached};

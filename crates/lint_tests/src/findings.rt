@@ -1,9 +1,9 @@
 //! What is printed of a text.
 
-use assertions::{same, same_in};
+use test_support::{same, same_in};
 use checker::Policy;
 use frame_records::{Groups, Pence};
-use lint_report::{Counts, counted_text, lint, lint_text};
+use lint::{Counts, counted_text, lint, lint_text};
 use std::alloc::Global;
 use std::test::Fail;
 

@@ -1,9 +1,9 @@
 //! Places and messages that toml doesn't have, and names.
 
-use assertions::{same, same_in};
+use test_support::{same, same_in};
 use std::alloc::Global;
 use std::test::Fail;
-use toml_hints::push_hint;
+use lint_words::push_hint;
 
 fn hint(alloc: Global, text: &str, at: usize, message: &str) -> Result<String, Fail> {
     let mut out = Vec::new(alloc);

@@ -1,9 +1,9 @@
 //! Texts that aren't TOML: toml's message and place, which no clause pins, and the hint.
 
-use assertions::same_in;
+use test_support::same_in;
 use std::alloc::Global;
 use std::test::Fail;
-use toml_hints::push_hint;
+use lint_words::push_hint;
 
 // A text, the offset and the first words of toml's message, and the hint.
 type Fault<'a> = (&'a [u8], usize, &'a str, &'a str);

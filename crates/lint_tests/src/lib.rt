@@ -1,4 +1,4 @@
-//! Tests of `base_text`, `text_places`, `toml_hints`, `lint_words` and `lint_report`. The wanted words are those of
+//! Tests of `base_text`, `toml_places`, `lint_words` and `lint`. The wanted words are those of
 //! tests/cases/lint.md, or follow the front pages of these crates.
 #![tactic(auto)]
 

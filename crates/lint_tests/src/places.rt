@@ -1,9 +1,9 @@
 //! Places, each looked up as the text that begins there.
 
-use assertions::{same, same_in};
+use test_support::{same, same_in};
 use std::alloc::Global;
 use std::test::Fail;
-use text_places::Places;
+use toml_places::Places;
 
 const BASE: &str =
     "entry = 1 # where callers begin\noutside = [0, 5]\n\n[[frame]]\nid = \"1a\"\nroutes = { 0 = 0 }\n\n\

@@ -1,7 +1,7 @@
-use assertions::same_in;
+use test_support::same_in;
 use std::alloc::Global;
 use std::test::Fail;
-use text_places::TextLines;
+use toml_places::TextLines;
 
 // An offset, and its line and column.
 type Row = (usize, (usize, usize));

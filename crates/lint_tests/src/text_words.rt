@@ -1,6 +1,6 @@
 //! The words of a text's faults.
 
-use assertions::same_in;
+use test_support::same_in;
 use base_text::{Detail, Field, TableKind, TextFault, ValueKind, Word};
 use lint_words::push_text_fault;
 use page_ids::FrameId;

@@ -1,6 +1,6 @@
 //! The words of a base's faults as a whole.
 
-use assertions::same_in;
+use test_support::same_in;
 use base_text::WholeFault;
 use lint_words::push_whole_fault;
 use page_ids::{FrameId, PageNo};

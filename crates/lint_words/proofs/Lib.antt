@@ -1,1 +1,3 @@
 mod Quotes
+pub mod SearchTurns
+pub mod MarkTurns

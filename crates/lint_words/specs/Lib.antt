@@ -5,3 +5,4 @@ pub mod NearKeys
 pub mod TextWords
 pub mod WholeWords
 pub mod Pieces
+pub mod HintRules

@@ -6,6 +6,7 @@
 //! push_whole_fault(out, &fault, 185)? // B1 Duplicate: frame 33152a is defined already on line 185
 //! push_unreached(out, id)? // UNREACHED: no key leads to frame 3319a from the entry page
 //! push_counted(out, 3, 1)? // 3 errors, 1 warning
+//! push_hint(out, b"entry = 0331\n", 8, "invalid value, expected a string, ..")? // ; a number has no leading zero
 //! ```
 //!
 //! Each call appends to a list of bytes. If a growth is refused, a part of the words may have been appended. The words
@@ -24,18 +25,28 @@
 //!   and Levenshtein, in the same case of letters. It is at most two steps away, and fewer than it has letters. Of
 //!   several the first is taken, in the order `entry`, `outside`, `frame`, or `id`, `price`, `group`, `next`, `routes`,
 //!   `lead`, `body`, `rows`.
+//! - The hint for a text that isn't TOML goes by toml's message, which no clause pins, and by the bytes around its place. It reads
+//!   no TOML, not even where a string ends: it is a guess at the cause. If no rule applies, there is none.
 #![tactic(auto)]
 
+mod backwards;
+mod brackets;
 mod count_words;
 mod fault_words;
+mod hint;
+mod hint_rules;
+mod hint_words;
 mod key_pieces;
+mod near_bytes;
 mod near_key;
 mod piece;
 mod pieces;
 mod text_words;
 mod whole_words;
+mod written_keys;
 
 pub use count_words::push_counted;
 pub use fault_words::{Judged, push_fault, push_unreached};
+pub use hint_words::push_hint;
 pub use text_words::push_text_fault;
 pub use whole_words::push_whole_fault;

@@ -4,11 +4,11 @@ ghost use Rattle.lint_words.specs.Words.{piece_text, pieces_text};
 
 use crate::key_pieces::{push_item, push_key_name, push_out_of_range, push_subject};
 use crate::pieces::{
-    push_char, push_decimal, push_frame, push_grouped, push_id, push_numbered, push_quoted,
+    push_char, push_decimal, push_frame, push_grouped, push_numbered, push_quoted,
 };
 use base_text::Field;
 use frame_records::GroupNo;
-use page_ids::{FrameId, Key, PageNo, push_key, push_keys};
+use page_ids::{FrameId, Key, PageNo, push_id, push_key, push_keys, push_page};
 use std::alloc::AllocError;
 
 // A piece of a finding's words.
@@ -95,7 +95,7 @@ fn push_piece(out: &mut Vec<u8>, piece: &Piece<'_>) -> Result<(), AllocError>
 {
     match piece {
         Piece::Words(words) => out.extend_from_slice(words.as_bytes()),
-        Piece::Page(page) => out.extend_from_slice(page.text().as_bytes()),
+        Piece::Page(page) => push_page(out, *page),
         Piece::Id(id) => push_id(out, *id),
         Piece::Frame(id) => push_frame(out, *id),
         Piece::Number(number) => push_decimal(out, *number),

@@ -1,11 +1,10 @@
 ghost use Rattle.std.specs.Prelude.{◌≡◌, ◌++◌, ◌<◌, OnOk, codes, decimal};
-ghost use Rattle.page_ids.specs.Ids.{frame_text};
 ghost use Rattle.std.specs.Char.{encode_utf8};
 ghost use Rattle.lint_words.specs.Pieces.{comma_before, with_commas, grouped, hex_digit, hex4, hex_front, code_text, is_control, is_blank, shown_text, char_text, escaped, escaped_up_to, quoted, frame_name};
 ghost use Rattle.std.specs.Str.{chars};
 
 use itoa::Buffer;
-use page_ids::{FrameId, push_number};
+use page_ids::{FrameId, push_id, push_number};
 use std::alloc::AllocError;
 
 // How many characters of a text are shown.
@@ -210,12 +209,6 @@ pub fn push_between(
 {
     push_numbered(out, before, number)?;
     out.extend_from_slice(after)
-}
-
-pub fn push_id(out: &mut Vec<u8>, id: FrameId) -> Result<(), AllocError>
-    ensures { OnOk result (out.new.items ≡ out.old.items ++ frame_text id) }
-{
-    out.extend_from_slice(id.text().as_bytes())
 }
 
 // A frame by its id, or `this frame`.

@@ -2,3 +2,4 @@ pub mod Numerals
 pub mod Numbers
 pub mod IdTexts
 pub mod KeyTexts
+pub mod Cuts

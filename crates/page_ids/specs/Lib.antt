@@ -4,3 +4,4 @@ pub mod WayLaws
 pub mod Ids
 pub mod Keys
 pub mod Texts
+pub mod Parts

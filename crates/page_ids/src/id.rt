@@ -1,13 +1,14 @@
-ghost use Rattle.std.specs.Prelude.{◌≡◌, ◌<◌};
+ghost use Rattle.std.specs.Prelude.{◌≡◌, ◌<◌, ◌++◌, MatchResult};
 ghost use Rattle.std.specs.Option.{SomeIff, ok_or};
 ghost use Rattle.page_ids.specs.declared.fault.IdFault.TheVariants.{BadFrame};
-ghost use Rattle.page_ids.specs.Ids.{Id, frame_text, first_frame, following, id_cmp};
+ghost use Rattle.page_ids.specs.Ids.{Id, IsFrameId, frame_text, first_frame, following, id_cmp};
 ghost use Rattle.page_ids.specs.Texts.{id_in, IdsAreTexts};
 
 use crate::fault::IdFault;
 use crate::letter::Letter;
 use crate::page::{PageNo, page_of};
 use arrayvec::ArrayString;
+use std::alloc::AllocError;
 use std::marker::Model;
 
 /// A frame's id: its page and its letter. Ids are ordered by page number, then by letter.
@@ -82,6 +83,16 @@ impl FrameId {
             letter,
         })
     }
+}
+
+/// Writes an id after a text. If a growth is refused, nothing was written.
+pub fn push_id(text: &mut Vec<u8>, id: FrameId) -> Result<(), AllocError>
+    ensures text { MatchResult result (λ _. text.new.items ≡ text.old.items ++ frame_text id) (λ _. text.new.items ≡ text.old.items) }
+    ensures in_range { IsFrameId id }
+{
+    let _letter = id.letter.get();
+    let _page = id.page.get();
+    text.extend_from_slice(id.text().as_bytes())
 }
 
 /// Of every id and text: an id is read from its own text, and from no other.

@@ -13,8 +13,8 @@
 //! - [`PageNo`], [`Letter`], [`Digit`], [`FrameId`]: small copied values; contracts see numbers, and a pair of numbers.
 //! - [`Key`], [`KeyList`], [`keys_read`], [`keys_text`]: the keys of a caller, as `1#*#*00*09`.
 //! - [`Way`]: the ways on from a frame, by a route or by `#`.
-//! - [`number_read`]: decimal numbers up to a limit, for readers of other texts.
-//! - [`push_number`], [`push_key`], [`push_keys`]: for writers of other texts.
+//! - [`number_read`], [`cut`]: decimal numbers up to a limit, and a text cut at a separator, for readers of other texts.
+//! - [`push_number`], [`push_page`], [`push_id`], [`push_key`], [`push_keys`]: for writers of other texts.
 #![tactic(auto)]
 
 mod fault;
@@ -25,14 +25,16 @@ mod letter;
 mod limits;
 mod number;
 mod page;
+mod parts;
 mod way;
 
 pub use fault::IdFault;
-pub use id::{FrameId, ids_are_ordered, ids_are_texts};
+pub use id::{FrameId, ids_are_ordered, ids_are_texts, push_id};
 pub use key::{Digit, Key, KeyList};
 pub use key_text::{keys_are_texts, keys_read, keys_text, push_key, push_keys};
 pub use letter::Letter;
 pub use limits::MOST_PAGE;
 pub use number::{NumberFault, number_read, numbers_are_texts, push_number};
-pub use page::PageNo;
+pub use page::{PageNo, push_page};
+pub use parts::cut;
 pub use way::Way;

@@ -1,4 +1,4 @@
-ghost use Rattle.std.specs.Prelude.{◌≡◌, ◌≤◌};
+ghost use Rattle.std.specs.Prelude.{◌≡◌, ◌≤◌, ◌++◌, MatchResult};
 ghost use Rattle.std.specs.Option.{SomeIff, ok_or};
 ghost use Rattle.page_ids.specs.declared.fault.IdFault.TheVariants.{BadPage};
 ghost use Rattle.page_ids.specs.Ids.{IsPageNumber, page_text};
@@ -9,6 +9,7 @@ use crate::limits::MOST_PAGE;
 use crate::number::number_read;
 use arrayvec::ArrayString;
 use itoa::Buffer;
+use std::alloc::AllocError;
 use std::marker::Model;
 
 /// A page number, 0 to 999,999,999. Contracts see the number.
@@ -73,6 +74,13 @@ impl PageNo {
         text.push_str(digits);
         text
     }
+}
+
+/// Writes a page number after a text. If a growth is refused, nothing was written.
+pub fn push_page(text: &mut Vec<u8>, page: PageNo) -> Result<(), AllocError>
+    ensures { MatchResult result (λ _. text.new.items ≡ text.old.items ++ page_text page) (λ _. text.new.items ≡ text.old.items) }
+{
+    text.extend_from_slice(page.text().as_bytes())
 }
 
 // The page number that the bytes spell.

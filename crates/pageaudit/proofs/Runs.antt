@@ -8,7 +8,7 @@ use Rattle.fault_scripts.specs.Outcomes.{IsOutcomeOf}
 use Rattle.audit_report.specs.declared.run_fault.RunFault.{RunFault}
 use Rattle.audit_report.specs.declared.run_fault.RunFault.TheVariants as run
 use Rattle.audit_report.specs.ReportLines.{report_text}
-use Rattle.base_list.specs.Listing.{IsListText}
+use Rattle.audit_report.specs.Listing.{IsListText}
 use Rattle.base_map.specs.declared.view.View.{View}
 use Rattle.base_map.specs.Windows.{IsViewed}
 use Rattle.pageaudit.specs.declared.status.Status.{Status}
@@ -18,9 +18,9 @@ use Rattle.pageaudit.specs.Files.{Device, IsUntouched, IsTextWritten, IsTextOfFi
 use Rattle.pageaudit.specs.AuditRun.{IsAuditRun, IsAuditIntoRun, IsSplitWritten, status_of_outcome}
 use Rattle.pageaudit.specs.ListRun.{IsListRun, status_of_entry}
 use Rattle.pageaudit.specs.MapRun.{IsMapRun, IsMapWritten}
-use Rattle.lint_report.specs.declared.counts.Counts.{Counts}
-use Rattle.lint_report.specs.Findings.{FindingView, finding_lines}
-use Rattle.lint_report.specs.Lint.{IsLint}
+use Rattle.lint.specs.declared.counts.Counts.{Counts}
+use Rattle.lint.specs.Findings.{FindingView, finding_lines}
+use Rattle.lint.specs.Lint.{IsLint}
 use Rattle.pageaudit.specs.LintRun.{IsLintRun, counts_of}
 use Rattle.pageaudit.proofs.Within.{base_within, text_within}
 

@@ -3,10 +3,10 @@ use Rattle.std.specs.Prelude.{◌==◌, ℕ, if◌then◌else◌, List, Result, 
 use Rattle.checker.specs.declared.policy.Policy.{Policy}
 use Rattle.audit_report.specs.declared.run_fault.RunFault.{RunFault}
 use Rattle.audit_report.specs.declared.run_fault.RunFault.TheVariants as run
-use Rattle.lint_report.specs.declared.counts.Counts.{Counts}
-use Rattle.lint_report.specs.declared.finding.Level.TheVariants.{Error, Warning}
-use Rattle.lint_report.specs.Findings.{FindingView, count_of, finding_lines}
-use Rattle.lint_report.specs.Lint.{IsLint}
+use Rattle.lint.specs.declared.counts.Counts.{Counts}
+use Rattle.lint.specs.declared.finding.Level.TheVariants.{Error, Warning}
+use Rattle.lint.specs.Findings.{FindingView, count_of, finding_lines}
+use Rattle.lint.specs.Lint.{IsLint}
 use Rattle.pageaudit.specs.Files.{Device, IsUntouched, IsTextWritten, base_limit, IsTextOfFile, IsBaseBroken, IsReadWithin}
 use Rattle.pageaudit.specs.Status.{fault_number}
 

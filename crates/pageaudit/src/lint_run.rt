@@ -1,5 +1,5 @@
 ghost use Rattle.std.specs.Prelude.{◌≡◌, false};
-ghost use Rattle.lint_report.specs.Findings.{finding_lines};
+ghost use Rattle.lint.specs.Findings.{finding_lines};
 ghost use Rattle.pageaudit.specs.Files.{device, IsTextWritten};
 ghost use Rattle.pageaudit.specs.LintRun.{IsLintRun, counts_of, lint_number};
 
@@ -7,7 +7,7 @@ use crate::status::status_of;
 use audit_report::{RunFault, Sink, Source, SourceFault, read_whole, write_whole};
 use base_text::MOST_TEXT;
 use checker::Policy;
-use lint_report::{Counts, Finding, lint, lint_text};
+use lint::{Counts, Finding, lint, lint_text};
 use std::alloc::Global;
 
 // Writes a line for each finding; returns how many there are if all of them were taken and flushed.

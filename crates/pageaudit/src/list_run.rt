@@ -5,8 +5,7 @@ ghost use Rattle.pageaudit.specs.ListRun.{IsListRun, status_of_entry};
 use crate::file_fault::base_fault;
 use crate::input::read_base;
 use crate::status::Status;
-use audit_report::{RunFault, Sink, Source};
-use base_list::{Listing, list};
+use audit_report::{Listing, RunFault, Sink, Source, list};
 use frame_records::Groups;
 use std::alloc::Global;
 

@@ -1,9 +1,9 @@
 -- The answer of lint.
 use Rattle.std.specs.Prelude.{◌≡◌, ◌⊎◌, ◌==◌, ℕ, if◌then◌else◌, List}
 use Rattle.checker.specs.declared.policy.Policy.{Policy}
-use Rattle.lint_report.specs.declared.finding.Level.TheVariants.{Error}
-use Rattle.lint_report.specs.Findings.{FindingView, count_of, finding_lines}
-use Rattle.lint_report.specs.Lint.{IsLint}
+use Rattle.lint.specs.declared.finding.Level.TheVariants.{Error}
+use Rattle.lint.specs.Findings.{FindingView, count_of, finding_lines}
+use Rattle.lint.specs.Lint.{IsLint}
 use Rattle.pageaudit_c.specs.declared.status.Status.{Status}
 use Rattle.pageaudit_c.specs.declared.status.Status.TheVariants.{Clear, Faulty}
 use Rattle.pageaudit_c.specs.Calls.{IsOutOfMemory}

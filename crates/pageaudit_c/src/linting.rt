@@ -6,7 +6,7 @@ use crate::answer::{Answer, bad_policy, lay_over, out_of_memory};
 use crate::policy::policy_of;
 use crate::status::Status;
 use checker::Policy;
-use lint_report::{Counts, Finding, lint, lint_text};
+use lint::{Counts, Finding, lint, lint_text};
 use std::alloc::Global;
 
 // Faulty if and only if there is an error.

@@ -5,7 +5,7 @@ use base_text::BaseFault;
 use cert_table::Certificate;
 use cert_text::{CertReader, ReadFault, cert_write};
 use checker::{InputFault, Policy, Verdict};
-use demo_texts::CERT;
+use test_support::CERT;
 use fault_scripts::audit;
 use finder::{find, script_to};
 use frame_records::{Base, Groups};

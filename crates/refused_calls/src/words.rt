@@ -5,7 +5,7 @@ ghost use Rattle.std.specs.Prelude.{◌≡◌, ◌≤◌, IfSome, length, false}
 use audit_report::{FromRead, read_whole};
 use base_text::{MOST_TEXT, RowCells, base_read};
 use checker::Policy;
-use fake_devices::{FakeSink, FakeSource};
+use test_support::{FakeSink, FakeSource};
 use frame_records::{Base, Groups, Pence};
 use page_ids::{KeyList, PageNo, keys_read};
 use pageaudit::View;

@@ -1,8 +1,7 @@
 //! A base's text with its certificate, and how both are read and checked.
 
 use crate::shape::Mark;
-use audit_report::{FromRead, IntoWrite, read_whole, report};
-use base_list::list;
+use audit_report::{FromRead, IntoWrite, list, read_whole, report};
 use base_map::{View, map_view};
 use base_text::{MOST_TEXT, base_read};
 use cert_table::Certificate;

@@ -5,7 +5,7 @@ use anyhow::{Result, bail};
 use base_text::base_read;
 use checker::Policy;
 use frame_records::Groups;
-use lint_report::lint;
+use lint::lint;
 use std::alloc::Global;
 use std::time::{CpuClock, Duration};
 

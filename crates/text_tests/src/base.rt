@@ -1,6 +1,6 @@
 //! Texts that are read; those that are refused stand in `tests/cases`.
 
-use assertions::same;
+use test_support::same;
 use base_text::base_read;
 use frame_records::{Base, Frame, Lead};
 use page_ids::{FrameId, PageNo};

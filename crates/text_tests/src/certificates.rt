@@ -3,10 +3,9 @@
 ghost use Rattle.std.specs.Prelude.{◌<◌};
 
 use abstract_paint::{AbsCursor, Pend, Place};
-use assertions::{same, same_in};
+use test_support::{CERT, same, same_in};
 use cert_table::{Certificate, Cover, Row};
 use cert_text::{CertReader, LineCause, ReadFault, cert_read, cert_write};
-use demo_texts::CERT;
 use frame_records::GroupNo;
 use page_ids::{FrameId, PageNo};
 use std::alloc::{AllocError, Global};

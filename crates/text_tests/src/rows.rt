@@ -1,4 +1,4 @@
-use assertions::{same, same_in};
+use test_support::{same, same_in};
 use base_text::{RowCells, body_of_rows};
 use std::test::Fail;
 

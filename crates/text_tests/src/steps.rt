@@ -1,6 +1,6 @@
 //! Keys and codes, by themselves.
 
-use assertions::same;
+use test_support::same;
 use base_text::{Field, TableKind, digit_key, is_key, is_row_code};
 use std::test::Fail;
 

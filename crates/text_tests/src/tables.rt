@@ -1,7 +1,7 @@
 //! Tables built by hand; which rows make none is these rules' own list of refusals.
 
 use abstract_paint::{AbsCursor, Pend, Place};
-use assertions::{depth, same, same_in};
+use test_support::{depth, same, same_in};
 use cert_table::{Certificate, Cover, Row, RowList, RowTable, TableFault};
 use frame_records::{GroupNo, Groups, Pence};
 use page_ids::{FrameId, PageNo};

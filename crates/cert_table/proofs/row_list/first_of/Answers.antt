@@ -1,7 +1,7 @@
 use Rattle.std.proofs.Common.{sym, ap, ◌∙◌}
 use Rattle.std.proofs.lemmas.List.Quantifiers.{position-Some}
 use Rattle.page_ids.specs.Ids.{id_eq}
-use Rattle.list_words.proofs.Finds.{find_first, find_none, none_passes}
+use Rattle.frame_records.proofs.Finds.{find_first, find_none, none_passes}
 use Rattle.cert_table.specs.declared.row.Row.{Row}
 use Rattle.cert_table.proofs.row_list.first_of.Goals as goal
 

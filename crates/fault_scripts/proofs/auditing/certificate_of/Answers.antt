@@ -1,7 +1,7 @@
 use Rattle.std.proofs.Common.{rules, sym, ◌∙◌, ap}
 use Rattle.std.specs.List.Sorted.{IsSortedByKey}
 use Rattle.page_ids.specs.Ids.{id_cmp}
-use Rattle.list_words.proofs.SortedKeys.{by_key}
+use Rattle.frame_records.proofs.SortedKeys.{by_key}
 use Rattle.cert_table.specs.declared.row.Row.{Row}
 use Rattle.cert_table.specs.Table.{unless_fault}
 use Rattle.fault_scripts.proofs.auditing.certificate_of.Goals as goal

@@ -2,7 +2,7 @@ use Rattle.std.proofs.Common.{◌∙◌, rules}
 use Rattle.std.specs.Ordering.{nat_cmp}
 use Rattle.std.specs.List.Sorted.{IsBinarySearchResult}
 use Rattle.frame_records.specs.declared.frame.Frame.{Frame}
-use Rattle.list_words.proofs.SortedKeys.{by_key}
+use Rattle.frame_records.proofs.SortedKeys.{by_key}
 use Rattle.frame_records.proofs.SortedFrames.{page_found}
 use Rattle.frame_records.proofs.build.page_has_frame.Goals as goal
 

@@ -3,7 +3,7 @@ use Rattle.std.specs.List.Sorted.{IsSortedByKey}
 use Rattle.std.proofs.lemmas.List.Filters.{dedup_is}
 use Rattle.page_ids.specs.Ids.{id_cmp}
 use Rattle.frame_records.specs.declared.frame.Frame.{Frame}
-use Rattle.list_words.proofs.SortedKeys.{by_key}
+use Rattle.frame_records.proofs.SortedKeys.{by_key}
 use Rattle.frame_records.proofs.Built.{sorted_of}
 use Rattle.frame_records.proofs.build.sort.Goals as goal
 

@@ -1,6 +1,6 @@
 use Rattle.std.proofs.Common.{List, rules, subst}
-use Rattle.lint_report.specs.Findings.{FindingView, finding_lines}
-use Rattle.lint_report.specs.Lint.{IsLint}
+use Rattle.lint.specs.Findings.{FindingView, finding_lines}
+use Rattle.lint.specs.Lint.{IsLint}
 use Rattle.pageaudit.specs.Files.{device, IsTextOfFile, IsTextWritten}
 use Rattle.pageaudit.specs.LintRun.{counts_of}
 use Rattle.pageaudit.proofs.Runs.{lint_run}

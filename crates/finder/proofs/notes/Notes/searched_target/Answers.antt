@@ -1,6 +1,6 @@
 use Rattle.std.proofs.Common.{Ok, Err, rules, refl, sym, ◌∙◌, ap, subst}
 use Rattle.finder.proofs.Words.{IsBinarySearchResult, slice_get_read, id_cmp, Frame, IsAscending, frame_among, IsSeen}
-use Rattle.list_words.proofs.SortedKeys.{by_key}
+use Rattle.frame_records.proofs.SortedKeys.{by_key}
 use Rattle.finder.proofs.Noted.{seen_at, searched, unsearched}
 use Rattle.finder.proofs.notes.Notes.searched_target.Goals as goal
 

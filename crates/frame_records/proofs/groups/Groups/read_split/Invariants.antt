@@ -1,5 +1,5 @@
 use Rattle.std.proofs.Common.{◌≡◌, length}
-use Rattle.list_words.specs.Parts.{parts_of}
+use Rattle.page_ids.specs.Parts.{parts_of}
 use Rattle.frame_records.specs.Groups.{words_in, groups_in}
 use Rattle.frame_records.proofs.groups.Groups.read_split.Given as goal
 

@@ -1,0 +1,117 @@
+-- The lines of `list`. Ids, numbers and keys are printed as in every text.
+use Rattle.std.specs.Prelude.{ℕ, List, ◌++◌, Option, Some, None, codes, decimal, ◌≡◌, zero, suc, Bool, true, false, not, [], ◌∷◌, filter, length, slice_get, ◌↔◌, Contains, All}
+use Rattle.page_ids.specs.declared.key.Key.{Key}
+use Rattle.frame_records.specs.declared.frame.Frame.{Frame}
+use Rattle.audit_report.specs.Lines.{line, with_id, entry_text}
+use Rattle.audit_report.specs.ReportLines.{script_text}
+use Rattle.std.specs.List.{list_any}
+use Rattle.indexmap.specs.IndexSet.{contains}
+use Rattle.page_ids.specs.Ids.{Id, id_eq}
+use Rattle.frame_records.specs.declared.base.Sought.{Sought}
+use Rattle.frame_records.specs.declared.base.Sought.TheVariants as sought
+use Rattle.frame_records.specs.Bases.{BaseView, frame_at}
+use Rattle.frame_records.specs.Seek.{entry_of, seek_entry}
+use Rattle.finder.specs.declared.found.Discovered.{Discovered}
+use Rattle.finder.specs.Finds.{IsFinding, script, FindsReached, IsReached}
+use Rattle.audit_report.specs.Views.{ListingView}
+use Rattle.audit_report.specs.declared.reached.Reached.{Reached}
+
+-- a number, or `-` if there is none
+abbrev pub or_dash : Option ℕ → List ℕ
+or_dash (Some n) = decimal n
+or_dash None = codes "-"
+
+abbrev pub with_or_dash : List ℕ → Option ℕ → List ℕ
+with_or_dash words number = words ++ or_dash number
+
+-- what a frame costs, and the group to which it is open
+abbrev pub price_and_group : Frame → List ℕ
+price_and_group f = (codes " PRICE " ++ decimal f.price) ++ with_or_dash (codes " GROUP ") f.group
+
+-- a frame that is reached: its rank, and the keys that lead to it
+abbrev pub frame_line : Frame → Option ℕ → List Key → List ℕ
+frame_line f rank keys =
+    line (with_id (codes "FRAME ") f.id ++ with_or_dash (codes " RANK ") rank ++ price_and_group f ++ script_text keys)
+
+-- one that isn't
+abbrev pub unreached_line : Frame → List ℕ
+unreached_line f = line (with_id (codes "UNREACHED ") f.id ++ price_and_group f)
+
+-- The text of `list`: the frames that are reached, in the order of discovery, and then the others, in the order of the base.
+
+-- a frame is among those that are reached
+abbrev pub is_listed : List Discovered → Id → Bool
+is_listed found id = list_any (λ d. id_eq d.id id) found
+
+-- the line of a reached frame, by its record; each has one
+abbrev pub line_of_record : Option ℕ → List Key → Option Frame → List ℕ
+line_of_record rank keys None = []
+line_of_record rank keys (Some f) = frame_line f rank keys
+
+abbrev pub line_of_found : BaseView → List Key → Option Discovered → List ℕ
+line_of_found base keys None = []
+line_of_found base keys (Some d) = line_of_record d.rank keys (frame_at base d.id)
+
+-- the line of the reached frame at an index
+abbrev pub reached_line : BaseView → List Discovered → ℕ → List ℕ
+reached_line base found at = line_of_found base (script found at) (slice_get found at)
+
+-- the lines of the first of them
+abbrev pub reached_lines : BaseView → List Discovered → ℕ → List ℕ
+reached_lines base found zero = []
+reached_lines base found (suc n) = reached_lines base found n ++ reached_line base found n
+
+-- the frames that aren't reached
+abbrev pub others : List Discovered → List Frame → List Frame
+others found frames = filter (λ f. not (is_listed found f.id)) frames
+
+abbrev pub lines_of_others : List Frame → List ℕ
+lines_of_others [] = []
+lines_of_others (f ∷ fs) = unreached_line f ++ lines_of_others fs
+
+abbrev pub unreached_lines : List Discovered → List Frame → List ℕ
+unreached_lines found frames = lines_of_others (others found frames)
+
+-- a line for each frame
+abbrev pub all_lines : BaseView → List Discovered → List ℕ
+all_lines base found = reached_lines base found (length found) ++ unreached_lines found base.frames
+
+-- the lines of all frames, by the one list of the reached frames
+pub record AreAllLines (caller : List ℕ) (base : BaseView) (text : List ℕ) : Type 0 where
+  pub found : List Discovered
+  pub finding : IsFinding caller base found
+  pub lines : text ≡ all_lines base found
+
+-- the text and whether the entry frame is found: if it isn't, the text is the entry frame's line alone
+abbrev pub IsTextBy : Sought → List ℕ → BaseView → List ℕ → Bool → Type 0
+IsTextBy sought.Missing caller base text is_found = (text ≡ entry_text (entry_of base) false) × (is_found ≡ false)
+IsTextBy sought.Closed caller base text is_found = (text ≡ entry_text (entry_of base) true) × (is_found ≡ false)
+IsTextBy (sought.Found price) caller base text is_found = AreAllLines caller base text × (is_found ≡ true)
+
+abbrev pub IsListText : List ℕ → BaseView → List ℕ → Bool → Type 0
+IsListText caller base text is_found = IsTextBy (seek_entry caller base) caller base text is_found
+
+abbrev pub IsListing : List ℕ → BaseView → ListingView → Type 0
+IsListing caller base listing = IsListText caller base listing.text listing.entry_is_found
+
+-- the ids of these frames are known
+abbrev pub Knows : List Discovered → Reached → Type 0
+Knows found reached = (id : Id) → contains id_eq reached.ids id ≡ is_listed found id
+
+-- What the list says of a base.
+
+-- a frame that is listed has its record in the base
+abbrev pub HasRecord : BaseView → Discovered → Type 0
+HasRecord base d = (f : Frame) × (frame_at base d.id ≡ Some f)
+
+-- the lines FRAME are those of exactly the frames that walks reach, and the lines UNREACHED those of exactly the others
+pub record ListsEveryFrame (caller : List ℕ) (base : BaseView) (found : List Discovered) : Type 0 where
+  pub records : All (HasRecord base) found
+  pub reached : (id : Id) → IsReached caller base id ↔ (is_listed found id ≡ true)
+  pub unreached : (f : Frame)
+      → Contains (others found base.frames) f ↔ (Contains base.frames f × (IsReached caller base f.id → ⊥))
+
+abbrev pub AllAreListed : Type 0
+AllAreListed =
+    (caller : List ℕ) (base : BaseView) (found : List Discovered) → FindsReached caller base found
+    → ListsEveryFrame caller base found

@@ -1,7 +1,0 @@
-use Rattle.std.proofs.Common.{ℕ, ◌<◌, [], get_or}
-use Rattle.explain_words.specs.Words.{texts_of, IsSame}
-use Rattle.explain_words.proofs.word.place_among.Given as goal
-
--- none so far is the word
-abbrev pub invariant-loop-place : goal.invariant-loop-place
-invariant-loop-place l = (j : ℕ) → j < l.place → ¬ (IsSame (get_or (texts_of l.words) j []) l.word)

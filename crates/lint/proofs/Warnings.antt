@@ -1,0 +1,135 @@
+-- The frames that are warned of.
+use Rattle.std.proofs.Common.{◌≡◌, ◌∙◌, ◌≢◌, ◌&&◌, ◌||◌, ℕ, Bool, true, false, cond, not, List, [], ◌∷◌, ◌++◌, map, get_or, Option, Some, None, is_none, refl, sym, ap, subst, Contains, inl, inr, arith}
+use Rattle.std.specs.Option.{option_or}
+use Rattle.std.specs.Prelude.{filter, AllPairs, ◌⊎◌, ◌↔◌}
+use Rattle.std.specs.List.{list_any}
+use Rattle.std.proofs.lemmas.List.Elements.{All-map, All-contains, filter_passes, Contains-append_left, Contains-append_cases}
+use Rattle.std.proofs.lemmas.List.Folds.{Any-from_list_any, list_any-from_Any}
+use Rattle.std.proofs.lemmas.List.Kept.{AllPairs-filter}
+use Rattle.std.proofs.lemmas.List.Sorted.{Contains-permutation, IsPermutation-filter_both, IsPermutation-sym}
+use Rattle.page_ids.specs.Ids.{Id, id_eq}
+use Rattle.page_ids.specs.IdLaws.{id_eq_same, id_eq_refl}
+use Rattle.frame_records.specs.declared.frame.Frame.{Frame}
+use Rattle.frame_records.specs.Bases.{BaseView, IsAscending}
+use Rattle.frame_records.specs.Seek.{is_open, entry_of}
+use Rattle.frame_records.proofs.SortedFrames.{apart_at}
+use Rattle.checker.specs.declared.policy.Policy.{Policy}
+use Rattle.finder.specs.declared.found.Discovered.{Discovered}
+use Rattle.finder.specs.Finds.{EntryIsFound, IsReached, FindsReached}
+use Rattle.base_text.specs.Whole.{IsTextBase}
+use Rattle.toml_places.specs.Places.{marks}
+use Rattle.lint.specs.declared.finding.Level.TheVariants.{Error}
+use Rattle.lint.specs.Findings.{FindingView, AreInOrder}
+use Rattle.lint.specs.Lookups.{value_of}
+use Rattle.lint.specs.Lint.{ranks_of, is_unreached, unreached, warned, ids_of, warning, fault_finding, text_tables}
+use Rattle.lint.specs.Laws.{IsCutOff, AreOfAudit, WarnsOfCutOff}
+
+-- what passes a test is kept
+module _ {X : Type 0} (p : X → Bool) (xs : List X) (x : X) where
+  kept : Contains xs x → p x ≡ true → Contains (filter p xs) x
+  kept c h = on (Contains-append_cases (filter p xs) (filter (λ y. not (p y)) xs) x (Contains-permutation xs _ x (IsPermutation-filter_both p (λ y. not (p y)) (λ y. refl) xs) c)) where
+    failed : (b : Bool) → b ≡ true → not b ≡ true → ⊥
+    failed true h e = absurd cc
+    failed false h e = absurd cc
+
+    on : Contains (filter p xs) x ⊎ Contains (filter (λ y. not (p y)) xs) x → Contains (filter p xs) x
+    on (inl here) = here
+    on (inr out) = absurd (failed (p x) h (All-contains (λ y. not (p y) ≡ true) (filter (λ y. not (p y)) xs) x (filter_passes (λ y. not (p y)) xs) out))
+
+  kept_from : Contains (filter p xs) x → Contains xs x × (p x ≡ true)
+  kept_from c = (
+    Contains-permutation (filter p xs ++ filter (λ y. not (p y)) xs) xs x (IsPermutation-sym xs _ (IsPermutation-filter_both p (λ y. not (p y)) (λ y. refl) xs)) (Contains-append_left (filter p xs) _ x c),
+    All-contains (λ y. p y ≡ true) (filter p xs) x (filter_passes p xs) c,
+  )
+
+-- an id has no rank if it isn't listed
+none_or : {X : Type 0} (later : Option X) (b : Bool) (x : X) (rest : Bool) → is_none later ≡ not rest
+    → is_none (option_or later (cond b (Some x) None)) ≡ not (b || rest)
+none_or (Some y) true x rest e = refl
+none_or (Some y) false x rest e = e
+none_or None true x rest e = refl
+none_or None false x rest e = e
+
+unranked : (found : List Discovered) (id : Id) → is_none (value_of (ranks_of found) id) ≡ not (list_any (λ d. id_eq d.id id) found)
+unranked [] id = refl
+unranked (d ∷ ds) id = none_or (value_of (ranks_of ds) id) (id_eq d.id id) d.rank (list_any (λ e. id_eq e.id id) ds) (unranked ds id)
+
+both : (a b : Bool) → (a && b) ≡ true → (a ≡ true) × (b ≡ true)
+both true true e = (refl, refl)
+both true false e = absurd cc
+both false b e = absurd cc
+
+fails : (b : Bool) → not b ≡ true → b ≡ true → ⊥
+fails true e h = absurd cc
+fails false e h = absurd cc
+
+not_so : (b : Bool) → (b ≡ true → ⊥) → not b ≡ true
+not_so true h = absurd (h refl)
+not_so false h = refl
+
+-- one finding for each frame of a list of ids
+each : (f : Id → FindingView) (frames : List Frame) → map f (ids_of frames) ≡ map (λ (g : Frame). f g.id) frames
+each f [] = refl
+each f (g ∷ gs) = ap (λ fs. f g.id ∷ fs) (each f gs)
+
+module _ (groups : List ℕ) (base : BaseView) (found : List Discovered) (finds : FindsReached groups base found) where
+  -- the frames that are listed are those that walks reach
+  listed : (id : Id) → IsReached groups base id → list_any (λ d. id_eq d.id id) found ≡ true
+  listed id r =
+      let a = (finds.reached id).0 r in
+      list_any-from_Any (λ d. id_eq d.id id) found (a.0, a.1, a.2, a.3, ap (λ (x : Id). id_eq x id) a.4 ∙ id_eq_refl id)
+
+  reached : (id : Id) → list_any (λ d. id_eq d.id id) found ≡ true → IsReached groups base id
+  reached id e =
+      let a = Any-from_list_any (λ d. id_eq d.id id) found e in
+      (finds.reached id).1 (a.0, a.1, a.2, a.3, id_eq_same a.1.id id a.4)
+
+  -- a frame that is kept is cut off, if the entry frame is found, and the other way round
+  kept_is_cut_off : EntryIsFound groups base → (f : Frame) → Contains (unreached groups (ranks_of found) base.frames) f → IsCutOff groups base f
+  kept_is_cut_off entry f c =
+      let k = kept_from (is_unreached groups (ranks_of found)) base.frames f c in
+      let b = both (is_open groups f) (is_none (value_of (ranks_of found) f.id)) k.1 in
+      record { entry = entry; listed = k.0; opens = b.0; unreached = λ r. fails (list_any (λ d. id_eq d.id f.id) found) (sym (unranked found f.id) ∙ b.1) (listed f.id r) }
+
+  cut_off_is_kept : (f : Frame) → IsCutOff groups base f → Contains (unreached groups (ranks_of found) base.frames) f
+  cut_off_is_kept f c =
+      let none = unranked found f.id ∙ not_so (list_any (λ d. id_eq d.id f.id) found) (λ e. c.unreached (reached f.id e)) in
+      kept (is_unreached groups (ranks_of found)) base.frames f c.listed (rw (c.opens, none) refl)
+
+-- those that are warned of; without an entry frame none is
+warned_is_cut_off : (groups : List ℕ) (base : BaseView) (found : List Discovered) → FindsReached groups base found
+    → (f : Frame) → Contains (warned groups found base.frames) f ↔ IsCutOff groups base f
+warned_is_cut_off groups base [] finds f = (
+  λ c. absurd (omega (arith, c.1)),
+  λ c. let a = (finds.reached (entry_of base)).0 (record { steps = 0; entry = c.entry; walk = refl }) in absurd (omega (arith, a.2)),
+)
+warned_is_cut_off groups base (d ∷ ds) finds f = (
+  kept_is_cut_off groups base (d ∷ ds) finds (reached groups base (d ∷ ds) finds d.id (rw (id_eq_refl d.id) refl)).entry f,
+  cut_off_is_kept groups base (d ∷ ds) finds f,
+)
+
+apart : (base : BaseView) → IsAscending base.frames → AllPairs (λ f g. f.id ≢ g.id) base.frames
+apart base up i j d lt within same =
+    let differ = apart_at base.frames j i d up lt within in
+    let equal : id_eq (get_or base.frames i d).id (get_or base.frames j d).id ≡ true = ap (λ (x : Id). id_eq x (get_or base.frames j d).id) same ∙ id_eq_refl (get_or base.frames j d).id in
+    absurd cc
+
+once : (groups : List ℕ) (base : BaseView) (found : List Discovered) → IsAscending base.frames → AllPairs (λ f g. f.id ≢ g.id) (warned groups found base.frames)
+once groups base [] up = λ i j d lt within same. absurd (omega (arith, within))
+once groups base (d ∷ ds) up = AllPairs-filter (λ f g. f.id ≢ g.id) (is_unreached groups (ranks_of (d ∷ ds))) base.frames (apart base up)
+
+pub warns : (text : List ℕ) (policy : Policy) (findings : List FindingView) (base : BaseView) → IsTextBase text base
+    → AreOfAudit text policy findings base → WarnsOfCutOff text policy base findings
+warns text policy findings base is a =
+    let ms = marks text in
+    let tables = text_tables text in
+    let frames = warned policy.groups a.1.found base.frames in
+    let faults = map (fault_finding ms tables base policy (ranks_of a.1.found)) a.1.faults in
+    record {
+      errors = faults;
+      frames = frames;
+      are_errors = All-map (λ f. f.level ≡ Error) (fault_finding ms tables base policy (ranks_of a.1.found)) a.1.faults (λ k d lt. refl);
+      cut_off = warned_is_cut_off policy.groups base a.1.found a.1.reached;
+      once = once policy.groups base a.1.found is.2.valid.ascending;
+      in_order = subst (λ fs. AreInOrder fs findings) (a.1.all ∙ ap (λ fs. faults ++ fs) (each (warning ms tables) frames)) a.2;
+    }

@@ -1,0 +1,203 @@
+-- Every finding of a text.
+use Rattle.std.specs.Prelude.{◌≡◌, ℕ, Bool, true, false, ◌&&◌, List, [], ◌∷◌, ◌++◌, map, Option, Some, None, unwrap_or, is_none, option_and_then, codes, nat_lt, length, zip, filter}
+use Rattle.page_ids.specs.Ids.{Id}
+use Rattle.frame_records.specs.declared.frame.Frame.{Frame}
+use Rattle.frame_records.specs.declared.build.BuildFault.{BuildFault}
+use Rattle.frame_records.specs.Bases.{BaseView, frame_at, IsBaseOf, IsBuildFault}
+use Rattle.frame_records.specs.Seek.{is_open}
+use Rattle.checker.specs.declared.policy.Policy.{Policy}
+use Rattle.finder.specs.declared.found.Discovered.{Discovered}
+use Rattle.finder.specs.Finds.{FindsReached, RanksAreLeast}
+use Rattle.fault_scripts.specs.declared.fault.Fault.{Fault}
+use Rattle.fault_scripts.specs.Faults.{AreFaults}
+use Rattle.toml_places.specs.Places.{Mark, Keeps, header_place, key_place, marks}
+use Rattle.lint_words.specs.declared.fault_words.Judged.{Judged}
+use Rattle.lint_words.specs.FaultWords.{fault_words, unreached_words}
+use Rattle.lint.specs.declared.audit_findings.Audit.{Audit}
+use Rattle.lint.specs.declared.audit_findings.Sources.{Sources}
+use Rattle.lint.specs.Findings.{FindingView, error_at, warning_at, AreInOrder}
+use Rattle.lint.specs.Lookups.{value_of, Knows}
+use Rattle.lint.specs.Spots.{has_rows, audit_fault_place, text_fault_place, whole_fault_place}
+use Rattle.base_text.specs.declared.detail.TextFault.{TextFault}
+use Rattle.base_text.specs.declared.whole_fault.WholeFault.{WholeFault}
+use Rattle.base_text.specs.declared.whole_fault.WholeFault.TheVariants.{Duplicate}
+use Rattle.toml_places.specs.Skips.{place_at}
+use Rattle.lint_words.specs.TextWords.{text_fault_words}
+use Rattle.lint_words.specs.WholeWords.{whole_fault_words}
+use Rattle.toml.specs.Data.{Members}
+use Rattle.base_text.specs.declared.limits.TheConstants.{MOST_TEXT}
+use Rattle.base_text.specs.Whole.{tree_of, IsTextBase}
+use Rattle.base_text.specs.Drafts.{DraftView, draft_of}
+use Rattle.base_text.specs.WholeFaults.{AreWholeFaults}
+use Rattle.lint_words.specs.HintRules.{hint_text}
+
+-- The findings of an audit: its faults, and the frames that no key reaches.
+
+-- the fewest keys from each frame that is reached back to the entry frame
+abbrev pub ranks_of : List Discovered → List (Id × Option ℕ)
+ranks_of found = map (λ d. (d.id, d.rank)) found
+
+-- open to a caller of the groups, and not reached
+abbrev pub is_unreached : List ℕ → List (Id × Option ℕ) → Frame → Bool
+is_unreached groups ranks f = is_open groups f && is_none (value_of ranks f.id)
+
+abbrev pub unreached : List ℕ → List (Id × Option ℕ) → List Frame → List Frame
+unreached groups ranks frames = filter (is_unreached groups ranks) frames
+
+-- the frames that a warning is about; none if the entry frame isn't found
+abbrev pub warned : List ℕ → List Discovered → List Frame → List Frame
+warned groups [] frames = []
+warned groups (d ∷ ds) frames = unreached groups (ranks_of (d ∷ ds)) frames
+
+abbrev pub ids_of : List Frame → List Id
+ids_of frames = map (λ f. f.id) frames
+
+-- the faults of a base, and what is reached of it
+pub record IsAudit (base : BaseView) (policy : Policy) (audit : Audit) : Type 0 where
+  pub found : List Discovered
+  pub faults : AreFaults base policy audit.faults
+  pub reached : FindsReached policy.groups base found
+  pub least : RanksAreLeast policy.groups base found
+  pub known : Knows (ranks_of found) audit.ranks
+  pub unreached : audit.unreached.items ≡ ids_of (warned policy.groups found base.frames)
+
+abbrev pub is_clear : List Fault → List Id → Bool
+is_clear [] [] = true
+is_clear faults ids = false
+
+abbrev pub table_of : List (Id × ℕ) → Id → ℕ
+table_of tables id = unwrap_or (value_of tables id) 0
+
+abbrev pub rank_of : List (Id × Option ℕ) → Id → Option ℕ
+rank_of ranks id = option_and_then (λ r. r) (value_of ranks id)
+
+-- the group of the frame that a fault finds closed
+abbrev pub group_of : BaseView → Fault → Option ℕ
+group_of base fault = option_and_then (λ f. f.group) (frame_at base (unwrap_or fault.sought fault.frame))
+
+abbrev pub judged : List Mark → ℕ → BaseView → Policy → List (Id × Option ℕ) → Fault → Judged
+judged ms table base policy ranks fault = record {
+  ceiling = policy.ceiling;
+  keyings = policy.keyings;
+  has_rows = has_rows ms table;
+  rank = rank_of ranks fault.frame;
+  group = group_of base fault;
+}
+
+abbrev pub fault_finding : List Mark → List (Id × ℕ) → BaseView → Policy → List (Id × Option ℕ) → Fault → FindingView
+fault_finding ms tables base policy ranks fault =
+    let table = table_of tables fault.frame in
+    error_at (audit_fault_place ms table fault) (fault_words (judged ms table base policy ranks fault) fault)
+
+abbrev pub warning : List Mark → List (Id × ℕ) → Id → FindingView
+warning ms tables id = warning_at (header_place ms (table_of tables id)) (unreached_words id)
+
+-- what the sources know
+pub record AreKnown (ms : List Mark) (tables : List (Id × ℕ)) (sources : Sources) : Type 0 where
+  pub keeps : Keeps sources.places.now ms
+  pub knows : Knows tables sources.tables
+
+-- each fault of a base, and then each frame that no key reaches
+pub record AreAuditFindings (ms : List Mark) (tables : List (Id × ℕ)) (base : BaseView) (policy : Policy) (findings : List FindingView) : Type 0 where
+  pub faults : List Fault
+  pub found : List Discovered
+  pub are_faults : AreFaults base policy faults
+  pub reached : FindsReached policy.groups base found
+  pub least : RanksAreLeast policy.groups base found
+  pub all : findings ≡ map (fault_finding ms tables base policy (ranks_of found)) faults ++ map (warning ms tables) (ids_of (warned policy.groups found base.frames))
+
+-- The findings of the faults of a base's text.
+
+abbrev pub text_finding : List Mark → TextFault → FindingView
+text_finding ms fault = error_at (text_fault_place ms fault) (text_fault_words fault)
+
+-- the line of the first frame with the id, if the fault is a further frame with it
+abbrev pub first_line : List ℕ → List Mark → WholeFault → ℕ
+first_line text ms (Duplicate table first id) = (place_at text (key_place ms (Some first) (codes "id"))).0
+first_line text ms _ = 0
+
+abbrev pub whole_finding : List ℕ → List Mark → WholeFault → FindingView
+whole_finding text ms fault = error_at (whole_fault_place ms fault) (whole_fault_words fault (first_line text ms fault))
+
+-- What a finding of a text is about, if it isn't one of the audit.
+
+-- the text's length; toml's message and its place, which are taken as given; a fault of the text; one of its base as a whole
+pub data Subject : Type 0 where
+  Length : Subject
+  Toml : (at : ℕ) (message : List ℕ) → Subject
+  Text : (fault : TextFault) → Subject
+  Whole : (fault : WholeFault) → Subject
+
+abbrev pub finding_of : List ℕ → Subject → FindingView
+finding_of text Length = error_at 0 (codes "X1 TooLong: the text has more than 16,777,216 bytes")
+finding_of text (Toml at message) = error_at at (codes "X2 NotToml: " ++ message ++ hint_text text at message)
+finding_of text (Text fault) = text_finding (marks text) fault
+finding_of text (Whole fault) = whole_finding text (marks text) fault
+
+-- the faults of a text and of its base as a whole, in the order of judging
+abbrev pub faulty : List TextFault → List WholeFault → List Subject
+faulty faults whole = map Text faults ++ map Whole whole
+
+abbrev pub AreDraftSubjects : DraftView → List Subject → Type 0
+AreDraftSubjects draft subjects =
+    (whole : List WholeFault) × AreWholeFaults draft.outside draft.frames draft.tables whole × (subjects ≡ faulty draft.faults whole)
+
+-- a text that isn't TOML has nothing else
+abbrev pub AreTreeSubjects : Option Members → List Subject → Type 0
+AreTreeSubjects None subjects = (at : ℕ) × (message : List ℕ) × (subjects ≡ Toml at message ∷ [])
+AreTreeSubjects (Some ms) subjects = AreDraftSubjects (draft_of ms) subjects
+
+-- nor has one that is too long, which isn't read
+abbrev pub AreSubjectsIf : Bool → List ℕ → List Subject → Type 0
+AreSubjectsIf true text subjects = subjects ≡ Length ∷ []
+AreSubjectsIf false text subjects = AreTreeSubjects (tree_of text) subjects
+
+-- all that is wrong with a text before its base is audited, in the order of judging
+abbrev pub AreSubjects : List ℕ → List Subject → Type 0
+AreSubjects text subjects = AreSubjectsIf (nat_lt MOST_TEXT (length text)) text subjects
+
+-- What lint finds in a text.
+
+-- the frames of a draft by their ids, each with the index of its table
+abbrev pub tables_of : List Frame → List ℕ → List (Id × ℕ)
+tables_of frames tables = map (λ p. (p.0.id, p.1)) (zip frames tables)
+
+abbrev pub tree_tables : Option Members → List (Id × ℕ)
+tree_tables None = []
+tree_tables (Some ms) = tables_of (draft_of ms).frames (draft_of ms).tables
+
+abbrev pub text_tables : List ℕ → List (Id × ℕ)
+text_tables text = tree_tables (tree_of text)
+
+-- the findings of the audit of a base of the text
+abbrev pub IsAudited : List ℕ → Policy → BaseView → List FindingView → Type 0
+IsAudited text policy base findings = AreAuditFindings (marks text) (text_tables text) base policy findings
+
+-- if nothing is wrong with the text, its base is audited
+abbrev pub IsJudgedBy : List Subject → List ℕ → Policy → List FindingView → Type 0
+IsJudgedBy [] text policy findings = (base : BaseView) × IsTextBase text base × IsAudited text policy base findings
+IsJudgedBy (s ∷ ss) text policy findings = findings ≡ map (finding_of text) (s ∷ ss)
+
+abbrev pub IsJudged : List ℕ → Policy → List FindingView → Type 0
+IsJudged text policy findings = (subjects : List Subject) × AreSubjects text subjects × IsJudgedBy subjects text policy findings
+
+-- the findings in the order of their places
+abbrev pub IsLint : List ℕ → Policy → List FindingView → Type 0
+IsLint text policy findings = (judged : List FindingView) × IsJudged text policy judged × AreInOrder judged findings
+
+-- What the steps of lint say.
+
+abbrev pub IsNotToml : List ℕ → List FindingView → Type 0
+IsNotToml text findings = (at : ℕ) × (message : List ℕ) × (findings ≡ map (finding_of text) (Toml at message ∷ []))
+
+-- the base of what a draft without a fault lists
+abbrev pub IsListed : List TextFault → Option ℕ → List ℕ → List Frame → BaseView → Type 0
+IsListed faults entry outside frames base = (faults ≡ []) × (e : ℕ) × (entry ≡ Some e) × IsBaseOf e outside frames base
+
+-- if a draft has no fault, what it lists is refused as a whole
+abbrev pub IsRefused : List TextFault → Option ℕ → List ℕ → List Frame → Type 0
+IsRefused faults entry outside frames = faults ≡ [] → (e : ℕ) → entry ≡ Some e → (fault : BuildFault) × IsBuildFault outside frames fault
+
+-- the draft of the TOML of a text that isn't too long
+abbrev pub IsDraftOf : List ℕ → DraftView → Type 0
+IsDraftOf text draft = (ms : Members) × (nat_lt MOST_TEXT (length text) ≡ false) × (tree_of text ≡ Some ms) × (draft ≡ draft_of ms)

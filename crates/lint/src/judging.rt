@@ -1,0 +1,221 @@
+ghost use Rattle.std.specs.Prelude.{◌≡◌, ◌++◌, ◌∷◌, [], ℕ, List, map, IfOk, OnOk, OnErr, MatchOption, Some, None};
+ghost use Rattle.std.specs.Str.{IsUtf8};
+ghost use Rattle.toml.specs.Data.{Members};
+ghost use Rattle.toml.specs.Parse.{parse_document};
+ghost use Rattle.toml.specs.View.{table_view};
+ghost use Rattle.base_text.specs.Whole.{tree_of};
+ghost use Rattle.toml_places.specs.Places.{marks};
+ghost use Rattle.lint.specs.Findings.{error_at};
+ghost use Rattle.lint.specs.Laws.{FollowsBaseRead, DecidesSafety, WarnsOfUnreached};
+ghost use Rattle.lint.specs.Lint as spec;
+
+use crate::audit_findings::{Audit, Sources};
+use crate::finding::Finding;
+use crate::laws::{lint_follows_base_read, lint_warns_of_unreached, no_error_is_safe};
+use crate::lookup::Lookup;
+use crate::order::put_in_order;
+use crate::text_findings::{add_text_findings, add_whole_findings};
+use base_text::{
+    Draft, MOST_TEXT, TextFault, WholeFault, draft_of, drafts_are_sound, faults_are_listed,
+    whole_faults, whole_faults_agree,
+};
+use checker::Policy;
+use frame_records::{Base, Frame};
+use lint_words::push_hint;
+use page_ids::{FrameId, PageNo};
+use std::alloc::{AllocError, Global};
+use toml::Table;
+use toml::de::Error;
+use toml_places::{Places, TextLines};
+
+fn one(alloc: Global, at: usize, words: Vec<u8>) -> Result<Vec<Finding>, AllocError>
+    ensures { IfOk result (λ fs. fs.items ≡ error_at at words.items ∷ []) }
+{
+    let mut findings = Vec::new(alloc);
+    findings.push(Finding::error(at, words))?;
+    Ok(findings)
+}
+
+// X1, of a text that is longer than a base may be.
+fn too_long(alloc: Global) -> Result<Vec<Finding>, AllocError>
+    ensures { IfOk result (λ fs. (text : List ℕ) → fs.items ≡ map (spec.finding_of text) (spec.Length ∷ [])) }
+{
+    let mut words = Vec::new(alloc);
+    words.extend_from_slice(b"X1 TooLong: the text has more than 16,777,216 bytes")?;
+    one(alloc, 0, words)
+}
+
+// X2, with toml's message at the start of its span, and a hint.
+fn not_toml(
+    alloc: Global,
+    text: &[u8],
+    at: usize,
+    message: &str,
+) -> Result<Vec<Finding>, AllocError>
+    ensures { IfOk result (λ fs. fs.items ≡ map (spec.finding_of text.now) (spec.Toml at message.now ∷ [])) }
+{
+    let mut words = Vec::new(alloc);
+    words.extend_from_slice(b"X2 NotToml: ")?;
+    words.extend_from_slice(message.as_bytes())?;
+    push_hint(&mut words, text, at, message)?;
+    one(alloc, at, words)
+}
+
+fn refused(alloc: Global, text: &[u8], error: &Error) -> Result<Vec<Finding>, AllocError>
+    ensures { IfOk result (λ fs. spec.IsNotToml text.now fs.items) }
+{
+    match error.span() {
+        None => Err(AllocError),
+        Some(span) => not_toml(alloc, text, span.start, error.message()),
+    }
+}
+
+// The findings of the faults of a text and of its base as a whole.
+fn faulty(
+    alloc: Global,
+    text: &str,
+    faults: &[TextFault],
+    whole: &[WholeFault],
+) -> Result<Vec<Finding>, AllocError>
+    ensures { IfOk result (λ fs. (ms : Members) → parse_document text.now ≡ Some ms → fs.items ≡ map (spec.text_finding (marks text.now)) faults.now ++ map (spec.whole_finding text.now (marks text.now)) whole.now) }
+{
+    let places = Places::of(alloc, text)?;
+    let lines = TextLines::of(alloc, text.as_bytes())?;
+    let mut findings = Vec::new(alloc);
+    add_text_findings(alloc, &places, faults, &mut findings)?;
+    add_whole_findings(alloc, &places, &lines, whole, &mut findings)?;
+    Ok(findings)
+}
+
+// The findings of the audit of a base.
+fn audited(
+    alloc: Global,
+    text: &str,
+    tables: &[(FrameId, usize)],
+    base: &Base,
+    policy: &Policy,
+) -> Result<Vec<Finding>, AllocError>
+    ensures { IfOk result (λ fs. (ms : Members) → parse_document text.now ≡ Some ms → spec.AreAuditFindings (marks text.now) tables.now base.now policy.now fs.items) }
+{
+    let audit = Audit::of(alloc, base, policy)?;
+    if audit.is_clear() {
+        return Ok(Vec::new(alloc));
+    }
+    let places = Places::of(alloc, text)?;
+    let sources = Sources {
+        places: &places,
+        tables: Lookup::of(alloc, tables)?,
+        base,
+        policy,
+    };
+    sources.findings(alloc, &audit)
+}
+
+// The frames of a text by their ids, each with the index of its table.
+fn tables_of(
+    alloc: Global,
+    frames: &[Frame],
+    tables: &[usize],
+) -> Result<Vec<(FrameId, usize)>, AllocError>
+    ensures { IfOk result (λ pairs. pairs.items ≡ spec.tables_of frames.now tables.now) }
+{
+    frames
+        .iter()
+        .zip(tables)
+        .map(|(frame, table)| (frame.id, *table))
+        .collect(alloc)
+}
+
+// The base of what a draft lists, if the draft has no fault and the base isn't refused as a whole.
+fn base_of(
+    faults: &[TextFault],
+    entry: Option<PageNo>,
+    outside: Vec<PageNo>,
+    frames: Vec<Frame>,
+) -> Option<Base>
+    ensures { MatchOption result (spec.IsRefused faults.now entry outside.items frames.items) (spec.IsListed faults.now entry outside.items frames.items) }
+{
+    match (faults, entry) {
+        ([], Some(entry)) => Base::build(entry, outside, frames).ok(),
+        _ => None,
+    }
+}
+
+fn judged_draft(
+    alloc: Global,
+    text: &str,
+    draft: Draft,
+    policy: &Policy,
+) -> Result<Vec<Finding>, AllocError>
+    requires { spec.IsDraftOf text.now draft }
+    ensures { IfOk result (λ fs. spec.IsJudged text.now policy.now fs.items) }
+{
+    drafts_are_sound();
+    faults_are_listed();
+    whole_faults_agree();
+    let whole = whole_faults(alloc, &draft)?;
+    let tables = tables_of(alloc, draft.frames.as_slice(), draft.tables.as_slice())?;
+    let Draft {
+        entry,
+        outside,
+        frames,
+        faults,
+        ..
+    } = draft;
+    match base_of(faults.as_slice(), entry, outside, frames) {
+        Some(base) => audited(alloc, text, tables.as_slice(), &base, policy),
+        None => faulty(alloc, text, faults.as_slice(), whole.as_slice()),
+    }
+}
+
+// The text's TOML, or toml's error.
+fn tree(alloc: Global, text: &[u8]) -> Result<Result<Table, Error>, AllocError>
+    ensures ok { IfOk result (λ read. IfOk read (λ table. tree_of text.now ≡ Some (table_view table))) }
+    ensures utf8 { IfOk result (λ read. OnOk read (IsUtf8 text.now)) }
+    ensures refused { IfOk result (λ read. OnErr read (tree_of text.now ≡ None)) }
+{
+    match toml::table_from_slice(alloc, text) {
+        Ok(table) => Ok(Ok(table)),
+        Err(error) => {
+            if error.is_memory() {
+                Err(AllocError)
+            } else {
+                Ok(Err(error))
+            }
+        }
+    }
+}
+
+fn judged(alloc: Global, text: &[u8], policy: &Policy) -> Result<Vec<Finding>, AllocError>
+    ensures { IfOk result (λ fs. spec.IsJudged text.now policy.now fs.items) }
+{
+    if text.len() > MOST_TEXT {
+        return too_long(alloc);
+    }
+    let table = match tree(alloc, text)? {
+        Ok(table) => table,
+        Err(error) => return refused(alloc, text, &error),
+    };
+    match str::from_utf8(text) {
+        Ok(text) => judged_draft(alloc, text, draft_of(alloc, table)?, policy),
+        Err(_) => unreachable!(),
+    }
+}
+
+/// Every finding of a base's text, in the order of their places: all faults of the text, or if it has none those of the
+/// audit, and the frames that no key reaches.
+pub fn lint(alloc: Global, text: &[u8], policy: &Policy) -> Result<Vec<Finding>, AllocError>
+    ensures findings { IfOk result (λ fs. spec.IsLint text.now policy.now fs.items) }
+
+    // What they mean.
+    ensures text { IfOk result (λ fs. FollowsBaseRead text.now policy.now fs.items) }
+    ensures errors { IfOk result (λ fs. DecidesSafety text.now policy.now fs.items) }
+    ensures warnings { IfOk result (λ fs. WarnsOfUnreached text.now policy.now fs.items) }
+{
+    lint_follows_base_read();
+    no_error_is_safe();
+    lint_warns_of_unreached();
+    let mut findings = judged(alloc, text, policy)?;
+    put_in_order(&mut findings)?;
+    Ok(findings)
+}

@@ -1,0 +1,34 @@
+ghost use Rattle.lint.specs.Laws.{LintFollowsBaseRead, NoErrorIsSafe, LintWarnsOfUnreached};
+
+use base_text::{drafts_are_sound, faults_are_listed, texts_mean_one_base, whole_faults_agree};
+use fault_scripts::{faults_are_one, none_is_safe};
+
+/// The findings of a text follow what `base_read` answers for it, unless it is out of memory. If that is a base, they are
+/// those of its audit, and none is of the text. If it is a fault, they are of the text, and the first in the order of
+/// judging is of that fault.
+pub fn lint_follows_base_read()
+    ensures { LintFollowsBaseRead }
+{
+    texts_mean_one_base();
+    drafts_are_sound();
+    faults_are_listed();
+    whole_faults_agree();
+}
+
+/// No finding of a text is an error if and only if the text means a base that the audit certifies, which is to say that
+/// every session is safe within the policy.
+pub fn no_error_is_safe()
+    ensures { NoErrorIsSafe }
+{
+    lint_follows_base_read();
+    faults_are_one();
+    none_is_safe();
+}
+
+/// The warnings are one for each frame that is open to the caller and that no walk from the entry frame reaches, if the
+/// entry frame is found; else there is none.
+pub fn lint_warns_of_unreached()
+    ensures { LintWarnsOfUnreached }
+{
+    lint_follows_base_read();
+}

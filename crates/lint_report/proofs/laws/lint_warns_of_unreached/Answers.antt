@@ -1,6 +1,0 @@
-use Rattle.std.proofs.Common.{Ok}
-use Rattle.lint_report.proofs.Warnings.{warns}
-use Rattle.lint_report.proofs.laws.lint_warns_of_unreached.Goals as goal
-
-pub returns : goal.returns
-returns c = λ text policy findings lint base is. warns text policy findings base is (c.lint_follows_base_read.ensures text policy findings lint (Ok base) is)

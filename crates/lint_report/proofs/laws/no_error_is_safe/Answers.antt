@@ -1,5 +1,0 @@
-use Rattle.lint_report.proofs.Meanings.{decided}
-use Rattle.lint_report.proofs.laws.no_error_is_safe.Goals as goal
-
-pub returns : goal.returns
-returns c = λ text policy findings lint. decided c.lint_follows_base_read.ensures c.faults_are_one.ensures c.none_is_safe.ensures text policy findings lint

@@ -1,9 +1,0 @@
-use Rattle.std.proofs.Common.{◌≡◌, ◌++◌, List, drop}
-use Rattle.std.specs.Prelude.{map}
-use Rattle.text_places.specs.Places.{Mark, Keeps}
-use Rattle.lint_report.specs.Lint.{text_finding}
-use Rattle.lint_report.proofs.text_findings.add_text_findings.Given as goal
-
-abbrev pub invariant-loop-fault : goal.invariant-loop-fault
-invariant-loop-fault l = (ms : List Mark) → Keeps l.places ms
-    → l.findings.items ++ map (text_finding ms) (drop l.fault-index l.faults) ≡ l.fn.findings.items ++ map (text_finding ms) l.faults

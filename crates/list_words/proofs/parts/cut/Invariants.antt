@@ -1,6 +1,0 @@
-use Rattle.std.proofs.Common.{◌≡◌, take, All, false}
-use Rattle.std.specs.Prelude.{◌==◌}
-use Rattle.list_words.proofs.parts.cut.Given as goal
-
-abbrev pub invariant-loop-i : goal.invariant-loop-i
-invariant-loop-i l = All (λ b. (b == l.separator) ≡ false) (take l.i l.text)

@@ -1,0 +1,91 @@
+//! The texts of `explain`.
+
+use explain::{explanation, nearest, overview};
+use std::test::Fail;
+use test_support::{same, same_in};
+
+// The first line of the text of a word.
+fn title(word: &str) -> Option<&'static str> {
+    match explanation(word) {
+        Some(text) => text.lines().next(),
+        None => None,
+    }
+}
+
+#[test]
+fn a_word_has_the_text_of_its_section(_rt: HostRuntime) -> Result<(), Fail> {
+    let rows = [
+        ("PBC1", Some("PBC1")),
+        ("end", Some("PBC1")),
+        ("groups", Some("PBC2")),
+        ("K7", Some("K7 Price")),
+        ("k15", Some("K15 GroupsDiffer")),
+        ("UnknownKey", Some("X3 UnknownKey")),
+        ("unknownkey", Some("X3 UnknownKey")),
+        ("price", Some("PRICE")),
+        ("new", Some("NEW")),
+        ("read failed", Some("read failed")),
+        ("unreached", Some("UNREACHED")),
+        ("Tail", Some("Tail")),
+        ("badgroups", Some("I4 BadGroups")),
+        ("C3", Some("I1")),
+        ("s80", Some("any")),
+        ("C12?", Some("any")),
+        ("ANY+", Some("any")),
+        ("s80+?", None),
+        ("s", Some("any")),
+        ("x10", None),
+        ("K7 ", None),
+        ("", None),
+    ];
+    for (word, wanted) in rows {
+        same_in(word, title(word), wanted)?;
+    }
+    Ok(())
+}
+
+#[test]
+fn a_word_of_two_sections_has_both_texts(_rt: HostRuntime) -> Result<(), Fail> {
+    let rows = [
+        ("price", "\nK7 Price\n"),
+        ("Touches", "\nK9 Touches\n"),
+        ("NEW", "\nnew base\n"),
+        ("range", "\nRange\n"),
+    ];
+    for (word, second) in rows {
+        same_in(
+            word,
+            explanation(word).is_some_and(|text| text.contains(second)),
+            true,
+        )?;
+    }
+    Ok(())
+}
+
+#[test]
+fn the_nearest_word_is_at_most_two_steps_away(rt: HostRuntime) -> Result<(), Fail> {
+    let rows = [
+        ("unknownky", Some("UnknownKey")),
+        ("unkownkye", Some("UnknownKey")),
+        ("unkownky", Some("UnknownKey")),
+        ("ukownky", None),
+        ("x", Some("X1")),
+        ("K77", Some("K7")),
+        ("NORETRUN", Some("NORETURN")),
+        ("zzzzz", None),
+        ("", None),
+    ];
+    for (word, wanted) in rows {
+        same_in(word, nearest(rt.alloc(), word)?, wanted)?;
+    }
+    Ok(())
+}
+
+#[test]
+fn the_overview_begins_with_the_words_of_each_section(_rt: HostRuntime) -> Result<(), Fail> {
+    same(
+        overview().lines().next(),
+        Some("PBC1, entry, ceiling, keyings, rows, end  a certificate"),
+    )?;
+    same(overview().lines().count(), 69)
+}

@@ -1,0 +1,68 @@
+//! The lints.
+
+use crate::expected::{ALL, policy, sink, source, taken};
+use audit_report::RunFault;
+use checker::Policy;
+use pageaudit::{Counts, run_lint, status_of_lint};
+use std::alloc::Global;
+use std::test::Fail;
+use test_support::same_in;
+
+const TEXT: &str = "entry = 1\n[[frame]]\nid = \"1a\"\nrows = []\nroutes = { 3 = 4 }\n";
+
+const LINE: &str =
+    "x/b.toml:5:1: error: MISSING: key 3 of frame 1a leads to page 4, which has no frame a (keys 3)\n";
+
+// What a lint answers, its status, how often the file is read and the output flushed, and how many bytes of the line are taken.
+type Linted = (Result<Counts, RunFault>, u8, u32, u32, usize);
+
+fn linted(alloc: Global, kept: usize, room: usize, policy: &Policy) -> Linted {
+    let mut base = source(TEXT, ALL, kept);
+    let mut out = sink(alloc, LINE, room);
+    let answer = run_lint(alloc, &mut base, &mut out, "x/b.toml", policy);
+    let status = status_of_lint(&answer);
+    (answer, status, base.calls, out.flushes, taken(&out, LINE))
+}
+
+#[test]
+fn findings_are_written_under_the_path(rt: HostRuntime) -> Result<(), Fail> {
+    let counts = Counts {
+        errors: 1,
+        warnings: 0,
+    };
+    let told = linted(rt.alloc(), ALL, ALL, &policy(50, 3)?);
+    same_in("all", told, (Ok(counts), 1, 2, 1, LINE.len()))
+}
+
+// Nothing is asked for after a read that fails, a write that fails and a flush that fails.
+#[test]
+fn a_lint_that_fails_asks_for_no_more(rt: HostRuntime) -> Result<(), Fail> {
+    let policy = policy(50, 3)?;
+    let rows: [(usize, usize, Linted); 5] = [
+        (0, ALL, (Err(RunFault::ReadBase), 3, 1, 0, 0)),
+        (5, ALL, (Err(RunFault::ReadBase), 3, 2, 0, 0)),
+        (ALL, 0, (Err(RunFault::Write(0)), 3, 2, 0, 0)),
+        (ALL, 7, (Err(RunFault::Write(7)), 3, 2, 0, 7)),
+        (
+            ALL,
+            LINE.len(),
+            (Err(RunFault::Write(LINE.len() as u64)), 3, 2, 1, LINE.len()),
+        ),
+    ];
+    for (kept, room, wanted) in rows {
+        let told = linted(rt.alloc(), kept, room, &policy);
+        same_in((kept, room), told, wanted)?;
+    }
+    Ok(())
+}
+
+// A text that is no base is a finding: the file was read to its end, and the line is flushed once.
+#[test]
+fn a_text_at_fault_is_read_once(rt: HostRuntime) -> Result<(), Fail> {
+    let line = "b.toml:1:1: error: X4 Absent: the base needs a key 'entry', its page\n";
+    let mut base = source("", ALL, ALL);
+    let mut out = sink(rt.alloc(), line, ALL);
+    let answer = run_lint(rt.alloc(), &mut base, &mut out, "b.toml", &policy(50, 3)?);
+    let told = (status_of_lint(&answer), base.calls, out.flushes);
+    same_in("no entry", told, (1, 1, 1))
+}

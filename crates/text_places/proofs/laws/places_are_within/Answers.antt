@@ -1,5 +1,0 @@
-use Rattle.text_places.proofs.Within as lemmas
-use Rattle.text_places.proofs.laws.places_are_within.Goals as goal
-
-pub returns : goal.returns
-returns c = lemmas.places_are_within

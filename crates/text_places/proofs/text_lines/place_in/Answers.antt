@@ -1,5 +1,0 @@
-use Rattle.text_places.proofs.ScanTurns.{place_begins}
-use Rattle.text_places.proofs.text_lines.place_in.Goals as goal
-
-pub place_from-requires-clause-place : goal.place_from-requires-clause-place
-place_from-requires-clause-place c = place_begins c.args.text.now

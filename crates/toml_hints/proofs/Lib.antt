@@ -1,2 +1,0 @@
-pub mod SearchTurns
-pub mod MarkTurns

@@ -1,0 +1,314 @@
+//! The places of a base's keys in its text.
+
+ghost use Rattle.std.specs.Prelude.{◌≡◌, ℕ, ◌<◌, ◌++◌, ◌∷◌, [], List, true, if◌then◌else◌, Some, None, option_map, string_bytes, slice_get, length, IfOk, OnOk, IsSome, IsTrue};
+ghost use Rattle.std.specs.Option.{option_or, option_copied};
+ghost use Rattle.std.specs.Str.{bytes_eq};
+ghost use Rattle.std.specs.BTreeMap.{get_by_text};
+ghost use Rattle.toml_parser.specs.Reading.{key_view, path_view};
+ghost use Rattle.toml.specs.Parse.{parse_document};
+ghost use Rattle.toml_places.specs.Places as spec;
+ghost use Rattle.toml_places.specs.Places.{NotesFrame, Keeps, at_if, is_key, routes_key, first_at, header_place, key_place, route_place};
+ghost use Rattle.toml_places.specs.Walk.{frame_count, section_view, frames_after, IsOpen, Walks};
+
+use crate::lines::{Line, Sort, read_line, skip_bom};
+use std::alloc::{AllocError, Global};
+use std::collections::BTreeMap;
+use toml_parser::text::skip_blank;
+use toml_parser::{Key, ParseError};
+
+type Offsets = BTreeMap<String, usize>;
+
+/// The places of a base's text: where its keys are first written, frame by frame.
+#[derive(Drop)]
+pub struct Places {
+    top: Offsets,
+    frames: Vec<FramePlaces>,
+}
+
+#[derive(Drop)]
+pub struct FramePlaces {
+    header: Option<usize>,
+    keys: Offsets,
+    routes: Offsets,
+}
+
+// The table that the latest header names: whether it lies in the latest frame, and its keys in there or in the top.
+#[derive(Drop)]
+pub struct Section {
+    in_frame: bool,
+    path: Vec<String>,
+}
+
+// Notes an offset at a key that has none.
+fn note(alloc: Global, offsets: &mut Offsets, key: &str, at: usize) -> Result<(), AllocError>
+    ensures { OnOk result ((q : List ℕ) → get_by_text offsets.new q ≡ option_or (get_by_text offsets.old q) (at_if (bytes_eq q key.now) at)) }
+{
+    if !offsets.contains_key(key) {
+        offsets.insert(String::from_str(alloc, key)?, at)?;
+    }
+    Ok(())
+}
+
+// The part at an index of a path.
+fn part<'a>(path: &'a [String], own: &'a [String], index: usize) -> Option<&'a str>
+    ensures { option_copied result ≡ slice_get (path_view path.now ++ path_view own.now) index }
+{
+    let text = if index < path.len() {
+        path.get(index)
+    } else {
+        own.get(index - path.len())
+    };
+    match text {
+        Some(text) => Some(text.as_str()),
+        None => None,
+    }
+}
+
+impl FramePlaces {
+    fn new(alloc: Global) -> FramePlaces
+        ensures header { result.header ≡ None }
+        ensures keys { (q : List ℕ) → get_by_text result.keys q ≡ None }
+        ensures routes { (q : List ℕ) → get_by_text result.routes q ≡ None }
+    {
+        FramePlaces {
+            header: None,
+            keys: BTreeMap::new(alloc),
+            routes: BTreeMap::new(alloc),
+        }
+    }
+
+    // Notes an expression whose path begins with these two parts.
+    fn note(
+        &mut self,
+        alloc: Global,
+        one: Option<&str>,
+        two: Option<&str>,
+        at: usize,
+    ) -> Result<(), AllocError>
+        ensures { OnOk result (NotesFrame self.old self.new (option_copied one.entry) (option_copied two.entry) at) }
+    {
+        self.header = self.header.or(Some(at));
+        let Some(key) = one else {
+            return Ok(());
+        };
+        note(alloc, &mut self.keys, key, at)?;
+        match two {
+            Some(sub) if key == "routes" => note(alloc, &mut self.routes, sub, at),
+            _ => Ok(()),
+        }
+    }
+}
+
+// All parts of a key.
+fn parts_of(key: Key) -> Result<Vec<String>, AllocError>
+    ensures { IfOk result (λ v. path_view v.items ≡ spec.parts (key_view key)) }
+{
+    let Key { mut path, last } = key;
+    path.push(last)?;
+    Ok(path)
+}
+
+// Whether a header with these parts, in double brackets, opens a frame.
+fn is_frame(parts: &[String]) -> bool
+    ensures { result ≡ spec.is_frame (path_view parts.now) }
+{
+    parts.len() == 1 && parts[0].as_str() == "frame"
+}
+
+fn is_frame_key(part: Option<&String>) -> bool
+    ensures { result ≡ is_key (option_map string_bytes (option_copied part.entry)) spec.frame_key }
+{
+    match part {
+        Some(part) => part.as_str() == "frame",
+        None => false,
+    }
+}
+
+impl Places {
+    fn new(alloc: Global) -> Places
+        ensures keeps { Keeps result [] }
+        ensures frames { frame_count result ≡ 0 }
+    {
+        Places {
+            top: BTreeMap::new(alloc),
+            frames: Vec::new(alloc),
+        }
+    }
+
+    // The section of a header with these parts.
+    fn section_at(&self, parts: Vec<String>) -> Section
+        ensures { section_view (frame_count self.now) result ≡ spec.section_at (frame_count self.now) (path_view parts.items) }
+    {
+        let mut path = parts;
+        let in_frame = !self.frames.is_empty() && is_frame_key(path.first());
+        if in_frame {
+            path.remove(0);
+        }
+        Section { in_frame, path }
+    }
+
+    // Enters the section of a header with these parts, and opens the next frame if it is a header `[[frame]]`.
+    fn enter(
+        &mut self,
+        alloc: Global,
+        sort: Sort,
+        parts: Vec<String>,
+    ) -> Result<Section, AllocError>
+        ensures keeps { OnOk result ((ms : List spec.Mark) → Keeps self.old ms → Keeps self.new ms) }
+        ensures frames { OnOk result (frame_count self.new ≡ frames_after sort (path_view parts.items) (frame_count self.old)) }
+        ensures section { IfOk result (λ s. section_view (frame_count self.new) s ≡ spec.section_at (frame_count self.new) (path_view parts.items)) }
+    {
+        if matches!(sort, Sort::ArrayTable) && is_frame(&parts) {
+            self.frames.push(FramePlaces::new(alloc))?;
+        }
+        Ok(self.section_at(parts))
+    }
+
+    // Notes an expression in a section, which has these keys of its own there.
+    fn note(
+        &mut self,
+        alloc: Global,
+        section: &Section,
+        own: &[String],
+        at: usize,
+    ) -> Result<(), AllocError>
+        requires { IsOpen (section_view (frame_count self.old) section.now) }
+        ensures keeps { OnOk result ((ms : List spec.Mark) → Keeps self.old ms
+            → Keeps self.new (ms ++ spec.mark_in (section_view (frame_count self.old) section.now) (path_view own.now) at ∷ [])) }
+        ensures frames { OnOk result (frame_count self.new ≡ frame_count self.old) }
+    {
+        let one = part(&section.path, own, 0);
+        let two = part(&section.path, own, 1);
+        if section.in_frame {
+            let last = self.frames.len() - 1;
+            self.frames[last].note(alloc, one, two, at)
+        } else if let Some(key) = one {
+            note(alloc, &mut self.top, key, at)
+        } else {
+            Ok(())
+        }
+    }
+
+    // Notes one expression.
+    fn write(
+        &mut self,
+        alloc: Global,
+        section: &mut Section,
+        line: Line,
+        at: usize,
+    ) -> Result<(), AllocError>
+        requires { IsOpen (section_view (frame_count self.old) section.old) }
+        ensures keeps { OnOk result ((ms : List spec.Mark) → Keeps self.old ms
+            → Keeps self.new (ms ++ spec.mark_in (section_view (frame_count self.new) section.new) (spec.own_parts (key_view line.key) line.sort) at ∷ [])) }
+        ensures section { OnOk result (section_view (frame_count self.new) section.new
+            ≡ spec.section_after (section_view (frame_count self.old) section.old) (key_view line.key) line.sort) }
+    {
+        let Line { key, sort } = line;
+        let parts = parts_of(key)?;
+        if sort == Sort::Pair {
+            return self.note(alloc, section, &parts, at);
+        }
+        *section = self.enter(alloc, sort, parts)?;
+        self.note(alloc, section, &[], at)
+    }
+
+    // Notes each expression of a text.
+    fn walk(&mut self, alloc: Global, text: &str) -> Result<(), ParseError>
+        requires kept { Keeps self.old [] }
+        requires none { frame_count self.old ≡ 0 }
+        ensures { Walks result text.now self.new }
+    {
+        let mut section = Section {
+            in_frame: false,
+            path: Vec::new(alloc),
+        };
+        let mut rest = skip_bom(text);
+        'lines: loop {
+            let start = skip_blank(rest, true);
+            if start.is_empty() {
+                return Ok(());
+            }
+            let (found, after) = read_line(alloc, start)?;
+            self.write(alloc, &mut section, found, text.len() - start.len())?;
+            rest = after;
+        }
+    }
+
+    /// The places of a text that is TOML.
+    pub fn of(alloc: Global, text: &str) -> Result<Places, AllocError>
+        ensures { IfOk result (λ p. IsSome (parse_document text.now) → Keeps p (spec.marks text.now)) }
+    {
+        let mut places = Places::new(alloc);
+        match places.walk(alloc, text) {
+            Err(ParseError::OutOfMemory) => Err(AllocError),
+            _ => Ok(places),
+        }
+    }
+
+    // The first offset of a key of the top.
+    fn top(&self, key: &str) -> Option<usize>
+        ensures { (ms : List spec.Mark) → Keeps self.now ms → result ≡ first_at ms None (key.now ∷ []) }
+    {
+        self.top.get(key).copied()
+    }
+
+    // The header of a frame.
+    fn header(&self, frame: usize) -> Option<usize>
+        ensures { (ms : List spec.Mark) → Keeps self.now ms → result ≡ first_at ms (Some frame) [] }
+    {
+        match self.frames.get(frame) {
+            Some(places) => places.header,
+            None => None,
+        }
+    }
+
+    // The first offset of a key of a frame.
+    fn key(&self, frame: usize, key: &str) -> Option<usize>
+        ensures { (ms : List spec.Mark) → Keeps self.now ms → result ≡ first_at ms (Some frame) (key.now ∷ []) }
+    {
+        match self.frames.get(frame) {
+            Some(places) => places.keys.get(key).copied(),
+            None => None,
+        }
+    }
+
+    // The first offset of a key below `routes` of a frame.
+    fn route(&self, frame: usize, sub: &str) -> Option<usize>
+        ensures { (ms : List spec.Mark) → Keeps self.now ms → result ≡ first_at ms (Some frame) (routes_key ∷ sub.now ∷ []) }
+    {
+        match self.frames.get(frame) {
+            Some(places) => places.routes.get(sub).copied(),
+            None => None,
+        }
+    }
+
+    /// The offset of a frame's header `[[frame]]`; of a frame in an inline array, that of the key `frame`.
+    pub fn of_header(&self, frame: usize) -> usize
+        ensures { (ms : List spec.Mark) → Keeps self.now ms → result ≡ header_place ms frame }
+    {
+        self.header(frame).or(self.top("frame")).unwrap_or(0)
+    }
+
+    /// The offset of the first expression that writes a key of a frame, or of the top. Where none does, the frame's, or 0.
+    pub fn of_key(&self, frame: Option<usize>, key: &str) -> usize
+        ensures { (ms : List spec.Mark) → Keeps self.now ms → result ≡ key_place ms frame key.now }
+    {
+        match frame {
+            None => self.top(key).unwrap_or(0),
+            Some(frame) => match self.key(frame, key) {
+                Some(at) => at,
+                None => self.of_header(frame),
+            },
+        }
+    }
+
+    /// The offset of the first expression that writes a key below `routes` of a frame. Where none does, that of `routes`.
+    pub fn of_route(&self, frame: usize, sub: &str) -> usize
+        ensures { (ms : List spec.Mark) → Keeps self.now ms → result ≡ route_place ms frame sub.now }
+    {
+        match self.route(frame, sub) {
+            Some(at) => at,
+            None => self.of_key(Some(frame), "routes"),
+        }
+    }
+}
