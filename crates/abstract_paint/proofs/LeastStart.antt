@@ -17,7 +17,7 @@ use Rattle.abstract_paint.specs.declared.painting.Painted.TheVariants.{Clean, To
 use Rattle.abstract_paint.specs.Paint.{paint_of, IsPainted}
 use Rattle.abstract_paint.specs.Start.{start_number, IsStart, IsStartAt, caret_numbered, start_touches, least_number, start_at, start_of}
 use Rattle.abstract_paint.proofs.Judged.{painted_law}
-use Rattle.abstract_paint.proofs.StepLaw.{caret}
+use Rattle.abstract_paint.proofs.StepLaw.{caret, same_caret}
 
 numbered : (n k d : ℕ) → k < n → get_or (range_with_len 0 n) k d ≡ k
 numbered n k d lt = omega (arith, get_or-range_with_len 0 n k d lt)
@@ -31,9 +31,6 @@ found_below test n std.None h =
 found_below test n (std.Some i) h =
     sym (find_first test (range_with_len 0 n) i i (omega (arith, h.1, length-range_with_len 0 n)) (numbered n i i h.1) h.2 (λ k lt.
     ap test (numbered n k i (omega (arith, h.1))) ∙ h.3 k (omega arith) lt))
-
-same_caret : (p r : ℕ) (q s : Bool) → p ≡ r → q ≡ s → caret p q ≡ caret r s
-same_caret p r q s e f = cc
 
 odd_test : (n p : ℕ) → 2 * p + 1 ≡ n → true ≡ (n % 2 == 1)
 odd_test n p e = let one : n % 2 ≡ 1 = omega arith in rw one refl

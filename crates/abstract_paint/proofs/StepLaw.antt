@@ -23,7 +23,7 @@ pend_somewhere Maybe = (false, tt)
 abbrev pub caret : ℕ → Bool → Caret
 caret p q = record { at = p; pending = q }
 
-same_caret : (p r : ℕ) (q s : Bool) → p ≡ r → q ≡ s → caret p q ≡ caret r s
+pub same_caret : (p r : ℕ) (q s : Bool) → p ≡ r → q ≡ s → caret p q ≡ caret r s
 same_caret p r q s e f = cc
 
 -- a byte that moves by f and writes nothing of the service rows

@@ -15,6 +15,7 @@ use Rattle.frame_records.specs.WayLaws.{going, found_sought}
 use Rattle.finder.specs.declared.found.Discovered.{Discovered}
 use Rattle.finder.specs.Finds.{FindsReached, Walk, IsReached}
 use Rattle.audit_report.specs.Listing.{is_listed, others, HasRecord, ListsEveryFrame, AllAreListed}
+use Rattle.page_ids.proofs.Truths.{not_so, not_true}
 
 -- what passes a test is kept
 kept_by : {X : Type 0} (b : Bool) (x y : X) (xs : List X) → Contains xs x → Contains (cond b (y ∷ xs) xs) x
@@ -32,14 +33,6 @@ kept_at p (y ∷ ys) x (suc k) lt e h = kept_by (p y) x y (filter p ys) (kept_at
 
 kept : {X : Type 0} (p : X → Bool) (xs : List X) (x : X) → Contains xs x → p x ≡ true → Contains (filter p xs) x
 kept p xs x c h = kept_at p xs x c.0 c.1 c.2 h
-
-not_true : (b : Bool) → not b ≡ true → b ≡ true → ⊥
-not_true true e h = absurd cc
-not_true false e h = absurd cc
-
-not_so : (b : Bool) → (b ≡ true → ⊥) → not b ≡ true
-not_so true h = absurd (h refl)
-not_so false h = refl
 
 module _ (caller : List ℕ) (base : BaseView) where
   has_frame : (id : Id) (price : ℕ) (r : Option Frame) → frame_at base id ≡ r → sought_of caller r ≡ Found price

@@ -10,7 +10,6 @@ use page_ids::push_number;
 use std::alloc::{AllocError, Global};
 
 // Words and the name of a key.
-#[tactic(auto, using(std::proofs::Common::append_assoc))]
 fn push_field(out: &mut Vec<u8>, words: &[u8], field: Field) -> Result<(), AllocError>
     ensures { OnOk result (out.new.items ≡ out.old.items ++ (words.now ++ field_name field)) }
 {
@@ -42,7 +41,6 @@ fn push_base_cause(out: &mut Vec<u8>, cause: Cause) -> Result<(), AllocError>
     }
 }
 
-#[tactic(auto, using(std::proofs::Common::append_assoc))]
 fn push_base_place(out: &mut Vec<u8>, frame: Option<u32>) -> Result<(), AllocError>
     ensures { OnOk result (out.new.items ≡ out.old.items ++ base_place_text frame) }
 {
@@ -57,7 +55,6 @@ fn push_base_place(out: &mut Vec<u8>, frame: Option<u32>) -> Result<(), AllocErr
     Ok(())
 }
 
-#[tactic(auto, using(std::proofs::Common::append_assoc))]
 fn push_base_fault(out: &mut Vec<u8>, edition: &[u8], fault: &BaseFault) -> Result<(), AllocError>
     ensures { OnOk result (out.new.items ≡ out.old.items ++ base_fault_text edition.now fault.now) }
 {
@@ -83,7 +80,6 @@ fn cause_name(cause: LineCause) -> &'static [u8]
     }
 }
 
-#[tactic(auto, using(std::proofs::Common::append_assoc))]
 fn push_line_fault(
     out: &mut Vec<u8>,
     edition: &[u8],
@@ -101,7 +97,6 @@ fn push_line_fault(
 }
 
 // The reader's own refusal of a certificate that it has refused before.
-#[tactic(auto, using(std::proofs::Common::append_assoc))]
 fn push_failed(out: &mut Vec<u8>, edition: &[u8]) -> Result<(), AllocError>
     ensures { OnOk result (out.new.items ≡ out.old.items ++ cert_fault_text edition.now ReadFault.Failed) }
 {
@@ -121,7 +116,6 @@ fn push_cert_fault(out: &mut Vec<u8>, edition: &[u8], fault: ReadFault) -> Resul
 }
 
 // Words, a number, and words after it.
-#[tactic(auto, using(std::proofs::Common::append_assoc))]
 fn push_count(out: &mut Vec<u8>, words: &[u8], count: u64, after: &[u8]) -> Result<(), AllocError>
     ensures { OnOk result (out.new.items ≡ out.old.items ++ ((words.now ++ decimal count) ++ after.now)) }
 {
@@ -152,7 +146,6 @@ fn push_fault(out: &mut Vec<u8>, fault: &RunFault) -> Result<(), AllocError>
 }
 
 /// The one line that tells a fault on standard error.
-#[tactic(auto, using(std::proofs::Common::append_assoc))]
 pub fn fault_text(alloc: Global, fault: &RunFault) -> Result<Vec<u8>, AllocError>
     ensures { IfOk result (λ text. text.items ≡ fault_text fault.now) }
 {

@@ -22,7 +22,6 @@ fn push_bytes(out: &mut Vec<u8>, bytes: &[u8])
 }
 
 // The text of an id has at most 10 bytes.
-#[tactic(auto, using(std::proofs::Common::append_assoc))]
 fn push_id(out: &mut Vec<u8>, words: &[u8], id: FrameId)
     requires room { vec_len out.old + (length words.now + 10) ≤ vec_capacity out.old }
     ensures items { out.new.items ≡ out.old.items ++ with_id words.now id }
@@ -35,7 +34,6 @@ fn push_id(out: &mut Vec<u8>, words: &[u8], id: FrameId)
 }
 
 // The text of a number has at most 40 bytes.
-#[tactic(auto, using(std::proofs::Common::append_assoc))]
 fn push_or_dash(out: &mut Vec<u8>, words: &[u8], number: Option<u64>)
     requires room { vec_len out.old + (length words.now + 40) ≤ vec_capacity out.old }
     ensures items { out.new.items ≡ out.old.items ++ with_or_dash words.now number }
@@ -77,7 +75,6 @@ fn push_keys(out: &mut Vec<u8>, keys: &[Key])
 }
 
 // The keys that lead to a frame.
-#[tactic(auto, using(std::proofs::Common::append_assoc))]
 fn push_script(out: &mut Vec<u8>, keys: &[Key])
     requires room { vec_len out.old + (9 + 3 * length keys.now) ≤ vec_capacity out.old }
     ensures items { out.new.items ≡ out.old.items ++ script_text keys.now }
@@ -107,7 +104,6 @@ fn rank_number(rank: Option<u16>) -> Option<u64>
     Some(u64::from(rank))
 }
 
-#[tactic(auto, using(std::proofs::Common::append_assoc))]
 fn push_price_and_group(out: &mut Vec<u8>, frame: &Frame)
     requires room { vec_len out.old + 94 ≤ vec_capacity out.old }
     ensures items { out.new.items ≡ out.old.items ++ price_and_group frame.now }
@@ -119,7 +115,6 @@ fn push_price_and_group(out: &mut Vec<u8>, frame: &Frame)
 }
 
 // The line of a frame that is reached: its rank, and the keys that lead to it.
-#[tactic(auto, using(std::proofs::Common::append_assoc))]
 pub fn push_frame(out: &mut Vec<u8>, frame: &Frame, rank: Option<u16>, keys: &[Key])
     requires room { vec_len out.old + (256 + 3 * length keys.now) ≤ vec_capacity out.old }
     ensures items { out.new.items ≡ out.old.items ++ frame_line frame.now rank keys.now }
@@ -134,7 +129,6 @@ pub fn push_frame(out: &mut Vec<u8>, frame: &Frame, rank: Option<u16>, keys: &[K
 }
 
 // The line of a frame that isn't.
-#[tactic(auto, using(std::proofs::Common::append_assoc))]
 pub fn push_unreached(out: &mut Vec<u8>, frame: &Frame)
     requires room { vec_len out.old + 256 ≤ vec_capacity out.old }
     ensures items { out.new.items ≡ out.old.items ++ unreached_line frame.now }

@@ -6,7 +6,6 @@ use page_ids::{FrameId, PageNo, push_id, push_number, push_page};
 use std::alloc::AllocError;
 
 // Words and a number.
-#[tactic(auto, using(std::proofs::Common::append_assoc))]
 pub fn push_words_number(out: &mut Vec<u8>, words: &[u8], number: u64) -> Result<(), AllocError>
     ensures { OnOk result (out.new.items ≡ out.old.items ++ (words.now ++ decimal number)) }
 {
@@ -16,7 +15,6 @@ pub fn push_words_number(out: &mut Vec<u8>, words: &[u8], number: u64) -> Result
 }
 
 // Words and a page.
-#[tactic(auto, using(std::proofs::Common::append_assoc))]
 pub fn push_words_page(out: &mut Vec<u8>, words: &[u8], page: PageNo) -> Result<(), AllocError>
     ensures { OnOk result (out.new.items ≡ out.old.items ++ (words.now ++ page_text page)) }
 {
@@ -25,7 +23,6 @@ pub fn push_words_page(out: &mut Vec<u8>, words: &[u8], page: PageNo) -> Result<
 }
 
 // Words and an id.
-#[tactic(auto, using(std::proofs::Common::append_assoc))]
 pub fn push_words_id(out: &mut Vec<u8>, words: &[u8], id: FrameId) -> Result<(), AllocError>
     ensures { OnOk result (out.new.items ≡ out.old.items ++ with_id words.now id) }
 {
@@ -34,7 +31,6 @@ pub fn push_words_id(out: &mut Vec<u8>, words: &[u8], id: FrameId) -> Result<(),
 }
 
 // Words, an id, a space and a number.
-#[tactic(auto, using(std::proofs::Common::append_assoc))]
 pub fn push_id_number(
     out: &mut Vec<u8>,
     words: &[u8],

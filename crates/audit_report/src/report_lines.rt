@@ -11,7 +11,6 @@ use page_ids::{FrameId, Key, push_key, push_keys};
 use std::alloc::{AllocError, Global};
 
 // The keys that lead to a fault.
-#[tactic(auto, using(std::proofs::Common::append_assoc))]
 fn push_script(out: &mut Vec<u8>, keys: &[Key]) -> Result<(), AllocError>
     ensures { OnOk result (out.new.items ≡ out.old.items ++ script_text keys.now) }
 {
@@ -35,7 +34,6 @@ fn push_sought(out: &mut Vec<u8>, sought: Option<FrameId>) -> Result<(), AllocEr
 }
 
 // The key that is pressed.
-#[tactic(auto, using(std::proofs::Common::append_assoc))]
 fn push_pressed(out: &mut Vec<u8>, key: Option<Key>) -> Result<(), AllocError>
     ensures { OnOk result (out.new.items ≡ out.old.items ++ pressed_text key) }
 {
@@ -49,7 +47,6 @@ fn push_pressed(out: &mut Vec<u8>, key: Option<Key>) -> Result<(), AllocError>
 }
 
 // The body byte that touches, and the start.
-#[tactic(auto, using(std::proofs::Common::append_assoc))]
 fn push_start(out: &mut Vec<u8>, start: Option<Start>) -> Result<(), AllocError>
     ensures { OnOk result (out.new.items ≡ out.old.items ++ start_text start) }
 {
@@ -62,7 +59,6 @@ fn push_start(out: &mut Vec<u8>, start: Option<Start>) -> Result<(), AllocError>
     }
 }
 
-#[tactic(auto, using(std::proofs::Common::append_assoc))]
 fn push_price(out: &mut Vec<u8>, fault: &Fault) -> Result<(), AllocError>
     ensures { OnOk result (out.new.items ≡ out.old.items ++ price_words fault.now) }
 {
@@ -70,7 +66,6 @@ fn push_price(out: &mut Vec<u8>, fault: &Fault) -> Result<(), AllocError>
     push_script(out, fault.script.as_slice())
 }
 
-#[tactic(auto, using(std::proofs::Common::append_assoc))]
 fn push_touches(out: &mut Vec<u8>, fault: &Fault) -> Result<(), AllocError>
     ensures { OnOk result (out.new.items ≡ out.old.items ++ touches_words fault.now) }
 {
@@ -80,7 +75,6 @@ fn push_touches(out: &mut Vec<u8>, fault: &Fault) -> Result<(), AllocError>
 }
 
 // A key whose frame isn't found.
-#[tactic(auto, using(std::proofs::Common::append_assoc))]
 fn push_unfound(out: &mut Vec<u8>, words: &[u8], fault: &Fault) -> Result<(), AllocError>
     ensures { OnOk result (out.new.items ≡ out.old.items ++ sought_words words.now fault.now) }
 {
@@ -91,7 +85,6 @@ fn push_unfound(out: &mut Vec<u8>, words: &[u8], fault: &Fault) -> Result<(), Al
     push_script(out, fault.script.as_slice())
 }
 
-#[tactic(auto, using(std::proofs::Common::append_assoc))]
 fn push_no_return(out: &mut Vec<u8>, fault: &Fault) -> Result<(), AllocError>
     ensures { OnOk result (out.new.items ≡ out.old.items ++ no_return_words fault.now) }
 {
@@ -114,7 +107,6 @@ fn push_words(out: &mut Vec<u8>, fault: &Fault) -> Result<(), AllocError>
     }
 }
 
-#[tactic(auto, using(std::proofs::Common::append_assoc))]
 fn push_line(out: &mut Vec<u8>, fault: &Fault) -> Result<(), AllocError>
     ensures { OnOk result (out.new.items ≡ out.old.items ++ line (words_as fault.now.kind fault.now)) }
 {
@@ -124,7 +116,6 @@ fn push_line(out: &mut Vec<u8>, fault: &Fault) -> Result<(), AllocError>
 }
 
 // How many faults there are.
-#[tactic(auto, using(std::proofs::Common::append_assoc))]
 fn push_count(out: &mut Vec<u8>, count: u64) -> Result<(), AllocError>
     ensures { OnOk result (out.new.items ≡ out.old.items ++ line (codes "FAULTS " ++ decimal count)) }
 {

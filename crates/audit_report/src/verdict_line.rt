@@ -43,7 +43,6 @@ fn push_verdict(out: &mut Vec<u8>, verdict: &Verdict) -> Result<(), AllocError>
 }
 
 /// The line of a verdict.
-#[tactic(auto, using(std::proofs::Common::append_assoc))]
 pub fn verdict_text(alloc: Global, verdict: &Verdict) -> Result<Vec<u8>, AllocError>
     ensures { IfOk result (λ text. text.items ≡ verdict_text verdict.now) }
 {
@@ -54,7 +53,6 @@ pub fn verdict_text(alloc: Global, verdict: &Verdict) -> Result<Vec<u8>, AllocEr
 }
 
 // The edition that is refused, and why.
-#[tactic(auto, using(std::proofs::Common::append_assoc))]
 fn push_edition(out: &mut Vec<u8>, edition: &[u8], cause: Cause) -> Result<(), AllocError>
     ensures { OnOk result (out.new.items ≡ out.old.items ++ (edition.now ++ cause_text cause)) }
 {
@@ -78,7 +76,6 @@ fn push_change(out: &mut Vec<u8>, verdict: &ChangeVerdict) -> Result<(), AllocEr
 }
 
 /// The line of the verdict on a change of edition.
-#[tactic(auto, using(std::proofs::Common::append_assoc))]
 pub fn change_text(alloc: Global, verdict: &ChangeVerdict) -> Result<Vec<u8>, AllocError>
     ensures { IfOk result (λ text. text.items ≡ change_text verdict.now) }
 {

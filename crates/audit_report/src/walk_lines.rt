@@ -19,7 +19,6 @@ fn push_reply(out: &mut Vec<u8>, reply: Reply) -> Result<(), AllocError>
     }
 }
 
-#[tactic(auto, using(std::proofs::Common::append_assoc))]
 fn push_line(out: &mut Vec<u8>, reply: Reply) -> Result<(), AllocError>
     ensures { OnOk result (out.new.items ≡ out.old.items ++ line (reply_text reply)) }
 {
@@ -40,7 +39,6 @@ pub fn walk_text(alloc: Global, replies: &[Reply]) -> Result<Vec<u8>, AllocError
 }
 
 /// The line of a session that isn't opened: its entry frame is closed to the caller, or missing.
-#[tactic(auto, using(std::proofs::Common::append_assoc))]
 pub fn entry_text(alloc: Global, id: FrameId, closed: bool) -> Result<Vec<u8>, AllocError>
     ensures { IfOk result (λ text. text.items ≡ entry_text id closed) }
 {

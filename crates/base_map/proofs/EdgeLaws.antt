@@ -91,7 +91,7 @@ pub leads : (caller : List ℕ) (base : BaseView) (f : Frame) (to : Id) (way : W
 leads caller base f to way price there is e =
     record { price = price; found = goes caller base f.id f way to there e ∙ ap (sought_by base way to) is }
 
-same_frame : (a b : Frame) → Some a ≡ Some b → a ≡ b
+pub same_frame : (a b : Frame) → Some a ≡ Some b → a ≡ b
 same_frame a b h = cc
 
 pub found_offered : (id : Id) (price : ℕ) → destination.Found id price ≡ destination.NotOffered → ⊥

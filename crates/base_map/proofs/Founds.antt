@@ -34,7 +34,3 @@ pub are_reached : (caller : List ℕ) (base : BaseView) (found : List Discovered
 are_reached caller base found finds = record {
   each = λ id. (λ walked. listed found id ((finds.reached id).0 walked), λ has. (finds.reached id).1 (unlisted found id has));
 }
-
-pub weaken : {A E : Type 0} {P Q : A → Type 0} (r : Result A E) → ((a : A) → P a → Q a) → IfOk r P → IfOk r Q
-weaken (Ok a) f p = f a p
-weaken (Err e) f p = tt

@@ -5,10 +5,7 @@ use Rattle.indexmap.specs.IndexSet.{insert_key, insert_all}
 use Rattle.page_ids.specs.Ids.{Id, id_eq}
 use Rattle.page_ids.specs.IdLaws.{id_eq_same}
 use Rattle.base_map.specs.Edges.{has_id}
-
-or_none : (b : Bool) → (b || false) ≡ b
-or_none true = refl
-or_none false = refl
+use Rattle.std.proofs.Math.Bool.{or-false}
 
 or_turned : (a b c : Bool) → ((a || (b || false)) || c) ≡ (a || (b || c))
 or_turned true b c = refl
@@ -17,7 +14,7 @@ or_turned false false c = refl
 
 absorbed : (ids : List Id) (x id : Id) (b : Bool) → has_id ids x ≡ true → id_eq id x ≡ b → has_id ids id ≡ (has_id ids id || (b || false))
 absorbed ids x id true there e = let same = id_eq_same id x e in rw (subst (λ (y : Id). has_id ids y ≡ true) (sym same) there) refl
-absorbed ids x id false there e = sym (or_none (has_id ids id))
+absorbed ids x id false there e = sym (or-false (has_id ids id))
 
 -- an id more
 pub has_inserted : (ids : List Id) (x id : Id) → has_id (insert_key id_eq ids x) id ≡ (has_id ids id || (id_eq id x || false))
@@ -28,7 +25,7 @@ has_inserted ids x id = by (has_id ids x) refl where
 
 -- each of the ids that are inserted is there, and those that were there
 pub has_all : (ids xs : List Id) (id : Id) → has_id (insert_all id_eq ids xs) id ≡ (has_id ids id || has_id xs id)
-has_all ids [] id = sym (or_none (has_id ids id))
+has_all ids [] id = sym (or-false (has_id ids id))
 has_all ids (x ∷ xs) id =
     has_all (insert_key id_eq ids x) xs id
     ∙ (ap (λ b. b || has_id xs id) (has_inserted ids x id) ∙ or_turned (has_id ids id) (id_eq id x) (has_id xs id))

@@ -25,36 +25,16 @@ use Rattle.base_map.specs.Edges.{exit_by, exits_of, has_id}
 use Rattle.base_map.specs.Loops.{is_found, is_found_by, links_by, links_of, turned, linked, linked_by}
 use Rattle.base_map.specs.Windows.{Path, IsSpan, AreFrom, AreTo}
 use Rattle.base_map.proofs.Among.{none_among, first_among, later_among, first_or_later, among_map, map_among, among_filter, filter_among, filter_map_among}
-use Rattle.base_map.proofs.EdgeLaws.{exit_with, its_exit, of_exit, leads, found_offered}
+use Rattle.base_map.proofs.EdgeLaws.{exit_with, its_exit, of_exit, leads, found_offered, same_frame}
 use Rattle.base_map.proofs.HasIds.{one_of, or_left, or_right, one_id, has_one}
+use Rattle.std.proofs.lemmas.List.Elements.{Contains-append_cases, Contains-append_left, Contains-append_right}
 
 abbrev link : Id → Id → Link
 link from to = record { from = from; to = to }
 
-in_append : {X : Type 0} (xs ys : List X) (y : X) → Contains (xs ++ ys) y → Contains xs y ⊎ Contains ys y
-in_append [] ys y h = inr h
-in_append (x ∷ xs) ys y h = elim (first_or_later x y (xs ++ ys) h) [
-  | inl e ↦ inl (subst (λ z. Contains (x ∷ xs) z) e (first_among x xs))
-  | inr w ↦ elim (in_append xs ys y w) [
-    | inl v ↦ inl (later_among x y xs v)
-    | inr v ↦ inr v
-  ]
-]
-
-left_in : {X : Type 0} (xs ys : List X) (y : X) → Contains xs y → Contains (xs ++ ys) y
-left_in [] ys y h = none_among y h
-left_in (x ∷ xs) ys y h = elim (first_or_later x y xs h) [
-  | inl e ↦ subst (λ z. Contains (x ∷ xs ++ ys) z) e (first_among x (xs ++ ys))
-  | inr w ↦ later_among x y (xs ++ ys) (left_in xs ys y w)
-]
-
-right_in : {X : Type 0} (xs ys : List X) (y : X) → Contains ys y → Contains (xs ++ ys) y
-right_in [] ys y h = h
-right_in (x ∷ xs) ys y h = later_among x y (xs ++ ys) (right_in xs ys y h)
-
 of_flat : {X Y : Type 0} (g : X → List Y) (xs : List X) (y : Y) → Contains (flat_map g xs) y → (x : X) × Contains xs x × Contains (g x) y
 of_flat g [] y h = none_among y h
-of_flat g (x ∷ xs) y h = elim (in_append (g x) (flat_map g xs) y h) [
+of_flat g (x ∷ xs) y h = elim (Contains-append_cases (g x) (flat_map g xs) y h) [
   | inl here ↦ (x, first_among x xs, here)
   | inr more ↦ let w = of_flat g xs y more in (w.0, later_among x w.0 xs w.1, w.2)
 ]
@@ -62,8 +42,8 @@ of_flat g (x ∷ xs) y h = elim (in_append (g x) (flat_map g xs) y h) [
 in_flat : {X Y : Type 0} (g : X → List Y) (xs : List X) (x : X) (y : Y) → Contains xs x → Contains (g x) y → Contains (flat_map g xs) y
 in_flat g [] x y there near = none_among x there
 in_flat g (z ∷ zs) x y there near = elim (first_or_later z x zs there) [
-  | inl e ↦ left_in (g z) (flat_map g zs) y (subst (λ v. Contains (g v) y) (sym e) near)
-  | inr w ↦ right_in (g z) (flat_map g zs) y (in_flat g zs x y w near)
+  | inl e ↦ Contains-append_left (g z) (flat_map g zs) y (subst (λ v. Contains (g v) y) (sym e) near)
+  | inr w ↦ Contains-append_right (g z) (flat_map g zs) y (in_flat g zs x y w near)
 ]
 
 has_flat : {X : Type 0} (g : X → List Id) (xs : List X) (b : Id) → has_id (flat_map g xs) b ≡ true → (x : X) × Contains xs x × (has_id (g x) b ≡ true)
@@ -110,14 +90,11 @@ priced (Found price) h = (price, refl)
 priced Closed h = absurd cc
 priced Missing h = absurd cc
 
-one_frame : (a b : Frame) → Some a ≡ Some b → a ≡ b
-one_frame a b e = cc
-
 some_frame : (frames : List Frame) (id : Id) (f : Frame) → frame_among frames id ≡ Some f → Contains frames f
 some_frame [] id f h = absurd cc
 some_frame (g ∷ gs) id f h = by (id_eq g.id id) h (some_frame gs id f) where
   by : (b : Bool) → cond b (Some g) (frame_among gs id) ≡ Some f → (frame_among gs id ≡ Some f → Contains gs f) → Contains (g ∷ gs) f
-  by true e more = subst (λ x. Contains (g ∷ gs) x) (one_frame g f e) (first_among g gs)
+  by true e more = subst (λ x. Contains (g ∷ gs) x) (same_frame g f e) (first_among g gs)
   by false e more = later_among g f gs (more e)
 
 same_id : (id : Id) → id_cmp id id ≡ Equal

@@ -30,7 +30,6 @@ fn push_keys_to(out: &mut Vec<u8>, exits: &[Exit], to: FrameId) -> Result<(), Al
 }
 
 impl<'a> Drawing<'a> {
-    #[tactic(auto, using(std::proofs::Common::append_assoc))]
     fn push_edge(
         &self,
         out: &mut Vec<u8>,

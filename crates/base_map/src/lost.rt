@@ -36,7 +36,6 @@ fn push_lost_mark(out: &mut Vec<u8>, base: &Base, id: FrameId) -> Result<(), All
     }
 }
 
-#[tactic(auto, using(std::proofs::Common::append_assoc))]
 fn push_lost_node(out: &mut Vec<u8>, base: &Base, id: FrameId) -> Result<(), AllocError>
     ensures { OnOk result (out.new.items ≡ out.old.items ++ spec.lost_line base.now id) }
 {

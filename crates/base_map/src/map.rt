@@ -31,7 +31,6 @@ fn reached(alloc: Global, base: &Base, groups: &Groups) -> Result<IndexSet<Frame
 
 impl<'a> Drawing<'a> {
     // Writes the map, all of whose base's frames these are.
-    #[tactic(auto, using(std::proofs::Common::append_assoc))]
     fn push_map(&self, alloc: Global, out: &mut Vec<u8>, frames: &[Frame]) -> Result<(), AllocError>
         ensures { OnOk result (out.new.items ≡ out.old.items ++ spec.lines_of self.now (shown self.now frames.now)) }
     {

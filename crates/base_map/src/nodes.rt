@@ -11,7 +11,6 @@ use page_ids::{PageNo, push_id, push_number, push_page};
 use std::alloc::{AllocError, Global};
 
 // The id, the title and the price.
-#[tactic(auto, using(std::proofs::Common::append_assoc))]
 fn push_label(alloc: Global, out: &mut Vec<u8>, frame: &Frame) -> Result<(), AllocError>
     ensures { OnOk result (out.new.items ≡ out.old.items ++ spec.label frame.now) }
 {
@@ -23,7 +22,6 @@ fn push_label(alloc: Global, out: &mut Vec<u8>, frame: &Frame) -> Result<(), All
 }
 
 // Begins the cluster of a page.
-#[tactic(auto, using(std::proofs::Common::append_assoc))]
 fn push_open(out: &mut Vec<u8>, page: PageNo) -> Result<(), AllocError>
     ensures { OnOk result (out.new.items ≡ out.old.items ++ spec.opened page) }
 {
@@ -46,7 +44,6 @@ fn push_close(out: &mut Vec<u8>, page: Option<PageNo>) -> Result<(), AllocError>
 }
 
 // Ends the cluster of a page, and begins that of the next, if it is another.
-#[tactic(auto, using(std::proofs::Common::append_assoc))]
 fn push_turn(out: &mut Vec<u8>, before: Option<PageNo>, page: PageNo) -> Result<(), AllocError>
     ensures { OnOk result (out.new.items ≡ out.old.items ++ spec.turned before page) }
 {
@@ -60,7 +57,6 @@ fn push_turn(out: &mut Vec<u8>, before: Option<PageNo>, page: PageNo) -> Result<
 impl<'a> Drawing<'a> {
     // How a frame's node is drawn: the entry frame has two lines round it, what is closed is red, what isn't reached is
     // dashed.
-    #[tactic(auto, using(std::proofs::Common::append_assoc))]
     fn push_marks(&self, out: &mut Vec<u8>, frame: &Frame) -> Result<(), AllocError>
         ensures { OnOk result (out.new.items ≡ out.old.items ++ spec.marks self.now frame.now) }
     {
@@ -76,7 +72,6 @@ impl<'a> Drawing<'a> {
         Ok(())
     }
 
-    #[tactic(auto, using(std::proofs::Common::append_assoc))]
     fn push_node(&self, alloc: Global, out: &mut Vec<u8>, frame: &Frame) -> Result<(), AllocError>
         ensures { OnOk result (out.new.items ≡ out.old.items ++ spec.node_line self.now frame.now) }
     {

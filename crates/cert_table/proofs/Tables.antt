@@ -14,6 +14,7 @@ use Rattle.cert_table.specs.declared.row.Row.{Row}
 use Rattle.cert_table.specs.declared.certificate.TableFault.{TableFault}
 use Rattle.cert_table.specs.declared.certificate.TableFault.TheVariants.{TooMany, Range, Order}
 use Rattle.cert_table.specs.Table.{AreRows, AreOnScreen, is_on_screen, is_behind, row_fault, or_later, rows_fault, table_fault}
+use Rattle.page_ids.proofs.Truths.{less_is}
 
 screen_is : (place : Place) → is_on_screen place ≡ true → OnScreen place
 screen_is Any e = tt
@@ -24,11 +25,6 @@ is_screen : (place : Place) → OnScreen place → is_on_screen place ≡ true
 is_screen Any h = refl
 is_screen (Col c) h = grind (arith, nat_tests)
 is_screen (Spot s) h = grind (arith, nat_tests)
-
-less_is : (o : Ordering) → is_lt o ≡ true → o ≡ Less
-less_is Less e = refl
-less_is Equal e = cc
-less_is Greater e = cc
 
 parts_of : (a b : Option TableFault) → or_later a b ≡ None → (a ≡ None) × (b ≡ None)
 parts_of None b e = (refl, e)

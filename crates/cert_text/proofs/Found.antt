@@ -25,6 +25,8 @@ use Rattle.cert_text.proofs.Spelled.{bind_ok, ok_is, needs, lacks, number_after_
 use Rattle.page_ids.proofs.KeyTexts.{chosen}
 use Rattle.cert_text.proofs.Sound.{with_grouped, with_groups, most_small, put_sound, grouped_sound, groups_sound, row_sound}
 use Rattle.cert_text.proofs.GroupLines.{one_line, has_some, groups_found}
+use Rattle.page_ids.proofs.Truths.{clash}
+use Rattle.frame_records.proofs.GroupTexts.{no_groups}
 
 -- the lines before the rows
 abbrev pub head_of : Said → List (List ℕ)
@@ -239,10 +241,6 @@ holds_judge bytes s t h e =
 abbrev longer : Reading → ℕ → Reading
 longer s b = record s { line = s.line ++ (b ∷ []) }
 
-both_ways : (b : Bool) → b ≡ true → b ≡ false → ⊥
-both_ways true p q = cc
-both_ways false p q = cc
-
 holds_longer : (bytes : List ℕ) (s t : Reading) (b : ℕ) → Holds bytes s → is_over s.stage ≡ false → lengthen s b ≡ Ok t
     → Holds (bytes ++ (b ∷ [])) t
 holds_longer bytes s t b h going e =
@@ -252,7 +250,7 @@ holds_longer bytes s t b h going e =
           ∙ append_assoc (text_of (lines_before s.stage s.said)) s.line (b ∷ []);
       come = h.come;
       sound = h.sound;
-      over = λ o. absurd (both_ways (is_over s.stage) o going);
+      over = λ o. absurd (clash (is_over s.stage) o going);
     })
 
 pub at_line_ok : (n : ℕ) (r : Result Reading LineCause) (t : Reading) → at_line n r ≡ Ok t → r ≡ Ok t
@@ -282,13 +280,6 @@ holds_run bytes (b ∷ more) s t h e =
     let a = bind_ok (step s b) (λ u. run u more) t e in
     subst (λ (x : List ℕ). Holds x t) (append_assoc bytes (b ∷ []) more)
     (holds_run (bytes ++ (b ∷ [])) more a.0 t (holds_step bytes s a.0 b h a.1) a.2)
-
-no_groups : AreGroups []
-no_groups = record {
-  few = omega arith;
-  ascending = λ i j d lt within. absurd (omega arith);
-  each = All-from_recursion IsGroup [] tt;
-}
 
 pub nothing_sound : IsSound nothing
 nothing_sound = record {

@@ -18,16 +18,12 @@ use Rattle.cert_text.specs.Reading.{Said, IsSound, most_of, put}
 use Rattle.cert_text.specs.declared.stage.Field.{Field}
 use Rattle.cert_text.specs.declared.stage.Field.TheVariants.{Entry, Ceiling, Keyings, Count}
 use Rattle.cert_text.proofs.Spelled.{row_found}
+use Rattle.page_ids.proofs.Truths.{less_is}
 
 pub each_more : {X : Type 0} (P : X → Type 0) (xs : List X) (x : X) → AllByRecursion P xs → P x
     → AllByRecursion P (xs ++ x ∷ [])
 each_more P [] x all p = (p, tt)
 each_more P (y ∷ xs) x all p = (all.0, each_more P xs x all.1 p)
-
-less_of : (o : Ordering) → is_lt o ≡ true → o ≡ Less
-less_of Less h = refl
-less_of Equal h = absurd cc
-less_of Greater h = absurd cc
 
 pub get_is : {X : Type 0} (xs : List X) (i : ℕ) (d : X) → i < length xs → slice_get xs i ≡ Some (get_or xs i d)
 get_is [] i d h = absurd (omega arith)
@@ -39,7 +35,7 @@ pub last_before : (rows : List Row) (id : Id) (d : Row) → 0 < length rows
 last_before rows id d some h =
     let e : slice_get rows (length rows - 1) ≡ Some (get_or rows (length rows - 1) d) =
     get_is rows (length rows - 1) d (omega arith) in
-    less_of _ (sym (ap (λ (o : _). is_behind o id) e) ∙ h)
+    less_is _ (sym (ap (λ (o : _). is_behind o id) e) ∙ h)
 
 -- the rows so far, then one that is after them
 pub ascending_more : (rows : List Row) (r : Row) → AllAdjacentBelow (λ r t. id_cmp r.id t.id ≡ Less) rows (length rows)

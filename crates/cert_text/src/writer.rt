@@ -17,7 +17,6 @@ use page_ids::{push_id, push_number};
 use std::alloc::{AllocError, Global};
 
 // A word with its space, a number and the line's end.
-#[tactic(auto, using(std::proofs::Common::append_assoc))]
 fn push_line(out: &mut Vec<u8>, word: &[u8], number: u32) -> Result<(), AllocError>
     ensures { OnOk result (out.new.items ≡ out.old.items ++ ((word.now ++ decimal number) ++ (10 ∷ []))) }
 {
@@ -44,7 +43,6 @@ fn push_place(out: &mut Vec<u8>, place: Place) -> Result<(), AllocError>
     Ok(())
 }
 
-#[tactic(auto, using(std::proofs::Common::append_assoc))]
 fn push_cursor(out: &mut Vec<u8>, cursor: AbsCursor) -> Result<(), AllocError>
     ensures { OnOk result (out.new.items ≡ out.old.items ++ cursor_text cursor) }
 {
@@ -57,7 +55,6 @@ fn push_cursor(out: &mut Vec<u8>, cursor: AbsCursor) -> Result<(), AllocError>
     Ok(())
 }
 
-#[tactic(auto, using(std::proofs::Common::append_assoc))]
 fn push_row(out: &mut Vec<u8>, row: &Row) -> Result<(), AllocError>
     requires { OnScreen row.now.cursor.place }
     ensures text { OnOk result (out.new.items ≡ out.old.items ++ (row_line row.now ++ (10 ∷ []))) }

@@ -19,6 +19,7 @@ use Rattle.checker.specs.Verdict.{verdict}
 use Rattle.checker.specs.Change.{lost_id, unless_lost, unless_old, unless_new, keeps_covered, LostIsLeast}
 use Rattle.checker.proofs.Places.{far}
 use Rattle.checker.proofs.Steps.{some_there, row_is}
+use Rattle.page_ids.proofs.Truths.{clash}
 
 -- a verdict that names a lost id is that of the rows
 named : (v w : Verdict) (later : ChangeVerdict) (id : Id) → unless_old v (unless_new w later) ≡ NoLongerCovered id → later ≡ NoLongerCovered id
@@ -56,9 +57,6 @@ covered_by false row rest h = inr h
 among_others : (b : Bool) (row : Row) (rest : Option Row) → is_some rest ≡ true → is_some (cond b (Some row) rest) ≡ true
 among_others true row rest h = refl
 among_others false row rest h = h
-
-clash : (b : Bool) → b ≡ true → b ≡ false → ⊥
-clash b is not = absurd cc
 
 not_before_itself : (id : Id) → is_lt (id_cmp id id) ≡ false
 not_before_itself id = grind (arith, nat_tests)

@@ -19,12 +19,8 @@ use Rattle.checker.specs.Good.{is_covered}
 use Rattle.checker.specs.Change.{lost_id}
 use Rattle.checker.specs.Loops.{AreBelow, IsPlaceOf}
 use Rattle.checker.proofs.RowsInTurn.{drop_at}
-
-not_after : (a b : Id) → id_cmp a b ≡ Less → is_lt (id_cmp b a) ≡ false
-not_after a b e = grind (arith, nat_tests)
-
-less_other : (a b : Id) → id_cmp a b ≡ Less → id_eq a b ≡ false
-less_other a b e = grind (arith, nat_tests)
+use Rattle.page_ids.proofs.Truths.{less_is}
+use Rattle.page_ids.specs.IdLaws.{not_after, less_apart}
 
 -- an id has no row after a row that isn't before it and isn't its own
 other_behind : (a b id : Id) → is_lt (id_cmp a id) ≡ false → id_eq a id ≡ false → is_lt (id_cmp b a) ≡ false → id_eq b id ≡ false
@@ -39,11 +35,6 @@ pub far : (rows : List Row) → AreRows rows → (i j : ℕ) (d : Row) → i ≤
 far rows are i j d le lt = sorted_far (λ r s. is_lt (id_cmp r.id s.id)) (ranks_by id_cmp_total (λ (r : Row). r.id)) rows sorted i j d le lt where
   sorted : IsSortedByKey (λ r. r.id) id_cmp rows
   sorted k e low within = not_after (get_or rows k e).id (get_or rows (k + 1) e).id (are.ascending k e within)
-
-less_is : (o : Ordering) → is_lt o ≡ true → o ≡ Less
-less_is Less e = refl
-less_is Equal e = cc
-less_is Greater e = cc
 
 module _ (rows : List Row) (id : Id) (at : ℕ) (below : AreBelow rows at id) where
   -- one row further on
@@ -72,7 +63,7 @@ module _ (rows : List Row) (are : AreRows rows) (id : Id) (at : ℕ) (place : Is
   pub not_covered : ((d : Row) → at < length rows → id_eq (get_or rows at d).id id ≡ false) → is_covered rows id ≡ false
   not_covered other =
       ap is_some (find_none (λ (r : Row). id_eq r.id id) rows (λ k d lt. elim (cases_lt k at) [
-        | inl before ↦ less_other (get_or rows k d).id id (place.below k d before lt)
+        | inl before ↦ less_apart (get_or rows k d).id id (place.below k d before lt)
         | inr behind ↦ other_behind (get_or rows at d).id (get_or rows k d).id id (place.here d (omega (arith, behind, lt))) (other d (omega (arith, behind, lt))) (far rows are at k d behind lt)
       ]))
 
@@ -83,7 +74,7 @@ module _ (rows : List Row) (are : AreRows rows) (id : Id) (at : ℕ) (place : Is
 
     by : (same : Bool) → id_eq row.id id ≡ same → same ≡ is_covered rows id
     by true e =
-        sym (ap is_some (find_first (λ (r : Row). id_eq r.id id) rows at row within (get_or_from_slice_get rows at row row here) e (λ k before. less_other (get_or rows k row).id id (place.below k row before (omega (arith, before, within))))))
+        sym (ap is_some (find_first (λ (r : Row). id_eq r.id id) rows at row within (get_or_from_slice_get rows at row row here) e (λ k before. less_apart (get_or rows k row).id id (place.below k row before (omega (arith, before, within))))))
     by false e = sym (not_covered (λ d lt. ap (λ (r : Row). id_eq r.id id) (get_or_from_slice_get rows at row d here) ∙ e))
 
 -- the old rows from i on are after the new ones before a place

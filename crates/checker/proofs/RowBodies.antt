@@ -15,10 +15,8 @@ use Rattle.abstract_paint.specs.Paint.{calm, paint_from, paint_of, is_cell_code,
 use Rattle.abstract_paint.proofs.Codes.{goes_on, code_touches, codes_go_on}
 use Rattle.abstract_paint.proofs.Exact.{is_exact}
 use Rattle.checker.specs.Laws.{has_double_height, row_22, RowsAreClean}
-
-both : (a b : Bool) → (a && b) ≡ true → (a ≡ true) × (b ≡ true)
-both true b h = (refl, h)
-both false b h = cc
+use Rattle.page_ids.proofs.Truths.{both}
+use Rattle.abstract_paint.proofs.Codes.{same_paint}
 
 cell : (c : ℕ) → is_row_code c ≡ true → is_cell_code c ≡ true
 cell c h = grind (arith, nat_tests)
@@ -63,12 +61,9 @@ codes_touch (c ∷ cs) rest p i h f =
           let more = later (rw (is, e) at f) in
           (more.0, goes_on p c i (cs ++ rest) is e ∙ more.1)
 
-spots : (p q i j : ℕ) (bs : List ℕ) → p ≡ q → i ≡ j → paint_from (calm (Spot p)) i bs ≡ paint_from (calm (Spot q)) j bs
-spots p q i j bs e f = ap (λ (k : ℕ). paint_from (calm (Spot k)) i bs) e ∙ ap (λ (k : ℕ). paint_from (calm (Spot q)) k bs) f
-
 -- the end of a row that isn't full: back to its start, and one row down
 row_end : (k n i : ℕ) (bs : List ℕ) → n < 40 → k ≤ 22 → paint_from (calm (Spot (40 * k + n))) i (13 ∷ 10 ∷ bs) ≡ paint_from (calm (Spot (40 * (k + 1)))) (i + 1 + 1) bs
-row_end k n i bs lt le = spots ((40 * k + n - (40 * k + n) % 40 + 40) % 960) (40 * (k + 1)) (i + 1 + 1) (i + 1 + 1) bs (omega arith) refl
+row_end k n i bs lt le = same_paint ((40 * k + n - (40 * k + n) % 40 + 40) % 960) (40 * (k + 1)) (i + 1 + 1) (i + 1 + 1) bs (omega arith) refl
 
 -- a row that fits at the start of row k leads to the start of the next
 one_row : (full : Bool) (row rest : List ℕ) (k i : ℕ) → ltb (length row) 40 ≡ full → length row ≤ 40 → codes_fit (40 * k) row ≡ true → k ≤ 22 → (j : ℕ) × (paint_from (calm (Spot (40 * k))) i (cond full (row ++ 13 ∷ 10 ∷ []) row ++ rest) ≡ paint_from (calm (Spot (40 * (k + 1)))) j rest)
@@ -79,7 +74,7 @@ one_row true row rest k i e most fit hi =
 one_row false row rest k i e most fit hi =
     let not_short : 40 ≤ length row = grind (arith, nat_tests) in
     let moved = codes_go_on row rest (40 * k) i fit in
-    (i + length row, moved ∙ spots (40 * k + length row) (40 * (k + 1)) (i + length row) (i + length row) rest (omega arith) refl)
+    (i + length row, moved ∙ same_paint (40 * k + length row) (40 * (k + 1)) (i + length row) (i + length row) rest (omega arith) refl)
 
 -- the result of painting: with double height in the 22nd row it touches, else it ends at the cursor
 abbrev Comes : Bool → AbsCursor → Painted → Type 0

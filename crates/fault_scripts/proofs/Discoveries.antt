@@ -13,7 +13,8 @@ use Rattle.frame_records.specs.Ways.{Leads}
 use Rattle.frame_records.specs.WayLaws.{going, found_sought}
 use Rattle.finder.specs.declared.found.Discovered.{Discovered}
 use Rattle.finder.specs.Finds.{Walk, IsRank, IsReached, IsFinding}
-use Rattle.fault_scripts.proofs.Lists.{of_all, place_of, contains_at}
+use Rattle.finder.proofs.Lists.{all_at, at_contains}
+use Rattle.fault_scripts.proofs.Lists.{place_of}
 
 -- the record of an id that is found
 pub record HasRecord (caller : List ℕ) (base : BaseView) (id : Id) (price : ℕ) : Type 0 where
@@ -61,7 +62,7 @@ module _ (caller : List ℕ) (base : BaseView) (found : List Discovered) (findin
   -- each discovered frame is one
   pub listed_frame : (i : ℕ) (d : Discovered) → slice_get found i ≡ Some d → IsDiscovered caller base d
   listed_frame i d at =
-      let here = contains_at found i d at in
+      let here = at_contains found i d at in
       let reached = (finding.reached.reached d.id).1 (here.0, d, here.1, here.2, refl) in
       let p = reached_found caller base d.id reached in
       let r = found_record caller base d.id p.0 p.1 in
@@ -70,7 +71,7 @@ module _ (caller : List ℕ) (base : BaseView) (found : List Discovered) (findin
         reached = reached;
         of_frame = r.of_frame;
         opened = r.opened;
-        rank = of_all (λ (x : Discovered). IsRank caller base x.id x.rank) found i d finding.ranks at;
+        rank = all_at (λ (x : Discovered). IsRank caller base x.id x.rank) found i d finding.ranks at;
       }
 
   -- each reached frame is discovered

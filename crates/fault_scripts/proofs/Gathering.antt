@@ -13,7 +13,8 @@ use Rattle.cert_table.specs.declared.row.Row.{Row}
 use Rattle.finder.specs.declared.found.Discovered.{Discovered}
 use Rattle.fault_scripts.specs.declared.table.GatheredRows.{GatheredRows}
 use Rattle.fault_scripts.specs.Loops.{row_of, row_by, row_at, price_at, rank_at, IsMost, IsGathered}
-use Rattle.fault_scripts.proofs.Lists.{of_all, place_of}
+use Rattle.finder.proofs.Lists.{all_at}
+use Rattle.fault_scripts.proofs.Lists.{place_of}
 
 most_more : (values : List ℕ) (most value : ℕ) → IsMost values most → IsMost (values ++ value ∷ []) (max most value)
 most_more values most value is =
@@ -58,7 +59,7 @@ gathered_more base frames d frame old new at is rows ceiling keyings =
 -- the greatest is at least each
 pub most_above : {X : Type 0} (f : X → ℕ) (xs : List X) (most : ℕ) → IsMost (map f xs) most → (i : ℕ) (x : X)
     → slice_get xs i ≡ Some x → f x ≤ most
-most_above f xs most is i x at = of_all (λ (v : ℕ). v ≤ most) (map f xs) i (f x) is.at_most (slice_get-map f xs i ∙ ap (option_map f) at)
+most_above f xs most is i x at = all_at (λ (v : ℕ). v ≤ most) (map f xs) i (f x) is.at_most (slice_get-map f xs i ∙ ap (option_map f) at)
 
 -- and is one of them, if there is one
 pub most_there : {X : Type 0} (f : X → ℕ) (xs : List X) (most : ℕ) → IsMost (map f xs) most → (i : ℕ) (x : X)

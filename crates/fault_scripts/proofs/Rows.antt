@@ -14,7 +14,8 @@ use Rattle.cert_table.specs.declared.row.Row.{Row}
 use Rattle.checker.specs.declared.policy.Policy.{Policy}
 use Rattle.finder.specs.declared.found.Discovered.{Discovered}
 use Rattle.fault_scripts.specs.Loops.{row_of, row_by, row_at}
-use Rattle.fault_scripts.proofs.Lists.{some_at, place_of, contains_at}
+use Rattle.finder.proofs.Lists.{at_within, at_contains}
+use Rattle.fault_scripts.proofs.Lists.{place_of}
 use Rattle.fault_scripts.proofs.Sound.{IsSound}
 
 -- the row of a discovered frame
@@ -72,7 +73,7 @@ module _ (base : BaseView) (policy : Policy) (found : List Discovered) (sound : 
 
   of_index : (k : ℕ) (row : Row) → slice_get gathered k ≡ Some row → (r : IsRowOf base policy found row) × (r.index ≡ k)
   of_index k row at =
-      let d = some_at found k (omega (arith, slice_get_within gathered k row at, row_count)) in
+      let d = at_within found k (omega (arith, slice_get_within gathered k row at, row_count)) in
       let s = sound k d.0 d.1 in
       (record { index = k; discovered = d.0; listed = d.1; sound = s; is = row_is k d.0 row d.1 at s }, refl)
 
@@ -82,8 +83,8 @@ module _ (base : BaseView) (policy : Policy) (found : List Discovered) (sound : 
   pub row_in : (i : ℕ) (d : Discovered) → slice_get found i ≡ Some d → (s : IsSound base policy d)
       → Contains gathered (row_with d.id s.rank s.cursor)
   row_in i d listed s =
-      let row = some_at gathered i (omega (arith, slice_get_within found i d listed, row_count)) in
-      subst (Contains gathered) (row_is i d row.0 listed row.1 s) (contains_at gathered i row.0 row.1)
+      let row = at_within gathered i (omega (arith, slice_get_within found i d listed, row_count)) in
+      subst (Contains gathered) (row_is i d row.0 listed row.1 s) (at_contains gathered i row.0 row.1)
 
   -- no id is twice there, if none is twice among the frames
   pub none_twice : ((i j : ℕ) (d e : Discovered) → slice_get found i ≡ Some d → slice_get found j ≡ Some e → d.id ≡ e.id → i ≡ j) → (id : Id) → count_by (λ r. id_eq r.id id) gathered ≤ 1
@@ -92,7 +93,7 @@ module _ (base : BaseView) (policy : Policy) (found : List Discovered) (sound : 
     frame_of : (k : ℕ) → IsPlace (λ r. id_eq r.id id) gathered k
         → (d : Discovered) × (slice_get found k ≡ Some d) × (d.id ≡ id)
     frame_of k p =
-        let row = some_at gathered k p.within in
+        let row = at_within gathered k p.within in
         let r = of_index k row.0 row.1 in
         let at : id_eq row.0.id id ≡ true = ap (λ (x : Row). id_eq x.id id) (sym (get_or_from_slice_get gathered k row.0 row.0 row.1)) ∙ p.passes row.0 in
         (r.0.discovered, subst (λ (n : ℕ). slice_get found n ≡ Some r.0.discovered) r.1 r.0.listed, sym (ap (λ (x : Row). x.id) r.0.is) ∙ id_eq_same row.0.id id at)

@@ -151,14 +151,6 @@ module _ (base : BaseView) (policy : Policy) (found : List Discovered) (finding 
       told = subst (IsTold base policy found (p + 1)) (sym more) (told_more old.faults.items answer e telling.told);
     }
 
-  -- nothing is due before the first place
-  pub none_yet : IsTold base policy found 0 []
-  none_yet = record {
-    just = All-nil (IsDueBelow base policy found 0);
-    whole = λ f h. absurd (omega (arith, h.below));
-    in_order = λ i j x lt few. absurd (omega (arith, few));
-  }
-
   -- those of all places are those of the base
   pub all_told : (faults : List Fault) → IsTold base policy found (length found * 14) faults
       → AreDue base policy found faults

@@ -5,6 +5,7 @@ use Rattle.std.specs.declared.cmp.Ordering.TheVariants.{Less, Greater}
 use Rattle.std.proofs.lemmas.Bool.Decides.{nat_tests}
 use Rattle.std.proofs.lemmas.List.Sorted.{searchable_from_sorted}
 use Rattle.finder.specs.declared.notes.Note.{Note}
+use Rattle.page_ids.specs.IdLaws.{less_apart}
 
 same_id : (a b : Id) → a.page ≡ b.page → a.letter ≡ b.letter → a ≡ b
 same_id a b page letter = id_eq_same a b (grind (arith, nat_tests))
@@ -27,9 +28,6 @@ noted caller frames notes slot i f note are at page letter there admits = record
 -- blanks note nothing
 pub none_noted : (caller : List ℕ) (frames : List Frame) (slots : ℕ) → AreNotes caller frames (replicate slots (record { page = 0; node = 0; letter = 0; is_open = false }))
 none_noted caller frames slots = record { each = All-replicate (IsNote caller frames) slots (record { page = 0; node = 0; letter = 0; is_open = false }) (λ id of. absurd (omega (arith, of.named))) }
-
-less_apart : (a b : Id) → id_cmp a b ≡ Less → id_eq a b ≡ false
-less_apart a b e = grind (arith, nat_tests)
 
 greater_apart : (a b : Id) → id_cmp a b ≡ Greater → id_eq a b ≡ false
 greater_apart a b e = grind (arith, nat_tests)

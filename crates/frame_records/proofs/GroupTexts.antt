@@ -139,15 +139,15 @@ none_has : (c : ℕ) (groups : List ℕ) → is_ascii_digit c ≡ false → All 
 none_has c [] other each = All-nil (HasNone c)
 none_has c (n ∷ groups) other each = All-cons (HasNone c) (decimal n) (map decimal groups) (digits_alone c n other (All-head IsGroup n groups each).1) (none_has c groups other (All-tail IsGroup n groups each))
 
-none : AreGroups []
-none = record { few = omega arith; ascending = λ i j d lt within. absurd (omega arith); each = All-nil IsGroup }
+pub no_groups : AreGroups []
+no_groups = record { few = omega arith; ascending = λ i j d lt within. absurd (omega arith); each = All-nil IsGroup }
 
 some_parts : (c : ℕ) (text groups : List ℕ) → Adds [] (parts_of c text) groups → groups ≢ []
 some_parts c text groups adds e = omega (arith, length-slice_split (λ b. eqb b c) text, ap length adds.spelled, length-map adds.more decimal, ap length (sym adds.whole ∙ e))
 
 pub texts_found : (c : ℕ) (text groups : List ℕ) → groups_in c text ≡ Ok groups → IsGroupsText c text groups
 texts_found c text groups e =
-    let adds = words_found [] (parts_of c text) groups none e in
+    let adds = words_found [] (parts_of c text) groups no_groups e in
     record {
       valid = adds.valid;
       some = some_parts c text groups adds;

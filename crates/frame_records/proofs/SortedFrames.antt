@@ -17,6 +17,7 @@ use Rattle.page_ids.specs.IdLaws.{id_cmp_total, id_eq_same, id_eq_refl, before_o
 use Rattle.frame_records.specs.declared.frame.Frame.{Frame}
 use Rattle.frame_records.specs.Bases.{IsAscending, frame_among, has_page, NoFrame, IsLeastId, IsLeastTwice, NoneTwice, frames_with}
 use Rattle.frame_records.proofs.Finds.{first_found, none_found, find_first, IsPlace, two_places, count_two}
+use Rattle.page_ids.specs.IdLaws.{not_after}
 
 abbrev pub IsSortedById : List Frame → Type 0
 IsSortedById frames = IsSortedByKey (λ f. f.id) id_cmp frames
@@ -24,9 +25,6 @@ IsSortedById frames = IsSortedByKey (λ f. f.id) id_cmp frames
 -- a later frame's id isn't below an earlier one's
 pub far : (xs : List Frame) → IsSortedById xs → (i j : ℕ) (d : Frame) → i ≤ j → j < length xs → is_lt (id_cmp (get_or xs j d).id (get_or xs i d).id) ≡ false
 far xs sorted i j d le lt = sorted_far (λ f g. is_lt (id_cmp f.id g.id)) (ranks_by id_cmp_total (λ (f : Frame). f.id)) xs sorted i j d le lt
-
-not_after : (a b : Id) → id_cmp a b ≡ Less → is_lt (id_cmp b a) ≡ false
-not_after a b e = grind (arith, nat_tests)
 
 less_is : (a b : Id) → id_cmp a b ≡ Less → is_lt (id_cmp a b) ≡ true
 less_is a b e = ap is_lt e
@@ -118,13 +116,13 @@ no_less a b le = grind (arith, nat_tests)
 pages_sorted : (xs : List Frame) → IsAscending xs → IsSortedByKey (λ f. f.id.page) nat_cmp xs
 pages_sorted xs up k d low lt = no_less (get_or xs k d).id.page (get_or xs (k + 1) d).id.page (page_le (get_or xs k d).id (get_or xs (k + 1) d).id (not_after (get_or xs k d).id (get_or xs (k + 1) d).id (up k d lt)))
 
-equal_page : (a b : ℕ) → nat_cmp a b ≡ Equal → eqb a b ≡ true
+pub equal_page : (a b : ℕ) → nat_cmp a b ≡ Equal → eqb a b ≡ true
 equal_page a b e = grind (arith, nat_tests)
 
-less_page : (a b : ℕ) → nat_cmp a b ≡ Less → eqb a b ≡ false
+pub less_page : (a b : ℕ) → nat_cmp a b ≡ Less → eqb a b ≡ false
 less_page a b e = grind (arith, nat_tests)
 
-greater_page : (a b : ℕ) → nat_cmp a b ≡ Greater → eqb a b ≡ false
+pub greater_page : (a b : ℕ) → nat_cmp a b ≡ Greater → eqb a b ≡ false
 greater_page a b e = grind (arith, nat_tests)
 
 page_at : (xs : List Frame) (page i : ℕ) → i < length xs → IsBinarySearchResult (λ f. nat_cmp f.id.page page) xs (Ok i) → has_page xs page ≡ true

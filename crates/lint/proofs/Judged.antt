@@ -19,10 +19,6 @@ use Rattle.lint.specs.Findings.{FindingView}
 use Rattle.lint.specs.Lint.{Subject, Length, Toml, IsNotToml, finding_of, faulty, text_finding, whole_finding, tables_of, tree_tables, AreSubjects, AreSubjectsIf, AreTreeSubjects, AreAuditFindings, IsDraftOf, IsListed, IsRefused, IsJudgedBy, IsJudged}
 use Rattle.lint.proofs.Readings.{nothing, something}
 
-pub weaken : {A E : Type 0} {P Q : A → Type 0} (r : Result A E) → ((a : A) → P a → Q a) → IfOk r P → IfOk r Q
-weaken (Ok a) f p = f a p
-weaken (Err e) f p = tt
-
 -- what is wrong with a text that isn't too long is what is wrong with its tree
 pub in_tree : (text : List ℕ) (tree : Option Members) (subjects : List Subject) → nat_lt MOST_TEXT (length text) ≡ false → tree_of text ≡ tree
     → AreTreeSubjects tree subjects → AreSubjects text subjects
@@ -91,16 +87,6 @@ module _ (agree : WholeFaultsAgree) (tables : DraftsHaveTables) (entries : Sound
       let h = subst (HasNone text findings) is.3 has in
       let subjects = faulty (draft_of ms).faults h.whole in
       (subjects, in_tree text (Some ms) subjects is.1 is.2 (h.whole, h.are, refl), of_some text policy findings subjects (something agree tables entries begins ms h.whole h.are h.refused) (h.are_findings ∙ each text (draft_of ms).faults h.whole))
-
--- which text has no tree, and which has one
-pub no_tree : (bs : List ℕ) → (IsUtf8 bs → parse_document bs ≡ None) → tree_of bs ≡ None
-no_tree bs refused = on_test _ refl where
-  on_test : (b : Bool) → is_utf8 bs ≡ b → tree_of bs ≡ None
-  on_test true e = rw e (refused (IsUtf8-from_is_utf8 bs e))
-  on_test false e = rw e refl
-
-pub its_tree : (bs : List ℕ) (ms : Members) → IsUtf8 bs → parse_document bs ≡ Some ms → tree_of bs ≡ Some ms
-its_tree bs ms utf8 e = rw (is_utf8-from_IsUtf8 bs utf8) e
 
 pub parsed : (bs : List ℕ) (ms : Members) → tree_of bs ≡ Some ms → parse_document bs ≡ Some ms
 parsed bs ms e = on_test (is_utf8 bs) refl where

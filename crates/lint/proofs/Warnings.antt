@@ -23,6 +23,7 @@ use Rattle.lint.specs.Findings.{FindingView, AreInOrder}
 use Rattle.lint.specs.Lookups.{value_of}
 use Rattle.lint.specs.Lint.{ranks_of, is_unreached, unreached, warned, ids_of, warning, fault_finding, text_tables}
 use Rattle.lint.specs.Laws.{IsCutOff, AreOfAudit, WarnsOfCutOff}
+use Rattle.page_ids.proofs.Truths.{both, not_so, not_true}
 
 -- what passes a test is kept
 module _ {X : Type 0} (p : X → Bool) (xs : List X) (x : X) where
@@ -54,19 +55,6 @@ unranked : (found : List Discovered) (id : Id) → is_none (value_of (ranks_of f
 unranked [] id = refl
 unranked (d ∷ ds) id = none_or (value_of (ranks_of ds) id) (id_eq d.id id) d.rank (list_any (λ e. id_eq e.id id) ds) (unranked ds id)
 
-both : (a b : Bool) → (a && b) ≡ true → (a ≡ true) × (b ≡ true)
-both true true e = (refl, refl)
-both true false e = absurd cc
-both false b e = absurd cc
-
-fails : (b : Bool) → not b ≡ true → b ≡ true → ⊥
-fails true e h = absurd cc
-fails false e h = absurd cc
-
-not_so : (b : Bool) → (b ≡ true → ⊥) → not b ≡ true
-not_so true h = absurd (h refl)
-not_so false h = refl
-
 -- one finding for each frame of a list of ids
 each : (f : Id → FindingView) (frames : List Frame) → map f (ids_of frames) ≡ map (λ (g : Frame). f g.id) frames
 each f [] = refl
@@ -89,7 +77,7 @@ module _ (groups : List ℕ) (base : BaseView) (found : List Discovered) (finds 
   kept_is_cut_off entry f c =
       let k = kept_from (is_unreached groups (ranks_of found)) base.frames f c in
       let b = both (is_open groups f) (is_none (value_of (ranks_of found) f.id)) k.1 in
-      record { entry = entry; listed = k.0; opens = b.0; unreached = λ r. fails (list_any (λ d. id_eq d.id f.id) found) (sym (unranked found f.id) ∙ b.1) (listed f.id r) }
+      record { entry = entry; listed = k.0; opens = b.0; unreached = λ r. not_true (list_any (λ d. id_eq d.id f.id) found) (sym (unranked found f.id) ∙ b.1) (listed f.id r) }
 
   cut_off_is_kept : (f : Frame) → IsCutOff groups base f → Contains (unreached groups (ranks_of found) base.frames) f
   cut_off_is_kept f c =

@@ -15,7 +15,6 @@ fn level_text(level: Level) -> &'static str
     }
 }
 
-#[tactic(auto, using(std::proofs::Common::append_assoc))]
 fn push_part(out: &mut Vec<u8>, number: usize) -> Result<(), AllocError>
     ensures { OnOk result (out.new.items ≡ out.old.items ++ (decimal number ++ 58 ∷ [])) }
 {
@@ -25,7 +24,6 @@ fn push_part(out: &mut Vec<u8>, number: usize) -> Result<(), AllocError>
 }
 
 // The path, the line and the column, each with a colon.
-#[tactic(auto, using(std::proofs::Common::append_assoc))]
 fn push_place(out: &mut Vec<u8>, path: &[u8], place: (usize, usize)) -> Result<(), AllocError>
     ensures { OnOk result (out.new.items ≡ out.old.items ++ place_text path.now place) }
 {
@@ -35,7 +33,6 @@ fn push_place(out: &mut Vec<u8>, path: &[u8], place: (usize, usize)) -> Result<(
     push_part(out, place.1)
 }
 
-#[tactic(auto, using(std::proofs::Common::append_assoc))]
 fn push_finding(
     out: &mut Vec<u8>,
     path: &[u8],

@@ -10,8 +10,3 @@ one_more out more all cs zero c some added so_far = absurd (some refl)
 one_more out more all cs (suc left) c some added so_far =
     let less : suc left - 1 ≡ left = omega arith in
     rw (less, added, append_assoc) so_far
-
--- no bytes have no characters
-pub none : (bs : List ℕ) → length bs ≡ 0 → chars bs ≡ []
-none [] e = chars-nil
-none (b ∷ bs) e = absurd (omega (arith, e))

@@ -23,7 +23,6 @@ fn line_of(text: &[u8], place: usize) -> usize
 }
 
 // Words and the number of a place's line.
-#[tactic(auto, using(std::proofs::Common::append_assoc))]
 fn push_line(out: &mut Vec<u8>, words: &[u8], text: &[u8], place: usize) -> Result<(), AllocError>
     ensures { OnOk result (out.new.items ≡ out.old.items ++ spec.with_line words.now text.now place) }
 {
@@ -33,7 +32,6 @@ fn push_line(out: &mut Vec<u8>, words: &[u8], text: &[u8], place: usize) -> Resu
 }
 
 // A name, or the first characters of a long one.
-#[tactic(auto, using(std::proofs::Common::append_assoc))]
 fn push_name(out: &mut Vec<u8>, name: &[u8]) -> Result<(), AllocError>
     ensures { OnOk result (out.new.items ≡ out.old.items ++ spec.shown name.now) }
 {
@@ -45,7 +43,6 @@ fn push_name(out: &mut Vec<u8>, name: &[u8]) -> Result<(), AllocError>
     out.extend_from_slice(b"...")
 }
 
-#[tactic(auto, using(std::proofs::Common::append_assoc))]
 fn push_defined(out: &mut Vec<u8>, text: &[u8], at: usize, place: usize) -> Result<(), AllocError>
     requires { at ≤ length text.now }
     ensures { OnOk result (out.new.items ≡ out.old.items ++ spec.words_of text.now at (Hint.Defined place)) }
@@ -55,7 +52,6 @@ fn push_defined(out: &mut Vec<u8>, text: &[u8], at: usize, place: usize) -> Resu
     push_line(out, b"\" is defined already on line ", text, place)
 }
 
-#[tactic(auto, using(std::proofs::Common::append_assoc))]
 fn push_not_closed(out: &mut Vec<u8>, text: &[u8], place: usize) -> Result<(), AllocError>
     ensures { OnOk result (out.new.items ≡ out.old.items ++ spec.words_of text.now place (Hint.NotClosed place)) }
 {
@@ -64,7 +60,6 @@ fn push_not_closed(out: &mut Vec<u8>, text: &[u8], place: usize) -> Result<(), A
     out.extend_from_slice(b" is not closed")
 }
 
-#[tactic(auto, using(std::proofs::Common::append_assoc))]
 fn push_words(out: &mut Vec<u8>, text: &[u8], at: usize, hint: Hint) -> Result<(), AllocError>
     requires { at ≤ length text.now }
     ensures { OnOk result (out.new.items ≡ out.old.items ++ spec.words_of text.now at hint) }

@@ -9,7 +9,6 @@ use page_ids::{FrameId, MOST_PAGE};
 use std::alloc::AllocError;
 
 // The key of a field, in quotes.
-#[tactic(auto, using(std::proofs::Common::append_assoc))]
 pub fn push_key_name(out: &mut Vec<u8>, field: Field) -> Result<(), AllocError>
     ensures { OnOk result (out.new.items ≡ out.old.items ++ key_text field) }
 {
@@ -19,7 +18,6 @@ pub fn push_key_name(out: &mut Vec<u8>, field: Field) -> Result<(), AllocError>
 }
 
 // A key of the top, or one of a frame with the frame's name.
-#[tactic(auto, using(std::proofs::Common::append_assoc))]
 pub fn push_subject(out: &mut Vec<u8>, field: Field, id: Option<FrameId>) -> Result<(), AllocError>
     ensures { OnOk result (out.new.items ≡ out.old.items ++ key_subject field id) }
 {
@@ -33,7 +31,6 @@ pub fn push_subject(out: &mut Vec<u8>, field: Field, id: Option<FrameId>) -> Res
     }
 }
 
-#[tactic(auto, using(std::proofs::Common::append_assoc))]
 fn push_integer(out: &mut Vec<u8>, number: i64) -> Result<(), AllocError>
     ensures { OnOk result (out.new.items ≡ out.old.items ++ integer_text number) }
 {
@@ -86,7 +83,6 @@ fn push_limit(out: &mut Vec<u8>, field: Field, number: i64) -> Result<(), AllocE
 }
 
 // An integer and what is allowed in its place.
-#[tactic(auto, using(std::proofs::Common::append_assoc))]
 pub fn push_out_of_range(out: &mut Vec<u8>, field: Field, number: i64) -> Result<(), AllocError>
     ensures { OnOk result (out.new.items ≡ out.old.items ++ out_of_range_text field number) }
 {
@@ -96,7 +92,6 @@ pub fn push_out_of_range(out: &mut Vec<u8>, field: Field, number: i64) -> Result
 }
 
 // An item of `outside`.
-#[tactic(auto, using(std::proofs::Common::append_assoc))]
 fn push_page_item(out: &mut Vec<u8>, number: usize) -> Result<(), AllocError>
     ensures { OnOk result (out.new.items ≡ out.old.items ++ item_text field.Outside number None) }
 {
@@ -107,7 +102,6 @@ fn push_page_item(out: &mut Vec<u8>, number: usize) -> Result<(), AllocError>
 }
 
 // A route of a frame, by its digit.
-#[tactic(auto, using(std::proofs::Common::append_assoc))]
 fn push_route(out: &mut Vec<u8>, digit: usize, id: Option<FrameId>) -> Result<(), AllocError>
     ensures { OnOk result (out.new.items ≡ out.old.items ++ item_text field.Routes digit id) }
 {
@@ -118,7 +112,6 @@ fn push_route(out: &mut Vec<u8>, digit: usize, id: Option<FrameId>) -> Result<()
 }
 
 // A row of a frame.
-#[tactic(auto, using(std::proofs::Common::append_assoc))]
 fn push_row(out: &mut Vec<u8>, row: usize, id: Option<FrameId>) -> Result<(), AllocError>
     ensures { OnOk result (out.new.items ≡ out.old.items ++ item_text field.Rows row id) }
 {

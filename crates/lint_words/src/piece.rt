@@ -44,7 +44,6 @@ pub enum Piece<'a> {
     OutOfRange(Field, i64),
 }
 
-#[tactic(auto, using(std::proofs::Common::append_assoc))]
 fn push_count(out: &mut Vec<u8>, number: usize, one: &str, more: &str) -> Result<(), AllocError>
     ensures { OnOk result (out.new.items ≡ out.old.items ++ number_of number one.now more.now) }
 {
@@ -54,7 +53,6 @@ fn push_count(out: &mut Vec<u8>, number: usize, one: &str, more: &str) -> Result
     out.extend_from_slice(word.as_bytes())
 }
 
-#[tactic(auto, using(std::proofs::Common::append_assoc))]
 fn push_shown_by(out: &mut Vec<u8>, keys: &[Key]) -> Result<(), AllocError>
     ensures { OnOk result (out.new.items ≡ out.old.items ++ shown_by keys.now) }
 {
@@ -68,7 +66,6 @@ fn push_shown_by(out: &mut Vec<u8>, keys: &[Key]) -> Result<(), AllocError>
     }
 }
 
-#[tactic(auto, using(std::proofs::Common::append_assoc))]
 fn push_pressed(out: &mut Vec<u8>, key: Option<Key>) -> Result<(), AllocError>
     ensures { OnOk result (out.new.items ≡ out.old.items ++ pressed_text key) }
 {
@@ -114,7 +111,6 @@ fn push_piece(out: &mut Vec<u8>, piece: &Piece<'_>) -> Result<(), AllocError>
 }
 
 // Appends pieces, one after another.
-#[tactic(auto, using(std::proofs::Common::append_assoc))]
 pub fn push_pieces(out: &mut Vec<u8>, pieces: &[Piece<'_>]) -> Result<(), AllocError>
     ensures { OnOk result (out.new.items ≡ out.old.items ++ pieces_text pieces.now) }
 {

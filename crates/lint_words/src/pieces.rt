@@ -20,7 +20,6 @@ fn push_comma_before(out: &mut Vec<u8>, digits: &[u8]) -> Result<(), AllocError>
 }
 
 // Digits with a comma before each three of the last.
-#[tactic(auto, using(std::proofs::Common::append_assoc))]
 fn push_with_commas(out: &mut Vec<u8>, digits: &[u8]) -> Result<(), AllocError>
     ensures { OnOk result (out.new.items ≡ out.old.items ++ with_commas digits.now) }
 {
@@ -83,7 +82,6 @@ fn push_hex_front(out: &mut Vec<u8>, number: u32) -> Result<(), AllocError>
 }
 
 // A code point.
-#[tactic(auto, using(std::proofs::Common::append_assoc))]
 fn push_code(out: &mut Vec<u8>, c: char) -> Result<(), AllocError>
     ensures { OnOk result (out.new.items ≡ out.old.items ++ code_text c) }
 {
@@ -113,7 +111,6 @@ fn push_utf8(out: &mut Vec<u8>, c: char) -> Result<(), AllocError>
 }
 
 // A character and its code point.
-#[tactic(auto, using(std::proofs::Common::append_assoc))]
 fn push_shown(out: &mut Vec<u8>, c: char) -> Result<(), AllocError>
     ensures { OnOk result (out.new.items ≡ out.old.items ++ shown_text c) }
 {
@@ -135,7 +132,6 @@ pub fn push_char(out: &mut Vec<u8>, c: char) -> Result<(), AllocError>
 }
 
 // A character of a text in quotes.
-#[tactic(auto, using(std::proofs::Common::append_assoc))]
 fn push_escaped(out: &mut Vec<u8>, c: char) -> Result<(), AllocError>
     ensures { OnOk result (out.new.items ≡ out.old.items ++ escaped c) }
 {
@@ -156,7 +152,6 @@ fn push_dots(out: &mut Vec<u8>) -> Result<(), AllocError>
 }
 
 // The first characters of a text, and dots if it has more.
-#[tactic(auto, using(std::proofs::Common::append_assoc))]
 fn push_beginning(out: &mut Vec<u8>, text: &str) -> Result<(), AllocError>
     ensures { OnOk result (out.new.items ≡ out.old.items ++ escaped_up_to 40 (chars text.now)) }
 {
@@ -172,7 +167,6 @@ fn push_beginning(out: &mut Vec<u8>, text: &str) -> Result<(), AllocError>
 }
 
 // A text of the file in quotes.
-#[tactic(auto, using(std::proofs::Common::append_assoc))]
 pub fn push_quoted(out: &mut Vec<u8>, text: &str) -> Result<(), AllocError>
     ensures { OnOk result (out.new.items ≡ out.old.items ++ quoted text.now) }
 {
@@ -189,7 +183,6 @@ pub fn push_decimal(out: &mut Vec<u8>, number: u64) -> Result<(), AllocError>
 }
 
 // Words and a number.
-#[tactic(auto, using(std::proofs::Common::append_assoc))]
 pub fn push_numbered(out: &mut Vec<u8>, words: &[u8], number: u64) -> Result<(), AllocError>
     ensures { OnOk result (out.new.items ≡ out.old.items ++ (words.now ++ decimal number)) }
 {
@@ -198,7 +191,6 @@ pub fn push_numbered(out: &mut Vec<u8>, words: &[u8], number: u64) -> Result<(),
 }
 
 // A number between words.
-#[tactic(auto, using(std::proofs::Common::append_assoc))]
 pub fn push_between(
     out: &mut Vec<u8>,
     before: &[u8],
@@ -212,7 +204,6 @@ pub fn push_between(
 }
 
 // A frame by its id, or `this frame`.
-#[tactic(auto, using(std::proofs::Common::append_assoc))]
 pub fn push_frame(out: &mut Vec<u8>, id: Option<FrameId>) -> Result<(), AllocError>
     ensures { OnOk result (out.new.items ≡ out.old.items ++ frame_name id) }
 {

@@ -480,7 +480,6 @@ fn code_text(detail: &Detail) -> &'static str
 
 /// Appends the code, the name and the words of a fault of a text, with what was found and how to fix it; if it is the one
 /// that is listed for all others of its table, how many these are.
-#[tactic(auto, using(std::proofs::Common::append_assoc))]
 pub fn push_text_fault(
     alloc: Global,
     out: &mut Vec<u8>,

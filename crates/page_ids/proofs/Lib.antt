@@ -3,3 +3,4 @@ pub mod Numbers
 pub mod IdTexts
 pub mod KeyTexts
 pub mod Cuts
+pub mod Truths

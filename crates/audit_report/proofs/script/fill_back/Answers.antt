@@ -1,7 +1,7 @@
 use Rattle.std.proofs.Common.{◌-◌, ◌<◌, ◌∙◌, sym, subst, length, List, arith}
 use Rattle.finder.specs.declared.found.Discovered.{Discovered}
 use Rattle.finder.specs.Finds.{keys_back}
-use Rattle.audit_report.proofs.Scripts.{back_turn, back_end}
+use Rattle.finder.proofs.Scripted.{back_turn, back_end}
 use Rattle.audit_report.proofs.script.fill_back.Goals as goal
 
 pub returns-in_default-clause-items : goal.returns-in_default-clause-items

@@ -1,7 +1,8 @@
 use Rattle.std.proofs.Common.{◌≡◌, None, subst}
 use Rattle.std.specs.Prelude.{OnErr}
 use Rattle.base_text.specs.Whole.{tree_of}
-use Rattle.lint.proofs.Judged.{weaken, of_length, of_toml}
+use Rattle.page_ids.proofs.Truths.{weaken}
+use Rattle.lint.proofs.Judged.{of_length, of_toml}
 use Rattle.lint.proofs.judging.judged.Goals as goal
 
 pub returns-then-text-gt-MOST_TEXT : goal.returns-then-text-gt-MOST_TEXT

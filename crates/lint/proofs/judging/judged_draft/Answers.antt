@@ -2,7 +2,8 @@ use Rattle.std.proofs.Common.{◌≡◌, ◌∙◌, ◌++◌, map, ap, subst}
 use Rattle.toml_places.specs.Places.{marks}
 use Rattle.base_text.specs.Drafts.{DraftView}
 use Rattle.lint.specs.Lint.{tables_of, text_finding, whole_finding, AreAuditFindings, IsListed, IsRefused}
-use Rattle.lint.proofs.Judged.{weaken, parsed, HasBase, HasNone, of_base, of_faults}
+use Rattle.page_ids.proofs.Truths.{weaken}
+use Rattle.lint.proofs.Judged.{parsed, HasBase, HasNone, of_base, of_faults}
 use Rattle.lint.proofs.judging.judged_draft.Goals as goal
 
 pub returns-in-Some : goal.returns-in-Some

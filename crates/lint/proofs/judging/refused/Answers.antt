@@ -1,4 +1,4 @@
-use Rattle.lint.proofs.Judged.{weaken}
+use Rattle.page_ids.proofs.Truths.{weaken}
 use Rattle.lint.proofs.judging.refused.Goals as goal
 
 pub returns-in-Some : goal.returns-in-Some

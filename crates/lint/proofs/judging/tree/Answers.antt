@@ -1,6 +1,6 @@
 use Rattle.std.proofs.Common.{sym, ◌∙◌}
 use Rattle.std.proofs.lemmas.Bool.{false≢true}
-use Rattle.lint.proofs.Judged.{no_tree, its_tree}
+use Rattle.base_text.proofs.Documents.{no_tree, its_tree}
 use Rattle.lint.proofs.judging.tree.Goals as goal
 
 pub returns-in-Ok-clause-ok : goal.returns-in-Ok-clause-ok

@@ -1,6 +1,7 @@
 use Rattle.std.proofs.Common.{append-nil}
 use Rattle.std.proofs.lemmas.Str.{IsUtf8-past_char, chars_past_char}
-use Rattle.lint_words.proofs.Quotes.{one_more, none}
+use Rattle.base_text.proofs.CodePoints.{empty}
+use Rattle.lint_words.proofs.Quotes.{one_more}
 use Rattle.lint_words.proofs.pieces.push_beginning.Goals as goal
 
 pub returns-then-left-eq0 : goal.returns-then-left-eq0
@@ -23,5 +24,5 @@ loop-c-preserved c =
 pub returns : goal.returns
 returns c =
     let held = c.loop-c.invariant in
-    let done = none _ c.in-None.ensures.steps.0.0 in
+    let done = empty _ c.in-None.ensures.steps.0.0 in
     rw (done, append-nil) at held.so_far
