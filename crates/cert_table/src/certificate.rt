@@ -41,11 +41,11 @@ impl<C: Cover + Drop> Model for Certificate<C> {
 
     ghost Value = { CertView };
 
-    ghost use Rattle.cert_table.specs.Table.{AreOnScreen};
+    ghost use Rattle.cert_table.specs.Table.{AreRows, AreOnScreen};
 
     ghost view = { λ c. record { entry = c.entry; ceiling = c.ceiling; keyings = c.keyings; groups = c.groups; rows = C.rows c.cover } };
 
-    ghost invariant = { λ c. AreOnScreen (C.rows c.cover) };
+    ghost invariant = { λ c. AreRows (C.rows c.cover) × AreOnScreen (C.rows c.cover) };
 }
 
 fn is_on_screen(place: Place) -> bool
@@ -129,7 +129,8 @@ impl<C: Cover + Drop> Certificate<C> {
 
     /// The entry page of the base that it speaks of.
     pub fn entry(&self) -> PageNo
-        ensures { result ≡ self.now.entry }
+        ensures value { result ≡ self.now.entry }
+        ensures valid { AreRows self.now.rows }
     {
         self.entry
     }

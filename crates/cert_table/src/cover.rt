@@ -54,4 +54,14 @@ pub trait Cover {
     /// The most rows that one look-up compares.
     fn most(&self) -> u32
         ensures { result ≡ most_among (length (rows self.now)) };
+
+    ghost use Rattle.std.specs.Prelude.{◌≤◌, ◌<◌, length};
+    ghost use Rattle.cert_table.specs.declared.limits.TheConstants.{MOST_ROWS};
+
+    // A look-up compares no more rows than that, and at least one if there is any.
+    ghost few: { (rows : List Row) (id : Id) → length rows ≤ MOST_ROWS → compared rows id ≤ most_among (length rows) };
+
+    ghost some: { (rows : List Row) (id : Id) → 0 < length rows → 1 ≤ compared rows id };
+
+    ghost most_is_small: { (n : ℕ) → n ≤ MOST_ROWS → most_among n ≤ MOST_ROWS };
 }

@@ -3,6 +3,7 @@ ghost use Rattle.page_ids.specs.Ids.{id_eq};
 ghost use Rattle.std.specs.Option.{option_copied};
 ghost use Rattle.cert_table.specs.declared.limits.TheConstants.{MOST_ROWS};
 ghost use Rattle.cert_table.specs.Table.{row_among, rows_up_to};
+ghost use Rattle.cert_table.specs.CoverLaws.{few_up_to, some_up_to};
 
 use crate::cover::Cover;
 use crate::row::Row;
@@ -83,4 +84,10 @@ impl Cover for RowList {
     fn most(&self) -> u32 {
         self.len() as u32
     }
+
+    ghost few = { few_up_to };
+
+    ghost some = { some_up_to };
+
+    ghost most_is_small = { λ n small. small };
 }

@@ -2,6 +2,7 @@ ghost use Rattle.std.specs.Prelude.{◌≡◌, ◌<◌, ◌≤◌, length};
 ghost use Rattle.std.specs.Option.{option_copied};
 ghost use Rattle.page_ids.specs.Ids.{id_cmp};
 ghost use Rattle.cert_table.specs.Table.{AreRows, row_among, rows_compared};
+ghost use Rattle.cert_table.specs.CoverLaws.{few_rows, some_rows, sixteen};
 
 use crate::cover::Cover;
 use crate::row::Row;
@@ -82,4 +83,10 @@ impl Cover for RowTable {
     fn most(&self) -> u32 {
         16
     }
+
+    ghost few = { few_rows };
+
+    ghost some = { some_rows };
+
+    ghost most_is_small = { λ n small. sixteen };
 }

@@ -24,7 +24,7 @@ use Rattle.abstract_paint.specs.Paint.{OnScreen}
 use Rattle.cert_text.specs.Grammar.{place_text, pend_text, cursor_text, row_line, IsRow}
 use Rattle.page_ids.specs.Parts.{parts_of}
 use Rattle.cert_text.specs.Lines.{number_or_cause, line_number, number_after, place_in, pend_in, without_pend, cursor_in, row_of, row_in}
-use Rattle.page_ids.proofs.Numerals.{both}
+use Rattle.page_ids.proofs.Truths.{both}
 use Rattle.page_ids.proofs.Numbers.{number_again, decimal_digits}
 use Rattle.cert_table.specs.Table.{is_behind}
 

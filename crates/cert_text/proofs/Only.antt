@@ -31,7 +31,7 @@ use Rattle.cert_text.specs.Grammar.{has_groups, first_line, groups_line, groups_
 use Rattle.frame_records.specs.Steps.{◌>>=◌}
 use Rattle.cert_text.specs.Reading.{Said, Reading, Fault, nothing, begins, start, number_of, word_of, most_of, put, stage_after, judge, judge_at, is_over, at_line, step, run, ended, reading}
 use Rattle.page_ids.proofs.Numbers.{decimal_digits}
-use Rattle.page_ids.proofs.Numerals.{both}
+use Rattle.page_ids.proofs.Truths.{both}
 use Rattle.std.proofs.lemmas.List.Elements.{recursion_from_All}
 use Rattle.cert_text.proofs.Again.{IsLine, AllAbove, above_all, above_append, above_less, above_decimal, above_id, above_cursor, number_after_again, row_again}
 use Rattle.cert_text.proofs.GroupLines.{groups_again, groups_is_line}

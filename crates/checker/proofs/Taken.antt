@@ -1,5 +1,5 @@
 -- What the rows take in turn.
-use Rattle.std.proofs.Common.{◌≡◌, ℕ, ◌+◌, List, [], ◌∷◌, drop, Option, Some, None, ◌∙◌, ap, arith}
+use Rattle.std.proofs.Common.{◌≡◌, ℕ, ◌+◌, List, [], ◌∷◌, drop, Option, Some, None, ◌≤◌, refl, ◌∙◌, ap, arith}
 use Rattle.std.specs.Prelude.{slice_get}
 use Rattle.std.specs.List.{sum_by}
 use Rattle.std.proofs.lemmas.List.Sums.{sum_by-cons}
@@ -12,12 +12,18 @@ use Rattle.checker.specs.Counts.{unless_fault, judged}
 use Rattle.checker.proofs.RowsInTurn.{drop_at}
 
 -- the sum so far and that of the rows that are still judged, one row further
-module _ (f : Row → ℕ) (caller : List ℕ) (base : BaseView) (cert : CertView) (rows : List Row) (i : ℕ) (row : Row) (at : slice_get rows i ≡ Some row) (total one new all : ℕ) (before : total + sum_by f (judged caller base cert (drop i rows)) ≡ all) (is : one ≡ f row) (more : new ≡ total + one) where
+module _ (f : Row → ℕ) (caller : List ℕ) (base : BaseView) (cert : CertView) (rows : List Row) (i : ℕ) (row : Row) (at : slice_get rows i ≡ Some row) (total one all : ℕ) (before : total + sum_by f (judged caller base cert (drop i rows)) ≡ all) (is : one ≡ f row) where
   judged_at : (o : Option Cause) → (on_row caller base cert row).first_cause ≡ o → judged caller base cert (drop i rows) ≡ row ∷ unless_fault o (judged caller base cert (drop (i + 1) rows))
   judged_at o e = ap (judged caller base cert) (drop_at rows i row at) ∙ ap (λ (o : Option Cause). row ∷ unless_fault o (judged caller base cert (drop (i + 1) rows))) e
 
-  pub sum_next : (on_row caller base cert row).first_cause ≡ None → new + sum_by f (judged caller base cert (drop (i + 1) rows)) ≡ all
-  sum_next none = omega (arith, before, is, more, ap (sum_by f) (judged_at None none), sum_by-cons f row (judged caller base cert (drop (i + 1) rows)))
+  split : (o : Option Cause) → (on_row caller base cert row).first_cause ≡ o → total + one + sum_by f (unless_fault o (judged caller base cert (drop (i + 1) rows))) ≡ all
+  split o e = omega (arith, before, is, ap (sum_by f) (judged_at o e), sum_by-cons f row (unless_fault o (judged caller base cert (drop (i + 1) rows))))
 
-  pub sum_last : (c : Cause) → (on_row caller base cert row).first_cause ≡ Some c → new ≡ all
-  sum_last c some = omega (arith, before, is, more, ap (sum_by f) (judged_at (Some c) some), sum_by-cons f row [])
+  pub sum_within : total + one ≤ all
+  sum_within = omega (arith, split _ refl)
+
+  pub sum_next : (new : ℕ) → new ≡ total + one → (on_row caller base cert row).first_cause ≡ None → new + sum_by f (judged caller base cert (drop (i + 1) rows)) ≡ all
+  sum_next new more none = omega (arith, more, split None none)
+
+  pub sum_last : (new : ℕ) → new ≡ total + one → (c : Cause) → (on_row caller base cert row).first_cause ≡ Some c → new ≡ all
+  sum_last new more c some = omega (arith, more, split (Some c) some)

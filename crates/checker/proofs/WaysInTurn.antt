@@ -2,7 +2,6 @@
 use Rattle.std.proofs.Common.{◌≡◌, ℕ, ◌+◌, Bool, true, false, not, ◌||◌, List, [], ◌∷◌, ◌++◌, Option, Some, None, refl, sym, ◌∙◌, ap, arith, is_some, if◌then◌else◌, cond, option_map}
 use Rattle.std.specs.Prelude.{find}
 use Rattle.std.specs.Option.{option_or}
-use Rattle.std.specs.Int.{from_bool}
 use Rattle.std.specs.List.{list_any}
 use Rattle.std.proofs.lemmas.List.Folds.{find-append, list_any-append}
 use Rattle.std.proofs.lemmas.List.FromFn.{map-range_with_len_more, sum_by-map-range_with_len_more}
@@ -20,7 +19,7 @@ use Rattle.checker.specs.Conditions.{◌otherwise◌, first_among}
 use Rattle.checker.specs.Good.{LeadsDown}
 use Rattle.checker.specs.Verdict.{way_on, way_down, is_down, lost_cause, on_way, on_rank, on_ways}
 use Rattle.checker.specs.Counts.{way_compared}
-use Rattle.checker.specs.Loops.{outside_of, first_ways, IsWayCheck, AreWayChecks}
+use Rattle.checker.specs.Loops.{first_ways, IsWayCheck, AreWayChecks}
 
 first_more : (n : ℕ) → first_ways (n + 1) ≡ first_ways n ++ way_at n ∷ []
 first_more n = map-range_with_len_more way_at 0 n n (omega arith)
@@ -36,21 +35,16 @@ any_more true b = refl
 any_more false true = refl
 any_more false false = refl
 
-module _ (compared : List Row → Id → ℕ) (base : BaseView) (rows : List Row) (m rank : ℕ) (f : Frame) (n : ℕ) (seen new : WayChecks) (check : WayCheck) where
+module _ (compared : List Row → Id → ℕ) (base : BaseView) (rows : List Row) (rank : ℕ) (f : Frame) (n : ℕ) (seen new : WayChecks) (check : WayCheck) where
   -- one way more
-  pub next_way : AreWayChecks compared base rows m rank f n seen → IsWayCheck compared base rows m rank f (way_at n) check → new.lost ≡ (if is_some seen.lost then seen.lost else if check.leads_on then None else Some (way_at n)) → new.down ≡ (seen.down || check.down) → new.asked ≡ seen.asked + check.asked → AreWayChecks compared base rows m rank f (n + 1) new
+  pub next_way : AreWayChecks compared base rows rank f n seen → IsWayCheck compared base rows rank f (way_at n) check → new.lost ≡ (if is_some seen.lost then seen.lost else if check.leads_on then None else Some (way_at n)) → new.down ≡ (seen.down || check.down) → new.asked ≡ seen.asked + check.asked → AreWayChecks compared base rows rank f (n + 1) new
   next_way before is lost down asked =
       let test = λ (way : Way). not (way_on base rows f way) in
-      let outside = sum_by-map-range_with_len_more outside_of way_at 0 n n (omega arith) in
       let taken = sum_by-map-range_with_len_more (way_compared compared base rows f) way_at 0 n n (omega arith) in
-      let offered = sum_by-map-range_with_len_more (λ (way : Way). from_bool (is_some (sought f way))) way_at 0 n n (omega arith) in
       record {
         lost = lost ∙ lost_more seen.lost check.leads_on (way_at n) ∙ rw (before.lost, is.leads_on) (sym (find-append test (first_ways n) (way_at n ∷ []))) ∙ ap (find test) (sym (first_more n));
         down = down ∙ any_more seen.down check.down ∙ rw (before.down, is.down) (sym (list_any-append (way_down rows rank f) (first_ways n) (way_at n ∷ []))) ∙ ap (list_any (way_down rows rank f)) (sym (first_more n));
-        most = omega (arith, asked, outside, before.most, is.most);
-        small = omega (arith, asked, before.small, is.small);
-        least = λ some. omega (arith, asked, offered, before.least some, is.least some);
-        exact = omega (arith, asked, taken, before.exact, is.exact);
+        took = omega (arith, asked, taken, before.took, is.took);
       }
 
 one_lost : (id : Id) (way : Way) (on : Bool) (o : Option Cause) (lost : Option Way) → o ≡ option_map (lost_cause id) lost → ((if on then None else Some (lost_cause id way)) otherwise o) ≡ option_map (lost_cause id) (cond (not on) (Some way) lost)

@@ -1,5 +1,5 @@
 -- What a check compares and paints, and its bounds.
-use Rattle.std.specs.Prelude.{ℕ, ◌+◌, Bool, List, [], ◌∷◌, Option, Some, None, length, is_none, if◌then◌else◌, ◌≡◌, ◌≤◌, ◌<◌, ◌*◌, is_some, take}
+use Rattle.std.specs.Prelude.{ℕ, ◌+◌, Bool, List, [], ◌∷◌, Option, Some, None, length, is_none, if◌then◌else◌, ◌≡◌, ◌≤◌, ◌*◌, is_some}
 use Rattle.std.specs.List.{sum_by}
 use Rattle.page_ids.specs.Ids.{Id}
 use Rattle.page_ids.specs.declared.way.Way.{Way}
@@ -25,7 +25,7 @@ use Rattle.checker.specs.declared.verdict.Verdict.TheVariants.{Cleared}
 -- look-up of an id compares is the cover's, and so a parameter. The caller is the list of the groups to which the caller
 -- belongs.
 
--- so many, if it is done
+-- this many, if it is done
 abbrev pub counted_if : Bool → ℕ → ℕ
 counted_if done n = if done then n else 0
 
@@ -125,40 +125,6 @@ bytes_at base row = bytes_if (frame_at base row.id)
 -- as much as one look-up among the rows
 abbrev pub row_most : ℕ → ℕ
 row_most m = 176 + 11 * m
-
--- what a row took whose frame is there, if one look-up among the rows compares at most m
-pub record IsFoundCount (m : ℕ) (rows : List Row) (row : Row) (f : Frame) (cause : Option Cause) (count : Count) : Type 0 where
-  pub most : count.probes ≤ 160 + 11 * m
-  pub small : count.probes ≤ 94489280490
-  pub least : 0 < length rows → cause ≡ None → ways_of f ≤ count.probes
-  pub within : count.steps ≤ length f.body
-  pub all : cause ≡ None → count.steps ≡ length f.body
-
--- what a row took
-pub record IsRowCount (base : BaseView) (m : ℕ) (rows : List Row) (row : Row) (cause : Option Cause) (count : Count) : Type 0 where
-  pub most : count.probes ≤ row_most m
-  pub small : count.probes ≤ 94489280506
-  pub least : 0 < length rows → cause ≡ None → 1 + ways_at base row ≤ count.probes
-  pub within : count.steps ≤ bytes_at base row
-  pub short : count.steps ≤ 4096
-  pub all : cause ≡ None → count.steps ≡ bytes_at base row
-
--- what the first n rows took, none of which is at fault
-pub record AreCounted (base : BaseView) (m : ℕ) (rows : List Row) (n : ℕ) (count : Count) : Type 0 where
-  pub most : count.probes ≤ row_most m * n
-  pub small : count.probes ≤ 94489280506 * n
-  pub least : n + sum_by (ways_at base) (take n rows) ≤ count.probes
-  pub short : count.steps ≤ 4096 * n
-  pub all : count.steps ≡ sum_by (bytes_at base) (take n rows)
-
--- what the rows took, up to the first at fault
-pub record AreAllCounted (base : BaseView) (m : ℕ) (rows : List Row) (cause : Option Cause) (count : Count) : Type 0 where
-  pub most : count.probes ≤ row_most m * length rows
-  pub small : count.probes ≤ 94489280506 * 65535
-  pub short : count.steps ≤ 4096 * 65535
-  pub least : cause ≡ None → length rows + sum_by (ways_at base) rows ≤ count.probes
-  pub within : count.steps ≤ sum_by (bytes_at base) rows
-  pub all : cause ≡ None → count.steps ≡ sum_by (bytes_at base) rows
 
 -- what a check took, if one look-up among the rows compares at most m. The 16 is room for a look-up of the entry frame
 -- in the base, which the check doesn't make

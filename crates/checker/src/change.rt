@@ -1,5 +1,7 @@
 ghost use Rattle.std.specs.Prelude.{◌≡◌};
 ghost use Rattle.page_ids.specs.Ids.{Id};
+ghost use Rattle.frame_records.specs.Bases.{IsBase};
+ghost use Rattle.cert_table.specs.Table.{AreRows};
 ghost use Rattle.checker.specs.Change.{lost_id, change_verdict, IsLeastLost, IsSafeChange};
 ghost use Rattle.checker.specs.Good.{is_covered};
 ghost use Rattle.checker.specs.Loops.{AreBelow, IsPlaceOf};
@@ -70,7 +72,9 @@ fn judge_change<C: Cover + Drop>(
     new_cert: &Certificate<C>,
     policy: &Policy,
 ) -> ChangeVerdict
-    ensures { result ≡ change_verdict policy.now old.now old_cert.now new.now new_cert.now }
+    ensures verdict { result ≡ change_verdict policy.now old.now old_cert.now new.now new_cert.now }
+    ensures bases { result ≡ ChangeVerdict.Cleared → IsBase old.now × IsBase new.now }
+    ensures rows { (id : Id) → result ≡ ChangeVerdict.NoLongerCovered id → AreRows old_cert.now.rows }
 {
     if let Verdict::Refused(cause) = check(old, policy, old_cert) {
         return ChangeVerdict::Old(cause);
@@ -107,9 +111,5 @@ pub fn check_change<C: Cover + Drop>(
     ensures lost { (id : Id) → result ≡ ChangeVerdict.NoLongerCovered id →
         IsLeastLost old_cert.now.rows new_cert.now.rows id }
 {
-    // What bases and rows promise of themselves by their types: nothing is computed.
-    let _old = old.frames();
-    let _new = new.frames();
-    let _rows = old_cert.cover().len();
     judge_change(old, old_cert, new, new_cert, policy)
 }

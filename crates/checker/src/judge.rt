@@ -1,7 +1,10 @@
-ghost use Rattle.std.specs.Prelude.{◌≡◌, ◌≤◌, ◌<◌, ◌+◌, ◌*◌, ◌↔◌, None, ℕ, List, length};
+ghost use Rattle.std.specs.Prelude.{◌≡◌, ◌≤◌, ◌↔◌, List, length};
 ghost use Rattle.std.specs.List.{sum_by};
+ghost use Rattle.frame_records.specs.Bases.{IsBase};
 ghost use Rattle.frame_records.specs.Seek.{entry_of};
-ghost use Rattle.checker.specs.Counts.{ways_of, IsFoundCount, IsRowCount, AreAllCounted, IsCount, counted_if, is_entry_sought, is_painted, are_ways_sought, ways_compared, row_probes, row_steps, judged, probes_of, steps_of};
+ghost use Rattle.cert_table.specs.declared.limits.TheConstants.{MOST_ROWS};
+ghost use Rattle.cert_table.specs.Table.{AreRows};
+ghost use Rattle.checker.specs.Counts.{IsCount, counted_if, is_entry_sought, is_painted, are_ways_sought, ways_compared, row_probes, row_steps, judged, probes_of, steps_of};
 ghost use Rattle.page_ids.specs.declared.key.Key.{Key};
 ghost use Rattle.session_machine.specs.Sessions.{opening};
 ghost use Rattle.session_machine.specs.Runs.{state_after};
@@ -61,11 +64,10 @@ fn judge_ways<C: Cover + Drop>(
     row: &Row,
     frame: &Frame,
 ) -> (Option<Cause>, u64)
+    requires few { length cert.now.rows ≤ MOST_ROWS }
+    requires valid { IsBase base.now }
     ensures cause { result.0 ≡ (on_ways base.now cert.now.rows row.now frame.now).first_cause }
-    ensures exact { result.1 ≡ ways_compared C.compared base.now cert.now.rows frame.now }
-    ensures most { result.1 ≤ 160 + 11 * C.most_among (length cert.now.rows) }
-    ensures small { result.1 ≤ 94489280490 }
-    ensures least { 0 < length cert.now.rows → ways_of frame.now ≤ result.1 }
+    ensures probes { result.1 ≡ ways_compared C.compared base.now cert.now.rows frame.now }
 {
     let ways = over_ways(base, cert, row.rank, frame);
     let cause = ways_cause(base, row.id, row.rank, ways.lost, ways.down);
@@ -79,12 +81,13 @@ fn judge_found<C: Cover + Drop>(
     row: &Row,
     frame: &Frame,
 ) -> (Option<Cause>, Count)
+    requires few { length cert.now.rows ≤ MOST_ROWS }
+    requires valid { IsBase base.now }
     ensures cause { result.0 ≡ (on_found cert.now.groups base.now cert.now row.now frame.now).first_cause }
     ensures probes { result.1.probes ≡ counted_if (are_ways_sought cert.now.groups cert.now row.now frame.now)
         (ways_compared C.compared base.now cert.now.rows frame.now) }
     ensures steps { result.1.steps ≡ counted_if (is_painted cert.now.groups cert.now row.now frame.now)
         (length frame.now.body) }
-    ensures count { IsFoundCount (C.most_among (length cert.now.rows)) cert.now.rows row.now frame.now result.0 result.1 }
 {
     if let Some(cause) = judge_frame(cert, row, frame) {
         return (
@@ -109,10 +112,10 @@ fn judge_row<C: Cover + Drop>(
     cert: &Certificate<C>,
     row: &Row,
 ) -> (Option<Cause>, Count)
+    requires few { length cert.now.rows ≤ MOST_ROWS }
     ensures cause { result.0 ≡ (on_row cert.now.groups base.now cert.now row.now).first_cause }
     ensures probes { result.1.probes ≡ row_probes C.compared cert.now.groups base.now cert.now row.now }
     ensures steps { result.1.steps ≡ row_steps cert.now.groups base.now cert.now row.now }
-    ensures count { IsRowCount base.now (C.most_among (length cert.now.rows)) cert.now.rows row.now result.0 result.1 }
 {
     let (frame, asked) = base.find_counted(row.id);
     let asked = u64::from(asked);
@@ -139,13 +142,13 @@ fn judge_row<C: Cover + Drop>(
 
 // The first condition that fails of the rows in order, and what they took.
 fn judge_rows<C: Cover + Drop>(base: &Base, cert: &Certificate<C>) -> (Option<Cause>, Count)
-    requires some { 0 < length cert.now.rows }
+    requires few { length cert.now.rows ≤ MOST_ROWS }
+    requires valid { IsBase base.now }
     ensures cause { result.0 ≡ (on_rows cert.now.groups base.now cert.now cert.now.rows).first_cause }
     ensures probes { result.1.probes ≡ sum_by (row_probes C.compared cert.now.groups base.now cert.now)
         (judged cert.now.groups base.now cert.now cert.now.rows) }
     ensures steps { result.1.steps ≡ sum_by (row_steps cert.now.groups base.now cert.now)
         (judged cert.now.groups base.now cert.now cert.now.rows) }
-    ensures count { AreAllCounted base.now (C.most_among (length cert.now.rows)) cert.now.rows result.0 result.1 }
 {
     let cover = cert.cover();
     let mut total = Count {
@@ -169,12 +172,10 @@ fn judge_head<C: Cover + Drop>(
     cert: &Certificate<C>,
 ) -> (Option<Cause>, u32)
     ensures cause { result.0 ≡ (on_head base.now policy.now cert.now).first_cause }
-    ensures exact { result.1 ≡ counted_if (is_entry_sought base.now policy.now cert.now)
+    ensures probes { result.1 ≡ counted_if (is_entry_sought base.now policy.now cert.now)
         (C.compared cert.now.rows (entry_of base.now)) }
-    ensures most { result.1 ≤ C.most_among (length cert.now.rows) }
-    ensures small { result.1 ≤ 4294967295 }
-    ensures some { result.0 ≡ None → 0 < length cert.now.rows }
-    ensures least { result.0 ≡ None → 1 ≤ result.1 }
+    ensures base { IsBase base.now }
+    ensures rows { AreRows cert.now.rows }
 {
     if cert.entry() != base.entry() {
         return (Some(Cause::EntryDiffers), 0);
@@ -203,7 +204,8 @@ fn first_cause<C: Cover + Drop>(
     ensures cause { verdict_of result.0 ≡ verdict base.now policy.now cert.now }
     ensures probes { result.1.probes ≡ probes_of C.compared base.now policy.now cert.now }
     ensures steps { result.1.steps ≡ steps_of base.now policy.now cert.now }
-    ensures count { IsCount base.now cert.now.rows (C.most_among (length cert.now.rows)) (verdict_of result.0) result.1 }
+    ensures base { IsBase base.now }
+    ensures rows { AreRows cert.now.rows }
 {
     let (cause, asked) = judge_head(base, policy, cert);
     let head = Count {
@@ -215,6 +217,15 @@ fn first_cause<C: Cover + Drop>(
     }
     let (cause, count) = judge_rows(base, cert);
     (cause, together(count, head))
+}
+
+fn verdict_by(cause: Option<Cause>) -> Verdict
+    ensures { result ≡ verdict_of cause }
+{
+    match cause {
+        None => Verdict::Cleared,
+        Some(cause) => Verdict::Refused(cause),
+    }
 }
 
 /// Checks a certificate against a base, for a caller of the policy's groups, and reports what that took. Takes no memory.
@@ -235,13 +246,13 @@ pub fn check_counted<C: Cover + Drop>(
 
     // Bounds of it.
     ensures count { IsCount base.now cert.now.rows (C.most_among (length cert.now.rows)) result.0 result.1 }
+
+    // What a base and a certificate promise of themselves by their types.
+    ensures base { IsBase base.now }
+    ensures rows { AreRows cert.now.rows }
 {
     let (cause, count) = first_cause(base, policy, cert);
-    let verdict = match cause {
-        None => Verdict::Cleared,
-        Some(cause) => Verdict::Refused(cause),
-    };
-    (verdict, count)
+    (verdict_by(cause), count)
 }
 
 /// Checks a certificate against a base, for a caller of the policy's groups. Takes no memory.
@@ -263,8 +274,10 @@ pub fn check<C: Cover + Drop>(base: &Base, policy: &Policy, cert: &Certificate<C
     // What is promised is within the policy.
     ensures within { result ≡ Verdict.Cleared →
         (cert.now.ceiling ≤ policy.now.ceiling) × (cert.now.keyings ≤ policy.now.keyings) }
+
+    // What a base and a certificate promise of themselves by their types.
+    ensures base { IsBase base.now }
+    ensures rows { AreRows cert.now.rows }
 {
-    // What `Base` promises of itself by its type: nothing is computed.
-    let _frames = base.frames();
     check_counted(base, policy, cert).0
 }

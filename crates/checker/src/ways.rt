@@ -3,6 +3,8 @@
 ghost use Rattle.std.specs.Prelude.{◌≡◌, ◌≤◌, ◌+◌, ◌||◌, Some, None, length, is_some, if◌then◌else◌};
 ghost use Rattle.page_ids.specs.Ways.{way_at};
 ghost use Rattle.frame_records.specs.Ways.{sought};
+ghost use Rattle.frame_records.specs.Bases.{IsBase};
+ghost use Rattle.cert_table.specs.declared.limits.TheConstants.{MOST_ROWS};
 ghost use Rattle.checker.specs.Verdict.{way_on, way_down};
 ghost use Rattle.checker.specs.Loops.{IsAbsent, IsWayCheck, AreWayChecks};
 
@@ -56,8 +58,7 @@ fn over_way<C: Cover + Drop>(
     frame: &Frame,
     way: &Way,
 ) -> WayCheck
-    ensures { IsWayCheck C.compared base.now cert.now.rows (C.most_among (length cert.now.rows))
-        rank frame.now way.now result }
+    ensures { IsWayCheck C.compared base.now cert.now.rows rank frame.now way.now result }
 {
     let Some(to) = frame.sought(*way) else {
         return WayCheck {
@@ -101,8 +102,9 @@ pub fn over_ways<C: Cover + Drop>(
     rank: u16,
     frame: &Frame,
 ) -> WayChecks
-    ensures { AreWayChecks C.compared base.now cert.now.rows (C.most_among (length cert.now.rows))
-        rank frame.now 11 result }
+    requires few { length cert.now.rows ≤ MOST_ROWS }
+    requires valid { IsBase base.now }
+    ensures { AreWayChecks C.compared base.now cert.now.rows rank frame.now 11 result }
 {
     let mut seen = WayChecks {
         lost: None,

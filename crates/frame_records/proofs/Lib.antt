@@ -7,3 +7,4 @@ pub mod Searchable
 pub mod GroupTexts
 pub mod Finds
 pub mod SortedKeys
+pub mod Comparisons

@@ -125,7 +125,8 @@ impl Base {
 
     /// The entry page.
     pub fn entry(&self) -> PageNo
-        ensures { result ≡ self.now.entry }
+        ensures value { result ≡ self.now.entry }
+        ensures valid { IsBase self.now }
     {
         self.entry
     }

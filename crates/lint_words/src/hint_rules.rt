@@ -246,7 +246,7 @@ fn value_hint(rest: &[u8], message: &str) -> Option<Hint>
 }
 
 // The first of the rules that applies.
-#[tactic(auto, unfolding(crate::specs::Rules::hint_at))]
+#[tactic(auto, unfolding(crate::specs::HintRules::hint_at))]
 pub fn hint_at(text: &[u8], at: usize, message: &str) -> Option<Hint>
     requires { at ≤ length text.now }
     ensures { result ≡ spec.hint_at text.now at message.now }

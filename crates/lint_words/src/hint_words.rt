@@ -93,7 +93,7 @@ fn push_words(out: &mut Vec<u8>, text: &[u8], at: usize, hint: Hint) -> Result<(
 /// `at` is the byte offset at which the message's span begins; one past the end is the end. Any bytes, offset and message have
 /// an answer. The call goes over the text a few times at most, and takes memory only for what it appends. After an error `out`
 /// may hold a part of the hint.
-#[tactic(auto, using(std::proofs::Common::append_assoc), unfolding(crate::specs::Rules::hint_text))]
+#[tactic(auto, unfolding(crate::specs::HintRules::hint_text))]
 pub fn push_hint(out: &mut Vec<u8>, text: &[u8], at: usize, message: &str) -> Result<(), AllocError>
     ensures { OnOk result (out.new.items ≡ out.old.items ++ spec.hint_text text.now at message.now) }
 {

@@ -19,7 +19,7 @@ fn part_before(text: &[u8], at: usize) -> &[u8]
 }
 
 // The last part of the key of the expression at a place.
-#[tactic(auto, unfolding(crate::specs::Rules::name_at))]
+#[tactic(auto, unfolding(crate::specs::HintRules::name_at))]
 pub fn name_at(text: &[u8], at: usize) -> &[u8]
     requires { at ≤ length text.now }
     ensures { result.now ≡ spec.name_at text.now at }

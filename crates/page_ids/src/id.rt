@@ -55,7 +55,8 @@ impl FrameId {
 
     /// Its text, as `1231a`.
     pub fn text(self) -> ArrayString<10>
-        ensures { result.bytes ≡ frame_text self }
+        ensures text { result.bytes ≡ frame_text self }
+        ensures in_range { IsFrameId self }
     {
         let mut text = ArrayString::new();
         text.push_str(self.page.text().as_str());
@@ -90,8 +91,6 @@ pub fn push_id(text: &mut Vec<u8>, id: FrameId) -> Result<(), AllocError>
     ensures text { MatchResult result (λ _. text.new.items ≡ text.old.items ++ frame_text id) (λ _. text.new.items ≡ text.old.items) }
     ensures in_range { IsFrameId id }
 {
-    let _letter = id.letter.get();
-    let _page = id.page.get();
     text.extend_from_slice(id.text().as_bytes())
 }
 

@@ -66,7 +66,8 @@ impl PageNo {
 
     /// Its text, in decimal.
     pub fn text(self) -> ArrayString<9>
-        ensures { result.bytes ≡ page_text self }
+        ensures text { result.bytes ≡ page_text self }
+        ensures in_range { IsPageNumber self }
     {
         let mut buffer = Buffer::new();
         let mut text = ArrayString::new();

@@ -14,7 +14,7 @@ returns-clause-safe g c cleared =
     let base = c.args.base.now in
     let cert = c.args.cert.now in
     let good = cleared_good base c.args.policy.now cert (sym c.check_counted.ensures.verdict ∙ cleared) in
-    subst (λ (groups : List ℕ). Safe groups base cert.ceiling cert.keyings) (sym good.groups) (safe base c.args.policy.now cert c.frames-frames.ensures.valid.apart good)
+    subst (λ (groups : List ℕ). Safe groups base cert.ceiling cert.keyings) (sym good.groups) (safe base c.args.policy.now cert c.check_counted.ensures.base.apart good)
 
 pub returns-clause-covered : goal.returns-clause-covered
 returns-clause-covered g c cleared keys =
@@ -22,4 +22,4 @@ returns-clause-covered g c cleared keys =
     let cert = c.args.cert.now in
     let good = cleared_good base c.args.policy.now cert (sym c.check_counted.ensures.verdict ∙ cleared) in
     subst (λ (groups : List ℕ). HasRows cert.rows (state_after groups base (opening base) keys)) (sym good.groups)
-    (keeps_rows base c.args.policy.now cert c.frames-frames.ensures.valid.apart good keys)
+    (keeps_rows base c.args.policy.now cert c.check_counted.ensures.base.apart good keys)

@@ -1,14 +1,19 @@
-use Rattle.std.proofs.Common.{◌≡◌, Some, sym, ap, ◌∙◌, arith}
+use Rattle.std.proofs.Common.{◌≡◌, ◌≤◌, Some, length, sym, ap, ◌∙◌, arith}
 use Rattle.std.specs.Option.{option_copied}
 use Rattle.frame_records.specs.Bases.{frame_at}
-use Rattle.checker.specs.Counts.{found_probes, found_steps}
-use Rattle.checker.proofs.Counted.{found_count}
+use Rattle.page_ids.specs.Ids.{Id}
+use Rattle.checker.specs.Counts.{are_ways_sought, ways_compared, found_probes, found_steps}
+use Rattle.checker.proofs.Counted.{if_done, ways_few}
 use Rattle.checker.proofs.judge.judge_row.Goals as goal
 
-pub returns-in-Some-clause-count : goal.returns-in-Some-clause-count
-returns-in-Some-clause-count g c =
-    let found : frame_at c.args.base.now c.args.row.now.id ≡ Some c.in-Some.frame.now = sym c.find_counted-asked.ensures.value ∙ ap option_copied c.in-Some.is in
-    found_count c.args.base.now _ c.args.cert.now.rows c.args.row.now c.in-Some.frame.now c.judge_found-cause.result.0 c.judge_found-cause.result.1 c.from-asked.result c.find_counted-asked.ensures.valid found (omega (arith, c.from-asked.ensures, c.find_counted-asked.ensures.most)) (λ some. omega (arith, c.from-asked.ensures, c.find_counted-asked.ensures.least some)) c.judge_found-cause.ensures.count
+pub overflow_add-result : goal.overflow_add-result
+overflow_add-result g c =
+    let base = c.args.base.now in
+    let cert = c.args.cert.now in
+    let f = c.in-Some.frame.now in
+    let compared = g.C.Cover.compared in
+    let few : (id : Id) → compared cert.rows id ≤ 65535 = λ id. omega (arith, g.met.C.Cover.few cert.rows id c.requires.few, g.met.C.Cover.most_is_small (length cert.rows) c.requires.few) in
+    omega (arith, c.from-asked.ensures, c.find_counted-asked.ensures.most, c.judge_found-cause.ensures.probes, if_done (are_ways_sought cert.groups cert c.args.row.now f) (ways_compared compared base cert.rows f), ways_few compared base cert.rows 65535 c.find_counted-asked.ensures.valid few f)
 
 pub returns-in-Some-clause-probes : goal.returns-in-Some-clause-probes
 returns-in-Some-clause-probes g c =
