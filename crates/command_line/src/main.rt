@@ -19,6 +19,7 @@ use pageaudit::{
     Counts, MapStatus, Status, View, counted_text, run_audit, run_audit_into, run_change,
     run_check, run_lint, run_list, run_map, run_walk, status_of, status_of_lint, status_of_map,
 };
+use std::alloc::{AllocError, Global};
 use std::process::ExitCode;
 use std::rt::{Env, Files, Stderr};
 use std::{fs, io};
@@ -69,13 +70,27 @@ fn print_whole<R: Print + Eprint + AllocGlobal>(rt: &R, text: &str) -> u8 {
     }
 }
 
+// Paragraphs with a blank line between them.
+fn joined(alloc: Global, paragraphs: &[&str]) -> Result<String, AllocError> {
+    let mut text = paragraphs.join(alloc, "\n\n")?;
+    text.push('\n')?;
+    Ok(text)
+}
+
+fn print_paragraphs<R: Print + Eprint + AllocGlobal>(rt: &R, paragraphs: &[&str]) -> u8 {
+    match joined(rt.alloc(), paragraphs) {
+        Ok(text) => print_whole(rt, text.as_str()),
+        Err(_) => refused(rt, &RunFault::Memory),
+    }
+}
+
 // Prints what a word means, or all words.
 fn explain<R: Print + Eprint + AllocGlobal>(rt: &R, word: Option<&str>) -> u8 {
     let Some(word) = word else {
         return print_whole(rt, overview());
     };
-    if let Some(text) = explanation(word) {
-        return print_whole(rt, text);
+    if let Some(paragraphs) = explanation(word) {
+        return print_paragraphs(rt, paragraphs);
     }
     match nearest(rt.alloc(), word) {
         Ok(Some(near)) => {

@@ -1,13 +1,13 @@
 //! What each printed word means: the texts of docs/CODES.md.
 //!
 //! ```
-//! explanation("K7") // Some("K7 Price\n\nThe row's frame costs more ..")
+//! explanation("K7") // Some(["K7 Price", "The row's frame costs more ..", ..])
 //! explanation("unknownkey") // the text of X3, too
 //! explanation("s80") // that of all cursors
 //! nearest(alloc, "unknownky")? // Some("UnknownKey")
 //! ```
 //!
-//! - [`explanation`]: the text of a word, for the words of the list (`listed`) in any case of letters, and for cursors.
+//! - [`explanation`]: the paragraphs of a word, for the words of the list (`listed`) in any case of letters, and for cursors.
 //! - [`overview`]: all words, a line for each text.
 //! - [`nearest`]: the word of the list that was probably meant.
 //!

@@ -1,6 +1,6 @@
-//! The words and their texts: written by tests/explain-words from docs/CODES.md.
+//! The words and the paragraphs of their texts: written by tests/explain-words from docs/CODES.md.
 
-/// Each word; its place is that of its text.
+/// Each word; its place is that of its paragraphs.
 pub static WORDS: [&str; 128] = [
     "PBC1",
     "entry",
@@ -135,146 +135,101 @@ pub static WORDS: [&str; 128] = [
 /// The place of a word with the text on cursors.
 pub const CURSOR: usize = 8;
 
-/// The text of the word at a place.
-pub fn text_at(place: usize) -> &'static str {
-    match place {
-        ..=5 => r#"PBC1
+const P0: &str = r#"PBC1"#;
 
-The first line of a certificate for callers in no closed user group. 'entry' is
+const P1: &str = r#"The first line of a certificate for callers in no closed user group. 'entry' is
 the entry page, 'ceiling' the dearest frame's price (0 to 9,999 pence),
 'keyings' the highest rank, 'rows' the number of rows (both 0 to 65,535). A row
 is a frame that callers can reach, its rank (the fewest route and next keys
-back to the entry frame) and the cursor after it.
+back to the entry frame) and the cursor after it."#;
 
-The file base.toml:
+const P2: &str = r#"The file base.toml:"#;
 
-    entry = 1
+const P3: &str = r#"    entry = 1
 
     [[frame]]
     id = "1a"
-    rows = ["HELLO"]
+    rows = ["HELLO"]"#;
 
-The commands:
+const P4: &str = r#"The commands:"#;
 
-    pageaudit audit base.toml --ceiling 0 --keyings 0
+const P5: &str = r#"    pageaudit audit base.toml --ceiling 0 --keyings 0"#;
 
-They print:
+const P6: &str = r#"They print:"#;
 
-    PBC1
+const P7: &str = r#"    PBC1
     entry 1
     ceiling 0
     keyings 0
     rows 1
     1a 0 s80
-    end
-"#,
-        ..=7 => r#"PBC2
+    end"#;
 
-Like PBC1, for callers in exactly the groups of its line 'groups': 1 to 16
-numbers, 1 to 65,535, ascending.
+const P8: &str = r#"PBC2"#;
 
-The file base.toml:
+const P9: &str = r#"Like PBC1, for callers in exactly the groups of its line 'groups': 1 to 16
+numbers, 1 to 65,535, ascending."#;
 
-    entry = 1
+const P10: &str = r#"    pageaudit audit base.toml --ceiling 0 --keyings 0 --groups 7"#;
 
-    [[frame]]
-    id = "1a"
-    rows = ["HELLO"]
-
-The commands:
-
-    pageaudit audit base.toml --ceiling 0 --keyings 0 --groups 7
-
-They print:
-
-    PBC2
+const P11: &str = r#"    PBC2
     entry 1
     ceiling 0
     keyings 0
     groups 7
     rows 1
     1a 0 s80
-    end
-"#,
-        ..=12 => r#"any
+    end"#;
 
-Where the terminal writes next: 'any', anywhere; 'c' and a number, in that
+const P12: &str = r#"any"#;
+
+const P13: &str = r#"Where the terminal writes next: 'any', anywhere; 'c' and a number, in that
 column, 0 to 39; 's' and a number, at that position, 0 to 959 (40 times the
-row, plus the column). '+': an escape (byte 1B) is pending; '?': one may be.
+row, plus the column). '+': an escape (byte 1B) is pending; '?': one may be."#;
 
-The file base.toml:
-
-    entry = 1
+const P14: &str = r#"    entry = 1
 
     [[frame]]
     id = "1a"
     lead = "keep"
-    body = ""
+    body = """#;
 
-The commands:
+const P15: &str = r#"    pageaudit audit base.toml --ceiling 0 --keyings 0 | grep 1a"#;
 
-    pageaudit audit base.toml --ceiling 0 --keyings 0 | grep 1a
+const P16: &str = r#"    1a 0 any?"#;
 
-They print:
+const P17: &str = r#"FAULTS"#;
 
-    1a 0 any?
-"#,
-        ..=14 => r#"FAULTS
+const P18: &str = r#"How many faults follow, a line for each. The keys after SCRIPT lead to the
+fault from the entry page, in a walk too; '-' is no key."#;
 
-How many faults follow, a line for each. The keys after SCRIPT lead to the
-fault from the entry page, in a walk too; '-' is no key.
-
-The file base.toml:
-
-    entry = 1
+const P19: &str = r#"    entry = 1
 
     [[frame]]
     id = "1a"
     price = 5
-    rows = []
+    rows = []"#;
 
-The commands:
+const P20: &str = r#"    pageaudit audit base.toml --ceiling 4 --keyings 0"#;
 
-    pageaudit audit base.toml --ceiling 4 --keyings 0
+const P21: &str = r#"They print, with status 1:"#;
 
-They print, with status 1:
+const P22: &str = r#"    FAULTS 1
+    PRICE 1a 5 SCRIPT -"#;
 
-    FAULTS 1
-    PRICE 1a 5 SCRIPT -
+const P23: &str = r#"Fix: each of them, then audit again, since more frames may be reachable."#;
 
-Fix: each of them, then audit again, since more frames may be reachable.
-"#,
-        ..=15 => r#"PRICE
+const P24: &str = r#"PRICE"#;
 
-The frame's price, the number after its id, is above the ceiling.
+const P25: &str = r#"The frame's price, the number after its id, is above the ceiling."#;
 
-The file base.toml:
+const P26: &str = r#"Fix: lower the frame's 'price', or raise --ceiling."#;
 
-    entry = 1
+const P27: &str = r#"K7 Price"#;
 
-    [[frame]]
-    id = "1a"
-    price = 5
-    rows = []
+const P28: &str = r#"The row's frame costs more than the certificate's ceiling."#;
 
-The commands:
-
-    pageaudit audit base.toml --ceiling 4 --keyings 0
-
-They print, with status 1:
-
-    FAULTS 1
-    PRICE 1a 5 SCRIPT -
-
-Fix: lower the frame's 'price', or raise --ceiling.
-
-K7 Price
-
-The row's frame costs more than the certificate's ceiling.
-
-The file base.toml:
-
-    entry = 1
+const P29: &str = r#"    entry = 1
 
     [[frame]]
     id = "1a"
@@ -285,174 +240,92 @@ The file base.toml:
     id = "1b"
     price = 5
     rows = []
-    routes = { 0 = 1 }
+    routes = { 0 = 1 }"#;
 
-The file base.cert:
+const P30: &str = r#"The file base.cert:"#;
 
-    PBC1
+const P31: &str = r#"    PBC1
     entry 1
     ceiling 5
     keyings 1
     rows 2
     1a 0 s40
     1b 1 s40
-    end
+    end"#;
 
-The file try:
+const P32: &str = r#"The file try:"#;
 
-    sed "$1" base.cert >other.cert
-    pageaudit check base.toml other.cert --ceiling 5 --keyings 1
+const P33: &str = r#"    sed "$1" base.cert >other.cert
+    pageaudit check base.toml other.cert --ceiling 5 --keyings 1"#;
 
-The commands:
+const P34: &str = r#"    sh try 's/^ceiling 5/ceiling 4/'"#;
 
-    sh try 's/^ceiling 5/ceiling 4/'
+const P35: &str = r#"    REFUSED K7 Price 1b"#;
 
-They print, with status 1:
+const P36: &str = r#"Fix: lower the frame's 'price', or audit again."#;
 
-    REFUSED K7 Price 1b
+const P37: &str = r#"TOUCHES"#;
 
-Fix: lower the frame's 'price', or audit again.
-"#,
-        ..=16 => r#"TOUCHES
-
-The body can write into a service row, 0 or 23, or double height, 8D (escape
+const P38: &str = r#"The body can write into a service row, 0 or 23, or double height, 8D (escape
 and M), into row 22, which row 23 shows too. BYTE is the first byte that can,
 START the smallest cursor position before the frame from which it does. Here 1E
-moves to position 0, where A is written.
+moves to position 0, where A is written."#;
 
-The file base.toml:
-
-    entry = 1
+const P39: &str = r#"    entry = 1
 
     [[frame]]
     id = "1a"
-    body = "\u001EA"
+    body = "\u001EA""#;
 
-The commands:
+const P40: &str = r#"    FAULTS 1
+    TOUCHES 1a BYTE 1 START 0 SCRIPT -"#;
 
-    pageaudit audit base.toml --ceiling 0 --keyings 0
+const P41: &str = r#"Fix: begin the body with '\u001E\u000A', which moves to row 1, and write at
+most 22 rows, the last without 8D. Or give the frame as 'rows'."#;
 
-They print, with status 1:
+const P42: &str = r#"K9 Touches"#;
 
-    FAULTS 1
-    TOUCHES 1a BYTE 1 START 0 SCRIPT -
+const P43: &str = r#"The frame's body can write into a service row, or 8D into row 22. The number is
+the first byte that can."#;
 
-Fix: begin the body with '\u001E\u000A', which moves to row 1, and write at
-most 22 rows, the last without 8D. Or give the frame as 'rows'.
+const P44: &str = r#"    sed -i '$d; s/^price.*/body = "\\u001EA"/; /1b/,$s/^rows.*//' base.toml
+    sh try ''"#;
 
-K9 Touches
+const P45: &str = r#"    REFUSED K9 Touches 1b 1"#;
 
-The frame's body can write into a service row, or 8D into row 22. The number is
-the first byte that can.
+const P46: &str = r#"Fix: the body, as for TOUCHES, and audit again."#;
 
-The file base.toml:
+const P47: &str = r#"MISSING"#;
 
-    entry = 1
-
-    [[frame]]
-    id = "1a"
-    next = true
-    rows = []
-
-    [[frame]]
-    id = "1b"
-    price = 5
-    rows = []
-    routes = { 0 = 1 }
-
-The file base.cert:
-
-    PBC1
-    entry 1
-    ceiling 5
-    keyings 1
-    rows 2
-    1a 0 s40
-    1b 1 s40
-    end
-
-The file try:
-
-    sed "$1" base.cert >other.cert
-    pageaudit check base.toml other.cert --ceiling 5 --keyings 1
-
-The commands:
-
-    sed -i '$d; s/^price.*/body = "\\u001EA"/; /1b/,$s/^rows.*//' base.toml
-    sh try ''
-
-They print, with status 1:
-
-    REFUSED K9 Touches 1b 1
-
-Fix: the body, as for TOUCHES, and audit again.
-"#,
-        ..=18 => r#"TOUCHES
-
-The body can write into a service row, 0 or 23, or double height, 8D (escape
-and M), into row 22, which row 23 shows too. BYTE is the first byte that can,
-START the smallest cursor position before the frame from which it does. Here 1E
-moves to position 0, where A is written.
-
-The file base.toml:
-
-    entry = 1
-
-    [[frame]]
-    id = "1a"
-    body = "\u001EA"
-
-The commands:
-
-    pageaudit audit base.toml --ceiling 0 --keyings 0
-
-They print, with status 1:
-
-    FAULTS 1
-    TOUCHES 1a BYTE 1 START 0 SCRIPT -
-
-Fix: begin the body with '\u001E\u000A', which moves to row 1, and write at
-most 22 rows, the last without 8D. Or give the frame as 'rows'.
-"#,
-        ..=21 => r#"MISSING
-
-A key leads to a frame that the base doesn't have. An audit names that frame,
+const P48: &str = r#"A key leads to a frame that the base doesn't have. An audit names that frame,
 the frame AT which the key is pressed, and the KEY, which ends the script. In a
-walk the caller stays.
+walk the caller stays."#;
 
-The file base.toml:
-
-    entry = 1
+const P49: &str = r#"    entry = 1
 
     [[frame]]
     id = "1a"
     rows = []
-    routes = { 2 = 5 }
+    routes = { 2 = 5 }"#;
 
-The commands:
+const P50: &str = r#"    pageaudit walk base.toml 2
+    pageaudit audit base.toml --ceiling 0 --keyings 0"#;
 
-    pageaudit walk base.toml 2
-    pageaudit audit base.toml --ceiling 0 --keyings 0
-
-They print, with status 1:
-
-    SHOWN 1a 0
+const P51: &str = r#"    SHOWN 1a 0
     MISSING 5a
     FAULTS 1
-    MISSING 5a AT 1a KEY 2 SCRIPT 2
+    MISSING 5a AT 1a KEY 2 SCRIPT 2"#;
 
-Fix: add the frame, correct or remove the route (for '#', 'next = true'), or
-list another provider's page in 'outside'.
-"#,
-        ..=22 => r#"CLOSED
+const P52: &str = r#"Fix: add the frame, correct or remove the route (for '#', 'next = true'), or
+list another provider's page in 'outside'."#;
 
-A key leads to a frame of a closed user group that the caller isn't in;
+const P53: &str = r#"CLOSED"#;
+
+const P54: &str = r#"A key leads to a frame of a closed user group that the caller isn't in;
 --groups names the caller's groups. The line is like that of MISSING. In a walk
-the caller stays.
+the caller stays."#;
 
-The file base.toml:
-
-    entry = 1
+const P55: &str = r#"    entry = 1
 
     [[frame]]
     id = "1a"
@@ -462,31 +335,25 @@ The file base.toml:
     [[frame]]
     id = "1b"
     group = 7
-    rows = []
+    rows = []"#;
 
-The commands:
+const P56: &str = r#"    pageaudit walk base.toml '#'
+    pageaudit audit base.toml --ceiling 0 --keyings 0"#;
 
-    pageaudit walk base.toml '#'
-    pageaudit audit base.toml --ceiling 0 --keyings 0
-
-They print, with status 1:
-
-    SHOWN 1a 0
+const P57: &str = r#"    SHOWN 1a 0
     CLOSED 1b
     FAULTS 1
-    CLOSED 1b AT 1a KEY # SCRIPT #
+    CLOSED 1b AT 1a KEY # SCRIPT #"#;
 
-Fix: remove the frame's 'group' or what leads to it, or name the group in
---groups.
-"#,
-        ..=23 => r#"NORETURN
+const P58: &str = r#"Fix: remove the frame's 'group' or what leads to it, or name the group in
+--groups."#;
 
-No route and next keys lead from the frame back to the entry frame, or more
-than --keyings are needed. '*#' doesn't count.
+const P59: &str = r#"NORETURN"#;
 
-The file base.toml:
+const P60: &str = r#"No route and next keys lead from the frame back to the entry frame, or more
+than --keyings are needed. '*#' doesn't count."#;
 
-    entry = 1
+const P61: &str = r#"    entry = 1
 
     [[frame]]
     id = "1a"
@@ -495,1120 +362,329 @@ The file base.toml:
 
     [[frame]]
     id = "2a"
-    rows = []
+    rows = []"#;
 
-The commands:
+const P62: &str = r#"    pageaudit audit base.toml --ceiling 0 --keyings 9"#;
 
-    pageaudit audit base.toml --ceiling 0 --keyings 9
+const P63: &str = r#"    FAULTS 1
+    NORETURN 2a SCRIPT 2"#;
 
-They print, with status 1:
+const P64: &str = r#"Fix: add a route to the entry page or to a frame that has one. If the way is
+only too long, raise --keyings."#;
 
-    FAULTS 1
-    NORETURN 2a SCRIPT 2
+const P65: &str = r#"ENTRYMISSING"#;
 
-Fix: add a route to the entry page or to a frame that has one. If the way is
-only too long, raise --keyings.
-"#,
-        ..=24 => r#"ENTRYMISSING
+const P66: &str = r#"The entry page has no frame 'a'. It is an audit's only fault, and a walk's only
+line."#;
 
-The entry page has no frame 'a'. It is an audit's only fault, and a walk's only
-line.
+const P67: &str = r#"    entry = 1"#;
 
-The file base.toml:
+const P68: &str = r#"    FAULTS 1
+    ENTRYMISSING 1a"#;
 
-    entry = 1
+const P69: &str = r#"Fix: correct 'entry', or add the frame."#;
 
-The commands:
+const P70: &str = r#"ENTRYCLOSED"#;
 
-    pageaudit audit base.toml --ceiling 0 --keyings 0
+const P71: &str = r#"The entry page's frame 'a' is in a closed user group that the caller isn't in.
+It is an audit's only fault, and a walk's only line."#;
 
-They print, with status 1:
-
-    FAULTS 1
-    ENTRYMISSING 1a
-
-Fix: correct 'entry', or add the frame.
-"#,
-        ..=25 => r#"ENTRYCLOSED
-
-The entry page's frame 'a' is in a closed user group that the caller isn't in.
-It is an audit's only fault, and a walk's only line.
-
-The file base.toml:
-
-    entry = 1
+const P72: &str = r#"    entry = 1
 
     [[frame]]
     id = "1a"
     group = 7
-    rows = []
+    rows = []"#;
 
-The commands:
+const P73: &str = r#"    FAULTS 1
+    ENTRYCLOSED 1a"#;
 
-    pageaudit audit base.toml --ceiling 0 --keyings 0
+const P74: &str = r#"Fix: remove the frame's 'group', or name it in --groups."#;
 
-They print, with status 1:
+const P75: &str = r#"SHOWN"#;
 
-    FAULTS 1
-    ENTRYCLOSED 1a
+const P76: &str = r#"The frame is sent, and its price charged, in pence."#;
 
-Fix: remove the frame's 'group', or name it in --groups.
-"#,
-        ..=26 => r#"SHOWN
-
-The frame is sent, and its price charged, in pence.
-
-The file base.toml:
-
-    entry = 1
+const P77: &str = r#"    entry = 1
     outside = [9]
 
     [[frame]]
     id = "1a"
     price = 5
     rows = []
-    routes = { 9 = 9 }
+    routes = { 9 = 9 }"#;
 
-The commands:
+const P78: &str = r#"    pageaudit walk base.toml '*09'"#;
 
-    pageaudit walk base.toml '*09'
+const P79: &str = r#"    SHOWN 1a 5
+    SHOWN 1a 5"#;
 
-They print:
+const P80: &str = r#"AGAIN"#;
 
-    SHOWN 1a 5
-    SHOWN 1a 5
-"#,
-        ..=27 => r#"AGAIN
+const P81: &str = r#"The frame is sent again by '*00', without charge."#;
 
-The frame is sent again by '*00', without charge.
+const P82: &str = r#"    pageaudit walk base.toml '*00'"#;
 
-The file base.toml:
+const P83: &str = r#"    SHOWN 1a 5
+    AGAIN 1a"#;
 
-    entry = 1
-    outside = [9]
+const P84: &str = r#"NOTOFFERED"#;
 
-    [[frame]]
-    id = "1a"
-    price = 5
-    rows = []
-    routes = { 9 = 9 }
+const P85: &str = r#"The key does nothing: there is no such route, no next frame, no frame for '*#'
+to go back to, or the caller left."#;
 
-The commands:
+const P86: &str = r#"    pageaudit walk base.toml '5'"#;
 
-    pageaudit walk base.toml '*00'
+const P87: &str = r#"    SHOWN 1a 5
+    NOTOFFERED"#;
 
-They print:
+const P88: &str = r#"Fix: add the route or 'next = true' if the key should lead somewhere."#;
 
-    SHOWN 1a 5
-    AGAIN 1a
-"#,
-        ..=28 => r#"NOTOFFERED
+const P89: &str = r#"GONE"#;
 
-The key does nothing: there is no such route, no next frame, no frame for '*#'
-to go back to, or the caller left.
+const P90: &str = r#"The caller left for an outside page. Later keys are NOTOFFERED."#;
 
-The file base.toml:
+const P91: &str = r#"    pageaudit walk base.toml '90'"#;
 
-    entry = 1
-    outside = [9]
-
-    [[frame]]
-    id = "1a"
-    price = 5
-    rows = []
-    routes = { 9 = 9 }
-
-The commands:
-
-    pageaudit walk base.toml '5'
-
-They print:
-
-    SHOWN 1a 5
-    NOTOFFERED
-
-Fix: add the route or 'next = true' if the key should lead somewhere.
-"#,
-        ..=29 => r#"GONE
-
-The caller left for an outside page. Later keys are NOTOFFERED.
-
-The file base.toml:
-
-    entry = 1
-    outside = [9]
-
-    [[frame]]
-    id = "1a"
-    price = 5
-    rows = []
-    routes = { 9 = 9 }
-
-The commands:
-
-    pageaudit walk base.toml '90'
-
-They print:
-
-    SHOWN 1a 5
+const P92: &str = r#"    SHOWN 1a 5
     GONE 9
-    NOTOFFERED
-"#,
-        ..=30 => r#"CLEARED
+    NOTOFFERED"#;
 
-From 'check': the base is safe within the ceiling and keyings, for callers in
+const P93: &str = r#"CLEARED"#;
+
+const P94: &str = r#"From 'check': the base is safe within the ceiling and keyings, for callers in
 exactly the groups of --groups, or in none. From 'change': the new edition may
-replace the old one while such callers are inside.
+replace the old one while such callers are inside."#;
 
-The file base.toml:
+const P95: &str = r#"    pageaudit check base.toml base.cert --ceiling 5 --keyings 1
+    pageaudit change base.toml base.cert base.toml base.cert -c 5 -k 1"#;
 
-    entry = 1
+const P96: &str = r#"    CLEARED
+    CLEARED"#;
 
-    [[frame]]
-    id = "1a"
-    next = true
-    rows = []
+const P97: &str = r#"REFUSED"#;
 
-    [[frame]]
-    id = "1b"
-    price = 5
-    rows = []
-    routes = { 0 = 1 }
+const P98: &str = r#"The first condition that fails: its code, its name, and mostly the frame. A
+check tries K1, K2, K3, K15, K4, then K5 to K14 row by row."#;
 
-The file base.cert:
+const P99: &str = r#"    pageaudit check base.toml base.cert --ceiling 0 --keyings 0"#;
 
-    PBC1
-    entry 1
-    ceiling 5
-    keyings 1
-    rows 2
-    1a 0 s40
-    1b 1 s40
-    end
+const P100: &str = r#"    REFUSED K2 CeilingAbove"#;
 
-The commands:
+const P101: &str = r#"Fix: that of the code."#;
 
-    pageaudit check base.toml base.cert --ceiling 5 --keyings 1
-    pageaudit change base.toml base.cert base.toml base.cert -c 5 -k 1
+const P102: &str = r#"K1 EntryDiffers"#;
 
-They print:
+const P103: &str = r#"The certificate's entry page isn't the base's."#;
 
-    CLEARED
-    CLEARED
-"#,
-        ..=31 => r#"REFUSED
+const P104: &str = r#"    sh try 's/^entry 1/entry 2/'"#;
 
-The first condition that fails: its code, its name, and mostly the frame. A
-check tries K1, K2, K3, K15, K4, then K5 to K14 row by row.
+const P105: &str = r#"    REFUSED K1 EntryDiffers"#;
 
-The file base.toml:
+const P106: &str = r#"Fix: give the base its own certificate."#;
 
-    entry = 1
+const P107: &str = r#"K2 CeilingAbove"#;
 
-    [[frame]]
-    id = "1a"
-    next = true
-    rows = []
+const P108: &str = r#"The certificate's ceiling is above --ceiling."#;
 
-    [[frame]]
-    id = "1b"
-    price = 5
-    rows = []
-    routes = { 0 = 1 }
+const P109: &str = r#"    pageaudit check base.toml base.cert --ceiling 4 --keyings 1"#;
 
-The file base.cert:
+const P110: &str = r#"Fix: lower prices and audit again, or raise --ceiling."#;
 
-    PBC1
-    entry 1
-    ceiling 5
-    keyings 1
-    rows 2
-    1a 0 s40
-    1b 1 s40
-    end
+const P111: &str = r#"K3 KeyingsAbove"#;
 
-The commands:
+const P112: &str = r#"The certificate's keyings are above --keyings."#;
 
-    pageaudit check base.toml base.cert --ceiling 0 --keyings 0
+const P113: &str = r#"    pageaudit check base.toml base.cert --ceiling 5 --keyings 0"#;
 
-They print, with status 1:
+const P114: &str = r#"    REFUSED K3 KeyingsAbove"#;
 
-    REFUSED K2 CeilingAbove
+const P115: &str = r#"Fix: add shorter ways back and audit again, or raise --keyings."#;
 
-Fix: that of the code.
-"#,
-        ..=33 => r#"K1 EntryDiffers
+const P116: &str = r#"K15 GroupsDiffer"#;
 
-The certificate's entry page isn't the base's.
+const P117: &str =
+    r#"The certificate is for callers in other groups than --groups names; without it,
+in any group."#;
 
-The file base.toml:
+const P118: &str = r#"    pageaudit check base.toml base.cert --ceiling 5 --keyings 1 --groups 7"#;
 
-    entry = 1
+const P119: &str = r#"    REFUSED K15 GroupsDiffer"#;
 
-    [[frame]]
-    id = "1a"
-    next = true
-    rows = []
+const P120: &str = r#"Fix: give the groups of the certificate's line 'groups', or audit with the
+right ones."#;
 
-    [[frame]]
-    id = "1b"
-    price = 5
-    rows = []
-    routes = { 0 = 1 }
+const P121: &str = r#"K4 EntryNotCovered"#;
 
-The file base.cert:
+const P122: &str = r#"The entry page's frame 'a' has no row."#;
 
-    PBC1
-    entry 1
-    ceiling 5
-    keyings 1
-    rows 2
-    1a 0 s40
-    1b 1 s40
-    end
+const P123: &str = r#"    sh try 's/^rows 2/rows 1/; /^1a/d'"#;
 
-The file try:
+const P124: &str = r#"    REFUSED K4 EntryNotCovered"#;
 
-    sed "$1" base.cert >other.cert
-    pageaudit check base.toml other.cert --ceiling 5 --keyings 1
+const P125: &str = r#"Fix: audit again."#;
 
-The commands:
+const P126: &str = r#"K5 NoFrame"#;
 
-    sh try 's/^entry 1/entry 2/'
+const P127: &str = r#"The base lacks the row's frame."#;
 
-They print, with status 1:
+const P128: &str = r#"    sh try 's/^rows 2/rows 3/; s/^end/2a 1 s40\nend/'"#;
 
-    REFUSED K1 EntryDiffers
+const P129: &str = r#"    REFUSED K5 NoFrame 2a"#;
 
-Fix: give the base its own certificate.
-"#,
-        ..=35 => r#"K2 CeilingAbove
+const P130: &str = r#"Fix: audit again, or put the frame back."#;
 
-The certificate's ceiling is above --ceiling.
+const P131: &str = r#"K6 ClosedFrame"#;
 
-The file base.toml:
+const P132: &str = r#"The row's frame is in a closed user group, which isn't one of the
+certificate's."#;
 
-    entry = 1
+const P133: &str = r#"    sed -i 's/^price = 5/group = 7/' base.toml
+    sh try ''"#;
 
-    [[frame]]
-    id = "1a"
-    next = true
-    rows = []
+const P134: &str = r#"    REFUSED K6 ClosedFrame 1b"#;
 
-    [[frame]]
-    id = "1b"
-    price = 5
-    rows = []
-    routes = { 0 = 1 }
+const P135: &str =
+    r#"Fix: remove the frame's 'group', or what leads to the frame, and audit again."#;
 
-The file base.cert:
+const P136: &str = r#"K8 RankAbove"#;
 
-    PBC1
-    entry 1
-    ceiling 5
-    keyings 1
-    rows 2
-    1a 0 s40
-    1b 1 s40
-    end
+const P137: &str = r#"The row's rank is above the certificate's keyings."#;
 
-The commands:
+const P138: &str = r#"    sh try 's/^keyings 1/keyings 0/'"#;
 
-    pageaudit check base.toml base.cert --ceiling 4 --keyings 1
+const P139: &str = r#"    REFUSED K8 RankAbove 1b"#;
 
-They print, with status 1:
+const P140: &str = r#"K10 CursorDiffers"#;
 
-    REFUSED K2 CeilingAbove
+const P141: &str = r#"The row's cursor isn't where the frame leaves it."#;
 
-Fix: lower prices and audit again, or raise --ceiling.
-"#,
-        ..=37 => r#"K3 KeyingsAbove
+const P142: &str = r#"    sh try 's/^1b 1 s40/1b 1 s41/'"#;
 
-The certificate's keyings are above --keyings.
+const P143: &str = r#"    REFUSED K10 CursorDiffers 1b"#;
 
-The file base.toml:
+const P144: &str = r#"K11 RouteNotCovered"#;
 
-    entry = 1
+const P145: &str =
+    r#"The route of this digit leads to a page that isn't outside, and whose frame 'a'
+has no row."#;
 
-    [[frame]]
-    id = "1a"
-    next = true
-    rows = []
+const P146: &str = r#"    sed -i 's/0 = 1/0 = 1, 2 = 2/' base.toml
+    sh try ''"#;
 
-    [[frame]]
-    id = "1b"
-    price = 5
-    rows = []
-    routes = { 0 = 1 }
+const P147: &str = r#"    REFUSED K11 RouteNotCovered 1b 2"#;
 
-The file base.cert:
+const P148: &str = r#"Fix: audit again; or add the page, correct the route, or list the page in
+'outside'."#;
 
-    PBC1
-    entry 1
-    ceiling 5
-    keyings 1
-    rows 2
-    1a 0 s40
-    1b 1 s40
-    end
+const P149: &str = r#"K12 NextNotCovered"#;
 
-The commands:
+const P150: &str = r#"The frame has 'next = true', and the next frame has no row."#;
 
-    pageaudit check base.toml base.cert --ceiling 5 --keyings 0
+const P151: &str = r#"    sh try 's/^rows 2/rows 1/; /^1b/d'"#;
 
-They print, with status 1:
+const P152: &str = r#"    REFUSED K12 NextNotCovered 1a"#;
 
-    REFUSED K3 KeyingsAbove
+const P153: &str = r#"Fix: audit again, add the next frame, or remove 'next = true'."#;
 
-Fix: add shorter ways back and audit again, or raise --keyings.
-"#,
-        ..=39 => r#"K15 GroupsDiffer
+const P154: &str = r#"K13 RankZero"#;
 
-The certificate is for callers in other groups than --groups names; without it,
-in any group.
+const P155: &str = r#"The row has rank 0 and isn't the entry frame's."#;
 
-The file base.toml:
+const P156: &str = r#"    sh try 's/^1b 1/1b 0/'"#;
 
-    entry = 1
+const P157: &str = r#"    REFUSED K13 RankZero 1b"#;
+
+const P158: &str = r#"K14 NoWayDown"#;
+
+const P159: &str = r#"No route or next key of the frame leads to a row of lower rank."#;
+
+const P160: &str = r#"    sed -i '/^routes/d' base.toml
+    sh try ''"#;
+
+const P161: &str = r#"    REFUSED K14 NoWayDown 1b"#;
+
+const P162: &str = r#"Fix: give the frame a way back, as for NORETURN, and audit again."#;
+
+const P163: &str = r#"OLD"#;
+
+const P164: &str = r#"The check of the old edition fails; its line follows."#;
+
+const P165: &str = r#"    pageaudit change base.toml base.cert base.toml base.cert -c 4 -k 1"#;
+
+const P166: &str = r#"    OLD REFUSED K2 CeilingAbove"#;
+
+const P167: &str = r#"Fix: give the base that is being served, its certificate, and numbers that
+clear it; or publish when no caller is inside."#;
+
+const P168: &str = r#"NEW"#;
+
+const P169: &str = r#"The check of the new edition fails; its line follows."#;
+
+const P170: &str = r#"    sed 's/^price = 5/price = 7/' base.toml >new.toml
+    pageaudit change base.toml base.cert new.toml base.cert -c 7 -k 1"#;
+
+const P171: &str = r#"    NEW REFUSED K7 Price 1b"#;
+
+const P172: &str = r#"Fix: that of the line. Mostly the new edition needs an audit."#;
+
+const P173: &str = r#"new base"#;
+
+const P174: &str = r#"'new base: ' or 'new certificate: ' and a fault of that file of the new
+edition. It is read after the old edition."#;
+
+const P175: &str = r#"    entry = 1
 
     [[frame]]
     id = "1a"
-    next = true
-    rows = []
+    rows = []"#;
 
-    [[frame]]
-    id = "1b"
-    price = 5
-    rows = []
-    routes = { 0 = 1 }
-
-The file base.cert:
-
-    PBC1
-    entry 1
-    ceiling 5
-    keyings 1
-    rows 2
-    1a 0 s40
-    1b 1 s40
-    end
-
-The commands:
-
-    pageaudit check base.toml base.cert --ceiling 5 --keyings 1 --groups 7
-
-They print, with status 1:
-
-    REFUSED K15 GroupsDiffer
-
-Fix: give the groups of the certificate's line 'groups', or audit with the
-right ones.
-"#,
-        ..=41 => r#"K4 EntryNotCovered
-
-The entry page's frame 'a' has no row.
-
-The file base.toml:
-
-    entry = 1
-
-    [[frame]]
-    id = "1a"
-    next = true
-    rows = []
-
-    [[frame]]
-    id = "1b"
-    price = 5
-    rows = []
-    routes = { 0 = 1 }
-
-The file base.cert:
-
-    PBC1
-    entry 1
-    ceiling 5
-    keyings 1
-    rows 2
-    1a 0 s40
-    1b 1 s40
-    end
-
-The file try:
-
-    sed "$1" base.cert >other.cert
-    pageaudit check base.toml other.cert --ceiling 5 --keyings 1
-
-The commands:
-
-    sh try 's/^rows 2/rows 1/; /^1a/d'
-
-They print, with status 1:
-
-    REFUSED K4 EntryNotCovered
-
-Fix: audit again.
-"#,
-        ..=43 => r#"K5 NoFrame
-
-The base lacks the row's frame.
-
-The file base.toml:
-
-    entry = 1
-
-    [[frame]]
-    id = "1a"
-    next = true
-    rows = []
-
-    [[frame]]
-    id = "1b"
-    price = 5
-    rows = []
-    routes = { 0 = 1 }
-
-The file base.cert:
-
-    PBC1
-    entry 1
-    ceiling 5
-    keyings 1
-    rows 2
-    1a 0 s40
-    1b 1 s40
-    end
-
-The file try:
-
-    sed "$1" base.cert >other.cert
-    pageaudit check base.toml other.cert --ceiling 5 --keyings 1
-
-The commands:
-
-    sh try 's/^rows 2/rows 3/; s/^end/2a 1 s40\nend/'
-
-They print, with status 1:
-
-    REFUSED K5 NoFrame 2a
-
-Fix: audit again, or put the frame back.
-"#,
-        ..=45 => r#"K6 ClosedFrame
-
-The row's frame is in a closed user group, which isn't one of the
-certificate's.
-
-The file base.toml:
-
-    entry = 1
-
-    [[frame]]
-    id = "1a"
-    next = true
-    rows = []
-
-    [[frame]]
-    id = "1b"
-    price = 5
-    rows = []
-    routes = { 0 = 1 }
-
-The file base.cert:
-
-    PBC1
-    entry 1
-    ceiling 5
-    keyings 1
-    rows 2
-    1a 0 s40
-    1b 1 s40
-    end
-
-The file try:
-
-    sed "$1" base.cert >other.cert
-    pageaudit check base.toml other.cert --ceiling 5 --keyings 1
-
-The commands:
-
-    sed -i 's/^price = 5/group = 7/' base.toml
-    sh try ''
-
-They print, with status 1:
-
-    REFUSED K6 ClosedFrame 1b
-
-Fix: remove the frame's 'group', or what leads to the frame, and audit again.
-"#,
-        ..=47 => r#"K7 Price
-
-The row's frame costs more than the certificate's ceiling.
-
-The file base.toml:
-
-    entry = 1
-
-    [[frame]]
-    id = "1a"
-    next = true
-    rows = []
-
-    [[frame]]
-    id = "1b"
-    price = 5
-    rows = []
-    routes = { 0 = 1 }
-
-The file base.cert:
-
-    PBC1
-    entry 1
-    ceiling 5
-    keyings 1
-    rows 2
-    1a 0 s40
-    1b 1 s40
-    end
-
-The file try:
-
-    sed "$1" base.cert >other.cert
-    pageaudit check base.toml other.cert --ceiling 5 --keyings 1
-
-The commands:
-
-    sh try 's/^ceiling 5/ceiling 4/'
-
-They print, with status 1:
-
-    REFUSED K7 Price 1b
-
-Fix: lower the frame's 'price', or audit again.
-"#,
-        ..=49 => r#"K8 RankAbove
-
-The row's rank is above the certificate's keyings.
-
-The file base.toml:
-
-    entry = 1
-
-    [[frame]]
-    id = "1a"
-    next = true
-    rows = []
-
-    [[frame]]
-    id = "1b"
-    price = 5
-    rows = []
-    routes = { 0 = 1 }
-
-The file base.cert:
-
-    PBC1
-    entry 1
-    ceiling 5
-    keyings 1
-    rows 2
-    1a 0 s40
-    1b 1 s40
-    end
-
-The file try:
-
-    sed "$1" base.cert >other.cert
-    pageaudit check base.toml other.cert --ceiling 5 --keyings 1
-
-The commands:
-
-    sh try 's/^keyings 1/keyings 0/'
-
-They print, with status 1:
-
-    REFUSED K8 RankAbove 1b
-
-Fix: audit again.
-"#,
-        ..=51 => r#"K9 Touches
-
-The frame's body can write into a service row, or 8D into row 22. The number is
-the first byte that can.
-
-The file base.toml:
-
-    entry = 1
-
-    [[frame]]
-    id = "1a"
-    next = true
-    rows = []
-
-    [[frame]]
-    id = "1b"
-    price = 5
-    rows = []
-    routes = { 0 = 1 }
-
-The file base.cert:
-
-    PBC1
-    entry 1
-    ceiling 5
-    keyings 1
-    rows 2
-    1a 0 s40
-    1b 1 s40
-    end
-
-The file try:
-
-    sed "$1" base.cert >other.cert
-    pageaudit check base.toml other.cert --ceiling 5 --keyings 1
-
-The commands:
-
-    sed -i '$d; s/^price.*/body = "\\u001EA"/; /1b/,$s/^rows.*//' base.toml
-    sh try ''
-
-They print, with status 1:
-
-    REFUSED K9 Touches 1b 1
-
-Fix: the body, as for TOUCHES, and audit again.
-"#,
-        ..=53 => r#"K10 CursorDiffers
-
-The row's cursor isn't where the frame leaves it.
-
-The file base.toml:
-
-    entry = 1
-
-    [[frame]]
-    id = "1a"
-    next = true
-    rows = []
-
-    [[frame]]
-    id = "1b"
-    price = 5
-    rows = []
-    routes = { 0 = 1 }
-
-The file base.cert:
-
-    PBC1
-    entry 1
-    ceiling 5
-    keyings 1
-    rows 2
-    1a 0 s40
-    1b 1 s40
-    end
-
-The file try:
-
-    sed "$1" base.cert >other.cert
-    pageaudit check base.toml other.cert --ceiling 5 --keyings 1
-
-The commands:
-
-    sh try 's/^1b 1 s40/1b 1 s41/'
-
-They print, with status 1:
-
-    REFUSED K10 CursorDiffers 1b
-
-Fix: audit again.
-"#,
-        ..=55 => r#"K11 RouteNotCovered
-
-The route of this digit leads to a page that isn't outside, and whose frame 'a'
-has no row.
-
-The file base.toml:
-
-    entry = 1
-
-    [[frame]]
-    id = "1a"
-    next = true
-    rows = []
-
-    [[frame]]
-    id = "1b"
-    price = 5
-    rows = []
-    routes = { 0 = 1 }
-
-The file base.cert:
-
-    PBC1
-    entry 1
-    ceiling 5
-    keyings 1
-    rows 2
-    1a 0 s40
-    1b 1 s40
-    end
-
-The file try:
-
-    sed "$1" base.cert >other.cert
-    pageaudit check base.toml other.cert --ceiling 5 --keyings 1
-
-The commands:
-
-    sed -i 's/0 = 1/0 = 1, 2 = 2/' base.toml
-    sh try ''
-
-They print, with status 1:
-
-    REFUSED K11 RouteNotCovered 1b 2
-
-Fix: audit again; or add the page, correct the route, or list the page in
-'outside'.
-"#,
-        ..=57 => r#"K12 NextNotCovered
-
-The frame has 'next = true', and the next frame has no row.
-
-The file base.toml:
-
-    entry = 1
-
-    [[frame]]
-    id = "1a"
-    next = true
-    rows = []
-
-    [[frame]]
-    id = "1b"
-    price = 5
-    rows = []
-    routes = { 0 = 1 }
-
-The file base.cert:
-
-    PBC1
-    entry 1
-    ceiling 5
-    keyings 1
-    rows 2
-    1a 0 s40
-    1b 1 s40
-    end
-
-The file try:
-
-    sed "$1" base.cert >other.cert
-    pageaudit check base.toml other.cert --ceiling 5 --keyings 1
-
-The commands:
-
-    sh try 's/^rows 2/rows 1/; /^1b/d'
-
-They print, with status 1:
-
-    REFUSED K12 NextNotCovered 1a
-
-Fix: audit again, add the next frame, or remove 'next = true'.
-"#,
-        ..=59 => r#"K13 RankZero
-
-The row has rank 0 and isn't the entry frame's.
-
-The file base.toml:
-
-    entry = 1
-
-    [[frame]]
-    id = "1a"
-    next = true
-    rows = []
-
-    [[frame]]
-    id = "1b"
-    price = 5
-    rows = []
-    routes = { 0 = 1 }
-
-The file base.cert:
-
-    PBC1
-    entry 1
-    ceiling 5
-    keyings 1
-    rows 2
-    1a 0 s40
-    1b 1 s40
-    end
-
-The file try:
-
-    sed "$1" base.cert >other.cert
-    pageaudit check base.toml other.cert --ceiling 5 --keyings 1
-
-The commands:
-
-    sh try 's/^1b 1/1b 0/'
-
-They print, with status 1:
-
-    REFUSED K13 RankZero 1b
-
-Fix: audit again.
-"#,
-        ..=61 => r#"K14 NoWayDown
-
-No route or next key of the frame leads to a row of lower rank.
-
-The file base.toml:
-
-    entry = 1
-
-    [[frame]]
-    id = "1a"
-    next = true
-    rows = []
-
-    [[frame]]
-    id = "1b"
-    price = 5
-    rows = []
-    routes = { 0 = 1 }
-
-The file base.cert:
-
-    PBC1
-    entry 1
-    ceiling 5
-    keyings 1
-    rows 2
-    1a 0 s40
-    1b 1 s40
-    end
-
-The file try:
-
-    sed "$1" base.cert >other.cert
-    pageaudit check base.toml other.cert --ceiling 5 --keyings 1
-
-The commands:
-
-    sed -i '/^routes/d' base.toml
-    sh try ''
-
-They print, with status 1:
-
-    REFUSED K14 NoWayDown 1b
-
-Fix: give the frame a way back, as for NORETURN, and audit again.
-"#,
-        ..=62 => r#"OLD
-
-The check of the old edition fails; its line follows.
-
-The file base.toml:
-
-    entry = 1
-
-    [[frame]]
-    id = "1a"
-    next = true
-    rows = []
-
-    [[frame]]
-    id = "1b"
-    price = 5
-    rows = []
-    routes = { 0 = 1 }
-
-The file base.cert:
-
-    PBC1
-    entry 1
-    ceiling 5
-    keyings 1
-    rows 2
-    1a 0 s40
-    1b 1 s40
-    end
-
-The commands:
-
-    pageaudit change base.toml base.cert base.toml base.cert -c 4 -k 1
-
-They print, with status 1:
-
-    OLD REFUSED K2 CeilingAbove
-
-Fix: give the base that is being served, its certificate, and numbers that
-clear it; or publish when no caller is inside.
-"#,
-        ..=63 => r#"NEW
-
-The check of the new edition fails; its line follows.
-
-The file base.toml:
-
-    entry = 1
-
-    [[frame]]
-    id = "1a"
-    next = true
-    rows = []
-
-    [[frame]]
-    id = "1b"
-    price = 5
-    rows = []
-    routes = { 0 = 1 }
-
-The file base.cert:
-
-    PBC1
-    entry 1
-    ceiling 5
-    keyings 1
-    rows 2
-    1a 0 s40
-    1b 1 s40
-    end
-
-The commands:
-
-    sed 's/^price = 5/price = 7/' base.toml >new.toml
-    pageaudit change base.toml base.cert new.toml base.cert -c 7 -k 1
-
-They print, with status 1:
-
-    NEW REFUSED K7 Price 1b
-
-Fix: that of the line. Mostly the new edition needs an audit.
-
-new base
-
-'new base: ' or 'new certificate: ' and a fault of that file of the new
-edition. It is read after the old edition.
-
-The file base.toml:
-
-    entry = 1
-
-    [[frame]]
-    id = "1a"
-    rows = []
-
-The commands:
-
-    pageaudit audit base.toml --ceiling 0 --keyings 0 >base.cert
+const P176: &str = r#"    pageaudit audit base.toml --ceiling 0 --keyings 0 >base.cert
     sed '/^entry/d' base.toml >new.toml
-    pageaudit change base.toml base.cert new.toml base.cert -c 0 -k 0
+    pageaudit change base.toml base.cert new.toml base.cert -c 0 -k 0"#;
 
-They print on standard error, with status 3:
+const P177: &str = r#"They print on standard error, with status 3:"#;
 
-    new base: X4 Absent entry
+const P178: &str = r#"    new base: X4 Absent entry"#;
 
-Fix: that of the fault.
-"#,
-        ..=65 => r#"E1 EntryMoved
+const P179: &str = r#"Fix: that of the fault."#;
 
-The editions have different entry pages.
+const P180: &str = r#"E1 EntryMoved"#;
 
-The file base.toml:
+const P181: &str = r#"The editions have different entry pages."#;
 
-    entry = 1
-
-    [[frame]]
-    id = "1a"
-    next = true
-    rows = []
-
-    [[frame]]
-    id = "1b"
-    price = 5
-    rows = []
-    routes = { 0 = 1 }
-
-The file base.cert:
-
-    PBC1
-    entry 1
-    ceiling 5
-    keyings 1
-    rows 2
-    1a 0 s40
-    1b 1 s40
-    end
-
-The commands:
-
-    sed 's/1$/2/; s/"1/"2/; s/= 1 /= 2 /' base.toml >new.toml
+const P182: &str = r#"    sed 's/1$/2/; s/"1/"2/; s/= 1 /= 2 /' base.toml >new.toml
     pageaudit audit new.toml --ceiling 5 --keyings 1 >new.cert
-    pageaudit change base.toml base.cert new.toml new.cert -c 5 -k 1
+    pageaudit change base.toml base.cert new.toml new.cert -c 5 -k 1"#;
 
-They print, with status 1:
+const P183: &str = r#"    REFUSED E1 EntryMoved"#;
 
-    REFUSED E1 EntryMoved
+const P184: &str = r#"Fix: keep the entry page and let it lead to the new one, or publish when no
+caller is inside."#;
 
-Fix: keep the entry page and let it lead to the new one, or publish when no
-caller is inside.
-"#,
-        ..=67 => r#"E2 NoLongerCovered
+const P185: &str = r#"E2 NoLongerCovered"#;
 
-This frame (the smallest is named) has a row in the old certificate and none in
-the new one, so a caller could lose it.
+const P186: &str =
+    r#"This frame (the smallest is named) has a row in the old certificate and none in
+the new one, so a caller could lose it."#;
 
-The file base.toml:
-
-    entry = 1
-
-    [[frame]]
-    id = "1a"
-    next = true
-    rows = []
-
-    [[frame]]
-    id = "1b"
-    price = 5
-    rows = []
-    routes = { 0 = 1 }
-
-The file base.cert:
-
-    PBC1
-    entry 1
-    ceiling 5
-    keyings 1
-    rows 2
-    1a 0 s40
-    1b 1 s40
-    end
-
-The commands:
-
-    sed '/^next/d; 7,$d' base.toml >new.toml
+const P187: &str = r#"    sed '/^next/d; 7,$d' base.toml >new.toml
     pageaudit audit new.toml --ceiling 5 --keyings 1 >new.cert
-    pageaudit change base.toml base.cert new.toml new.cert -c 5 -k 1
+    pageaudit change base.toml base.cert new.toml new.cert -c 5 -k 1"#;
 
-They print, with status 1:
+const P188: &str = r#"    REFUSED E2 NoLongerCovered 1b"#;
 
-    REFUSED E2 NoLongerCovered 1b
+const P189: &str = r#"Fix: keep the frame, perhaps with another text, and a way to it, and audit
+again; or publish when no caller is inside."#;
 
-Fix: keep the frame, perhaps with another text, and a way to it, and audit
-again; or publish when no caller is inside.
-"#,
-        ..=68 => r#"UNREACHED
+const P190: &str = r#"UNREACHED"#;
 
-A warning: no key leads to this frame from the entry page, so no caller sees
-it.
+const P191: &str = r#"A warning: no key leads to this frame from the entry page, so no caller sees
+it."#;
 
-The file base:
+const P192: &str = r#"The file base:"#;
 
-    entry = 1
+const P193: &str = r#"    entry = 1
 
     [[frame]]
     id = "1a"
@@ -1616,29 +692,25 @@ The file base:
 
     [[frame]]
     id = "2a"
-    rows = []
+    rows = []"#;
 
-The commands:
+const P194: &str = r#"    pageaudit lint base 2>/dev/null"#;
 
-    pageaudit lint base 2>/dev/null
+const P195: &str =
+    r#"    base:7:1: warning: UNREACHED: no key leads to frame 2a from the entry page"#;
 
-They print:
+const P196: &str =
+    r#"Fix: add a route or 'next = true' that leads to the frame, or remove it. If the
+edition that is served covers it, 'change' reports E2."#;
 
-    base:7:1: warning: UNREACHED: no key leads to frame 2a from the entry page
+const P197: &str = r#"FRAME"#;
 
-Fix: add a route or 'next = true' that leads to the frame, or remove it. If the
-edition that is served covers it, 'change' reports E2.
-
-FRAME
-
-RANK is the least number of keys '0' to '9' and '#' back to the entry frame.
+const P198: &str = r#"RANK is the least number of keys '0' to '9' and '#' back to the entry frame.
 PRICE is in pence, GROUP is the frame's closed user group, and SCRIPT has keys
 that lead to the frame; '-' is none. UNREACHED is a frame that no key leads
-this caller to, perhaps since it is closed. It is no fault.
+this caller to, perhaps since it is closed. It is no fault."#;
 
-The file base.toml:
-
-    entry = 1
+const P199: &str = r#"    entry = 1
 
     [[frame]]
     id = "1a"
@@ -1653,909 +725,497 @@ The file base.toml:
     [[frame]]
     id = "2a"
     group = 7
-    rows = []
+    rows = []"#;
 
-The commands:
+const P200: &str = r#"    pageaudit list base.toml"#;
 
-    pageaudit list base.toml
-
-They print:
-
-    FRAME 1a RANK 0 PRICE 0 GROUP - SCRIPT -
+const P201: &str = r#"    FRAME 1a RANK 0 PRICE 0 GROUP - SCRIPT -
     FRAME 1b RANK - PRICE 5 GROUP - SCRIPT #
-    UNREACHED 2a PRICE 0 GROUP 7
-"#,
-        ..=72 => r#"FRAME
+    UNREACHED 2a PRICE 0 GROUP 7"#;
 
-RANK is the least number of keys '0' to '9' and '#' back to the entry frame.
-PRICE is in pence, GROUP is the frame's closed user group, and SCRIPT has keys
-that lead to the frame; '-' is none. UNREACHED is a frame that no key leads
-this caller to, perhaps since it is closed. It is no fault.
+const P202: &str = r#"X1 TooLong"#;
 
-The file base.toml:
+const P203: &str = r#"The file has more than 16,777,216 bytes."#;
 
-    entry = 1
+const P204: &str = r#"    head -c 16777217 /dev/zero >base.toml
+    pageaudit walk base.toml ''"#;
 
-    [[frame]]
-    id = "1a"
-    next = true
-    rows = []
+const P205: &str = r#"    base: X1 TooLong"#;
 
-    [[frame]]
-    id = "1b"
-    price = 5
-    rows = []
+const P206: &str = r#"Fix: split the base, or shorten bodies."#;
 
-    [[frame]]
-    id = "2a"
-    group = 7
-    rows = []
+const P207: &str = r#"X2 NotToml"#;
 
-The commands:
-
-    pageaudit list base.toml
-
-They print:
-
-    FRAME 1a RANK 0 PRICE 0 GROUP - SCRIPT -
-    FRAME 1b RANK - PRICE 5 GROUP - SCRIPT #
-    UNREACHED 2a PRICE 0 GROUP 7
-"#,
-        ..=74 => r#"X1 TooLong
-
-The file has more than 16,777,216 bytes.
-
-The commands:
-
-    head -c 16777217 /dev/zero >base.toml
-    pageaudit walk base.toml ''
-
-They print on standard error, with status 3:
-
-    base: X1 TooLong
-
-Fix: split the base, or shorten bodies.
-"#,
-        ..=76 => r#"X2 NotToml
-
-The file isn't UTF-8 or TOML: a quotation mark or bracket is missing, a key
+const P208: &str = r#"The file isn't UTF-8 or TOML: a quotation mark or bracket is missing, a key
 comes twice, an integer is outside 64 bits, or one of several frames begins
-with '[frame]'.
+with '[frame]'."#;
 
-The file try:
+const P209: &str = r#"    printf '%s\n' 'entry = 1' '[[frame]]' 'id = "1a"' "$@" >base.toml
+    pageaudit walk base.toml ''"#;
 
-    printf '%s\n' 'entry = 1' '[[frame]]' 'id = "1a"' "$@" >base.toml
-    pageaudit walk base.toml ''
+const P210: &str = r#"    sh try 'rows = ["HELLO]'"#;
 
-The commands:
+const P211: &str = r#"    base: X2 NotToml"#;
 
-    sh try 'rows = ["HELLO]'
+const P212: &str = r#"Fix: 'pageaudit lint' names the line and what is wrong there."#;
 
-They print on standard error, with status 3:
+const P213: &str = r#"X3 UnknownKey"#;
 
-    base: X2 NotToml
-
-Fix: 'pageaudit lint' names the line and what is wrong there.
-"#,
-        ..=78 => r#"X3 UnknownKey
-
-A base has the keys 'entry', 'outside' and 'frame'; a frame 'id', 'price',
+const P214: &str = r#"A base has the keys 'entry', 'outside' and 'frame'; a frame 'id', 'price',
 'group', 'next', 'routes', 'lead', 'body' and 'rows'; 'routes' the digits '0'
-to '9'.
+to '9'."#;
 
-The file try:
+const P215: &str = r#"    sh try 'title = "Town"'"#;
 
-    printf '%s\n' 'entry = 1' '[[frame]]' 'id = "1a"' "$@" >base.toml
-    pageaudit walk base.toml ''
+const P216: &str = r#"    base: frame 0: X3 UnknownKey"#;
 
-The commands:
+const P217: &str = r#"Fix: correct the spelling, or put '#' before it."#;
 
-    sh try 'title = "Town"'
+const P218: &str = r#"X4 Absent"#;
 
-They print on standard error, with status 3:
+const P219: &str = r#"A required key is missing: 'entry', a frame's 'id', or its text, 'body' or
+'rows'."#;
 
-    base: frame 0: X3 UnknownKey
-
-Fix: correct the spelling, or put '#' before it.
-"#,
-        ..=80 => r#"X4 Absent
-
-A required key is missing: 'entry', a frame's 'id', or its text, 'body' or
-'rows'.
-
-The file try:
-
-    printf '%s\n' 'entry = 1' '[[frame]]' 'id = "1a"' "$@" >base.toml
-    pageaudit walk base.toml ''
-
-The commands:
-
-    sh try
+const P220: &str = r#"    sh try
     printf 'entry = 1\n[[frame]]\n' >base.toml
-    pageaudit walk base.toml ''
+    pageaudit walk base.toml ''"#;
 
-They print on standard error, with status 3:
+const P221: &str = r#"    base: frame 0: X4 Absent body
+    base: frame 0: X4 Absent id"#;
 
-    base: frame 0: X4 Absent body
-    base: frame 0: X4 Absent id
+const P222: &str = r#"Fix: add it. A frame without text has 'rows = []'."#;
 
-Fix: add it. A frame without text has 'rows = []'.
-"#,
-        ..=82 => r#"X5 WrongKind
+const P223: &str = r#"X5 WrongKind"#;
 
-'entry', 'price', 'group' and routes are integers, 'outside' is an array of
+const P224: &str = r#"'entry', 'price', 'group' and routes are integers, 'outside' is an array of
 integers, 'id', 'lead' and 'body' are strings, 'rows' is an array of strings,
-'next' a boolean, 'routes' a table, each frame a '[[frame]]'.
+'next' a boolean, 'routes' a table, each frame a '[[frame]]'."#;
 
-The file try:
+const P225: &str = r#"    sh try 'next = 1'"#;
 
-    printf '%s\n' 'entry = 1' '[[frame]]' 'id = "1a"' "$@" >base.toml
-    pageaudit walk base.toml ''
+const P226: &str = r#"    base: frame 0: X5 WrongKind next"#;
 
-The commands:
+const P227: &str = r#"Fix: write the value in its kind."#;
 
-    sh try 'next = 1'
+const P228: &str = r#"X6 Range"#;
 
-They print on standard error, with status 3:
-
-    base: frame 0: X5 WrongKind next
-
-Fix: write the value in its kind.
-"#,
-        ..=83 => r#"X6 Range
-
-'entry', pages of 'outside' and routes are 0 to 999,999,999, 'price' is 0 to
+const P229: &str = r#"'entry', pages of 'outside' and routes are 0 to 999,999,999, 'price' is 0 to
 9,999, 'group' 1 to 65,535. 'lead' is 'clear' or 'keep', codes of 'body' are 0
-to FF, and there are at most 22 'rows'.
+to FF, and there are at most 22 'rows'."#;
 
-The file try:
-
-    printf '%s\n' 'entry = 1' '[[frame]]' 'id = "1a"' "$@" >base.toml
-    pageaudit walk base.toml ''
-
-The commands:
-
-    sh try 'price = 10000'
+const P230: &str = r#"    sh try 'price = 10000'
     sh try 'group = 0'
     sh try 'routes = { 2 = -1 }'
     sh try 'lead = "Clear"'
     printf 'entry = 1\noutside = [-1]\n' >base.toml
-    pageaudit walk base.toml ''
+    pageaudit walk base.toml ''"#;
 
-They print on standard error, with status 3:
-
-    base: frame 0: X6 Range price
+const P231: &str = r#"    base: frame 0: X6 Range price
     base: frame 0: X6 Range group
     base: frame 0: X6 Range routes
     base: frame 0: X6 Range lead
-    base: X6 Range outside
+    base: X6 Range outside"#;
 
-Fix: bring the value into its range. Curly quotation marks and long dashes are
-above FF.
-"#,
-        ..=84 => r#"X6 Range
+const P232: &str = r#"Fix: bring the value into its range. Curly quotation marks and long dashes are
+above FF."#;
 
-'entry', pages of 'outside' and routes are 0 to 999,999,999, 'price' is 0 to
-9,999, 'group' 1 to 65,535. 'lead' is 'clear' or 'keep', codes of 'body' are 0
-to FF, and there are at most 22 'rows'.
+const P233: &str = r#"Range"#;
 
-The file try:
+const P234: &str = r#"A number is above its limit: 999,999,999 for 'entry', 9,999 for 'ceiling',
+65,535 for all others. Or a group is 0, or the seventeenth."#;
 
-    printf '%s\n' 'entry = 1' '[[frame]]' 'id = "1a"' "$@" >base.toml
-    pageaudit walk base.toml ''
-
-The commands:
-
-    sh try 'price = 10000'
-    sh try 'group = 0'
-    sh try 'routes = { 2 = -1 }'
-    sh try 'lead = "Clear"'
-    printf 'entry = 1\noutside = [-1]\n' >base.toml
-    pageaudit walk base.toml ''
-
-They print on standard error, with status 3:
-
-    base: frame 0: X6 Range price
-    base: frame 0: X6 Range group
-    base: frame 0: X6 Range routes
-    base: frame 0: X6 Range lead
-    base: X6 Range outside
-
-Fix: bring the value into its range. Curly quotation marks and long dashes are
-above FF.
-
-Range
-
-A number is above its limit: 999,999,999 for 'entry', 9,999 for 'ceiling',
-65,535 for all others. Or a group is 0, or the seventeenth.
-
-The file base.toml:
-
-    entry = 1
-
-    [[frame]]
-    id = "1a"
-    rows = []
-
-The file base.cert:
-
-    PBC1
+const P235: &str = r#"    PBC1
     entry 1
     ceiling 0
     keyings 0
     rows 1
     1a 0 s40
-    end
+    end"#;
 
-The file try:
+const P236: &str = r#"    sed "$1" base.cert >other.cert
+    pageaudit check base.toml other.cert --ceiling 0 --keyings 0"#;
 
-    sed "$1" base.cert >other.cert
-    pageaudit check base.toml other.cert --ceiling 0 --keyings 0
+const P237: &str = r#"    sh try 's/^ceiling 0/ceiling 10000/'"#;
 
-The commands:
+const P238: &str = r#"    certificate: line 3: Range"#;
 
-    sh try 's/^ceiling 0/ceiling 10000/'
+const P239: &str = r#"Fix: take the file as 'audit' printed it."#;
 
-They print on standard error, with status 3:
+const P240: &str = r#"X7 BodyAndRows"#;
 
-    certificate: line 3: Range
+const P241: &str = r#"The frame has both 'body' and 'rows'."#;
 
-Fix: take the file as 'audit' printed it.
-"#,
-        ..=86 => r#"X7 BodyAndRows
+const P242: &str = r#"    sh try 'body = ""' 'rows = []'"#;
 
-The frame has both 'body' and 'rows'.
+const P243: &str = r#"    base: frame 0: X7 BodyAndRows"#;
 
-The file try:
+const P244: &str = r#"Fix: remove one of them."#;
 
-    printf '%s\n' 'entry = 1' '[[frame]]' 'id = "1a"' "$@" >base.toml
-    pageaudit walk base.toml ''
+const P245: &str = r#"X8 RowTooLong"#;
 
-The commands:
+const P246: &str = r#"A row has more than 40 codes."#;
 
-    sh try 'body = ""' 'rows = []'
+const P247: &str = r#"    sh try "rows = ['$(seq -s '' 25)']""#;
 
-They print on standard error, with status 3:
+const P248: &str = r#"    base: frame 0: X8 RowTooLong"#;
 
-    base: frame 0: X7 BodyAndRows
+const P249: &str = r#"Fix: cut the row in two."#;
 
-Fix: remove one of them.
-"#,
-        ..=88 => r#"X8 RowTooLong
+const P250: &str = r#"X9 RowCode"#;
 
-A row has more than 40 codes.
+const P251: &str = r#"A row has a code outside 20 to 7F (characters) and 80 to 9F (attributes)."#;
 
-The file try:
+const P252: &str = r#"    sh try 'rows = ["CAF\u00C9"]'"#;
 
-    printf '%s\n' 'entry = 1' '[[frame]]' 'id = "1a"' "$@" >base.toml
-    pageaudit walk base.toml ''
+const P253: &str = r#"    base: frame 0: X9 RowCode"#;
 
-The commands:
+const P254: &str = r#"Fix: replace the code. For control codes use 'body'."#;
 
-    sh try "rows = ['$(seq -s '' 25)']"
+const P255: &str = r#"I2 BadFrame"#;
 
-They print on standard error, with status 3:
+const P256: &str = r#"The 'id' isn't a page number, 0 to 999,999,999 without leading zeros, and a
+letter, 'a' to 'z'."#;
 
-    base: frame 0: X8 RowTooLong
-
-Fix: cut the row in two.
-"#,
-        ..=90 => r#"X9 RowCode
-
-A row has a code outside 20 to 7F (characters) and 80 to 9F (attributes).
-
-The file try:
-
-    printf '%s\n' 'entry = 1' '[[frame]]' 'id = "1a"' "$@" >base.toml
-    pageaudit walk base.toml ''
-
-The commands:
-
-    sh try 'rows = ["CAF\u00C9"]'
-
-They print on standard error, with status 3:
-
-    base: frame 0: X9 RowCode
-
-Fix: replace the code. For control codes use 'body'.
-"#,
-        ..=92 => r#"I2 BadFrame
-
-The 'id' isn't a page number, 0 to 999,999,999 without leading zeros, and a
-letter, 'a' to 'z'.
-
-The file base.toml:
-
-    entry = 1
+const P257: &str = r#"    entry = 1
 
     [[frame]]
     id = "1A"
-    rows = []
+    rows = []"#;
 
-The commands:
+const P258: &str = r#"    pageaudit walk base.toml ''"#;
 
-    pageaudit walk base.toml ''
+const P259: &str = r#"    base: frame 0: I2 BadFrame"#;
 
-They print on standard error, with status 3:
+const P260: &str = r#"Fix: correct the id."#;
 
-    base: frame 0: I2 BadFrame
+const P261: &str = r#"B1 Duplicate"#;
 
-Fix: correct the id.
-"#,
-        ..=94 => r#"B1 Duplicate
+const P262: &str = r#"Two frames have this id (the smallest is named)."#;
 
-Two frames have this id (the smallest is named).
+const P263: &str = r#"    sh try 'rows = []' '[[frame]]' 'id = "1a"' 'rows = []'"#;
 
-The file try:
+const P264: &str = r#"    base: B1 Duplicate 1a"#;
 
-    printf '%s\n' 'entry = 1' '[[frame]]' 'id = "1a"' "$@" >base.toml
-    pageaudit walk base.toml ''
+const P265: &str = r#"Fix: remove a frame, or give it another id."#;
 
-The commands:
+const P266: &str = r#"B2 OutsideInside"#;
 
-    sh try 'rows = []' '[[frame]]' 'id = "1a"' 'rows = []'
+const P267: &str = r#"This page (the smallest is named) is in 'outside' and has frames."#;
 
-They print on standard error, with status 3:
-
-    base: B1 Duplicate 1a
-
-Fix: remove a frame, or give it another id.
-"#,
-        ..=96 => r#"B2 OutsideInside
-
-This page (the smallest is named) is in 'outside' and has frames.
-
-The file base.toml:
-
-    entry = 1
+const P268: &str = r#"    entry = 1
     outside = [1]
 
     [[frame]]
     id = "1a"
-    rows = []
+    rows = []"#;
 
-The commands:
+const P269: &str = r#"    base: B2 OutsideInside 1"#;
 
-    pageaudit walk base.toml ''
+const P270: &str = r#"Fix: remove the page from 'outside', or its frames."#;
 
-They print on standard error, with status 3:
+const P271: &str = r#"B3 NextAfterZ"#;
 
-    base: B2 OutsideInside 1
+const P272: &str = r#"This frame 'z' (the smallest is named) has 'next = true'."#;
 
-Fix: remove the page from 'outside', or its frames.
-"#,
-        ..=98 => r#"B3 NextAfterZ
-
-This frame 'z' (the smallest is named) has 'next = true'.
-
-The file base.toml:
-
-    entry = 1
+const P273: &str = r#"    entry = 1
 
     [[frame]]
     id = "1z"
     next = true
-    rows = []
+    rows = []"#;
 
-The commands:
+const P274: &str = r#"    base: B3 NextAfterZ 1z"#;
 
-    pageaudit walk base.toml ''
+const P275: &str = r#"Fix: remove 'next = true', and lead on by a route."#;
 
-They print on standard error, with status 3:
+const P276: &str = r#"B4 TooMany"#;
 
-    base: B3 NextAfterZ 1z
+const P277: &str = r#"There are more than 65,535 frames or entries of 'outside'."#;
 
-Fix: remove 'next = true', and lead on by a route.
-"#,
-        ..=100 => r#"B4 TooMany
+const P278: &str = r#"    printf 'entry = 1\noutside = [%s]\n' $(seq -s , 0 65535) >base.toml
+    pageaudit walk base.toml ''"#;
 
-There are more than 65,535 frames or entries of 'outside'.
+const P279: &str = r#"    base: B4 TooMany"#;
 
-The commands:
+const P280: &str = r#"Fix: split the base."#;
 
-    printf 'entry = 1\noutside = [%s]\n' $(seq -s , 0 65535) >base.toml
-    pageaudit walk base.toml ''
+const P281: &str = r#"B5 BodyTooLong"#;
 
-They print on standard error, with status 3:
+const P282: &str = r#"This frame's body (the smallest id is named) has more than 4,096 bytes."#;
 
-    base: B4 TooMany
+const P283: &str = r#"    sh try "$(printf 'body = "%4097s"')""#;
 
-Fix: split the base.
-"#,
-        ..=102 => r#"B5 BodyTooLong
+const P284: &str = r#"    base: B5 BodyTooLong 1a"#;
 
-This frame's body (the smallest id is named) has more than 4,096 bytes.
+const P285: &str = r#"Fix: shorten the body, or cut the frame in two with 'next = true'."#;
 
-The file try:
+const P286: &str = r#"Magic"#;
 
-    printf '%s\n' 'entry = 1' '[[frame]]' 'id = "1a"' "$@" >base.toml
-    pageaudit walk base.toml ''
+const P287: &str = r#"Line 1 is neither PBC1 nor PBC2. Often the file is a list of faults, or its
+lines end with 0D 0A."#;
 
-The commands:
+const P288: &str = r#"    sh try 's/$/\r/'"#;
 
-    sh try "$(printf 'body = "%4097s"')"
+const P289: &str = r#"    certificate: line 1: Magic"#;
 
-They print on standard error, with status 3:
+const P290: &str = r#"Word"#;
 
-    base: B5 BodyTooLong 1a
-
-Fix: shorten the body, or cut the frame in two with 'next = true'.
-"#,
-        ..=103 => r#"Magic
-
-Line 1 is neither PBC1 nor PBC2. Often the file is a list of faults, or its
-lines end with 0D 0A.
-
-The file base.toml:
-
-    entry = 1
-
-    [[frame]]
-    id = "1a"
-    rows = []
-
-The file base.cert:
-
-    PBC1
-    entry 1
-    ceiling 0
-    keyings 0
-    rows 1
-    1a 0 s40
-    end
-
-The file try:
-
-    sed "$1" base.cert >other.cert
-    pageaudit check base.toml other.cert --ceiling 0 --keyings 0
-
-The commands:
-
-    sh try 's/$/\r/'
-
-They print on standard error, with status 3:
-
-    certificate: line 1: Magic
-
-Fix: take the file as 'audit' printed it.
-"#,
-        ..=104 => r#"Word
-
-A line before the rows doesn't begin with its word and one space (on line 5
+const P291: &str = r#"A line before the rows doesn't begin with its word and one space (on line 5
 'groups' for PBC2, 'rows' for PBC1). Or a row lacks its id or two spaces, or a
-line has over 128 bytes.
+line has over 128 bytes."#;
 
-The file base.toml:
+const P292: &str = r#"    sh try 's/^entry/Entry/'"#;
 
-    entry = 1
+const P293: &str = r#"    certificate: line 2: Word"#;
 
-    [[frame]]
-    id = "1a"
-    rows = []
+const P294: &str = r#"Number"#;
 
-The file base.cert:
+const P295: &str = r#"A number isn't in decimal digits without leading zeros, or a group isn't after
+one space."#;
 
-    PBC1
-    entry 1
-    ceiling 0
-    keyings 0
-    rows 1
-    1a 0 s40
-    end
+const P296: &str = r#"    sh try 's/^entry 1/entry 01/'"#;
 
-The file try:
+const P297: &str = r#"    certificate: line 2: Number"#;
 
-    sed "$1" base.cert >other.cert
-    pageaudit check base.toml other.cert --ceiling 0 --keyings 0
+const P298: &str = r#"Order"#;
 
-The commands:
+const P299: &str = r#"An id isn't greater than the one before, by page, then by letter; or a group
+isn't."#;
 
-    sh try 's/^entry/Entry/'
+const P300: &str = r#"    sh try 's/^rows 1/rows 2/; s/^1a.*/&\n&/'"#;
 
-They print on standard error, with status 3:
+const P301: &str = r#"    certificate: line 7: Order"#;
 
-    certificate: line 2: Word
+const P302: &str = r#"Cursor"#;
 
-Fix: take the file as 'audit' printed it.
-"#,
-        ..=105 => r#"Number
+const P303: &str = r#"A row's cursor isn't one: see 'any'."#;
 
-A number isn't in decimal digits without leading zeros, or a group isn't after
-one space.
+const P304: &str = r#"    sh try 's/s40/s960/'"#;
 
-The file base.toml:
+const P305: &str = r#"    certificate: line 6: Cursor"#;
 
-    entry = 1
+const P306: &str = r#"Count"#;
 
-    [[frame]]
-    id = "1a"
-    rows = []
+const P307: &str = r#"There are more or fewer rows than the line 'rows' says."#;
 
-The file base.cert:
+const P308: &str = r#"    sh try 's/^rows 1/rows 2/'"#;
 
-    PBC1
-    entry 1
-    ceiling 0
-    keyings 0
-    rows 1
-    1a 0 s40
-    end
+const P309: &str = r#"    certificate: line 7: Count"#;
 
-The file try:
+const P310: &str = r#"Tail"#;
 
-    sed "$1" base.cert >other.cert
-    pageaudit check base.toml other.cert --ceiling 0 --keyings 0
+const P311: &str = r#"Something follows the line 'end'."#;
 
-The commands:
+const P312: &str = r#"    sh try 's/^end/&\n&/'"#;
 
-    sh try 's/^entry 1/entry 01/'
+const P313: &str = r#"    certificate: line 8: Tail"#;
 
-They print on standard error, with status 3:
+const P314: &str = r#"Truncated"#;
 
-    certificate: line 2: Number
+const P315: &str = r#"The file ends before the line 'end', or in it."#;
 
-Fix: take the file as 'audit' printed it.
-"#,
-        ..=106 => r#"Range
+const P316: &str = r#"    sh try '/^end/d'"#;
 
-A number is above its limit: 999,999,999 for 'entry', 9,999 for 'ceiling',
-65,535 for all others. Or a group is 0, or the seventeenth.
+const P317: &str = r#"    certificate: line 7: Truncated"#;
 
-The file base.toml:
+const P318: &str = r#"I4 BadGroups"#;
 
-    entry = 1
+const P319: &str = r#"--groups isn't 1 to 16 numbers, 1 to 65,535 without leading zeros, ascending,
+with only commas between."#;
 
-    [[frame]]
-    id = "1a"
-    rows = []
+const P320: &str = r#"    pageaudit walk base.toml '' --groups 9,7"#;
 
-The file base.cert:
+const P321: &str = r#"They print on standard error, with status 2:"#;
 
-    PBC1
-    entry 1
-    ceiling 0
-    keyings 0
-    rows 1
-    1a 0 s40
-    end
+const P322: &str = r#"    groups: I4 BadGroups"#;
 
-The file try:
+const P323: &str = r#"Fix: write them as '7,9'. For callers in no group leave the option out."#;
 
-    sed "$1" base.cert >other.cert
-    pageaudit check base.toml other.cert --ceiling 0 --keyings 0
+const P324: &str = r#"I3 BadKey"#;
 
-The commands:
+const P325: &str = r#"No key begins at this byte of a walk's keys. Nothing is walked."#;
 
-    sh try 's/^ceiling 0/ceiling 10000/'
+const P326: &str = r#"    pageaudit walk base.toml '1*5#'"#;
 
-They print on standard error, with status 3:
+const P327: &str = r#"    keys: I3 BadKey 1"#;
 
-    certificate: line 3: Range
+const P328: &str =
+    r#"Fix: write '0' to '9', '#', '*#', '*00' and '*09', without spaces, in quotation
+marks."#;
 
-Fix: take the file as 'audit' printed it.
-"#,
-        ..=107 => r#"Order
+const P329: &str = r#"read failed"#;
 
-An id isn't greater than the one before, by page, then by letter; or a group
-isn't.
+const P330: &str = r#"The file can't be opened, or reading it failed, as it does for a folder."#;
 
-The file base.toml:
-
-    entry = 1
-
-    [[frame]]
-    id = "1a"
-    rows = []
-
-The file base.cert:
-
-    PBC1
-    entry 1
-    ceiling 0
-    keyings 0
-    rows 1
-    1a 0 s40
-    end
-
-The file try:
-
-    sed "$1" base.cert >other.cert
-    pageaudit check base.toml other.cert --ceiling 0 --keyings 0
-
-The commands:
-
-    sh try 's/^rows 1/rows 2/; s/^1a.*/&\n&/'
-
-They print on standard error, with status 3:
-
-    certificate: line 7: Order
-
-Fix: take the file as 'audit' printed it.
-"#,
-        ..=108 => r#"Cursor
-
-A row's cursor isn't one: see 'any'.
-
-The file base.toml:
-
-    entry = 1
-
-    [[frame]]
-    id = "1a"
-    rows = []
-
-The file base.cert:
-
-    PBC1
-    entry 1
-    ceiling 0
-    keyings 0
-    rows 1
-    1a 0 s40
-    end
-
-The file try:
-
-    sed "$1" base.cert >other.cert
-    pageaudit check base.toml other.cert --ceiling 0 --keyings 0
-
-The commands:
-
-    sh try 's/s40/s960/'
-
-They print on standard error, with status 3:
-
-    certificate: line 6: Cursor
-
-Fix: take the file as 'audit' printed it.
-"#,
-        ..=109 => r#"Count
-
-There are more or fewer rows than the line 'rows' says.
-
-The file base.toml:
-
-    entry = 1
-
-    [[frame]]
-    id = "1a"
-    rows = []
-
-The file base.cert:
-
-    PBC1
-    entry 1
-    ceiling 0
-    keyings 0
-    rows 1
-    1a 0 s40
-    end
-
-The file try:
-
-    sed "$1" base.cert >other.cert
-    pageaudit check base.toml other.cert --ceiling 0 --keyings 0
-
-The commands:
-
-    sh try 's/^rows 1/rows 2/'
-
-They print on standard error, with status 3:
-
-    certificate: line 7: Count
-
-Fix: take the file as 'audit' printed it.
-"#,
-        ..=110 => r#"Tail
-
-Something follows the line 'end'.
-
-The file base.toml:
-
-    entry = 1
-
-    [[frame]]
-    id = "1a"
-    rows = []
-
-The file base.cert:
-
-    PBC1
-    entry 1
-    ceiling 0
-    keyings 0
-    rows 1
-    1a 0 s40
-    end
-
-The file try:
-
-    sed "$1" base.cert >other.cert
-    pageaudit check base.toml other.cert --ceiling 0 --keyings 0
-
-The commands:
-
-    sh try 's/^end/&\n&/'
-
-They print on standard error, with status 3:
-
-    certificate: line 8: Tail
-
-Fix: take the file as 'audit' printed it.
-"#,
-        ..=111 => r#"Truncated
-
-The file ends before the line 'end', or in it.
-
-The file base.toml:
-
-    entry = 1
-
-    [[frame]]
-    id = "1a"
-    rows = []
-
-The file base.cert:
-
-    PBC1
-    entry 1
-    ceiling 0
-    keyings 0
-    rows 1
-    1a 0 s40
-    end
-
-The file try:
-
-    sed "$1" base.cert >other.cert
-    pageaudit check base.toml other.cert --ceiling 0 --keyings 0
-
-The commands:
-
-    sh try '/^end/d'
-
-They print on standard error, with status 3:
-
-    certificate: line 7: Truncated
-
-Fix: take the file as 'audit' printed it.
-"#,
-        ..=112 => r#"new base
-
-'new base: ' or 'new certificate: ' and a fault of that file of the new
-edition. It is read after the old edition.
-
-The file base.toml:
-
-    entry = 1
-
-    [[frame]]
-    id = "1a"
-    rows = []
-
-The commands:
-
-    pageaudit audit base.toml --ceiling 0 --keyings 0 >base.cert
-    sed '/^entry/d' base.toml >new.toml
-    pageaudit change base.toml base.cert new.toml base.cert -c 0 -k 0
-
-They print on standard error, with status 3:
-
-    new base: X4 Absent entry
-
-Fix: that of the fault.
-"#,
-        ..=114 => r#"I4 BadGroups
-
---groups isn't 1 to 16 numbers, 1 to 65,535 without leading zeros, ascending,
-with only commas between.
-
-The file base.toml:
-
-    entry = 1
-
-    [[frame]]
-    id = "1a"
-    rows = []
-
-The commands:
-
-    pageaudit walk base.toml '' --groups 9,7
-
-They print on standard error, with status 2:
-
-    groups: I4 BadGroups
-
-Fix: write them as '7,9'. For callers in no group leave the option out.
-"#,
-        ..=116 => r#"I3 BadKey
-
-No key begins at this byte of a walk's keys. Nothing is walked.
-
-The file base.toml:
-
-    entry = 1
-
-    [[frame]]
-    id = "1a"
-    rows = []
-
-The commands:
-
-    pageaudit walk base.toml '1*5#'
-
-They print on standard error, with status 2:
-
-    keys: I3 BadKey 1
-
-Fix: write '0' to '9', '#', '*#', '*00' and '*09', without spaces, in quotation
-marks.
-"#,
-        ..=117 => r#"read failed
-
-The file can't be opened, or reading it failed, as it does for a folder.
-
-The file base.toml:
-
-    entry = 1
-
-    [[frame]]
-    id = "1a"
-    rows = []
-
-The commands:
-
-    pageaudit walk a ''
+const P331: &str = r#"    pageaudit walk a ''
     pageaudit check base.toml a -c 0 -k 0
     pageaudit change base.toml base.toml a a -c 0 -k 0
-    pageaudit change base.toml base.toml base.toml a -c 0 -k 0
+    pageaudit change base.toml base.toml base.toml a -c 0 -k 0"#;
 
-They print on standard error, with status 3:
-
-    base: read failed
+const P332: &str = r#"    base: read failed
     certificate: read failed
     new base: read failed
-    new certificate: read failed
+    new certificate: read failed"#;
 
-Fix: look at the path, and at who may read the file.
-"#,
-        ..=118 => r#"write failed
+const P333: &str = r#"Fix: look at the path, and at who may read the file."#;
 
-Standard output took only this many bytes. No answer was given, whatever was
-printed.
+const P334: &str = r#"write failed"#;
 
-The file base.toml:
+const P335: &str = r#"Standard output took only this many bytes. No answer was given, whatever was
+printed."#;
 
-    entry = 1
+const P336: &str = r#"    pageaudit walk base.toml '' >/dev/full"#;
 
-    [[frame]]
-    id = "1a"
-    rows = []
+const P337: &str = r#"    output: write failed after 0 bytes"#;
 
-The commands:
+const P338: &str = r#"Fix: make room, or see why the reader of the output ended, and run again."#;
 
-    pageaudit walk base.toml '' >/dev/full
+const P339: &str = r#"memory refused"#;
 
-They print on standard error, with status 3:
+const P340: &str =
+    r#"There isn't enough memory. If there isn't even enough for this line, nothing is
+printed."#;
 
-    output: write failed after 0 bytes
+const P341: &str = r#"Fix: run with more. The largest base takes some 200 MB."#;
 
-Fix: make room, or see why the reader of the output ended, and run again.
-"#,
-        ..=119 => r#"memory refused
+const P342: &str = r#"I1"#;
 
-There isn't enough memory. If there isn't even enough for this line, nothing is
-printed.
-
-Fix: run with more. The largest base takes some 200 MB.
-"#,
-        _ => r#"I1
-
-Codes of the libraries, which no run prints: I1 no page number, L1 a
+const P343: &str = r#"Codes of the libraries, which no run prints: I1 no page number, L1 a
 certificate's line at fault, L2 a reader used after that, S1 ENTRYMISSING, S2
 ENTRYCLOSED, C1 rows out of order, C2 too many rows, C3 no cursor. Nor is
-'certificate: failed' printed, or '*#', '*00' or '*09' in a script.
-"#,
+'certificate: failed' printed, or '*#', '*00' or '*09' in a script."#;
+
+/// The paragraphs of the word at a place, in order.
+pub fn paragraphs_at(place: usize) -> &'static [&'static str] {
+    match place {
+        ..=5 => &[P0, P1, P2, P3, P4, P5, P6, P7],
+        ..=7 => &[P8, P9, P2, P3, P4, P10, P6, P11],
+        ..=12 => &[P12, P13, P2, P14, P4, P15, P6, P16],
+        ..=14 => &[P17, P18, P2, P19, P4, P20, P21, P22, P23],
+        ..=15 => &[
+            P24, P25, P2, P19, P4, P20, P21, P22, P26, P27, P28, P2, P29, P30, P31, P32, P33, P4,
+            P34, P21, P35, P36,
+        ],
+        ..=16 => &[
+            P37, P38, P2, P39, P4, P5, P21, P40, P41, P42, P43, P2, P29, P30, P31, P32, P33, P4,
+            P44, P21, P45, P46,
+        ],
+        ..=18 => &[P37, P38, P2, P39, P4, P5, P21, P40, P41],
+        ..=21 => &[P47, P48, P2, P49, P4, P50, P21, P51, P52],
+        ..=22 => &[P53, P54, P2, P55, P4, P56, P21, P57, P58],
+        ..=23 => &[P59, P60, P2, P61, P4, P62, P21, P63, P64],
+        ..=24 => &[P65, P66, P2, P67, P4, P5, P21, P68, P69],
+        ..=25 => &[P70, P71, P2, P72, P4, P5, P21, P73, P74],
+        ..=26 => &[P75, P76, P2, P77, P4, P78, P6, P79],
+        ..=27 => &[P80, P81, P2, P77, P4, P82, P6, P83],
+        ..=28 => &[P84, P85, P2, P77, P4, P86, P6, P87, P88],
+        ..=29 => &[P89, P90, P2, P77, P4, P91, P6, P92],
+        ..=30 => &[P93, P94, P2, P29, P30, P31, P4, P95, P6, P96],
+        ..=31 => &[P97, P98, P2, P29, P30, P31, P4, P99, P21, P100, P101],
+        ..=33 => &[
+            P102, P103, P2, P29, P30, P31, P32, P33, P4, P104, P21, P105, P106,
+        ],
+        ..=35 => &[P107, P108, P2, P29, P30, P31, P4, P109, P21, P100, P110],
+        ..=37 => &[P111, P112, P2, P29, P30, P31, P4, P113, P21, P114, P115],
+        ..=39 => &[P116, P117, P2, P29, P30, P31, P4, P118, P21, P119, P120],
+        ..=41 => &[
+            P121, P122, P2, P29, P30, P31, P32, P33, P4, P123, P21, P124, P125,
+        ],
+        ..=43 => &[
+            P126, P127, P2, P29, P30, P31, P32, P33, P4, P128, P21, P129, P130,
+        ],
+        ..=45 => &[
+            P131, P132, P2, P29, P30, P31, P32, P33, P4, P133, P21, P134, P135,
+        ],
+        ..=47 => &[
+            P27, P28, P2, P29, P30, P31, P32, P33, P4, P34, P21, P35, P36,
+        ],
+        ..=49 => &[
+            P136, P137, P2, P29, P30, P31, P32, P33, P4, P138, P21, P139, P125,
+        ],
+        ..=51 => &[
+            P42, P43, P2, P29, P30, P31, P32, P33, P4, P44, P21, P45, P46,
+        ],
+        ..=53 => &[
+            P140, P141, P2, P29, P30, P31, P32, P33, P4, P142, P21, P143, P125,
+        ],
+        ..=55 => &[
+            P144, P145, P2, P29, P30, P31, P32, P33, P4, P146, P21, P147, P148,
+        ],
+        ..=57 => &[
+            P149, P150, P2, P29, P30, P31, P32, P33, P4, P151, P21, P152, P153,
+        ],
+        ..=59 => &[
+            P154, P155, P2, P29, P30, P31, P32, P33, P4, P156, P21, P157, P125,
+        ],
+        ..=61 => &[
+            P158, P159, P2, P29, P30, P31, P32, P33, P4, P160, P21, P161, P162,
+        ],
+        ..=62 => &[P163, P164, P2, P29, P30, P31, P4, P165, P21, P166, P167],
+        ..=63 => &[
+            P168, P169, P2, P29, P30, P31, P4, P170, P21, P171, P172, P173, P174, P2, P175, P4,
+            P176, P177, P178, P179,
+        ],
+        ..=65 => &[P180, P181, P2, P29, P30, P31, P4, P182, P21, P183, P184],
+        ..=67 => &[P185, P186, P2, P29, P30, P31, P4, P187, P21, P188, P189],
+        ..=68 => &[
+            P190, P191, P192, P193, P4, P194, P6, P195, P196, P197, P198, P2, P199, P4, P200, P6,
+            P201,
+        ],
+        ..=72 => &[P197, P198, P2, P199, P4, P200, P6, P201],
+        ..=74 => &[P202, P203, P4, P204, P177, P205, P206],
+        ..=76 => &[P207, P208, P32, P209, P4, P210, P177, P211, P212],
+        ..=78 => &[P213, P214, P32, P209, P4, P215, P177, P216, P217],
+        ..=80 => &[P218, P219, P32, P209, P4, P220, P177, P221, P222],
+        ..=82 => &[P223, P224, P32, P209, P4, P225, P177, P226, P227],
+        ..=83 => &[P228, P229, P32, P209, P4, P230, P177, P231, P232],
+        ..=84 => &[
+            P228, P229, P32, P209, P4, P230, P177, P231, P232, P233, P234, P2, P175, P30, P235,
+            P32, P236, P4, P237, P177, P238, P239,
+        ],
+        ..=86 => &[P240, P241, P32, P209, P4, P242, P177, P243, P244],
+        ..=88 => &[P245, P246, P32, P209, P4, P247, P177, P248, P249],
+        ..=90 => &[P250, P251, P32, P209, P4, P252, P177, P253, P254],
+        ..=92 => &[P255, P256, P2, P257, P4, P258, P177, P259, P260],
+        ..=94 => &[P261, P262, P32, P209, P4, P263, P177, P264, P265],
+        ..=96 => &[P266, P267, P2, P268, P4, P258, P177, P269, P270],
+        ..=98 => &[P271, P272, P2, P273, P4, P258, P177, P274, P275],
+        ..=100 => &[P276, P277, P4, P278, P177, P279, P280],
+        ..=102 => &[P281, P282, P32, P209, P4, P283, P177, P284, P285],
+        ..=103 => &[
+            P286, P287, P2, P175, P30, P235, P32, P236, P4, P288, P177, P289, P239,
+        ],
+        ..=104 => &[
+            P290, P291, P2, P175, P30, P235, P32, P236, P4, P292, P177, P293, P239,
+        ],
+        ..=105 => &[
+            P294, P295, P2, P175, P30, P235, P32, P236, P4, P296, P177, P297, P239,
+        ],
+        ..=106 => &[
+            P233, P234, P2, P175, P30, P235, P32, P236, P4, P237, P177, P238, P239,
+        ],
+        ..=107 => &[
+            P298, P299, P2, P175, P30, P235, P32, P236, P4, P300, P177, P301, P239,
+        ],
+        ..=108 => &[
+            P302, P303, P2, P175, P30, P235, P32, P236, P4, P304, P177, P305, P239,
+        ],
+        ..=109 => &[
+            P306, P307, P2, P175, P30, P235, P32, P236, P4, P308, P177, P309, P239,
+        ],
+        ..=110 => &[
+            P310, P311, P2, P175, P30, P235, P32, P236, P4, P312, P177, P313, P239,
+        ],
+        ..=111 => &[
+            P314, P315, P2, P175, P30, P235, P32, P236, P4, P316, P177, P317, P239,
+        ],
+        ..=112 => &[P173, P174, P2, P175, P4, P176, P177, P178, P179],
+        ..=114 => &[P318, P319, P2, P175, P4, P320, P321, P322, P323],
+        ..=116 => &[P324, P325, P2, P175, P4, P326, P321, P327, P328],
+        ..=117 => &[P329, P330, P2, P175, P4, P331, P177, P332, P333],
+        ..=118 => &[P334, P335, P2, P175, P4, P336, P177, P337, P338],
+        ..=119 => &[P339, P340, P341],
+        _ => &[P342, P343],
     }
 }
 

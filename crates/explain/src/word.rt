@@ -5,7 +5,7 @@ ghost use Rattle.explain.specs.Listed.{listed};
 ghost use Rattle.explain.specs.Words.{is_cursor, names_in_lines, texts_of, IsAmong, IsListed};
 
 use crate::cursor::is_cursor;
-use crate::pages::{CURSOR, OVERVIEW, WORDS, text_at};
+use crate::pages::{CURSOR, OVERVIEW, WORDS, paragraphs_at};
 
 /// The words of the list.
 pub fn words() -> &'static [&'static str]
@@ -26,15 +26,16 @@ fn place_among(words: &[&'static str], word: &str) -> Option<usize>
     None
 }
 
-/// What is printed for a word: the text of its page, or of both pages that it is on. `None` if no page has it.
+/// What is printed for a word, in paragraphs that a blank line parts: the text of its section, or of both that it is in, each
+/// with its title first. `None` if no section has it.
 ///
 /// The words are those of the list, in any case of letters, and the cursors, by their form.
-pub fn explanation(word: &str) -> Option<&'static str>
+pub fn explanation(word: &str) -> Option<&'static [&'static str]>
     ensures { IsSome result ↔ (IsListed word.now ⊎ (is_cursor word.now ≡ true)) }
 {
     match place_among(words(), word) {
-        Some(place) => Some(text_at(place)),
-        None if is_cursor(word.as_bytes()) => Some(text_at(CURSOR)),
+        Some(place) => Some(paragraphs_at(place)),
+        None if is_cursor(word.as_bytes()) => Some(paragraphs_at(CURSOR)),
         None => None,
     }
 }
