@@ -1,7 +1,7 @@
 -- What bytes write, and where they leave a terminal.
 use Rattle.terminal_codes.specs.declared.caret.Caret.{Caret}
 use Rattle.terminal_codes.specs.Screen.{Screen, moved, code_of, byte_step, IsScreen, run}
-use Rattle.std.specs.Prelude.{ℕ, ◌+◌, ◌%◌, ◌==◌, ◌||◌, ◌&&◌, map, Bool, List, [], ◌∷◌, ◌++◌, Option, Some, None, nat_lt, nat_le, if◌then◌else◌, set, ◌≡◌, false, get_or}
+use Rattle.std.specs.Prelude.{All, ◌<◌, ◌≤◌, ℕ, ◌+◌, ◌%◌, ◌==◌, ◌||◌, ◌&&◌, map, Bool, List, [], ◌∷◌, ◌++◌, Option, Some, None, nat_lt, nat_le, if◌then◌else◌, set, ◌≡◌, false, get_or}
 use Rattle.std.specs.List.{range_with_len, list_any}
 
 -- Where a terminal is: its position and pending escape, without its cells.
@@ -97,6 +97,14 @@ pub record StoresWrites (t : Screen) (bytes : List ℕ) : Type 0 where
 -- of every terminal and all bytes
 abbrev pub CellsAreWrites : Type 0
 CellsAreWrites = (t : Screen) (bytes : List ℕ) → IsScreen t → StoresWrites t bytes
+
+-- a code that a cell can hold: a character or mosaic, 20 to 7F, or an attribute, 80 to 9F
+abbrev pub IsCode : ℕ → Type 0
+IsCode c = (0x20 ≤ c) × (c < 0xA0)
+
+-- of every terminal whose cells hold such codes, as those of a new one do, and all bytes: they still do
+abbrev pub CellsHoldCodes : Type 0
+CellsHoldCodes = (t : Screen) (bytes : List ℕ) → All (λ b. b < 256) bytes → All IsCode t.cells → All IsCode (run t bytes).cells
 
 -- the pairs and the end are the same from equal position and pending escape
 pub record RunsAlike (t u : Screen) (bytes : List ℕ) : Type 0 where

@@ -21,7 +21,7 @@ mod table;
 mod terminal;
 
 pub use caret::Caret;
-pub use laws::{caret_decides, cells_are_writes, starts_decide};
+pub use laws::{caret_decides, cells_are_writes, cells_hold_codes, starts_decide};
 pub use lead::lead_bytes;
 pub use table::{DOUBLE_HEIGHT, code_written, is_service_position};
 pub use terminal::Terminal;
