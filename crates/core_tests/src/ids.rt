@@ -2,7 +2,7 @@
 
 use page_ids::{
     Digit, FrameId, IdFault, Key, KeyList, Letter, NumberFault, PageNo, Way, keys_read, keys_text,
-    number_read, push_keys, push_number,
+    number_read, push_id, push_keys, push_number, push_page,
 };
 use std::test::Fail;
 use test_support::{same, same_in};
@@ -209,12 +209,15 @@ fn a_list_of_keys_is_kept(rt: HostRuntime) -> Result<(), Fail> {
 }
 
 #[test]
-fn numbers_and_keys_are_written_behind_a_text(rt: HostRuntime) -> Result<(), Fail> {
+fn numbers_keys_and_ids_are_written_after_a_text(rt: HostRuntime) -> Result<(), Fail> {
     let keys = keys_read(rt.alloc(), "1*#")?;
+    let id = FrameId::read("1231b")?;
     let mut text = Vec::new(rt.alloc());
     push_number(&mut text, 65_535)?;
     push_keys(&mut text, keys.as_slice())?;
-    same(text.as_slice(), b"655351*#".as_slice())?;
+    push_page(&mut text, id.page)?;
+    push_id(&mut text, id)?;
+    same(text.as_slice(), b"655351*#12311231b".as_slice())?;
     Ok(())
 }
 
