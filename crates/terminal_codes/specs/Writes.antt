@@ -102,7 +102,7 @@ CellsAreWrites = (t : Screen) (bytes : List ℕ) → IsScreen t → StoresWrites
 abbrev pub IsCode : ℕ → Type 0
 IsCode c = (0x20 ≤ c) × (c < 0xA0)
 
--- of every terminal whose cells hold such codes, as those of a new one do, and all bytes: they still do
+-- if the cells of a terminal hold such codes, as those of a new one do, they still do after any bytes
 abbrev pub CellsHoldCodes : Type 0
 CellsHoldCodes = (t : Screen) (bytes : List ℕ) → All (λ b. b < 256) bytes → All IsCode t.cells → All IsCode (run t bytes).cells
 

@@ -9,8 +9,8 @@ pub fn cells_are_writes()
     ensures { CellsAreWrites }
 {}
 
-/// Of every terminal: if its cells hold characters and mosaics (20 to 7F) and attributes (80 to 9F) alone, as those of a new
-/// one do, they do after any bytes too.
+/// After any bytes the cells of a terminal hold only characters and mosaics (20 to 7F) and attributes (80 to 9F), if they did
+/// before, as those of a new one do.
 pub fn cells_hold_codes()
     ensures { CellsHoldCodes }
 {}

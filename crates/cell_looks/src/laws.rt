@@ -1,0 +1,29 @@
+//! Laws of looks: facts about their definitions, which these functions carry and which need no code.
+
+ghost use Rattle.cell_looks.specs.Laws.{EachRowDecides, PlainBefore, CharactersChangeGlyphs, GroundShows, GlyphsAreOfTables};
+
+/// The looks of a row are decided by its own codes, or if the row above covers it by those of that row.
+pub fn each_row_decides()
+    ensures { EachRowDecides }
+{}
+
+/// Before the first attribute of a row all is white on black, single, and each cell has its own code's character.
+pub fn plain_before()
+    ensures { PlainBefore }
+{}
+
+/// A character or mosaic in place of another changes no colour, flash, concealment or height, and no look but that of its own
+/// cell, of its lower half, and of held mosaics, which attributes show.
+pub fn characters_change_glyphs()
+    ensures { CharactersChangeGlyphs }
+{}
+
+/// A concealed or blank cell shows only its background.
+pub fn ground_shows()
+    ensures { GroundShows }
+{}
+
+/// Each cell of a screen holds a character of the table, or a mosaic with one to six blocks.
+pub fn glyphs_are_of_tables()
+    ensures { GlyphsAreOfTables }
+{}

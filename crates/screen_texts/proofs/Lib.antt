@@ -1,0 +1,6 @@
+pub mod Lines
+pub mod Markups
+pub mod Runs
+pub mod Shows
+pub mod Safe
+pub mod Tags
