@@ -1,0 +1,7 @@
+use Rattle.std.proofs.Common.{◌≡◌, drop}
+use Rattle.frame_screens.specs.Screens.{new_terminal, with_frames, records}
+use Rattle.frame_screens.proofs.sending.terminal_after.Given as goal
+
+-- the frames that are left make of the terminal what all make of a new one
+abbrev pub invariant-loop-id : goal.invariant-loop-id
+invariant-loop-id l = with_frames l.terminal (records l.base (drop l.id-index l.frames)) ≡ with_frames new_terminal (records l.base l.frames)

@@ -1,0 +1,26 @@
+ghost use Rattle.frame_screens.specs.Laws.{HeadlineIsSeen, FramesDecide, WaysLeadThere};
+
+use checker::{cleared_is_good, good_is_safe};
+use finder::scripts_lead;
+
+/// If the check of a base is Cleared, then after every list of keys the screen, before the centre's rows are painted, has in
+/// rows 0 and 23 what was there before, or blanks if a frame cleared it; on a new terminal they are blank. No double height in
+/// row 22 shows in row 23.
+pub fn headline_is_seen()
+    ensures { HeadlineIsSeen }
+{
+    cleared_is_good();
+    good_is_safe();
+}
+
+/// Leads and bodies alone decide the screen after a list of frames, and those before a frame that clears decide nothing.
+pub fn frames_decide()
+    ensures { FramesDecide }
+{}
+
+/// A frame is the last on the way to it, and if a key reaches it, the one at which its keys leave the caller.
+pub fn ways_lead_there()
+    ensures { WaysLeadThere }
+{
+    scripts_lead();
+}

@@ -1,0 +1,31 @@
+//! Which screen a caller sees: at a frame, and after a list of keys.
+//!
+//! ```
+//! let way = way_to(alloc, &base, &Groups::none(), id)?; // the frames on the way to a frame, itself the last
+//! screen(&base, &way) // the 960 codes: the frames sent to a new terminal, and the centre's rows 0 and 23
+//! frames_after(alloc, &base, &Groups::none(), keys.as_slice())? // the frames of a session, or NoScreen::Gone(7)
+//! ```
+//!
+//! - [`way_to`]: the frames that are sent on the keys that lead to a frame, as `list` prints them.
+//! - [`frames_after`], [`NoScreen`]: the frames that a session's keys show, or why there is no screen at its end.
+//! - [`FrameList`]: frames in the order in which they are sent, at least one.
+//! - [`screen`], [`terminal_after`], [`send`]: what they leave on a new terminal, with the centre's rows and without.
+//! - [`nearest`]: the frame that was probably meant by an id that the base lacks.
+//! - [`headline_is_seen`]: rows 0 and 23 of a cleared base's screens; [`frames_decide`], [`ways_lead_there`]: laws.
+#![tactic(auto)]
+
+mod header;
+mod keyed;
+mod laws;
+mod list;
+mod near;
+mod sending;
+mod way;
+
+pub use header::screen;
+pub use keyed::{NoScreen, frames_after};
+pub use laws::{frames_decide, headline_is_seen, ways_lead_there};
+pub use list::FrameList;
+pub use near::nearest;
+pub use sending::{send, terminal_after};
+pub use way::way_to;
