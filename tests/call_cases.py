@@ -9,7 +9,7 @@ from pathlib import Path
 
 sys.path.insert(0, str(Path(__file__).resolve().parent))
 from program import TOP
-from second_reading import audit, base, session
+from second_reading import audit, base, screens, session
 from second_reading.map import draw
 
 DEMO = (TOP / "examples" / "demo.toml").read_text("ascii")
@@ -191,6 +191,19 @@ def session_cases():
     yield Case("replay no_entry - 1", "Err(EntryMissing)\n")
 
 
+def screen_cases():
+    yield Case("way_to demo - 1231b", "123a\n1231a\n1231b\n")
+    yield Case("way_to demo - 123a", "123a\n")
+    yield Case("way_to closed - 1231b", "1231b\n")
+    yield Case("way_to no_entry - 5a", "5a\n")
+    yield Case("frames_after demo - 1#*00", "123a\n1231a\n1231b\n1231b\n")
+    yield Case("frames_after demo - 10", "123a\n1231a\n123a\n")
+    yield Case("frames_after demo - 0", "Gone(PageNo { number: 0 })\n")
+    yield Case("frames_after entry_closed - 1", "EntryClosed\n")
+    yield Case("nearest demo 1321a", f"Some({debug_id('1231a')})\n")
+    yield Case("nearest demo 9a", "None\n")
+
+
 def verdict_cases():
     yield Case("check_bytes demo cert 5 1 -", "CLEARED\n")
     yield Case("check_bytes demo cert 4 1 -", "REFUSED K2 CeilingAbove\n")
@@ -227,6 +240,9 @@ UNWRITTEN = "output: write failed after {} bytes"
 LINE = BASES["missing"].splitlines().index("routes = { 0 = 123, 9 = 555 }") + 1
 MISSING = f"base.toml:{LINE}:1: error: MISSING: key 9 of frame 1231b leads to page 555, which has no frame a (keys 1#9)\n"
 UNKNOWN = 'base.toml:2:1: error: X3 UnknownKey: "name" is not a key of a base; did you mean "frame"?\n'
+# The entry frame's codes, and the text of frame 1231b, which is painted over 1231a.
+CELLS = f"{'123a':>35}{'0p':>5}{'WELCOME':<920}"
+SHOWN = f"{'1231b':>35}{'0p':>5}\nPART TWO" + "\n" * 23
 # The words of each run between its name and its output, its words after the output, its status and its text.
 RUNS = [
     ("run_lint demo {}", "50 3 -", 0, ""),
@@ -255,6 +271,9 @@ RUNS = [
     ("run_walk entry_closed {} 1", "-", 1, "ENTRYCLOSED 123a\n"),
     ("run_map demo {} -", "-", 0, MAP),
     ("run_map demo {} 1231", "-", 0, draw(DEMO.encode(), None, "page", 1_231)[0]),
+    ("run_show demo {} - cells", "-", 0, CELLS),
+    ("run_show demo {} 1231b text", "-", 0, SHOWN),
+    ("run_show demo {} :1# text", "-", 0, SHOWN),
     ("run_list demo {}", "-", 0, LIST),
     ("run_list closed {}", "-", 0, CLOSED_LIST),
     ("run_list entry_closed {}", "-", 1, "ENTRYCLOSED 123a\n"),
@@ -277,6 +296,7 @@ def run_cases():
         yield Case(f"run_walk demo 7/{kept} 1# whole -", unread)
         yield Case(f"run_list demo 7/{kept} whole -", unread)
         yield Case(f"run_map demo 7/{kept} - whole -", unread)
+        yield Case(f"run_show demo 7/{kept} - text whole -", unread)
         yield Case(f"run_change demo 7/{kept} cert 7 demo 7 cert 7 whole 50 3 -", unread)
         new = ran(3, fault="new base: read failed")
         yield Case(f"run_change demo 7 cert 7 demo 7/{kept} cert 7 whole 50 3 -", new)
@@ -285,6 +305,10 @@ def run_cases():
         words = f"run_change demo 7 cert 7 demo 7 cert 7/{kept} whole 50 3 -"
         yield Case(words, ran(3, fault="new certificate: read failed"))
     yield Case("run_map demo 7 5 unflushed -", ran(2))
+    yield Case("run_show demo 7 1231c cells unflushed -", ran(2))
+    yield Case("run_show demo 7 :0 text unflushed -", ran(1))
+    yield Case("run_show no_entry 7 - text unflushed -", ran(1))
+    yield Case("run_show entry_closed 7 :1 text unflushed -", ran(1))
     yield Case("run_walk demo 7 1*5# whole -", ran(2, fault="keys: I3 BadKey 1"))
     yield Case("run_audit bad_base_4 7 whole 50 3 -", ran(3, fault="base: X3 UnknownKey"))
     yield Case("run_check demo 7 bad_cert_9 7 whole 5 1 -", ran(3, fault="certificate: line 10: Tail"))
@@ -345,6 +369,8 @@ def large_cases(files):
     text, cert = files["large"], files["large_cert"]
     whole = base.base_of(text.encode())
     scripts = list(audit.discover(whole, [7]).values())
+    deepest = base.id_text(list(audit.discover(whole, [7]))[-1])
+    sent = "".join(f"{base.id_text(id)}\n" for id in screens.sent(whole, [7], base.keys_in(scripts[-1])[0])[0])
     faults, _ = audit.outcome(whole, (4, 2, []))
     tail = f"certificate: line {cert.count(chr(10)) + 1}: Tail\n"
     unknown = f"base: frame {text.count('[[frame]]') - 1}: X3 UnknownKey\n"
@@ -368,6 +394,8 @@ def large_cases(files):
         Case("find large 7", debug_found(found(whole, [7]))),
         Case("find large -", debug_found(found(whole, []))),
         Case(f"script_to large 7 {len(scripts) - 1}", scripts[-1]),
+        Case(f"way_to large 7 {deepest}", sent),
+        Case("run_show large 4096 100000b cells whole -", ran(2)),
         Case("audit large 9 9 7", cert),
         Case("audit large 4 2 -", faults),
         Case("faults large 4 2 -", faults),
@@ -388,7 +416,7 @@ def cases(folder):
     large = large_files()
     for name, text in {**small_files(), **large}.items():
         (folder / name).write_text(text, "ascii")
-    for part in key_cases, base_cases, cert_cases, session_cases, verdict_cases, audit_cases, run_cases:
+    for part in key_cases, base_cases, cert_cases, session_cases, screen_cases, verdict_cases, audit_cases, run_cases:
         yield from part()
     for case in large_cases(large):
         case.is_large = True

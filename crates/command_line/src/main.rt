@@ -1,17 +1,18 @@
 //! The program: audits the page base of a viewdata information provider.
 //!
-//! `lint`, `audit`, `check`, `change`, `walk`, `list` and `map` open their files in the order of the words and pass them to the
-//! runs of the crate `pageaudit`, which are proved over any reader and writer. This crate only opens files, prints and picks the
-//! exit status.
+//! `lint`, `audit`, `check`, `change`, `walk`, `show`, `list` and `map` open their files in the order of the words and pass them
+//! to the runs of the crate `pageaudit`, which are proved over any reader and writer. This crate only opens files, prints and
+//! picks the exit status.
 #![tactic(auto)]
 
 mod out_file;
+mod show_screen;
 
 use audit_report::{FromRead, IntoWrite, RunFault, fault_text, write_whole};
 use checker::Policy;
 use clap::error::ErrorKind;
 use clap::{ArgMatches, Error};
-use command_words::{Request, WordsFault, asked_for, groups_of, matches, words};
+use command_words::{Request, Show, WordsFault, asked_for, groups_of, matches, words};
 use explain::{explanation, nearest, overview};
 use frame_records::Groups;
 use out_file::{Out, is_same_file, open_out};
@@ -19,6 +20,7 @@ use pageaudit::{
     Counts, MapStatus, Status, View, counted_text, run_audit, run_audit_into, run_change,
     run_check, run_lint, run_list, run_map, run_walk, status_of, status_of_lint, status_of_map,
 };
+use show_screen::show;
 use std::alloc::{AllocError, Global};
 use std::process::ExitCode;
 use std::rt::{Env, Files, Stderr};
@@ -40,7 +42,11 @@ fn run<R: Files + Env + Print + Eprint + AllocGlobal>(rt: &R, errors: Stderr) ->
     }
 }
 
-fn obey<R: Files + Print + Eprint + AllocGlobal>(rt: &R, errors: Stderr, words: &[String]) -> u8 {
+fn obey<R: Files + Env + Print + Eprint + AllocGlobal>(
+    rt: &R,
+    errors: Stderr,
+    words: &[String],
+) -> u8 {
     match matches(rt.alloc(), words) {
         Ok(matches) => dispatch(rt, errors, &matches),
         Err(error) => report(rt, &error),
@@ -117,7 +123,7 @@ fn refused<R: Eprint + AllocGlobal>(rt: &R, fault: &RunFault) -> u8 {
 }
 
 // Does what was asked for; the exit status. The groups are read first; files are opened in the order of the words.
-fn dispatch<R: Files + Print + Eprint + AllocGlobal>(
+fn dispatch<R: Files + Env + Print + Eprint + AllocGlobal>(
     rt: &R,
     errors: Stderr,
     matches: &ArgMatches,
@@ -129,7 +135,14 @@ fn dispatch<R: Files + Print + Eprint + AllocGlobal>(
                     base,
                     out: Some(out),
                     ..
-                },
+                }
+                | Request::Show(
+                    Show {
+                        base,
+                        out: Some(out),
+                        ..
+                    },
+                ),
             ),
         ) if is_same_file(rt, base, out) => {
             let _ = eprintln!(rt; "error: --out names the base itself");
@@ -142,7 +155,7 @@ fn dispatch<R: Files + Print + Eprint + AllocGlobal>(
 }
 
 // Runs what was asked for.
-fn answer<R: Files + Print + Eprint + AllocGlobal>(
+fn answer<R: Files + Env + Print + Eprint + AllocGlobal>(
     rt: &R,
     errors: Stderr,
     request: &Request,
@@ -170,6 +183,11 @@ fn answer<R: Files + Print + Eprint + AllocGlobal>(
         Request::List { base, groups } => list_file(rt, base, groups),
         Request::Lint { base, policy } => return lint(rt, base, policy),
         Request::Map { base, view, groups } => return map(rt, base, view, groups),
+        Request::Show(asked) => return show(rt, errors, asked),
+        Request::NoFrame { word } => {
+            let _ = eprintln!(rt; "error: '{word}' is no frame and no page");
+            return 2;
+        }
         Request::Explain { word } => return explain(rt, *word),
     };
     match &run {
@@ -312,7 +330,7 @@ fn audit_to<R: Files + Print + AllocGlobal>(
                 let mut cert = IntoWrite::new(file);
                 run_audit_into(rt.alloc(), &mut base, &mut cert, &mut output, policy)
             };
-            names.close(rt, run)
+            names.close(rt, run, &Status::Clear)
         }
     }
 }

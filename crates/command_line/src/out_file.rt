@@ -1,27 +1,26 @@
-//! The file that `--out` names. A certificate is written beside it under another name, which then takes its place, so that an
-//! old certificate is never lost to a failed audit. What isn't a regular file, as a pipe, is written directly, and the file of
+//! The file that `--out` names. A text is written beside it under another name, which then takes its place, so that an old
+//! certificate or screen is never lost to a failed run. What isn't a regular file, as a pipe, is written directly, and the file of
 //! standard output or standard error through that stream, whose other text is kept.
 
 use audit_report::RunFault;
-use pageaudit::Status;
 use std::fs::{File, Metadata, OpenOptions};
 use std::os::unix::fs::MetadataExt;
 use std::path::PathBuf;
 use std::rt::Files;
 use std::{fs, io};
 
-/// What a certificate is written to.
+/// What the text is written to.
 #[derive(Drop)]
 pub enum Out<F: Drop> {
     /// The file of standard output, after what is in it.
     Output,
     /// The file of standard error.
     Errors,
-    /// A file that is open for the certificate alone.
+    /// A file that is open for the text alone.
     File(OutFile, F),
 }
 
-/// A file that is open for a certificate.
+/// A file that is open for a text.
 #[derive(Drop)]
 pub struct OutFile {
     // The name that takes the file's place, and that of the file; none if the file itself is written.
@@ -116,7 +115,7 @@ fn open_beside<R: Files + AllocGlobal>(
     Ok(Out::File(OutFile { names }, file))
 }
 
-// Opens what is there for the certificate.
+// Opens what is there for the text.
 fn open_there<R: Files + AllocGlobal>(
     rt: &R,
     path: &str,
@@ -135,7 +134,7 @@ fn open_there<R: Files + AllocGlobal>(
     Ok(Out::File(OutFile { names: None }, file))
 }
 
-/// Opens what the certificate is written to. A regular file that is reached through a descriptor of another stream, as
+/// Opens what the text is written to. A regular file that is reached through a descriptor of another stream, as
 /// /dev/fd/3, is refused: neither a new file in its place nor one that is written from its beginning is what its reader expects.
 pub fn open_out<R: Files + AllocGlobal>(rt: &R, path: &str) -> io::Result<Out<R::File>> {
     match fs::metadata(rt, path) {
@@ -146,22 +145,25 @@ pub fn open_out<R: Files + AllocGlobal>(rt: &R, path: &str) -> io::Result<Out<R:
 }
 
 impl OutFile {
-    /// Gives the certificate its name if the run wrote it whole; else nothing of it is left. Call it when the file is closed.
-    pub fn close<R: Files>(
+    /// Gives the text its name if the run ended with the status that says it was written whole; else nothing of it is left. Call
+    /// it when the file is closed.
+    pub fn close<R: Files, T: PartialEq + Drop>(
         self,
         rt: &R,
-        run: Result<Status, RunFault>,
-    ) -> Result<Status, RunFault> {
+        run: Result<T, RunFault>,
+        whole: &T,
+    ) -> Result<T, RunFault> {
         let Some((name, path)) = &self.names else {
             return run;
         };
-        if run == Ok(Status::Clear) && fs::rename(rt, name.as_str(), path).is_ok() {
+        let is_whole = matches!(&run, Ok(status) if status == whole);
+        if is_whole && fs::rename(rt, name.as_str(), path).is_ok() {
             return run;
         }
         let _ = fs::remove_file(rt, name.as_str());
-        match run {
-            Ok(Status::Clear) => Err(RunFault::Write(0)),
-            _ => run,
+        if is_whole {
+            return Err(RunFault::Write(0));
         }
+        run
     }
 }

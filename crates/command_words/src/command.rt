@@ -6,10 +6,14 @@ use cert_table::MOST_RANK;
 use checker::Policy;
 use clap::{Arg, ArgAction, ArgMatches, Command, Error, value_parser};
 use frame_records::{Groups, GroupsFault, MOST_PENCE, Pence};
-use page_ids::{MOST_PAGE, PageNo};
+use page_ids::{FrameId, MOST_PAGE, PageNo};
+use pageaudit::Form;
 use std::alloc::{AllocError, Global};
 use std::rt::Env;
 use std::{env, io};
+
+// The words for the forms of a screen.
+const FORMS: &[&str] = &["text", "ansi", "svg", "cells"];
 
 // A word that is known by its place.
 fn place<'a>(alloc: Global, name: &'a str, help: &'a str) -> Arg<'a> {
@@ -41,6 +45,16 @@ fn with_groups<'a>(alloc: Global, command: Command<'a>) -> Result<Command<'a>, A
         .action(ArgAction::Set)
         .help("Assume callers in these groups: at most 16, ascending, 1 to 65535, e.g. '7,9'");
     command.arg(list)
+}
+
+// The file that is written in place of standard output.
+fn out_option<'a>(alloc: Global, help: &'a str) -> Arg<'a> {
+    Arg::new(alloc, "out")
+        .short('o')
+        .long("out")
+        .value_name("FILE")
+        .action(ArgAction::Set)
+        .help(help)
 }
 
 // What a policy asks, as options.
@@ -98,14 +112,7 @@ fn audit_command<'a>(alloc: Global) -> Result<Command<'a>, AllocError> {
         .about("Find a base's certificate, or list its faults with the keys that show them")
         .after_help(help::AUDIT)
         .arg(place(alloc, "BASE", "The base, a TOML file"))?
-        .arg(
-            Arg::new(alloc, "out")
-                .short('o')
-                .long("out")
-                .value_name("FILE")
-                .action(ArgAction::Set)
-                .help("Write the certificate to FILE, only if there is one"),
-        )?;
+        .arg(out_option(alloc, "Write the certificate to FILE, only if there is one"))?;
     with_policy(alloc, command)
 }
 
@@ -135,6 +142,38 @@ fn walk_command<'a>(alloc: Global) -> Result<Command<'a>, AllocError> {
         .after_help(help::WALK)
         .arg(place(alloc, "BASE", "The base, a TOML file"))?
         .arg(place(alloc, "KEYS", "Keys without spaces, e.g. '1#*#*00*09'"))?;
+    with_groups(alloc, command)
+}
+
+// The form in which a screen is written.
+fn form_option<'a>(alloc: Global) -> Arg<'a> {
+    Arg::new(alloc, "as")
+        .long("as")
+        .value_name("FORM")
+        .action(ArgAction::Set)
+        .value_parser(FORMS)
+        .help("Write text, colours for a terminal, a picture, or the 960 codes")
+}
+
+fn show_command<'a>(alloc: Global) -> Result<Command<'a>, AllocError> {
+    let frame = Arg::new(alloc, "FRAME").action(ArgAction::Set).help(
+        "A frame, e.g. 478a, or a page for its frame a; without it the entry frame",
+    );
+    let keys = Arg::new(alloc, "keys")
+        .long("keys")
+        .value_name("KEYS")
+        .action(ArgAction::Set)
+        .help("Show the screen after these keys from the entry page, e.g. '1#*#'")
+        .conflicts_with("FRAME");
+    let command = Command::new(alloc, "show")
+        .about("Show a screen as a caller sees it")
+        .after_help(help::SHOW)
+        .arg(place(alloc, "BASE", "The base, a TOML file"))?
+        .arg(frame)?;
+    let command = with_option(Ok(command), keys)?.arg(form_option(alloc))?.arg(out_option(
+        alloc,
+        "Write the screen to FILE, only if there is one",
+    ))?;
     with_groups(alloc, command)
 }
 
@@ -226,6 +265,7 @@ fn whole_command<'a>(alloc: Global) -> Result<Command<'a>, AllocError> {
     let whole = with_part(whole, check_command(alloc));
     let whole = with_part(whole, change_command(alloc));
     let whole = with_part(whole, walk_command(alloc));
+    let whole = with_part(whole, show_command(alloc));
     let whole = with_part(whole, list_command(alloc));
     let whole = with_part(whole, map_command(alloc));
     with_part(whole, explain_command(alloc))
@@ -251,6 +291,21 @@ pub fn words(rt: &(impl Env + AllocGlobal), alloc: Global) -> Result<Vec<String>
 
 fn collected(rt: &(impl Env + AllocGlobal), alloc: Global) -> io::Result<Vec<String>> {
     Ok(env::args(rt)?.collect(alloc)?)
+}
+
+/// Which screen is shown, and how.
+#[derive(Drop)]
+pub struct Show<'a> {
+    pub base: &'a str,
+    /// The frame; without it and without keys it is the entry frame.
+    pub frame: Option<FrameId>,
+    /// The keys of a session, of which the last screen is shown. There is no frame beside them.
+    pub keys: Option<&'a str>,
+    /// The form; without it one that suits standard output.
+    pub form: Option<Form>,
+    /// The file that is written; without it standard output.
+    pub out: Option<&'a str>,
+    pub groups: Groups,
 }
 
 /// What the words ask for. Files are named by their paths.
@@ -286,6 +341,12 @@ pub enum Request<'a> {
         base: &'a str,
         keys: &'a str,
         groups: Groups,
+    },
+    /// A screen.
+    Show(Show<'a>),
+    /// A word in a frame's place that names none.
+    NoFrame {
+        word: &'a str,
     },
     /// The frames of a base, for a caller of these groups.
     List {
@@ -344,6 +405,45 @@ fn view_of(words: &ArgMatches) -> View {
     }
 }
 
+// The frame that a word names: an id, or a page for its frame `a`.
+fn frame_of(word: &str) -> Option<FrameId> {
+    match (FrameId::read(word), PageNo::read(word)) {
+        (Ok(id), _) => Some(id),
+        (_, Ok(page)) => Some(FrameId::first(page)),
+        (Err(_), Err(_)) => None,
+    }
+}
+
+// The form that a word names.
+fn form_of(word: &str) -> Option<Form> {
+    match word {
+        "text" => Some(Form::Text),
+        "ansi" => Some(Form::Ansi),
+        "svg" => Some(Form::Svg),
+        "cells" => Some(Form::Cells),
+        _ => None,
+    }
+}
+
+// Which screen is shown, and how.
+fn show_of<'a>(words: &'a ArgMatches, groups: Groups) -> Option<Request<'a>> {
+    let frame = match words.get_str("FRAME") {
+        None => None,
+        Some(word) => match frame_of(word) {
+            Some(id) => Some(id),
+            None => return Some(Request::NoFrame { word }),
+        },
+    };
+    Some(Request::Show(Show {
+        base: words.get_str("BASE")?,
+        frame,
+        keys: words.get_str("keys"),
+        form: words.get_str("as").and_then(form_of),
+        out: words.get_str("out"),
+        groups,
+    }))
+}
+
 /// What the words ask for, by a caller of these groups. There always is a request: clap has taken each word that a command
 /// requires.
 pub fn asked_for<'a>(matches: &'a ArgMatches, groups: Groups) -> Option<Request<'a>> {
@@ -374,6 +474,7 @@ pub fn asked_for<'a>(matches: &'a ArgMatches, groups: Groups) -> Option<Request<
             keys: words.get_str("KEYS")?,
             groups,
         }),
+        ("show", words) => show_of(words, groups),
         ("list", words) => Some(Request::List {
             base: words.get_str("BASE")?,
             groups,

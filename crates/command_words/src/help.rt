@@ -35,6 +35,18 @@ pub const CHANGE: &str = concat!(
 pub const WALK: &str = concat!(
     "Example: pageaudit walk examples/demo.toml '1#*#*00'\n\n",
     "Status: 0 a walk, 1 no session, 2 bad command line or keys,\n",
+    "        3 a file that is refused or can't be read, or a write that fails, 4 out of memory\n\n",
+    "`show --keys` shows the screens",
+);
+
+/// After the options of `show`.
+pub const SHOW: &str = concat!(
+    "A frame is shown over those on the way to it that 'list' prints. Without --as the form is ansi\n",
+    "if standard output is a terminal and NO_COLOR is unset or empty, else text. Mosaics are the\n",
+    "characters U+1FB00 and on: a font that lacks them shows boxes.\n\n",
+    "Example: pageaudit show examples/town.toml --keys '1#'\n\n",
+    "Status: 0 a screen, 1 a session that can't be opened or leaves the base,\n",
+    "        2 bad command line or keys, or no frame FRAME,\n",
     "        3 a file that is refused or can't be read, or a write that fails, 4 out of memory",
 );
 

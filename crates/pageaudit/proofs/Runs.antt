@@ -18,6 +18,13 @@ use Rattle.pageaudit.specs.Files.{Device, IsUntouched, IsTextWritten, IsTextOfFi
 use Rattle.pageaudit.specs.AuditRun.{IsAuditRun, IsAuditIntoRun, IsSplitWritten, status_of_outcome}
 use Rattle.pageaudit.specs.ListRun.{IsListRun, status_of_entry}
 use Rattle.pageaudit.specs.MapRun.{IsMapRun, IsMapWritten}
+use Rattle.pageaudit.specs.declared.show_run.Target.{Target}
+use Rattle.pageaudit.specs.declared.show_run.Form.{Form}
+use Rattle.pageaudit.specs.declared.show_run.ShowStatus.{ShowStatus}
+use Rattle.pageaudit.specs.declared.show_run.ShowStatus.TheVariants.{Shown}
+use Rattle.pageaudit.specs.declared.show_run.Answer.{Answer}
+use Rattle.pageaudit.specs.declared.show_run.Answer.TheVariants as answer
+use Rattle.pageaudit.specs.ShowRun.{IsShown, IsAnswerWritten, IsShowRun}
 use Rattle.lint.specs.declared.counts.Counts.{Counts}
 use Rattle.lint.specs.Findings.{FindingView, finding_lines}
 use Rattle.lint.specs.Lint.{IsLint}
@@ -70,6 +77,13 @@ module _ (base_file out : Device) (base : BaseView) (read : IsBaseOfFile base_fi
       text_run _ _ text.items Drawn (λ none. none) (λ r w. record { map = Some text; is = is; written = w }) r w
   map_run caller view None is (Ok s) w = record { base = base; base_read = read; written = record { map = None; is = is; written = w } }
   map_run caller view None is (Err fault) w = absurd (cc (w.0))
+
+  pub show_run : (caller : List ℕ) (what : Target) (f : Form) (shown : Answer) → IsShown caller what f base shown
+      → (r : Result ShowStatus RunFault) → IsAnswerWritten out shown r → IsShowRun base_file out caller what f r
+  show_run caller what f (answer.Screen text) is r w =
+      text_run _ _ text.items Shown (λ none. none) (λ r w. record { shown = answer.Screen text; is = is; written = w }) r w
+  show_run caller what f (answer.Nothing status) is (Ok s) w = record { base = base; base_read = read; written = record { shown = answer.Nothing status; is = is; written = w } }
+  show_run caller what f (answer.Nothing status) is (Err fault) w = absurd (cc (w.0))
 
 -- an audit with a file of its own for a certificate
 pub split_run : (base_file cert out : Device) (base : BaseView) → IsBaseOfFile base_file base

@@ -7,4 +7,5 @@ pub mod AuditRun
 pub mod LintRun
 pub mod ListRun
 pub mod MapRun
+pub mod ShowRun
 pub mod Files

@@ -13,8 +13,9 @@ use page_ids::{IdFault, KeyList, keys_read};
 use session_machine::{OpenFault, Reply, Session};
 use std::alloc::{AllocError, Global};
 
-// The keys of a text.
-fn read_keys(alloc: Global, words: &str) -> Result<KeyList, RunFault>
+/// The keys of a text. On the fault `Keys` nothing else is said of them: it carries the byte at which the first word that can't be
+/// read begins.
+pub fn read_keys(alloc: Global, words: &str) -> Result<KeyList, RunFault>
     ensures { IsKeysAnswer words.now result }
 {
     match keys_read(alloc, words) {

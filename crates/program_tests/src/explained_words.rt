@@ -44,6 +44,11 @@ fn a_word_has_the_text_of_its_section(_rt: HostRuntime) -> Result<(), Fail> {
     Ok(())
 }
 
+// Whether a text has a paragraph.
+fn has(paragraphs: &[&str], wanted: &str) -> bool {
+    paragraphs.iter().any(|each| *each == wanted)
+}
+
 #[test]
 fn a_word_of_two_sections_has_both_texts(_rt: HostRuntime) -> Result<(), Fail> {
     let rows = [
@@ -55,7 +60,7 @@ fn a_word_of_two_sections_has_both_texts(_rt: HostRuntime) -> Result<(), Fail> {
     for (word, second) in rows {
         same_in(
             word,
-            explanation(word).is_some_and(|paragraphs| paragraphs[1..].iter().any(|each| *each == second)),
+            explanation(word).is_some_and(|paragraphs| has(paragraphs, second)),
             true,
         )?;
     }

@@ -31,6 +31,8 @@ mod map_titles;
 #[cfg(test)]
 mod map_windows;
 #[cfg(test)]
+mod show_runs;
+#[cfg(test)]
 mod statuses;
 #[cfg(test)]
 mod walk_runs;

@@ -5,13 +5,14 @@ use base_text::BaseFault;
 use cert_table::Certificate;
 use cert_text::{CertReader, ReadFault, cert_write};
 use checker::{InputFault, Policy, Verdict};
-use test_support::CERT;
 use fault_scripts::audit;
 use finder::{find, script_to};
 use frame_records::{Base, Groups};
+use frame_screens::{FrameList, NoScreen};
 use page_ids::{IdFault, KeyList, keys_text};
 use std::alloc::{AllocError, Global};
 use std::fmt::Debug;
+use test_support::CERT;
 
 /// The text of an answer, if there was memory for the call and for the text.
 pub type Answer = Result<Vec<u8>, AllocError>;
@@ -80,6 +81,24 @@ pub fn of_script(alloc: Global, base: &Base, groups: &Groups, index: u32) -> Ans
         return Ok(Vec::new(alloc));
     }
     keys_text(alloc, &script_to(alloc, &found, index)?)
+}
+
+/// The ids of frames, a line each.
+pub fn of_frames(alloc: Global, frames: FrameList) -> Answer {
+    let mut text = Vec::new(alloc);
+    for id in frames.as_slice() {
+        text.extend_from_slice(id.text().as_str().as_bytes())?;
+        text.push(b'\n')?;
+    }
+    Ok(text)
+}
+
+pub fn of_keyed(alloc: Global, frames: Result<FrameList, NoScreen>) -> Answer {
+    match frames {
+        Ok(frames) => of_frames(alloc, frames),
+        Err(NoScreen::Memory) => Err(AllocError),
+        Err(none) => shown(alloc, &none),
+    }
 }
 
 /// The line of a run's fault, its exit status, and what it wrote. A run without memory has written nothing.

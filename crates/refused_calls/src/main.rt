@@ -12,7 +12,9 @@ mod answers;
 mod tried;
 mod words;
 
-use answers::{of_base, of_cert, of_fed, of_keys, of_script, of_verdict, shown};
+use answers::{
+    of_base, of_cert, of_fed, of_frames, of_keyed, of_keys, of_script, of_verdict, shown,
+};
 use anyhow::{Context, Result};
 use audit_report::report;
 use base_text::{base_read, body_of_rows};
@@ -20,10 +22,11 @@ use cert_text::cert_read;
 use checker::check_bytes;
 use fault_scripts::{Outcome, audit, faults, judge_base, replay};
 use finder::find;
+use frame_screens::{frames_after, nearest, way_to};
 use page_ids::keys_read;
 use pageaudit::{
-    run_audit, run_change, run_check, run_lint, run_list, run_map, run_walk, status_of,
-    status_of_lint, status_of_map,
+    run_audit, run_change, run_check, run_lint, run_list, run_map, run_show, run_walk, status_of,
+    status_of_lint, status_of_map, status_of_show,
 };
 use std::env;
 use tried::{calls, ran};
@@ -49,6 +52,10 @@ fn called(rt: &HostRuntime, words: &mut Words) -> Option<()> {
         replay(base: base, groups: groups, keys: keys) => shown(alloc, &replay(alloc, &base, &groups, &keys));
         find(base: base, groups: groups) => shown(alloc, &find(alloc, &base, &groups)?);
         script_to(base: base, groups: groups, index: number) => of_script(alloc, &base, &groups, index);
+        way_to(base: base, groups: groups, frame: frame) => of_frames(alloc, way_to(alloc, &base, &groups, frame)?);
+        frames_after(base: base, groups: groups, keys: keys) =>
+            of_keyed(alloc, frames_after(alloc, &base, &groups, keys.as_slice()));
+        nearest(base: base, frame: frame) => shown(alloc, &nearest(alloc, &base, frame)?);
         audit(base: base, policy: policy) => report(alloc, &audit(alloc, &base, &policy)?);
         judge_base(base: base, policy: policy) =>
             report(alloc, &Outcome::Faulty(judge_base(alloc, &base, &policy)?.faults));
@@ -73,6 +80,8 @@ fn run(rt: &HostRuntime, name: &str, words: &mut Words) -> Option<()> {
             ran!(alloc, out, status_of, run_list(alloc, &mut base.source(), &groups, out));
         run_map(base: file, view: view, out: word, groups: groups) =>
             ran!(alloc, out, status_of_map, run_map(alloc, &mut base.source(), &groups, &view, out));
+        run_show(base: file, target: target, form: form, out: word, groups: groups) =>
+            ran!(alloc, out, status_of_show, run_show(alloc, &mut base.source(), &groups, &target, form, out));
         run_lint(base: file, out: word, policy: policy) =>
             ran!(alloc, out, status_of_lint, run_lint(alloc, &mut base.source(), out, "base.toml", &policy));
         _ => None

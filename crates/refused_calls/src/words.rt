@@ -5,13 +5,13 @@ ghost use Rattle.std.specs.Prelude.{◌≡◌, ◌≤◌, IfSome, length, false}
 use audit_report::{FromRead, read_whole};
 use base_text::{MOST_TEXT, RowCells, base_read};
 use checker::Policy;
-use test_support::{FakeSink, FakeSource};
 use frame_records::{Base, Groups, Pence};
-use page_ids::{KeyList, PageNo, keys_read};
-use pageaudit::View;
+use page_ids::{FrameId, KeyList, PageNo, keys_read};
+use pageaudit::{Form, Target, View};
 use std::alloc::{AllocError, Global};
 use std::fs;
 use std::slice::Iter;
+use test_support::{FakeSink, FakeSource};
 
 /// Words that haven't been taken yet. Each function takes the next one, or more; `None` if it is missing or names nothing.
 pub type Words<'a> = Iter<'a, String>;
@@ -44,6 +44,32 @@ pub fn policy(words: &mut Words, rt: &HostRuntime) -> Option<Policy> {
         keyings: u16::try_from(number(words, rt)?).ok()?,
         groups: groups(words, rt)?,
     })
+}
+
+/// A frame, as `123a`.
+pub fn frame(words: &mut Words, rt: &HostRuntime) -> Option<FrameId> {
+    FrameId::read(word(words, rt)?).ok()
+}
+
+/// A screen: that of the entry frame, `-`, the one after keys, as `:1#`, or that of a frame.
+pub fn target(words: &mut Words, rt: &HostRuntime) -> Option<Target> {
+    let word = word(words, rt)?;
+    match word.strip_prefix(":") {
+        Some(keys) => Some(Target::Keys(keys_read(rt.alloc(), keys).ok()?)),
+        None if word == "-" => Some(Target::Entry),
+        None => Some(Target::Frame(FrameId::read(word).ok()?)),
+    }
+}
+
+/// The form of a screen.
+pub fn form(words: &mut Words, rt: &HostRuntime) -> Option<Form> {
+    match word(words, rt)? {
+        "text" => Some(Form::Text),
+        "ansi" => Some(Form::Ansi),
+        "svg" => Some(Form::Svg),
+        "cells" => Some(Form::Cells),
+        _ => None,
+    }
 }
 
 /// A page from which a map is drawn; `-` for all of it.

@@ -1,0 +1,171 @@
+//! The command `show`: in which form, into which file, and what is said if there is no screen.
+
+use crate::out_file::{Out, open_out};
+use crate::{opened, refused};
+use audit_report::{FromRead, IntoWrite, RunFault};
+use command_words::Show;
+use frame_records::Groups;
+use page_ids::FrameId;
+use pageaudit::{Form, ShowStatus, Target, read_keys, run_show, status_of_show};
+use std::os::unix::fs::FileTypeExt;
+use std::rt::{Env, Files, Stderr};
+use std::{env, fs, io};
+
+// Standard output's file.
+const OUTPUT: &str = "/proc/self/fd/1";
+
+// Whether a path is a terminal's.
+fn is_terminal_path(path: &str) -> bool {
+    path.starts_with("/dev/pts/") || path.starts_with("/dev/tty") || path == "/dev/console"
+}
+
+// Whether standard output is a terminal: a character device with such a name. Without /proc it isn't known to be one.
+fn is_terminal<R: Files + AllocGlobal>(rt: &R) -> Result<bool, RunFault> {
+    match fs::read_link(rt, OUTPUT) {
+        Ok(path) if is_terminal_path(path.as_path().as_str()) => Ok(is_device(rt)),
+        Err(error) if error.kind() == io::ErrorKind::OutOfMemory => Err(RunFault::Memory),
+        _ => Ok(false),
+    }
+}
+
+fn is_device<R: Files>(rt: &R) -> bool {
+    match fs::metadata(rt, OUTPUT) {
+        Ok(output) => output.file_type().is_char_device(),
+        Err(_) => false,
+    }
+}
+
+// Whether the environment allows colours: an empty NO_COLOR does.
+fn allows_colours<R: Env + AllocGlobal>(rt: &R) -> Result<bool, RunFault> {
+    match env::var(rt, "NO_COLOR") {
+        Ok(value) => Ok(value.is_empty()),
+        Err(env::VarError::NotPresent) => Ok(true),
+        Err(env::VarError::NotUnicode) => Ok(false),
+        Err(env::VarError::OutOfMemory) => Err(RunFault::Memory),
+    }
+}
+
+// The form that was asked for, or the one that suits standard output.
+fn form_of<R: Files + Env + AllocGlobal>(rt: &R, asked: &Show) -> Result<Form, RunFault> {
+    match asked.form {
+        Some(form) => Ok(form),
+        None if is_terminal(rt)? && allows_colours(rt)? => Ok(Form::Ansi),
+        None => Ok(Form::Text),
+    }
+}
+
+// Which screen was asked for. Keys are read once the base's file is open.
+fn target_of<R: AllocGlobal>(rt: &R, asked: &Show) -> Result<Target, RunFault> {
+    if let Some(words) = asked.keys {
+        return match read_keys(rt.alloc(), words) {
+            Ok(keys) => Ok(Target::Keys(keys)),
+            Err(fault) => Err(fault),
+        };
+    }
+    match asked.frame {
+        Some(id) => Ok(Target::Frame(id)),
+        None => Ok(Target::Entry),
+    }
+}
+
+// Writes the screen to standard output, or to the file that is named.
+fn show_file<R: Files + Env + Print + AllocGlobal>(
+    rt: &R,
+    errors: Stderr,
+    asked: &Show,
+) -> Result<ShowStatus, RunFault> {
+    let base = opened(rt, asked.base, RunFault::ReadBase)?;
+    let target = target_of(rt, asked)?;
+    let form = form_of(rt, asked)?;
+    let out = match asked.out {
+        None => Ok(Out::Output),
+        Some(path) => open_out(rt, path),
+    };
+    match out {
+        Ok(out) => show_to(rt, errors, base, (&target, form, &asked.groups), out),
+        Err(error) if error.kind() == io::ErrorKind::OutOfMemory => Err(RunFault::Memory),
+        Err(_) => Err(RunFault::Write(0)),
+    }
+}
+
+fn show_to<R: Files + Print + AllocGlobal>(
+    rt: &R,
+    errors: Stderr,
+    base: R::File,
+    (target, form, groups): (&Target, Form, &Groups),
+    out: Out<R::File>,
+) -> Result<ShowStatus, RunFault> {
+    let mut base = FromRead::new(base);
+    match out {
+        Out::Output => {
+            let mut output = IntoWrite::new(io::writer(rt));
+            run_show(rt.alloc(), &mut base, groups, target, form, &mut output)
+        }
+        Out::Errors => {
+            let mut output = IntoWrite::new(io::writer(&errors));
+            run_show(rt.alloc(), &mut base, groups, target, form, &mut output)
+        }
+        Out::File(names, file) => {
+            let run = {
+                let mut output = IntoWrite::new(file);
+                run_show(rt.alloc(), &mut base, groups, target, form, &mut output)
+            };
+            names.close(rt, run, &ShowStatus::Shown)
+        }
+    }
+}
+
+fn print_id<R: Eprint>(rt: &R, word: &str, id: FrameId) {
+    let text = id.text();
+    let _ = eprintln!(rt; "{word} {}", text.as_str());
+}
+
+// The frame that the base lacks, and the one that was probably meant.
+fn print_no_frame<R: Eprint>(rt: &R, id: FrameId, near: Option<FrameId>) {
+    let id = id.text();
+    match near {
+        Some(near) => {
+            let near = near.text();
+            let _ = eprintln!(rt;
+                "error: the base has no frame {}; did you mean {}?",
+                id.as_str(),
+                near.as_str()
+            );
+        }
+        None => {
+            let _ = eprintln!(rt; "error: the base has no frame {}", id.as_str());
+        }
+    }
+}
+
+// Says why there is no screen, if there is none.
+fn print_no_screen<R: Eprint>(rt: &R, asked: &Show, status: ShowStatus) {
+    match status {
+        ShowStatus::Shown => {}
+        ShowStatus::EntryMissing(id) => print_id(rt, "ENTRYMISSING", id),
+        ShowStatus::EntryClosed(id) => print_id(rt, "ENTRYCLOSED", id),
+        ShowStatus::Gone(page) => {
+            let page = page.text();
+            let _ = eprintln!(rt; "GONE {}", page.as_str());
+        }
+        ShowStatus::NoFrame(near) => {
+            if let Some(id) = asked.frame {
+                print_no_frame(rt, id, near);
+            }
+        }
+    }
+}
+
+/// Shows a screen, or says in a line on standard error why there is none; the exit status.
+pub fn show<R: Files + Env + Print + Eprint + AllocGlobal>(
+    rt: &R,
+    errors: Stderr,
+    asked: &Show,
+) -> u8 {
+    let run = show_file(rt, errors, asked);
+    match &run {
+        Ok(status) => print_no_screen(rt, asked, *status),
+        Err(fault) => return refused(rt, fault),
+    }
+    status_of_show(&run)
+}

@@ -1,0 +1,228 @@
+ghost use Rattle.std.specs.Prelude.{◌≡◌, IfOk, false};
+ghost use Rattle.frame_records.specs.Bases.{frame_at};
+ghost use Rattle.frame_records.specs.Seek.{entry_of};
+ghost use Rattle.frame_screens.specs.Frames.{keyed_frames};
+ghost use Rattle.pageaudit.specs.Files.{device};
+ghost use Rattle.pageaudit.specs.ShowRun.{screen_text, IsEntryAnswer, IsWayAnswer, IsFrameAnswer, IsLostAnswer};
+ghost use Rattle.pageaudit.specs.ShowRun.{IsKeyedAnswer, IsShown, IsAnswerWritten, IsShowRun, show_number};
+
+use crate::file_fault::base_fault;
+use crate::input::read_base;
+use crate::status::status_of;
+use audit_report::{RunFault, Sink, Source, write_whole};
+use cell_looks::screen_looks;
+use frame_records::{Base, Groups};
+use frame_screens::{FrameList, NoScreen, frames_after, nearest, screen, way_to};
+use page_ids::{FrameId, Key, KeyList, PageNo};
+use screen_texts::{Writing, push_ansi, push_svg, push_text};
+use std::alloc::{AllocError, Global};
+
+/// What is shown.
+#[derive(Debug, Drop)]
+pub enum Target {
+    /// The entry frame, also if it is closed to the caller.
+    Entry,
+    /// A frame, over those on the way to it.
+    Frame(FrameId),
+    /// What a caller sees who pressed these keys.
+    Keys(KeyList),
+}
+
+/// How a screen is written.
+#[derive(Debug, Clone, Copy, PartialEq, Eq)]
+pub enum Form {
+    /// Characters, 24 lines.
+    Text,
+    /// The same in the colours of a terminal.
+    Ansi,
+    /// A picture.
+    Svg,
+    /// Its 960 codes.
+    Cells,
+}
+
+/// The result of a run of show without a fault. If nothing was shown, nothing was written.
+#[derive(Debug, Clone, Copy, PartialEq, Eq)]
+pub enum ShowStatus {
+    /// The screen was written.
+    Shown,
+    /// The base lacks the entry frame, this one.
+    EntryMissing(FrameId),
+    /// The entry frame, this one, is closed to the caller.
+    EntryClosed(FrameId),
+    /// The caller left the base for this page.
+    Gone(PageNo),
+    /// The base lacks the frame; the one that was probably meant.
+    NoFrame(Option<FrameId>),
+}
+
+// A screen in its form, or why there is none.
+#[derive(Drop)]
+enum Answer {
+    Screen(Vec<u8>),
+    Nothing(ShowStatus),
+}
+
+// The screen of frames, in a form.
+fn screen_text(
+    alloc: Global,
+    base: &Base,
+    frames: &FrameList,
+    form: Form,
+) -> Result<Vec<u8>, AllocError>
+    ensures { IfOk result (λ text. text.items ≡ screen_text form base.now frames.now) }
+{
+    let codes = screen(base, frames);
+    let mut text = Vec::new(alloc);
+    match form {
+        Form::Text => push_text(&mut text, &screen_looks(&codes), Writing::Plain)?,
+        Form::Ansi => push_ansi(&mut text, &screen_looks(&codes))?,
+        Form::Svg => push_svg(&mut text, frames.last(), &screen_looks(&codes), None)?,
+        Form::Cells => text.extend_from_slice(&codes)?,
+    }
+    Ok(text)
+}
+
+// The entry frame alone.
+fn entry_answer(alloc: Global, base: &Base, form: Form) -> Result<Answer, AllocError>
+    ensures { IfOk result (IsEntryAnswer form base.now (frame_at base.now (entry_of base.now))) }
+{
+    let entry = base.entry_frame();
+    let Some(_) = base.find(entry) else {
+        return Ok(Answer::Nothing(ShowStatus::EntryMissing(entry)));
+    };
+    let frames = FrameList::of(alloc, entry)?;
+    Ok(Answer::Screen(screen_text(alloc, base, &frames, form)?))
+}
+
+// The screen of a frame, over those on the way to it.
+fn way_answer(
+    alloc: Global,
+    base: &Base,
+    groups: &Groups,
+    id: FrameId,
+    form: Form,
+) -> Result<Answer, AllocError>
+    ensures { IfOk result (IsWayAnswer groups.now form base.now id) }
+{
+    let frames = way_to(alloc, base, groups, id)?;
+    Ok(Answer::Screen(screen_text(alloc, base, &frames, form)?))
+}
+
+// The same, if the base has the frame.
+fn frame_answer(
+    alloc: Global,
+    base: &Base,
+    groups: &Groups,
+    id: FrameId,
+    form: Form,
+) -> Result<Answer, AllocError>
+    ensures { IfOk result (IsFrameAnswer groups.now form base.now id (frame_at base.now id)) }
+{
+    match base.find(id) {
+        Some(_) => way_answer(alloc, base, groups, id, form),
+        None => Ok(Answer::Nothing(ShowStatus::NoFrame(nearest(alloc, base, id)?))),
+    }
+}
+
+// Why there is no screen after keys.
+fn lost_answer(base: &Base, none: &NoScreen) -> Result<Answer, AllocError>
+    ensures { IfOk result (IsLostAnswer base.now none.now) }
+{
+    match none {
+        NoScreen::EntryMissing => Ok(Answer::Nothing(ShowStatus::EntryMissing(base.entry_frame()))),
+        NoScreen::EntryClosed => Ok(Answer::Nothing(ShowStatus::EntryClosed(base.entry_frame()))),
+        NoScreen::Gone(page) => Ok(Answer::Nothing(ShowStatus::Gone(*page))),
+        NoScreen::Memory => Err(AllocError),
+    }
+}
+
+// The screen after a session's keys, or how it ended.
+fn keyed_answer(
+    alloc: Global,
+    base: &Base,
+    groups: &Groups,
+    keys: &[Key],
+    form: Form,
+) -> Result<Answer, AllocError>
+    ensures { IfOk result (IsKeyedAnswer form base.now (keyed_frames groups.now base.now keys.now)) }
+{
+    match frames_after(alloc, base, groups, keys) {
+        Ok(frames) => Ok(Answer::Screen(screen_text(alloc, base, &frames, form)?)),
+        Err(none) => lost_answer(base, &none),
+    }
+}
+
+fn answer_of(
+    alloc: Global,
+    base: &Base,
+    groups: &Groups,
+    target: &Target,
+    form: Form,
+) -> Result<Answer, AllocError>
+    ensures { IfOk result (IsShown groups.now target.now form base.now) }
+{
+    match target {
+        Target::Entry => entry_answer(alloc, base, form),
+        Target::Frame(id) => frame_answer(alloc, base, groups, *id, form),
+        Target::Keys(keys) => keyed_answer(alloc, base, groups, keys.as_slice(), form),
+    }
+}
+
+// Writes a screen, if there is one.
+fn write_answer<O: Sink>(out: &mut O, answer: Answer) -> Result<ShowStatus, RunFault>
+    requires { (O.seen out.old).failed ≡ false }
+    ensures { IsAnswerWritten (device O.seen out.old out.new) answer result }
+{
+    match answer {
+        Answer::Nothing(status) => Ok(status),
+        Answer::Screen(text) => match write_whole(out, text.as_slice()) {
+            Ok(()) => Ok(ShowStatus::Shown),
+            Err(fault) => Err(RunFault::Write(fault.wrote)),
+        },
+    }
+}
+
+/// Writes the screen of a frame, or the one after keys, for a caller of the groups. If there is none, nothing is written, and the
+/// status says why.
+///
+/// The base is read whole and judged first. On every fault except `Write`, nothing was written. A device is not called again
+/// after it returned an error.
+pub fn run_show<B: Source, O: Sink>(
+    alloc: Global,
+    base: &mut B,
+    groups: &Groups,
+    target: &Target,
+    form: Form,
+    out: &mut O,
+) -> Result<ShowStatus, RunFault>
+    requires base_open { (B.seen base.old).failed ≡ false }
+    requires out_open { (O.seen out.old).failed ≡ false }
+
+    // A status: the base's file was read to its end, no device failed, and the screen is that of what was read. A fault: the
+    // first one, of the base's file or of the output.
+    ensures { IsShowRun (device B.seen base.old base.new) (device O.seen out.old out.new)
+        groups.now target.now form result }
+{
+    let base = match read_base(alloc, base) {
+        Ok(base) => base,
+        Err(fault) => return Err(base_fault(fault)),
+    };
+    match answer_of(alloc, &base, groups, target, form) {
+        Ok(answer) => write_answer(out, answer),
+        Err(_) => Err(RunFault::Memory),
+    }
+}
+
+/// The program's exit status after a run of show: 0 a screen, 1 a session that can't be opened or leaves the base, 2 a frame that
+/// the base lacks; of a fault as `status_of`.
+pub fn status_of_show(run: &Result<ShowStatus, RunFault>) -> u8
+    ensures { result ≡ show_number run.now }
+{
+    match run {
+        Ok(ShowStatus::Shown) => 0,
+        Ok(ShowStatus::EntryMissing(_) | ShowStatus::EntryClosed(_) | ShowStatus::Gone(_)) => 1,
+        Ok(ShowStatus::NoFrame(_)) => 2,
+        Err(fault) => status_of(&Err(*fault)),
+    }
+}
