@@ -1,9 +1,9 @@
 //! The faults of bases as a whole.
 
-use test_support::same;
 use base_text::{Cause, WholeFault, draft_of, whole_faults};
 use page_ids::{FrameId, PageNo};
 use std::test::Fail;
+use test_support::same;
 
 // Frames that are too long, lead on from z or share an id, one that doesn't read, and a page that is outside and inside.
 const TOP: &str =

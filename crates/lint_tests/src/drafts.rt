@@ -1,9 +1,9 @@
 //! The drafts of texts: what reads, and every fault.
 
-use test_support::{same, same_in};
 use base_text::{Detail, Draft, TextFault, Word, base_read, draft_of};
 use std::alloc::{AllocError, Global};
 use std::test::Fail;
+use test_support::{same, same_in};
 
 fn draft(alloc: Global, text: &str) -> Result<Draft, Fail> {
     let table = toml::table_from_str(alloc, text).ok().ok_or("TOML")?;

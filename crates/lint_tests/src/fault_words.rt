@@ -1,13 +1,13 @@
 //! The words of an audit's faults, of frames that no walk reaches, and of counts.
 
 use abstract_paint::Start;
-use test_support::same_in;
 use fault_scripts::{Fault, FaultKind};
 use frame_records::{GroupNo, Pence};
 use lint_words::{Judged, push_counted, push_fault, push_unreached};
 use page_ids::{FrameId, keys_read};
 use std::alloc::Global;
 use std::test::Fail;
+use test_support::same_in;
 
 // A fault as it is judged, and its words. The last key of the script is the one that seeks, if a frame is sought.
 #[derive(Clone, Copy)]

@@ -1,11 +1,11 @@
 //! What is printed of a text.
 
-use test_support::{same, same_in};
 use checker::Policy;
 use frame_records::{Groups, Pence};
 use lint::{Counts, counted_text, lint, lint_text};
 use std::alloc::Global;
 use std::test::Fail;
+use test_support::{same, same_in};
 
 fn policy(ceiling: u16, keyings: u16, groups: &str) -> Result<Policy, Fail> {
     let groups = if groups.is_empty() {

@@ -1,9 +1,9 @@
 //! Places and messages that toml doesn't have, and names.
 
-use test_support::{same, same_in};
+use lint_words::push_hint;
 use std::alloc::Global;
 use std::test::Fail;
-use lint_words::push_hint;
+use test_support::{same, same_in};
 
 fn hint(alloc: Global, text: &str, at: usize, message: &str) -> Result<String, Fail> {
     let mut out = Vec::new(alloc);

@@ -1,9 +1,9 @@
 //! Texts that aren't TOML: toml's message and place, which no clause pins, and the hint.
 
-use test_support::same_in;
+use lint_words::push_hint;
 use std::alloc::Global;
 use std::test::Fail;
-use lint_words::push_hint;
+use test_support::same_in;
 
 // A text, the offset and the first words of toml's message, and the hint.
 type Fault<'a> = (&'a [u8], usize, &'a str, &'a str);

@@ -17,6 +17,8 @@ mod hints;
 #[cfg(test)]
 mod places;
 #[cfg(test)]
+mod spans;
+#[cfg(test)]
 mod text_lines;
 #[cfg(test)]
 mod text_words;

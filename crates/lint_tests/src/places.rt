@@ -1,8 +1,8 @@
 //! Places, each looked up as the text that begins there.
 
-use test_support::{same, same_in};
 use std::alloc::Global;
 use std::test::Fail;
+use test_support::{same, same_in};
 use toml_places::Places;
 
 const BASE: &str =

@@ -1,6 +1,6 @@
-use test_support::same_in;
 use std::alloc::Global;
 use std::test::Fail;
+use test_support::same_in;
 use toml_places::TextLines;
 
 // An offset, and its line and column.

@@ -1,11 +1,11 @@
 //! The words of a text's faults.
 
-use test_support::same_in;
 use base_text::{Detail, Field, TableKind, TextFault, ValueKind, Word};
 use lint_words::push_text_fault;
 use page_ids::FrameId;
 use std::alloc::Global;
 use std::test::Fail;
+use test_support::same_in;
 
 // The words of a detail in a table of an index with an id, or at the top.
 fn words_of(

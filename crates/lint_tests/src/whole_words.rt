@@ -1,10 +1,10 @@
 //! The words of a base's faults as a whole.
 
-use test_support::same_in;
 use base_text::WholeFault;
 use lint_words::push_whole_fault;
 use page_ids::{FrameId, PageNo};
 use std::test::Fail;
+use test_support::same_in;
 
 #[test]
 fn faults_of_the_whole_have_their_words(rt: HostRuntime) -> Result<(), Fail> {

@@ -162,19 +162,19 @@ longer [] x = refl
 longer (y ∷ ys) x = ne_eqb (suc (length ((ys ++ x ∷ []) ++ []))) 0 (omega arith)
 
 -- what a header in single brackets writes, or a longer one, opens no frame
-long_opens_none : (n at : ℕ) (j : List ℕ) (p : List (List ℕ)) (k : List ℕ) → opens_frame (mark_in (section_at n (j ∷ (p ++ k ∷ []))) [] at) ≡ false
+long_opens_none : (n : ℕ) (at : ℕ × ℕ) (j : List ℕ) (p : List (List ℕ)) (k : List ℕ) → opens_frame (mark_in (section_at n (j ∷ (p ++ k ∷ []))) [] at) ≡ false
 long_opens_none n at j p k =
     elim (cases_Bool (nat_lt 0 n && bytes_eq j frame_key)) [
       | inl inside ↦ rw (inside, longer p k) refl
       | inr outside ↦ rw outside refl
     ]
 
-other_opens_none : (n at : ℕ) (k : List ℕ) → bytes_eq k frame_key ≡ false → opens_frame (mark_in (section_at n (k ∷ [])) [] at) ≡ false
+other_opens_none : (n : ℕ) (at : ℕ × ℕ) (k : List ℕ) → bytes_eq k frame_key ≡ false → opens_frame (mark_in (section_at n (k ∷ [])) [] at) ≡ false
 other_opens_none n at k other =
     let outside : (nat_lt 0 n && bytes_eq k frame_key) ≡ false = and-false (nat_lt 0 n) (bytes_eq k frame_key) other in
     rw outside refl
 
-table_opens_none : (n at : ℕ) (path : List (List ℕ)) (k : List ℕ) (ns new : Nodes) → along_header path (at_key k std_table) ns ≡ Some new
+table_opens_none : (n : ℕ) (at : ℕ × ℕ) (path : List (List ℕ)) (k : List ℕ) (ns new : Nodes) → along_header path (at_key k std_table) ns ≡ Some new
     → FramesOf n (get_node frame_key ns) → opens_frame (mark_in (section_at n (path ++ k ∷ [])) [] at) ≡ false
 unfolding along_header
 table_opens_none n at [] k ns new h old =
@@ -221,7 +221,7 @@ array_keeps n [] k ns new h old =
     ]
 array_keeps n (j ∷ p) k ns new h old = rw (not_frame j p k) (header_keeps n j p (at_key k array_table) ns new h old)
 
-array_opens : (n at : ℕ) (path : List (List ℕ)) (k : List ℕ)
+array_opens : (n : ℕ) (at : ℕ × ℕ) (path : List (List ℕ)) (k : List ℕ)
     → opens_frame (mark_in (section_at (more_frames n (path ++ k ∷ [])) (path ++ k ∷ [])) [] at) ≡ is_frame (path ++ k ∷ [])
 array_opens n at [] k =
     elim (cases_Bool (bytes_eq k frame_key)) [
@@ -232,7 +232,7 @@ array_opens n at [] k =
     ]
 array_opens n at (j ∷ p) k = long_opens_none _ at j p k ∙ sym (not_frame j p k)
 
-pair_opens_none : (s : Section) (key : Key) (at : ℕ) → opens_frame (mark_in s (parts key) at) ≡ false
+pair_opens_none : (s : Section) (key : Key) (at : ℕ × ℕ) → opens_frame (mark_in s (parts key) at) ≡ false
 pair_opens_none s key at =
     let some : length (s.path ++ parts key) ≢ 0 = simp length-append (omega arith) in
     and-false (is_some (frame_of s)) (length (s.path ++ parts key) == 0) (ne_eqb (length (s.path ++ parts key)) 0 some)
@@ -252,31 +252,34 @@ pub counts_keep : (ms : List Mark) (s : Section) (doc next : Document) (e : Expr
     → Counts (ms ++ mark_of s e at ∷ []) (next_section s e) next
 unfolding define
 counts_keep ms s doc next ((path, k), key_value d) at c h =
+    let w : ℕ × ℕ = (at, length (parts (path, k))) in
     let m = mapped (along_header doc.1 (put (path, k) d) doc.0) (λ root. (root, doc.1)) next h in
-    subst (λ (n : Document). Counts (ms ++ mark_in s (parts (path, k)) at ∷ []) s n) m.same
+    subst (λ (n : Document). Counts (ms ++ mark_in s (parts (path, k)) w ∷ []) s n) m.same
     (record {
       rooted = c.rooted;
       frames = pair_keeps s.frames doc.1 (path, k) d doc.0 m.value c.rooted m.is c.frames;
-      counted = counted_more ms _ s.frames false c.counted (pair_opens_none s (path, k) at);
+      counted = counted_more ms _ s.frames false c.counted (pair_opens_none s (path, k) w);
     })
 counts_keep ms s doc next ((path, k), std_table) at c h =
     let ps = path ++ k ∷ [] in
+    let w : ℕ × ℕ = (at, length ps) in
     let m = mapped (along_header path (at_key k std_table) doc.0) (λ root. (root, ps)) next h in
-    subst (λ (n : Document). Counts (ms ++ mark_in (section_at s.frames ps) [] at ∷ []) (section_at s.frames ps) n) m.same
+    subst (λ (n : Document). Counts (ms ++ mark_in (section_at s.frames ps) [] w ∷ []) (section_at s.frames ps) n) m.same
     (record {
       rooted = λ e. absurd (not_empty path k e);
       frames = rw (section_frames s.frames ps) (table_keeps s.frames path k doc.0 m.value m.is c.frames);
-      counted = counted_more ms _ s.frames false c.counted (table_opens_none s.frames at path k doc.0 m.value m.is c.frames) ∙ sym (section_frames s.frames ps);
+      counted = counted_more ms _ s.frames false c.counted (table_opens_none s.frames w path k doc.0 m.value m.is c.frames) ∙ sym (section_frames s.frames ps);
     })
 counts_keep ms s doc next ((path, k), array_table) at c h =
     let ps = path ++ k ∷ [] in
+    let w : ℕ × ℕ = (at, length ps) in
     let n : ℕ = more_frames s.frames ps in
     let m = mapped (along_header path (at_key k array_table) doc.0) (λ root. (root, ps)) next h in
-    subst (λ (d : Document). Counts (ms ++ mark_in (section_at n ps) [] at ∷ []) (section_at n ps) d) m.same
+    subst (λ (d : Document). Counts (ms ++ mark_in (section_at n ps) [] w ∷ []) (section_at n ps) d) m.same
     (record {
       rooted = λ e. absurd (not_empty path k e);
       frames = rw (section_frames n ps) (array_keeps s.frames path k doc.0 m.value m.is c.frames);
-      counted = counted_more ms _ s.frames (is_frame ps) c.counted (array_opens s.frames at path k) ∙ sym (section_frames n ps);
+      counted = counted_more ms _ s.frames (is_frame ps) c.counted (array_opens s.frames w path k) ∙ sym (section_frames n ps);
     })
 
 pub get_member-close : (k : List ℕ) (ns : Nodes) → get_member k (close ns) ≡ option_map close_node (get_node k ns)

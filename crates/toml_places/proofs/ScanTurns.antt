@@ -1,11 +1,12 @@
 -- A scan, a byte at a time.
-use Rattle.std.proofs.Common.{◌≡◌, ℕ, ◌+◌, ◌<◌, ◌≤◌, Bool, true, false, cond, ◌||◌, List, [], ◌∷◌, ◌++◌, length, take, get_or, refl, ap, ◌∙◌, inl, inr, arith, add-one, zero-add}
+use Rattle.std.proofs.Common.{◌≡◌, ℕ, ◌+◌, ◌<◌, ◌≤◌, Bool, true, false, cond, ◌||◌, List, [], ◌∷◌, ◌++◌, length, length-take, take, get_or, refl, ap, ◌∙◌, inl, inr, arith, add-one, zero-add}
 use Rattle.std.proofs.Math.Seq.{take-suc}
 use Rattle.std.proofs.lemmas.Bool.{cases_Bool}
 use Rattle.std.specs.List.{count_by, list_any}
 use Rattle.std.proofs.lemmas.List.Folds.{list_any-append}
 use Rattle.std.proofs.lemmas.List.Sums.{count_by-le-length, sum_by-append}
-use Rattle.toml_places.specs.Skips.{is_feed, starts_char, last_line, line_after, column_after, place_at}
+use Rattle.toml_places.specs.Skips.{is_feed, last_line, line_after, column_after, place_at}
+use Rattle.toml_places.specs.Strings.{starts_char}
 
 count_by-one : (p : ℕ → Bool) (xs : List ℕ) (x : ℕ) → count_by p (xs ++ x ∷ []) ≡ count_by p xs + cond (p x) 1 0
 count_by-one p xs x = sum_by-append (λ y. cond (p y) 1 0) xs (x ∷ []) ∙ ap (λ n. count_by p xs + n) (zero-add (cond (p x) 1 0))
@@ -84,3 +85,6 @@ module _ (text : List ℕ) (i : ℕ) (room : i < length text) where
 pub place_begins : (text : List ℕ) → (1, 1) ≡ place_at text 0
 unfolding line_after column_after
 place_begins text = refl
+
+pub column_at : (text : List ℕ) (offset : ℕ) → column_after (take offset text) ≤ length text + 1
+column_at text offset = omega (arith, column_within (take offset text), length-take offset text)

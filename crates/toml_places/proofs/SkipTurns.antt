@@ -1,40 +1,19 @@
 -- The loops of the definitions, a turn at a time.
-use Rattle.std.proofs.Common.{◌≡◌, ℕ, zero, suc, ◌-◌, ◌<◌, true, false, ◌||◌, ◌==◌, List, [], ◌∷◌, length, drop, Option, Some, None, refl, arith}
+use Rattle.std.proofs.Common.{◌≡◌, ℕ, zero, suc, ◌-◌, ◌<◌, cond, true, false, ◌||◌, ◌==◌, List, [], ◌∷◌, length, drop, Option, Some, None, option_map, option_and_then, refl, arith}
 use Rattle.std.proofs.lemmas.Bool.{false≢true}
 use Rattle.std.proofs.lemmas.Bool.Decides.{nat_tests}
 use Rattle.toml_parser.specs.Lexical.{first, is_word, skip_blank}
-use Rattle.toml_parser.specs.Numbers.{unquoted, word_len}
+use Rattle.toml_parser.specs.Numbers.{word_len}
 use Rattle.toml.specs.Parse.{after_element}
-use Rattle.toml_places.specs.Skips.{after_atom, after_member, after_members, after_value}
+use Rattle.toml_places.specs.Values.{after_word, after_atom, after_member, after_members, after_value, next_element, element_from}
 
-module _ (after : List ℕ → Option (List ℕ)) (closing : ℕ) where
-  pub members_end : (m : ℕ) (text : List ℕ) → 0 < m → (first (skip_blank text) == closing) ≡ true
-      → after_members after closing m text ≡ Some (drop 1 (skip_blank text))
-  unfolding after_members
-  members_end zero text some here = absurd (omega arith)
-  members_end (suc m) text some here = rw here
-
-  pub members_more : (m : ℕ) (text rest next : List ℕ) → 0 < m → (first (skip_blank text) == closing) ≡ false
-      → after_member after closing (skip_blank text) ≡ Some rest → after_element closing rest ≡ Some next
-      → after_members after closing m text ≡ after_members after closing (m - 1) next
-  unfolding after_members
-  members_more zero text rest next some other read element = absurd (omega arith)
-  members_more (suc m) text rest next some other read element =
-      let less : suc m - 1 ≡ m = omega arith in
-      rw (other, read, element, less)
-
-  pub members_bad : (m : ℕ) (text : List ℕ) → 0 < m → (first (skip_blank text) == closing) ≡ false
-      → after_member after closing (skip_blank text) ≡ None → after_members after closing m text ≡ None
-  unfolding after_members
-  members_bad zero text some other read = absurd (omega arith)
-  members_bad (suc m) text some other read = rw (other, read)
-
-  pub members_bad_end : (m : ℕ) (text rest : List ℕ) → 0 < m → (first (skip_blank text) == closing) ≡ false
-      → after_member after closing (skip_blank text) ≡ Some rest → after_element closing rest ≡ None
-      → after_members after closing m text ≡ None
-  unfolding after_members
-  members_bad_end zero text rest some other read element = absurd (omega arith)
-  members_bad_end (suc m) text rest some other read element = rw (other, read, element)
+pub members_turn : (after : List ℕ → Option (List ℕ)) (closing m : ℕ) (text : List ℕ) → length text < m
+    → after_members after closing m text
+    ≡ cond (first (skip_blank text) == closing) (Some (drop 1 (skip_blank text)))
+    (option_and_then (λ rest. option_and_then (after_members after closing (m - 1)) (after_element closing rest)) (after_member after closing (skip_blank text)))
+unfolding after_members
+members_turn after closing zero text room = absurd (omega arith)
+members_turn after closing (suc m) text room = let less : suc m - 1 ≡ m = omega arith in rw less
 
 pub value_atom : (depth : ℕ) (text : List ℕ) → (first text == 91) ≡ false → (first text == 123) ≡ false
     → after_value depth text ≡ after_atom text
@@ -60,7 +39,7 @@ value_table (suc depth) text some a b =
 
 -- at the end of the depth a bracket begins no value
 pub value_deep : (text : List ℕ) → ((first text == 91) || (first text == 123)) ≡ true → after_value 0 text ≡ None
-unfolding after_value after_atom unquoted word_len
+unfolding after_value after_atom after_word word_len
 value_deep [] h = absurd (false≢true h)
 value_deep (c ∷ cs) h =
     let not_quote : (c == 34) ≡ false = grind (arith, nat_tests) in
@@ -68,3 +47,12 @@ value_deep (c ∷ cs) h =
     let not_word : is_word c ≡ false = grind (arith, nat_tests) in
     let not_space : (c == 32) ≡ false = grind (arith, nat_tests) in
     rw (not_quote, not_apostrophe, not_word, not_space)
+
+pub element_turn : (k : ℕ) (text : List ℕ) → 0 < k → element_from k text ≡ option_and_then (λ e. element_from (k - 1) e.1) (next_element text)
+unfolding element_from
+element_turn zero text some = absurd (omega arith)
+element_turn (suc k) text some = let less : suc k - 1 ≡ k = omega arith in rw less
+
+pub element_here : (text : List ℕ) → element_from 0 text ≡ option_map (λ e. e.0) (next_element text)
+unfolding element_from
+element_here text = refl

@@ -109,14 +109,14 @@ walk_stops text p s rest w other none =
 pub record Wrote (text rest : List ℕ) (old new : Places) (s t : Section) (e : Line) (after : List ℕ) : Type 0 where
   pub shorter : length after < length rest
   pub section : t ≡ section_after s e.0 e.1
-  pub keeps : (ms : List Mark) → Keeps old ms → Keeps new (ms ++ mark_in t (own_parts e.0 e.1) (length text - length (skip_blank rest)) ∷ [])
+  pub keeps : (ms : List Mark) → Keeps old ms → Keeps new (ms ++ mark_in t (own_parts e.0 e.1) (length text - length (skip_blank rest), length (parts e.0)) ∷ [])
 
 walk_on : (text : List ℕ) (old new : Places) (s t : Section) (rest : List ℕ) (w : Walked text old s rest) (r : Read w.fuel w.doc rest) → (length (skip_blank rest) == 0) ≡ false
     → Wrote text rest old new s t (line_of r.e) r.after → Walked text new t r.after
 walk_on text old new s t rest w r other wrote =
     let some : 0 < w.fuel = omega (arith, w.room) in
     let at : ℕ = length text - length (skip_blank rest) in
-    let mark : Mark = mark_in t (own_parts r.e.0 (sort_of r.e.1)) at in
+    let mark : Mark = mark_in t (own_parts r.e.0 (sort_of r.e.1)) (at, length (parts r.e.0)) in
     let more = marks_more (length text) w.fuel s rest r.e r.after some other r.is in
     let shorter = wrote.shorter in
     record {

@@ -1,4 +1,11 @@
 pub mod Lines
 pub mod Walk
 pub mod Places
+pub mod Strings
+pub mod Values
 pub mod Skips
+pub mod Reads
+pub mod Spans
+pub mod Extents
+pub mod SpanReads
+pub mod Tables

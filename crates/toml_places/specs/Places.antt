@@ -1,5 +1,5 @@
 -- The places of the marks of a text.
-use Rattle.std.specs.Prelude.{ℕ, zero, suc, ◌+◌, ◌-◌, Bool, false, ◌&&◌, ◌==◌, nat_lt, if◌then◌else◌, List, [], ◌∷◌, ◌++◌, length, codes, Option, Some, None, ◌≡◌, true, slice_get, unwrap_or, ◌<◌, ◌≤◌, is_some}
+use Rattle.std.specs.Prelude.{ℕ, zero, suc, ◌+◌, ◌-◌, Bool, false, ◌&&◌, ◌==◌, nat_lt, if◌then◌else◌, List, [], ◌∷◌, ◌++◌, length, codes, Option, Some, None, ◌≡◌, true, slice_get, unwrap_or, ◌<◌, ◌≤◌, is_some, map}
 use Rattle.std.specs.Option.{option_map_or, option_or}
 use Rattle.std.specs.Str.{bytes_eq}
 use Rattle.toml_parser.specs.Lexical.{skip_blank}
@@ -11,15 +11,20 @@ use Rattle.toml_places.specs.declared.lines.Sort.TheVariants.{Pair, Table, Array
 use Rattle.toml_places.specs.Skips.{sort_of}
 use Rattle.std.specs.BTreeMap.{get_by_text}
 use Rattle.toml_places.specs.declared.places.Places.{Places}
-use Rattle.toml_places.specs.declared.places.FramePlaces.{FramePlaces}
+use Rattle.toml_places.specs.declared.tables.TablePlaces.{TablePlaces}
+use Rattle.toml_places.specs.declared.spans.Spot.{Spot}
+use Rattle.toml_places.specs.Values.{Pair as InlinePair, pairs}
+use Rattle.toml_places.specs.Spans.{from_offset}
 use Rattle.std.specs.List.{count_by}
 use Rattle.toml.specs.Data.{Items, no_items, item, get_item, Members, array, table, get_member}
 
 -- Where the expressions of a text begin, and what each of them writes.
 
--- the offset of an expression's first byte, the frame that it writes in (none for the top), and its keys in there
+-- the offset of an expression's first byte, how many parts its own key has, the frame that it writes in (none for the top),
+-- and its keys in there, of which the last are its own
 pub record Mark : Type 0 where
   pub at : ℕ
+  pub parts : ℕ
   pub frame : Option ℕ
   pub path : List (List ℕ)
 
@@ -68,15 +73,15 @@ own_parts key ArrayTable = []
 abbrev pub frame_of : Section → Option ℕ
 frame_of s = if s.in_frame then Some (s.frames - 1) else None
 
--- what an expression at this offset writes, whose section is this
-abbrev pub mark_in : Section → List (List ℕ) → ℕ → Mark
-mark_in s own at = record { at = at; frame = frame_of s; path = s.path ++ own }
+-- what an expression at this offset, with this many parts, writes, whose section is this
+abbrev pub mark_in : Section → List (List ℕ) → ℕ × ℕ → Mark
+mark_in s own w = record { at = w.0; parts = w.1; frame = frame_of s; path = s.path ++ own }
 
 abbrev pub next_section : Section → Expression → Section
 next_section s e = section_after s e.0 (sort_of e.1)
 
 abbrev pub mark_of : Section → Expression → ℕ → Mark
-mark_of s e at = mark_in (next_section s e) (own_parts e.0 (sort_of e.1)) at
+mark_of s e at = mark_in (next_section s e) (own_parts e.0 (sort_of e.1)) (at, length (parts e.0))
 
 -- What is written in the rest of a text of `size` bytes, which has fewer than n expressions. Where a line is no expression
 -- the list ends.
@@ -107,10 +112,26 @@ begins (k ∷ keys) (part ∷ path) = bytes_eq k part && begins keys path
 abbrev pub is_under : Option ℕ → List (List ℕ) → Mark → Bool
 is_under frame keys m = same_frame frame m.frame && begins keys m.path
 
--- the offset of the first of these marks that writes in this frame, or the top, below these keys
+-- what is seen of the first of these marks that writes in this frame, or the top, below these keys
+abbrev pub first_by : {X : Type 0} → (Mark → X) → List Mark → Option ℕ → List (List ℕ) → Option X
+first_by see [] frame keys = None
+first_by see (m ∷ ms) frame keys = if is_under frame keys m then Some (see m) else first_by see ms frame keys
+
+-- its offset
 abbrev pub first_at : List Mark → Option ℕ → List (List ℕ) → Option ℕ
-first_at [] frame keys = None
-first_at (m ∷ ms) frame keys = if is_under frame keys m then Some m.at else first_at ms frame keys
+first_at ms frame keys = first_by (λ m. m.at) ms frame keys
+
+-- Where an expression at this offset, with this many parts, writes the key of a number, from 0, in a path of this many: the keys
+-- from it on are its last parts.
+abbrev pub spot_at : ℕ → ℕ → ℕ → ℕ → Spot
+spot_at at parts len k = record { at = at; part = parts - (len - k) }
+
+abbrev pub spot_of : ℕ → Mark → Spot
+spot_of k m = spot_at m.at m.parts (length m.path) k
+
+-- where the last of these keys is first written
+abbrev pub first_spot : List Mark → Option ℕ → List (List ℕ) → Option Spot
+first_spot ms frame keys = first_by (spot_of (length keys - 1)) ms frame keys
 
 abbrev pub routes_key : List ℕ
 routes_key = codes "routes"
@@ -128,39 +149,57 @@ key_place ms (Some frame) key = unwrap_or (first_at ms (Some frame) (key ∷ [])
 abbrev pub route_place : List Mark → ℕ → List ℕ → ℕ
 route_place ms frame sub = unwrap_or (first_at ms (Some frame) (routes_key ∷ sub ∷ [])) (key_place ms (Some frame) routes_key)
 
-abbrev pub at_if : Bool → ℕ → Option ℕ
-at_if b at = if b then Some at else None
+abbrev pub at_if : {X : Type 0} → Bool → X → Option X
+at_if b x = if b then Some x else None
 
 -- there is such a part, and it is this key
 abbrev pub is_key : Option (List ℕ) → List ℕ → Bool
 is_key None key = false
 is_key (Some part) key = bytes_eq key part
 
--- a frame's places after an expression at this offset, whose path begins with these two parts
-pub record NotesFrame (old new : FramePlaces) (one two : Option (List ℕ)) (at : ℕ) : Type 0 where
+-- a table's places after an expression at this offset, whose path begins with these two keys, which are written at these spots
+pub record NotesTable (old new : TablePlaces) (one two : Option (List ℕ)) (at : ℕ) (first second : Spot) : Type 0 where
   pub header : new.header ≡ option_or old.header (Some at)
-  pub keys : (q : List ℕ) → get_by_text new.keys q ≡ option_or (get_by_text old.keys q) (at_if (is_key one q) at)
-  pub routes : (q : List ℕ) → get_by_text new.routes q ≡ option_or (get_by_text old.routes q) (at_if (is_key one routes_key && is_key two q) at)
+  pub keys : (q : List ℕ) → get_by_text new.keys q ≡ option_or (get_by_text old.keys q) (at_if (is_key one q) first)
+  pub routes : (q : List ℕ) → get_by_text new.routes q ≡ option_or (get_by_text old.routes q) (at_if (is_key one routes_key && is_key two q) second)
 
--- the offsets in the places of a frame, if it has some
-abbrev pub header_in : Option FramePlaces → Option ℕ
+-- what is in the places of a frame, if it has some
+abbrev pub header_in : Option TablePlaces → Option ℕ
 header_in None = None
 header_in (Some f) = f.header
 
-abbrev pub key_in : Option FramePlaces → List ℕ → Option ℕ
+abbrev pub key_in : Option TablePlaces → List ℕ → Option Spot
 key_in None q = None
 key_in (Some f) q = get_by_text f.keys q
 
-abbrev pub route_in : Option FramePlaces → List ℕ → Option ℕ
+abbrev pub route_in : Option TablePlaces → List ℕ → Option Spot
 route_in None q = None
 route_in (Some f) q = get_by_text f.routes q
 
--- the places have the first offset of each of these marks
+-- the places have the first spot of each of these marks
 pub record Keeps (p : Places) (ms : List Mark) : Type 0 where
-  pub tops : (q : List ℕ) → get_by_text p.top q ≡ first_at ms None (q ∷ [])
+  pub tops : (q : List ℕ) → get_by_text p.top q ≡ first_spot ms None (q ∷ [])
   pub headers : (k : ℕ) → header_in (slice_get p.frames.items k) ≡ first_at ms (Some k) []
-  pub keys : (k : ℕ) (q : List ℕ) → key_in (slice_get p.frames.items k) q ≡ first_at ms (Some k) (q ∷ [])
-  pub routes : (k : ℕ) (q : List ℕ) → route_in (slice_get p.frames.items k) q ≡ first_at ms (Some k) (routes_key ∷ q ∷ [])
+  pub keys : (k : ℕ) (q : List ℕ) → key_in (slice_get p.frames.items k) q ≡ first_spot ms (Some k) (q ∷ [])
+  pub routes : (k : ℕ) (q : List ℕ) → route_in (slice_get p.frames.items k) q ≡ first_spot ms (Some k) (routes_key ∷ q ∷ [])
+
+-- The pairs of an inline table, in the text from an offset on.
+
+-- what a pair with these parts writes
+abbrev pub inline_mark : ℕ → List (List ℕ) → Mark
+inline_mark at path = record { at = at; parts = length path; frame = None; path = path }
+
+-- in a text of `size` bytes
+abbrev pub pair_mark : ℕ → InlinePair → Mark
+pair_mark size p = inline_mark (size - length p.start) p.path
+
+abbrev pub table_marks : ℕ → List ℕ → List Mark
+table_marks at text = map (pair_mark (length text)) (option_map_or pairs (from_offset at text) [])
+
+-- the places of a table have the first spot of each of these marks
+pub record TableKeeps (t : TablePlaces) (ms : List Mark) : Type 0 where
+  pub keys : (q : List ℕ) → get_by_text t.keys q ≡ first_spot ms None (q ∷ [])
+  pub routes : (q : List ℕ) → get_by_text t.routes q ≡ first_spot ms None (routes_key ∷ q ∷ [])
 
 -- The laws of places, over the definitions.
 
@@ -181,15 +220,6 @@ unfoldable pub HeadersAreFrames : Type 0
 HeadersAreFrames =
     (text : List ℕ) (ms : Members) → parse_document text ≡ Some ms → 0 < header_count (marks text)
     → (frames : Items) × (get_member frame_key ms ≡ Some (array frames)) × (item_count frames ≡ header_count (marks text))
-
--- Of a text that is TOML: the frame with such an index has exactly the keys that the marks of the header with that index begin
--- with. So a key that a frame has is written where its place is.
-unfoldable pub FramesHaveTheirKeys : Type 0
-FramesHaveTheirKeys =
-    (text : List ℕ) (ms : Members) (frames : Items) (k : ℕ) → parse_document text ≡ Some ms → get_member frame_key ms ≡ Some (array frames)
-    → k < header_count (marks text)
-    → (frame : Members) × (get_item k frames ≡ Some (table frame))
-    × ((key : List ℕ) → is_some (get_member key frame) ≡ is_some (first_at (marks text) (Some k) (key ∷ [])))
 
 -- Of every text: no place is past its end.
 unfoldable pub PlacesAreWithin : Type 0

@@ -6,15 +6,13 @@ use Rattle.toml_parser.specs.Strings.{Key, quoted, starts_string, recursion_limi
 use Rattle.toml_parser.specs.Numbers.{unquoted}
 use Rattle.toml.specs.Tables.{Definition, key_value, std_table, array_table, Expression}
 use Rattle.toml.specs.Parse.{after_byte, after_element, key_equals, header_key, ends_line}
+use Rattle.toml_places.specs.Strings.{starts_char}
+use Rattle.toml_places.specs.Values.{after_value}
 use Rattle.toml_places.specs.declared.lines.Sort.{Sort}
 use Rattle.toml_places.specs.declared.lines.Sort.TheVariants.{Pair, Table, ArrayTable}
 
 abbrev pub is_feed : ℕ → Bool
 is_feed byte = byte == 0x0A
-
--- In UTF-8 a character begins with any byte but 80 to BF.
-abbrev pub starts_char : ℕ → Bool
-starts_char byte = nat_lt byte 0x80 || nat_le 0xC0 byte
 
 -- what follows the last line feed
 abbrev pub last_line : List ℕ → List ℕ
@@ -37,41 +35,11 @@ place_at text offset = (line_after (take offset text), column_after (take offset
 abbrev pub ArePlaces : List ℕ → List (ℕ × ℕ) → Type 0
 ArePlaces text places = (step : ℕ) → step * 512 ≤ length text → slice_get places step ≡ Some (place_at text (step * 512))
 
--- The text after a value and after an expression. It is read as toml's grammar reads it, but no value is kept, so a key
--- that is defined twice isn't refused.
+-- The text after an expression.
 
 infixl 10 ◌>>=◌
 abbrev ◌>>=◌ : {A B : Type 0} → Option A → (A → Option B) → Option B
 o >>= f = option_and_then f o
-
--- the text after what was read
-abbrev pub text_after : {A : Type 0} → Read A → Option (List ℕ)
-text_after r = option_map (λ p. p.1) r
-
--- after a string or a scalar
-unfoldable pub after_atom : List ℕ → Option (List ℕ)
-after_atom text = if starts_string text then text_after (quoted text) else text_after (unquoted text)
-
-module _ (after : List ℕ → Option (List ℕ)) where
-  -- after an element of an array, or a pair of an inline table, whichever this bracket closes
-  unfoldable pub after_member : ℕ → List ℕ → Option (List ℕ)
-  after_member closing text = if closing == right_brace then key_equals text >>= (λ k. after k.1) else after text
-
-  -- after the closing bracket, with fewer than n elements or pairs before it
-  unfoldable pub after_members : ℕ → ℕ → List ℕ → Option (List ℕ)
-  after_members closing zero text = None
-  after_members closing (suc n) text =
-      let start = skip_blank text in
-      if first start == closing then Some (drop 1 start)
-      else after_member closing start >>= (λ rest. after_element closing rest >>= after_members closing n)
-
--- after a value, with arrays and inline tables at most this deep
-unfoldable pub after_value : ℕ → List ℕ → Option (List ℕ)
-after_value zero text = after_atom text
-after_value (suc depth) text =
-    if first text == left_bracket then after_members (after_value depth) right_bracket (length text) (drop 1 text)
-    else if first text == left_brace then after_members (after_value depth) right_brace (length text) (drop 1 text)
-    else after_atom text
 
 -- the key of an expression, and its kind
 abbrev pub Line : Type 0

@@ -1,4 +1,5 @@
-ghost use Rattle.toml_places.specs.Places.{HeadersAreFrames, FramesHaveTheirKeys, PlacesAreWithin};
+ghost use Rattle.toml_places.specs.Places.{HeadersAreFrames, PlacesAreWithin};
+ghost use Rattle.toml_places.specs.SpanReads.{SpansStand, SpansAreRead};
 
 /// Of every text that is TOML and has a header `[[frame]]`: the array at `frame` has one element for each such header. So the
 /// k-th header opens the k-th frame.
@@ -6,13 +7,18 @@ pub fn headers_are_frames()
     ensures { HeadersAreFrames }
 {}
 
-/// Of every text that is TOML: the frame that the k-th header opens has a key if and only if an expression in that frame
-/// writes it. So a key that a frame has is at the place of an expression in that frame, not at the frame's.
-pub fn frames_have_their_keys()
-    ensures { FramesHaveTheirKeys }
-{}
-
 /// Of every text: no place is past its end.
 pub fn places_are_within()
     ensures { PlacesAreWithin }
+{}
+
+/// Every span lies in its text, and has what the definition of its piece says.
+pub fn spans_stand()
+    ensures { SpansStand }
+{}
+
+/// Where toml's grammar reads a key, a value, an array or a string, what it reads in the span of a part of the key, of the value,
+/// of an element or of a character is that part, value, element or character.
+pub fn spans_are_read()
+    ensures { SpansAreRead }
 {}

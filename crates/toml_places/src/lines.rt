@@ -76,9 +76,13 @@ fn pair(alloc: Global, text: &str) -> Result<(Line, &str), ParseError>
     ensures shorter { Shortens text.now result }
 {
     let (key, at_value) = key_equals(alloc, text)?;
-    let rest = after_value(alloc, at_value, RECURSION_LIMIT)?;
-    let sort = Sort::Pair;
-    Ok((Line { key, sort }, rest))
+    match after_value(at_value, RECURSION_LIMIT) {
+        Some(rest) => {
+            let sort = Sort::Pair;
+            Ok((Line { key, sort }, rest))
+        }
+        None => Err(ParseError::at(ErrorKind::Value, at_value)),
+    }
 }
 
 // A header in double brackets, after its opening brackets.

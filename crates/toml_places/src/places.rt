@@ -7,29 +7,22 @@ ghost use Rattle.std.specs.BTreeMap.{get_by_text};
 ghost use Rattle.toml_parser.specs.Reading.{key_view, path_view};
 ghost use Rattle.toml.specs.Parse.{parse_document};
 ghost use Rattle.toml_places.specs.Places as spec;
-ghost use Rattle.toml_places.specs.Places.{NotesFrame, Keeps, at_if, is_key, routes_key, first_at, header_place, key_place, route_place};
+ghost use Rattle.toml_places.specs.Places.{Keeps, is_key, routes_key, first_at, first_spot, header_place, key_place, route_place};
 ghost use Rattle.toml_places.specs.Walk.{frame_count, section_view, frames_after, IsOpen, Walks};
 
 use crate::lines::{Line, Sort, read_line, skip_bom};
+use crate::spans::Spot;
+use crate::tables::{Spots, TablePlaces, Written, note, part, parts_of};
 use std::alloc::{AllocError, Global};
 use std::collections::BTreeMap;
+use toml_parser::ParseError;
 use toml_parser::text::skip_blank;
-use toml_parser::{Key, ParseError};
-
-type Offsets = BTreeMap<String, usize>;
 
 /// The places of a base's text: where its keys are first written, frame by frame.
 #[derive(Drop)]
 pub struct Places {
-    top: Offsets,
-    frames: Vec<FramePlaces>,
-}
-
-#[derive(Drop)]
-pub struct FramePlaces {
-    header: Option<usize>,
-    keys: Offsets,
-    routes: Offsets,
+    top: Spots,
+    frames: Vec<TablePlaces>,
 }
 
 // The table that the latest header names: whether it lies in the latest frame, and its keys in there or in the top.
@@ -37,75 +30,6 @@ pub struct FramePlaces {
 pub struct Section {
     in_frame: bool,
     path: Vec<String>,
-}
-
-// Notes an offset at a key that has none.
-fn note(alloc: Global, offsets: &mut Offsets, key: &str, at: usize) -> Result<(), AllocError>
-    ensures { OnOk result ((q : List ℕ) → get_by_text offsets.new q ≡ option_or (get_by_text offsets.old q) (at_if (bytes_eq q key.now) at)) }
-{
-    if !offsets.contains_key(key) {
-        offsets.insert(String::from_str(alloc, key)?, at)?;
-    }
-    Ok(())
-}
-
-// The part at an index of a path.
-fn part<'a>(path: &'a [String], own: &'a [String], index: usize) -> Option<&'a str>
-    ensures { option_copied result ≡ slice_get (path_view path.now ++ path_view own.now) index }
-{
-    let text = if index < path.len() {
-        path.get(index)
-    } else {
-        own.get(index - path.len())
-    };
-    match text {
-        Some(text) => Some(text.as_str()),
-        None => None,
-    }
-}
-
-impl FramePlaces {
-    fn new(alloc: Global) -> FramePlaces
-        ensures header { result.header ≡ None }
-        ensures keys { (q : List ℕ) → get_by_text result.keys q ≡ None }
-        ensures routes { (q : List ℕ) → get_by_text result.routes q ≡ None }
-    {
-        FramePlaces {
-            header: None,
-            keys: BTreeMap::new(alloc),
-            routes: BTreeMap::new(alloc),
-        }
-    }
-
-    // Notes an expression whose path begins with these two parts.
-    fn note(
-        &mut self,
-        alloc: Global,
-        one: Option<&str>,
-        two: Option<&str>,
-        at: usize,
-    ) -> Result<(), AllocError>
-        ensures { OnOk result (NotesFrame self.old self.new (option_copied one.entry) (option_copied two.entry) at) }
-    {
-        self.header = self.header.or(Some(at));
-        let Some(key) = one else {
-            return Ok(());
-        };
-        note(alloc, &mut self.keys, key, at)?;
-        match two {
-            Some(sub) if key == "routes" => note(alloc, &mut self.routes, sub, at),
-            _ => Ok(()),
-        }
-    }
-}
-
-// All parts of a key.
-fn parts_of(key: Key) -> Result<Vec<String>, AllocError>
-    ensures { IfOk result (λ v. path_view v.items ≡ spec.parts (key_view key)) }
-{
-    let Key { mut path, last } = key;
-    path.push(last)?;
-    Ok(path)
 }
 
 // Whether a header with these parts, in double brackets, opens a frame.
@@ -121,6 +45,15 @@ fn is_frame_key(part: Option<&String>) -> bool
     match part {
         Some(part) => part.as_str() == "frame",
         None => false,
+    }
+}
+
+fn offset_of(spot: Option<Spot>) -> Option<usize>
+    ensures { result ≡ option_map (λ s. s.at) spot }
+{
+    match spot {
+        Some(spot) => Some(spot.at),
+        None => None,
     }
 }
 
@@ -159,7 +92,7 @@ impl Places {
         ensures section { IfOk result (λ s. section_view (frame_count self.new) s ≡ spec.section_at (frame_count self.new) (path_view parts.items)) }
     {
         if matches!(sort, Sort::ArrayTable) && is_frame(&parts) {
-            self.frames.push(FramePlaces::new(alloc))?;
+            self.frames.push(TablePlaces::new(alloc))?;
         }
         Ok(self.section_at(parts))
     }
@@ -170,20 +103,21 @@ impl Places {
         alloc: Global,
         section: &Section,
         own: &[String],
-        at: usize,
+        written: Written,
     ) -> Result<(), AllocError>
         requires { IsOpen (section_view (frame_count self.old) section.now) }
         ensures keeps { OnOk result ((ms : List spec.Mark) → Keeps self.old ms
-            → Keeps self.new (ms ++ spec.mark_in (section_view (frame_count self.old) section.now) (path_view own.now) at ∷ [])) }
+            → Keeps self.new (ms ++ spec.mark_in (section_view (frame_count self.old) section.now) (path_view own.now) (written.at, written.parts) ∷ [])) }
         ensures frames { OnOk result (frame_count self.new ≡ frame_count self.old) }
     {
         let one = part(&section.path, own, 0);
         let two = part(&section.path, own, 1);
+        let len = section.path.len() + own.len();
         if section.in_frame {
             let last = self.frames.len() - 1;
-            self.frames[last].note(alloc, one, two, at)
+            self.frames[last].note(alloc, one, two, len, written)
         } else if let Some(key) = one {
-            note(alloc, &mut self.top, key, at)
+            note(alloc, &mut self.top, key, written.spot(len, 0))
         } else {
             Ok(())
         }
@@ -199,17 +133,19 @@ impl Places {
     ) -> Result<(), AllocError>
         requires { IsOpen (section_view (frame_count self.old) section.old) }
         ensures keeps { OnOk result ((ms : List spec.Mark) → Keeps self.old ms
-            → Keeps self.new (ms ++ spec.mark_in (section_view (frame_count self.new) section.new) (spec.own_parts (key_view line.key) line.sort) at ∷ [])) }
+            → Keeps self.new (ms ++ spec.mark_in (section_view (frame_count self.new) section.new) (spec.own_parts (key_view line.key) line.sort) (at, length (spec.parts (key_view line.key))) ∷ [])) }
         ensures section { OnOk result (section_view (frame_count self.new) section.new
             ≡ spec.section_after (section_view (frame_count self.old) section.old) (key_view line.key) line.sort) }
     {
         let Line { key, sort } = line;
-        let parts = parts_of(key)?;
+        let path = parts_of(key)?;
+        let parts = path.len();
+        let written = Written { at, parts };
         if sort == Sort::Pair {
-            return self.note(alloc, section, &parts, at);
+            return self.note(alloc, section, &path, written);
         }
-        *section = self.enter(alloc, sort, parts)?;
-        self.note(alloc, section, &[], at)
+        *section = self.enter(alloc, sort, path)?;
+        self.note(alloc, section, &[], written)
     }
 
     // Notes each expression of a text.
@@ -245,68 +181,87 @@ impl Places {
         }
     }
 
-    // The first offset of a key of the top.
-    fn top(&self, key: &str) -> Option<usize>
-        ensures { (ms : List spec.Mark) → Keeps self.now ms → result ≡ first_at ms None (key.now ∷ []) }
-    {
-        self.top.get(key).copied()
-    }
-
-    // The header of a frame.
-    fn header(&self, frame: usize) -> Option<usize>
+    /// The offset of a frame's header. A frame in an inline array has none.
+    pub fn header(&self, frame: usize) -> Option<usize>
         ensures { (ms : List spec.Mark) → Keeps self.now ms → result ≡ first_at ms (Some frame) [] }
     {
         match self.frames.get(frame) {
-            Some(places) => places.header,
+            Some(places) => places.header(),
             None => None,
         }
     }
 
-    // The first offset of a key of a frame.
-    fn key(&self, frame: usize, key: &str) -> Option<usize>
-        ensures { (ms : List spec.Mark) → Keeps self.now ms → result ≡ first_at ms (Some frame) (key.now ∷ []) }
+    // Where a key of a frame is first written.
+    fn frame_key(&self, frame: usize, key: &str) -> Option<Spot>
+        ensures { (ms : List spec.Mark) → Keeps self.now ms → result ≡ first_spot ms (Some frame) (key.now ∷ []) }
     {
         match self.frames.get(frame) {
-            Some(places) => places.keys.get(key).copied(),
+            Some(places) => places.key(key),
             None => None,
         }
     }
 
-    // The first offset of a key below `routes` of a frame.
-    fn route(&self, frame: usize, sub: &str) -> Option<usize>
+    /// Where a key of a frame that has a header, or of the top, is first written.
+    pub fn key(&self, frame: Option<usize>, key: &str) -> Option<Spot>
+        ensures { (ms : List spec.Mark) → Keeps self.now ms → result ≡ first_spot ms frame (key.now ∷ []) }
+    {
+        match frame {
+            Some(frame) => self.frame_key(frame, key),
+            None => self.top.get(key).copied(),
+        }
+    }
+
+    /// Where a key below `routes` of a frame is first written as a dotted key or a header.
+    pub fn route(&self, frame: usize, sub: &str) -> Option<Spot>
+        ensures { (ms : List spec.Mark) → Keeps self.now ms → result ≡ first_spot ms (Some frame) (routes_key ∷ sub.now ∷ []) }
+    {
+        match self.frames.get(frame) {
+            Some(places) => places.route(sub),
+            None => None,
+        }
+    }
+
+    // The offset of the first expression that writes a key.
+    fn first(&self, frame: Option<usize>, key: &str) -> Option<usize>
+        ensures { (ms : List spec.Mark) → Keeps self.now ms → result ≡ first_at ms frame (key.now ∷ []) }
+    {
+        offset_of(self.key(frame, key))
+    }
+
+    // The same of a key below `routes` of a frame.
+    fn first_route(&self, frame: usize, sub: &str) -> Option<usize>
         ensures { (ms : List spec.Mark) → Keeps self.now ms → result ≡ first_at ms (Some frame) (routes_key ∷ sub.now ∷ []) }
     {
-        match self.frames.get(frame) {
-            Some(places) => places.routes.get(sub).copied(),
-            None => None,
-        }
+        offset_of(self.route(frame, sub))
     }
 
     /// The offset of a frame's header `[[frame]]`; of a frame in an inline array, that of the key `frame`.
     pub fn of_header(&self, frame: usize) -> usize
         ensures { (ms : List spec.Mark) → Keeps self.now ms → result ≡ header_place ms frame }
     {
-        self.header(frame).or(self.top("frame")).unwrap_or(0)
+        self.header(frame)
+            .or(self.first(None, "frame"))
+            .unwrap_or(0)
     }
 
-    /// The offset of the first expression that writes a key of a frame, or of the top. Where none does, the frame's, or 0.
+    /// The offset of the first expression that writes a key of a frame, or of the top. If none does, the frame's, or 0.
     pub fn of_key(&self, frame: Option<usize>, key: &str) -> usize
         ensures { (ms : List spec.Mark) → Keeps self.now ms → result ≡ key_place ms frame key.now }
     {
         match frame {
-            None => self.top(key).unwrap_or(0),
-            Some(frame) => match self.key(frame, key) {
+            None => self.first(None, key).unwrap_or(0),
+            Some(frame) => match self.first(Some(frame), key) {
                 Some(at) => at,
                 None => self.of_header(frame),
             },
         }
     }
 
-    /// The offset of the first expression that writes a key below `routes` of a frame. Where none does, that of `routes`.
+    /// The offset of the first expression that writes a key below `routes` of a frame. If none does, that of `routes`.
     pub fn of_route(&self, frame: usize, sub: &str) -> usize
         ensures { (ms : List spec.Mark) → Keeps self.now ms → result ≡ route_place ms frame sub.now }
     {
-        match self.route(frame, sub) {
+        match self.first_route(frame, sub) {
             Some(at) => at,
             None => self.of_key(Some(frame), "routes"),
         }

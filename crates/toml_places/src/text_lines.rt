@@ -1,10 +1,14 @@
 //! Offsets as lines and columns.
 
-ghost use Rattle.std.specs.Prelude.{◌≡◌, ◌≤◌, IfOk, length};
+ghost use Rattle.std.specs.Prelude.{◌≡◌, ◌+◌, ◌^◌, ◌<◌, ◌≤◌, IfOk, length};
 ghost use Rattle.toml_places.specs.Skips as spec;
+ghost use Rattle.toml_places.specs.Extents as extents;
 
+use crate::spans::Span;
+use crate::strings::starts_char;
 use std::alloc::{AllocError, Global};
 use std::marker::Model;
+use toml_parser::bytes::byte_at;
 
 // From one place that is kept to the next, in bytes.
 const STEP: usize = 512;
@@ -18,6 +22,15 @@ pub struct TextLines<'a> {
     places: Vec<(usize, usize)>,
 }
 
+/// A span in lines and columns.
+#[derive(Debug, Clone, Copy, PartialEq, Eq)]
+pub struct Extent {
+    pub line: usize,
+    pub column: usize,
+    pub end_line: usize,
+    pub end_column: usize,
+}
+
 impl<'a> Model for TextLines<'a> {
     ghost use Rattle.std.specs.Prelude.{List, ℕ};
     ghost use Rattle.toml_places.specs.Skips.{ArePlaces};
@@ -29,10 +42,10 @@ impl<'a> Model for TextLines<'a> {
     ghost invariant = { λ l. ArePlaces l.text.now l.places.items };
 }
 
-fn starts_char(byte: u8) -> bool
-    ensures { result ≡ spec.starts_char byte }
+fn is_marked(text: &[u8]) -> bool
+    ensures { result ≡ extents.is_marked text.now }
 {
-    byte < 0x80 || byte >= 0xC0
+    byte_at(text, 0) == 0xEF && byte_at(text, 1) == 0xBB && byte_at(text, 2) == 0xBF
 }
 
 // The line and the column of `to`, from those of `from`.
@@ -87,10 +100,67 @@ impl<'a> TextLines<'a> {
     /// The line and the column of an offset, both from 1. A column counts characters. An offset past the end has the place of
     /// the end.
     pub fn place(&self, offset: usize) -> (usize, usize)
-        ensures { result ≡ spec.place_at self.now offset }
+        ensures value { result ≡ spec.place_at self.now offset }
+        ensures small { result.1 + 1 < 2 ^ 64 }
     {
         let end = offset.min(self.text.len());
         let step = end / STEP;
         place_from(self.text, step * STEP, end, self.places[step])
+    }
+
+    // A place without the byte order mark.
+    fn unmarked(&self, place: (usize, usize)) -> (usize, usize)
+        ensures { result ≡ extents.unmarked self.now place }
+    {
+        let (line, column) = place;
+        if line == 1 && column > 1 && is_marked(self.text) {
+            (line, column - 1)
+        } else {
+            (line, column)
+        }
+    }
+
+    // The place after the character that ends before an offset.
+    fn place_after(&self, end: usize) -> (usize, usize)
+        requires { 0 < end }
+        ensures value { result ≡ extents.place_after self.now end }
+    {
+        let (line, column) = self.place(end - 1);
+        if starts_char(byte_at(self.text, end - 1)) {
+            (line, column + 1)
+        } else {
+            (line, column)
+        }
+    }
+
+    fn end_place(&self, span: Span) -> (usize, usize)
+        ensures { result ≡ extents.end_place self.now span }
+    {
+        let (line, column) = self.place(span.begin);
+        if span.end <= span.begin {
+            return (line, column);
+        }
+        let (end_line, end_column) = self.place_after(span.end);
+        if end_line == line && end_column <= column {
+            (line, column + 1)
+        } else {
+            (end_line, end_column)
+        }
+    }
+
+    /// A span in lines and columns, all from 1. A column counts characters; a byte order mark isn't counted, and a byte that
+    /// isn't UTF-8 is a character. The span ends at the column after its last character, on that character's line, also if that
+    /// is a line end. An empty span ends where it begins.
+    pub fn extent(&self, span: Span) -> Extent
+        ensures { result ≡ extents.extent self.now span }
+    {
+        let (line, column) = self.unmarked(self.place(span.begin));
+        let (end_line, end_column) = self.unmarked(self.end_place(span));
+        Extent {
+            line,
+            column,
+            end_line,
+            end_column,
+        }
     }
 }

@@ -1,6 +1,7 @@
 use Rattle.std.proofs.Common.{◌≡◌, ◌+◌, ◌<◌, true, false, take, length, length-take, get_or, sym, ap, ◌∙◌, arith}
 use Rattle.std.proofs.lemmas.Grind.{common_steps}
-use Rattle.toml_places.specs.Skips.{is_feed, starts_char}
+use Rattle.toml_places.specs.Skips.{is_feed}
+use Rattle.toml_places.specs.Strings.{starts_char}
 use Rattle.toml_places.proofs.ScanTurns.{line_within, column_within, line_feed, column_feed, line_other, column_char, column_same}
 use Rattle.toml_places.proofs.text_lines.place_from.Goals.{then-byte-eq10, else-byte-eq10+then-starts_char, else-byte-eq10+else-starts_char}
 use Rattle.toml_places.proofs.text_lines.place_from.Goals as goal

@@ -1,59 +1,43 @@
 use Rattle.std.proofs.Common.{◌≡◌, ◌==◌, ◌||◌, ◌-◌, ◌<◌, true, false, length, le_refl, ◌∙◌, rules, arith}
 use Rattle.std.proofs.lemmas.Grind.{common_steps}
-use Rattle.toml_parser.proofs.StringsLemmas.{gives_err}
 use Rattle.toml_parser.specs.Lexical.{first, skip_blank}
-use Rattle.toml_places.specs.Skips.{after_value}
-use Rattle.toml_places.proofs.SkipTurns.{members_end, members_more, members_bad, members_bad_end, value_atom, value_array, value_table, value_deep}
+use Rattle.toml_places.specs.Values.{after_value}
+use Rattle.toml_places.proofs.SkipTurns.{members_turn, value_atom, value_array, value_table, value_deep}
 use Rattle.toml_places.proofs.values.+after_value.Goals as goal
-
-pub after_members-members-init : goal.after_members-members-init
-after_members-members-init c c' = (search rules, le_refl _, λ n h. (n, h, search rules))
 
 pub after_members-returns-then-first-closing-clause-value : goal.after_members-returns-then-first-closing-clause-value
 after_members-returns-then-first-closing-clause-value c c' n h =
     let l = c'.members in
     let (m, room, loop) = l.invariant.2 n h in
-    let closing : (first (skip_blank l.rest.now) == c'.args.closing) ≡ true = grind (arith, common_steps) in
-    loop ∙ members_end (after_value c'.args.depth) c'.args.closing m l.rest.now (omega arith) closing
-    ∙ rw (c'.skip.ensures.rest, c'.skip_blank-start.ensures.rest)
+    let turn = members_turn (after_value c'.args.depth) c'.args.closing m l.rest.now room in
+    grind (arith, common_steps)
 
 pub after_members-returns-in_err-after-clause-value : goal.after_members-returns-in_err-after-clause-value
 after_members-returns-in_err-after-clause-value c c' n h =
     let l = c'.members in
-    let start_is = c'.skip_blank-start.ensures.rest in
-    let other : (first (skip_blank l.rest.now) == c'.args.closing) ≡ false = grind (arith, common_steps) in
     let (m, room, loop) = l.invariant.2 n h in
-    gives_err _ c'.from_residual.result _ c'.in_err-after.field-0.0 _ c'.from_residual.ensures.1 (λ y p. p) λ refused.
-    loop ∙ members_bad (after_value c'.args.depth) c'.args.closing m l.rest.now (omega arith) other
-    (rw start_is at (c'.in_err-after.ensures.value refused))
+    let turn = members_turn (after_value c'.args.depth) c'.args.closing m l.rest.now room in
+    grind (arith, common_steps)
 
 pub after_members-returns-in_err-rest-clause-value : goal.after_members-returns-in_err-rest-clause-value
 after_members-returns-in_err-rest-clause-value c c' n h =
     let l = c'.members in
-    let start_is = c'.skip_blank-start.ensures.rest in
-    let other : (first (skip_blank l.rest.now) == c'.args.closing) ≡ false = grind (arith, common_steps) in
     let (m, room, loop) = l.invariant.2 n h in
-    gives_err _ c'.from_residual-in_err-rest.result _ c'.in_err-rest.field-0.0 _ c'.from_residual-in_err-rest.ensures.1 (λ y p. p) λ refused.
-    loop ∙ members_bad_end (after_value c'.args.depth) c'.args.closing m l.rest.now _ (omega arith) other
-    (rw start_is at c'.in_ok-after.ensures.value) (c'.in_err-rest.ensures.value refused)
+    let turn = members_turn (after_value c'.args.depth) c'.args.closing m l.rest.now room in
+    grind (arith, common_steps)
 
 pub after_members-members-preserved : goal.after_members-members-preserved
 after_members-members-preserved c c' =
     let l = c'.members in
-    let start_is = c'.skip_blank-start.ensures.rest in
-    let other : (first (skip_blank l.rest.now) == c'.args.closing) ≡ false = grind (arith, common_steps) in
     let shorter = c'.in_ok-after.ensures.shorter in
     let within = c'.in_ok-rest.ensures.within in
     let before = c'.skip_blank-start.ensures.within in (
       search rules,
       omega (arith, l.invariant.1),
       λ n h.
-          let (m, room, loop) = l.invariant.2 n h in (
-            m - 1,
-            omega arith,
-            loop ∙ members_more (after_value c'.args.depth) c'.args.closing m l.rest.now _ _ (omega arith) other
-                (rw start_is at c'.in_ok-after.ensures.value) c'.in_ok-rest.ensures.value,
-          ),
+          let (m, room, loop) = l.invariant.2 n h in
+          let turn = members_turn (after_value c'.args.depth) c'.args.closing m l.rest.now room in
+          (m - 1, omega arith, grind (arith, common_steps)),
     )
 
 pub after_value-returns-then-byte-ne123-clause-value : goal.after_value-returns-then-byte-ne123-clause-value
@@ -64,11 +48,12 @@ after_value-returns-then-byte-ne123-clause-value c c' =
     rw (value_atom c'.args.depth s a b) c'.after_atom.ensures.value
 
 pub after_value-returns-then-depth-eq0-clause-value : goal.after_value-returns-then-depth-eq0-clause-value
-after_value-returns-then-depth-eq0-clause-value c c' refused =
+after_value-returns-then-depth-eq0-clause-value c c' =
     let s = c'.args.text.now in
     let bracket : ((first s == 91) || (first s == 123)) ≡ true = grind (arith, common_steps) in
     let zero : c'.args.depth ≡ 0 = omega arith in
-    rw zero (value_deep s bracket)
+    let none = value_deep s bracket in
+    rw zero (grind (arith, common_steps))
 
 pub after_value-returns-then-byte-eq91-clause-value : goal.after_value-returns-then-byte-eq91-clause-value
 after_value-returns-then-byte-eq91-clause-value c c' =

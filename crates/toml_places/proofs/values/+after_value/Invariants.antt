@@ -1,7 +1,7 @@
 use Rattle.std.proofs.Common.{◌≡◌, ℕ, ◌+◌, ◌*◌, ◌<◌, ◌≤◌, length}
 use denote.Text.{Utf8}
 use denote.Shadow.{shadow}
-use Rattle.toml_places.specs.Skips.{after_value, after_members}
+use Rattle.toml_places.specs.Values.{after_value, after_members}
 use Rattle.toml_places.proofs.values.+after_value.Given as goal
 
 abbrev pub decreases-after_value : goal.decreases-after_value

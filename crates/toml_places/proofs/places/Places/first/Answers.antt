@@ -1,0 +1,8 @@
+use Rattle.std.proofs.Common.{◌≡◌, [], ◌∷◌, Some, option_map, ap, ◌∙◌}
+use Rattle.toml_places.specs.declared.spans.Spot.{Spot}
+use Rattle.toml_places.specs.Places.{routes_key}
+use Rattle.toml_places.proofs.Firsts.{spots_at}
+use Rattle.toml_places.proofs.places.Places.first.Goals as goal
+
+pub returns : goal.returns
+returns c ms h = c.offset_of.ensures ∙ ap (λ o. option_map (λ (s : Spot). s.at) o) (c.key.ensures ms h) ∙ spots_at ms c.args.frame (c.args.key.now ∷ [])

@@ -1,0 +1,14 @@
+use Rattle.std.proofs.Common.{◌≡◌, ℕ, ◌<◌, ◌≤◌, length}
+use denote.Text.{Utf8}
+use denote.Shadow.{shadow}
+use Rattle.toml_places.specs.Strings.{content_char}
+use Rattle.toml_places.proofs.strings.content_char.Given as goal
+
+abbrev pub invariant-steps : goal.invariant-steps
+invariant-steps l =
+    shadow (Utf8 l.rest) × (length l.rest ≤ length l.fn.text)
+    × ((n : ℕ) → length l.fn.text < n
+    → (m : ℕ) × (length l.rest < m) × (content_char l.delim l.multi n l.fn.index l.fn.text ≡ content_char l.delim l.multi m l.left l.rest))
+
+abbrev pub decreases-steps : goal.decreases-steps
+decreases-steps l = length l.rest
