@@ -7,7 +7,7 @@ from pathlib import Path
 CRATES = Path(__file__).resolve().parents[1] / "crates"
 
 OWNER = re.compile(r"(?:pub )?(?:impl(?:<.*?>)? (?:(?P<trait>\w+).* for )?|trait )(?P<type>\w+)")
-FUNCTION = re.compile(r'( *)(pub )?(?:extern "C" )?fn (\w+)')
+FUNCTION = re.compile(r'( *)(pub )?(?:pub\(crate\) )?(?:extern "C" )?fn (\w+)')
 CLAUSE = re.compile(r" *ensures (?:(\w+) )?\{ (.*?)(?: \})?$")
 
 

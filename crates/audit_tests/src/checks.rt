@@ -2,13 +2,13 @@
 
 use crate::bases::base_of;
 use crate::policies::policy;
-use test_support::{CERT, DEMO, same, same_in};
 use audit_report::verdict_text;
 use cert_text::cert_read;
 use checker::{ChangeVerdict, Verdict, check, check_bytes, check_change, check_counted};
 use page_ids::PageNo;
 use std::alloc::{AllocError, Global};
 use std::test::Fail;
+use test_support::{CERT, DEMO, same, same_in};
 
 #[test]
 fn two_texts_are_checked(rt: HostRuntime) -> Result<(), Fail> {

@@ -2,13 +2,13 @@
 
 use crate::bases::base_of;
 use crate::policies::policy;
-use test_support::{CERT, DEMO, same_in};
 use audit_report::verdict_text;
 use cert_table::{Certificate, Cover, RowList};
 use cert_text::cert_read;
 use checker::check;
 use std::alloc::Global;
 use std::test::Fail;
+use test_support::{CERT, DEMO, same_in};
 
 // What is in a text, and what takes its place.
 type Edit = (&'static str, &'static str);

@@ -1,12 +1,12 @@
 //! The discovered frames of small bases.
 
 use crate::bases::{base_of, chain};
-use test_support::{DEMO, same};
 use finder::{Found, Survey, find, script_to};
 use frame_records::{Base, Destination, Groups, Pence};
 use page_ids::{Digit, FrameId, Key, PageNo, Way, keys_text};
 use std::alloc::Global;
 use std::test::Fail;
+use test_support::{DEMO, same};
 
 fn digit(number: u8) -> Result<Digit, Fail> {
     Ok(Digit::new(number).ok_or("a digit")?)

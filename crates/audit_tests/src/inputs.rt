@@ -1,11 +1,11 @@
 //! Texts that are read one by one.
 
-use test_support::{CERT, DEMO, same};
 use base_text::{BaseFault, Cause, Field};
 use cert_table::Cover;
 use cert_text::{LineCause, ReadFault};
 use checker::{InputFault, base_of, cert_of};
 use std::test::Fail;
+use test_support::{CERT, DEMO, same};
 
 // The second frame's id is a number, and the certificate's first line is another's.
 #[test]

@@ -2,13 +2,13 @@
 
 use crate::bases::base_of;
 use crate::policies::policy;
-use test_support::{CERT, DEMO, same_in};
 use audit_report::report;
 use cert_text::cert_read;
 use fault_scripts::{Outcome, faults, judge_base};
 use page_ids::PageNo;
 use std::alloc::{AllocError, Global};
 use std::test::Fail;
+use test_support::{CERT, DEMO, same_in};
 
 // The list of a base's faults alone.
 #[test]

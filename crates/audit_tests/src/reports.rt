@@ -1,6 +1,5 @@
 //! Printed lines, beside the words that the program's formats give; most of them stand in `tests/cases`.
 
-use test_support::{same, same_in};
 use audit_report::{RunFault, change_text, entry_text, fault_text, verdict_text, walk_text};
 use cert_text::ReadFault;
 use checker::{Cause, ChangeVerdict, Verdict};
@@ -8,6 +7,7 @@ use frame_records::Pence;
 use page_ids::{Digit, FrameId, PageNo};
 use session_machine::Reply;
 use std::test::Fail;
+use test_support::{same, same_in};
 
 #[test]
 fn a_verdict_is_one_line(rt: HostRuntime) -> Result<(), Fail> {

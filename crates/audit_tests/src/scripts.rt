@@ -2,7 +2,6 @@
 
 use crate::bases::{base_of, chain};
 use crate::policies::policy;
-use test_support::{DEMO, same, same_in};
 use audit_report::report;
 use cert_table::{Certificate, Cover};
 use checker::Policy;
@@ -12,6 +11,7 @@ use page_ids::{FrameId, PageNo, keys_read};
 use session_machine::{OpenFault, Reply};
 use std::alloc::Global;
 use std::test::Fail;
+use test_support::{DEMO, same, same_in};
 
 fn certified(alloc: Global, base: &Base, policy: &Policy) -> Result<Certificate, Fail> {
     match audit(alloc, base, policy)? {

@@ -1,6 +1,6 @@
 -- Which ids are among those of discovered frames.
 use Rattle.std.proofs.Common.{◌≡◌, ◌∙◌, sym, ap, true, List, [], ◌∷◌, Any, refl, subst}
-use Rattle.std.specs.Prelude.{ℕ, map, ◌||◌, IfOk, Result, Ok, Err}
+use Rattle.std.specs.Prelude.{ℕ, map, ◌||◌}
 use Rattle.std.specs.List.{list_any}
 use Rattle.std.proofs.lemmas.List.Folds.{Any-from_list_any, list_any-from_Any}
 use Rattle.page_ids.specs.Ids.{Id, id_eq}

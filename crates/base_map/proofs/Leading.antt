@@ -1,5 +1,5 @@
 -- Links are the ways that lead from frame to frame.
-use Rattle.std.proofs.Common.{◌≡◌, ◌∙◌, ◌⊎◌, inl, inr, sym, ap, cond, ℕ, zero, suc, Bool, true, false, List, [], ◌∷◌, ◌++◌, Option, Some, Contains, refl, subst, arith}
+use Rattle.std.proofs.Common.{◌≡◌, ◌∙◌, inl, inr, sym, ap, cond, ℕ, zero, suc, Bool, true, false, List, [], ◌∷◌, Option, Some, Contains, refl, subst, arith}
 use Rattle.std.specs.Prelude.{map, filter}
 use Rattle.std.specs.List.{flat_map}
 use Rattle.std.specs.declared.cmp.Ordering.TheVariants.{Equal}

@@ -30,7 +30,7 @@ use Rattle.checker.specs.declared.verdict.Verdict.{Verdict}
 use Rattle.checker.specs.declared.verdict.Verdict.TheVariants.{Cleared}
 use Rattle.checker.specs.Conditions.{◌otherwise◌, ◌then◌}
 use Rattle.checker.specs.Good.{is_covered}
-use Rattle.checker.specs.Verdict.{on_terms, on_head, on_frame, on_painting, on_ways, on_found, if_found, on_row, on_rows, verdict, verdict_of}
+use Rattle.checker.specs.Verdict.{on_terms, on_head, on_frame, on_painting, on_ways, if_found, on_row, on_rows, verdict, verdict_of}
 use Rattle.checker.specs.Counts.{counted_if, are_ways_sought, outside_compared, offered_compared, way_compared, ways_compared, found_probes, row_probes, found_steps, row_steps, unless_fault, judged, judged_rows, probes_of, steps_of, ways_of, ways_if, ways_at, bytes_if, bytes_at, row_most, IsCount}
 use Rattle.checker.specs.Loops.{first_ways}
 
@@ -180,9 +180,10 @@ module _ (caller : List ℕ) (base : BaseView) (cert : CertView) where
     all_passed (row ∷ rows) none =
         let parts = both_none (on_row caller base cert row).first_cause (on_rows caller base cert rows).first_cause none in
         let one = passed row parts.0 in
-        let rest = all_passed rows parts.1 in
-        (omega (arith, one.probes, rest.0, sum_by-cons (ways_at base) row rows, sum_by-cons (row_probes compared caller base cert) row rows),
-          omega (arith, one.steps, rest.1, sum_by-cons (row_steps caller base cert) row rows, sum_by-cons (bytes_at base) row rows))
+        let rest = all_passed rows parts.1 in (
+          omega (arith, one.probes, rest.0, sum_by-cons (ways_at base) row rows, sum_by-cons (row_probes compared caller base cert) row rows),
+          omega (arith, one.steps, rest.1, sum_by-cons (row_steps caller base cert) row rows, sum_by-cons (bytes_at base) row rows),
+        )
 
 -- All of a check.
 
@@ -220,9 +221,10 @@ module _ (compared : List Row → Id → ℕ) (base : BaseView) (cert : CertView
       let one = some (entry_of base) any in
       let rows : judged_rows base policy cert ≡ cert.rows = ap (λ (o : Option Cause). unless_fault o (judged caller base cert cert.rows)) both.0 ∙ all_judged caller base cert cert.rows both.1 in
       let all = all_passed caller base cert compared (λ id. some id any) cert.rows both.1 in
-      let entry : is_none (on_terms base policy cert).first_cause ≡ true = ap is_none head.0 in
-      (omega (arith, one, all.0, ap (λ (b : Bool). counted_if b (compared cert.rows (entry_of base))) entry, ap (sum_by (row_probes compared caller base cert)) rows),
-        ap (sum_by (row_steps caller base cert)) rows ∙ all.1)
+      let entry : is_none (on_terms base policy cert).first_cause ≡ true = ap is_none head.0 in (
+        omega (arith, one, all.0, ap (λ (b : Bool). counted_if b (compared cert.rows (entry_of base))) entry, ap (sum_by (row_probes compared caller base cert)) rows),
+        ap (sum_by (row_steps caller base cert)) rows ∙ all.1,
+      )
 
   pub counted : (policy : Policy) → ((id : Id) → 0 < length cert.rows → 1 ≤ compared cert.rows id) → (v : Verdict) (count : Count) → v ≡ verdict base policy cert
       → count.probes ≡ probes_of compared base policy cert → count.steps ≡ steps_of base policy cert → IsCount base cert.rows m v count

@@ -10,7 +10,6 @@ use Rattle.page_ids.specs.declared.way.Way.{Way}
 use Rattle.page_ids.specs.Ways.{way_at, ways}
 use Rattle.frame_records.specs.declared.frame.Frame.{Frame}
 use Rattle.frame_records.specs.Bases.{BaseView}
-use Rattle.frame_records.specs.Ways.{sought}
 use Rattle.cert_table.specs.declared.row.Row.{Row}
 use Rattle.checker.specs.declared.ways.WayCheck.{WayCheck}
 use Rattle.checker.specs.declared.ways.WayChecks.{WayChecks}

@@ -1,7 +1,7 @@
 -- Lists by their indices.
-use Rattle.std.proofs.Common.{◌≡◌, ◌<◌, ℕ, List, [], ◌∷◌, length, Some, slice_get, refl, ◌∙◌, ap, subst, arith}
-use Rattle.std.specs.Prelude.{All, Contains, zero, suc}
-use Rattle.std.proofs.lemmas.Option.{slice_get-get_or, get_or_from_slice_get, slice_get_within}
+use Rattle.std.proofs.Common.{◌≡◌, List, [], Some, slice_get, ◌∙◌, ap, arith}
+use Rattle.std.specs.Prelude.{Contains}
+use Rattle.std.proofs.lemmas.Option.{slice_get-get_or}
 
 -- an element has an index
 pub place_of : {X : Type 0} (xs : List X) (x : X) → (h : Contains xs x) → slice_get xs h.0 ≡ Some x

@@ -1,7 +1,7 @@
 -- What is noted of frames, and the result of seeking them.
 use Rattle.std.proofs.Common.{◌≡◌, ◌<◌, ℕ, Bool, false, List, Some, None, Ok, Err, option_map, slice_get, get_or, length, set, replicate, sym, ◌∙◌, ap, ⊎_elim, arith}
 use Rattle.finder.proofs.Words.{IsBinarySearchResult, cases_lt, All-set, All-replicate, Id, id_cmp, id_eq, id_cmp_total, id_eq_same, Frame, IsAscending, frame_among, is_open, frame_id, find_none, ascending_sorted, found_at, IsNote, AreNotes, IsSeen, id_at}
-use Rattle.std.specs.declared.cmp.Ordering.TheVariants.{Less, Greater}
+use Rattle.std.specs.declared.cmp.Ordering.TheVariants.{Greater}
 use Rattle.std.proofs.lemmas.Bool.Decides.{nat_tests}
 use Rattle.std.proofs.lemmas.List.Sorted.{searchable_from_sorted}
 use Rattle.finder.specs.declared.notes.Note.{Note}

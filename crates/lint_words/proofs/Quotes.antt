@@ -1,6 +1,5 @@
 -- The characters of a text in quotes, one by one.
-use Rattle.std.proofs.Common.{◌≡◌, ℕ, zero, suc, ◌-◌, List, [], ◌∷◌, ◌++◌, length, chars, append_assoc, arith, refl}
-use Rattle.std.proofs.lemmas.Str.{chars-nil}
+use Rattle.std.proofs.Common.{◌≡◌, ℕ, zero, suc, ◌-◌, List, ◌∷◌, ◌++◌, append_assoc, arith, refl}
 use Rattle.lint_words.specs.Pieces.{escaped, escaped_up_to}
 
 -- one more character

@@ -1,11 +1,11 @@
 //! Texts that are read; those that are refused stand in `tests/cases`.
 
-use test_support::same;
 use base_text::base_read;
 use frame_records::{Base, Frame, Lead};
 use page_ids::{FrameId, PageNo};
 use std::alloc::{AllocError, Global};
 use std::test::Fail;
+use test_support::same;
 
 // The base DEMO, in its four parts.
 const TOP: &str = "entry = 123\noutside = [0]\n";

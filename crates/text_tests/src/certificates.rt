@@ -3,13 +3,13 @@
 ghost use Rattle.std.specs.Prelude.{◌<◌};
 
 use abstract_paint::{AbsCursor, Pend, Place};
-use test_support::{CERT, same, same_in};
 use cert_table::{Certificate, Cover, Row};
 use cert_text::{CertReader, LineCause, ReadFault, cert_read, cert_write};
 use frame_records::GroupNo;
 use page_ids::{FrameId, PageNo};
 use std::alloc::{AllocError, Global};
 use std::test::Fail;
+use test_support::{CERT, same, same_in};
 
 // The same for callers of group 7.
 const GROUPED: &str =

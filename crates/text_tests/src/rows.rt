@@ -1,6 +1,6 @@
-use test_support::{same, same_in};
 use base_text::{RowCells, body_of_rows};
 use std::test::Fail;
+use test_support::{same, same_in};
 
 #[test]
 fn a_row_has_at_most_40_codes_of_two_ranges() -> Result<(), Fail> {

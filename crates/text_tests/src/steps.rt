@@ -1,8 +1,8 @@
 //! Keys and codes, by themselves.
 
-use test_support::same;
 use base_text::{Field, TableKind, digit_key, is_key, is_row_code};
 use std::test::Fail;
+use test_support::same;
 
 #[test]
 fn keys_and_codes_are_told(_rt: HostRuntime) -> Result<(), Fail> {

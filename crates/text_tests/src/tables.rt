@@ -1,12 +1,12 @@
 //! Tables built by hand; which rows make none is these rules' own list of refusals.
 
 use abstract_paint::{AbsCursor, Pend, Place};
-use test_support::{depth, same, same_in};
 use cert_table::{Certificate, Cover, Row, RowList, RowTable, TableFault};
 use frame_records::{GroupNo, Groups, Pence};
 use page_ids::{FrameId, PageNo};
 use std::alloc::{AllocError, Global};
 use std::test::Fail;
+use test_support::{depth, same, same_in};
 
 fn id(text: &str) -> Result<FrameId, Fail> {
     let id = FrameId::read(text)?;

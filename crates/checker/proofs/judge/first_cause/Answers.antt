@@ -1,9 +1,8 @@
-use Rattle.std.proofs.Common.{◌≡◌, ◌≤◌, List, Option, None, length, sym, ap, ◌∙◌, arith}
+use Rattle.std.proofs.Common.{◌≡◌, ◌≤◌, Option, None, length, sym, ap, ◌∙◌, arith}
 use Rattle.std.specs.Prelude.{is_none}
 use Rattle.std.specs.List.{sum_by}
 use Rattle.page_ids.specs.Ids.{Id}
 use Rattle.frame_records.specs.Seek.{entry_of}
-use Rattle.cert_table.specs.declared.row.Row.{Row}
 use Rattle.checker.specs.declared.verdict.Cause.{Cause}
 use Rattle.checker.specs.Counts.{row_probes, unless_fault, judged, judged_rows}
 use Rattle.checker.specs.Verdict.{on_terms, on_head}
