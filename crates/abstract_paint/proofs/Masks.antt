@@ -35,7 +35,7 @@ plain_lanes v long =
 pub plain_fits : (v : List ℕ) → length v ≡ 32 → Fits w32 (mask_l (map is_plain v))
 plain_fits v long = record { fits = subst (λ (n : ℕ). mask_l (map is_plain v) < 2 ^ n) (length-map v is_plain ∙ long) (mask_l-lt (map is_plain v)) }
 
--- bit i is set exactly if lane i is plain
+-- bit i is set if and only if lane i is plain
 bit_by : (n i : ℕ) (r : Bool) → bit_at n i ≡ cond r 1 0 → IsBitSet n i ↔ IsTrue r
 bit_by n i true e =
     let set : bit_and n (2 ^ i) ≡ 1 * 2 ^ i = and_pow n i ∙ ap (λ (b : ℕ). b * 2 ^ i) e in

@@ -6,7 +6,7 @@ use Rattle.abstract_paint.specs.declared.advance.Advance.{Advance}
 use Rattle.abstract_paint.specs.declared.advance.Advance.TheVariants.{Touches, Goes}
 use Rattle.abstract_paint.specs.Paint.{OnScreen, paint_from}
 
--- the byte after so many touches
+-- the byte after this many touches
 pub record StopsBehind (x : AbsCursor) (bs : List ℕ) (k : ℕ) : Type 0 where
   pub within : k < length bs
   pub same : (i : ℕ) → paint_from x i bs ≡ touches_at (i + k)

@@ -67,7 +67,7 @@ EndsAreOne = (lead : Lead) (body : List ℕ) (x y : AbsCursor) → Ends lead bod
 abbrev pub StandsIsTest : Type 0
 StandsIsTest = (x : AbsCursor) (p : ℕ) (q : Bool) → (stands x p q ≡ true) ↔ Stands x p q
 
--- a cursor stands for something exactly if its place is on the screen
+-- a cursor stands for something if and only if its place is on the screen
 abbrev pub ScreenIsStoodFor : Type 0
 ScreenIsStoodFor = (x : AbsCursor) → OnScreen x.place ↔ ((p : ℕ) × (q : Bool) × Stands x p q)
 

@@ -1,6 +1,6 @@
 //! How far painting gets at once: over a run of plain bytes from a spot, or over one byte.
 
-ghost use Rattle.std.specs.Prelude.{◌≡◌, ◌<◌, ◌≤◌, length, true, IfSome};
+ghost use Rattle.std.specs.Prelude.{◌≡◌, ◌<◌, ◌≤◌, length, IfSome};
 ghost use Rattle.abstract_paint.specs.declared.cursor.Place.TheVariants.{Spot};
 ghost use Rattle.abstract_paint.specs.Paint.{OnScreen, calm};
 ghost use Rattle.abstract_paint.specs.Plain.{room, plain_len};
@@ -12,9 +12,9 @@ use crate::step::{after_byte, calm};
 
 // What painting the front of some bytes gives.
 pub enum Advance {
-    // The byte after so many touches.
+    // The byte after this many touches.
     Touches(usize),
-    // Behind so many bytes, which don't touch, the cursor is this one.
+    // After this many bytes, none of which touch, the cursor is this one.
     Goes(AbsCursor, usize),
 }
 

@@ -19,14 +19,14 @@ pub fn stands_is_test()
     ensures { StandsIsTest }
 {}
 
-/// A cursor stands for some position and flag exactly if its place is on the screen: a column over 39 or a spot over
+/// A cursor stands for some position and flag if and only if its place is on the screen: a column over 39 or a spot over
 /// 959 stands for none.
 pub fn screen_is_stood_for()
     ensures { ScreenIsStoodFor }
 {}
 
-/// Of every frame: painting ends in a clean cursor exactly if the frame is clean and ends where the cursor is,
-/// and to an offset exactly if that is the first that touches.
+/// Painting ends in a clean cursor if and only if the frame is clean and ends where the cursor is, and in an offset if and only if
+/// that is the first that touches.
 pub fn paint_is_exact()
     ensures { PaintIsExact }
 {}
@@ -46,7 +46,7 @@ pub fn plain_goes_on()
     ensures { PlainGoesOn }
 {}
 
-/// Of more plain bytes than fit, the first that doesn't touches.
+/// If there are more plain bytes than fit, the first that doesn't fit touches.
 pub fn plain_reaches()
     ensures { PlainReaches }
 {}

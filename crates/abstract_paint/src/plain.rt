@@ -21,7 +21,7 @@ fn lane_mask(lanes: u8x32) -> u64
     plain.to_bitmask()
 }
 
-/// Which of 32 bytes are plain, 20 to 7F: bit i is set exactly if byte i is.
+/// Which of 32 bytes are plain, 20 to 7F: bit i is set if and only if byte i is.
 pub fn plain_mask(bytes: &[u8; 32]) -> u32
     ensures mask { result ≡ mask_l (map is_plain bytes.now) }
     ensures bits { EachIndex bytes.now (λ i. IsBitSet result i ↔ IsTrue (is_plain (slice_index bytes.now i))) }

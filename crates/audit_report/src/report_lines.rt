@@ -1,5 +1,4 @@
 ghost use Rattle.std.specs.Prelude.{◌≡◌, ◌++◌, IfOk, OnOk, codes, decimal};
-ghost use Rattle.page_ids.specs.Keys.{key_word, keys_text};
 ghost use Rattle.audit_report.specs.Lines.{line};
 ghost use Rattle.audit_report.specs.ReportLines.{script_text, sought_text, pressed_text, start_text, price_words, touches_words, sought_words, no_return_words, words_as, fault_lines, fault_list_text, report_text, IsReport};
 

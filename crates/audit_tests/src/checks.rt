@@ -46,7 +46,7 @@ const TAKEN: [Taken; 12] = [
         line: "CLEARED\n",
         taken: (17, 33),
     },
-    // Of three outside pages the first takes 2, not 1.
+    // The first of three outside pages takes 2, not 1.
     Taken {
         base: ("outside = [0]", "outside = [0, 5, 7]"),
         cert: SAME,

@@ -1,4 +1,4 @@
-//! Checks of one certificate over each kind of rows: a table, searched by halves, and a list, searched row by row.
+//! Checks of one certificate over each kind of rows: a table, with a binary search, and a list, row by row.
 
 use crate::bases::base_of;
 use crate::policies::policy;

@@ -1,4 +1,4 @@
-//! What callers are told to accept.
+//! What callers accept.
 
 use checker::Policy;
 use frame_records::{Groups, Pence};

@@ -38,7 +38,7 @@ fn a_safe_base_of_65_535_frames_is_certified(rt: HostRuntime) -> Result<(), Fail
 // The last reply to keys, and the frame that is held.
 type Replayed = (Reply, Option<FrameId>);
 
-// What a caller of these groups is told last.
+// The last reply to a caller of these groups.
 fn replayed(alloc: Global, base: &Base, groups: &Groups, keys: &str) -> Result<Replayed, Fail> {
     let keys = keys_read(alloc, keys)?;
     let end = replay(alloc, base, groups, &keys)?;

@@ -10,7 +10,7 @@ use Rattle.base_map.specs.Edges.{has_id}
 use Rattle.base_map.specs.Windows.{Path, IsWithin, is_below, IsSpan}
 use Rattle.base_map.proofs.HasIds.{one_id, has_one, old_or_new, still_has, now_has, done_or_left, left_has, next_of, of_next, Grows}
 
--- exactly the frames to which at most so many steps go; what is next to the first of them is among them
+-- exactly the frames to which at most this many steps go; what is next to the first of them is among them
 pub record IsSpread (next : Id → List Id) (from : Id) (level done : ℕ) (ids : List Id) : Type 0 where
   pub sound : (id : Id) → has_id ids id ≡ true → (n : ℕ) × (n ≤ level) × Path next from id n
   pub whole : (id : Id) (n : ℕ) → n ≤ level → Path next from id n → has_id ids id ≡ true

@@ -14,7 +14,7 @@ use Rattle.frame_records.specs.Seek.{seek}
 use Rattle.base_map.specs.declared.exits.Exit.{Exit}
 use Rattle.base_map.specs.Edges.{exits_of}
 
--- Of each frame the frames to which links go.
+-- The frames to which links go from each frame.
 
 -- the end of a link, if it begins at a frame
 abbrev pub linked_by : Link → Id → List Id

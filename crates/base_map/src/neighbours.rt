@@ -1,4 +1,4 @@
-//! Of each frame the frames to which links go.
+//! The frames to which links go from each frame.
 
 ghost use Rattle.std.specs.Prelude.{◌≡◌, ◌++◌, [], false, IfOk, OnOk};
 ghost use Rattle.page_ids.specs.Ids.{Id, id_eq};
@@ -44,7 +44,7 @@ impl Neighbours {
         Ok(())
     }
 
-    // Of these links.
+    // Builds the index from links.
     pub fn of(alloc: Global, links: &[Link]) -> Result<Neighbours, AllocError>
         ensures { IfOk result (λ n. (id : Id) → ends_of n id ≡ linked links.now id) }
     {

@@ -1,4 +1,4 @@
-//! The frames that so many keys lead to.
+//! The frames within a number of keys.
 
 ghost use Rattle.std.specs.Prelude.{◌≡◌, ◌≤◌, IfOk, OnOk, drop, length};
 ghost use Rattle.std.specs.List.{flat_map};
@@ -54,7 +54,7 @@ fn is_below(level: usize, most: Option<u16>) -> bool
     }
 }
 
-// The frames that at most so many links lead to from one; all to which links lead, if no number is given.
+// The frames that at most this many links lead to from one; all to which links lead, if no number is given.
 pub fn span(
     alloc: Global,
     neighbours: &Neighbours,

@@ -13,9 +13,9 @@ use std::alloc::{AllocError, Global};
 pub enum View {
     /// All frames.
     Whole,
-    /// The frames that at most so many keys lead to from a page's frame `a`.
+    /// The frames that at most this many keys lead to from a page's frame `a`.
     From(PageNo, Option<u16>),
-    /// The frames from which at most so many keys lead to a page's frame `a`.
+    /// The frames from which at most this many keys lead to a page's frame `a`.
     To(PageNo, Option<u16>),
 }
 

@@ -1,6 +1,6 @@
 //! The parts of a base near a page.
 
-ghost use Rattle.std.specs.Prelude.{◌≡◌, IfOk};
+ghost use Rattle.std.specs.Prelude.{IfOk};
 ghost use Rattle.base_map.specs.Windows.{AreFrom, AreTo, IsPartOf, IsWindow};
 
 use crate::links::{links_of, turned};

@@ -91,6 +91,6 @@ unless_fault (Some fault) cert = Err fault
 abbrev pub built : ℕ → ℕ → ℕ → List ℕ → List Row → Result CertView TableFault
 built entry ceiling keyings groups rows = unless_fault (table_fault rows) (record { entry = entry; ceiling = ceiling; keyings = keyings; groups = groups; rows = rows })
 
--- no refusal applies exactly if the rows are a table on the screen
+-- no refusal applies if and only if the rows are a table on the screen
 abbrev pub FaultsAreExact : Type 0
 FaultsAreExact = (rows : List Row) → (table_fault rows ≡ None) ↔ (AreRows rows × AreOnScreen rows)

@@ -97,7 +97,7 @@ fn table_fault(rows: &[Row]) -> Option<TableFault>
     None
 }
 
-/// No refusal applies exactly if ids ascend, the rows are at most 65,535 and each cursor is on the screen.
+/// No refusal applies if and only if ids ascend, the rows are at most 65,535 and each cursor is on the screen.
 pub fn faults_are_exact()
     ensures { FaultsAreExact }
 {}

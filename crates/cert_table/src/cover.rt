@@ -13,7 +13,7 @@ pub trait Cover {
     /// The rows, in the order of their ids.
     ghost rows: { Self → List Row };
 
-    /// The most rows that one look-up compares, among so many.
+    /// The most rows that one look-up compares in a table of this length.
     ghost most_among: { ℕ → ℕ };
 
     ghost use Rattle.page_ids.specs.Ids.{Id};

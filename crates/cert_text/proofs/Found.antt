@@ -44,7 +44,7 @@ lines_before (Head Count) s =
 lines_before Rows s = head_of s ++ map row_line s.rows
 lines_before After s = head_of s ++ (map row_line s.rows ++ (codes "end" ∷ []))
 
--- which groups and rows have come: none of them, and then groups exactly if line 1 announced them
+-- which groups and rows have come: none of them, and then groups if and only if line 1 announced them
 abbrev AreNone : Said → Type 0
 AreNone s = (s.groups ≡ []) × (s.rows ≡ [])
 

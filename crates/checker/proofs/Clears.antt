@@ -207,7 +207,7 @@ module _ (base : BaseView) (policy : Policy) (cert : CertView) where
   pub good_cleared : Good base policy cert → verdict base policy cert ≡ Cleared
   good_cleared g = ap verdict_of (agrees.none.1 (((g.entry, (g.ceiling, (g.keyings, g.groups))), g.covered), rows_good.1 g.rows))
 
-  -- an answer that is the verdict is Cleared exactly if the certificate is good
+  -- an answer that is the verdict is Cleared if and only if the certificate is good
   pub clears_good : (v : Verdict) → v ≡ verdict base policy cert → (v ≡ Cleared) ↔ Good base policy cert
   clears_good v e = (λ h. cleared_good (sym e ∙ h), λ g. e ∙ good_cleared g)
 

@@ -25,11 +25,11 @@ GoodIsSafe = (base : BaseView) (policy : Policy) (cert : CertView) → AreApart 
 abbrev pub GoodKeepsRows : Type 0
 GoodKeepsRows = (base : BaseView) (policy : Policy) (cert : CertView) → AreApart base → Good base policy cert → (keys : List Key) → HasRows cert.rows (state_after cert.groups base (opening base) keys)
 
--- cleared exactly if the certificate is good
+-- cleared if and only if the certificate is good
 abbrev pub ClearedIsGood : Type 0
 ClearedIsGood = (base : BaseView) (policy : Policy) (cert : CertView) → (verdict base policy cert ≡ Cleared) ↔ Good base policy cert
 
--- refused for a cause exactly if its condition is the first that fails
+-- refused for a cause if and only if its condition is the first that fails
 abbrev pub RefusedIsFirst : Type 0
 RefusedIsFirst = (base : BaseView) (policy : Policy) (cert : CertView) (c : Cause) → (verdict base policy cert ≡ Refused c) ↔ (conditions base policy cert).FailsFor c
 
@@ -43,7 +43,7 @@ has_double_height codes = list_any is_double_height codes
 abbrev pub row_22 : List (List ℕ) → List ℕ
 row_22 rows = get_or rows 21 []
 
--- at most 22 rows, under either lead, are clean exactly if the 22nd has no double height
+-- at most 22 rows, under either lead, are clean if and only if the 22nd has no double height
 abbrev pub RowsAreClean : Type 0
 RowsAreClean =
     (lead : Lead) (rows : List (List ℕ)) →

@@ -30,7 +30,7 @@ IsCleanReply base (Closed id) = Unit {0}
 IsCleanReply base (Gone page) = Unit {0}
 
 -- after every list of keys from the entry page: no reply was Missing or Closed, each frame shown costs at most the ceiling
--- and is clean, and unless the caller left, at most so many keyings regain the entry page
+-- and is clean, and unless the caller left, at most this many keyings regain the entry page
 pub record Safe (caller : List ℕ) (base : BaseView) (ceiling keyings : ℕ) : Type 0 where
   pub session : SafeSession caller base ceiling keyings
   pub entry_clean : IsCleanAt base (entry_of base)

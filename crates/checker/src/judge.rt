@@ -261,7 +261,7 @@ pub fn check_counted<C: Cover + Drop>(
 pub fn check<C: Cover + Drop>(base: &Base, policy: &Policy, cert: &Certificate<C>) -> Verdict
     ensures verdict { result ≡ verdict base.now policy.now cert.now }
 
-    // Cleared exactly if each condition holds, in the subject's words.
+    // Cleared if and only if each condition holds, in the subject's words.
     ensures good { (result ≡ Verdict.Cleared) ↔ Good base.now policy.now cert.now }
 
     // The headline: after every list of keys.

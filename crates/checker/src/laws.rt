@@ -7,18 +7,18 @@ pub fn good_is_safe()
     ensures rows { GoodKeepsRows }
 {}
 
-/// A certificate is cleared exactly if it is good.
+/// A certificate is cleared if and only if it is good.
 pub fn cleared_is_good()
     ensures { ClearedIsGood }
 {}
 
-/// A frame that is given as at most 22 rows is clean exactly if the 22nd of them, if there is one, has no double height
+/// A frame that is given as at most 22 rows is clean if and only if the 22nd of them, if there is one, has no double height
 /// (8D), under either lead.
 pub fn rows_are_clean()
     ensures { RowsAreClean }
 {}
 
-/// A certificate is refused for a cause exactly if that cause's condition is the first that fails: K9 with the offset of
+/// A certificate is refused for a cause if and only if that cause's condition is the first that fails: K9 with the offset of
 /// the first byte whose write, from some state of the terminal, counts as one in a service row, K10 by the ends that occur.
 pub fn refused_is_first()
     ensures { RefusedIsFirst }
@@ -30,10 +30,10 @@ pub fn lost_is_least()
     ensures { LostIsLeast }
 {}
 
-/// Of every list of editions in turn, each cleared against the one before it, and every caller whose frames have rows in the
-/// first certificate, as those of a caller who opens a session of the first edition do: nothing that is sought is missing or
-/// closed, what is shown costs at most that edition's ceiling and is clean, and also right after each change the caller left
-/// or regains the entry frame within that edition's keyings.
+/// While editions follow each other, each cleared against the one before it, the headline holds of a caller whose frames have rows
+/// in the first certificate, as those of a caller who opens a session of the first edition do: nothing that is sought is missing
+/// or closed, what is shown costs at most that edition's ceiling and is clean, and also right after each change the caller left or
+/// regains the entry frame within that edition's keyings.
 pub fn changes_are_safe()
     ensures { ChangesAreSafe }
 {}

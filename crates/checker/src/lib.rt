@@ -29,7 +29,7 @@
 //!   of sessions that cross any number of such changes is [`changes_are_safe`].
 //! - [`good_is_safe`], [`cleared_is_good`], [`refused_is_first`]: the laws, of every base, policy and certificate.
 //! - [`lost_is_least`]: E2 names the smallest id that is no longer covered.
-//! - [`rows_are_clean`]: a frame that is given as rows is clean exactly if its 22nd row has no double height.
+//! - [`rows_are_clean`]: a frame that is given as rows is clean if and only if its 22nd row has no double height.
 #![tactic(auto)]
 
 mod bytes;

@@ -2,10 +2,8 @@
 
 ghost use Rattle.std.specs.Prelude.{◌≡◌, ◌≤◌, ◌+◌, ◌||◌, Some, None, length, is_some, if◌then◌else◌};
 ghost use Rattle.page_ids.specs.Ways.{way_at};
-ghost use Rattle.frame_records.specs.Ways.{sought};
 ghost use Rattle.frame_records.specs.Bases.{IsBase};
 ghost use Rattle.cert_table.specs.declared.limits.TheConstants.{MOST_ROWS};
-ghost use Rattle.checker.specs.Verdict.{way_on, way_down};
 ghost use Rattle.checker.specs.Loops.{IsAbsent, IsWayCheck, AreWayChecks};
 
 use crate::cover::seek_row;

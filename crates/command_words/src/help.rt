@@ -3,35 +3,35 @@
 /// The program's version, which the list of changes names too.
 pub const VERSION: &str = "1.0.0";
 
-/// Of `lint`.
+/// After the options of `lint`.
 pub const LINT: &str = concat!(
     "Example: pageaudit lint examples/town.toml\n\n",
     "Status: 0 no error, 1 errors, 2 bad command line,\n",
     "        3 a file that can't be read, or a write that fails, 4 out of memory",
 );
 
-/// Of `audit`.
+/// After the options of `audit`.
 pub const AUDIT: &str = concat!(
     "Example: pageaudit audit examples/demo.toml --ceiling 50 --keyings 3 --out demo.cert\n\n",
     "Status: 0 a certificate, 1 faults, 2 bad command line,\n",
     "        3 a file that is refused or can't be read, or a write that fails, 4 out of memory",
 );
 
-/// Of `check`.
+/// After the options of `check`.
 pub const CHECK: &str = concat!(
     "Example: pageaudit check examples/demo.toml examples/demo.cert --ceiling 50 --keyings 3\n\n",
     "Status: 0 cleared, 1 refused, 2 bad command line,\n",
     "        3 a file that is refused or can't be read, or a write that fails, 4 out of memory",
 );
 
-/// Of `change`.
+/// After the options of `change`.
 pub const CHANGE: &str = concat!(
     "Example: pageaudit change old.toml old.cert new.toml new.cert --ceiling 50 --keyings 3\n\n",
     "Status: 0 cleared, 1 refused, 2 bad command line,\n",
     "        3 a file that is refused or can't be read, or a write that fails, 4 out of memory",
 );
 
-/// Of `walk`.
+/// After the options of `walk`.
 pub const WALK: &str = concat!(
     "Example: pageaudit walk examples/demo.toml '1#*#*00'\n\n",
     "Status: 0 a walk, 1 no session, 2 bad command line or keys,\n",
@@ -50,7 +50,7 @@ pub const SHOW: &str = concat!(
     "        3 a file that is refused or can't be read, or a write that fails, 4 out of memory",
 );
 
-/// Of `list`.
+/// After the options of `list`.
 pub const LIST: &str = concat!(
     "A frame that is closed to the caller is listed as UNREACHED: this is a list, not a warning.\n\n",
     "Example: pageaudit list examples/town.toml\n\n",
@@ -58,7 +58,7 @@ pub const LIST: &str = concat!(
     "        3 a file that is refused or can't be read, or a write that fails, 4 out of memory",
 );
 
-/// Of `map`.
+/// After the options of `map`.
 pub const MAP: &str = concat!(
     "A frame that is closed to the caller is red, one that no key reaches is dashed. What the base\n",
     "lacks is red, or an ellipse if its page is outside.\n\n",
@@ -67,7 +67,7 @@ pub const MAP: &str = concat!(
     "        3 a file that is refused or can't be read, or a write that fails, 4 out of memory",
 );
 
-/// Of `explain`.
+/// After the options of `explain`.
 pub const EXPLAIN: &str = concat!(
     "Example: pageaudit explain K7\n\n",
     "Status: 0 an explanation or the list, 2 an unknown word, 3 a write that fails, 4 out of memory",

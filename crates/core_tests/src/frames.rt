@@ -147,7 +147,7 @@ fn a_body_keeps_its_bytes(rt: HostRuntime) -> Result<(), Fail> {
     Ok(())
 }
 
-// A base without frames and with so many outside pages: the odd numbers from 1.
+// A base without frames and with this many outside pages: the odd numbers from 1.
 fn odd_pages(alloc: Global, count: u32) -> Result<Base, Fail> {
     let entry = page(0)?;
     let mut pages = Vec::new(alloc);
@@ -158,7 +158,7 @@ fn odd_pages(alloc: Global, count: u32) -> Result<Base, Fail> {
     Ok(Base::build(entry, pages, Vec::new(alloc))?)
 }
 
-// Whether a number among so many odd ones is found exactly if it is listed, in as many comparisons as a binary search makes.
+// Whether a number among this many odd ones is found if and only if it is listed, in as many comparisons as a binary search makes.
 fn is_sought(base: &Base, count: u32, wanted: u32) -> bool {
     let last = count.saturating_mul(2);
     let listed = wanted % 2 == 1 && wanted < last;

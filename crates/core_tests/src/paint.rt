@@ -43,7 +43,7 @@ fn paints_full_pages() -> Result<(), Fail> {
     Ok(())
 }
 
-// An attribute at the front of a row, so many rows down. 4D is double height, which shows in the row beneath too.
+// An attribute at the front of a row, this many rows down. 4D is double height, which shows in the row beneath too.
 #[test]
 fn paints_an_attribute_in_each_row() -> Result<(), Fail> {
     for (letter, last) in [(0x4c, 22), (0x4d, 21), (0x4e, 22)] {
@@ -123,7 +123,7 @@ fn finds_the_least_start() -> Result<(), Fail> {
     Ok(())
 }
 
-// Of a byte that touches after the first one, of one that never does, and past the body's end.
+// A byte that touches after the first one, one that never does, and one past the body's end.
 #[test]
 fn finds_the_least_start_at_a_byte() -> Result<(), Fail> {
     let rows: [(Lead, &[u8], usize, Option<Start>); 6] = [

@@ -1,6 +1,6 @@
 //! The answers of a plain program that runs each of the 1,920 starts on a terminal.
 
-use abstract_paint::{AbsCursor, Painted, Pend, Place, Start, paint, start_at, start_for};
+use abstract_paint::{AbsCursor, Painted, Start, paint, start_for};
 use frame_records::Lead;
 use std::alloc::{AllocError, Global};
 use std::test::Fail;
@@ -137,7 +137,7 @@ fn agrees_on_each_byte_after_an_escape() -> Result<(), Fail> {
     Ok(())
 }
 
-// The head, so many letters, the middle, and so many letters more.
+// The head, this many letters, the middle, and this many letters more.
 fn body_of(
     alloc: Global,
     head: &[u8],

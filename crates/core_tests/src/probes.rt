@@ -96,7 +96,7 @@ fn sought(pages: &[PageNo], wanted: PageNo) -> (Option<usize>, u32)
     (place, probe.questions)
 }
 
-// Each number up to one after the last of so many odd ones is sought: those that are there and those that aren't.
+// Each number up to one after the last of this many odd ones is sought: those that are there and those that aren't.
 fn seek_each(alloc: Global, count: u32) -> Result<(), Fail> {
     let pages = odd_pages(alloc, count)?;
     for number in 0..count.saturating_mul(2).saturating_add(1) {

@@ -1,6 +1,6 @@
 //! Texts that are made and written piece by piece.
 
-ghost use Rattle.std.specs.Prelude.{◌≡◌, ◌<◌, ◌≤◌, ◌+◌, ◌++◌, ◌^◌, List, ℕ, false, OnOk, IfOk, IfErr, length};
+ghost use Rattle.std.specs.Prelude.{◌≡◌, ◌<◌, ◌+◌, ◌++◌, ◌^◌, List, ℕ, false, OnOk, IfOk, IfErr, length};
 ghost use Rattle.std.specs.Vec.{vec_len, vec_capacity};
 ghost use Rattle.devices.specs.Devices.{Seen, WroteWhole, WrotePart, IsOnItsWay};
 

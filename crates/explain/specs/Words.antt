@@ -90,11 +90,11 @@ name_of found = option_map (λ near. near.name.now) found
 abbrev pub HasDistance : List ℕ → Option Near → Type 0
 HasDistance word found = IfSome found (λ near. near.distance ≡ distance word near.name.now)
 
--- each near name is further from the word than so many steps
+-- each near name is further from the word than this many steps
 abbrev pub AreFurther : List ℕ → ℕ → List (List ℕ) → Type 0
 AreFurther word steps names = AllByRecursion (λ name. is_near word name ≡ true → steps < distance word name) names
 
--- no near name is nearer to the word than so many steps
+-- no near name is nearer to the word than this many steps
 abbrev pub NoneIsNearer : List ℕ → ℕ → List (List ℕ) → Type 0
 NoneIsNearer word steps names = AllByRecursion (λ name. is_near word name ≡ true → steps ≤ distance word name) names
 

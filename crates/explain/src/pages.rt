@@ -1086,7 +1086,7 @@ ENTRYCLOSED, C1 rows out of order, C2 too many rows, C3 no cursor. Nor is
 'certificate: failed' printed, or '*#', '*00' or '*09' in a script."#;
 
 /// The paragraphs of the word at a place, in order.
-pub fn paragraphs_at(place: usize) -> &'static [&'static str] {
+pub(crate) fn paragraphs_at(place: usize) -> &'static [&'static str] {
     match place {
         ..=5 => &[P0, P1, P2, P3, P4, P5, P6, P7],
         ..=7 => &[P8, P9, P2, P3, P4, P10, P6, P11],

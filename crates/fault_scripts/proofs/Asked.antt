@@ -1,4 +1,4 @@
--- What is asked of a frame in each turn has an answer exactly if a fault is due that is there.
+-- What is asked of a frame in each turn has an answer if and only if a fault is due that is there.
 use Rattle.std.proofs.Common.{◌≡◌, ◌<◌, ◌≤◌, ◌+◌, ◌-◌, ◌==◌, ℕ, nat_lt, List, Bool, true, false, cond, Option, option_map, refl, sym, ◌∙◌, ap, subst, arith}
 use Rattle.std.proofs.Common as std
 use Rattle.std.proofs.lemmas.Bool.Decides.{nat_tests}

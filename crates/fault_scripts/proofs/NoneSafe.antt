@@ -1,4 +1,4 @@
--- There is no fault exactly if the base is safe within the policy.
+-- There is no fault if and only if the base is safe within the policy.
 use Rattle.std.proofs.Common.{◌≡◌, List, [], ◌∷◌, refl, subst, arith}
 use Rattle.frame_records.specs.declared.base.Sought.{Sought}
 use Rattle.frame_records.specs.declared.base.Sought.TheVariants as sought

@@ -74,7 +74,7 @@ module _ (caller : List ℕ) (base : BaseView) where
   moves f remembered key.Reprint forward = absurd forward
   moves f remembered key.Update forward = absurd forward
 
-  -- a walk of at most so many steps
+  -- a walk of at most this many steps
   record WalksWithin (f g : Id) (most : ℕ) : Type 0 where
     pub steps : ℕ
     pub within_most : steps ≤ most

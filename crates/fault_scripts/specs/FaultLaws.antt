@@ -27,7 +27,7 @@ FaultsAreOne = (base : BaseView) (policy : Policy) (a b : List Fault) → AreFau
 abbrev pub FaultsAreShown : Type 0
 FaultsAreShown = (base : BaseView) (policy : Policy) (faults : List Fault) (fault : Fault) → AreFaults base policy faults → Contains faults fault → Shows base policy fault
 
--- there is none exactly if the base is safe within the policy. The premise is what every base keeps: no frame is on
+-- there is none if and only if the base is safe within the policy. The premise is what every base keeps: no frame is on
 -- an outside page
 abbrev pub NoneIsSafe : Type 0
 NoneIsSafe = (base : BaseView) (policy : Policy) (faults : List Fault) → AreApart base → AreFaults base policy faults → (faults ≡ []) ↔ Safe policy.groups base policy.ceiling policy.keyings

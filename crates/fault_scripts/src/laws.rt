@@ -15,7 +15,7 @@ pub fn faults_are_shown()
     ensures { FaultsAreShown }
 {}
 
-/// There is no fault exactly if the base is safe within the policy.
+/// There is no fault if and only if the base is safe within the policy.
 pub fn none_is_safe()
     ensures { NoneIsSafe }
 {}

@@ -1,4 +1,4 @@
-//! The audit of a base: a certificate exactly if every session is safe within a policy, else every fault with the keys that
+//! The audit of a base: a certificate if and only if every session is safe within a policy, else every fault with the keys that
 //! show it.
 //!
 //! ```
@@ -13,7 +13,7 @@
 //!   order of discovery, and the frames that were discovered. [`faults`]: the former alone.
 //! - [`replay`], [`Replayed`]: the result of a session of a fault's keys.
 //! - [`faults_are_due`], [`faults_are_one`], [`faults_are_shown`], [`none_is_safe`]: the list is complete, it is the only such
-//!   list, each fault is borne out by its script, and there is none exactly if the base is safe.
+//!   list, each fault is borne out by its script, and there is none if and only if the base is safe.
 #![tactic(auto)]
 
 mod auditing;

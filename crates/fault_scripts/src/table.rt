@@ -1,5 +1,5 @@
 ghost use Rattle.std.specs.Prelude.{◌≡◌, ◌++◌, [], OnOk, max, unwrap_or};
-ghost use Rattle.fault_scripts.specs.Loops.{row_of, IsGathered};
+ghost use Rattle.fault_scripts.specs.Loops.{row_of};
 
 use crate::fault::no_price;
 use abstract_paint::Painted;

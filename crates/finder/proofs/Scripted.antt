@@ -141,7 +141,7 @@ module _ (caller : List ℕ) (base : BaseView) (found : List Discovered) (finds 
       let some : parent_of (slice_get found (suc i)) ≡ Some (_, _) = ap parent_of at ∙ ap (λ a. parent_by a d.key) h.parent ∙ ap (parent_by (Some _)) h.key in
       absurd cc
 
-  -- in so many turns
+  -- in this many turns
   leads_within : (n i : ℕ) (d : Discovered) → i ≤ n → slice_get found i ≡ Some d → (o : Option (ℕ × Key))
       → parent_of (slice_get found i) ≡ o → KeysLead caller base (entry_of base) (script found i) d.id
   leads_within n i d le at None none =

@@ -54,7 +54,7 @@ abbrev pub parent_of : Option Discovered → Option (ℕ × Key)
 parent_of None = None
 parent_of (Some d) = parent_by d.parent d.key
 
--- the keys back along the parents, from the last to the first, in at most so many turns
+-- the keys back along the parents, from the last to the first, in at most this many turns
 abbrev pub keys_along : (ℕ → List Key) → Option (ℕ × Key) → List Key
 keys_along before None = []
 keys_along before (Some p) = p.1 ∷ before p.0
@@ -111,7 +111,7 @@ pub record FindsReached (caller : List ℕ) (base : BaseView) (found : List Disc
   -- the entry frame is first, without parent or key
   pub first : (d : Discovered) → slice_get found 0 ≡ Some d
       → (d.id ≡ entry_of base) × (d.parent ≡ None) × (d.key ≡ None)
-  -- a frame is reached exactly if it is listed
+  -- a frame is reached if and only if it is listed
   pub reached : (id : Id) → IsReached caller base id ↔ Any (λ d. d.id ≡ id) found
   -- no frame is listed twice
   pub once : AllPairs (λ d e. d.id ≢ e.id) found

@@ -60,7 +60,7 @@ impl Found {
         }
     }
 
-    // No frame, with room for so many.
+    // An empty list with this capacity.
     pub(crate) fn with_capacity(alloc: Global, most: usize) -> Result<Found, AllocError>
         ensures { IfOk result (λ found. found ≡ []) }
     {

@@ -22,7 +22,7 @@ pub struct Targets {
     pub aims: Vec<Aim>,
 }
 
-// No node, since a base has at most so many frames.
+// No node, since a base has at most this many frames.
 const NOWHERE: u16 = u16::MAX;
 
 // A way's number in the order of the ways.

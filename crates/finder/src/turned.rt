@@ -1,4 +1,4 @@
-ghost use Rattle.std.specs.Prelude.{◌≡◌, ◌<◌, ◌+◌, ◌-◌, ◌*◌, IsTrue, OnOk, IfOk, length};
+ghost use Rattle.std.specs.Prelude.{◌<◌, ◌+◌, ◌-◌, ◌*◌, IsTrue, OnOk, IfOk, length};
 ghost use Rattle.smallvec.specs.SmallVec.{SmallVec};
 ghost use Rattle.finder.specs.Graph.{Goes};
 ghost use Rattle.finder.specs.Loops.{AreTurned, IsSourceList};

@@ -140,7 +140,7 @@ impl Base {
     }
 }
 
-/// Of every entry and two lists: they make one base.
+/// An entry and two lists make one base.
 pub fn bases_are_one()
     ensures { BasesAreOne }
 {}

@@ -1,4 +1,4 @@
-ghost use Rattle.std.specs.Prelude.{◌≡◌, false, IfSome, IfNone, MatchOption, length, find, option_map};
+ghost use Rattle.std.specs.Prelude.{◌≡◌, false, IfSome, IfNone, MatchOption, find, option_map};
 ghost use Rattle.std.specs.List.Sorted.{IsSortedByKey, IsStrictlyIncreasing};
 ghost use Rattle.page_ids.specs.Ids.{id_cmp};
 ghost use Rattle.frame_records.specs.Bases.{IsAscending, has_page, are_too_many, is_body_long, is_next_after_z, IsLeastTwice, IsBuildFault, IsUnrefused, AreSorted};

@@ -1,6 +1,6 @@
 //! The closed user groups to which a caller belongs.
 
-ghost use Rattle.std.specs.Prelude.{◌≡◌, ◌<◌, ◌==◌, ℕ, List, [], ◌∷◌, ◌++◌, Ok, Err, MatchResult, length, IfOk, IfErr, slice_get, Some};
+ghost use Rattle.std.specs.Prelude.{◌≡◌, ◌<◌, ◌==◌, ℕ, List, [], Ok, Err, MatchResult, length, IfOk, IfErr, slice_get, Some};
 ghost use Rattle.std.specs.List.{list_any};
 ghost use Rattle.std.specs.Str.{bytes_eq};
 ghost use Rattle.frame_records.specs.Groups.{AreGroups, are_below, has_room, pushed, numbered, group_in, added, groups_in, IsGroupsText, GroupsAreTexts};
@@ -203,7 +203,7 @@ impl Frame {
     }
 }
 
-/// Of every text: groups are read from just their own texts, whatever separates their numbers, if it is no digit.
+/// Groups are read from their own texts alone, whatever separates their numbers, if it is no digit.
 pub fn groups_are_texts()
     ensures { GroupsAreTexts }
 {}

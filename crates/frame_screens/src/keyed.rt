@@ -1,5 +1,4 @@
 ghost use Rattle.std.specs.Prelude.{◌≡◌, IfOk};
-ghost use Rattle.frame_records.specs.Seek.{entry_of};
 ghost use Rattle.session_machine.specs.Sessions.{opening};
 ghost use Rattle.session_machine.specs.Runs.{state_after};
 ghost use Rattle.frame_screens.specs.Frames.{IsKeyed, frames_sent};

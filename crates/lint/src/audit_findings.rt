@@ -1,7 +1,7 @@
 ghost use Rattle.std.specs.Prelude.{◌≡◌, ◌++◌, ℕ, List, Option, map, IfOk, OnOk};
 ghost use Rattle.page_ids.specs.Ids.{Id};
 ghost use Rattle.toml_places.specs.Places.{Mark, Keeps};
-ghost use Rattle.lint.specs.Lookups.{Knows, value_of};
+ghost use Rattle.lint.specs.Lookups.{Knows};
 ghost use Rattle.lint.specs.Lint as spec;
 
 use crate::finding::Finding;

@@ -1,6 +1,6 @@
 //! The place of a fault: the offset of the expression that wrote what is at fault.
 
-ghost use Rattle.std.specs.Prelude.{◌≡◌, List, option_copied, option_map};
+ghost use Rattle.std.specs.Prelude.{◌≡◌, List, option_copied};
 ghost use Rattle.toml_places.specs.Places.{Mark, Keeps};
 ghost use Rattle.lint.specs.Spots as spec;
 

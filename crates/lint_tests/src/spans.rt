@@ -60,7 +60,7 @@ fn keys_and_values_are_where_they_are_written(rt: HostRuntime) -> Result<(), Fai
     have_keys(rt.alloc(), text, &rows)
 }
 
-// Of a table that a dotted key or a header makes, the value is that key or header.
+// If a dotted key or a header makes a table, the value is that key or header.
 #[test]
 fn a_table_is_at_its_first_key_or_header(rt: HostRuntime) -> Result<(), Fail> {
     let text =

@@ -94,12 +94,12 @@ pub fn push_id(text: &mut Vec<u8>, id: FrameId) -> Result<(), AllocError>
     text.extend_from_slice(id.text().as_bytes())
 }
 
-/// Of every id and text: an id is read from its own text, and from no other.
+/// An id is read from its own text, and from no other.
 pub fn ids_are_texts()
     ensures { IdsAreTexts }
 {}
 
-/// Of every two ids: they compare by page number, then by letter, in `<` and wherever ids are sorted or sought.
+/// Ids compare by page number, then by letter, in `<` and wherever they are sorted or sought.
 pub fn ids_are_ordered()
     ensures { (a b : Id) → ⟦<FrameId as Ord>⟧.cmp a b ≡ id_cmp a b }
 {}

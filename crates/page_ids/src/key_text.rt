@@ -1,4 +1,4 @@
-ghost use Rattle.std.specs.Prelude.{◌≡◌, ◌≤◌, ◌+◌, ◌++◌, IfOk, OnOk, MatchResult, IfSome, length, drop, map};
+ghost use Rattle.std.specs.Prelude.{◌≡◌, ◌+◌, ◌++◌, IfOk, MatchResult, length};
 ghost use Rattle.page_ids.specs.declared.key.Key.{Key};
 ghost use Rattle.page_ids.specs.Keys.{key_word, key_at, keys_text, IsRead, KeysAreTexts};
 
@@ -92,7 +92,7 @@ pub fn keys_text(alloc: Global, keys: &KeyList) -> Result<Vec<u8>, AllocError>
     Ok(text)
 }
 
-/// Of every list of keys and every text: a list has one text, a text has one list, and no word begins another.
+/// A list of keys has one text, a text is that of at most one list, and no word begins another.
 pub fn keys_are_texts()
     ensures { KeysAreTexts }
 {}

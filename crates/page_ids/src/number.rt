@@ -81,7 +81,7 @@ pub fn push_number(text: &mut Vec<u8>, number: u64) -> Result<(), AllocError>
     Ok(())
 }
 
-/// Of every number and text: a number is read from its own text, and from no other.
+/// A number is read from its own text, and from no other.
 pub fn numbers_are_texts()
     ensures { NumbersAreTexts }
 {}

@@ -18,7 +18,7 @@ pub const ALL: usize = usize::MAX;
 // A text, and after how many bytes its reader fails.
 pub type File<'a> = (&'a str, usize);
 
-// A reader that gives at most so many bytes of a text a call, and fails after so many of all.
+// A reader that gives at most this many bytes of a text a call, and fails after this many of all.
 pub fn source(text: &str, step: usize, kept: usize) -> FakeSource<'_>
     ensures { result.failed ≡ false }
 {
@@ -29,7 +29,7 @@ pub fn source(text: &str, step: usize, kept: usize) -> FakeSource<'_>
     }
 }
 
-// A writer of a text that fails after so many bytes; after all of them it fails at its flush.
+// A writer of a text that fails after this many bytes; after all of them it fails at its flush.
 pub fn sink(alloc: Global, text: &str, room: usize) -> FakeSink
     ensures { result.failed ≡ false }
 {

@@ -108,7 +108,7 @@ pub fn file<'a>(words: &mut Words<'a>, rt: &HostRuntime) -> Option<Pieces<'a>> {
     Some(Pieces { text, how })
 }
 
-/// A file that comes in pieces of so many bytes; after a `/`, it fails after so many.
+/// A file that comes in pieces of this many bytes; after a `/`, the number of bytes after which it fails.
 #[derive(Drop)]
 pub struct Pieces<'a> {
     text: Vec<u8>,

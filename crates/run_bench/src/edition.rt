@@ -108,7 +108,7 @@ struct Both {
 }
 
 impl Edition {
-    /// Of a text whose frames have a mark.
+    /// Makes the edition of a text whose frames have a mark.
     pub fn of(alloc: Global, text: Vec<u8>, mark: Mark) -> Option<Edition> {
         let policy = policy(16, mark)?;
         let cert = certificate(alloc, text.as_slice(), &policy)?;

@@ -70,7 +70,7 @@ impl Shape {
         }
     }
 
-    // The frame to which a digit leads, of so many.
+    // The frame to which a digit leads, of this many.
     fn target(self, frames: u32, number: u32, digit: u32) -> Option<u32> {
         let frames = frames.max(1);
         let next = number.wrapping_add(1) % frames;
@@ -131,7 +131,7 @@ impl Shape {
         }
     }
 
-    /// The text of a base with so many frames, each with a mark.
+    /// The text of a base with this many frames, each with a mark.
     pub fn text(self, alloc: Global, frames: u32, mark: Mark) -> Result<Vec<u8>, AllocError> {
         let mut text = Vec::new(alloc);
         text.extend_from_slice(b"entry = 100000\n")?;

@@ -20,7 +20,7 @@ pub enum Work<'a> {
     Walk(&'a [u8]),
     /// The base of a text is read and audited, and its certificate is written.
     Audit(&'a [u8], &'a Policy),
-    /// Every fault of a text is found: so many.
+    /// Every fault of a text is found: this many.
     Lint(&'a [u8], &'a Policy, usize),
     /// The base of a text is read, and the list of its frames is written for a caller of these groups.
     List(&'a [u8], &'a Groups),
@@ -63,7 +63,7 @@ impl Work<'_> {
     }
 }
 
-/// The least time that each of as many pieces of work takes, in so many runs in turns.
+/// The least time that each of as many pieces of work takes, in this many runs in turns.
 pub fn least_times<const N: usize>(
     rt: &HostRuntime,
     runs: u32,

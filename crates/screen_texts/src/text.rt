@@ -1,7 +1,7 @@
 //! The form `text`.
 
 ghost use Rattle.std.specs.Prelude.{◌≡◌, ◌++◌, ◌∷◌, [], replicate, OnOk};
-ghost use Rattle.screen_texts.specs.Writing.{char_bytes, written};
+ghost use Rattle.screen_texts.specs.Writing.{written};
 ghost use Rattle.screen_texts.specs.Text.{line, text};
 
 use crate::ink::seen_char;

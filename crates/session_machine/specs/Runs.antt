@@ -49,7 +49,7 @@ IsForward (Route digit) = Unit {0}
 IsForward Next = Unit {0}
 IsForward _ = ⊥
 
--- at most so many route and next keys lead to the entry frame
+-- at most this many route and next keys lead to the entry frame
 pub record Regains (caller : List ℕ) (base : BaseView) (state : SessionState) (most : ℕ) : Type 0 where
   pub keys : List Key
   pub few : length keys ≤ most

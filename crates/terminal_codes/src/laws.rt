@@ -3,8 +3,7 @@
 ghost use Rattle.terminal_codes.specs.Bodies.{StartsDecide};
 ghost use Rattle.terminal_codes.specs.Writes.{CellsAreWrites, CellsHoldCodes, CaretDecides};
 
-/// Of every terminal: the cells after any bytes are those before with what was written stored in order, and no other
-/// cell changes.
+/// The cells of a terminal after any bytes are those before with what was written stored in order, and no other cell changes.
 pub fn cells_are_writes()
     ensures { CellsAreWrites }
 {}
@@ -15,7 +14,7 @@ pub fn cells_hold_codes()
     ensures { CellsHoldCodes }
 {}
 
-/// Of any two terminals of one position and pending escape: what the bytes write, and where they end, is the same.
+/// In any two terminals of one position and pending escape, bytes write the same and end in the same place.
 pub fn caret_decides()
     ensures { CaretDecides }
 {}

@@ -25,7 +25,7 @@ fn reading_in_pieces(alloc: Global, text: &[u8], size: usize) -> Result<Certific
     reader.finish()
 }
 
-// The fault of a text that is read in pieces of so many bytes.
+// The fault of a text that is read in pieces of this many bytes.
 fn fault_of(alloc: Global, text: &[u8], size: usize) -> Option<ReadFault> {
     reading_in_pieces(alloc, text, size.max(1)).err()
 }

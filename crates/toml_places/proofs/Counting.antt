@@ -22,7 +22,7 @@ abbrev IsPlainAt : Option Node → Type 0
 IsPlainAt None = Unit {0}
 IsPlainAt (Some x) = IsPlain x
 
--- what the key `frame` has after so many headers [[frame]]
+-- what the key `frame` has after this many headers [[frame]]
 abbrev pub FramesOf : ℕ → Option Node → Type 0
 FramesOf zero o = IsPlainAt o
 FramesOf (suc k) o = (done : Items) × (last : Nodes) × (o ≡ Some (open_array done last)) × (item_count done ≡ k)

@@ -1,18 +1,18 @@
 -- The elements of an array, as toml's grammar reads them.
-use Rattle.std.proofs.Common.{◌≡◌, ℕ, zero, suc, ◌+◌, ◌≤◌, true, false, cond, ◌==◌, List, length, drop, Option, Some, None, option_map, option_and_then, refl, sym, ap, ◌∙◌, ◌⊎◌, subst, inl, inr, arith, add-zero, add-one, zero-add}
+use Rattle.std.proofs.Common.{◌≡◌, ℕ, zero, suc, ◌+◌, ◌≤◌, false, ◌==◌, List, length, drop, Option, Some, None, option_and_then, refl, sym, ap, ◌∙◌, ◌⊎◌, subst, inl, inr, arith, add-zero, add-one, zero-add}
 use Rattle.std.proofs.lemmas.Bool.{cases_Bool}
 use Rattle.std.proofs.lemmas.Option.{none-some, same_Some}
-use Rattle.toml_parser.specs.Lexical.{Read, first, skip_blank}
+use Rattle.toml_parser.specs.Lexical.{first, skip_blank}
 use Rattle.toml.specs.Data.{Data, as_array, string, Items, no_items, item, push_item, get_item, array, table}
 use Rattle.toml.specs.Tables.{no_nodes}
-use Rattle.toml.specs.Parse.{read_map, atom, val, items, members, after_element, scalar_data}
+use Rattle.toml.specs.Parse.{atom, val, items, members, after_element, scalar_data}
 use Rattle.toml_parser.specs.Strings.{quoted, starts_string}
 use Rattle.toml_parser.specs.Numbers.{unquoted}
 use Rattle.toml_parser.specs.declared.scalar.Scalar.{Scalar}
 use Rattle.toml_parser.specs.declared.scalar.Scalar.TheVariants.{Boolean, Integer, Float, Datetime}
 use Rattle.toml_places.proofs.Options.{stepped, mapped}
 use Rattle.toml_places.proofs.Counting.{item_count-push}
-use Rattle.toml_places.proofs.Follows.{Follows, value_follows, read_under, bracket_atom}
+use Rattle.toml_places.proofs.Follows.{Follows, value_follows}
 use Rattle.toml_places.specs.Strings.{Piece}
 use Rattle.toml_places.specs.Values.{after_value, next_element, element_from, element}
 use Rattle.toml_places.specs.Places.{item_count}

@@ -7,8 +7,8 @@ use Rattle.toml_parser.specs.declared.scalar.Scalar.{Scalar}
 use Rattle.toml_parser.specs.Lexical.{Read, first, skip_blank, skip_ws, is_bare, split_while}
 use Rattle.toml_parser.specs.Strings.{Key, key, key_after, simple_key, one_line, quoted, starts_string, recursion_limit}
 use Rattle.toml_parser.specs.Numbers.{unquoted, word_len, word_value}
-use Rattle.toml_parser.proofs.StringsLemmas.{key_after_zero, key_after_turn}
-use Rattle.toml.specs.Data.{Data, string, Items, Members, no_items, item, push_item, get_item, array, table}
+use Rattle.toml_parser.proofs.StringsLemmas.{key_after_zero}
+use Rattle.toml.specs.Data.{Data, string, Items, Members, no_items, push_item, array, table}
 use Rattle.toml.specs.Tables.{Nodes, no_nodes, put, Expression, key_value, std_table, array_table}
 use Rattle.toml.specs.Parse.{read_map, scalar_data, atom, val, items, members, keyval, key_equals, after_element, header_key, expression, line, ends_line, after_byte}
 use Rattle.toml_places.proofs.Options.{stepped, mapped}
@@ -16,8 +16,8 @@ use Rattle.toml_places.proofs.StringFollows.{content_follows, quoted_follows, as
 use Rattle.toml_places.proofs.SkipTurns.{value_deep}
 use Rattle.toml_places.specs.declared.lines.Sort.TheVariants.{Table}
 use Rattle.toml_places.specs.Strings.{Piece, after_part, next_part, part_from, after_key, value_from}
-use Rattle.toml_places.specs.Values.{after_word, after_atom, after_member, after_members, after_value, next_element, element_from, element}
-use Rattle.toml_places.specs.Places.{parts, item_count}
+use Rattle.toml_places.specs.Values.{after_word, after_atom, after_member, after_members, after_value}
+use Rattle.toml_places.specs.Places.{parts}
 use Rattle.toml_places.specs.Spans.{value_or_key}
 use Rattle.toml_places.specs.Skips.{array_header, pair, opening, whole_line, Line, line_of}
 

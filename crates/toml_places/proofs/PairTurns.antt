@@ -1,5 +1,5 @@
 -- The pairs of an inline table, one at a time.
-use Rattle.std.proofs.Common.{◌≡◌, ℕ, zero, suc, ◌-◌, ◌<◌, List, [], ◌∷◌, ◌++◌, length, map, Some, None, Result, OnOk, refl, sym, ap, ◌∙◌, subst, arith, append_assoc, append-nil}
+use Rattle.std.proofs.Common.{◌≡◌, ℕ, zero, suc, ◌-◌, ◌<◌, List, [], ◌∷◌, ◌++◌, length, map, Some, None, refl, sym, ap, ◌∙◌, subst, arith, append_assoc, append-nil}
 use Rattle.toml_places.specs.declared.tables.TablePlaces.{TablePlaces}
 use Rattle.toml_places.specs.Values.{Pair, next_pair, pairs_from}
 use Rattle.toml_places.specs.Places.{Mark, pair_mark, TableKeeps}

@@ -1,10 +1,10 @@
 -- What is left of a text after a reader is the end of the text.
-use Rattle.std.proofs.Common.{◌≡◌, ℕ, zero, suc, ◌+◌, ◌-◌, ◌≤◌, min, Bool, true, false, cond, ◌&&◌, ◌||◌, ◌==◌, nat_lt, nat_le, List, [], ◌∷◌, length, length-drop, drop, slice_index, Option, Some, None, is_some, unwrap_or, option_map, option_and_then, refl, sym, ap, ◌∙◌, subst, inl, inr, arith}
+use Rattle.std.proofs.Common.{◌≡◌, ℕ, zero, suc, ◌+◌, ◌-◌, ◌≤◌, min, Bool, true, false, cond, ◌&&◌, ◌==◌, nat_lt, List, [], ◌∷◌, length, length-drop, drop, Option, Some, None, is_some, unwrap_or, option_map, option_and_then, refl, sym, ap, ◌∙◌, subst, inl, inr, arith}
 use Rattle.std.proofs.lemmas.Bool.{cases_Bool}
 use Rattle.std.proofs.lemmas.List.{drop_min, drop-drop}
 use Rattle.std.proofs.lemmas.Option.{none-some, same_Some}
 use Rattle.std.specs.List.{prefix_len}
-use Rattle.toml_parser.specs.Lexical.{Read, first, skip_turn, skip_from, skip_ws, skip_blank, skip_lines, starts_newline, is_bare}
+use Rattle.toml_parser.specs.Lexical.{Read, first, skip_turn, skip_from, skip_ws, skip_blank, starts_newline, is_bare}
 use Rattle.toml_parser.specs.Strings.{is_plain, hex_len, simple_escape, trim_newline, starts_string}
 use Rattle.toml_parser.specs.Numbers.{word_len}
 use Rattle.toml.specs.Parse.{after_byte, after_element}
@@ -36,7 +36,7 @@ rest_trans a b c (i, room, here) (j, within, there) =
 rest_cons : (c : ℕ) (cs rest : List ℕ) → Rest cs rest → Rest (c ∷ cs) rest
 rest_cons c cs rest h = rest_trans (c ∷ cs) cs rest (rest_drop 1 (c ∷ cs)) h
 
--- what is at hand is left
+-- what a reader leaves, if it reads, is a rest of its text
 pub leaves_some : (text rest : List ℕ) → Rest text rest → Leaves text (Some rest)
 leaves_some text rest h more is = subst (λ (t : List ℕ). Rest text t) (same_Some rest more is) h
 

@@ -1,14 +1,14 @@
 -- What toml's grammar reads in a span.
-use Rattle.std.proofs.Common.{◌≡◌, ℕ, suc, ◌<◌, ◌≤◌, true, List, ◌++◌, length, drop, slice_get, Some, refl, sym, ap, ◌∙◌, subst}
+use Rattle.std.proofs.Common.{◌≡◌, ℕ, suc, ◌<◌, ◌≤◌, true, List, ◌++◌, length, drop, slice_get, Some, refl, ap, ◌∙◌, subst}
 use Rattle.std.specs.List.{count_by}
-use Rattle.toml_parser.specs.Lexical.{Read, first}
-use Rattle.toml_parser.specs.Strings.{Key, key, simple_key, quoted, starts_string, body}
+use Rattle.toml_parser.specs.Lexical.{Read}
+use Rattle.toml_parser.specs.Strings.{Key, key, simple_key, quoted, starts_string}
 use Rattle.toml.specs.Data.{Data, Items, array, get_item}
-use Rattle.toml.specs.Parse.{val, key_equals, after_byte}
+use Rattle.toml.specs.Parse.{val, key_equals}
 use Rattle.toml_places.specs.declared.spans.Span.{Span}
-use Rattle.toml_places.specs.Strings.{Piece, starts_char, is_multi, string_char, part_from, after_part}
+use Rattle.toml_places.specs.Strings.{Piece, starts_char, string_char, part_from, after_part}
 use Rattle.toml_places.specs.Values.{element}
-use Rattle.toml_places.specs.Spans.{key_start, key_piece, value_piece, at_offset, key_span, value_span, element_span, char_span}
+use Rattle.toml_places.specs.Spans.{key_start, key_piece, value_piece, key_span, value_span, element_span, char_span}
 use Rattle.toml_places.specs.Places.{parts}
 use Rattle.toml_places.specs.Reads.{Writes, IsChar}
 use Rattle.toml_places.specs.SpanReads.{Stands, IsPlace, spot, ReadsIn, SpansAreRead}

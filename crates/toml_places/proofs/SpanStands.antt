@@ -1,5 +1,5 @@
 -- Each span lies in its text, and has what its definition says.
-use Rattle.std.proofs.Common.{◌≡◌, ℕ, suc, ◌-◌, ◌<◌, ◌≤◌, true, false, cond, ◌==◌, ◌&&◌, nat_le, slice_index, List, ◌++◌, length, length-drop, drop, Option, Some, None, option_map, option_and_then, refl, sym, ap, ◌∙◌, subst, inl, inr, arith}
+use Rattle.std.proofs.Common.{◌≡◌, ℕ, ◌-◌, ◌≤◌, ◌==◌, ◌&&◌, nat_le, slice_index, List, length, length-drop, drop, Option, Some, option_and_then, refl, sym, ap, ◌∙◌, subst, inl, inr, arith}
 use Rattle.std.proofs.lemmas.Bool.{cases_Bool}
 use Rattle.std.proofs.lemmas.Option.{none-some, same_Some}
 use Rattle.toml_parser.specs.Lexical.{first, skip_ws}
@@ -7,7 +7,7 @@ use Rattle.toml.specs.Parse.{after_byte}
 use Rattle.toml_places.specs.declared.spans.Span.{Span}
 use Rattle.toml_places.specs.Strings.{Piece, starts_char, after_part, part_from, after_key, value_from}
 use Rattle.toml_places.specs.Values.{after_value}
-use Rattle.toml_places.specs.Spans.{from_offset, span_in, up_to, is_header, is_double, key_start, after_header, key_piece, after_pair, value_or_key, value_piece, pair_piece, frame_piece, at_offset}
+use Rattle.toml_places.specs.Spans.{from_offset, span_in, up_to, is_double, key_start, after_header, key_piece, after_pair, value_or_key, value_piece, pair_piece, frame_piece, at_offset}
 use Rattle.toml_places.specs.SpanReads.{Stands, Stand, SpansStand, IsPlace}
 use Rattle.toml_places.proofs.Options.{stepped, mapped}
 use Rattle.toml_places.proofs.Rests.{Rest, Leaves, Inside, rest_same, rest_drop, rest_trans, leaves_some, leaves_then, leaves_if, leaves_after, ws_left, byte_left, part_left, part_from_left, key_left, value_from_left, value_left, inside_after, element_inside, element_from_inside, string_char_inside}

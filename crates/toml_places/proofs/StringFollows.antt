@@ -1,6 +1,6 @@
 -- On what toml's grammar reads, a string and a key are passed a step at a time.
-use Rattle.std.proofs.Common.{◌≡◌, ℕ, zero, suc, ◌+◌, ◌-◌, ◌/◌, ◌%◌, nat_lt, ◌<◌, ◌≤◌, Bool, true, false, not, cond, nat_le, zero-add, ◌&&◌, ◌||◌, ◌==◌, List, [], ◌∷◌, ◌++◌, length, take, drop, get_or, Option, Some, None, is_some, option_map, option_and_then, ◌⊎◌, refl, sym, ap, ◌∙◌, subst, inl, inr, arith, append_assoc}
-use Rattle.std.proofs.lemmas.Bool.{cases_Bool, and_parts, true≢false, false≢true}
+use Rattle.std.proofs.Common.{◌≡◌, ℕ, zero, suc, ◌+◌, ◌-◌, ◌/◌, ◌%◌, nat_lt, ◌<◌, ◌≤◌, Bool, true, false, cond, nat_le, zero-add, ◌&&◌, ◌==◌, List, [], ◌∷◌, ◌++◌, length, take, drop, Option, Some, None, is_some, option_map, ◌⊎◌, refl, sym, ap, ◌∙◌, subst, inl, inr, arith, append_assoc}
+use Rattle.std.proofs.lemmas.Bool.{cases_Bool, and_parts, false≢true}
 use Rattle.std.proofs.lemmas.Bool.Decides.{nat_tests}
 use Rattle.std.proofs.lemmas.Option.{none-some, same_Some}
 use Rattle.std.proofs.Math.Nat.{mod-lt}
@@ -8,7 +8,7 @@ use Rattle.std.proofs.lemmas.List.Sums.{sum_by-append}
 use Rattle.std.specs.List.{prefix_len, list_all, count_by}
 use Rattle.std.specs.Char.{is_digit, encode_utf8}
 use Rattle.std.specs.Str.Parse.{digits_value}
-use Rattle.toml_parser.specs.Lexical.{Read, first, starts_newline, skip_ws, skip_lines}
+use Rattle.toml_parser.specs.Lexical.{first, starts_newline, skip_ws, skip_lines}
 use Rattle.toml_parser.specs.Strings as toml
 use Rattle.toml_parser.specs.Strings.{is_plain, special, body, after_piece, simple_escape, hex_len, hex_escape, escape_char, is_scalar, prepend, quoted, one_line, trim_newline, starts_string}
 use Rattle.toml_parser.proofs.StringsLemmas.{body_plain, body_special}

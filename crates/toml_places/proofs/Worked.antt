@@ -2,7 +2,7 @@
 use Rattle.std.proofs.Common.{◌≡◌, [], ◌∷◌, Some, None, codes, refl}
 use Rattle.std.specs.Prelude.{⊤}
 use Rattle.toml.proofs.OnLiterals.{toml_on_literals}
-use Rattle.toml_places.specs.Strings.{starts_char, after_char, after_hex, after_escape, escape, at_delims, next_step, after_content, content, after_string, after_part, next_part, part_from, after_key, value_from}
+use Rattle.toml_places.specs.Strings.{after_char, after_hex, after_escape, escape, at_delims, next_step, after_content, content, after_string, after_part, next_part, part_from, after_key, value_from}
 use Rattle.toml_places.specs.Values.{after_word, after_atom, after_member, after_members, after_value}
 use Rattle.toml_places.specs.Skips.{line_after, column_after, place_at}
 use Rattle.toml_places.specs.Places.{marks_from, marks, header_place, key_place, route_place}

@@ -16,7 +16,7 @@ use Rattle.toml_places.specs.declared.spans.Spot.{Spot}
 use Rattle.toml_places.specs.Values.{Pair as InlinePair, pairs}
 use Rattle.toml_places.specs.Spans.{from_offset}
 use Rattle.std.specs.List.{count_by}
-use Rattle.toml.specs.Data.{Items, no_items, item, get_item, Members, array, table, get_member}
+use Rattle.toml.specs.Data.{Items, no_items, item, Members, array, get_member}
 
 -- Where the expressions of a text begin, and what each of them writes.
 
@@ -50,7 +50,7 @@ abbrev pub is_frame : List (List ℕ) → Bool
 is_frame (part ∷ []) = bytes_eq part frame_key
 is_frame _ = false
 
--- the section of a header with these parts, after so many headers [[frame]]
+-- the section of a header with these parts, after this many headers [[frame]]
 abbrev pub section_at : ℕ → List (List ℕ) → Section
 section_at frames [] = record { frames = frames; in_frame = false; path = [] }
 section_at frames (part ∷ rest) =
@@ -215,13 +215,13 @@ abbrev pub item_count : Items → ℕ
 item_count no_items = 0
 item_count (item d ds) = item_count ds + 1
 
--- Of a text that is TOML and has a header [[frame]]: the array at `frame` has one element for each such header.
+-- If a text is TOML and has a header [[frame]], the array at `frame` has one element for each such header.
 unfoldable pub HeadersAreFrames : Type 0
 HeadersAreFrames =
     (text : List ℕ) (ms : Members) → parse_document text ≡ Some ms → 0 < header_count (marks text)
     → (frames : Items) × (get_member frame_key ms ≡ Some (array frames)) × (item_count frames ≡ header_count (marks text))
 
--- Of every text: no place is past its end.
+-- No place is past the end of its text.
 unfoldable pub PlacesAreWithin : Type 0
 PlacesAreWithin =
     (text : List ℕ) (frame : ℕ) (key : List ℕ)

@@ -1,11 +1,10 @@
 -- The line and the column of an offset in a text.
-use Rattle.std.specs.Prelude.{ℕ, ◌+◌, ◌*◌, ◌≡◌, ◌≤◌, Bool, ◌||◌, ◌==◌, nat_lt, nat_le, if◌then◌else◌, List, [], ◌∷◌, take, length, slice_get, Some, zero, suc, ◌&&◌, drop, slice_index, Option, None, option_map, option_and_then}
+use Rattle.std.specs.Prelude.{ℕ, ◌+◌, ◌*◌, ◌≡◌, ◌≤◌, Bool, ◌==◌, if◌then◌else◌, List, [], ◌∷◌, take, length, slice_get, Some, ◌&&◌, drop, slice_index, Option, None, option_map, option_and_then}
 use Rattle.std.specs.List.{count_by, list_any}
-use Rattle.toml_parser.specs.Lexical.{Read, left_bracket, right_bracket, left_brace, right_brace, first, skip_ws, skip_blank}
-use Rattle.toml_parser.specs.Strings.{Key, quoted, starts_string, recursion_limit}
-use Rattle.toml_parser.specs.Numbers.{unquoted}
+use Rattle.toml_parser.specs.Lexical.{Read, left_bracket, right_bracket, first, skip_ws}
+use Rattle.toml_parser.specs.Strings.{Key, recursion_limit}
 use Rattle.toml.specs.Tables.{Definition, key_value, std_table, array_table, Expression}
-use Rattle.toml.specs.Parse.{after_byte, after_element, key_equals, header_key, ends_line}
+use Rattle.toml.specs.Parse.{after_byte, key_equals, header_key, ends_line}
 use Rattle.toml_places.specs.Strings.{starts_char}
 use Rattle.toml_places.specs.Values.{after_value}
 use Rattle.toml_places.specs.declared.lines.Sort.{Sort}

@@ -1,13 +1,13 @@
 ghost use Rattle.toml_places.specs.Places.{HeadersAreFrames, PlacesAreWithin};
 ghost use Rattle.toml_places.specs.SpanReads.{SpansStand, SpansAreRead};
 
-/// Of every text that is TOML and has a header `[[frame]]`: the array at `frame` has one element for each such header. So the
-/// k-th header opens the k-th frame.
+/// If a text is TOML and has a header `[[frame]]`, the array at `frame` has one element for each such header. So the k-th header
+/// opens the k-th frame.
 pub fn headers_are_frames()
     ensures { HeadersAreFrames }
 {}
 
-/// Of every text: no place is past its end.
+/// No place is past the end of its text.
 pub fn places_are_within()
     ensures { PlacesAreWithin }
 {}

@@ -23,7 +23,7 @@
 //!   it is with `routes = { .. }`.
 //! - [`spans_stand`]: each span lies in its text. [`spans_are_read`]: what toml's grammar reads in a span is the key, value,
 //!   element or character that it is of.
-//! - Of a text that isn't TOML the places are some offsets in it, and there may be no span.
+//! - If a text isn't TOML, the places are some offsets in it, and there may be no span.
 //! - A walk along an array calls [`later_element_span`] with the offset of the last element, and so reads the array once.
 //! - Definitions: what an expression writes, and which mark is the place of a key (`Places`); what is passed of a string, a key
 //!   (`Strings`), a value (`Values`) and an expression (`Skips`); the spans (`Spans`) and their lines and columns (`Extents`);

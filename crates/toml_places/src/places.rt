@@ -1,9 +1,7 @@
 //! The places of a base's keys in its text.
 
-ghost use Rattle.std.specs.Prelude.{◌≡◌, ℕ, ◌<◌, ◌++◌, ◌∷◌, [], List, true, if◌then◌else◌, Some, None, option_map, string_bytes, slice_get, length, IfOk, OnOk, IsSome, IsTrue};
-ghost use Rattle.std.specs.Option.{option_or, option_copied};
-ghost use Rattle.std.specs.Str.{bytes_eq};
-ghost use Rattle.std.specs.BTreeMap.{get_by_text};
+ghost use Rattle.std.specs.Prelude.{◌≡◌, ◌<◌, ◌++◌, ◌∷◌, [], List, true, Some, None, option_map, string_bytes, length, IfOk, OnOk, IsSome};
+ghost use Rattle.std.specs.Option.{option_copied};
 ghost use Rattle.toml_parser.specs.Reading.{key_view, path_view};
 ghost use Rattle.toml.specs.Parse.{parse_document};
 ghost use Rattle.toml_places.specs.Places as spec;

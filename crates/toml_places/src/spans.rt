@@ -190,7 +190,7 @@ pub fn value_span(text: &str, spot: Spot) -> Option<Span>
     Some(Span::between(text, start, rest))
 }
 
-/// A key with its value, as `9 = 555`; of `routes.9 = 555` the same. Of a table that a header makes, the header.
+/// A key with its value, as `9 = 555`; of `routes.9 = 555` the same. If a header makes the table, the header.
 pub fn pair_span(text: &str, spot: Spot) -> Option<Span>
     ensures { result ≡ spec.pair_span spot text.now }
 {

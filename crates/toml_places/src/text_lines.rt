@@ -15,7 +15,7 @@ const STEP: usize = 512;
 
 /// The lines and columns of a text's offsets. Contracts see the text.
 ///
-/// It keeps the place of each 512th byte, so a look-up costs no more than the reading of so many bytes.
+/// It keeps the place of each 512th byte, so a look-up reads at most 512 bytes.
 #[derive(Drop)]
 pub struct TextLines<'a> {
     text: &'a [u8],

@@ -1,6 +1,6 @@
 //! Values, of which only the ends are wanted.
 
-ghost use Rattle.std.specs.Prelude.{◌≡◌, ℕ, ◌<◌, ◌≤◌, length, option_map, IfSome, IfOk};
+ghost use Rattle.std.specs.Prelude.{◌≡◌, ℕ, ◌<◌, ◌≤◌, length, IfSome};
 ghost use Rattle.std.specs.List.{prefix_len};
 ghost use Rattle.std.specs.Option.{option_copied};
 ghost use Rattle.std.specs.Str.{IsCharBoundary};
@@ -15,7 +15,7 @@ use crate::strings::after_string;
 use std::alloc::Global;
 use toml_parser::bytes::{byte_at, is_word};
 use toml_parser::text::{first, skip, skip_blank, skip_ws};
-use toml_parser::{ErrorKind, Key, ParseError, RECURSION_LIMIT, dotted_key, starts_string};
+use toml_parser::{ErrorKind, Key, ParseError, dotted_key, starts_string};
 
 fn run_len(bytes: &[u8]) -> usize
     ensures len { result ≡ prefix_len is_word bytes.now }

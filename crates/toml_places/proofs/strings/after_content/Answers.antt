@@ -1,6 +1,5 @@
-use Rattle.std.proofs.Common.{◌≡◌, ◌-◌, Some, None, le_refl, ◌∙◌, rules, arith}
+use Rattle.std.proofs.Common.{◌-◌, rules, arith}
 use Rattle.std.proofs.lemmas.Grind.{common_steps}
-use Rattle.toml_places.specs.Strings.{next_step}
 use Rattle.toml_places.proofs.StringTurns.{content_turn}
 use Rattle.toml_places.proofs.strings.after_content.Goals as goal
 

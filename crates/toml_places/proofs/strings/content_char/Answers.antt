@@ -1,7 +1,6 @@
-use Rattle.std.proofs.Common.{◌≡◌, ◌-◌, Some, None, le_refl, ◌∙◌, rules, arith}
+use Rattle.std.proofs.Common.{◌-◌, rules, arith}
 use Rattle.std.proofs.lemmas.Grind.{common_steps}
 use Rattle.std.proofs.lemmas.Bool.Decides.{nat_tests}
-use Rattle.toml_places.specs.Strings.{next_step}
 use Rattle.toml_places.proofs.StringTurns.{char_turn}
 use Rattle.toml_places.proofs.strings.content_char.Goals as goal
 

@@ -1,6 +1,6 @@
-use Rattle.std.proofs.Common.{◌≡◌, ◌==◌, ◌||◌, ◌-◌, ◌<◌, true, false, length, le_refl, ◌∙◌, rules, arith}
+use Rattle.std.proofs.Common.{◌≡◌, ◌==◌, ◌||◌, ◌-◌, ◌<◌, true, false, length, rules, arith}
 use Rattle.std.proofs.lemmas.Grind.{common_steps}
-use Rattle.toml_parser.specs.Lexical.{first, skip_blank}
+use Rattle.toml_parser.specs.Lexical.{first}
 use Rattle.toml_places.specs.Values.{after_value}
 use Rattle.toml_places.proofs.SkipTurns.{members_turn, value_atom, value_array, value_table, value_deep}
 use Rattle.toml_places.proofs.values.+after_value.Goals as goal

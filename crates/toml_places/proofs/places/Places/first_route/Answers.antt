@@ -1,4 +1,4 @@
-use Rattle.std.proofs.Common.{◌≡◌, [], ◌∷◌, Some, option_map, ap, ◌∙◌}
+use Rattle.std.proofs.Common.{[], ◌∷◌, Some, option_map, ap, ◌∙◌}
 use Rattle.toml_places.specs.declared.spans.Spot.{Spot}
 use Rattle.toml_places.specs.Places.{routes_key}
 use Rattle.toml_places.proofs.Firsts.{spots_at}
