@@ -1,9 +1,8 @@
 -- A text that is judged in steps.
-use Rattle.std.proofs.Common.{◌≡◌, ◌∙◌, ◌<◌, ◌≤◌, Bool, true, false, List, [], ◌∷◌, ◌++◌, Ok, Err, Some, None, IsUtf8, length, map, refl, sym, ap, subst, arith}
-use Rattle.std.specs.Prelude.{ℕ, nat_lt, Option, Result, IfOk}
+use Rattle.std.proofs.Common.{◌≡◌, ◌∙◌, ◌<◌, ◌≤◌, Bool, true, false, List, [], ◌∷◌, ◌++◌, Ok, Some, None, length, map, refl, sym, ap, subst, arith}
+use Rattle.std.specs.Prelude.{ℕ, nat_lt, Option}
 use Rattle.std.specs.Str.{is_utf8}
 use Rattle.std.proofs.lemmas.Bool.Decides.{nat_tests}
-use Rattle.std.proofs.lemmas.Str.{IsUtf8-from_is_utf8, is_utf8-from_IsUtf8}
 use Rattle.toml.specs.Data.{Members}
 use Rattle.toml.specs.Parse.{parse_document}
 use Rattle.checker.specs.declared.policy.Policy.{Policy}

@@ -5,3 +5,4 @@ pub mod Readings
 pub mod Errors
 pub mod Meanings
 pub mod Warnings
+pub mod Printed

@@ -1,5 +1,5 @@
 -- The frames that are warned of.
-use Rattle.std.proofs.Common.{◌≡◌, ◌∙◌, ◌≢◌, ◌&&◌, ◌||◌, ℕ, Bool, true, false, cond, not, List, [], ◌∷◌, ◌++◌, map, get_or, Option, Some, None, is_none, refl, sym, ap, subst, Contains, inl, inr, arith}
+use Rattle.std.proofs.Common.{◌≡◌, ◌∙◌, ◌≢◌, ◌||◌, ℕ, Bool, true, false, cond, not, List, [], ◌∷◌, ◌++◌, map, get_or, Option, Some, None, is_none, refl, sym, ap, subst, Contains, inl, inr, arith}
 use Rattle.std.specs.Option.{option_or}
 use Rattle.std.specs.Prelude.{filter, AllPairs, ◌⊎◌, ◌↔◌}
 use Rattle.std.specs.List.{list_any}

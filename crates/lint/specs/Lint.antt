@@ -22,14 +22,13 @@ use Rattle.base_text.specs.declared.detail.TextFault.{TextFault}
 use Rattle.base_text.specs.declared.whole_fault.WholeFault.{WholeFault}
 use Rattle.base_text.specs.declared.whole_fault.WholeFault.TheVariants.{Duplicate}
 use Rattle.toml_places.specs.Skips.{place_at}
-use Rattle.lint_words.specs.TextWords.{text_fault_words}
+use Rattle.lint_words.specs.TextWords.{text_fault_words, too_long_words, not_toml_words}
 use Rattle.lint_words.specs.WholeWords.{whole_fault_words}
 use Rattle.toml.specs.Data.{Members}
 use Rattle.base_text.specs.declared.limits.TheConstants.{MOST_TEXT}
 use Rattle.base_text.specs.Whole.{tree_of, IsTextBase}
 use Rattle.base_text.specs.Drafts.{DraftView, draft_of}
 use Rattle.base_text.specs.WholeFaults.{AreWholeFaults}
-use Rattle.lint_words.specs.HintRules.{hint_text}
 
 -- The findings of an audit: its faults, and the frames that no key reaches.
 
@@ -129,8 +128,8 @@ pub data Subject : Type 0 where
   Whole : (fault : WholeFault) → Subject
 
 abbrev pub finding_of : List ℕ → Subject → FindingView
-finding_of text Length = error_at 0 (codes "X1 TooLong: the text has more than 16,777,216 bytes")
-finding_of text (Toml at message) = error_at at (codes "X2 NotToml: " ++ message ++ hint_text text at message)
+finding_of text Length = error_at 0 too_long_words
+finding_of text (Toml at message) = error_at at (not_toml_words message)
 finding_of text (Text fault) = text_finding (marks text) fault
 finding_of text (Whole fault) = whole_finding text (marks text) fault
 

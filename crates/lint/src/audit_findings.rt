@@ -11,7 +11,7 @@ use checker::Policy;
 use fault_scripts::{Fault, FaultList, Judgement, judge_base};
 use finder::Discovered;
 use frame_records::{Base, Frame, GroupNo, Groups};
-use lint_words::{Judged, push_fault, push_unreached};
+use lint_words::{Judged, audit_fault_words, unreached_words};
 use page_ids::FrameId;
 use std::alloc::{AllocError, Global};
 use toml_places::Places;
@@ -147,8 +147,7 @@ impl<'a> Sources<'a> {
             → f ≡ spec.fault_finding ms tables self.now.base.now self.now.policy.now known fault.now) }
     {
         let table = self.table_of(fault.frame);
-        let mut words = Vec::new(alloc);
-        push_fault(&mut words, &self.judged(table, ranks, fault), fault)?;
+        let words = audit_fault_words(alloc, &self.judged(table, ranks, fault), fault)?;
         Ok(Finding::error(audit_fault_at(self.places, table, fault), words))
     }
 
@@ -170,8 +169,7 @@ impl<'a> Sources<'a> {
     fn warning(&self, alloc: Global, id: FrameId) -> Result<Finding, AllocError>
         ensures { IfOk result (λ f. (ms : List Mark) (tables : List (Id × ℕ)) → spec.AreKnown ms tables self.now → f ≡ spec.warning ms tables id) }
     {
-        let mut words = Vec::new(alloc);
-        push_unreached(&mut words, id)?;
+        let words = unreached_words(alloc, id)?;
         Ok(Finding::warning(self.places.of_header(self.table_of(id)), words))
     }
 

@@ -1,3 +1,4 @@
+use lint_words::Words;
 use std::marker::Model;
 
 /// How bad a finding is.
@@ -13,7 +14,7 @@ pub struct Finding {
     /// The offset of the expression that it is about, in bytes.
     pub at: usize,
     pub level: Level,
-    pub words: Vec<u8>,
+    pub words: Words,
 }
 
 impl Model for Finding {
@@ -21,15 +22,15 @@ impl Model for Finding {
 
     ghost Value = { FindingView };
 
-    ghost view = { λ f. record { at = f.at; level = f.level; words = f.words.items } };
+    ghost view = { λ f. record { at = f.at; level = f.level; words = f.words } };
 }
 
 impl Finding {
     ghost use Rattle.std.specs.Prelude.{◌≡◌};
     ghost use Rattle.lint.specs.Findings.{error_at, warning_at};
 
-    pub(crate) fn error(at: usize, words: Vec<u8>) -> Finding
-        ensures { result ≡ error_at at words.items }
+    pub(crate) fn error(at: usize, words: Words) -> Finding
+        ensures { result ≡ error_at at words }
     {
         Finding {
             at,
@@ -38,8 +39,8 @@ impl Finding {
         }
     }
 
-    pub(crate) fn warning(at: usize, words: Vec<u8>) -> Finding
-        ensures { result ≡ warning_at at words.items }
+    pub(crate) fn warning(at: usize, words: Words) -> Finding
+        ensures { result ≡ warning_at at words }
     {
         Finding {
             at,

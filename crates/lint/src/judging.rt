@@ -21,15 +21,15 @@ use base_text::{
 };
 use checker::Policy;
 use frame_records::{Base, Frame};
-use lint_words::push_hint;
+use lint_words::{Words, not_toml_words, too_long_words};
 use page_ids::{FrameId, PageNo};
 use std::alloc::{AllocError, Global};
 use toml::Table;
 use toml::de::Error;
 use toml_places::{Places, TextLines};
 
-fn one(alloc: Global, at: usize, words: Vec<u8>) -> Result<Vec<Finding>, AllocError>
-    ensures { IfOk result (λ fs. fs.items ≡ error_at at words.items ∷ []) }
+fn one(alloc: Global, at: usize, words: Words) -> Result<Vec<Finding>, AllocError>
+    ensures { IfOk result (λ fs. fs.items ≡ error_at at words ∷ []) }
 {
     let mut findings = Vec::new(alloc);
     findings.push(Finding::error(at, words))?;
@@ -40,9 +40,7 @@ fn one(alloc: Global, at: usize, words: Vec<u8>) -> Result<Vec<Finding>, AllocEr
 fn too_long(alloc: Global) -> Result<Vec<Finding>, AllocError>
     ensures { IfOk result (λ fs. (text : List ℕ) → fs.items ≡ map (spec.finding_of text) (spec.Length ∷ [])) }
 {
-    let mut words = Vec::new(alloc);
-    words.extend_from_slice(b"X1 TooLong: the text has more than 16,777,216 bytes")?;
-    one(alloc, 0, words)
+    one(alloc, 0, too_long_words(alloc)?)
 }
 
 // X2, with toml's message at the start of its span, and a hint.
@@ -54,11 +52,7 @@ fn not_toml(
 ) -> Result<Vec<Finding>, AllocError>
     ensures { IfOk result (λ fs. fs.items ≡ map (spec.finding_of text.now) (spec.Toml at message.now ∷ [])) }
 {
-    let mut words = Vec::new(alloc);
-    words.extend_from_slice(b"X2 NotToml: ")?;
-    words.extend_from_slice(message.as_bytes())?;
-    push_hint(&mut words, text, at, message)?;
-    one(alloc, at, words)
+    one(alloc, at, not_toml_words(alloc, text, at, message)?)
 }
 
 fn refused(alloc: Global, text: &[u8], error: &Error) -> Result<Vec<Finding>, AllocError>

@@ -9,6 +9,7 @@
 //! - [`lint`], [`Finding`], [`Level`]: the findings in the order of their places.
 //! - [`lint_text`], [`Counts`], [`counted_text`]: what is printed of them.
 //! - [`lint_follows_base_read`], [`no_error_is_safe`], [`lint_warns_of_unreached`]: what the findings of a text mean.
+//! - [`findings_are_whole_lines`]: what is printed is a line for each finding, whatever the base has in it.
 //! - Definitions: what is found (`Lint`), at which places (`Spots`), its order and lines (`Findings`), the laws (`Laws`).
 #![tactic(auto)]
 
@@ -26,5 +27,7 @@ mod text_findings;
 pub use counts::{Counts, counted_text};
 pub use finding::{Finding, Level};
 pub use judging::lint;
-pub use laws::{lint_follows_base_read, lint_warns_of_unreached, no_error_is_safe};
+pub use laws::{
+    findings_are_whole_lines, lint_follows_base_read, lint_warns_of_unreached, no_error_is_safe,
+};
 pub use printing::lint_text;

@@ -5,15 +5,14 @@ ghost use Rattle.lint.specs.Lint as spec;
 use crate::finding::Finding;
 use crate::spots::{text_fault_at, whole_fault_at};
 use base_text::{TextFault, WholeFault};
-use lint_words::{push_text_fault, push_whole_fault};
+use lint_words::{text_fault_words, whole_fault_words};
 use std::alloc::{AllocError, Global};
 use toml_places::{Places, TextLines};
 
 fn text_finding(alloc: Global, places: &Places, fault: &TextFault) -> Result<Finding, AllocError>
     ensures { IfOk result (λ f. (ms : List Mark) → Keeps places.now ms → f ≡ spec.text_finding ms fault.now) }
 {
-    let mut words = Vec::new(alloc);
-    push_text_fault(alloc, &mut words, fault)?;
+    let words = text_fault_words(alloc, fault)?;
     Ok(Finding::error(text_fault_at(places, fault), words))
 }
 
@@ -50,8 +49,7 @@ fn whole_finding(
 ) -> Result<Finding, AllocError>
     ensures { IfOk result (λ f. (ms : List Mark) → Keeps places.now ms → f ≡ spec.whole_finding lines.now ms fault.now) }
 {
-    let mut words = Vec::new(alloc);
-    push_whole_fault(&mut words, fault, first_line(places, lines, fault))?;
+    let words = whole_fault_words(alloc, fault, first_line(places, lines, fault))?;
     Ok(Finding::error(whole_fault_at(places, fault), words))
 }
 

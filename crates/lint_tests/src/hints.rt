@@ -1,6 +1,7 @@
 //! Texts that aren't TOML: toml's message and place, which no clause pins, and the hint.
 
-use lint_words::push_hint;
+use crate::printed::hint;
+use lint_words::not_toml_words;
 use std::alloc::Global;
 use std::test::Fail;
 use test_support::same_in;
@@ -21,10 +22,9 @@ fn read(alloc: Global, text: &[u8]) -> Result<(usize, String, String), Fail> {
         Some(span) => span.start,
         None => return Err(Fail::new(format_args!("no memory"))),
     };
-    let mut hint = Vec::new(alloc);
-    push_hint(&mut hint, text, at, error.message())?;
+    let words = not_toml_words(alloc, text, at, error.message())?;
     let message = String::from_str(alloc, error.message())?;
-    Ok((at, message, String::from_utf8_lossy(alloc, &hint)?))
+    Ok((at, message, hint(alloc, &words)?))
 }
 
 fn have_hints(alloc: Global, faults: &[Fault<'_>]) -> Result<(), Fail> {

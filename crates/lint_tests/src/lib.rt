@@ -17,6 +17,8 @@ mod hints;
 #[cfg(test)]
 mod places;
 #[cfg(test)]
+mod printed;
+#[cfg(test)]
 mod spans;
 #[cfg(test)]
 mod text_lines;

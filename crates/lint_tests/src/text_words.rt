@@ -1,7 +1,8 @@
 //! The words of a text's faults.
 
 use base_text::{Detail, Field, TableKind, TextFault, ValueKind, Word};
-use lint_words::push_text_fault;
+use crate::printed::printed;
+use lint_words::text_fault_words;
 use page_ids::FrameId;
 use std::alloc::Global;
 use std::test::Fail;
@@ -13,16 +14,14 @@ fn words_of(
     frame: Option<usize>,
     id: &Option<FrameId>,
     detail: Detail,
-) -> Result<Vec<u8>, Fail> {
-    let mut out = Vec::new(alloc);
+) -> Result<String, Fail> {
     let fault = TextFault {
         frame,
         id: *id,
         detail,
         unlisted: 0,
     };
-    push_text_fault(alloc, &mut out, &fault)?;
-    Ok(out)
+    Ok(printed(alloc, &text_fault_words(alloc, &fault)?)?)
 }
 
 // Whether each detail has its words.
@@ -34,7 +33,7 @@ fn say(
 ) -> Result<(), Fail> {
     for (detail, words) in details {
         let out = words_of(alloc, frame, &id, detail)?;
-        same_in(words, out.as_slice(), words.as_bytes())?;
+        same_in(words, out.as_str(), words)?;
     }
     Ok(())
 }
@@ -54,15 +53,14 @@ fn a_fault_that_is_listed_for_others_has_their_number(rt: HostRuntime) -> Result
         ),
     ];
     for (frame, unlisted, words) in rows {
-        let mut out = Vec::new(rt.alloc());
         let fault = TextFault {
             frame,
             id: None,
             detail: Detail::RowTooLong(1_000, 41),
             unlisted,
         };
-        push_text_fault(rt.alloc(), &mut out, &fault)?;
-        same_in(words, out.as_slice(), words.as_bytes())?;
+        let out = printed(rt.alloc(), &text_fault_words(rt.alloc(), &fault)?)?;
+        same_in(words, out.as_str(), words)?;
     }
     Ok(())
 }

@@ -1,7 +1,6 @@
 //! When each hint is given.
 
-ghost use Rattle.std.specs.Prelude.{◌≡◌, ◌≤◌, length};
-ghost use Rattle.lint_words.specs.HintRules as spec;
+ghost use Rattle.std.specs.Prelude.{◌≤◌, length};
 
 use crate::brackets::open_bracket;
 use crate::hint::Hint;
@@ -25,25 +24,19 @@ const NO_COMMA: &str = "missing comma between array elements, expected `,` or `]
 const NO_COMMA_OF_PAIRS: &str = "missing comma between key-value pairs, expected `,` or `}`";
 
 // UTF-16 has a byte order mark, or a zero byte beside each of the first letters.
-fn is_utf16(text: &[u8]) -> bool
-    ensures { result ≡ spec.is_utf16 text.now }
-{
+fn is_utf16(text: &[u8]) -> bool {
     match text {
         [0xFF, 0xFE, ..] | [0xFE, 0xFF, ..] | [0, _, ..] | [_, 0, ..] => true,
         _ => false,
     }
 }
 
-fn is_certificate(text: &[u8]) -> bool
-    ensures { result ≡ spec.is_certificate text.now }
-{
+fn is_certificate(text: &[u8]) -> bool {
     text.starts_with(b"PBC1\n") || text.starts_with(b"PBC2\n")
 }
 
 // What is wrong with the text as a whole.
-fn file_hint(text: &[u8], message: &str) -> Option<Hint>
-    ensures { result ≡ spec.file_hint text.now message.now }
-{
+fn file_hint(text: &[u8], message: &str) -> Option<Hint> {
     if is_utf16(text) {
         Some(Hint::Utf16)
     } else if message == BAD_UTF8 {
@@ -55,16 +48,12 @@ fn file_hint(text: &[u8], message: &str) -> Option<Hint>
     }
 }
 
-fn is_curly(rest: &[u8]) -> bool
-    ensures { result ≡ spec.is_curly rest.now }
-{
+fn is_curly(rest: &[u8]) -> bool {
     matches!(rest, [0xE2, 0x80, 0x98..=0x9F, ..])
 }
 
 // What begins at the place.
-fn token_hint(rest: &[u8]) -> Option<Hint>
-    ensures { result ≡ spec.token_hint rest.now }
-{
+fn token_hint(rest: &[u8]) -> Option<Hint> {
     if is_curly(rest) {
         Some(Hint::CurlyQuote)
     } else if rest.starts_with(b"//") {
@@ -75,9 +64,7 @@ fn token_hint(rest: &[u8]) -> Option<Hint>
 }
 
 // A header of a frame that lacks a bracket, right before the place.
-fn header_hint(before: &[u8]) -> Option<Hint>
-    ensures { result ≡ spec.header_hint before.now }
-{
+fn header_hint(before: &[u8]) -> Option<Hint> {
     if before.ends_with(b"[frame]") || before.ends_with(b"[frame") {
         Some(Hint::TwoBrackets)
     } else {
@@ -85,9 +72,7 @@ fn header_hint(before: &[u8]) -> Option<Hint>
     }
 }
 
-fn second_definition(rest: &[u8], place: usize) -> Hint
-    ensures { result ≡ spec.second_definition rest.now place }
-{
+fn second_definition(rest: &[u8], place: usize) -> Hint {
     if rest.starts_with(b"[[") {
         Hint::TwoBracketsOn(place)
     } else {
@@ -98,7 +83,6 @@ fn second_definition(rest: &[u8], place: usize) -> Hint
 // A key that is defined twice.
 fn duplicate_hint(text: &[u8], at: usize, message: &str) -> Option<Hint>
     requires { at ≤ length text.now }
-    ensures { result ≡ spec.duplicate_hint text.now at message.now }
 {
     let rest = &text[at..];
     if message != DUPLICATE {
@@ -112,9 +96,7 @@ fn duplicate_hint(text: &[u8], at: usize, message: &str) -> Option<Hint>
 }
 
 // Whether a message can come of a list or table that isn't closed.
-fn is_in_brackets(message: &str) -> bool
-    ensures { result ≡ spec.is_in_brackets message.now }
-{
+fn is_in_brackets(message: &str) -> bool {
     message == NO_COMMA
         || message == NO_COMMA_OF_PAIRS
         || message == BAD_KEY
@@ -124,7 +106,6 @@ fn is_in_brackets(message: &str) -> bool
 // A bracket or a brace that isn't closed.
 fn bracket_hint(text: &[u8], at: usize, message: &str) -> Option<Hint>
     requires { at ≤ length text.now }
-    ensures { result ≡ spec.bracket_hint text.now at message.now }
 {
     if !is_in_brackets(message) {
         return None;
@@ -133,9 +114,7 @@ fn bracket_hint(text: &[u8], at: usize, message: &str) -> Option<Hint>
     Some(Hint::NotClosed(place))
 }
 
-fn ends_line(rest: &[u8]) -> bool
-    ensures { result ≡ spec.ends_line rest.now }
-{
+fn ends_line(rest: &[u8]) -> bool {
     match rest {
         [] => true,
         [byte, ..] => *byte == b'\n' || *byte == b'\r',
@@ -143,17 +122,12 @@ fn ends_line(rest: &[u8]) -> bool
 }
 
 // Whether the quotation marks so far are odd in number, and whether the next byte is escaped.
-fn marks_after(odd: bool, escaped: bool, byte: u8) -> (bool, bool)
-    ensures { result ≡ spec.marks_after odd escaped byte }
-{
+fn marks_after(odd: bool, escaped: bool, byte: u8) -> (bool, bool) {
     let flips = byte == b'"' && !escaped;
     (odd != flips, byte == b'\\' && !escaped)
 }
 
-#[tactic(auto, using(crate::proofs::MarkTurns::odd_after_turn, crate::proofs::MarkTurns::odd_after_end))]
-fn has_odd_marks(bytes: &[u8]) -> bool
-    ensures { result ≡ spec.has_odd_marks bytes.now }
-{
+fn has_odd_marks(bytes: &[u8]) -> bool {
     let mut marks = (false, false);
     for byte in bytes {
         marks = marks_after(marks.0, marks.1, *byte);
@@ -164,7 +138,6 @@ fn has_odd_marks(bytes: &[u8]) -> bool
 // The line of a place.
 fn line_at(text: &[u8], at: usize) -> &[u8]
     requires { at ≤ length text.now }
-    ensures { result.now ≡ spec.line_at text.now at }
 {
     let line = &text[run_start(text, at, Class::Line)..];
     &line[..run_len(line, Class::Line)]
@@ -173,7 +146,6 @@ fn line_at(text: &[u8], at: usize) -> &[u8]
 // A string that isn't closed where its line ends, or a line with an odd number of quotation marks.
 fn quote_hint(text: &[u8], at: usize, message: &str) -> Option<Hint>
     requires { at ≤ length text.now }
-    ensures { result ≡ spec.quote_hint text.now at message.now }
 {
     if message == BAD_STRING && ends_line(&text[at..]) {
         Some(Hint::MissingQuote)
@@ -184,9 +156,7 @@ fn quote_hint(text: &[u8], at: usize, message: &str) -> Option<Hint>
     }
 }
 
-fn has_leading_zero(word: &[u8]) -> bool
-    ensures { result ≡ spec.has_leading_zero word.now }
-{
+fn has_leading_zero(word: &[u8]) -> bool {
     match word {
         [b'0', next, ..] => next.is_ascii_digit(),
         _ => false,
@@ -194,18 +164,14 @@ fn has_leading_zero(word: &[u8]) -> bool
 }
 
 // Whether a word answers yes or no, in any case of letters.
-fn is_answer(word: &[u8]) -> bool
-    ensures { result ≡ spec.is_answer word.now }
-{
+fn is_answer(word: &[u8]) -> bool {
     word.eq_ignore_ascii_case(b"true")
         || word.eq_ignore_ascii_case(b"false")
         || word.eq_ignore_ascii_case(b"yes")
         || word.eq_ignore_ascii_case(b"no")
 }
 
-fn is_letter(bytes: &[u8]) -> bool
-    ensures { result ≡ spec.is_letter bytes.now }
-{
+fn is_letter(bytes: &[u8]) -> bool {
     match bytes {
         [byte] => byte.is_ascii_alphabetic(),
         _ => false,
@@ -213,16 +179,12 @@ fn is_letter(bytes: &[u8]) -> bool
 }
 
 // Whether a word begins with a letter, or is digits and a letter, as an id.
-fn is_text(word: &[u8]) -> bool
-    ensures { result ≡ spec.is_text word.now }
-{
+fn is_text(word: &[u8]) -> bool {
     byte_at(word, 0).is_ascii_alphabetic() || is_letter(after(word, Class::Digit))
 }
 
 // A word or number that is no value.
-fn word_hint(word: &[u8]) -> Option<Hint>
-    ensures { result ≡ spec.word_hint word.now }
-{
+fn word_hint(word: &[u8]) -> Option<Hint> {
     if is_answer(word) {
         Some(Hint::TrueOrFalse)
     } else if is_text(word) {
@@ -235,9 +197,7 @@ fn word_hint(word: &[u8]) -> Option<Hint>
 }
 
 // A bad value that is no key of a pair.
-fn value_hint(rest: &[u8], message: &str) -> Option<Hint>
-    ensures { result ≡ spec.value_hint rest.now message.now }
-{
+fn value_hint(rest: &[u8], message: &str) -> Option<Hint> {
     if message == BAD_VALUE && !begins_pair(rest) {
         word_hint(&rest[..run_len(rest, Class::Bare)])
     } else {
@@ -246,10 +206,8 @@ fn value_hint(rest: &[u8], message: &str) -> Option<Hint>
 }
 
 // The first of the rules that applies.
-#[tactic(auto, unfolding(crate::specs::HintRules::hint_at))]
 pub fn hint_at(text: &[u8], at: usize, message: &str) -> Option<Hint>
     requires { at ≤ length text.now }
-    ensures { result ≡ spec.hint_at text.now at message.now }
 {
     let (before, rest) = text.split_at(at);
     file_hint(text, message)

@@ -1,16 +1,21 @@
 //! The words of findings: what `pageaudit lint` prints of a fault, after its place.
 //!
 //! ```
-//! push_fault(out, &judged, &fault)? // PRICE: frame 33163a costs 55, the ceiling is 50 (keys 63)
-//! push_text_fault(alloc, out, &fault)? // X3 UnknownKey: "pirce" is not a key of a frame; did you mean "price"?
-//! push_whole_fault(out, &fault, 185)? // B1 Duplicate: frame 33152a is defined already on line 185
-//! push_unreached(out, id)? // UNREACHED: no key leads to frame 3319a from the entry page
+//! let words = text_fault_words(alloc, &fault)?; // X3 UnknownKey: "pirce" is not a key of a frame; did you mean "price"?
+//! words.code().word() // X3
+//! words.code().name() // UnknownKey
+//! words.message().as_str() // "pirce" is not a key of a frame
+//! words.hint() // did you mean "price"?
+//!
+//! audit_fault_words(alloc, &judged, &fault)? // PRICE: frame 33163a costs 55, the ceiling is 50 (keys 63)
+//! whole_fault_words(alloc, &fault, 185)? // B1 Duplicate: frame 33152a is defined already on line 185
+//! unreached_words(alloc, id)? // UNREACHED: no key leads to frame 3319a from the entry page
+//! not_toml_words(alloc, b"entry = 0331\n", 8, "invalid value, ..")? // X2 NotToml: invalid value, ..; a number has ..
 //! push_counted(out, 3, 1)? // 3 errors, 1 warning
-//! push_hint(out, b"entry = 0331\n", 8, "invalid value, expected a string, ..")? // ; a number has no leading zero
 //! ```
 //!
-//! Each call appends to a list of bytes. If a growth is refused, a part of the words may have been appended. The words
-//! are UTF-8 and have no control character, whatever the base file has, so a finding is one line.
+//! A message and a hint are a [`Line`] each: UTF-8 without a control character, whatever the base has in it. The contracts
+//! say what a message is, but of a hint only that it is a line.
 //!
 //! - A count of bytes, characters, rows, frames, pages, keys or faults has commas (4,130), and so has the number of a byte,
 //!   a character, a row or an item. A price, a page, a group, a line, or an integer of the file has none.
@@ -31,22 +36,28 @@
 
 mod backwards;
 mod brackets;
+mod code;
 mod count_words;
 mod fault_words;
 mod hint;
 mod hint_rules;
-mod hint_words;
 mod key_pieces;
+mod line;
 mod near_bytes;
 mod near_key;
 mod piece;
 mod pieces;
+mod text_hints;
 mod text_words;
+mod toml_hints;
 mod whole_words;
+mod words;
 mod written_keys;
 
+pub use code::Code;
 pub use count_words::push_counted;
-pub use fault_words::{Judged, push_fault, push_unreached};
-pub use hint_words::push_hint;
-pub use text_words::push_text_fault;
-pub use whole_words::push_whole_fault;
+pub use fault_words::{Judged, audit_fault_words, unreached_words};
+pub use line::Line;
+pub use text_words::{not_toml_words, text_fault_words, too_long_words};
+pub use whole_words::whole_fault_words;
+pub use words::Words;

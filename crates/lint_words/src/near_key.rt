@@ -1,7 +1,3 @@
-ghost use Rattle.std.specs.Prelude.{◌≡◌, IfOk};
-ghost use Rattle.lint_words.specs.NearKeys.{distance, is_near, is_no_further, nearer, nearest, named_keys};
-ghost use Rattle.base_text.specs.Fields.{field_name};
-
 use base_text::{Field, TableKind};
 use std::alloc::{AllocError, Global};
 use strsim::damerau_levenshtein;
@@ -24,9 +20,7 @@ const FRAME: &[Field] = &[
     Field::Rows,
 ];
 
-fn named_keys(table: TableKind) -> &'static [Field]
-    ensures { result.now ≡ named_keys table }
-{
+fn named_keys(table: TableKind) -> &'static [Field] {
     match table {
         TableKind::Top => TOP,
         TableKind::Frame => FRAME,
@@ -34,9 +28,7 @@ fn named_keys(table: TableKind) -> &'static [Field]
     }
 }
 
-fn distance(alloc: Global, text: &str, key: Field) -> Result<usize, AllocError>
-    ensures { IfOk result (λ d. d ≡ distance text.now (field_name key)) }
-{
+fn distance(alloc: Global, text: &str, key: Field) -> Result<usize, AllocError> {
     let name = key.name();
     if text == name {
         return Ok(0);
@@ -45,16 +37,12 @@ fn distance(alloc: Global, text: &str, key: Field) -> Result<usize, AllocError>
 }
 
 // Whether the key may have been meant.
-fn is_near(alloc: Global, text: &str, key: Field) -> Result<bool, AllocError>
-    ensures { IfOk result (λ is. is ≡ is_near text.now key) }
-{
+fn is_near(alloc: Global, text: &str, key: Field) -> Result<bool, AllocError> {
     let distance = distance(alloc, text, key)?;
     Ok(distance <= MOST && distance < key.name().len())
 }
 
-fn is_no_further(alloc: Global, text: &str, key: Field, other: Field) -> Result<bool, AllocError>
-    ensures { IfOk result (λ is. is ≡ is_no_further text.now key other) }
-{
+fn is_no_further(alloc: Global, text: &str, key: Field, other: Field) -> Result<bool, AllocError> {
     Ok(distance(alloc, text, key)? <= distance(alloc, text, other)?)
 }
 
@@ -64,9 +52,7 @@ fn nearer(
     text: &str,
     key: Field,
     found: Option<Field>,
-) -> Result<Option<Field>, AllocError>
-    ensures { IfOk result (λ near. near ≡ nearer text.now key found) }
-{
+) -> Result<Option<Field>, AllocError> {
     if !is_near(alloc, text, key)? {
         return Ok(found);
     }
@@ -80,9 +66,7 @@ fn nearer(
 }
 
 // The nearest of the keys; of several the first.
-fn nearest_among(alloc: Global, text: &str, keys: &[Field]) -> Result<Option<Field>, AllocError>
-    ensures { IfOk result (λ found. found ≡ nearest text.now keys.now) }
-{
+fn nearest_among(alloc: Global, text: &str, keys: &[Field]) -> Result<Option<Field>, AllocError> {
     match keys {
         [] => Ok(None),
         [first, rest @ ..] => {
@@ -93,8 +77,6 @@ fn nearest_among(alloc: Global, text: &str, keys: &[Field]) -> Result<Option<Fie
 }
 
 // The key of the table that was probably meant.
-pub fn nearest(alloc: Global, table: TableKind, text: &str) -> Result<Option<Field>, AllocError>
-    ensures { IfOk result (λ found. found ≡ nearest text.now (named_keys table)) }
-{
+pub fn nearest(alloc: Global, table: TableKind, text: &str) -> Result<Option<Field>, AllocError> {
     nearest_among(alloc, text, named_keys(table))
 }
