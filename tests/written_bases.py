@@ -18,7 +18,6 @@ ODD = [
     ([1, "]", [2]], "a list"),
     ({"a": [1], "}": '"'}, "a table"),
 ]
-UNQUOTE, QUOTE = "; leave out the quotation marks", "; put it in quotation marks"
 # Texts of the file and how they are shown.
 TEXTS = [
     *(("", '""'), ("12", '"12"'), ("012a", '"012a"'), ("12A", '"12A"'), ("12aa", '"12aa"'), (" 12a", '" 12a"')),
@@ -26,36 +25,31 @@ TEXTS = [
     *(("\x7f\x80\x9f\xa0", '"\\u007F\\u0080\\u009F\xa0"'), ("1000000000a", '"1000000000a"')),
     *(("9" * 40, f'"{"9" * 40}"'), ("9" * 41, f'"{"9" * 40}..."'), ('"' * 45, '"' + '\\"' * 40 + '..."')),
 ]
-# Codes that no row may have, how they are shown, and what is advised.
+# Codes that no row may have, and how they are shown.
 CODES = [
-    ("\xa3", "\xa3 (U+00A3)", "; write # for a pound sign"),
-    ("\t", "U+0009", "; write spaces"),
-    ("\xa0", "U+00A0", "; write a space"),
-    ("\x07", "U+0007", ""),
-    ("\x00", "U+0000", ""),
-    ("\xad", "\xad (U+00AD)", ""),
-    ("\xff", "\xff (U+00FF)", ""),
+    ("\xa3", "\xa3 (U+00A3)"),
+    ("\t", "U+0009"),
+    ("\xa0", "U+00A0"),
+    ("\x07", "U+0007"),
+    ("\x00", "U+0000"),
+    ("\xad", "\xad (U+00AD)"),
+    ("\xff", "\xff (U+00FF)"),
 ]
 # Those that no body may have either.
 FAR_CODES = [
-    ("\u2018", "\u2018 (U+2018)", "; write '"),
-    ("\u2019", "\u2019 (U+2019)", "; write '"),
-    ("\u201c", "\u201c (U+201C)", '; write \\"'),
-    ("\u201d", "\u201d (U+201D)", '; write \\"'),
-    ("\u2013", "\u2013 (U+2013)", "; write -"),
-    ("\u2014", "\u2014 (U+2014)", "; write -"),
-    ("\u0100", "\u0100 (U+0100)", ""),
-    ("\U0001f600", "\U0001f600 (U+1F600)", ""),
+    ("\u2018", "\u2018 (U+2018)"),
+    ("\u2019", "\u2019 (U+2019)"),
+    ("\u201c", "\u201c (U+201C)"),
+    ("\u201d", "\u201d (U+201D)"),
+    ("\u2013", "\u2013 (U+2013)"),
+    ("\u2014", "\u2014 (U+2014)"),
+    ("\u0100", "\u0100 (U+0100)"),
+    ("\U0001f600", "\U0001f600 (U+1F600)"),
 ]
-# Unknown keys with the key that is suggested.
-UNKNOWN_OF_A_BASE = [
-    *(("outsides", "outside"), ("entri", "entry"), ("frames", "frame"), ("fame", "frame"), ("nerty", "entry")),
-    *(("zeta", None), ("id", None)),
-]
+UNKNOWN_OF_A_BASE = ["outsides", "entri", "frames", "fame", "nerty", "zeta", "id"]
 UNKNOWN_OF_A_FRAME = [
-    *(("pirce", "price"), ("route", "routes"), ("di", "id"), ("idd", "id"), ("row", "rows"), ("led", "lead")),
-    *(("groupes", "group"), ("bday", "body"), ("rown", "rows"), ("ldea", "lead"), ("os", "rows"), ("nxet", "next")),
-    *(("bodies", None), ("PRICE", None), ("x", None), ("entry", None)),
+    *("pirce", "route", "di", "idd", "row", "led", "groupes", "bday", "rown", "ldea", "os", "nxet"),
+    *("bodies", "PRICE", "x", "entry"),
 ]
 ODD_KEYS = [(text, shown) for text, shown in TEXTS if not text.isdigit() or len(text) > 1]
 # What a literal string can hold, on one line and on several.
@@ -343,10 +337,6 @@ class Written:
         return "".join(lines), ", ".join(counts) + "\n" if counts else "", 1 if "error" in "".join(counts) else 0
 
 
-def near(key):
-    return f'; did you mean "{key}"?' if key else ""
-
-
 class FaultyText(Written):
     """A base with faults of its text: each has its words from the rules, in the order of judging."""
 
@@ -385,19 +375,14 @@ class FaultyText(Written):
             fields["lead"] = self.pick(["clear", "keep"])
         return frame
 
-    def wrong_kind(self, name, needed, fitting, unquote=UNQUOTE):
+    def wrong_kind(self, name, needed, fitting):
         """A value of another kind, and the words of X5."""
         value, kind = self.pick([(value, kind) for value, kind in ODD if kind not in fitting])
-        advice = ""
-        if kind == "a string" and needed in ("a whole number", "true or false"):
-            advice = unquote
-        elif needed == "a string":
-            advice = QUOTE
-        return value, f"X5 WrongKind: {name} is {kind}, {needed} is needed{advice}"
+        return value, f"X5 WrongKind: {name} is {kind}, {needed} is needed"
 
-    def wrong_number(self, name, least, most, unquote=UNQUOTE):
+    def wrong_number(self, name, least, most):
         if self.chance(0.4):
-            value, words = self.wrong_kind(name, "a whole number", ["a whole number"], unquote)
+            value, words = self.wrong_kind(name, "a whole number", ["a whole number"])
             return value, words
         low, high = least - self.pick([1, 5, 10**9]), most + self.pick([1, 5, 10**9])
         if self.chance(0.5):
@@ -412,8 +397,8 @@ class FaultyText(Written):
                 key, shown = self.pick(ODD_KEYS)
                 keys[key] = f"X3 UnknownKey: {shown} is not a key of {words}"
             else:
-                key, meant = self.pick(known)
-                keys[key] = f'X3 UnknownKey: "{key}" is not a key of {words}{near(meant)}'
+                key = self.pick(known)
+                keys[key] = f'X3 UnknownKey: "{key}" is not a key of {words}'
         return [(key, self.pick(ODD)[0], keys[key]) for key in sorted(keys, key=str.encode)]
 
     def spoil_top(self):
@@ -435,8 +420,7 @@ class FaultyText(Written):
         """In the place of frames something else, or a list of what is no frame."""
         value, kind = self.pick([*ODD, (None, "a list")])
         if kind != "a list":
-            advice = "; write [[frame]] with two brackets" if kind == "a table" else ""
-            self.top_faults.append(("frame", f'X5 WrongKind: "frame" is {kind}, an array of tables is needed{advice}'))
+            self.top_faults.append(("frame", f'X5 WrongKind: "frame" is {kind}, an array of tables is needed'))
             self.top["frame"] = value
             return
         items = self.random.sample([(value, kind) for value, kind in ODD if kind != "a table"], self.pick([0, 1, 2]))
@@ -483,8 +467,7 @@ class FaultyText(Written):
             frame.fault("id", words, "id")
         else:
             frame.fields["id"], shown = self.pick(TEXTS)
-            advice = "write a page number and one small letter, as 1231a"
-            frame.fault("id", f"I2 BadFrame: {shown} is not a frame id; {advice}", "id")
+            frame.fault("id", f"I2 BadFrame: {shown} is not a frame id", "id")
 
     def spoil_price(self, frame):
         value, words = self.wrong_number('"price" of {F}', 0, 9_999)
@@ -512,8 +495,7 @@ class FaultyText(Written):
             words = f"X3 UnknownKey: {shown} is not a key of routes, use the digits 0 to 9"
             frame.fault("routes", words, "routes", key)
         for digit in sorted(self.random.sample("0123456789", self.pick([1, 1, 2, 3]))):
-            alone = "; write the page number alone, without quotation marks"
-            routes[digit], words = self.wrong_number(f"route {digit} of {{F}}", 0, 999_999_999, alone)
+            routes[digit], words = self.wrong_number(f"route {digit} of {{F}}", 0, 999_999_999)
             frame.fault("routes", words, "routes", digit)
 
     def spoil_lead(self, frame):
@@ -546,10 +528,10 @@ class FaultyText(Written):
             frame.fault("text", words, "body")
             return
         before = self.pick([0, 1, 11, 999, 1_500])
-        code, shown, advice = self.pick(FAR_CODES)
+        code, shown = self.pick(FAR_CODES)
         frame.fields["body"] = "\xa3\t" * (before // 2) + "A" * (before % 2) + code + self.pick(["", "\u2019", "B"])
         where = f'character {before + 1:,} of "body" of {{F}}'
-        frame.fault("text", f"X6 Range: {where} is {shown}, at most U+00FF is allowed{advice}", "body")
+        frame.fault("text", f"X6 Range: {where} is {shown}, at most U+00FF is allowed", "body")
 
     def spoil_rows(self, frame):
         if self.chance(0.2):
@@ -573,14 +555,14 @@ class FaultyText(Written):
             frame.fault("text", words, "rows")
             return
         before = self.pick([0, 1, 39, 40])
-        code, shown, advice = self.pick([*CODES, *FAR_CODES])
+        code, shown = self.pick([*CODES, *FAR_CODES])
         has_code = share < 0.6
         rows[number] = "A" * before + (code + self.pick(["", "\xa3"]) if has_code else "B" * self.pick([41, 1_000]))
         if len(rows[number]) > 40:
             words = f"X8 RowTooLong: {name} has {len(rows[number]):,} characters, at most 40 are allowed"
             frame.fault("text", words, "rows")
         if has_code:
-            words = f"X9 RowCode: character {before + 1} of {name} is {shown}, which no row may have{advice}"
+            words = f"X9 RowCode: character {before + 1} of {name} is {shown}, which no row may have"
             frame.fault("text", words, "rows")
 
     def spoil_whole(self, right):

@@ -159,9 +159,15 @@ def lint(path, data, ceiling=9_999, keyings=65_535, option=None):
     return stdout, f"{count_line(levels)}\n" if listed else "", 1 if "error" in levels else 0
 
 
+def is_line(wanted, found):
+    """Whether a line is the wanted one, to which a hint may be added."""
+    return found == wanted or found.startswith(f"{wanted}; ")
+
+
 def is_answer(path, wanted, found):
-    """Whether an answer is the wanted one; a text that isn't TOML may be refused at any place with any message."""
+    """Whether an answer is the wanted one, hints aside; a text that isn't TOML may be refused at any place."""
     if wanted[0] != f"{path}:LINE:COLUMN: {UNREAD}\n":
-        return wanted == found
+        lines = wanted[0].split("\n"), found[0].split("\n")
+        return len(lines[0]) == len(lines[1]) and all(map(is_line, *lines)) and found[1:] == wanted[1:]
     line = re.fullmatch(rf"{re.escape(str(path))}:[1-9]\d*:[1-9]\d*: error: X2 NotToml: [^\n]+\n", found[0])
     return bool(line) and found[1:] == wanted[1:]

@@ -6,7 +6,7 @@ A fault is an offset of the text and words; a flaw is the words alone.
 import re
 
 from .base import FRAME_KEYS, MOST_BODY, MOST_LISTED, MOST_PAGE, frame_in, id_in, id_text, is_integer
-from .words import code, counted, hint, kind, nearest, number_of, quoted
+from .words import code, counted, kind, number_of, quoted
 
 TOP_KEYS = ["entry", "outside", "frame"]
 KEYS_OF_A_FRAME = ["id", "price", "group", "next", "routes", "lead", "body", "rows"]
@@ -38,20 +38,15 @@ class Places:
         return next(known[keys[:length]] for length in (2, 1, 0) if keys[:length] in known)
 
 
-def wrong_kind(name, value, needed, unquote="leave out the quotation marks"):
-    """The words of X5 with their advice."""
-    advice = ""
-    if isinstance(value, str) and needed in ("a whole number", "true or false"):
-        advice = f"; {unquote}"
-    elif needed == "a string":
-        advice = "; put it in quotation marks"
-    return f"X5 WrongKind: {name} is {kind(value)}, {needed} is needed{advice}"
+def wrong_kind(name, value, needed):
+    """The words of X5."""
+    return f"X5 WrongKind: {name} is {kind(value)}, {needed} is needed"
 
 
-def number_flaw(value, name, least, most, unquote="leave out the quotation marks"):
+def number_flaw(value, name, least, most):
     """What is wrong with a number, or None."""
     if not is_integer(value):
-        return wrong_kind(name, value, "a whole number", unquote)
+        return wrong_kind(name, value, "a whole number")
     if value < least:
         return f"X6 Range: {name} is {value}, at least {least} is needed"
     return f"X6 Range: {name} is {value}, at most {most} is allowed" if value > most else None
@@ -63,7 +58,7 @@ def unknown(table, known):
 
 def top_faults(tree, places):
     for key in unknown(tree, TOP_KEYS):
-        yield places.top[key], f"X3 UnknownKey: {quoted(key)} is not a key of a base{nearest(key, TOP_KEYS)}"
+        yield places.top[key], f"X3 UnknownKey: {quoted(key)} is not a key of a base"
     if "entry" not in tree:
         yield 0, 'X4 Absent: the base has no "entry"'
     elif flaw := number_flaw(tree["entry"], '"entry"', 0, MOST_PAGE):
@@ -71,8 +66,7 @@ def top_faults(tree, places):
     yield from ((places.top["outside"], flaw) for flaw in outside_flaws(tree.get("outside", [])))
     frames = tree.get("frame", [])
     if not isinstance(frames, list):
-        advice = "; write [[frame]] with two brackets" if isinstance(frames, dict) else ""
-        yield places.top["frame"], wrong_kind('"frame"', frames, "an array of tables") + advice
+        yield places.top["frame"], wrong_kind('"frame"', frames, "an array of tables")
 
 
 def outside_flaws(outside):
@@ -97,7 +91,7 @@ def frame_faults(index, table, places):
         return
     name = name_of(table)
     for key in unknown(table, KEYS_OF_A_FRAME):
-        words = f"X3 UnknownKey: {quoted(key)} is not a key of a frame{nearest(key, KEYS_OF_A_FRAME)}"
+        words = f"X3 UnknownKey: {quoted(key)} is not a key of a frame"
         yield places.of(index, key), words
     for keys, flaw in field_flaws(table, name):
         yield places.of(index, *keys), flaw
@@ -110,8 +104,7 @@ def field_flaws(table, name):
     elif flaw := id_flaw(table["id"]):
         yield ("id",), flaw
     if flaw := number_flaw(table.get("price", 0), f'"price" of {name}', 0, 9_999):
-        pence = "; prices are whole pence" if isinstance(table["price"], float) else ""
-        yield ("price",), flaw + pence
+        yield ("price",), flaw
     if flaw := number_flaw(table.get("group", 1), f'"group" of {name}', 1, 65_535):
         yield ("group",), flaw
     if not isinstance(table.get("next", False), bool):
@@ -127,7 +120,7 @@ def id_flaw(id):
         return wrong_kind('"id" of this frame', id, "a string")
     if id_in(id):
         return None
-    return f"I2 BadFrame: {quoted(id)} is not a frame id; write a page number and one small letter, as 1231a"
+    return f"I2 BadFrame: {quoted(id)} is not a frame id"
 
 
 def route_flaws(routes, name):
@@ -136,9 +129,8 @@ def route_flaws(routes, name):
         return
     for key in unknown(routes, "0123456789"):
         yield ("routes", key), f"X3 UnknownKey: {quoted(key)} is not a key of routes, use the digits 0 to 9"
-    unquote = "write the page number alone, without quotation marks"
     for digit in sorted(set(routes) & set("0123456789")):
-        if flaw := number_flaw(routes[digit], f"route {digit} of {name}", 0, MOST_PAGE, unquote):
+        if flaw := number_flaw(routes[digit], f"route {digit} of {name}", 0, MOST_PAGE):
             yield ("routes", digit), flaw
 
 
@@ -167,7 +159,7 @@ def body_flaw(body, name):
     if not (far := re.search(r"[^\x00-\xff]", body)):
         return None
     c, at = far[0], counted(far.start() + 1)
-    return f'X6 Range: character {at} of "body" of {name} is {code(c)}, at most U+00FF is allowed{hint(c)}'
+    return f'X6 Range: character {at} of "body" of {name} is {code(c)}, at most U+00FF is allowed'
 
 
 def rows_flaws(rows, name):
@@ -186,7 +178,7 @@ def rows_flaws(rows, name):
             yield f"X8 RowTooLong: {here} has {counted(len(row))} characters, at most 40 are allowed"
         if bad := re.search(r"[^\x20-\x9f]", row):
             c, at = bad[0], counted(bad.start() + 1)
-            yield f"X9 RowCode: character {at} of {here} is {code(c)}, which no row may have{hint(c)}"
+            yield f"X9 RowCode: character {at} of {here} is {code(c)}, which no row may have"
 
 
 def outside_read(tree):
