@@ -66,6 +66,9 @@ code_plain code.Missing = refl
 code_plain code.Closed = refl
 code_plain code.NoReturn = refl
 code_plain code.Unreached = refl
+code_plain code.Hidden = refl
+code_plain code.LineEnd = refl
+code_plain code.Escape = refl
 
 IsLine-hint : (hint : Option (List ℕ)) → IfSome hint IsLine → IsLine (hint_text hint)
 IsLine-hint None is = IsLine-plain [] refl

@@ -147,7 +147,8 @@ impl<'a> Sources<'a> {
             → f ≡ spec.fault_finding ms tables self.now.base.now self.now.policy.now known fault.now) }
     {
         let table = self.table_of(fault.frame);
-        let words = audit_fault_words(alloc, &self.judged(table, ranks, fault), fault)?;
+        let judged = self.judged(table, ranks, fault);
+        let words = audit_fault_words(alloc, &judged, fault, self.base.find(fault.frame))?;
         Ok(Finding::error(audit_fault_at(self.places, table, fault), words))
     }
 

@@ -76,7 +76,8 @@ fn faulty(
     let places = Places::of(alloc, text)?;
     let lines = TextLines::of(alloc, text.as_bytes())?;
     let mut findings = Vec::new(alloc);
-    add_text_findings(alloc, &places, faults, &mut findings)?;
+    let first_frame = lines.place(places.of_header(0)).0;
+    add_text_findings(alloc, text, &places, first_frame, faults, &mut findings)?;
     add_whole_findings(alloc, &places, &lines, whole, &mut findings)?;
     Ok(findings)
 }

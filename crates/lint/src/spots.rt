@@ -11,7 +11,7 @@ use page_ids::Key;
 use toml_places::Places;
 
 // The key that a detail is about.
-fn key_of(detail: &Detail) -> &str
+pub fn key_of(detail: &Detail) -> &str
     ensures { result.now ≡ spec.key_of detail.now }
 {
     match detail {
@@ -42,7 +42,7 @@ fn digit_text(digit: usize) -> Option<&'static str>
 }
 
 // The key below `routes` that a detail is about, if it is about one.
-fn route_of(detail: &Detail) -> Option<&str>
+pub fn route_of(detail: &Detail) -> Option<&str>
     ensures { option_copied result ≡ spec.route_of detail.now }
 {
     match detail {

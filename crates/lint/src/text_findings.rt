@@ -3,30 +3,57 @@ ghost use Rattle.toml_places.specs.Places.{Mark, Keeps};
 ghost use Rattle.lint.specs.Lint as spec;
 
 use crate::finding::Finding;
-use crate::spots::{text_fault_at, whole_fault_at};
-use base_text::{TextFault, WholeFault};
-use lint_words::{text_fault_words, whole_fault_words};
+use crate::spots::{key_of, route_of, text_fault_at, whole_fault_at};
+use base_text::{Detail, Field, TextFault, WholeFault};
+use lint_words::{Written, text_fault_words, whole_fault_words};
 use std::alloc::{AllocError, Global};
-use toml_places::{Places, TextLines};
+use toml_places::{Places, TextLines, value_span};
 
-fn text_finding(alloc: Global, places: &Places, fault: &TextFault) -> Result<Finding, AllocError>
+// The value that a fault is about, as it is written, if a hint can use it.
+fn value_of<'a>(text: &'a str, places: &Places, fault: &TextFault) -> &'a [u8] {
+    let spot = match (&fault.detail, fault.frame, route_of(&fault.detail)) {
+        (Detail::WrongItem(Field::Routes, _, _), Some(frame), Some(route)) => {
+            places.route(frame, route)
+        }
+        (Detail::WrongKind(_, _), frame, _) => places.key(frame, key_of(&fault.detail)),
+        _ => None,
+    };
+    match spot.and_then(|spot| value_span(text, spot)) {
+        None => b"",
+        Some(span) => text.as_bytes().get(span.begin..span.end).unwrap_or(b""),
+    }
+}
+
+fn text_finding(
+    alloc: Global,
+    text: &str,
+    places: &Places,
+    first_frame: usize,
+    fault: &TextFault,
+) -> Result<Finding, AllocError>
     ensures { IfOk result (λ f. (ms : List Mark) → Keeps places.now ms → f ≡ spec.text_finding ms fault.now) }
 {
-    let words = text_fault_words(alloc, fault)?;
+    let written = Written {
+        value: value_of(text, places, fault),
+        first_frame,
+    };
+    let words = text_fault_words(alloc, fault, &written)?;
     Ok(Finding::error(text_fault_at(places, fault), words))
 }
 
-// Appends the findings of a text's faults.
+// Appends the findings of a text's faults. The first frame begins on this line, from 1.
 pub fn add_text_findings(
     alloc: Global,
+    text: &str,
     places: &Places,
+    first_frame: usize,
     faults: &[TextFault],
     findings: &mut Vec<Finding>,
 ) -> Result<(), AllocError>
     ensures { OnOk result ((ms : List Mark) → Keeps places.now ms → findings.new.items ≡ findings.old.items ++ map (spec.text_finding ms) faults.now) }
 {
     for fault in faults {
-        findings.push(text_finding(alloc, places, fault)?)?;
+        findings.push(text_finding(alloc, text, places, first_frame, fault)?)?;
     }
     Ok(())
 }

@@ -153,7 +153,7 @@ fn judged_of(case: &Case) -> Result<Judged, Fail> {
 
 // The words of a fault as it is judged.
 fn judged_words(alloc: Global, judged: &Judged, fault: &Fault) -> Result<String, Fail> {
-    Ok(printed(alloc, &audit_fault_words(alloc, judged, fault)?)?)
+    Ok(printed(alloc, &audit_fault_words(alloc, judged, fault, None)?)?)
 }
 
 // The words of a case's fault.

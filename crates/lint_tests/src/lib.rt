@@ -25,4 +25,6 @@ mod text_lines;
 #[cfg(test)]
 mod text_words;
 #[cfg(test)]
+mod value_hints;
+#[cfg(test)]
 mod whole_words;

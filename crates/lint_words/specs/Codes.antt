@@ -1,7 +1,7 @@
 -- The codes of findings.
 use Rattle.std.specs.Prelude.{ℕ, List, [], codes}
 use Rattle.lint_words.specs.declared.code.Code.{Code}
-use Rattle.lint_words.specs.declared.code.Code.TheVariants.{TooLong, NotToml, UnknownKey, Absent, WrongKind, Range, BodyAndRows, RowTooLong, RowCode, BadFrame, TooMany, BodyTooLong, NextAfterZ, Duplicate, OutsideInside, EntryMissing, EntryClosed, Price, Touches, Missing, Closed, NoReturn, Unreached}
+use Rattle.lint_words.specs.declared.code.Code.TheVariants.{TooLong, NotToml, UnknownKey, Absent, WrongKind, Range, BodyAndRows, RowTooLong, RowCode, BadFrame, TooMany, BodyTooLong, NextAfterZ, Duplicate, OutsideInside, EntryMissing, EntryClosed, Price, Touches, Missing, Closed, NoReturn, Unreached, Hidden, LineEnd, Escape}
 
 abbrev pub code_word : Code → List ℕ
 code_word TooLong = codes "X1"
@@ -27,6 +27,9 @@ code_word Missing = codes "MISSING"
 code_word Closed = codes "CLOSED"
 code_word NoReturn = codes "NORETURN"
 code_word Unreached = codes "UNREACHED"
+code_word Hidden = codes "HIDDEN"
+code_word LineEnd = codes "LINEEND"
+code_word Escape = codes "ESCAPE"
 
 -- the name after a code; a code that is a word has none
 abbrev pub code_name : Code → List ℕ

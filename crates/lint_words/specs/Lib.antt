@@ -5,5 +5,6 @@ pub mod KeyPieces
 pub mod Words
 pub mod FaultWords
 pub mod TextWords
+pub mod WarningWords
 pub mod WholeWords
 pub mod Pieces

@@ -27,6 +27,12 @@ pub enum Code {
     Closed,
     NoReturn,
     Unreached,
+    /// A row that the double height of the row above hides.
+    Hidden,
+    /// A line end in a body that is a line feed alone.
+    LineEnd,
+    /// An escape in single quotation marks.
+    Escape,
 }
 
 impl Code {
@@ -58,6 +64,9 @@ impl Code {
             Code::Closed => "CLOSED",
             Code::NoReturn => "NORETURN",
             Code::Unreached => "UNREACHED",
+            Code::Hidden => "HIDDEN",
+            Code::LineEnd => "LINEEND",
+            Code::Escape => "ESCAPE",
         }
     }
 

@@ -1,6 +1,7 @@
 ghost use Rattle.std.specs.Prelude.{◌≡◌, ◌++◌, IfOk, OnOk, Some, None};
 ghost use Rattle.lint_words.specs.FaultWords.{entry_missing_words, entry_closed_words, price_words, row_touches_words, body_touches_words, touches_words, missing_page_words, missing_frame_words, missing_words, closed_words, cut_off_words, too_far_words, no_return_words, code_of, message_of, fault_words, unreached_words};
 
+use crate::audit_hints::audit_hint;
 use crate::code::Code;
 use crate::line::Line;
 use crate::piece::Piece::{Count, Frame, Group, Grouped, Id, Number, Page, Pressed, ShownBy, Text};
@@ -278,13 +279,20 @@ fn push_message(out: &mut Vec<u8>, judged: &Judged, fault: &Fault) -> Result<(),
     }
 }
 
-/// The words of a fault of an audit.
-pub fn audit_fault_words(alloc: Global, judged: &Judged, fault: &Fault) -> Result<Words, AllocError>
+/// The words of a fault of an audit. The frame is the one at fault, for the hint alone.
+pub fn audit_fault_words(
+    alloc: Global,
+    judged: &Judged,
+    fault: &Fault,
+    frame: Option<&frame_records::Frame>,
+) -> Result<Words, AllocError>
     ensures { IfOk result (λ words. words ≡ fault_words judged.now fault.now) }
 {
     let mut message = Vec::new(alloc);
     push_message(&mut message, judged, fault)?;
-    Ok(Words::new(code_of(fault.kind), Line::of(alloc, &message)?, None))
+    let message = Line::of(alloc, &message)?;
+    let hint = audit_hint(alloc, judged, fault, frame)?;
+    Ok(Words::new(code_of(fault.kind), message, hint))
 }
 
 /// The words of a frame that no walk reaches.

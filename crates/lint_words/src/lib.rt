@@ -1,13 +1,13 @@
 //! The words of findings: what `pageaudit lint` prints of a fault, after its place.
 //!
 //! ```
-//! let words = text_fault_words(alloc, &fault)?; // X3 UnknownKey: "pirce" is not a key of a frame; did you mean "price"?
+//! let words = text_fault_words(alloc, &fault, &written)?; // X3 UnknownKey: "pirce" is not a key of a frame; did you mean "price"?
 //! words.code().word() // X3
 //! words.code().name() // UnknownKey
 //! words.message().as_str() // "pirce" is not a key of a frame
 //! words.hint() // did you mean "price"?
 //!
-//! audit_fault_words(alloc, &judged, &fault)? // PRICE: frame 33163a costs 55, the ceiling is 50 (keys 63)
+//! audit_fault_words(alloc, &judged, &fault, frame)? // PRICE: frame 33163a costs 55, the ceiling is 50 (keys 63)
 //! whole_fault_words(alloc, &fault, 185)? // B1 Duplicate: frame 33152a is defined already on line 185
 //! unreached_words(alloc, id)? // UNREACHED: no key leads to frame 3319a from the entry page
 //! not_toml_words(alloc, b"entry = 0331\n", 8, "invalid value, ..")? // X2 NotToml: invalid value, ..; a number has ..
@@ -34,13 +34,13 @@
 //!   no TOML, not even where a string ends: it is a guess at the cause. If no rule applies, there is none.
 #![tactic(auto)]
 
+mod audit_hints;
 mod backwards;
 mod brackets;
 mod code;
 mod count_words;
 mod fault_words;
 mod hint;
-mod hint_rules;
 mod key_pieces;
 mod line;
 mod near_bytes;
@@ -50,6 +50,10 @@ mod pieces;
 mod text_hints;
 mod text_words;
 mod toml_hints;
+mod touch_hints;
+mod value_hints;
+mod values;
+mod warning_words;
 mod whole_words;
 mod words;
 mod written_keys;
@@ -58,6 +62,8 @@ pub use code::Code;
 pub use count_words::push_counted;
 pub use fault_words::{Judged, audit_fault_words, unreached_words};
 pub use line::Line;
+pub use text_hints::Written;
 pub use text_words::{not_toml_words, text_fault_words, too_long_words};
+pub use warning_words::{escape_words, hidden_words, line_end_words};
 pub use whole_words::whole_fault_words;
 pub use words::Words;

@@ -9,7 +9,7 @@ use crate::piece::Piece::{
     Char, Count, Frame, Grouped, Item, Key, OutOfRange, Quoted, Subject, Text,
 };
 use crate::piece::push_pieces;
-use crate::text_hints::text_hint;
+use crate::text_hints::{Written, text_hint};
 use crate::toml_hints::toml_hint;
 use crate::words::Words;
 use base_text::{Detail, Field, TableKind, TextFault, ValueKind};
@@ -396,13 +396,21 @@ fn push_message(out: &mut Vec<u8>, fault: &TextFault) -> Result<(), AllocError>
 }
 
 /// The words of a fault of a text; of one that is listed for all others of its table, how many these are.
-pub fn text_fault_words(alloc: Global, fault: &TextFault) -> Result<Words, AllocError>
+pub fn text_fault_words(
+    alloc: Global,
+    fault: &TextFault,
+    written: &Written<'_>,
+) -> Result<Words, AllocError>
     ensures { IfOk result (λ words. words ≡ text_fault_words fault.now) }
 {
     let mut message = Vec::new(alloc);
     push_message(&mut message, fault)?;
     let message = Line::of(alloc, &message)?;
-    Ok(Words::new(code_of(&fault.detail), message, text_hint(alloc, fault)?))
+    Ok(Words::new(
+        code_of(&fault.detail),
+        message,
+        text_hint(alloc, fault, written)?,
+    ))
 }
 
 /// The words of X1.

@@ -4,6 +4,7 @@ ghost use Rattle.std.specs.Prelude.{◌≤◌, ◌<◌, length};
 
 use crate::backwards::Turn;
 use crate::near_bytes::{Class, ends_key, run_len, run_start};
+use base_text::Field;
 use toml_parser::bytes::byte_at;
 
 // The part of a key that ends at a place, blanks aside.
@@ -20,6 +21,38 @@ pub fn name_at(text: &[u8], at: usize) -> &[u8]
     requires { at ≤ length text.now }
 {
     part_before(text, at + run_len(&text[at..], Class::Key))
+}
+
+// The last part of the key whose equals sign ends at a place.
+pub fn name_before(text: &[u8], after: usize) -> &[u8] {
+    let equals = after.min(text.len()).saturating_sub(1);
+    part_before(text, equals)
+}
+
+// The keys of the top and of a frame.
+const FIELDS: &[Field] = &[
+    Field::Entry,
+    Field::Outside,
+    Field::Frame,
+    Field::Id,
+    Field::Price,
+    Field::Group,
+    Field::Next,
+    Field::Routes,
+    Field::Lead,
+    Field::Body,
+    Field::Rows,
+];
+
+// The key of a name, or `routes` for a digit.
+pub fn named_field(name: &[u8]) -> Option<Field> {
+    match name {
+        [digit] if digit.is_ascii_digit() => Some(Field::Routes),
+        _ => FIELDS
+            .iter()
+            .find(|field| field.name().as_bytes() == name)
+            .copied(),
+    }
 }
 
 // Whether a part of a key that is this name ends at a place.

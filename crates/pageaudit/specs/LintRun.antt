@@ -5,7 +5,7 @@ use Rattle.audit_report.specs.declared.run_fault.RunFault.{RunFault}
 use Rattle.audit_report.specs.declared.run_fault.RunFault.TheVariants as run
 use Rattle.lint.specs.declared.counts.Counts.{Counts}
 use Rattle.lint.specs.declared.finding.Level.TheVariants.{Error, Warning}
-use Rattle.lint.specs.Findings.{FindingView, count_of, finding_lines}
+use Rattle.lint.specs.Findings.{FindingView, count_of, AreFindingLines}
 use Rattle.lint.specs.Lint.{IsLint}
 use Rattle.pageaudit.specs.Files.{Device, IsUntouched, IsTextWritten, base_limit, IsTextOfFile, IsBaseBroken, IsReadWithin}
 use Rattle.pageaudit.specs.Status.{fault_number}
@@ -20,7 +20,9 @@ pub record IsLinted (base_file out : Device) (path : List ℕ) (policy : Policy)
   pub read : IsTextOfFile base_file text
   pub findings : List FindingView
   pub is : IsLint text policy findings
-  pub written : IsTextWritten out (finding_lines path text findings) (counts_of findings) answer
+  pub lines : List ℕ
+  pub are_lines : AreFindingLines path text findings lines
+  pub written : IsTextWritten out lines (counts_of findings) answer
 
 -- a run by its answer: the numbers of findings, or the first fault of a device
 abbrev pub IsLintRun : Device → Device → List ℕ → Policy → Result Counts RunFault → Type 0
