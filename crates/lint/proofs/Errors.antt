@@ -27,7 +27,7 @@ module _ {X : Type 0} (f : X → FindingView) where
 
 is_error : (text : List ℕ) (s : Subject) → (finding_of text s).level ≡ Error
 is_error text Length = refl
-is_error text (Toml at message) = refl
+is_error text (Toml span message) = refl
 is_error text (Text fault) = refl
 is_error text (Whole fault) = refl
 
@@ -46,8 +46,8 @@ module _ (judged findings : List FindingView) (order : AreInOrder judged finding
   audit_errors text policy base a =
       let ms = marks text in
       let tables = text_tables text in
-      let faults = fault_finding ms tables base policy (ranks_of a.found) in
+      let faults = fault_finding text ms tables base policy (ranks_of a.found) in
       let ids = ids_of (warned policy.groups a.found base.frames) in
-      let both : errors judged ≡ errors (map faults a.faults) + errors (map (warning ms tables) ids) =
-      ap errors a.all ∙ sum_by-append (λ (g : FindingView). cond (same_level g.level Error) 1 0) (map faults a.faults) (map (warning ms tables) ids) in
-      omega (arith, same_errors, both, all_errors faults (λ fault. refl) a.faults, no_errors (warning ms tables) (λ id. refl) ids)
+      let both : errors judged ≡ errors (map faults a.faults) + errors (map (warning text ms tables) ids) =
+      ap errors a.all ∙ sum_by-append (λ (g : FindingView). cond (same_level g.level Error) 1 0) (map faults a.faults) (map (warning text ms tables) ids) in
+      omega (arith, same_errors, both, all_errors faults (λ fault. refl) a.faults, no_errors (warning text ms tables) (λ id. refl) ids)

@@ -6,3 +6,4 @@ pub mod Errors
 pub mod Meanings
 pub mod Warnings
 pub mod Printed
+pub mod SpansLie

@@ -112,12 +112,12 @@ warns text policy findings base is a =
     let ms = marks text in
     let tables = text_tables text in
     let frames = warned policy.groups a.1.found base.frames in
-    let faults = map (fault_finding ms tables base policy (ranks_of a.1.found)) a.1.faults in
+    let faults = map (fault_finding text ms tables base policy (ranks_of a.1.found)) a.1.faults in
     record {
       errors = faults;
       frames = frames;
-      are_errors = All-map (λ f. f.level ≡ Error) (fault_finding ms tables base policy (ranks_of a.1.found)) a.1.faults (λ k d lt. refl);
+      are_errors = All-map (λ f. f.level ≡ Error) (fault_finding text ms tables base policy (ranks_of a.1.found)) a.1.faults (λ k d lt. refl);
       cut_off = warned_is_cut_off policy.groups base a.1.found a.1.reached;
       once = once policy.groups base a.1.found is.2.valid.ascending;
-      in_order = subst (λ fs. AreInOrder fs findings) (a.1.all ∙ ap (λ fs. faults ++ fs) (each (warning ms tables) frames)) a.2;
+      in_order = subst (λ fs. AreInOrder fs findings) (a.1.all ∙ ap (λ fs. faults ++ fs) (each (warning text ms tables) frames)) a.2;
     }

@@ -10,20 +10,21 @@ use Rattle.lint_words.specs.WordsOf.{WordsView}
 use Rattle.lint.specs.declared.counts.Counts.{Counts}
 use Rattle.std.specs.Ordering.{nat_cmp}
 use Rattle.std.specs.List.Sorted.{IsSortedByKey, IsStableByKey}
-use Rattle.toml_places.specs.Skips.{place_at}
+use Rattle.toml_places.specs.declared.spans.Span.{Span}
+use Rattle.toml_places.specs.Extents.{extent}
 
 -- What contracts see of a finding.
 
 pub record FindingView : Type 0 where
-  pub at : ℕ
+  pub span : Span
   pub level : Level
   pub words : WordsView
 
-abbrev pub error_at : ℕ → WordsView → FindingView
-error_at at words = record { at = at; level = Error; words = words }
+abbrev pub error_at : Span → WordsView → FindingView
+error_at span words = record { span = span; level = Error; words = words }
 
-abbrev pub warning_at : ℕ → WordsView → FindingView
-warning_at at words = record { at = at; level = Warning; words = words }
+abbrev pub warning_at : Span → WordsView → FindingView
+warning_at span words = record { span = span; level = Warning; words = words }
 
 -- How many findings there are of a level.
 
@@ -41,17 +42,21 @@ counted_text counts = if nat_lt 0 counts.errors || nat_lt 0 counts.warnings then
 
 -- The order of findings.
 
--- the same findings in the order of their places; those of one place stay in theirs
+-- the same findings in the order of where their spans begin; those that begin at one place stay in theirs
 pub record AreInOrder (judged ordered : List FindingView) : Type 0 where
   pub same : IsPermutation judged ordered
-  pub places_ascend : IsSortedByKey (λ f. f.at) nat_cmp ordered
-  pub stable : IsStableByKey (λ f. f.at) nat_cmp judged ordered
+  pub places_ascend : IsSortedByKey (λ f. f.span.begin) nat_cmp ordered
+  pub stable : IsStableByKey (λ f. f.span.begin) nat_cmp judged ordered
 
 -- What is printed of findings.
 
 abbrev pub level_text : Level → List ℕ
 level_text Error = codes "error"
 level_text Warning = codes "warning"
+
+-- the line and the column at which a span begins
+abbrev pub begin_of : List ℕ → Span → ℕ × ℕ
+begin_of text span = ((extent text span).line, (extent text span).column)
 
 -- the path, the line and the column, each with a colon
 abbrev pub place_text : List ℕ → ℕ × ℕ → List ℕ
@@ -82,7 +87,7 @@ line_text path place level words hint =
 -- character, whatever is in the text and the path.
 pub record IsFindingLine (path text : List ℕ) (f : FindingView) (line : List ℕ) : Type 0 where
   pub hint : Option (List ℕ)
-  pub is : line ≡ line_text (line_of path) (place_at text f.at) f.level f.words hint
+  pub is : line ≡ line_text (line_of path) (begin_of text f.span) f.level f.words hint
   pub is_line : IsLine line
 
 -- a line and a line feed for each finding, in their order

@@ -17,7 +17,7 @@ use Rattle.finder.specs.Finds.{EntryIsFound, IsReached}
 use Rattle.fault_scripts.specs.Faults.{AreFaults}
 use Rattle.lint.specs.declared.finding.Level.TheVariants.{Error}
 use Rattle.lint.specs.Findings.{FindingView, count_of, AreInOrder, AreFindingLines}
-use Rattle.lint.specs.Lint.{Subject, Length, Toml, Text, Whole, finding_of, text_tables, warning, IsAudited, IsLint}
+use Rattle.lint.specs.Lint.{Subject, Length, Toml, Text, Whole, finding_of, text_tables, warning, IsWithin, IsAudited, IsLint}
 use Rattle.toml_places.specs.Places.{marks}
 
 -- The text, and what base_read answers for it.
@@ -30,7 +30,7 @@ IsAnswer text (Err fault) = IsFaultOf (parts_of text) fault
 -- the fault that base_read answers for a subject that is the first
 abbrev pub answer_of : Subject → BaseFault
 answer_of Length = top_fault TooLong
-answer_of (Toml at message) = top_fault NotToml
+answer_of (Toml span message) = top_fault NotToml
 answer_of (Text fault) = base_fault fault
 answer_of (Whole fault) = top_fault (whole_cause fault)
 
@@ -92,7 +92,7 @@ pub record WarnsOfCutOff (text : List ℕ) (policy : Policy) (base : BaseView) (
   pub are_errors : All (λ f. f.level ≡ Error) errors
   pub cut_off : (f : Frame) → Contains frames f ↔ IsCutOff policy.groups base f
   pub once : AllPairs (λ f g. f.id ≢ g.id) frames
-  pub in_order : AreInOrder (errors ++ map (λ f. warning (marks text) (text_tables text) f.id) frames) findings
+  pub in_order : AreInOrder (errors ++ map (λ f. warning text (marks text) (text_tables text) f.id) frames) findings
 
 abbrev pub WarnsOfUnreached : List ℕ → Policy → List FindingView → Type 0
 WarnsOfUnreached text policy findings = (base : BaseView) → IsTextBase text base → WarnsOfCutOff text policy base findings
@@ -115,3 +115,12 @@ abbrev pub FindingsAreWholeLines : Type 0
 FindingsAreWholeLines =
     (path text : List ℕ) (findings : List FindingView) (out : List ℕ) → AreFindingLines path text findings out
     → AreWholeLines (length findings) out
+
+-- Spans.
+
+-- every finding's span begins and ends in the text
+abbrev pub SpansLieIn : List ℕ → List FindingView → Type 0
+SpansLieIn text findings = All (λ f. IsWithin text f.span) findings
+
+abbrev pub LintSpansLieIn : Type 0
+LintSpansLieIn = (text : List ℕ) (policy : Policy) (findings : List FindingView) → IsLint text policy findings → SpansLieIn text findings

@@ -1,12 +1,14 @@
 ghost use Rattle.std.specs.Prelude.{◌≡◌, ◌++◌, ℕ, List, Option, map, IfOk, OnOk};
 ghost use Rattle.page_ids.specs.Ids.{Id};
-ghost use Rattle.toml_places.specs.Places.{Mark, Keeps};
+ghost use Rattle.toml_places.specs.Places.{Mark};
+ghost use Rattle.lint.specs.Tables.{KnowsTables, IsTable, seen};
 ghost use Rattle.lint.specs.Lookups.{Knows};
 ghost use Rattle.lint.specs.Lint as spec;
 
 use crate::finding::Finding;
 use crate::lookup::Lookup;
-use crate::spots::{audit_fault_at, has_rows};
+use crate::spots::{audit_span, has_rows, kind_table};
+use crate::tables::{TableSpots, TextTables};
 use checker::Policy;
 use fault_scripts::{Fault, FaultList, Judgement, judge_base};
 use finder::Discovered;
@@ -14,7 +16,6 @@ use frame_records::{Base, Frame, GroupNo, Groups};
 use lint_words::{Judged, audit_fault_words, unreached_words};
 use page_ids::FrameId;
 use std::alloc::{AllocError, Global};
-use toml_places::Places;
 
 // The fewest keys from each frame that is reached back to the entry frame.
 pub type Ranks = Lookup<Option<u16>>;
@@ -102,7 +103,7 @@ impl Audit {
 // What the words and places of an audit's findings are made of.
 #[derive(Drop)]
 pub struct Sources<'a> {
-    pub places: &'a Places,
+    pub text: &'a TextTables<'a>,
     // The index of each frame's table.
     pub tables: Lookup<usize>,
     pub base: &'a Base,
@@ -129,27 +130,36 @@ impl<'a> Sources<'a> {
         self.tables.get(id).unwrap_or(0)
     }
 
-    fn judged(&self, table: usize, ranks: &Ranks, fault: &Fault) -> Judged
-        ensures { (ms : List Mark) (known : List (Id × Option ℕ)) → Keeps self.now.places.now ms → Knows known ranks.now
-            → result ≡ spec.judged ms table self.now.base.now self.now.policy.now known fault.now }
+    fn judged(&self, table: &TableSpots<'_>, ranks: &Ranks, fault: &Fault) -> Judged
+        ensures { (known : List (Id × Option ℕ)) → Knows known ranks.now
+            → result ≡ spec.judged (seen table.now) self.now.base.now self.now.policy.now known fault.now }
     {
         Judged {
             ceiling: self.policy.ceiling,
             keyings: self.policy.keyings,
-            has_rows: has_rows(self.places, table),
+            has_rows: has_rows(table),
             rank: rank_of(ranks, fault.frame),
             group: group_of(self.base, fault),
         }
     }
 
-    fn finding(&self, alloc: Global, ranks: &Ranks, fault: &Fault) -> Result<Finding, AllocError>
-        ensures { IfOk result (λ f. (ms : List Mark) (tables : List (Id × ℕ)) (known : List (Id × Option ℕ)) → spec.AreKnown ms tables self.now → Knows known ranks.now
-            → f ≡ spec.fault_finding ms tables self.now.base.now self.now.policy.now known fault.now) }
+    fn finding(
+        &self,
+        alloc: Global,
+        table: &mut TableSpots<'a>,
+        ranks: &Ranks,
+        fault: &Fault,
+    ) -> Result<Finding, AllocError>
+        ensures finding { IfOk result (λ f. (ms : List Mark) (tables : List (Id × ℕ)) (known : List (Id × Option ℕ)) → spec.AreKnown ms tables self.now → Knows known ranks.now
+            → IsTable self.now.text.now.text.now ms (seen table.old) → f ≡ spec.fault_finding self.now.text.now.text.now ms tables self.now.base.now self.now.policy.now known fault.now) }
+        ensures table { OnOk result ((ms : List Mark) → KnowsTables ms self.now.text.now
+            → IsTable self.now.text.now.text.now ms (seen table.old) → IsTable self.now.text.now.text.now ms (seen table.new)) }
     {
-        let table = self.table_of(fault.frame);
+        let frame = kind_table(self.table_of(fault.frame), fault.kind);
+        self.text.turn(alloc, table, frame)?;
         let judged = self.judged(table, ranks, fault);
         let words = audit_fault_words(alloc, &judged, fault, self.base.find(fault.frame))?;
-        Ok(Finding::error(audit_fault_at(self.places, table, fault), words))
+        Ok(Finding::error(audit_span(table, fault), words))
     }
 
     fn add_faults(
@@ -159,19 +169,20 @@ impl<'a> Sources<'a> {
         findings: &mut Vec<Finding>,
     ) -> Result<(), AllocError>
         ensures { OnOk result ((ms : List Mark) (tables : List (Id × ℕ)) (known : List (Id × Option ℕ)) → spec.AreKnown ms tables self.now → Knows known audit.now.ranks
-            → findings.new.items ≡ findings.old.items ++ map (spec.fault_finding ms tables self.now.base.now self.now.policy.now known) audit.now.faults) }
+            → findings.new.items ≡ findings.old.items ++ map (spec.fault_finding self.now.text.now.text.now ms tables self.now.base.now self.now.policy.now known) audit.now.faults) }
     {
+        let mut table = self.text.table(alloc, None)?;
         for fault in audit.faults.as_slice() {
-            findings.push(self.finding(alloc, &audit.ranks, fault)?)?;
+            findings.push(self.finding(alloc, &mut table, &audit.ranks, fault)?)?;
         }
         Ok(())
     }
 
     fn warning(&self, alloc: Global, id: FrameId) -> Result<Finding, AllocError>
-        ensures { IfOk result (λ f. (ms : List Mark) (tables : List (Id × ℕ)) → spec.AreKnown ms tables self.now → f ≡ spec.warning ms tables id) }
+        ensures { IfOk result (λ f. (ms : List Mark) (tables : List (Id × ℕ)) → spec.AreKnown ms tables self.now → f ≡ spec.warning self.now.text.now.text.now ms tables id) }
     {
         let words = unreached_words(alloc, id)?;
-        Ok(Finding::warning(self.places.of_header(self.table_of(id)), words))
+        Ok(Finding::warning(self.text.frame_whole(self.table_of(id)), words))
     }
 
     fn add_warnings(
@@ -181,7 +192,7 @@ impl<'a> Sources<'a> {
         findings: &mut Vec<Finding>,
     ) -> Result<(), AllocError>
         ensures { OnOk result ((ms : List Mark) (tables : List (Id × ℕ)) → spec.AreKnown ms tables self.now
-            → findings.new.items ≡ findings.old.items ++ map (spec.warning ms tables) ids.now) }
+            → findings.new.items ≡ findings.old.items ++ map (spec.warning self.now.text.now.text.now ms tables) ids.now) }
     {
         for id in ids {
             findings.push(self.warning(alloc, *id)?)?;
@@ -193,7 +204,7 @@ impl<'a> Sources<'a> {
     pub fn findings(&self, alloc: Global, audit: &Audit) -> Result<Vec<Finding>, AllocError>
         requires { spec.IsAudit self.now.base.now self.now.policy.now audit.now }
         ensures { IfOk result (λ fs. (ms : List Mark) (tables : List (Id × ℕ)) → spec.AreKnown ms tables self.now
-            → spec.AreAuditFindings ms tables self.now.base.now self.now.policy.now fs.items) }
+            → spec.AreAuditFindings self.now.text.now.text.now ms tables self.now.base.now self.now.policy.now fs.items) }
     {
         let mut findings = Vec::new(alloc);
         self.add_faults(alloc, audit, &mut findings)?;

@@ -22,6 +22,7 @@ mod lookup;
 mod order;
 mod printing;
 mod spots;
+mod tables;
 mod text_findings;
 
 pub use counts::{Counts, counted_text};
@@ -29,5 +30,6 @@ pub use finding::{Finding, Level};
 pub use judging::lint;
 pub use laws::{
     findings_are_whole_lines, lint_follows_base_read, lint_warns_of_unreached, no_error_is_safe,
+    spans_lie_in_the_text,
 };
 pub use printing::lint_text;

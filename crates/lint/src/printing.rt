@@ -1,6 +1,6 @@
 ghost use Rattle.std.specs.Prelude.{◌≡◌, ◌++◌, ◌∷◌, [], ℕ, List, length, IfOk, OnOk, IfSome, option_copied, codes, decimal};
 ghost use Rattle.lint_words.specs.Lines.{IsLine, line_of};
-ghost use Rattle.lint.specs.Findings.{level_text, place_text, code_text, hint_text, words_text, line_text, AddsLine, AreFindingLines};
+ghost use Rattle.lint.specs.Findings.{level_text, begin_of, place_text, code_text, hint_text, words_text, line_text, AddsLine, AreFindingLines};
 ghost use Rattle.lint.specs.Laws.{AreWholeLines};
 
 use crate::finding::{Finding, Level};
@@ -8,7 +8,7 @@ use crate::laws::findings_are_whole_lines;
 use lint_words::{Code, Line, Words};
 use page_ids::push_number;
 use std::alloc::{AllocError, Global};
-use toml_places::TextLines;
+use toml_places::{Span, TextLines};
 
 fn level_text(level: Level) -> &'static str
     ensures { result.now ≡ level_text level }
@@ -25,6 +25,14 @@ fn push_part(out: &mut Vec<u8>, number: usize) -> Result<(), AllocError>
     push_number(out, number as u64)?;
     out.push(b':')?;
     Ok(())
+}
+
+// The line and the column at which a span begins.
+fn begin_of(lines: &TextLines<'_>, span: Span) -> (usize, usize)
+    ensures { result ≡ begin_of lines.now span }
+{
+    let extent = lines.extent(span);
+    (extent.line, extent.column)
 }
 
 // The path, the line and the column, each with a colon.
@@ -116,7 +124,7 @@ fn push_finding(
 ) -> Result<(), AllocError>
     ensures { OnOk result ((bytes : List ℕ) → path.now ≡ line_of bytes → AddsLine bytes lines.now finding.now out.old.items out.new.items) }
 {
-    let place = lines.place(finding.at);
+    let place = begin_of(lines, finding.span);
     let words = &finding.words;
     push_line(out, path, place, finding.level, words, words.hint())
 }

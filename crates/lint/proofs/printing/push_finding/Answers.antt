@@ -10,9 +10,9 @@ returns c =
     let old = c.args.out.now.items in
     let new = c.push_line.new.out.items in
     let hint = option_copied c.hint.result in
-    let line = line_text c.args.path.now c.place-place.result f.level f.words hint in
+    let line = line_text c.args.path.now c.begin_of-place.result f.level f.words hint in
     both_on c.push_line.result c.push_line.ensures.line c.push_line.ensures.is_line (λ added is_line. λ bytes shown.
-    let is = ap (λ path. line_text path c.place-place.result f.level f.words hint) shown
-    ∙ ap (λ place. line_text (line_of bytes) place f.level f.words hint) c.place-place.ensures.value in
-    let adds : AddsLine bytes c.args.lines.now (record { at = f.at; level = f.level; words = f.words }) old new = (line, record { hint = hint; is = is; is_line = is_line }, added) in
+    let is = ap (λ path. line_text path c.begin_of-place.result f.level f.words hint) shown
+    ∙ ap (λ place. line_text (line_of bytes) place f.level f.words hint) c.begin_of-place.ensures in
+    let adds : AddsLine bytes c.args.lines.now (record { span = f.span; level = f.level; words = f.words }) old new = (line, record { hint = hint; is = is; is_line = is_line }, added) in
     subst (λ (v : FindingView). AddsLine bytes c.args.lines.now v old new) c.finding.view_is adds)
