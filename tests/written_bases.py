@@ -80,6 +80,22 @@ class Pen:
         self.random, self.pick = random, random.choice
         self.eol = self.pick(["\n", "\n", "\r\n"])
         self.is_odd = self.pick([False, True, True])
+        self.names = []
+
+    def begin(self, name):
+        """Marks where a thing begins, and gives the mark of its end. A sheet takes the marks out of the text."""
+        high, low = divmod(len(self.names), 60_000)
+        self.names.append(name)
+        number = chr(0xF0000 + high) + chr(0xF0000 + low)
+        return f"\ue000{number}", f"\ue001{number}"
+
+    def mark(self, name, text):
+        begin, end = self.begin(name)
+        return f"{begin}{text}{end}"
+
+    def marked(self, name, text):
+        """Each character of a text, marked by its index, if the text isn't long."""
+        return "".join(self.mark((*name, at, "character"), c) for at, c in enumerate(text)) if len(text) < 3_000 else text
 
     def chance(self, share):
         return self.random.random() < share
@@ -100,8 +116,8 @@ class Pen:
             forms.append(f"\\x{ord(c):02x}")
         return self.pick([*forms, *[f"\\{NAMED[c]}"] * 4]) if c in NAMED else self.pick(forms)
 
-    def escaped(self, text, in_lines=False):
-        """The inside of a basic string, of one line or of several."""
+    def escaped(self, text, name=None, in_lines=False):
+        """The inside of a basic string, of one line or of several; of a value of this name with its characters marked."""
         spelled = ""
         for at, c in enumerate(text):
             if in_lines and c not in " \t\r\n" and self.chance(0.05):
@@ -109,19 +125,20 @@ class Pen:
             is_plain = (c >= " " or c == "\t") and c not in '"\\\x7f' and not (self.is_odd and self.chance(0.05))
             is_quote = in_lines and c == '"' and text[at - 1 : at] != '"' and 0 < at < len(text) - 1
             ends_line = in_lines and at > 0 and (c == "\n" or text[at : at + 2] == "\r\n")
-            spelled += c if is_plain or is_quote or ends_line else self.escape(c)
+            piece = c if is_plain or is_quote or ends_line else self.escape(c)
+            spelled += self.mark((*name, at, "character"), piece) if name and len(text) < 3_000 else piece
         return spelled
 
-    def string(self, text):
-        forms = [lambda: f'"{self.escaped(text)}"']
+    def string(self, text, name):
+        forms = [lambda: f'"{self.escaped(text, name)}"']
         if self.is_odd:
             first = self.pick(["", self.eol])
             if not text.startswith("\n"):
-                forms += [lambda: f'"""{first}{self.escaped(text, in_lines=True)}"""'] * (3 if "\n" in text else 1)
+                forms += [lambda: f'"""{first}{self.escaped(text, name, in_lines=True)}"""'] * (3 if "\n" in text else 1)
             if LITERAL.fullmatch(text):
-                forms += [lambda: f"'{text}'", lambda: f"'''{first}{text}'''"]
+                forms += [lambda: f"'{self.marked(name, text)}'", lambda: f"'''{first}{self.marked(name, text)}'''"]
             elif LITERAL_LINES.fullmatch(text):
-                forms += [lambda: f"'''{self.eol}{text}'''"] * 3
+                forms += [lambda: f"'''{self.eol}{self.marked(name, text)}'''"] * 3
         return self.pick(forms)()
 
     def key(self, text):
@@ -150,57 +167,91 @@ class Pen:
         inside = ",".join(self.blank() + part + self.blank() for part in parts)
         return opening + inside + last + self.blank() + closing
 
-    def value(self, value):
+    def value(self, value, name):
+        return self.mark((*name, "value"), self.unmarked(value, name))
+
+    def unmarked(self, value, name):
         if isinstance(value, bool):
             return str(value).lower()
         if isinstance(value, int):
             return self.number(value)
         if isinstance(value, str):
-            return self.string(value)
+            return self.string(value, name)
         if isinstance(value, list):
-            return self.joined("[", [self.value(part) for part in value], "]")
+            return self.joined("[", [self.value(part, (*name, at)) for at, part in enumerate(value)], "]")
         if isinstance(value, dict):
-            return self.joined("{", [self.pair(key, part) for key, part in value.items()], "}")
+            return self.joined("{", [self.pair(key, part, (*name, key)) for key, part in value.items()], "}")
         return str(value)
 
-    def pair(self, key, value):
-        return f"{self.key(key)}{self.space()}={self.space()}{self.value(value)}"
+    def named_key(self, key, name):
+        return self.mark((*name, "key"), self.key(key))
+
+    def pair(self, key, value, name):
+        text = f"{self.named_key(key, name)}{self.space()}={self.space()}{self.value(value, name)}"
+        return self.mark((*name, "pair"), text)
+
+    def dotted_pair(self, key, inner, value, name):
+        """A pair of a table at a key, by a dotted key. The value of the outer key is the key from there on."""
+        begin, end = self.begin((*name, "value"))
+        pair, end_of_pair = self.begin((*name, inner, "pair"))
+        keys = f"{begin}{self.named_key(key, name)}.{pair}{self.named_key(inner, (*name, inner))}{end}"
+        return f"{keys}{self.space()}={self.space()}{self.value(value, (*name, inner))}{end_of_pair}"
+
+
+MARK = re.compile("([\ue000\ue001])([\U000f0000-\U0010ffff]{2})")
 
 
 class Sheet:
-    """The text as it is written, and the place at which each thing was begun first."""
+    """The text as it is written, and the span of each thing where it was written first."""
 
     def __init__(self, pen):
         self.pen = pen
         self.text = "\ufeff" if pen.is_odd and pen.chance(0.2) else ""
-        self.places = {}
+        self.spans = {}
 
-    def place(self):
-        """Line and column of the next character."""
-        *before, last = self.text.split("\n")
+    def place(self, at):
+        """Line and column of an offset. A byte order mark has no column."""
+        *before, last = self.text[:at].removeprefix("\ufeff").split("\n")
         return len(before) + 1, len(last) + 1
 
-    def expression(self, names, text):
+    def put(self, text):
+        """Writes a text without its marks, and notes where they were."""
+        begun, at = {}, 0
+        for found in MARK.finditer(text):
+            self.text += text[at : found.start()]
+            at = found.end()
+            if found[1] == "\ue000":
+                begun[found[2]] = len(self.text)
+            else:
+                high, low = (ord(c) - 0xF0000 for c in found[2])
+                self.spans.setdefault(self.pen.names[high * 60_000 + low], (begun[found[2]], len(self.text)))
+        self.text += text[at:]
+
+    def expression(self, text):
         pen = self.pen
         for _ in range(pen.pick([0, 0, 0, 1, 2])):
-            self.text += pen.space() * pen.is_odd + pen.pick(COMMENTS) + pen.eol
-        self.text += pen.pick(["", "", "  ", "\t"]) if pen.is_odd else ""
-        for name in names:
-            self.places.setdefault(name, self.place())
-        self.text += text + pen.pick(["", "", " ", f" {pen.pick(COMMENTS)}"]) + pen.eol
+            self.put(pen.space() * pen.is_odd + pen.pick(COMMENTS) + pen.eol)
+        self.put(pen.pick(["", "", "  ", "\t"]) if pen.is_odd else "")
+        self.put(text + pen.pick(["", "", " ", f" {pen.pick(COMMENTS)}"]) + pen.eol)
 
-    def header(self, names, keys, is_element):
+    def header(self, name, keys, is_element):
+        """A header, which is the value of its last key, and the frame if it is an element."""
         dot = f"{self.pen.space()}.{self.pen.space()}" if self.pen.is_odd else "."
         pad = self.pen.space() if self.pen.is_odd else ""
-        inside = dot.join(map(self.pen.key, keys))
-        self.expression(names, f"[[{pad}{inside}{pad}]]" if is_element else f"[{pad}{inside}{pad}]")
+        inside = dot.join([*map(self.pen.key, keys[:-1]), self.pen.named_key(keys[-1], name)])
+        text = f"[[{pad}{inside}{pad}]]" if is_element else f"[{pad}{inside}{pad}]"
+        self.expression(self.pen.mark((*name, "value"), self.pen.mark((*name, "pair"), text)))
 
 
 def listed(faults, where):
-    """The first 1,000 faults of one table, and one finding for the others, where the first of these is."""
+    """The first 1,000 faults of one table, and one finding for the others, where the first of these is.
+
+    Each is its keys, its words, and the words that tell what is at fault.
+    """
     key, words = faults[1_000] if len(faults) > 1_000 else (None, "")
     others = f"{len(faults) - 1_000:,} more fault{'s' * (len(faults) > 1_001)}"
-    return faults[:1_000] + [(key, f"{words.split(': ')[0]}: {others} {where}, not listed")] * (len(faults) > 1_000)
+    last = key, f"{words.split(': ')[0]}: {others} {where}, not listed", words
+    return [(*fault, fault[1]) for fault in faults[:1_000]] + [last] * (len(faults) > 1_000)
 
 
 class Frame:
@@ -223,8 +274,8 @@ class Frame:
         """The faults in the order of judging, with the frame's name in the words."""
         name = f"frame {self.id}" if self.fields.get("id") == self.id else "this frame"
         faults = [fault for field in JUDGED for fault in self.faults.get(field, [])]
-        for keys, words in listed(faults, "in {F}"):
-            yield keys, words.replace("{F}", name)
+        for keys, words, spoken in listed(faults, "in {F}"):
+            yield keys, words.replace("{F}", name), spoken
 
 
 class Written:
@@ -252,15 +303,13 @@ class Written:
         self.sheet = sheet = Sheet(self.pen)
         tops = list(self.top)
         self.random.shuffle(tops)
-        # The words of a row that touches are those of a frame with a header of its own.
-        has_row = any(isinstance(words, str) and "TOUCHES: row" in words for _, _, words in self.whole_faults)
-        self.is_inline = self.pen.is_odd and self.chance(0.25) and all(frame.fields for frame in self.frames) and not has_row
+        self.is_inline = self.pen.is_odd and self.chance(0.25) and all(frame.fields for frame in self.frames)
         self.later = [key for key in tops if isinstance(self.top[key], dict) and self.top[key] and self.chance(0.5)]
         for key in tops:
             if key not in self.later:
-                sheet.expression([("top", key)], self.pen.pair(key, self.top[key]))
+                sheet.expression(self.pen.pair(key, self.top[key], ("top", key)))
         if self.is_inline and self.frames:
-            sheet.expression([("top", "frame")], self.pen.pair("frame", [frame.fields for frame in self.frames]))
+            sheet.expression(self.pen.pair("frame", [frame.fields for frame in self.frames], ("top", "frame")))
         else:
             for index, frame in enumerate(self.frames):
                 self.write_frame(index, frame)
@@ -273,17 +322,17 @@ class Written:
         """Tables of the base by headers of their own, which may be between those of frames."""
         while self.later and self.chance(share):
             key = self.later.pop()
-            self.write_section([("top", key)], [key], self.top[key])
+            self.write_section(("top", key), [key], self.top[key])
 
-    def write_section(self, names, keys, table):
+    def write_section(self, name, keys, table):
         """A table by a header of its own."""
-        self.sheet.header(names, keys, False)
+        self.sheet.header(name, keys, False)
         for key, value in table.items():
-            self.sheet.expression([(*names[-1], key)], self.pen.pair(key, value))
+            self.sheet.expression(self.pen.pair(key, value, (*name, key)))
 
     def write_frame(self, index, frame):
         sheet = self.sheet
-        sheet.header([(index,)], ["frame"], True)
+        sheet.header((index,), ["frame"], True)
         keys = list(frame.fields)
         self.random.shuffle(keys)
         later = []
@@ -291,45 +340,81 @@ class Written:
             value = frame.fields[key]
             form = self.pick(["pair", "pair", "dots", "section"]) if isinstance(value, dict) and value else "pair"
             if form == "pair":
-                sheet.expression([(index, key)], self.pen.pair(key, value))
+                sheet.expression(self.pen.pair(key, value, (index, key)))
             elif form == "section":
                 later.append(key)
             else:
                 for inner, part in value.items():
-                    dotted = f"{self.pen.key(key)}.{self.pen.pair(inner, part)}"
-                    sheet.expression([(index, key), (index, key, inner)], dotted)
+                    sheet.expression(self.pen.dotted_pair(key, inner, part, (index, key)))
         for key in later:
             self.write_later(0.3)
-            self.write_section([(index, key)], ["frame", key], frame.fields[key])
+            self.write_section((index, key), ["frame", key], frame.fields[key])
         self.write_later(0.3)
 
-    def place(self, index, *keys):
-        """The place of a key of a frame, or of the frame."""
-        places = self.sheet.places
-        if self.is_inline:
-            return places["top", "frame"]
-        return next(places[index, *keys[:length]] for length in (2, 1, 0) if (index, *keys[:length]) in places)
+    def table(self, index):
+        """The name of a frame's table; none is the top."""
+        if index is None:
+            return ("top",)
+        return ("top", "frame", index) if self.is_inline else (index,)
+
+    def begin(self, *name):
+        """Where a thing begins."""
+        return self.sheet.spans[name][0]
+
+    def at_fault(self, index, keys, words):
+        """Where what the words say begins."""
+        table, (code, *_) = self.table(index), words.replace(":", "").split(" ")
+        if code == "X4" and index is None:
+            return 0
+        if code in ("X4", "NORETURN", "UNREACHED"):
+            return self.begin(*table, "value")
+        if code == "X7":
+            return max(self.begin(*table, key, "key") for key in ("body", "rows"))
+        if code == "X3":
+            return self.begin(*table, *keys, "key")
+        if code in ("MISSING", "CLOSED", "B3") or "route " in words:
+            return self.begin(*table, *keys, "pair")
+        return self.begin(*table, *keys, *self.item(index, words))
+
+    def item(self, index, words):
+        """What of a value the words are about."""
+        if "at most 22 are allowed" in words:
+            return 22, "value"
+        if found := re.search(r"character ([\d,]+) of row ([\d,]+) of", words):
+            return *(int(found[group].replace(",", "")) - 1 for group in (2, 1)), "character"
+        if found := re.search(r"character ([\d,]+) of \"body\"", words):
+            return int(found[1].replace(",", "")) - 1, "character"
+        if found := re.search(r"byte ([\d,]+) of the body", words):
+            return int(found[1].replace(",", "")), "character"
+        if found := re.search(r"(?:row|item) ([\d,]+) of ", words):
+            return int(found[1].replace(",", "")) - 1, "value"
+        if found := re.search(r"B2 OutsideInside: page (\d+) is", words):
+            outside = self.top["outside"]
+            return next(at for at, page in enumerate(outside) if type(page) is int and page == int(found[1])), "value"
+        return ("value",)
 
     def index(self, frame):
         return next(index for index, other in enumerate(self.frames) if other is frame)
 
     def findings(self):
-        """Each finding with its place, in the order of judging; after `write`."""
-        for key, words in listed(self.top_faults, "at the top"):
-            yield (1, 1) if key is None else self.sheet.places["top", key], "error", words
+        """Each finding with where it begins, in the order of judging; after `write`."""
+        for key, words, spoken in listed(self.top_faults, "at the top"):
+            keys = key if isinstance(key, tuple) else (key,)
+            yield self.at_fault(None, keys, spoken), "error", words
         for index, frame in enumerate(self.frames):
-            for keys, words in frame.in_order():
-                yield self.place(index, *keys), "error", words
+            for keys, words, spoken in frame.in_order():
+                yield self.at_fault(index, keys, spoken), "error", words
         for frame, keys, words in self.whole_faults:
-            place = self.sheet.places["top", keys[0]] if frame is None else self.place(self.index(frame), *keys)
-            yield place, "error", words() if callable(words) else words
+            words = words() if callable(words) else words
+            yield self.at_fault(None if frame is None else self.index(frame), keys, words), "error", words
         for frame, words in self.warnings:
-            yield self.place(self.index(frame)), "warning", words
+            yield self.at_fault(self.index(frame), [], words), "warning", words
 
     def answer(self, path):
         """Standard output, standard error and status of `lint`."""
         found = sorted(self.findings(), key=lambda finding: finding[0])
-        lines = [f"{path}:{line}:{column}: {level}: {words}\n" for (line, column), level, words in found]
+        placed = [(self.sheet.place(at), level, words) for at, level, words in found]
+        lines = [f"{path}:{line}:{column}: {level}: {words}\n" for (line, column), level, words in placed]
         counts = []
         for word in "error", "warning":
             number = sum(level == word for _, level, _ in found)
@@ -425,8 +510,8 @@ class FaultyText(Written):
             return
         items = self.random.sample([(value, kind) for value, kind in ODD if kind != "a table"], self.pick([0, 1, 2]))
         self.top["frame"] = [value for value, _ in items]
-        for _, kind in items:
-            self.top_faults.append(("frame", f'X5 WrongKind: an item of "frame" is {kind}, a table is needed'))
+        for at, (_, kind) in enumerate(items):
+            self.top_faults.append((("frame", at), f'X5 WrongKind: an item of "frame" is {kind}, a table is needed'))
 
     def spoil_outside(self):
         share = self.random.random()
@@ -596,7 +681,9 @@ class FaultyText(Written):
             self.whole_faults.append((again, ["id"], lambda: self.doubled(frame)))
 
     def doubled(self, first):
-        line, _ = self.place(self.index(first), "id")
+        index = self.index(first)
+        name = (*self.table(index), "value") if self.is_inline else (index, "id", "key")
+        line, _ = self.sheet.place(self.begin(*name))
         return f"B1 Duplicate: frame {first.id} is defined already on line {line}"
 
 

@@ -1,11 +1,10 @@
 -- Every span of a finding lies in the text.
-use Rattle.std.proofs.Common.{◌≡◌, ◌≤◌, ℕ, ◌-◌, Bool, true, false, cond, nat_lt, is_some, List, [], ◌∷◌, ◌++◌, length, map, get_or, Option, Some, None, unwrap_or, option_map, option_and_then, le_refl, refl, sym, ap, subst, arith}
+use Rattle.std.proofs.Common.{◌≡◌, ℕ, ◌-◌, Bool, true, false, cond, nat_lt, List, [], ◌∷◌, length, map, get_or, Option, Some, None, unwrap_or, option_map, option_and_then, le_refl, refl, sym, subst, arith}
 use Rattle.std.specs.Prelude.{All, codes}
 use Rattle.std.specs.Option.{option_or}
 use Rattle.std.proofs.lemmas.List.Elements.{All-map, All-append}
 use Rattle.std.proofs.lemmas.List.Sorted.{All-permutation}
 use Rattle.std.proofs.lemmas.List.Sums.{prefix_len-le-length}
-use Rattle.page_ids.specs.Ids.{Id}
 use Rattle.page_ids.specs.declared.key.Key.{Key}
 use Rattle.page_ids.specs.declared.key.Key.TheVariants as key
 use Rattle.abstract_paint.specs.declared.start.Start.{Start}
@@ -34,11 +33,11 @@ use Rattle.toml_places.specs.Spans.{at_offset, key_piece, value_piece, pair_piec
 use Rattle.toml_places.specs.Strings.{string_char}
 use Rattle.toml_places.specs.Values.{element}
 use Rattle.toml_places.specs.SpanReads.{Stand, SpansStand}
-use Rattle.toml_places.specs.Places.{Mark, marks, first_at, first_spot, frame_key, header_place, PlacesAreWithin}
+use Rattle.toml_places.specs.Places.{marks, first_at, first_spot, frame_key, PlacesAreWithin}
 use Rattle.lint.specs.Findings.{FindingView}
 use Rattle.lint.specs.Tables.{TableView, is_in_line, value_at, element_at, frame_element, header_span, frame_whole, whole, table_at}
-use Rattle.lint.specs.Spots.{key_at, pair_at, key_of, value_of, pair_of, route_key, route_pair, item_of, char_of, later, unknown_at, digit_at, is_routes, listed_at, row_at, row_char, body_char, detail_at, detail_span, has_rows, shown_at, whole_at, whole_span, pressed_at, sought_at, byte_at, touched_at, kind_at, audit_span, kind_table, whole_table}
-use Rattle.lint.specs.Lint.{Subject, Length, Toml, Text, Whole, finding_of, faulty, IsWithin, AreSubjects, AreSubjectsIf, AreTreeSubjects, IsJudgedBy, IsLint, text_tables, warning, fault_finding, ranks_of, ids_of, warned, table_of, text_finding, whole_finding, IsAudited}
+use Rattle.lint.specs.Spots.{key_at, pair_at, key_of, value_of, route_key, route_pair, item_of, char_of, later, unknown_at, digit_at, is_routes, listed_at, row_at, body_char, detail_at, detail_span, has_rows, shown_at, whole_at, whole_span, pressed_at, byte_at, touched_at, kind_at, audit_span, kind_table, whole_table}
+use Rattle.lint.specs.Lint.{Subject, Length, Toml, Text, Whole, finding_of, faulty, IsWithin, AreSubjects, AreSubjectsIf, AreTreeSubjects, IsJudgedBy, text_tables, warning, fault_finding, ranks_of, ids_of, warned, table_of, text_finding, whole_finding, IsAudited}
 use Rattle.lint.specs.Laws.{LintSpansLieIn}
 use Rattle.lint.proofs.Judged.{each_subject}
 

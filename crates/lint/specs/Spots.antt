@@ -2,7 +2,6 @@
 -- the whole table.
 use Rattle.std.specs.Prelude.{ℕ, ◌-◌, nat_lt, Bool, true, false, if◌then◌else◌, List, codes, Option, Some, None, is_some, unwrap_or, option_map, option_and_then}
 use Rattle.std.specs.Option.{option_or}
-use Rattle.page_ids.specs.Ids.{Id}
 use Rattle.page_ids.specs.declared.key.Key.{Key}
 use Rattle.page_ids.specs.declared.key.Key.TheVariants as key
 use Rattle.frame_records.specs.declared.limits.TheConstants.{MOST_LISTED}

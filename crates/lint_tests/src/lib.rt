@@ -9,6 +9,8 @@ mod drafts;
 #[cfg(test)]
 mod fault_words;
 #[cfg(test)]
+mod finding_spans;
+#[cfg(test)]
 mod findings;
 #[cfg(test)]
 mod hint_places;

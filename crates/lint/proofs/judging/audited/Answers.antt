@@ -1,4 +1,4 @@
-use Rattle.std.proofs.Common.{◌≡◌, Some, subst, sym, rules}
+use Rattle.std.proofs.Common.{subst, rules}
 use Rattle.std.specs.Prelude.{IsSome}
 use Rattle.toml.specs.Parse.{parse_document}
 use Rattle.toml_places.specs.Places.{marks}

@@ -1,6 +1,5 @@
 use Rattle.std.proofs.Common.{◌≤◌, length, arith}
 use Rattle.page_ids.proofs.Truths.{weaken}
-use Rattle.lint.specs.Lint.{IsWithin}
 use Rattle.lint.proofs.judging.refused.Goals as goal
 
 pub returns-in-Some : goal.returns-in-Some

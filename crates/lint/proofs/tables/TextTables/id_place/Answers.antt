@@ -1,5 +1,4 @@
-use Rattle.std.proofs.Common.{◌≡◌, ◌∙◌, ◌∷◌, [], Some, ap}
-use Rattle.std.specs.Prelude.{codes}
+use Rattle.std.proofs.Common.{◌∙◌, ap}
 use Rattle.toml_places.specs.declared.spans.Span.{Span}
 use Rattle.lint.specs.Tables.{offset_or, frame_whole}
 use Rattle.lint.proofs.tables.TextTables.id_place.Goals as goal
