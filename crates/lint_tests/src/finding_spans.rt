@@ -223,5 +223,5 @@ fn a_text_that_is_too_long_or_no_toml_has_one_span(rt: HostRuntime) -> Result<()
     let findings = lint(rt.alloc(), blank.as_bytes(), &policy)?;
     let spans = findings.iter().map(|found| (found.span.begin, found.span.end));
     same(spans.collect::<Vec<_>>(rt.alloc())?.as_slice(), &[(0, 0)])?;
-    spans_are(rt.alloc(), "entry = 01\n", &policy, "1")
+    spans_are(rt.alloc(), "entry = 01\n", &policy, "01")
 }
