@@ -388,9 +388,6 @@ class Written:
             return int(found[1].replace(",", "")), "character"
         if found := re.search(r"(?:row|item) ([\d,]+) of ", words):
             return int(found[1].replace(",", "")) - 1, "value"
-        if found := re.search(r"B2 OutsideInside: page (\d+) is", words):
-            outside = self.top["outside"]
-            return next(at for at, page in enumerate(outside) if type(page) is int and page == int(found[1])), "value"
         return ("value",)
 
     def index(self, frame):

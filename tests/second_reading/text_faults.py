@@ -199,8 +199,7 @@ def base_faults(tree, frames, pieces, lines):
             yield pieces.value(index, "id"), words
     for page in sorted(set(outside) & {frame.id[0] for _, frame in frames}):
         words = f"B2 OutsideInside: page {page} is listed as outside, but the base has a frame of it"
-        index = next(index for index, item in enumerate(tree["outside"]) if is_integer(item) and item == page)
-        yield pieces.element(None, "outside", index), words
+        yield pieces.value(None, "outside"), words
 
 
 def listed(faults, where):
