@@ -51,11 +51,14 @@ module _ (caller : List ℕ) (base : BaseView) where
       )
 
   -- one key more sends one frame more
-  sent_more : (keys : List Key) (key : Key) (f g : Id) (remembered : List Id) → KeysLead caller base f (keys ++ key ∷ []) g
-      → sent_in (replies_to caller base (At f remembered) (keys ++ key ∷ [])) ≡ sent_in (replies_to caller base (At f remembered) keys) ++ g ∷ []
+  sent_more : (keys : List Key) (key : Key) (f g : Id) (remembered : List Id)
+      → KeysLead caller base f (keys ++ key ∷ []) g
+      → sent_in (replies_to caller base (At f remembered) (keys ++ key ∷ []))
+      ≡ sent_in (replies_to caller base (At f remembered) keys) ++ g ∷ []
   sent_more [] key f g remembered lead =
-      let on : key_step caller base (At f remembered) key ≡ (At lead.0 (remember f remembered), Shown lead.0 lead.3.price) =
-      ap (key_step caller base (At f remembered)) lead.2 ∙ step f lead.0 remembered lead.1 lead.3.price lead.3.found in
+      let h = lead.0 in
+      let on : key_step caller base (At f remembered) key ≡ (At h (remember f remembered), Shown h lead.3.price) =
+      ap (key_step caller base (At f remembered)) lead.2 ∙ step f h remembered lead.1 lead.3.price lead.3.found in
       ap (λ (o : Outcome). sent_by o.1 ++ []) on ∙ ap (λ (x : Id). x ∷ []) lead.4
   sent_more (first ∷ keys) key f g remembered lead =
       let h = lead.0 in
@@ -112,7 +115,8 @@ module _ (caller : List ℕ) (base : BaseView) where
       present = λ id place e. (there (script found place) (entry_of base) id [] (led id place e)).0;
     }
 
-pub ways_lead : (caller : List ℕ) (base : BaseView) (found : List Discovered) → FindsReached caller base found → LeadsThere caller base found
+pub ways_lead : (caller : List ℕ) (base : BaseView) (found : List Discovered) → FindsReached caller base found
+    → LeadsThere caller base found
 ways_lead caller base found finds = leads_there caller base found (scripts_lead caller base found finds) finds
 
 -- The way to a frame along the parents.
@@ -140,7 +144,8 @@ module _ (caller : List ℕ) (base : BaseView) (found : List Discovered) (finds 
   parent_at zero d a at parent = let none = (finds.first d at).1 in absurd cc
   parent_at (suc i) d a at parent =
       let h = finds.pairs i d (rw add-one at) in
-      (way_key h.pair.1, ap parent_of at ∙ ap (λ (o : Option ℕ). parent_by o d.key) parent ∙ ap (parent_by (Some a)) h.has.key)
+      let by_parent = ap parent_of at ∙ ap (λ (o : Option ℕ). parent_by o d.key) parent in
+      (way_key h.pair.1, by_parent ∙ ap (parent_by (Some a)) h.has.key)
 
   -- a frame is sent after its parent's frames
   after_parent : (i : ℕ) (d : Discovered) (a : ℕ) → slice_get found i ≡ Some d → d.parent ≡ Some a
@@ -148,28 +153,29 @@ module _ (caller : List ℕ) (base : BaseView) (found : List Discovered) (finds 
   after_parent i d a at parent =
       let p = parent_at i d a at parent in
       let on = scripts.extends i (a, p.0) p.1 in
-      let lead = subst (λ (keys : List Key). KeysLead caller base (entry_of base) keys d.id) on.1 (scripts.leads i d at) in (
-        on.0,
-        ap (frames_sent caller base) on.1
-            ∙ ap (λ (ids : List Id). entry_of base ∷ ids) (sent_more caller base (script found a) p.0 (entry_of base) d.id [] lead),
-      )
+      let lead = subst (λ (keys : List Key). KeysLead caller base (entry_of base) keys d.id) on.1 (scripts.leads i d at) in
+      let more = sent_more caller base (script found a) p.0 (entry_of base) d.id [] lead in
+      (on.0, ap (frames_sent caller base) on.1 ∙ ap (λ (ids : List Id). entry_of base ∷ ids) more)
 
   sent_by_parent : (i : ℕ) (d : Discovered) (o : Option ℕ) → slice_get found i ≡ Some d → d.parent ≡ o
       → sent_to i ≡ earlier_by caller base found o ++ d.id ∷ []
   sent_by_parent i d None at parent =
       let first = (scripts.first i d at parent).1 in
-      let entry : entry_of base ≡ d.id = subst (λ (keys : List Key). KeysLead caller base (entry_of base) keys d.id) first (scripts.leads i d at) in
+      let Leads = λ (keys : List Key). KeysLead caller base (entry_of base) keys d.id in
+      let entry : entry_of base ≡ d.id = subst Leads first (scripts.leads i d at) in
       ap (frames_sent caller base) first ∙ ap (λ (x : Id). x ∷ []) entry
   sent_by_parent i d (Some a) at parent = (after_parent i d a at parent).1
 
-  pub parent_is_listed : (i : ℕ) (d : Discovered) (a : ℕ) → slice_get found i ≡ Some d → d.parent ≡ Some a → a < length found
+  pub parent_is_listed : (i : ℕ) (d : Discovered) (a : ℕ) → slice_get found i ≡ Some d → d.parent ≡ Some a
+      → a < length found
   parent_is_listed i d a at parent = omega (arith, (after_parent i d a at parent).0, slice_get_within found i d at)
 
   pub way_begins : (place : ℕ) (d : Discovered) → slice_get found place ≡ Some d
       → sent_to place ≡ earlier_by caller base found d.parent ++ d.id ∷ []
   way_begins place d at = sent_by_parent place d d.parent at refl
 
-  pub way_goes_on : (place a : ℕ) (o : Option ℕ) (e : Discovered) (back : List Id) → o ≡ Some a → slice_get found a ≡ Some e
+  pub way_goes_on : (place a : ℕ) (o : Option ℕ) (e : Discovered) (back : List Id) → o ≡ Some a
+      → slice_get found a ≡ Some e
       → sent_to place ≡ earlier_by caller base found o ++ reverse back
       → sent_to place ≡ earlier_by caller base found e.parent ++ reverse (back ++ e.id ∷ [])
   way_goes_on place a o e back parent there is =
@@ -179,7 +185,8 @@ module _ (caller : List ℕ) (base : BaseView) (found : List Discovered) (finds 
       ∙ append_assoc (earlier_by caller base found e.parent) (e.id ∷ []) (reverse back)
       ∙ sym (ap (λ (ids : List Id). earlier_by caller base found e.parent ++ ids) (reverse-append back (e.id ∷ [])))
 
-  pub fewer_left : (a : ℕ) (o : Option ℕ) (e : Discovered) → o ≡ Some a → slice_get found a ≡ Some e → left_of e.parent < left_of o
+  pub fewer_left : (a : ℕ) (o : Option ℕ) (e : Discovered) → o ≡ Some a → slice_get found a ≡ Some e
+      → left_of e.parent < left_of o
   fewer_left a o e parent there = by e.parent refl where
     by : (p : Option ℕ) → e.parent ≡ p → left_of p < left_of o
     by None none = let is : left_of o ≡ a + 1 = ap left_of parent in omega (arith, is)

@@ -89,7 +89,8 @@ pub record FramesDecide : Type 0 where
 pub record LeadsThere (caller : List ℕ) (base : BaseView) (found : List Discovered) : Type 0 where
   pub last : (id : Id) → last_of (way_by caller base found id (place_of found id)) ≡ Some id
   pub present : (id : Id) (place : ℕ) → place_of found id ≡ Some place → present (state_after caller base (opening base) (script found place)) ≡ Some id
-  pub keyed : (id : Id) (place : ℕ) → place_of found id ≡ Some place → keyed_frames caller base (script found place) ≡ Ok (way_by caller base found id (Some place))
+  pub keyed : (id : Id) (place : ℕ) → place_of found id ≡ Some place
+      → keyed_frames caller base (script found place) ≡ Ok (way_by caller base found id (Some place))
 
 abbrev pub WaysLeadThere : Type 0
 WaysLeadThere = (caller : List ℕ) (base : BaseView) (found : List Discovered) → FindsReached caller base found → LeadsThere caller base found

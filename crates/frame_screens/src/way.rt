@@ -23,8 +23,8 @@ fn reached_at<'a>(survey: &'a Survey, place: usize) -> &'a Discovered
     &survey.found().as_slice()[place]
 }
 
-/// The frames that are sent on the keys that lead to the frame at a place of the list of those that are reached. It is the last
-/// of them, and each other one is the parent of the next.
+/// The frames that are sent on the keys that lead to the frame at a place of the list of those that are reached. It is the
+/// last of them, and each other one is the parent of the next.
 pub fn way_at(alloc: Global, survey: &Survey, place: usize) -> Result<FrameList, AllocError>
     requires finds { FindsReached survey.now.groups survey.now.base survey.now.found }
     requires within { place < length survey.now.found }
