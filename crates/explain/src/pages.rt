@@ -1045,17 +1045,20 @@ marks."#;
 
 const P329: &str = r#"read failed"#;
 
-const P330: &str = r#"The file can't be opened, or reading it failed, as it does for a folder."#;
+const P330: &str = r#"The file can't be opened, or reading it failed, as it does for a folder.
+'lint', 'show', 'list' and 'map' name it, with the reason."#;
 
 const P331: &str = r#"    pageaudit walk a ''
     pageaudit check base.toml a -c 0 -k 0
     pageaudit change base.toml base.toml a a -c 0 -k 0
-    pageaudit change base.toml base.toml base.toml a -c 0 -k 0"#;
+    pageaudit change base.toml base.toml base.toml a -c 0 -k 0
+    pageaudit lint a"#;
 
 const P332: &str = r#"    base: read failed
     certificate: read failed
     new base: read failed
-    new certificate: read failed"#;
+    new certificate: read failed
+    a: no such file"#;
 
 const P333: &str = r#"Fix: look at the path, and at who may read the file."#;
 

@@ -1,12 +1,12 @@
 ghost use Rattle.std.specs.Prelude.{◌≡◌, false};
 ghost use Rattle.pageaudit.specs.Files.{device, IsTextWritten};
-ghost use Rattle.pageaudit.specs.LintRun.{IsLintRun, counts_of, lint_number};
+ghost use Rattle.pageaudit.specs.LintRun.{IsLintRun, counts_of, lint_number, reaches};
 
 use crate::status::status_of;
 use audit_report::{RunFault, Sink, Source, SourceFault, read_whole, write_whole};
 use base_text::MOST_TEXT;
 use checker::Policy;
-use lint::{Counts, Finding, lint, lint_text};
+use lint::{Counts, Finding, Level, lint, lint_text};
 use std::alloc::Global;
 
 // Writes the lines of findings; returns how many findings there are if all lines were taken and flushed.
@@ -59,13 +59,24 @@ pub fn run_lint<B: Source, O: Sink>(
     }
 }
 
-/// The program's exit status after a run of lint: 0 no error, 1 an error; of a fault as `status_of`.
-pub fn status_of_lint(run: &Result<Counts, RunFault>) -> u8
-    ensures { result ≡ lint_number run.now }
+// Whether there is a finding of this level or a worse one.
+fn reaches(counts: &Counts, level: Level) -> bool
+    ensures { result ≡ reaches level counts.now }
+{
+    match level {
+        Level::Error => counts.errors > 0,
+        Level::Warning => counts.errors > 0 || counts.warnings > 0,
+    }
+}
+
+/// The program's exit status after lint: 1 if there is a finding of the denied level or a worse one, else 0; of a fault as
+/// `status_of`.
+pub fn status_of_lint(run: &Result<Counts, RunFault>, denied: Level) -> u8
+    ensures { result ≡ lint_number denied run.now }
 {
     match run {
-        Ok(counts) if counts.errors == 0 => 0,
-        Ok(_) => 1,
+        Ok(counts) if reaches(counts, denied) => 1,
+        Ok(_) => 0,
         Err(fault) => status_of(&Err(*fault)),
     }
 }
