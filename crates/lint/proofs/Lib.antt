@@ -1,4 +1,6 @@
 pub mod NumberTurns
+pub mod HiddenRows
+pub mod Turns
 pub mod Ordering
 pub mod Judged
 pub mod Readings

@@ -1,6 +1,6 @@
 -- Every span of a finding lies in the text.
 use Rattle.std.proofs.Common.{◌≡◌, ℕ, ◌-◌, Bool, true, false, cond, nat_lt, List, [], ◌∷◌, length, map, get_or, Option, Some, None, unwrap_or, option_map, option_and_then, le_refl, refl, sym, subst, arith}
-use Rattle.std.specs.Prelude.{All, codes}
+use Rattle.std.specs.Prelude.{All, codes, ◌++◌, if◌then◌else◌}
 use Rattle.std.specs.Option.{option_or}
 use Rattle.std.proofs.lemmas.List.Elements.{All-map, All-append}
 use Rattle.std.proofs.lemmas.List.Sorted.{All-permutation}
@@ -36,8 +36,10 @@ use Rattle.toml_places.specs.SpanReads.{Stand, SpansStand}
 use Rattle.toml_places.specs.Places.{marks, first_at, first_spot, frame_key, PlacesAreWithin}
 use Rattle.lint.specs.Findings.{FindingView}
 use Rattle.lint.specs.Tables.{TableView, is_in_line, value_at, element_at, frame_element, header_span, frame_whole, whole, table_at}
-use Rattle.lint.specs.Spots.{key_at, pair_at, key_of, value_of, route_key, route_pair, item_of, char_of, later, unknown_at, digit_at, is_routes, listed_at, row_at, body_char, detail_at, detail_span, has_rows, shown_at, whole_at, whole_span, pressed_at, byte_at, touched_at, kind_at, audit_span, kind_table, whole_table}
-use Rattle.lint.specs.Lint.{Subject, Length, Toml, Text, Whole, finding_of, faulty, IsWithin, AreSubjects, AreSubjectsIf, AreTreeSubjects, IsJudgedBy, text_tables, warning, fault_finding, ranks_of, ids_of, warned, table_of, text_finding, whole_finding, IsAudited}
+use Rattle.lint.specs.Spots.{key_at, pair_at, key_of, value_of, route_key, route_pair, item_of, char_of, later, unknown_at, digit_at, is_routes, listed_at, row_at, body_char, detail_at, detail_span, has_rows, shown_at, whole_at, whole_span, pressed_at, byte_at, touched_at, kind_at, audit_span, row_span, kind_table, whole_table}
+use Rattle.lint.specs.Lint.{Subject, Length, Toml, Text, Whole, finding_of, faulty, IsWithin, AreSubjects, AreSubjectsIf, AreTreeSubjects, IsJudgedBy, text_tables, warning, hidden_finding, hidden_findings, fault_finding, ranks_of, ids_of, warned, table_of, text_finding, whole_finding, IsAudited}
+use Rattle.lint.specs.Hidden.{hidden_rows}
+use Rattle.page_ids.specs.Ids.{Id}
 use Rattle.lint.specs.Laws.{LintSpansLieIn}
 use Rattle.lint.proofs.Judged.{each_subject}
 
@@ -244,16 +246,32 @@ module _ (stand : SpansStand) where
       on true is = subst (λ ss. AllLie (map (finding_of text) ss)) (sym is) (one_lies Length tt)
       on false is = tree_lies (tree_of text) subjects is
 
+    row_span_lies : (frame : Option ℕ) (n : ℕ) → IsWithin text (row_span (table_at text (marks text) frame) n)
+    row_span_lies frame n =
+        let t = table_at text (marks text) frame in in_table frame (row_at t n) (row_lies t (items_lie frame) n)
+
+    one_hidden : (b : Bool) (f : FindingView) → IsWithin text f.span → AllLie (if b then f ∷ [] else [])
+    one_hidden true f lies = each (λ (u : Unit {0}). f) (λ u. lies) (tt ∷ [])
+    one_hidden false f lies = each (λ (u : Unit {0}). f) (λ u. lies) []
+
+    hidden_lie : (rows : List (Id × ℕ)) → AllLie (hidden_findings text (marks text) (text_tables text) rows)
+    hidden_lie [] = All-map (λ f. IsWithin text f.span) (λ (f : FindingView). f) [] (λ k d lt. absurd (omega (arith, lt)))
+    hidden_lie (p ∷ ps) =
+        All-append (λ f. IsWithin text f.span) (hidden_finding text (marks text) (text_tables text) p) (hidden_findings text (marks text) (text_tables text) ps)
+        (one_hidden _ _ (row_span_lies (Some (table_of (text_tables text) p.0)) p.1)) (hidden_lie ps)
+
     audited_lie : (policy : Policy) (base : BaseView) (findings : List FindingView) → IsAudited text policy base findings → AllLie findings
     audited_lie policy base findings a =
         let m = marks text in
         let tables = text_tables text in
         let faults = fault_finding text m tables base policy (ranks_of a.found) in
         let ids = ids_of (warned policy.groups a.found base.frames) in
+        let rows = hidden_rows base.frames in
         subst AllLie (sym a.all)
+        (All-append (λ f. IsWithin text f.span) (map faults a.faults ++ map (warning text m tables) ids) (hidden_findings text m tables rows)
         (All-append (λ f. IsWithin text f.span) (map faults a.faults) (map (warning text m tables) ids)
         (each faults (λ fault. audit_lies (kind_table (table_of tables fault.frame) fault.kind) fault) a.faults)
-        (each (warning text m tables) (λ id. frame_lies (table_of tables id)) ids))
+        (each (warning text m tables) (λ id. frame_lies (table_of tables id)) ids)) (hidden_lie rows))
 
     judged_lie : (policy : Policy) (judged : List FindingView) (subjects : List Subject) → AreSubjects text subjects
         → IsJudgedBy subjects text policy judged → AllLie judged

@@ -1,5 +1,5 @@
 -- Every finding of a text.
-use Rattle.std.specs.Prelude.{◌≡◌, ◌≤◌, ℕ, Bool, true, false, ◌&&◌, List, [], ◌∷◌, ◌++◌, map, Option, Some, None, unwrap_or, is_none, option_and_then, codes, nat_lt, length, zip, filter}
+use Rattle.std.specs.Prelude.{◌≡◌, ◌≤◌, ℕ, Bool, true, false, ◌&&◌, List, [], ◌∷◌, ◌++◌, map, flat_map, if◌then◌else◌, Option, Some, None, unwrap_or, is_none, option_and_then, codes, nat_lt, length, zip, filter}
 use Rattle.page_ids.specs.Ids.{Id}
 use Rattle.frame_records.specs.declared.frame.Frame.{Frame}
 use Rattle.frame_records.specs.declared.build.BuildFault.{BuildFault}
@@ -14,12 +14,14 @@ use Rattle.toml_places.specs.declared.spans.Span.{Span}
 use Rattle.toml_places.specs.Places.{Mark, marks}
 use Rattle.lint_words.specs.declared.fault_words.Judged.{Judged}
 use Rattle.lint_words.specs.FaultWords.{fault_words, unreached_words}
+use Rattle.lint_words.specs.WarningWords.{hidden_words}
 use Rattle.lint.specs.declared.audit_findings.Audit.{Audit}
 use Rattle.lint.specs.declared.audit_findings.Sources.{Sources}
 use Rattle.lint.specs.Findings.{FindingView, error_at, warning_at, AreInOrder}
 use Rattle.lint.specs.Lookups.{value_of, Knows}
 use Rattle.lint.specs.Tables.{TableView, KnowsTables, empty_at, frame_whole, table_at, id_place}
-use Rattle.lint.specs.Spots.{has_rows, detail_span, whole_table, whole_span, kind_table, audit_span}
+use Rattle.lint.specs.Hidden.{hidden_rows}
+use Rattle.lint.specs.Spots.{has_rows, row_span, detail_span, whole_table, whole_span, kind_table, audit_span}
 use Rattle.base_text.specs.declared.detail.TextFault.{TextFault}
 use Rattle.base_text.specs.declared.whole_fault.WholeFault.{WholeFault}
 use Rattle.base_text.specs.declared.whole_fault.WholeFault.TheVariants.{Duplicate}
@@ -61,10 +63,11 @@ pub record IsAudit (base : BaseView) (policy : Policy) (audit : Audit) : Type 0 
   pub least : RanksAreLeast policy.groups base found
   pub known : Knows (ranks_of found) audit.ranks
   pub unreached : audit.unreached.items ≡ ids_of (warned policy.groups found base.frames)
+  pub hidden : audit.hidden.items ≡ hidden_rows base.frames
 
-abbrev pub is_clear : List Fault → List Id → Bool
-is_clear [] [] = true
-is_clear faults ids = false
+abbrev pub is_clear : List Fault → List Id → List (Id × ℕ) → Bool
+is_clear [] [] [] = true
+is_clear faults ids rows = false
 
 abbrev pub table_of : List (Id × ℕ) → Id → ℕ
 table_of tables id = unwrap_or (value_of tables id) 0
@@ -97,12 +100,22 @@ fault_finding text ms tables base policy ranks fault =
 abbrev pub warning : List ℕ → List Mark → List (Id × ℕ) → Id → FindingView
 warning text ms tables id = warning_at (frame_whole text ms (table_of tables id)) (unreached_words id)
 
+-- the warning of a row whose text is hidden, if this is the table of a frame that is given as rows
+abbrev pub hidden_in : TableView → Id × ℕ → List FindingView
+hidden_in table p = if has_rows table then warning_at (row_span table p.1) (hidden_words p.0 p.1) ∷ [] else []
+
+abbrev pub hidden_finding : List ℕ → List Mark → List (Id × ℕ) → Id × ℕ → List FindingView
+hidden_finding text ms tables p = hidden_in (table_at text ms (Some (table_of tables p.0))) p
+
+abbrev pub hidden_findings : List ℕ → List Mark → List (Id × ℕ) → List (Id × ℕ) → List FindingView
+hidden_findings text ms tables rows = flat_map (hidden_finding text ms tables) rows
+
 -- what the sources know
 pub record AreKnown (ms : List Mark) (tables : List (Id × ℕ)) (sources : Sources) : Type 0 where
   pub places : KnowsTables ms sources.text.now
   pub knows : Knows tables sources.tables
 
--- each fault of a base, and then each frame that no key reaches
+-- each fault of a base, then each frame that no key reaches, and then each row whose text is hidden
 pub record AreAuditFindings (text : List ℕ) (ms : List Mark) (tables : List (Id × ℕ)) (base : BaseView) (policy : Policy) (findings : List FindingView) : Type 0 where
   pub faults : List Fault
   pub found : List Discovered
@@ -110,6 +123,7 @@ pub record AreAuditFindings (text : List ℕ) (ms : List Mark) (tables : List (I
   pub reached : FindsReached policy.groups base found
   pub least : RanksAreLeast policy.groups base found
   pub all : findings ≡ map (fault_finding text ms tables base policy (ranks_of found)) faults ++ map (warning text ms tables) (ids_of (warned policy.groups found base.frames))
+      ++ hidden_findings text ms tables (hidden_rows base.frames)
 
 -- The findings of the faults of a base's text.
 

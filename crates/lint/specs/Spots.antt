@@ -174,6 +174,10 @@ kind_at t fault fault_kind.NoReturn = None
 abbrev pub audit_span : TableView → Fault → Span
 audit_span t fault = unwrap_or (kind_at t fault fault.kind) t.whole
 
+-- the span of a row of a frame that is given as rows
+abbrev pub row_span : TableView → ℕ → Span
+row_span t n = unwrap_or (row_at t n) t.whole
+
 -- of a missing entry frame the top is at fault, else the frame, which is written by this table
 abbrev pub kind_table : ℕ → FaultKind → Option ℕ
 kind_table table fault_kind.EntryMissing = None

@@ -6,26 +6,29 @@ ghost use Rattle.lint.specs.Lookups.{Knows};
 ghost use Rattle.lint.specs.Lint as spec;
 
 use crate::finding::Finding;
+use crate::hidden::hidden_rows;
 use crate::lookup::Lookup;
-use crate::spots::{audit_span, has_rows, kind_table};
+use crate::spots::{audit_span, has_rows, kind_table, row_span};
 use crate::tables::{TableSpots, TextTables};
 use checker::Policy;
 use fault_scripts::{Fault, FaultList, Judgement, judge_base};
 use finder::Discovered;
 use frame_records::{Base, Frame, GroupNo, Groups};
-use lint_words::{Judged, audit_fault_words, unreached_words};
+use lint_words::{Judged, audit_fault_words, hidden_words, unreached_words};
 use page_ids::FrameId;
 use std::alloc::{AllocError, Global};
 
 // The fewest keys from each frame that is reached back to the entry frame.
 pub type Ranks = Lookup<Option<u16>>;
 
-// An audit of a base: its faults, and the frames that no key reaches.
+// An audit of a base: its faults, the frames that no key reaches, and the rows that nobody sees.
 #[derive(Drop)]
 pub struct Audit {
     faults: FaultList,
     ranks: Ranks,
     unreached: Vec<FrameId>,
+    // Rows with text that double height hides, if their frames are given as rows.
+    hidden: Vec<(FrameId, usize)>,
 }
 
 fn ranks_of(alloc: Global, found: &[Discovered]) -> Result<Vec<(FrameId, Option<u16>)>, AllocError>
@@ -85,18 +88,20 @@ impl Audit {
         let Judgement { faults, found } = judge_base(alloc, base, policy)?;
         let ranks = Lookup::of(alloc, ranks_of(alloc, found.as_slice())?.as_slice())?;
         let unreached = warned(alloc, base, &policy.groups, found.as_slice(), &ranks)?;
+        let hidden = hidden_rows(alloc, base.frames())?;
         Ok(Audit {
             faults,
             ranks,
             unreached,
+            hidden,
         })
     }
 
     // Whether it found nothing.
     pub fn is_clear(&self) -> bool
-        ensures { result ≡ spec.is_clear self.now.faults self.now.unreached.items }
+        ensures { result ≡ spec.is_clear self.now.faults self.now.unreached.items self.now.hidden.items }
     {
-        self.faults.as_slice().is_empty() && self.unreached.is_empty()
+        self.faults.as_slice().is_empty() && self.unreached.is_empty() && self.hidden.is_empty()
     }
 }
 
@@ -200,6 +205,41 @@ impl<'a> Sources<'a> {
         Ok(())
     }
 
+    // Appends the warning of a row whose text is hidden, if the frame is given as rows.
+    fn add_hidden_row(
+        &self,
+        alloc: Global,
+        table: &TableSpots<'_>,
+        hidden: (FrameId, usize),
+        findings: &mut Vec<Finding>,
+    ) -> Result<(), AllocError>
+        ensures { OnOk result (findings.new.items ≡ findings.old.items ++ spec.hidden_in (seen table.now) hidden) }
+    {
+        let (id, row) = hidden;
+        if has_rows(table) {
+            let words = hidden_words(alloc, id, row)?;
+            findings.push(Finding::warning(row_span(table, row), words))?;
+        }
+        Ok(())
+    }
+
+    fn add_hidden(
+        &self,
+        alloc: Global,
+        rows: &[(FrameId, usize)],
+        findings: &mut Vec<Finding>,
+    ) -> Result<(), AllocError>
+        ensures { OnOk result ((ms : List Mark) (tables : List (Id × ℕ)) → spec.AreKnown ms tables self.now
+            → findings.new.items ≡ findings.old.items ++ spec.hidden_findings self.now.text.now.text.now ms tables rows.now) }
+    {
+        let mut table = self.text.table(alloc, None)?;
+        for row in rows {
+            self.text.turn(alloc, &mut table, Some(self.table_of(row.0)))?;
+            self.add_hidden_row(alloc, &table, *row, findings)?;
+        }
+        Ok(())
+    }
+
     // The findings of an audit.
     pub fn findings(&self, alloc: Global, audit: &Audit) -> Result<Vec<Finding>, AllocError>
         requires { spec.IsAudit self.now.base.now self.now.policy.now audit.now }
@@ -209,6 +249,7 @@ impl<'a> Sources<'a> {
         let mut findings = Vec::new(alloc);
         self.add_faults(alloc, audit, &mut findings)?;
         self.add_warnings(alloc, audit.unreached.as_slice(), &mut findings)?;
+        self.add_hidden(alloc, audit.hidden.as_slice(), &mut findings)?;
         Ok(findings)
     }
 }

@@ -19,6 +19,7 @@
 mod audit_findings;
 mod counts;
 mod finding;
+mod hidden;
 mod judging;
 mod laws;
 mod lookup;

@@ -299,6 +299,13 @@ pub fn audit_span(table: &TableSpots<'_>, fault: &Fault) -> Span
     kind_at(table, fault).unwrap_or(table.whole())
 }
 
+// The span of a row, by its number from 1, of a frame given as rows.
+pub fn row_span(table: &TableSpots<'_>, row: usize) -> Span
+    ensures { result ≡ spec.row_span (seen table.now) row }
+{
+    row_at(table, row).unwrap_or(table.whole())
+}
+
 // The frame whose table a fault of the audit is about, which this table writes; none if the entry frame is missing.
 pub fn kind_table(table: usize, kind: FaultKind) -> Option<usize>
     ensures { result ≡ spec.kind_table table kind }

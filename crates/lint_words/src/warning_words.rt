@@ -1,6 +1,6 @@
 //! The words of warnings about what a frame shows.
 
-ghost use Rattle.std.specs.Prelude.{◌≡◌, ◌<◌, ◌++◌, IfOk, OnOk};
+ghost use Rattle.std.specs.Prelude.{◌≡◌, ◌++◌, IfOk, OnOk};
 ghost use Rattle.lint_words.specs.WarningWords.{hidden_message, line_end_message, escape_message, hidden_words, line_end_words, escape_words};
 
 use crate::code::Code;
@@ -14,7 +14,6 @@ use page_ids::FrameId;
 use std::alloc::{AllocError, Global};
 
 fn push_hidden(out: &mut Vec<u8>, id: FrameId, row: usize) -> Result<(), AllocError>
-    requires { 0 < row }
     ensures { OnOk result (out.new.items ≡ out.old.items ++ hidden_message id row) }
 {
     push_pieces(
@@ -22,7 +21,7 @@ fn push_hidden(out: &mut Vec<u8>, id: FrameId, row: usize) -> Result<(), AllocEr
         &[
             Item(Field::Rows, row, Some(id)),
             Text(" is hidden by the double height of row "),
-            Grouped(row - 1),
+            Grouped(row.saturating_sub(1)),
         ],
     )
 }
@@ -54,7 +53,6 @@ fn push_escape(out: &mut Vec<u8>, id: FrameId, row: usize) -> Result<(), AllocEr
 
 /// The words of a row, counted from 1, whose text the double height of the row above hides.
 pub fn hidden_words(alloc: Global, id: FrameId, row: usize) -> Result<Words, AllocError>
-    requires { 0 < row }
     ensures { IfOk result (λ words. words ≡ hidden_words id row) }
 {
     let mut message = Vec::new(alloc);

@@ -1,23 +1,15 @@
-use Rattle.std.proofs.Common.{◌≡◌, ◌∙◌, ◌++◌, ◌∷◌, [], ◌+◌, sym, ap, drop, append_assoc, arith}
-use Rattle.std.specs.Prelude.{map}
-use Rattle.std.proofs.lemmas.List.{drop_more}
+use Rattle.std.proofs.Common.{arith}
 use Rattle.lint.specs.Lint.{text_finding}
+use Rattle.lint.proofs.Turns.{one_more}
 use Rattle.lint.proofs.text_findings.add_text_findings.Goals as goal
 
 pub loop-fault-preserved : goal.loop-fault-preserved
-loop-fault-preserved c = record {
-  table = λ ms knows. c.in_ok-text_finding.ensures.table ms knows (c.loop-fault.invariant.table ms knows);
-  findings = λ ms knows.
-      let text = c.args.tables.now.text.now in
-      let faults = c.args.faults.now in
-      let i = c.loop-fault.fault-index in
-      let fault = c.fault-item.result in
-      let before = c.loop-fault.findings.items in
-      let rest = map (text_finding text ms) (drop (i + 1) faults) in
-      let left : drop i faults ≡ fault ∷ drop (i + 1) faults = drop_more faults i fault (omega arith) ∙ ap (λ x. x ∷ drop (i + 1) faults) (sym c.fault-item.is) in
-      let pushed : c.push.new.self.items ≡ before ++ text_finding text ms fault ∷ [] =
-      c.in_ok-push.ensures.items ∙ ap (λ x. before ++ x ∷ []) (c.in_ok-text_finding.ensures.finding ms knows (c.loop-fault.invariant.table ms knows)) in
-      ap (λ xs. xs ++ rest) pushed
-      ∙ (append_assoc before (text_finding text ms fault ∷ []) rest
-      ∙ (ap (λ xs. before ++ map (text_finding text ms) xs) (sym left) ∙ c.loop-fault.invariant.findings ms knows));
-}
+loop-fault-preserved c =
+    let found = c.in_ok-text_finding.ensures in
+    let so_far = c.loop-fault.invariant in
+    record {
+      table = λ ms knows. found.table ms knows (so_far.table ms knows);
+      findings = λ ms knows.
+          one_more c.args.faults.now c.loop-fault.fault-index c.fault-item.result (omega arith) c.fault-item.is (text_finding c.args.tables.now.text.now ms) _ _ _ _
+          (found.finding ms knows (so_far.table ms knows)) c.in_ok-push.ensures.items (so_far.findings ms knows);
+    }

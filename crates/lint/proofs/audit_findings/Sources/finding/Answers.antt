@@ -23,7 +23,7 @@ returns-clause-finding c ms tables known are knows is =
     let text = c.args.self.now.text.now.text.now in
     let fault = c.args.fault.now in
     let frame = c.kind_table-frame.ensures ∙ ap (λ (k : ℕ). kind_table k fault.kind) (c.table_of.ensures tables are.knows) in
-    found c.args.self.now.base.now c.args.self.now.policy.now known fault _ (table_at text ms _) c.audit_span.result c.judged.result _ c.error.result
+    found c.args.self.now.base.now c.args.self.now.policy.now known fault _ (table_at text ms _) c.audit_span.result c.judged-judged.result _ c.error.result
     (c.in_ok-turn.ensures.turned ms are.places is ∙ ap (table_at text ms) frame)
-    c.audit_span.ensures (c.judged.ensures known knows)
+    c.audit_span.ensures (c.judged-judged.ensures known knows)
     c.in_ok-words.ensures c.error.ensures
