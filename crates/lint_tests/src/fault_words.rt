@@ -1,9 +1,9 @@
 //! The words of an audit's faults, of frames that no walk reaches, and of counts.
 
+use crate::printed::printed;
 use abstract_paint::Start;
 use fault_scripts::{Fault, FaultKind};
 use frame_records::{GroupNo, Pence};
-use crate::printed::printed;
 use lint_words::{Judged, audit_fault_words, push_counted, unreached_words};
 use page_ids::{FrameId, keys_read};
 use std::alloc::Global;

@@ -180,7 +180,12 @@ fn marks_and_words(rt: HostRuntime) -> Result<(), Fail> {
             "; put a text in quotation marks",
         ),
         (b"a = 12cd\n", 4, BAD_VALUE, ""),
-        (b"a = [0 1]\n", 5, BAD_VALUE, ""),
+        (
+            b"a = [0 1]\n",
+            5,
+            BAD_VALUE,
+            "; put a comma between two values",
+        ),
     ];
     have_hints(rt.alloc(), &faults)
 }
@@ -216,7 +221,7 @@ fn values_by_their_keys(rt: HostRuntime) -> Result<(), Fail> {
             b"routes = { 0 = 1 2 = 1 }\n",
             15,
             BAD_VALUE,
-            "; put a comma between two pairs",
+            "; put a comma between two values",
         ),
     ];
     have_hints(rt.alloc(), &faults)

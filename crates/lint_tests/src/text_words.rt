@@ -1,7 +1,7 @@
 //! The words of a text's faults.
 
-use base_text::{Detail, Field, TableKind, TextFault, ValueKind, Word};
 use crate::printed::printed;
+use base_text::{Detail, Field, TableKind, TextFault, ValueKind, Word};
 use lint_words::{Written, text_fault_words};
 use page_ids::FrameId;
 use std::alloc::Global;

@@ -6,7 +6,7 @@ use base_text::{Detail, Field, TableKind, TextFault, ValueKind, Word};
 use fault_scripts::{Fault, FaultKind};
 use frame_records::{Body, Frame, Lead, Pence};
 use lint_words::{Judged, Written, audit_fault_words, text_fault_words};
-use page_ids::FrameId;
+use page_ids::{FrameId, KeyList};
 use std::alloc::Global;
 use std::test::Fail;
 use test_support::same_in;
@@ -34,17 +34,52 @@ fn a_value_of_another_kind_by_its_key(rt: HostRuntime) -> Result<(), Fail> {
         (Field::Price, text, "\"15p\"", pence),
         (Field::Price, text, "\"\u{A3}0.15\"", pence),
         (Field::Price, ValueKind::Float, "0.15", pence),
-        (Field::Price, text, "'1,500'", "; a price is whole pence: write 1500"),
+        (
+            Field::Price,
+            text,
+            "'1,500'",
+            "; a price is whole pence: write 1500",
+        ),
         (Field::Price, text, "\"free\"", "; a price is whole pence"),
         (Field::Price, text, "\"15\"", unquote),
         (Field::Entry, text, "\"620\"", unquote),
-        (Field::Entry, text, "\"620a\"", "; a page number has no letter: write 620"),
-        (Field::Entry, text, "\"main\"", "; a page number is digits alone"),
+        (
+            Field::Entry,
+            text,
+            "\"620a\"",
+            "; a page number has no letter: write 620",
+        ),
+        (
+            Field::Entry,
+            text,
+            "\"main\"",
+            "; a page number is digits alone",
+        ),
         (Field::Group, text, "\"7\"", unquote),
-        (Field::Group, text, "\"A\"", "; a group is a number from 1 to 65535"),
-        (Field::Next, text, "\"true\"", "; true or false, without quotation marks"),
-        (Field::Routes, ValueKind::Array, "[6203, 7]", "; write routes = { 0 = 6203 }"),
-        (Field::Routes, ValueKind::Integer, "6203", "; write routes = { 0 = 6203 }"),
+        (
+            Field::Group,
+            text,
+            "\"A\"",
+            "; a group is a number from 1 to 65535",
+        ),
+        (
+            Field::Next,
+            text,
+            "\"true\"",
+            "; true or false, without quotation marks",
+        ),
+        (
+            Field::Routes,
+            ValueKind::Array,
+            "[6203, 7]",
+            "; write routes = { 0 = 6203 }",
+        ),
+        (
+            Field::Routes,
+            ValueKind::Integer,
+            "6203",
+            "; write routes = { 0 = 6203 }",
+        ),
         (Field::Outside, ValueKind::Integer, "0", "; write [0]"),
     ];
     for (field, kind, value, wanted) in rows {
@@ -53,7 +88,11 @@ fn a_value_of_another_kind_by_its_key(rt: HostRuntime) -> Result<(), Fail> {
     }
     let route = Detail::WrongItem(Field::Routes, 0, text);
     let given = hint_of(rt.alloc(), route, "\"6203a\"")?;
-    same_in("route", given.as_str(), "; a page number has no letter: write 6203")
+    same_in(
+        "route",
+        given.as_str(),
+        "; a page number has no letter: write 6203",
+    )
 }
 
 #[test]
@@ -80,8 +119,14 @@ fn an_id_that_does_not_read(rt: HostRuntime) -> Result<(), Fail> {
     let rows = [
         ("06203a", "; write 6203a"),
         ("6203", "; write 6203a"),
-        ("6203A", "; write a page number and one small letter, as 1231a"),
-        ("1234567890a", "; write a page number and one small letter, as 1231a"),
+        (
+            "6203A",
+            "; write a page number and one small letter, as 1231a",
+        ),
+        (
+            "1234567890a",
+            "; write a page number and one small letter, as 1231a",
+        ),
         ("", "; write a page number and one small letter, as 1231a"),
     ];
     for (id, wanted) in rows {
@@ -98,7 +143,10 @@ fn a_character_that_has_a_code(rt: HostRuntime) -> Result<(), Fail> {
         ('\u{BD}', "; write \\\\ for \u{BD}"),
         ('\u{2192}', "; write ] for \u{2192}"),
         ('\u{201C}', "; write \\\""),
-        ('\u{1B}', "; write the attribute by its code, \\u0080 to \\u009F"),
+        (
+            '\u{1B}',
+            "; write the attribute by its code, \\u0080 to \\u009F",
+        ),
         ('\u{E9}', ""),
     ];
     for (c, wanted) in rows {
@@ -126,7 +174,7 @@ fn touching(alloc: Global, lead: Lead, body: &[u8], offset: usize) -> Result<Str
         frame: FrameId::read("1a")?,
         key: None,
         sought: None,
-        script: Vec::new(alloc),
+        script: KeyList::of(Vec::new(alloc)),
         start: Some(Start {
             at: 0,
             pending: false,

@@ -1,7 +1,7 @@
 //! The words of a base's faults as a whole.
 
-use base_text::WholeFault;
 use crate::printed::printed;
+use base_text::WholeFault;
 use lint_words::whole_fault_words;
 use page_ids::{FrameId, PageNo};
 use std::test::Fail;

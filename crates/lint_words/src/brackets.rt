@@ -3,7 +3,8 @@
 ghost use Rattle.std.specs.Prelude.{◌≤◌, ◌<◌, length, IfSome};
 
 use crate::backwards::Turn;
-use crate::near_bytes::{Class, begins_expression, run_start};
+use crate::near_bytes::{Class, after, begins_expression, run_start};
+use crate::written_keys::begins_element;
 use toml_parser::bytes::byte_at;
 
 fn closes(byte: u8) -> bool {
@@ -77,4 +78,34 @@ pub fn open_bracket(text: &[u8], at: usize) -> Option<usize>
     requires { at ≤ length text.now }
 {
     open_before(text, latest_end(text, at)?)
+}
+
+// Whether `#` is written as a key after a brace on its line.
+fn is_next_key(text: &[u8], at: usize) -> bool
+    requires { at < length text.now }
+{
+    let (before, rest) = text.split_at(at);
+    let line = &before[run_start(before, before.len(), Class::Line)..];
+    match rest {
+        [b'#', value @ ..] => line.contains(&b'{')
+            && byte_at(after(value, Class::Blank), 0) == b'=',
+        _ => false,
+    }
+}
+
+// Whether `#` is written as a key of routes before a place, in the same frame.
+pub fn has_next_key(text: &[u8], end: usize) -> bool
+    requires { end ≤ length text.now }
+{
+    let mut at = end;
+    while at > 0 {
+        at -= 1;
+        if is_next_key(text, at) {
+            return true;
+        }
+        if begins_element(text, at) {
+            return false;
+        }
+    }
+    false
 }

@@ -2,12 +2,12 @@
 
 ghost use Rattle.std.specs.Prelude.{◌≤◌, length};
 
-use crate::brackets::open_bracket;
+use crate::brackets::{has_next_key, open_bracket};
 use crate::hint::{Hint, said};
 use crate::line::Line;
 use crate::near_bytes::{Class, after, begins_pair, run_len, run_start};
 use crate::value_hints::{price_hint, word_hint};
-use crate::values::as_text;
+use crate::values::{as_text, is_number};
 use crate::written_keys::{earlier_definition, name_at, name_before, named_field};
 use base_text::Field;
 use std::alloc::{AllocError, Global};
@@ -135,15 +135,6 @@ fn is_in_brackets(message: &str) -> bool {
         || message == BAD_VALUE
 }
 
-// Whether a line has `#` where a key of routes is meant.
-fn has_next_key(line: &[u8]) -> bool {
-    let mark = line.iter().take_while(|b| **b != b'#').count();
-    match line.get(mark..) {
-        Some([b'#', rest @ ..]) => byte_at(after(rest, Class::Blank), 0) == b'=',
-        _ => false,
-    }
-}
-
 // A bracket or a brace that isn't closed, perhaps since `#` begins a comment.
 fn bracket_hint(text: &[u8], at: usize, message: &str) -> Option<Hint<'static>>
     requires { at ≤ length text.now }
@@ -151,15 +142,16 @@ fn bracket_hint(text: &[u8], at: usize, message: &str) -> Option<Hint<'static>>
     if !is_in_brackets(message) {
         return None;
     }
-    let place = open_bracket(text, at)?;
-    let rest = text.get(place..)?;
-    if byte_at(rest, 0) == b'[' {
-        Some(Hint::NotClosed("[", line_of(text, place)))
-    } else if has_next_key(&rest[..run_len(rest, Class::Line)]) {
-        Some(Hint::Words("# begins a comment: for the next frame write next = true"))
-    } else {
-        Some(Hint::NotClosed("{", line_of(text, place)))
+    if has_next_key(text, at) {
+        return Some(Hint::Words("# begins a comment: for the next frame write next = true"));
     }
+    let place = open_bracket(text, at)?;
+    let bracket = if byte_at(text, place) == b'[' {
+        "["
+    } else {
+        "{"
+    };
+    Some(Hint::NotClosed(bracket, line_of(text, place)))
 }
 
 fn ends_line(rest: &[u8]) -> bool {
@@ -260,12 +252,12 @@ fn is_text(word: &[u8]) -> bool {
     byte_at(word, 0).is_ascii_alphabetic() || is_letter(after(word, Class::Digit))
 }
 
-// Whether a number is followed by another pair.
+// Whether a number is followed by another on its line.
 fn lacks_comma(rest: &[u8]) -> bool {
-    let blanks = after(rest, Class::Bare);
+    let number = &rest[..run_len(rest, Class::Digit)];
+    let blanks = after(rest, Class::Digit);
     let next = after(blanks, Class::Blank);
-    let equals = after(after(next, Class::Bare), Class::Blank);
-    next.len() < blanks.len() && equals.len() < next.len() && byte_at(equals, 0) == b'='
+    !number.is_empty() && next.len() < blanks.len() && byte_at(next, 0).is_ascii_digit()
 }
 
 // A word or number that is no value, of a key that isn't known.
@@ -286,7 +278,7 @@ fn bad_word_hint(field: Option<Field>, word: &[u8]) -> Option<Hint<'_>> {
             Some(Hint::Words("a number has no leading zero"))
         }
         None => any_word_hint(word),
-        Some(field) if word.is_empty() && field != Field::Price => None,
+        Some(_) if word.is_empty() || is_number(word) => None,
         Some(field) => word_hint(field, word),
     }
 }
@@ -328,7 +320,7 @@ fn value_hint<'a>(text: &'a [u8], at: usize, message: &str) -> Option<Hint<'a>>
     } else if message != BAD_VALUE || begins_pair(rest) {
         None
     } else if lacks_comma(rest) {
-        Some(Hint::Words("put a comma between two pairs"))
+        Some(Hint::Words("put a comma between two values"))
     } else {
         bad_word_hint(field, word)
     }

@@ -63,7 +63,7 @@ fn ends_name(text: &[u8], name: &[u8], at: usize) -> bool
     (ends_key(byte) || byte == b'.') && part_before(text, at) == name
 }
 
-fn begins_element(text: &[u8], at: usize) -> bool
+pub fn begins_element(text: &[u8], at: usize) -> bool
     requires { at < length text.now }
 {
     text[at] == b'[' && byte_at(text, at + 1) == b'['
