@@ -56,7 +56,11 @@ fn not_toml(
 ) -> Result<Vec<Finding>, AllocError>
     ensures { IfOk result (λ fs. fs.items ≡ map (spec.finding_of text.now) (spec.Toml span message.now ∷ [])) }
 {
-    one(alloc, span, not_toml_words(alloc, text, span.begin, message)?)
+    one(
+        alloc,
+        span,
+        not_toml_words(alloc, text, span.begin, message)?,
+    )
 }
 
 fn refused(alloc: Global, text: &[u8], error: &Error) -> Result<Vec<Finding>, AllocError>

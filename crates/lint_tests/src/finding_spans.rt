@@ -60,7 +60,8 @@ fn an_unknown_key_is_at_its_first_unknown_part(rt: HostRuntime) -> Result<(), Fa
 
 #[test]
 fn what_is_absent_is_at_the_header_or_in_line_1(rt: HostRuntime) -> Result<(), Fail> {
-    let text = "outside = [] # x\r\n[[ \"frame\" ]] # y\r\nrows = []\r\n\t[[frame]]\r\nid = \"1a\"\r\n";
+    let text =
+        "outside = [] # x\r\n[[ \"frame\" ]] # y\r\nrows = []\r\n\t[[frame]]\r\nid = \"1a\"\r\n";
     let policy = policy(5, 9, "")?;
     spans_are(
         rt.alloc(),
@@ -108,9 +109,18 @@ fn an_id_that_is_none_is_at_its_string(rt: HostRuntime) -> Result<(), Fail> {
 #[test]
 fn a_route_is_a_digit_with_its_page(rt: HostRuntime) -> Result<(), Fail> {
     let rows = [
-        ("rows = []\nroutes.9 = -1\nroutes . \"8\" = 'x'\n", "9 = -1|\"8\" = 'x'"),
-        ("rows = []\nroutes = {6 = true, 5= 1979-05-27 07:32:00 }\n", "6 = true|5= 1979-05-27 07:32:00"),
-        ("rows = []\n[frame.routes]\n7 = 1.5 # y\n[frame.routes.3]\n", "7 = 1.5|[frame.routes.3]"),
+        (
+            "rows = []\nroutes.9 = -1\nroutes . \"8\" = 'x'\n",
+            "9 = -1|\"8\" = 'x'",
+        ),
+        (
+            "rows = []\nroutes = {6 = true, 5= 1979-05-27 07:32:00 }\n",
+            "6 = true|5= 1979-05-27 07:32:00",
+        ),
+        (
+            "rows = []\n[frame.routes]\n7 = 1.5 # y\n[frame.routes.3]\n",
+            "7 = 1.5|[frame.routes.3]",
+        ),
     ];
     in_frame(rt.alloc(), &rows)?;
     let rows = [(
@@ -126,7 +136,10 @@ fn a_character_is_as_it_is_written(rt: HostRuntime) -> Result<(), Fail> {
         ("body = \"a\\u00E9\\u20AC\" # x\n", "\\u20AC"),
         ("body = \"\"\"\r\na\\  \r\n  \u{20AC}x\"\"\"\n", "\u{20AC}"),
         ("body = '''\n\t\\\u{20AC}'''\n", "\u{20AC}"),
-        ("rows = [\"ok\", # \"\n'\\u', \"\\x41\\u00E9\\tb\"]\n", "\\u00E9"),
+        (
+            "rows = [\"ok\", # \"\n'\\u', \"\\x41\\u00E9\\tb\"]\n",
+            "\\u00E9",
+        ),
         ("rows = [\"\"\"\nA\\\n  B\\t\"\"\", 'C\tD']\n", "\\t|\t"),
     ];
     in_frame(rt.alloc(), &rows)
@@ -165,7 +178,10 @@ fn faults_of_a_whole_base_are_at_what_they_are_about(rt: HostRuntime) -> Result<
             "[[frame]]\nid = '1a'\nrows = []\n[[frame]]\nrows = []\nid = \"1a\" # 1a\n[[frame]]\nrows = []\nid = '''1a'''\n",
             "\"1a\"|'''1a'''",
         ),
-        ("frame = [{ id = '1a', rows = []},{ id='1a',rows=[] }]", "'1a'"),
+        (
+            "frame = [{ id = '1a', rows = []},{ id='1a',rows=[] }]",
+            "'1a'",
+        ),
     ];
     all_are(rt.alloc(), &rows)
 }
@@ -221,7 +237,9 @@ fn a_text_that_is_too_long_or_no_toml_has_one_span(rt: HostRuntime) -> Result<()
     let policy = policy(5, 9, "")?;
     let blank = " ".repeat(rt.alloc(), 16_777_217)?;
     let findings = lint(rt.alloc(), blank.as_bytes(), &policy)?;
-    let spans = findings.iter().map(|found| (found.span.begin, found.span.end));
+    let spans = findings
+        .iter()
+        .map(|found| (found.span.begin, found.span.end));
     same(spans.collect::<Vec<_>>(rt.alloc())?.as_slice(), &[(0, 0)])?;
     spans_are(rt.alloc(), "entry = 01\n", &policy, "01")
 }
