@@ -112,6 +112,16 @@ class Audited:
             if id not in self.reached and frame.is_open(groups):
                 yield self.pieces.header(self.table(id)), f"UNREACHED: no key leads to frame {id_text(id)} from the entry page"
 
+    def hidden(self):
+        """The rows with text that the double height of the row above hides, of frames given as rows."""
+        for id in sorted(self.base.frames):
+            covered = False
+            for number, row in enumerate(self.tables[id][1].get("rows", []), 1):
+                if covered and any("\x20" < code < "\x80" for code in row):
+                    words = f"HIDDEN: row {number} of frame {id_text(id)} is hidden by the double height of row {number - 1}"
+                    yield self.pieces.element(self.table(id), "rows", number - 1), words
+                covered = "\x8d" in row and not covered
+
 
 def keys_in_brackets(script):
     return " (at the entry page)" if script == "-" else f" (keys {script})"
@@ -133,7 +143,7 @@ def findings(tree, pieces, lines, policy):
     if not faults:
         frames = [frame_in(table, index) for index, table in enumerate(tree.get("frame", []))]
         audited = Audited(tree, build(tree["entry"], tree.get("outside", []), frames), pieces, policy)
-        faults, warnings = audited.faults(), audited.warnings()
+        faults, warnings = audited.faults(), [*audited.warnings(), *audited.hidden()]
     return [(span, "error", words) for span, words in faults] + [(span, "warning", words) for span, words in warnings]
 
 
