@@ -130,12 +130,12 @@ fn counts_are_printed_if_there_are_some(rt: HostRuntime) -> Result<(), Fail> {
 #[test]
 fn a_line_has_no_control_character(rt: HostRuntime) -> Result<(), Fail> {
     let rows: [(&[u8], &str); 3] = [
-        (b"a\nb\x1B[31m", "a\\u{a}b\\u{1b}[31m:1:1: error: "),
+        (b"a\nb\x1B[31m", "a\\u{a}b\\u{1b}[31m:1:9: error: "),
         (
             b"caf\xC3\xA9\x7F\xC2\x85",
-            "caf\u{E9}\\u{7f}\\u{85}:1:1: error: ",
+            "caf\u{E9}\\u{7f}\\u{85}:1:9: error: ",
         ),
-        (b"\xFF.toml", "\u{FFFD}.toml:1:1: error: "),
+        (b"\xFF.toml", "\u{FFFD}.toml:1:9: error: "),
     ];
     for (path, front) in rows {
         let findings = lint(rt.alloc(), b"entry = 1\n", &policy(5, 1, "")?)?;
