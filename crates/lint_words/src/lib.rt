@@ -26,10 +26,9 @@
 //! - A frame whose `id` doesn't read is `this frame`: the one at the place of the finding.
 //! - A fault that is listed for all others of its table has their number: `X8 RowTooLong: 500 more faults in frame 1a, not
 //!   listed`.
-//! - For an unknown key of the top or of a frame the nearest key of that table is proposed, by the distance of Damerau
-//!   and Levenshtein, in the same case of letters. It is at most two steps away, and fewer than it has letters. Of
-//!   several the first is taken, in the order `entry`, `outside`, `frame`, or `id`, `price`, `group`, `next`, `routes`,
-//!   `lead`, `body`, `rows`.
+//! - For an unknown key of the top or of a frame the nearest key of that table is proposed, as `near_words` finds it, in the
+//!   same case of letters and in the order `entry`, `outside`, `frame`, or `id`, `price`, `group`, `next`, `routes`, `lead`,
+//!   `body`, `rows`.
 //! - The hint for a text that isn't TOML goes by toml's message, which no clause pins, and by the bytes around its place. It reads
 //!   no TOML, not even where a string ends: it is a guess at the cause. If no rule applies, there is none.
 #![tactic(auto)]
