@@ -22,6 +22,8 @@ impl Model for Words {
 
 impl Words {
     ghost use Rattle.std.specs.Prelude.{◌≡◌};
+    ghost use Rattle.std.specs.Prelude.{IfSome, option_copied};
+    ghost use Rattle.lint_words.specs.Lines.{IsLine};
     ghost use Rattle.lint_words.specs.WordsOf.{WordsView, words_of};
 
     // Contracts don't see a hint: it is a line, and nothing else is promised of it.
@@ -49,7 +51,9 @@ impl Words {
     }
 
     /// How to fix it, if there is more to say.
-    pub fn hint(&self) -> Option<&Line> {
+    pub fn hint(&self) -> Option<&Line>
+        ensures { IfSome (option_copied result) IsLine }
+    {
         self.hint.as_ref()
     }
 }
