@@ -1,5 +1,5 @@
-use Rattle.std.proofs.Common.{List, ℕ, rules, subst}
-use Rattle.lint.specs.Findings.{FindingView, AreFindingLines}
+use Rattle.std.proofs.Common.{rules, subst}
+use Rattle.lint.specs.Findings.{AreFindingLines}
 use Rattle.lint.specs.Lint.{IsLint}
 use Rattle.pageaudit.specs.Files.{device, IsTextOfFile, IsTextWritten}
 use Rattle.pageaudit.specs.LintRun.{counts_of}
