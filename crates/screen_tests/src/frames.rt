@@ -1,7 +1,8 @@
 use base_text::base_read;
+use finder::{Survey, script_to};
 use frame_records::{Base, Groups, Lead};
 use frame_screens::{
-    FrameList, NoScreen, frames_after, nearest, screen, send, terminal_after, way_to,
+    FrameList, NoScreen, frames_after, nearest, screen, send, terminal_after, way_at, way_to,
 };
 use page_ids::{FrameId, PageNo, keys_read};
 use std::alloc::Global;
@@ -322,6 +323,21 @@ fn an_id_that_the_base_lacks_is_answered_with_the_nearest(rt: HostRuntime) -> Re
             Some(name) => Some(FrameId::read(name)?),
         };
         same_in(word, near, wanted)?;
+    }
+    Ok(())
+}
+
+#[test]
+fn the_way_at_a_place_is_what_the_keys_to_it_send(rt: HostRuntime) -> Result<(), Fail> {
+    let alloc = rt.alloc();
+    let base = base_of(alloc, BASE)?;
+    let groups = Groups::none();
+    let survey = Survey::of(alloc, &base, &groups)?;
+    for place in 0..survey.found().as_slice().len() {
+        let way = way_at(alloc, &survey, place)?;
+        let keys = script_to(alloc, survey.found(), u32::try_from(place)?)?;
+        let keyed = frames_after(alloc, &base, &groups, keys.as_slice())?;
+        same_in(place, way.as_slice() == keyed.as_slice(), true)?;
     }
     Ok(())
 }
