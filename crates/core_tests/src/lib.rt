@@ -1,4 +1,4 @@
-//! Tests of `page_ids`, `near_words`, `frame_records`, `terminal_codes`, `abstract_paint` and `session_machine`.
+//! Tests of `page_ids`, `frame_records`, `terminal_codes`, `abstract_paint` and `session_machine`.
 #![tactic(auto)]
 
 #[cfg(test)]
@@ -7,8 +7,6 @@ mod codes;
 mod frames;
 #[cfg(test)]
 mod ids;
-#[cfg(test)]
-mod names;
 #[cfg(test)]
 mod paint;
 #[cfg(test)]
