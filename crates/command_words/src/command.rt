@@ -111,7 +111,7 @@ fn lint_command<'a>(alloc: Global) -> Result<Command<'a>, AllocError> {
                 "keyings",
                 'k',
                 MOST_RANK,
-                "Report each frame more than N keys away from the entry page, 0 to 65535",
+                "Report each frame more than N keys back to the entry page, 0 to 65535",
             )
             .required(false)
             .default_value("65535"),
