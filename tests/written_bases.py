@@ -404,8 +404,8 @@ class Written:
         for frame, keys, words in self.whole_faults:
             words = words() if callable(words) else words
             yield self.at_fault(None if frame is None else self.index(frame), keys, words), "error", words
-        for frame, words in self.warnings:
-            yield self.at_fault(self.index(frame), [], words), "warning", words
+        for frame, keys, words in self.warnings:
+            yield self.at_fault(self.index(frame), keys, words), "warning", words
 
     def answer(self, path):
         """Standard output, standard error and status of `lint`."""
@@ -804,11 +804,21 @@ class FaultyWalks(Written):
             frame.fields["rows"] = [self.pick(["", "A", "A" * 40, "\x8d"]) for _ in range(21)] + [end]
             words = f"row 22 of frame {frame.id} has double height, which writes into the last row"
             self.tell(frame, ["rows"], f"TOUCHES: {words}{keys}")
+            self.hide(frame)
             return
         body, offset = self.pick(TOUCHING)
         frame.fields["body"] = body
         words = f"byte {offset:,} of the body of frame {frame.id} writes into a service row, from start 0"
         self.tell(frame, ["body"], f"TOUCHES: {words}{keys}")
+
+    def hide(self, frame):
+        """Warnings of the rows with text below a row with double height that isn't below one itself."""
+        covered = False
+        for number, row in enumerate(frame.fields["rows"], 1):
+            if covered and any("!" <= code <= "\x7f" for code in row):
+                words = f"row {number} of frame {frame.id} is hidden by the double height of row {number - 1}"
+                self.warnings.append((frame, ["rows"], f"HIDDEN: {words}"))
+            covered = "\x8d" in row and not covered
 
     def lead_astray(self, frame, key):
         """A way to a frame that is missing or closed."""
@@ -848,4 +858,4 @@ class FaultyWalks(Written):
                     stranded.append(frame)
                 self.frames.insert(self.random.randrange(len(self.frames) + 1), frame)
         for frame in sorted(stranded, key=lambda frame: (frame.page, frame.letter)):
-            self.warnings.append((frame, f"UNREACHED: no key leads to frame {frame.id} from the entry page"))
+            self.warnings.append((frame, [], f"UNREACHED: no key leads to frame {frame.id} from the entry page"))
