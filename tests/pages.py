@@ -183,7 +183,7 @@ def prepare(setup, folder, env):
     """Runs the commands of a setup; what hinders them, or None."""
     done = subprocess.run(
         ["bash", "-e", "-o", "pipefail", "-c", setup.commands], cwd=folder, env=env, capture_output=True, encoding="utf-8",
-        errors="replace", timeout=600, check=False,
+        errors="replace", timeout=60, check=False,
     )
     return None if done.returncode == 0 else f"line {setup.line}: status {done.returncode}, {done.stdout}{done.stderr}"
 
@@ -192,7 +192,7 @@ def wrong_in(run, folder, env):
     """What a run in a folder does other than its page says, or None."""
     done = subprocess.run(
         ["bash", "-c", run.commands], cwd=folder, env=env, capture_output=True, encoding="utf-8", errors="replace",
-        timeout=600, check=False,
+        timeout=60, check=False,
     )
     wanted, found = (run.stdout, run.stderr, run.status), (done.stdout, done.stderr, done.returncode)
     return None if found == wanted else f"line {run.line}: wanted {wanted}, found {found}"
