@@ -60,6 +60,7 @@ fn a_failed_write_or_flush_is_kept_in_mind(rt: HostRuntime) -> Result<(), Fail> 
 }
 
 // A writer that answers each call with an error of this kind.
+#[derive(Drop)]
 struct Failing {
     kind: ErrorKind,
 }
