@@ -21,8 +21,7 @@ impl Model for Words {
 }
 
 impl Words {
-    ghost use Rattle.std.specs.Prelude.{◌≡◌};
-    ghost use Rattle.std.specs.Prelude.{IfSome, option_copied};
+    ghost use Rattle.std.specs.Prelude.{◌≡◌, IfSome, option_copied};
     ghost use Rattle.lint_words.specs.Lines.{IsLine};
     ghost use Rattle.lint_words.specs.WordsOf.{WordsView, words_of};
 
@@ -50,10 +49,13 @@ impl Words {
         &self.message
     }
 
-    /// How to fix it, if there is more to say.
+    /// How to fix it, if there is more to say. An empty hint is none.
     pub fn hint(&self) -> Option<&Line>
         ensures { IfSome (option_copied result) IsLine }
     {
-        self.hint.as_ref()
+        match &self.hint {
+            Some(hint) if !hint.as_str().is_empty() => Some(hint),
+            _ => None,
+        }
     }
 }
