@@ -1,5 +1,7 @@
 //! The command `lint`: one base after another, and one count at the end.
 
+ghost use Rattle.std.specs.Prelude.{◌≡◌, false};
+
 use crate::named_files::{Unfinished, ended, open_base, report};
 use audit_report::{FromRead, IntoWrite, Source};
 use checker::Policy;
@@ -14,10 +16,21 @@ fn lint_source<R: Print + AllocGlobal, B: Source>(
     base: &mut B,
     path: &str,
     policy: &Policy,
-) -> Result<Counts, Unfinished> {
+) -> Result<Counts, Unfinished>
+    requires { (B.seen base.old).failed ≡ false }
+{
     let mut out = IntoWrite::new(io::writer(rt));
     let run = run_lint(rt.alloc(), base, &mut out, path, policy);
     ended(run, &out)
+}
+
+fn lint_file<R: Files + Print + AllocGlobal>(
+    rt: &R,
+    path: &str,
+    policy: &Policy,
+) -> Result<Counts, Unfinished> {
+    let base = open_base(rt, path)?;
+    lint_source(rt, &mut FromRead::new(base), path, policy)
 }
 
 fn lint_path<R: Files + Input + Print + AllocGlobal>(
@@ -28,7 +41,7 @@ fn lint_path<R: Files + Input + Print + AllocGlobal>(
     if path == "-" {
         lint_source(rt, &mut FromRead::new(rt.reader()), path, policy)
     } else {
-        lint_source(rt, &mut open_base(rt, path)?, path, policy)
+        lint_file(rt, path, policy)
     }
 }
 

@@ -227,7 +227,8 @@ fn map_file<R: Files + Print + AllocGlobal>(
     view: &View,
     groups: &Groups,
 ) -> Result<MapStatus, Unfinished> {
-    let mut base = open_base(rt, base)?;
+    let base = open_base(rt, base)?;
+    let mut base = FromRead::new(base);
     let mut out = IntoWrite::new(io::writer(rt));
     let run = run_map(rt.alloc(), &mut base, groups, view, &mut out);
     ended(run, &out)
@@ -377,7 +378,8 @@ fn list_file<R: Files + Print + AllocGlobal>(
     base: &str,
     groups: &Groups,
 ) -> Result<Status, Unfinished> {
-    let mut base = open_base(rt, base)?;
+    let base = open_base(rt, base)?;
+    let mut base = FromRead::new(base);
     let mut out = IntoWrite::new(io::writer(rt));
     let run = run_list(rt.alloc(), &mut base, groups, &mut out);
     ended(run, &out)

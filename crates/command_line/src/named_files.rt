@@ -1,7 +1,7 @@
 //! Bases that are opened by their names, and what is printed if a command ends without its work done.
 
 use crate::refused;
-use audit_report::{FromRead, IntoWrite, RunFault};
+use audit_report::{IntoWrite, RunFault};
 use std::rt::Files;
 use std::{fs, io};
 
@@ -42,12 +42,12 @@ fn is_folder<R: Files>(rt: &R, path: &str) -> bool {
 }
 
 /// The base of a path. A folder opens and then fails to read: so it is named before.
-pub fn open_base<R: Files>(rt: &R, path: &str) -> Result<FromRead<R::File>, Unfinished> {
+pub fn open_base<R: Files>(rt: &R, path: &str) -> Result<R::File, Unfinished> {
     if is_folder(rt, path) {
         return Err(Unfinished::Unread("is a directory"));
     }
     match fs::open(rt, path) {
-        Ok(file) => Ok(FromRead::new(file)),
+        Ok(file) => Ok(file),
         Err(error) => Err(reason(&error)),
     }
 }

@@ -93,10 +93,11 @@ fn show_file<R: Files + Env + Print + AllocGlobal>(
 fn show_to<R: Files + Print + AllocGlobal>(
     rt: &R,
     errors: Stderr,
-    mut base: FromRead<R::File>,
+    base: R::File,
     (target, form, groups): (&Target, Form, &Groups),
     out: Out<R::File>,
 ) -> Result<ShowStatus, Unfinished> {
+    let mut base = FromRead::new(base);
     match out {
         Out::Output => {
             let mut output = IntoWrite::new(io::writer(rt));
