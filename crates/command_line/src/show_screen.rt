@@ -1,7 +1,7 @@
 //! The command `show`: in which form, into which file, and what is said if there is no screen.
 
 use crate::out_file::{Out, open_out};
-use crate::named_files::{Unfinished, ended, open_base, report};
+use crate::{opened, refused};
 use audit_report::{FromRead, IntoWrite, RunFault};
 use command_words::Show;
 use frame_records::Groups;
@@ -73,8 +73,8 @@ fn show_file<R: Files + Env + Print + AllocGlobal>(
     rt: &R,
     errors: Stderr,
     asked: &Show,
-) -> Result<ShowStatus, Unfinished> {
-    let base = open_base(rt, asked.base)?;
+) -> Result<ShowStatus, RunFault> {
+    let base = opened(rt, asked.base, RunFault::ReadBase)?;
     let target = target_of(rt, asked)?;
     let form = form_of(rt, asked)?;
     let out = match asked.out {
@@ -83,10 +83,8 @@ fn show_file<R: Files + Env + Print + AllocGlobal>(
     };
     match out {
         Ok(out) => show_to(rt, errors, base, (&target, form, &asked.groups), out),
-        Err(error) if error.kind() == io::ErrorKind::OutOfMemory => {
-            Err(Unfinished::Fault(RunFault::Memory))
-        }
-        Err(_) => Err(Unfinished::Fault(RunFault::Write(0))),
+        Err(error) if error.kind() == io::ErrorKind::OutOfMemory => Err(RunFault::Memory),
+        Err(_) => Err(RunFault::Write(0)),
     }
 }
 
@@ -96,25 +94,23 @@ fn show_to<R: Files + Print + AllocGlobal>(
     base: R::File,
     (target, form, groups): (&Target, Form, &Groups),
     out: Out<R::File>,
-) -> Result<ShowStatus, Unfinished> {
+) -> Result<ShowStatus, RunFault> {
     let mut base = FromRead::new(base);
     match out {
         Out::Output => {
             let mut output = IntoWrite::new(io::writer(rt));
-            let run = run_show(rt.alloc(), &mut base, groups, target, form, &mut output);
-            ended(run, &output)
+            run_show(rt.alloc(), &mut base, groups, target, form, &mut output)
         }
         Out::Errors => {
             let mut output = IntoWrite::new(io::writer(&errors));
-            let run = run_show(rt.alloc(), &mut base, groups, target, form, &mut output);
-            ended(run, &output)
+            run_show(rt.alloc(), &mut base, groups, target, form, &mut output)
         }
         Out::File(names, file) => {
             let run = {
                 let mut output = IntoWrite::new(file);
                 run_show(rt.alloc(), &mut base, groups, target, form, &mut output)
             };
-            Ok(names.close(rt, run, &ShowStatus::Shown)?)
+            names.close(rt, run, &ShowStatus::Shown)
         }
     }
 }
@@ -166,11 +162,10 @@ pub fn show<R: Files + Env + Print + Eprint + AllocGlobal>(
     errors: Stderr,
     asked: &Show,
 ) -> u8 {
-    match show_file(rt, errors, asked) {
-        Ok(status) => {
-            print_no_screen(rt, asked, status);
-            status_of_show(&Ok(status))
-        }
-        Err(unfinished) => report(rt, asked.base, &unfinished),
+    let run = show_file(rt, errors, asked);
+    match &run {
+        Ok(status) => print_no_screen(rt, asked, *status),
+        Err(fault) => return refused(rt, fault),
     }
+    status_of_show(&run)
 }

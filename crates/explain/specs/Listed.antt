@@ -73,7 +73,6 @@ listed =
     codes "E2" ∷
     codes "NoLongerCovered" ∷
     codes "UNREACHED" ∷
-    codes "HIDDEN" ∷
     codes "FRAME" ∷
     codes "RANK" ∷
     codes "GROUP" ∷

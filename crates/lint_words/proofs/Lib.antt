@@ -1,3 +1,3 @@
 mod Quotes
-pub mod LineParts
-mod Showing
+pub mod SearchTurns
+pub mod MarkTurns

@@ -1,17 +1,15 @@
-ghost use Rattle.std.specs.Prelude.{◌≡◌, ◌++◌, IfOk, OnOk, Some, None};
-ghost use Rattle.lint_words.specs.FaultWords.{entry_missing_words, entry_closed_words, price_words, row_touches_words, body_touches_words, touches_words, missing_page_words, missing_frame_words, missing_words, closed_words, cut_off_words, too_far_words, no_return_words, code_of, message_of, fault_words, unreached_words};
+ghost use Rattle.std.specs.Prelude.{◌≡◌, ◌++◌, OnOk, Some, None};
+ghost use Rattle.lint_words.specs.FaultWords.{entry_missing_words, entry_closed_words, price_words, row_touches_words, body_touches_words, touches_words, missing_page_words, missing_frame_words, missing_words, closed_words, cut_off_words, too_far_words, no_return_words, fault_words, unreached_words};
 
-use crate::audit_hints::audit_hint;
-use crate::code::Code;
-use crate::line::Line;
-use crate::piece::Piece::{Count, Frame, Group, Grouped, Id, Number, Page, Pressed, ShownBy, Text};
+use crate::piece::Piece::{
+    Count, Frame, Group, Grouped, Id, Number, Page, Pressed, ShownBy, Words,
+};
 use crate::piece::push_pieces;
-use crate::words::Words;
 use abstract_paint::Start;
 use fault_scripts::{Fault, FaultKind};
 use frame_records::{GroupNo, Pence};
 use page_ids::{FrameId, PageNo};
-use std::alloc::{AllocError, Global};
+use std::alloc::AllocError;
 
 /// What the words of a fault say beside the fault itself.
 #[derive(Debug, Clone, Copy)]
@@ -31,13 +29,12 @@ pub struct Judged {
 fn push_entry_missing(out: &mut Vec<u8>, fault: &Fault) -> Result<(), AllocError>
     ensures { OnOk result (out.new.items ≡ out.old.items ++ entry_missing_words fault.now) }
 {
-    let id = fault.frame;
     push_pieces(
         out,
         &[
-            Text("the entry page "),
-            Page(id.page),
-            Text(" has no frame a"),
+            Words("ENTRYMISSING: the entry page "),
+            Page(fault.frame.page),
+            Words(" has no frame a"),
         ],
     )
 }
@@ -52,9 +49,9 @@ fn push_entry_closed(
     push_pieces(
         out,
         &[
-            Text("frame "),
+            Words("ENTRYCLOSED: frame "),
             Id(fault.frame),
-            Text(", the entry page, is closed to these callers"),
+            Words(", the entry page, is closed to these callers"),
             Group(group),
         ],
     )
@@ -66,11 +63,11 @@ fn push_price(out: &mut Vec<u8>, ceiling: Pence, fault: &Fault) -> Result<(), Al
     push_pieces(
         out,
         &[
-            Text("frame "),
+            Words("PRICE: frame "),
             Id(fault.frame),
-            Text(" costs "),
+            Words(" costs "),
             Number(u64::from(fault.price.get())),
-            Text(", the ceiling is "),
+            Words(", the ceiling is "),
             Number(u64::from(ceiling.get())),
             ShownBy(fault.script.as_slice()),
         ],
@@ -84,9 +81,9 @@ fn push_row_touches(out: &mut Vec<u8>, fault: &Fault) -> Result<(), AllocError>
     push_pieces(
         out,
         &[
-            Text("row 22 of frame "),
+            Words("TOUCHES: row 22 of frame "),
             Id(fault.frame),
-            Text(" has double height, which writes into the last row"),
+            Words(" has double height, which writes into the last row"),
             ShownBy(fault.script.as_slice()),
         ],
     )
@@ -99,9 +96,9 @@ fn push_body_touches(out: &mut Vec<u8>, fault: &Fault) -> Result<(), AllocError>
     push_pieces(
         out,
         &[
-            Text("the body of frame "),
+            Words("TOUCHES: the body of frame "),
             Id(fault.frame),
-            Text(" writes into a service row"),
+            Words(" writes into a service row"),
             ShownBy(fault.script.as_slice()),
         ],
     )
@@ -114,11 +111,11 @@ fn push_byte_touches(out: &mut Vec<u8>, start: Start, fault: &Fault) -> Result<(
     push_pieces(
         out,
         &[
-            Text("byte "),
+            Words("TOUCHES: byte "),
             Grouped(start.offset),
-            Text(" of the body of frame "),
+            Words(" of the body of frame "),
             Id(fault.frame),
-            Text(" writes into a service row, from start "),
+            Words(" writes into a service row, from start "),
             Number(u64::from(start.at)),
             ShownBy(fault.script.as_slice()),
         ],
@@ -144,13 +141,13 @@ fn push_missing_page(out: &mut Vec<u8>, page: PageNo, fault: &Fault) -> Result<(
     push_pieces(
         out,
         &[
-            Text(""),
+            Words("MISSING: "),
             Pressed(fault.key),
-            Text(" of frame "),
+            Words(" of frame "),
             Id(fault.frame),
-            Text(" leads to page "),
+            Words(" leads to page "),
             Page(page),
-            Text(", which has no frame a"),
+            Words(", which has no frame a"),
             ShownBy(fault.script.as_slice()),
         ],
     )
@@ -163,13 +160,13 @@ fn push_missing_frame(out: &mut Vec<u8>, fault: &Fault) -> Result<(), AllocError
     push_pieces(
         out,
         &[
-            Text(""),
+            Words("MISSING: "),
             Pressed(fault.key),
-            Text(" of frame "),
+            Words(" of frame "),
             Id(fault.frame),
-            Text(" leads to "),
+            Words(" leads to "),
             Frame(fault.sought),
-            Text(", which the base lacks"),
+            Words(", which the base lacks"),
             ShownBy(fault.script.as_slice()),
         ],
     )
@@ -194,13 +191,13 @@ fn push_closed(out: &mut Vec<u8>, group: Option<GroupNo>, fault: &Fault) -> Resu
     push_pieces(
         out,
         &[
-            Text(""),
+            Words("CLOSED: "),
             Pressed(fault.key),
-            Text(" of frame "),
+            Words(" of frame "),
             Id(fault.frame),
-            Text(" leads to "),
+            Words(" leads to "),
             Frame(fault.sought),
-            Text(", which is closed to these callers"),
+            Words(", which is closed to these callers"),
             Group(group),
             ShownBy(fault.script.as_slice()),
         ],
@@ -214,9 +211,9 @@ fn push_cut_off(out: &mut Vec<u8>, fault: &Fault) -> Result<(), AllocError>
     push_pieces(
         out,
         &[
-            Text("no keys lead from frame "),
+            Words("NORETURN: no keys lead from frame "),
             Id(fault.frame),
-            Text(" back to the entry page"),
+            Words(" back to the entry page"),
             ShownBy(fault.script.as_slice()),
         ],
     )
@@ -229,13 +226,13 @@ fn push_too_far(out: &mut Vec<u8>, rank: u16, keyings: u16, fault: &Fault) -> Re
     push_pieces(
         out,
         &[
-            Text("from frame "),
+            Words("NORETURN: from frame "),
             Id(fault.frame),
-            Text(" the entry page is "),
+            Words(" the entry page is "),
             Count(usize::from(rank), "key", "keys"),
-            Text(" away, at most "),
+            Words(" away, at most "),
             Count(usize::from(keyings), "is", "are"),
-            Text(" allowed"),
+            Words(" allowed"),
             ShownBy(fault.script.as_slice()),
         ],
     )
@@ -251,22 +248,9 @@ fn push_no_return(out: &mut Vec<u8>, judged: &Judged, fault: &Fault) -> Result<(
     }
 }
 
-fn code_of(kind: FaultKind) -> Code
-    ensures { result ≡ code_of kind }
-{
-    match kind {
-        FaultKind::EntryMissing => Code::EntryMissing,
-        FaultKind::EntryClosed => Code::EntryClosed,
-        FaultKind::Price => Code::Price,
-        FaultKind::Touches => Code::Touches,
-        FaultKind::Missing => Code::Missing,
-        FaultKind::Closed => Code::Closed,
-        FaultKind::NoReturn => Code::NoReturn,
-    }
-}
-
-fn push_message(out: &mut Vec<u8>, judged: &Judged, fault: &Fault) -> Result<(), AllocError>
-    ensures { OnOk result (out.new.items ≡ out.old.items ++ message_of judged.now fault.now) }
+/// Appends the kind and the words of a fault of an audit.
+pub fn push_fault(out: &mut Vec<u8>, judged: &Judged, fault: &Fault) -> Result<(), AllocError>
+    ensures { OnOk result (out.new.items ≡ out.old.items ++ fault_words judged.now fault.now) }
 {
     match fault.kind {
         FaultKind::EntryMissing => push_entry_missing(out, fault),
@@ -279,34 +263,16 @@ fn push_message(out: &mut Vec<u8>, judged: &Judged, fault: &Fault) -> Result<(),
     }
 }
 
-/// The words of a fault of an audit. The frame is the one at fault, for the hint alone.
-pub fn audit_fault_words(
-    alloc: Global,
-    judged: &Judged,
-    fault: &Fault,
-    frame: Option<&frame_records::Frame>,
-) -> Result<Words, AllocError>
-    ensures { IfOk result (λ words. words ≡ fault_words judged.now fault.now) }
+/// Appends the words of a frame that no walk reaches.
+pub fn push_unreached(out: &mut Vec<u8>, id: FrameId) -> Result<(), AllocError>
+    ensures { OnOk result (out.new.items ≡ out.old.items ++ unreached_words id) }
 {
-    let mut message = Vec::new(alloc);
-    push_message(&mut message, judged, fault)?;
-    let message = Line::of(alloc, &message)?;
-    let hint = audit_hint(alloc, judged, fault, frame)?;
-    Ok(Words::new(code_of(fault.kind), message, hint))
-}
-
-/// The words of a frame that no walk reaches.
-pub fn unreached_words(alloc: Global, id: FrameId) -> Result<Words, AllocError>
-    ensures { IfOk result (λ words. words ≡ unreached_words id) }
-{
-    let mut message = Vec::new(alloc);
     push_pieces(
-        &mut message,
+        out,
         &[
-            Text("no key leads to frame "),
+            Words("UNREACHED: no key leads to frame "),
             Id(id),
-            Text(" from the entry page"),
+            Words(" from the entry page"),
         ],
-    )?;
-    Ok(Words::new(Code::Unreached, Line::of(alloc, &message)?, None))
+    )
 }
