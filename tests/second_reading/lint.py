@@ -9,23 +9,25 @@ from functools import cached_property
 
 from .audit import discover, outcome, ranks_of
 from .base import BAD_GROUPS, MOST_BYTES, build, caller_of, fits_64_bits, frame_in, id_in, id_text
-from .places import Lines, expressions, tree_of
+from .pieces import Pieces
+from .places import expressions, tree_of
 from .session import unopened
-from .text_faults import MOST_ROWS, Places, text_faults
+from .spans import Lines
+from .text_faults import MOST_ROWS, text_faults
 from .words import counted, number_of
 
 UNREAD = "error: X2 NotToml: MESSAGE"
 
 
 class Audited:
-    """A base whose audit is put into words, with the place of each thing that is at fault."""
+    """A base whose audit is put into words, with the span of each thing that is at fault."""
 
-    def __init__(self, tree, base, places, policy):
-        self.base, self.places, self.policy = base, places, policy
+    def __init__(self, tree, base, pieces, policy):
+        self.base, self.pieces, self.policy = base, pieces, policy
         self.tables = {id_in(table["id"]): (index, table) for index, table in enumerate(tree.get("frame", []))}
 
-    def place(self, id, *keys):
-        return self.places.of(self.tables[id][0], *keys)
+    def table(self, id):
+        return self.tables[id][0]
 
     @cached_property
     def reached(self):
@@ -36,10 +38,6 @@ class Audited:
     def ranks(self):
         return ranks_of(self.base, self.reached)
 
-    def text_key(self, id):
-        """Which key a frame's text is under, as far as it has a place of its own: a frame in an inline array has none."""
-        return "rows" if self.place(id, "rows") != self.place(id) else "body"
-
     def faults(self):
         """Each fault in the order in which the audit lists them."""
         printed, _ = outcome(self.base, self.policy)
@@ -49,37 +47,42 @@ class Audited:
                 yield getattr(self, word.lower())(*parts)
 
     def entrymissing(self, id):
-        return self.places.top["entry"], f"ENTRYMISSING: the entry page {id[:-1]} has no frame a"
+        return self.pieces.value(None, "entry"), f"ENTRYMISSING: the entry page {id[:-1]} has no frame a"
 
     def entryclosed(self, id):
         frame = self.base.frames[id_in(id)]
         words = f"frame {id}, the entry page, is closed to these callers; it belongs to group {frame.group}"
-        return self.place(frame.id, "group"), f"ENTRYCLOSED: {words}"
+        return self.pieces.value(self.table(frame.id), "group"), f"ENTRYCLOSED: {words}"
 
     def price(self, id, price, _, script):
         words = f"PRICE: frame {id} costs {price}, the ceiling is {self.policy[0]}{keys_in_brackets(script)}"
-        return self.place(id_in(id), "price"), words
+        return self.pieces.value(self.table(id_in(id)), "price"), words
 
     def touches(self, id, _byte, offset, _start, start, _script, script):
         frame = id_in(id)
+        index, table = self.tables[frame]
         words = f"byte {counted(int(offset))} of the body of frame {id} writes into a service row, from start {start}"
-        if self.text_key(frame) == "rows":
-            words = self.touching_row(frame, int(offset))
-        return self.place(frame, self.text_key(frame)), f"TOUCHES: {words}{keys_in_brackets(script)}"
+        if "rows" in table:
+            row, words = self.touching_row(frame, int(offset))
+            span = self.pieces.element(index, "rows", row - 1)
+        else:
+            span = self.pieces.character(index, "body", int(offset))
+        return span, f"TOUCHES: {words}{keys_in_brackets(script)}"
 
     def touching_row(self, id, offset):
-        """The row whose codes have the byte of that offset."""
+        """The row whose codes have the byte of that offset, and its words."""
         rows = self.tables[id][1]["rows"]
         ends = [2]
         for row in rows:
             ends.append(ends[-1] + len(row) + 2 * (len(row) < 40))
         number = next(number for number, end in enumerate(ends) if offset < end)
         if number == MOST_ROWS and "\x8d" in rows[number - 1]:
-            return f"row {MOST_ROWS} of frame {id_text(id)} has double height, which writes into the last row"
-        return f"row {number} of frame {id_text(id)} writes into a service row"
+            return number, f"row {MOST_ROWS} of frame {id_text(id)} has double height, which writes into the last row"
+        return number, f"row {number} of frame {id_text(id)} writes into a service row"
 
     def way(self, id, key):
-        return self.place(id_in(id), "next") if key == "#" else self.place(id_in(id), "routes", key)
+        table = self.table(id_in(id))
+        return self.pieces.pair(table, "next") if key == "#" else self.pieces.pair(table, "routes", key)
 
     def missing(self, sought, _at, id, _key, key, _script, script):
         is_first = sought[-1] == "a"
@@ -98,7 +101,7 @@ class Audited:
         if rank is not None:
             allowed = f"at most {counted(keyings)} {'is' if keyings == 1 else 'are'} allowed"
             words = f"from frame {id} the entry page is {number_of(rank, 'key', 'keys')} away, {allowed}"
-        return self.place(id_in(id)), f"NORETURN: {words}{keys_in_brackets(script)}"
+        return self.pieces.header(self.table(id_in(id))), f"NORETURN: {words}{keys_in_brackets(script)}"
 
     def warnings(self):
         """The open frames that no walk reaches, if there is a walk, in the order of their ids."""
@@ -107,7 +110,17 @@ class Audited:
             return
         for id, frame in sorted(self.base.frames.items()):
             if id not in self.reached and frame.is_open(groups):
-                yield self.place(id), f"UNREACHED: no key leads to frame {id_text(id)} from the entry page"
+                yield self.pieces.header(self.table(id)), f"UNREACHED: no key leads to frame {id_text(id)} from the entry page"
+
+    def hidden(self):
+        """The rows with text that the double height of the row above hides, of frames given as rows."""
+        for id in sorted(self.base.frames):
+            covered = False
+            for number, row in enumerate(self.tables[id][1].get("rows", []), 1):
+                if covered and any("\x20" < code < "\x80" for code in row):
+                    words = f"HIDDEN: row {number} of frame {id_text(id)} is hidden by the double height of row {number - 1}"
+                    yield self.pieces.element(self.table(id), "rows", number - 1), words
+                covered = "\x8d" in row and not covered
 
 
 def keys_in_brackets(script):
@@ -115,24 +128,23 @@ def keys_in_brackets(script):
 
 
 def parsed(data):
-    """The text, its expressions and its tree, or None if it isn't TOML."""
+    """The text and its tree, or None if it isn't TOML."""
     try:
         text = data.decode()
-        found = expressions(text)
-        tree = tree_of(found)
+        tree = tree_of(expressions(text))
     except (ValueError, RecursionError):
         return None
-    return (text, found, tree) if fits_64_bits(tree) else None
+    return (text, tree) if fits_64_bits(tree) else None
 
 
-def findings(tree, places, lines, policy):
-    """Each finding in the order of judging: an offset, `error` or `warning`, and words."""
-    faults, warnings = list(text_faults(tree, places, lines)), []
+def findings(tree, pieces, lines, policy):
+    """Each finding in the order of judging: a span, `error` or `warning`, and words."""
+    faults, warnings = list(text_faults(tree, pieces, lines)), []
     if not faults:
         frames = [frame_in(table, index) for index, table in enumerate(tree.get("frame", []))]
-        audited = Audited(tree, build(tree["entry"], tree.get("outside", []), frames), places, policy)
-        faults, warnings = audited.faults(), audited.warnings()
-    return [(at, "error", words) for at, words in faults] + [(at, "warning", words) for at, words in warnings]
+        audited = Audited(tree, build(tree["entry"], tree.get("outside", []), frames), pieces, policy)
+        faults, warnings = audited.faults(), [*audited.warnings(), *audited.hidden()]
+    return [(span, "error", words) for span, words in faults] + [(span, "warning", words) for span, words in warnings]
 
 
 def count_line(levels):
@@ -150,18 +162,24 @@ def lint(path, data, ceiling=9_999, keyings=65_535, option=None):
         return f"{path}:1:1: error: {words}\n", "1 error\n", 1
     if not (read := parsed(data)):
         return f"{path}:LINE:COLUMN: {UNREAD}\n", "1 error\n", 1
-    text, found, tree = read
+    text, tree = read
     lines = Lines(text)
-    listed = findings(tree, Places(found), lines, (ceiling, keyings, groups))
-    placed = sorted(((*lines.place(at), level, words) for at, level, words in listed), key=lambda finding: finding[:2])
-    stdout = "".join(f"{path}:{line}:{column}: {level}: {words}\n" for line, column, level, words in placed)
+    listed = findings(tree, Pieces(text), lines, (ceiling, keyings, groups))
+    placed = [(lines.place(span[0]), level, words) for span, level, words in sorted(listed, key=lambda found: found[0][0])]
+    stdout = "".join(f"{path}:{line}:{column}: {level}: {words}\n" for (line, column), level, words in placed)
     levels = [level for _, level, _ in listed]
     return stdout, f"{count_line(levels)}\n" if listed else "", 1 if "error" in levels else 0
 
 
+def is_line(wanted, found):
+    """Whether a line is the wanted one, to which a hint may be added."""
+    return found == wanted or found.startswith(f"{wanted}; ")
+
+
 def is_answer(path, wanted, found):
-    """Whether an answer is the wanted one; a text that isn't TOML may be refused at any place with any message."""
+    """Whether an answer is the wanted one, hints aside; a text that isn't TOML may be refused at any place."""
     if wanted[0] != f"{path}:LINE:COLUMN: {UNREAD}\n":
-        return wanted == found
+        lines = wanted[0].split("\n"), found[0].split("\n")
+        return len(lines[0]) == len(lines[1]) and all(map(is_line, *lines)) and found[1:] == wanted[1:]
     line = re.fullmatch(rf"{re.escape(str(path))}:[1-9]\d*:[1-9]\d*: error: X2 NotToml: [^\n]+\n", found[0])
     return bool(line) and found[1:] == wanted[1:]

@@ -58,7 +58,7 @@ def no_frame(base, id):
     """The line about a frame that the base lacks, with the first of the nearest if one is near."""
     text = id_text(id)
     near = [(steps_between(text, id_text(other)), other) for other in sorted(base.frames)]
-    near = [(steps, other) for steps, other in near if steps <= 2 and steps < len(str(id[0]))]
+    near = [(steps, other) for steps, other in near if steps < min(3, len(id_text(other)))]
     meant = f"; did you mean {id_text(min(near)[1])}?" if near else ""
     return f"error: the base has no frame {text}{meant}\n"
 

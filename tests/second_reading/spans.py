@@ -255,7 +255,7 @@ class Spans:
 
     def __init__(self, text):
         self.text = text
-        self.top, self.frames, self.headers = [], [], []
+        self.top, self.frames, self.headers, self.is_inline = [], [], [], False
         section, frame = (), None
         for expression in Walk(text).expressions():
             names = tuple(part.name for part in expression.parts)
@@ -281,6 +281,7 @@ class Spans:
         spot = self.spot(None, "frame")
         if self.frames or spot is None or spot.expression.value is None:
             return
+        self.is_inline = True
         for element in spot.expression.value.elements:
             self.headers.append(element.span)
             self.frames.append([entry for pair in element.pairs for entry in below((), pair)])

@@ -1,12 +1,13 @@
-"""Every fault of a base's text with its place, in the order of judging.
+"""Every fault of a base's text with its span, in the order of judging.
 
-A fault is an offset of the text and words; a flaw is the words alone.
+A fault is a span of the text and words; a flaw is the words, and what in the table is at fault: the name of a piece and
+the words that it is sought by.
 """
 
 import re
 
 from .base import FRAME_KEYS, MOST_BODY, MOST_LISTED, MOST_PAGE, frame_in, id_in, id_text, is_integer
-from .words import code, counted, hint, kind, nearest, number_of, quoted
+from .words import code, counted, kind, number_of, quoted
 
 TOP_KEYS = ["entry", "outside", "frame"]
 KEYS_OF_A_FRAME = ["id", "price", "group", "next", "routes", "lead", "body", "rows"]
@@ -15,43 +16,15 @@ MOST_ROWS = 22
 MOST_FAULTS = 1_000
 
 
-class Places:
-    """Where the expressions begin that wrote a value: the first whose path begins with the keys that lead to it."""
-
-    def __init__(self, found):
-        self.top, self.frames = {}, []
-        for expression in found:
-            self.top.setdefault(expression.path[0], expression.at)
-            if expression.path[0] != "frame":
-                continue
-            if expression.is_element and expression.path == ("frame",):
-                self.frames.append({})
-            if self.frames:
-                for length in range(3):
-                    self.frames[-1].setdefault(expression.path[1 : 1 + length], expression.at)
-
-    def of(self, index, *keys):
-        """The place of a frame's key, of its route, or of its header; frames in one expression have its place."""
-        if not self.frames:
-            return self.top["frame"]
-        known = self.frames[index]
-        return next(known[keys[:length]] for length in (2, 1, 0) if keys[:length] in known)
+def wrong_kind(name, value, needed):
+    """The words of X5."""
+    return f"X5 WrongKind: {name} is {kind(value)}, {needed} is needed"
 
 
-def wrong_kind(name, value, needed, unquote="leave out the quotation marks"):
-    """The words of X5 with their advice."""
-    advice = ""
-    if isinstance(value, str) and needed in ("a whole number", "true or false"):
-        advice = f"; {unquote}"
-    elif needed == "a string":
-        advice = "; put it in quotation marks"
-    return f"X5 WrongKind: {name} is {kind(value)}, {needed} is needed{advice}"
-
-
-def number_flaw(value, name, least, most, unquote="leave out the quotation marks"):
+def number_flaw(value, name, least, most):
     """What is wrong with a number, or None."""
     if not is_integer(value):
-        return wrong_kind(name, value, "a whole number", unquote)
+        return wrong_kind(name, value, "a whole number")
     if value < least:
         return f"X6 Range: {name} is {value}, at least {least} is needed"
     return f"X6 Range: {name} is {value}, at most {most} is allowed" if value > most else None
@@ -61,27 +34,27 @@ def unknown(table, known):
     return sorted(set(table) - set(known), key=str.encode)
 
 
-def top_faults(tree, places):
+def top_faults(tree, pieces):
     for key in unknown(tree, TOP_KEYS):
-        yield places.top[key], f"X3 UnknownKey: {quoted(key)} is not a key of a base{nearest(key, TOP_KEYS)}"
+        yield pieces.key(None, key), f"X3 UnknownKey: {quoted(key)} is not a key of a base"
     if "entry" not in tree:
-        yield 0, 'X4 Absent: the base has no "entry"'
+        yield pieces.line_one(), 'X4 Absent: the base has no "entry"'
     elif flaw := number_flaw(tree["entry"], '"entry"', 0, MOST_PAGE):
-        yield places.top["entry"], flaw
-    yield from ((places.top["outside"], flaw) for flaw in outside_flaws(tree.get("outside", [])))
+        yield pieces.value(None, "entry"), flaw
+    for piece, flaw in outside_flaws(tree.get("outside", [])):
+        yield getattr(pieces, piece[0])(None, *piece[1:]), flaw
     frames = tree.get("frame", [])
     if not isinstance(frames, list):
-        advice = "; write [[frame]] with two brackets" if isinstance(frames, dict) else ""
-        yield places.top["frame"], wrong_kind('"frame"', frames, "an array of tables") + advice
+        yield pieces.value(None, "frame"), wrong_kind('"frame"', frames, "an array of tables")
 
 
 def outside_flaws(outside):
     if not isinstance(outside, list):
-        yield wrong_kind('"outside"', outside, "a list of whole numbers")
+        yield ("value", "outside"), wrong_kind('"outside"', outside, "a list of whole numbers")
         return
     for number, page in enumerate(outside, 1):
         if flaw := number_flaw(page, f'item {counted(number)} of "outside"', 0, MOST_PAGE):
-            yield flaw
+            yield ("element", "outside", number - 1), flaw
 
 
 def name_of(table):
@@ -90,35 +63,34 @@ def name_of(table):
     return f"frame {id}" if isinstance(id, str) and id_in(id) else "this frame"
 
 
-def frame_faults(index, table, places):
+def frame_faults(index, table, pieces):
     """Each fault of a frame's table, in the order of judging."""
     if not isinstance(table, dict):
-        yield places.top["frame"], wrong_kind('an item of "frame"', table, "a table")
+        yield pieces.header(index), wrong_kind('an item of "frame"', table, "a table")
         return
     name = name_of(table)
     for key in unknown(table, KEYS_OF_A_FRAME):
-        words = f"X3 UnknownKey: {quoted(key)} is not a key of a frame{nearest(key, KEYS_OF_A_FRAME)}"
-        yield places.of(index, key), words
-    for keys, flaw in field_flaws(table, name):
-        yield places.of(index, *keys), flaw
+        words = f"X3 UnknownKey: {quoted(key)} is not a key of a frame"
+        yield pieces.key(index, key), words
+    for (piece, *words), flaw in field_flaws(table, name):
+        yield getattr(pieces, piece)(index, *words), flaw
 
 
 def field_flaws(table, name):
-    """Each flaw of a frame's fields with the keys that lead to it."""
+    """Each flaw of a frame's fields with the piece at fault."""
     if "id" not in table:
-        yield (), 'X4 Absent: this frame has no "id"'
+        yield ("header",), 'X4 Absent: this frame has no "id"'
     elif flaw := id_flaw(table["id"]):
-        yield ("id",), flaw
+        yield ("value", "id"), flaw
     if flaw := number_flaw(table.get("price", 0), f'"price" of {name}', 0, 9_999):
-        pence = "; prices are whole pence" if isinstance(table["price"], float) else ""
-        yield ("price",), flaw + pence
+        yield ("value", "price"), flaw
     if flaw := number_flaw(table.get("group", 1), f'"group" of {name}', 1, 65_535):
-        yield ("group",), flaw
+        yield ("value", "group"), flaw
     if not isinstance(table.get("next", False), bool):
-        yield ("next",), wrong_kind(f'"next" of {name}', table["next"], "true or false")
+        yield ("value", "next"), wrong_kind(f'"next" of {name}', table["next"], "true or false")
     yield from route_flaws(table.get("routes", {}), name)
     if flaw := lead_flaw(table.get("lead", "clear"), name):
-        yield ("lead",), flaw
+        yield ("value", "lead"), flaw
     yield from text_flaws(table, name)
 
 
@@ -127,19 +99,18 @@ def id_flaw(id):
         return wrong_kind('"id" of this frame', id, "a string")
     if id_in(id):
         return None
-    return f"I2 BadFrame: {quoted(id)} is not a frame id; write a page number and one small letter, as 1231a"
+    return f"I2 BadFrame: {quoted(id)} is not a frame id"
 
 
 def route_flaws(routes, name):
     if not isinstance(routes, dict):
-        yield ("routes",), wrong_kind(f'"routes" of {name}', routes, "a table")
+        yield ("value", "routes"), wrong_kind(f'"routes" of {name}', routes, "a table")
         return
     for key in unknown(routes, "0123456789"):
-        yield ("routes", key), f"X3 UnknownKey: {quoted(key)} is not a key of routes, use the digits 0 to 9"
-    unquote = "write the page number alone, without quotation marks"
+        yield ("key", "routes", key), f"X3 UnknownKey: {quoted(key)} is not a key of routes, use the digits 0 to 9"
     for digit in sorted(set(routes) & set("0123456789")):
-        if flaw := number_flaw(routes[digit], f"route {digit} of {name}", 0, MOST_PAGE, unquote):
-            yield ("routes", digit), flaw
+        if flaw := number_flaw(routes[digit], f"route {digit} of {name}", 0, MOST_PAGE):
+            yield ("pair", "routes", digit), flaw
 
 
 def lead_flaw(lead, name):
@@ -152,41 +123,45 @@ def lead_flaw(lead, name):
 
 def text_flaws(table, name):
     if "body" in table and "rows" in table:
-        yield ("rows",), f'X7 BodyAndRows: {name} has both "body" and "rows", leave out one'
+        yield ("later_key", "body", "rows"), f'X7 BodyAndRows: {name} has both "body" and "rows", leave out one'
     if "body" in table and (flaw := body_flaw(table["body"], name)):
-        yield ("body",), flaw
+        yield flaw
     if "rows" in table:
-        yield from ((("rows",), flaw) for flaw in rows_flaws(table["rows"], name))
+        yield from rows_flaws(table["rows"], name)
     if "body" not in table and "rows" not in table:
-        yield (), f'X4 Absent: {name} has no "body" and no "rows"'
+        yield ("header",), f'X4 Absent: {name} has no "body" and no "rows"'
 
 
 def body_flaw(body, name):
     if not isinstance(body, str):
-        return wrong_kind(f'"body" of {name}', body, "a string")
+        return ("value", "body"), wrong_kind(f'"body" of {name}', body, "a string")
     if not (far := re.search(r"[^\x00-\xff]", body)):
         return None
     c, at = far[0], counted(far.start() + 1)
-    return f'X6 Range: character {at} of "body" of {name} is {code(c)}, at most U+00FF is allowed{hint(c)}'
+    words = f'X6 Range: character {at} of "body" of {name} is {code(c)}, at most U+00FF is allowed'
+    return ("character", "body", far.start()), words
 
 
 def rows_flaws(rows, name):
     """Of each row its kind, or its length and its first code that no row may have."""
     if not isinstance(rows, list):
-        yield wrong_kind(f'"rows" of {name}', rows, "a list of strings")
+        yield ("value", "rows"), wrong_kind(f'"rows" of {name}', rows, "a list of strings")
         return
     if len(rows) > MOST_ROWS:
-        yield f"X6 Range: {name} has {counted(len(rows))} rows, at most {MOST_ROWS} are allowed"
+        words = f"X6 Range: {name} has {counted(len(rows))} rows, at most {MOST_ROWS} are allowed"
+        yield ("element", "rows", MOST_ROWS), words
     for number, row in enumerate(rows, 1):
+        piece = "element", "rows", number - 1
         here = f"row {counted(number)} of {name}"
         if not isinstance(row, str):
-            yield wrong_kind(here, row, "a string")
+            yield piece, wrong_kind(here, row, "a string")
             continue
         if len(row) > 40:
-            yield f"X8 RowTooLong: {here} has {counted(len(row))} characters, at most 40 are allowed"
+            yield piece, f"X8 RowTooLong: {here} has {counted(len(row))} characters, at most 40 are allowed"
         if bad := re.search(r"[^\x20-\x9f]", row):
             c, at = bad[0], counted(bad.start() + 1)
-            yield f"X9 RowCode: character {at} of {here} is {code(c)}, which no row may have{hint(c)}"
+            words = f"X9 RowCode: character {at} of {here} is {code(c)}, which no row may have"
+            yield ("character", "rows", number - 1, bad.start()), words
 
 
 def outside_read(tree):
@@ -196,53 +171,54 @@ def outside_read(tree):
     return [page for page in pages if is_integer(page) and 0 <= page <= MOST_PAGE]
 
 
-def base_faults(tree, frames, places, lines):
+def base_faults(tree, frames, pieces, lines):
     """B4, B5, B3, B1 and B2 of the frames without a fault, which are listed with the numbers of their tables."""
     outside = outside_read(tree)
     if len(frames) > MOST_LISTED:
         words = f"B4 TooMany: the base has {counted(len(frames))} frames, at most {counted(MOST_LISTED)} are allowed"
-        yield places.of(frames[MOST_LISTED][0]), words
+        yield pieces.header(frames[MOST_LISTED][0]), words
     if len(outside) > MOST_LISTED:
         words = f'B4 TooMany: "outside" has {counted(len(outside))} pages, at most {counted(MOST_LISTED)} are allowed'
-        yield places.top["outside"], words
+        yield pieces.element(None, "outside", MOST_LISTED), words
     in_order = sorted(frames, key=lambda entry: entry[1].id)
     for index, frame in in_order:
         if len(frame.body) > MOST_BODY:
             has = f"has {counted(len(frame.body))} bytes, at most {counted(MOST_BODY)} are allowed"
-            place = places.of(index, "body" if "body" in tree["frame"][index] else "rows")
-            yield place, f"B5 BodyTooLong: the body of frame {id_text(frame.id)} {has}"
+            shown = "body" if "body" in tree["frame"][index] else "rows"
+            yield pieces.value(index, shown), f"B5 BodyTooLong: the body of frame {id_text(frame.id)} {has}"
     for index, frame in in_order:
         if frame.next and frame.id[1] == "z":
             words = f'B3 NextAfterZ: frame {id_text(frame.id)} has "next", but z is the last frame of a page'
-            yield places.of(index, "next"), words
+            yield pieces.pair(index, "next"), words
     firsts = {}
     for index, frame in in_order:
         first = firsts.setdefault(frame.id, index)
         if first != index:
-            line, _ = lines.place(places.of(first, "id"))
-            yield places.of(index, "id"), f"B1 Duplicate: frame {id_text(frame.id)} is defined already on line {line}"
+            line, _ = lines.place(pieces.line_of_frame(first))
+            words = f"B1 Duplicate: frame {id_text(frame.id)} is defined already on line {line}"
+            yield pieces.value(index, "id"), words
     for page in sorted(set(outside) & {frame.id[0] for _, frame in frames}):
         words = f"B2 OutsideInside: page {page} is listed as outside, but the base has a frame of it"
-        yield places.top["outside"], words
+        yield pieces.value(None, "outside"), words
 
 
 def listed(faults, where):
-    """The faults of one table; from the 1,001st on they are one, at its place and with its code."""
+    """The faults of one table; from the 1,001st on they are one, at its span and with its code."""
     yield from faults[:MOST_FAULTS]
     if rest := faults[MOST_FAULTS:]:
-        place, words = rest[0]
+        span, words = rest[0]
         name, _, _ = words.partition(": ")
-        yield place, f"{name}: {number_of(len(rest), 'more fault', 'more faults')} {where}, not listed"
+        yield span, f"{name}: {number_of(len(rest), 'more fault', 'more faults')} {where}, not listed"
 
 
-def text_faults(tree, places, lines):
-    """Each fault of the text with its place, in the order of judging."""
-    yield from listed(list(top_faults(tree, places)), "at the top")
+def text_faults(tree, pieces, lines):
+    """Each fault of the text with its span, in the order of judging."""
+    yield from listed(list(top_faults(tree, pieces)), "at the top")
     tables = tree.get("frame", [])
     right = []
     for index, table in enumerate(tables if isinstance(tables, list) else []):
-        faults = list(frame_faults(index, table, places))
+        faults = list(frame_faults(index, table, pieces))
         yield from listed(faults, f"in {name_of(table)}" if faults[1:] else "")
         if not faults:
             right.append((index, frame_in(table, index)))
-    yield from base_faults(tree, right, places, lines)
+    yield from base_faults(tree, right, pieces, lines)

@@ -1,5 +1,5 @@
 -- The looks of rows and screens.
-use Rattle.std.specs.Prelude.{ℕ, zero, suc, Bool, false, not, List, [], ◌∷◌, map, take, drop, ◌-◌, ◌*◌, ◌==◌, ◌&&◌, ◌||◌, nat_le, if◌then◌else◌}
+use Rattle.std.specs.Prelude.{ℕ, zero, suc, Bool, false, not, List, [], ◌∷◌, map, take, drop, ◌-◌, ◌*◌, ◌==◌, ◌&&◌, ◌||◌, nat_lt, nat_le, if◌then◌else◌}
 use Rattle.std.specs.List.{range_with_len, list_any}
 use Rattle.cell_looks.specs.declared.look.Glyph.{Glyph}
 use Rattle.cell_looks.specs.declared.look.Glyph.TheVariants.{Char, Block}
@@ -61,6 +61,17 @@ has_double cells r = can_stretch r && list_any (λ c. c == 0x8D) (row_of cells r
 abbrev pub is_covered : List ℕ → ℕ → Bool
 is_covered cells zero = false
 is_covered cells (suc r) = has_double cells r && not (is_covered cells r)
+
+-- a code that is seen if nothing covers it: a character or mosaic, but no space
+abbrev pub is_text : ℕ → Bool
+is_text c = nat_lt 0x20 c && nat_lt c 0x80
+
+abbrev pub has_text : List ℕ → ℕ → Bool
+has_text cells r = list_any is_text (row_of cells r)
+
+-- the row above covers text of row r
+abbrev pub hides_text : List ℕ → ℕ → Bool
+hides_text cells r = nat_lt r 24 && (is_covered cells r && has_text cells r)
 
 -- the looks of row r by its own codes
 abbrev pub own_looks : List ℕ → ℕ → List Look

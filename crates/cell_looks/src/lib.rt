@@ -12,6 +12,7 @@
 //! ```
 //!
 //! - [`screen_looks`]: the [`Looks`] of a screen.
+//! - [`hides_text`]: whether a double height hides text of the row beneath.
 //! - [`Look`]: how a cell looks. [`Glyph`], [`Mosaic`], [`Sextants`], [`Colour`], [`Height`]: its parts. [`Shown`]: what one
 //!   sees of it.
 //! - [`character`]: the character of a code.
@@ -32,4 +33,4 @@ pub use laws::{
 };
 pub use look::{Colour, Glyph, Height, Look, Shown};
 pub use mosaic::{Mosaic, Sextants};
-pub use screen::{Looks, screen_looks};
+pub use screen::{Looks, hides_text, screen_looks};

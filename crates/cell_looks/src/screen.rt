@@ -104,6 +104,36 @@ fn covers(cells: &[u8; 960], row: usize, covered: bool) -> bool
     has_double(cells, row) && !covered
 }
 
+fn is_text(code: u8) -> bool
+    ensures { result ≡ spec.is_text code }
+{
+    matches!(code, 0x21..=0x7f)
+}
+
+fn has_text(cells: &[u8; 960], row: usize) -> bool
+    requires { row < 24 }
+    ensures { result ≡ spec.has_text cells.now row }
+{
+    row_codes(cells, row).iter().any(|code| is_text(*code))
+}
+
+// Whether the row above covers the row.
+#[tactic(auto, using(crate::proofs::Rows::covered_next))]
+fn is_covered(cells: &[u8; 960], row: usize) -> bool
+    requires { row < 24 }
+    ensures { result ≡ spec.is_covered cells.now row }
+{
+    row > 0 && covers(cells, row - 1, is_covered(cells, row - 1))
+}
+
+/// Whether the double height of the row above hides text of a row: a character or mosaic that is no space. Rows are numbered from
+/// 0; a row after 23 has no text.
+pub fn hides_text(cells: &[u8; 960], row: usize) -> bool
+    ensures { result ≡ spec.hides_text cells.now row }
+{
+    row < 24 && is_covered(cells, row) && has_text(cells, row)
+}
+
 /// How each cell of a screen looks, by its codes from position 0 to 959.
 ///
 /// A code above 9F, which no terminal holds, looks like an attribute without effect.

@@ -5,6 +5,8 @@
 //! picks the exit status.
 #![tactic(auto)]
 
+mod lint_files;
+mod named_files;
 mod out_file;
 mod show_screen;
 
@@ -15,10 +17,12 @@ use clap::{ArgMatches, Error};
 use command_words::{Request, Show, WordsFault, asked_for, groups_of, matches, words};
 use explain::{explanation, nearest, overview};
 use frame_records::Groups;
+use lint_files::lint;
+use named_files::{Unfinished, ended, open_base, report};
 use out_file::{Out, is_same_file, open_out};
 use pageaudit::{
-    Counts, MapStatus, Status, View, counted_text, run_audit, run_audit_into, run_change,
-    run_check, run_lint, run_list, run_map, run_walk, status_of, status_of_lint, status_of_map,
+    MapStatus, Status, View, run_audit, run_audit_into, run_change, run_check, run_list, run_map,
+    run_walk, status_of, status_of_map,
 };
 use show_screen::show;
 use std::alloc::{AllocError, Global};
@@ -31,7 +35,7 @@ fn main(rt: HostRuntime) -> ExitCode {
 }
 
 // Reads the words and does what they ask; the exit status.
-fn run<R: Files + Env + Print + Eprint + AllocGlobal>(rt: &R, errors: Stderr) -> u8 {
+fn run<R: Files + Env + Input + Print + Eprint + AllocGlobal>(rt: &R, errors: Stderr) -> u8 {
     match words(rt, rt.alloc()) {
         Ok(words) => obey(rt, errors, words.as_slice()),
         Err(WordsFault::Memory) => refused(rt, &RunFault::Memory),
@@ -42,19 +46,19 @@ fn run<R: Files + Env + Print + Eprint + AllocGlobal>(rt: &R, errors: Stderr) ->
     }
 }
 
-fn obey<R: Files + Env + Print + Eprint + AllocGlobal>(
+fn obey<R: Files + Env + Input + Print + Eprint + AllocGlobal>(
     rt: &R,
     errors: Stderr,
     words: &[String],
 ) -> u8 {
     match matches(rt.alloc(), words) {
         Ok(matches) => dispatch(rt, errors, &matches),
-        Err(error) => report(rt, &error),
+        Err(error) => print_error(rt, &error),
     }
 }
 
 // Prints what clap has to say: help on standard output, or what is wrong with the words on standard error.
-fn report<R: Print + Eprint + AllocGlobal>(rt: &R, error: &Error) -> u8 {
+fn print_error<R: Print + Eprint + AllocGlobal>(rt: &R, error: &Error) -> u8 {
     if error.kind() == ErrorKind::OutOfMemory {
         return refused(rt, &RunFault::Memory);
     }
@@ -70,8 +74,10 @@ fn report<R: Print + Eprint + AllocGlobal>(rt: &R, error: &Error) -> u8 {
 
 // Writes a text whole; the exit status.
 fn print_whole<R: Print + Eprint + AllocGlobal>(rt: &R, text: &str) -> u8 {
-    match write_whole(&mut IntoWrite::new(io::writer(rt)), text.as_bytes()) {
+    let mut out = IntoWrite::new(io::writer(rt));
+    match write_whole(&mut out, text.as_bytes()) {
         Ok(()) => 0,
+        Err(_) if out.is_closed() => 3,
         Err(fault) => refused(rt, &RunFault::Write(fault.wrote)),
     }
 }
@@ -123,7 +129,7 @@ fn refused<R: Eprint + AllocGlobal>(rt: &R, fault: &RunFault) -> u8 {
 }
 
 // Does what was asked for; the exit status. The groups are read first; files are opened in the order of the words.
-fn dispatch<R: Files + Env + Print + Eprint + AllocGlobal>(
+fn dispatch<R: Files + Env + Input + Print + Eprint + AllocGlobal>(
     rt: &R,
     errors: Stderr,
     matches: &ArgMatches,
@@ -155,7 +161,7 @@ fn dispatch<R: Files + Env + Print + Eprint + AllocGlobal>(
 }
 
 // Runs what was asked for.
-fn answer<R: Files + Env + Print + Eprint + AllocGlobal>(
+fn answer<R: Files + Env + Input + Print + Eprint + AllocGlobal>(
     rt: &R,
     errors: Stderr,
     request: &Request,
@@ -180,8 +186,8 @@ fn answer<R: Files + Env + Print + Eprint + AllocGlobal>(
             policy,
         } => change_files(rt, [old, old_cert, new, new_cert], policy),
         Request::Walk { base, keys, groups } => walk_file(rt, base, keys, groups),
-        Request::List { base, groups } => list_file(rt, base, groups),
-        Request::Lint { base, policy } => return lint(rt, base, policy),
+        Request::List { base, groups } => return list(rt, base, groups),
+        Request::Lint(asked) => return lint(rt, asked),
         Request::Map { base, view, groups } => return map(rt, base, view, groups),
         Request::Show(asked) => return show(rt, errors, asked),
         Request::NoFrame { word } => {
@@ -196,29 +202,6 @@ fn answer<R: Files + Env + Print + Eprint + AllocGlobal>(
     }
 }
 
-// Prints each finding, and how many there are on standard error.
-fn lint<R: Files + Print + Eprint + AllocGlobal>(rt: &R, base: &str, policy: &Policy) -> u8 {
-    let run = lint_file(rt, base, policy);
-    match &run {
-        Ok(counts) => {
-            tell_counts(rt, counts);
-            status_of_lint(&run)
-        }
-        Err(fault) => refused(rt, fault),
-    }
-}
-
-fn lint_file<R: Files + Print + AllocGlobal>(
-    rt: &R,
-    path: &str,
-    policy: &Policy,
-) -> Result<Counts, RunFault> {
-    let base = opened(rt, path, RunFault::ReadBase)?;
-    let mut base = FromRead::new(base);
-    let mut out = IntoWrite::new(io::writer(rt));
-    run_lint(rt.alloc(), &mut base, &mut out, path, policy)
-}
-
 // Draws a map; a line on standard error if the base lacks the frame `a` of the page.
 fn map<R: Files + Print + Eprint + AllocGlobal>(
     rt: &R,
@@ -227,12 +210,15 @@ fn map<R: Files + Print + Eprint + AllocGlobal>(
     groups: &Groups,
 ) -> u8 {
     let run = map_file(rt, base, view, groups);
-    match &run {
-        Ok(MapStatus::Drawn) => {}
-        Ok(MapStatus::NoPage) => tell_no_page(rt, view),
-        Err(fault) => return refused(rt, fault),
+    match run {
+        Ok(status) => {
+            if let MapStatus::NoPage = status {
+                tell_no_page(rt, view);
+            }
+            status_of_map(&Ok(status))
+        }
+        Err(unfinished) => report(rt, base, &unfinished),
     }
-    status_of_map(&run)
 }
 
 fn map_file<R: Files + Print + AllocGlobal>(
@@ -240,27 +226,18 @@ fn map_file<R: Files + Print + AllocGlobal>(
     base: &str,
     view: &View,
     groups: &Groups,
-) -> Result<MapStatus, RunFault> {
-    let base = opened(rt, base, RunFault::ReadBase)?;
+) -> Result<MapStatus, Unfinished> {
+    let base = open_base(rt, base)?;
     let mut base = FromRead::new(base);
     let mut out = IntoWrite::new(io::writer(rt));
-    run_map(rt.alloc(), &mut base, groups, view, &mut out)
+    let run = run_map(rt.alloc(), &mut base, groups, view, &mut out);
+    ended(run, &out)
 }
 
 fn tell_no_page<R: Eprint>(rt: &R, view: &View) {
     if let View::From(page, _) | View::To(page, _) = view {
         let text = page.text();
         let _ = eprintln!(rt; "error: the base has no frame {}a", text.as_str());
-    }
-}
-
-// The numbers of findings, if there are some. Without memory for the line it isn't printed: the findings are.
-fn tell_counts<R: Eprint + AllocGlobal>(rt: &R, counts: &Counts) {
-    let Ok(text) = counted_text(rt.alloc(), counts) else {
-        return;
-    };
-    if let Ok(line) = str::from_utf8(text.as_slice()) {
-        let _ = eprint!(rt; "{line}");
     }
 }
 
@@ -388,13 +365,22 @@ fn walk_file<R: Files + Print + AllocGlobal>(
     run_walk(rt.alloc(), &mut base, keys, groups, &mut out)
 }
 
+// Prints a line for each frame; the exit status.
+fn list<R: Files + Print + Eprint + AllocGlobal>(rt: &R, base: &str, groups: &Groups) -> u8 {
+    match list_file(rt, base, groups) {
+        Ok(status) => status_of(&Ok(status)),
+        Err(unfinished) => report(rt, base, &unfinished),
+    }
+}
+
 fn list_file<R: Files + Print + AllocGlobal>(
     rt: &R,
     base: &str,
     groups: &Groups,
-) -> Result<Status, RunFault> {
-    let base = opened(rt, base, RunFault::ReadBase)?;
+) -> Result<Status, Unfinished> {
+    let base = open_base(rt, base)?;
     let mut base = FromRead::new(base);
     let mut out = IntoWrite::new(io::writer(rt));
-    run_list(rt.alloc(), &mut base, groups, &mut out)
+    let run = run_list(rt.alloc(), &mut base, groups, &mut out);
+    ended(run, &out)
 }

@@ -1,7 +1,7 @@
 //! The command `show`: in which form, into which file, and what is said if there is no screen.
 
 use crate::out_file::{Out, open_out};
-use crate::{opened, refused};
+use crate::named_files::{Unfinished, ended, open_base, report};
 use audit_report::{FromRead, IntoWrite, RunFault};
 use command_words::Show;
 use frame_records::Groups;
@@ -73,8 +73,8 @@ fn show_file<R: Files + Env + Print + AllocGlobal>(
     rt: &R,
     errors: Stderr,
     asked: &Show,
-) -> Result<ShowStatus, RunFault> {
-    let base = opened(rt, asked.base, RunFault::ReadBase)?;
+) -> Result<ShowStatus, Unfinished> {
+    let base = open_base(rt, asked.base)?;
     let target = target_of(rt, asked)?;
     let form = form_of(rt, asked)?;
     let out = match asked.out {
@@ -83,8 +83,10 @@ fn show_file<R: Files + Env + Print + AllocGlobal>(
     };
     match out {
         Ok(out) => show_to(rt, errors, base, (&target, form, &asked.groups), out),
-        Err(error) if error.kind() == io::ErrorKind::OutOfMemory => Err(RunFault::Memory),
-        Err(_) => Err(RunFault::Write(0)),
+        Err(error) if error.kind() == io::ErrorKind::OutOfMemory => {
+            Err(Unfinished::Fault(RunFault::Memory))
+        }
+        Err(_) => Err(Unfinished::Fault(RunFault::Write(0))),
     }
 }
 
@@ -94,23 +96,25 @@ fn show_to<R: Files + Print + AllocGlobal>(
     base: R::File,
     (target, form, groups): (&Target, Form, &Groups),
     out: Out<R::File>,
-) -> Result<ShowStatus, RunFault> {
+) -> Result<ShowStatus, Unfinished> {
     let mut base = FromRead::new(base);
     match out {
         Out::Output => {
             let mut output = IntoWrite::new(io::writer(rt));
-            run_show(rt.alloc(), &mut base, groups, target, form, &mut output)
+            let run = run_show(rt.alloc(), &mut base, groups, target, form, &mut output);
+            ended(run, &output)
         }
         Out::Errors => {
             let mut output = IntoWrite::new(io::writer(&errors));
-            run_show(rt.alloc(), &mut base, groups, target, form, &mut output)
+            let run = run_show(rt.alloc(), &mut base, groups, target, form, &mut output);
+            ended(run, &output)
         }
         Out::File(names, file) => {
             let run = {
                 let mut output = IntoWrite::new(file);
                 run_show(rt.alloc(), &mut base, groups, target, form, &mut output)
             };
-            names.close(rt, run, &ShowStatus::Shown)
+            Ok(names.close(rt, run, &ShowStatus::Shown)?)
         }
     }
 }
@@ -162,10 +166,11 @@ pub fn show<R: Files + Env + Print + Eprint + AllocGlobal>(
     errors: Stderr,
     asked: &Show,
 ) -> u8 {
-    let run = show_file(rt, errors, asked);
-    match &run {
-        Ok(status) => print_no_screen(rt, asked, *status),
-        Err(fault) => return refused(rt, fault),
+    match show_file(rt, errors, asked) {
+        Ok(status) => {
+            print_no_screen(rt, asked, status);
+            status_of_show(&Ok(status))
+        }
+        Err(unfinished) => report(rt, asked.base, &unfinished),
     }
-    status_of_show(&run)
 }

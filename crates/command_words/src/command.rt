@@ -7,7 +7,7 @@ use checker::Policy;
 use clap::{Arg, ArgAction, ArgMatches, Command, Error, value_parser};
 use frame_records::{Groups, GroupsFault, MOST_PENCE, Pence};
 use page_ids::{FrameId, MOST_PAGE, PageNo};
-use pageaudit::Form;
+use pageaudit::{Form, Level};
 use std::alloc::{AllocError, Global};
 use std::rt::Env;
 use std::{env, io};
@@ -77,11 +77,23 @@ fn with_policy<'a>(alloc: Global, command: Command<'a>) -> Result<Command<'a>, A
     with_groups(alloc, command)
 }
 
+// A flag.
+fn flag<'a>(alloc: Global, name: &'a str, help: &'a str) -> Arg<'a> {
+    Arg::new(alloc, name)
+        .long(name)
+        .action(ArgAction::SetTrue)
+        .help(help)
+}
+
 fn lint_command<'a>(alloc: Global) -> Result<Command<'a>, AllocError> {
+    let bases = place(alloc, "BASE", "The bases, TOML files; - is standard input")
+        .num_args(1..)
+        .action(ArgAction::Append);
     let command = Command::new(alloc, "lint")
-        .about("Find every fault of a base, each at its line and column")
+        .about("Find every fault of bases, each at its line and column")
         .after_help(help::LINT)
-        .arg(place(alloc, "BASE", "The base, a TOML file"))?
+        .arg(bases)?
+        .arg(flag(alloc, "deny-warnings", "End with status 1 for a warning too"))?
         .arg(
             number(
                 alloc,
@@ -99,7 +111,7 @@ fn lint_command<'a>(alloc: Global) -> Result<Command<'a>, AllocError> {
                 "keyings",
                 'k',
                 MOST_RANK,
-                "Report each frame more than N keys away from the entry page, 0 to 65535",
+                "Report each frame more than N keys back to the entry page, 0 to 65535",
             )
             .required(false)
             .default_value("65535"),
@@ -293,6 +305,16 @@ fn collected(rt: &(impl Env + AllocGlobal), alloc: Global) -> io::Result<Vec<Str
     Ok(env::args(rt)?.collect(alloc)?)
 }
 
+/// Which bases are linted, and how.
+#[derive(Drop)]
+pub struct Lint<'a> {
+    /// At least one. `-` is standard input.
+    pub bases: &'a [&'a str],
+    pub policy: Policy,
+    /// The least level of a finding that makes the exit status 1.
+    pub denied: Level,
+}
+
 /// Which screen is shown, and how.
 #[derive(Drop)]
 pub struct Show<'a> {
@@ -311,11 +333,8 @@ pub struct Show<'a> {
 /// What the words ask for. Files are named by their paths.
 #[derive(Drop)]
 pub enum Request<'a> {
-    /// Every fault of a base, each at its place.
-    Lint {
-        base: &'a str,
-        policy: Policy,
-    },
+    /// Every fault of bases, each at its place.
+    Lint(Lint<'a>),
     /// The certificate of a base, in a file of its own if one is named, or its faults.
     Audit {
         base: &'a str,
@@ -425,6 +444,19 @@ fn form_of(word: &str) -> Option<Form> {
     }
 }
 
+// Which bases are linted, and how.
+fn lint_of<'a>(words: &'a ArgMatches, groups: Groups) -> Option<Request<'a>> {
+    Some(Request::Lint(Lint {
+        bases: words.get_strs("BASE")?,
+        policy: policy_of(words, groups)?,
+        denied: if words.get_flag("deny-warnings") {
+            Level::Warning
+        } else {
+            Level::Error
+        },
+    }))
+}
+
 // Which screen is shown, and how.
 fn show_of<'a>(words: &'a ArgMatches, groups: Groups) -> Option<Request<'a>> {
     let frame = match words.get_str("FRAME") {
@@ -448,10 +480,7 @@ fn show_of<'a>(words: &'a ArgMatches, groups: Groups) -> Option<Request<'a>> {
 /// requires.
 pub fn asked_for<'a>(matches: &'a ArgMatches, groups: Groups) -> Option<Request<'a>> {
     match matches.subcommand()? {
-        ("lint", words) => Some(Request::Lint {
-            base: words.get_str("BASE")?,
-            policy: policy_of(words, groups)?,
-        }),
+        ("lint", words) => lint_of(words, groups),
         ("audit", words) => Some(Request::Audit {
             base: words.get_str("BASE")?,
             out: words.get_str("out"),

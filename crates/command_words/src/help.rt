@@ -6,7 +6,7 @@ pub const VERSION: &str = "1.0.0";
 /// After the options of `lint`.
 pub const LINT: &str = concat!(
     "Example: pageaudit lint examples/town.toml\n\n",
-    "Status: 0 no error, 1 errors, 2 bad command line,\n",
+    "Status: 0 no error, 1 errors, or with --deny-warnings warnings, 2 bad command line,\n",
     "        3 a file that can't be read, or a write that fails, 4 out of memory",
 );
 

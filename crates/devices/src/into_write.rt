@@ -1,7 +1,7 @@
 ghost use Rattle.std.specs.Prelude.{◌≡◌, false};
 
 use crate::device::{Broken, Sink};
-use std::io::Write;
+use std::io::{ErrorKind, Write};
 
 /// A writer of std as a sink. A write that takes none of some bytes is an error here.
 #[derive(Drop)]
@@ -9,6 +9,7 @@ pub struct IntoWrite<W> {
     inner: W,
     failed: bool,
     flushes: u8,
+    closed: bool,
 }
 
 impl<W: Write> IntoWrite<W> {
@@ -20,7 +21,15 @@ impl<W: Write> IntoWrite<W> {
             inner,
             failed: false,
             flushes: 0,
+            closed: false,
         }
+    }
+
+    /// Whether the last error says that nobody reads any more, as that of a pipe without a reader does.
+    pub fn is_closed(&self) -> bool
+        ensures { result ≡ self.now.closed }
+    {
+        self.closed
     }
 }
 
@@ -30,8 +39,13 @@ impl<W: Write> Sink for IntoWrite<W> {
     fn write(&mut self, bytes: &[u8]) -> Result<usize, Broken> {
         match self.inner.write(bytes) {
             Ok(count) if count > 0 || bytes.is_empty() => Ok(count),
-            _ => {
+            Ok(_) => {
                 self.failed = true;
+                Err(Broken)
+            }
+            Err(error) => {
+                self.failed = true;
+                self.closed = error.kind() == ErrorKind::BrokenPipe;
                 Err(Broken)
             }
         }
@@ -41,8 +55,9 @@ impl<W: Write> Sink for IntoWrite<W> {
         self.flushes = self.flushes.saturating_add(1);
         match self.inner.flush() {
             Ok(()) => Ok(()),
-            Err(_) => {
+            Err(error) => {
                 self.failed = true;
+                self.closed = error.kind() == ErrorKind::BrokenPipe;
                 Err(Broken)
             }
         }

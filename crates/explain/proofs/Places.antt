@@ -1,9 +1,8 @@
 -- Places in a list of names.
-use Rattle.std.proofs.Common.{◌≡◌, ℕ, ◌+◌, ◌<◌, List, [], length, get_or, drop, arith, rules, refl, subst, true, false}
+use Rattle.std.proofs.Common.{◌≡◌, ℕ, ◌+◌, ◌<◌, List, [], length, get_or, arith, subst, true, false}
 use Rattle.std.specs.Borrow.{Bor}
-use Rattle.std.specs.Prelude.{Option}
-use Rattle.std.proofs.lemmas.List.{get_or-map, length-map, drop_more}
-use Rattle.explain.specs.Words.{texts_of, IsSame, IsAmong, nearest, nearer}
+use Rattle.std.proofs.lemmas.List.{get_or-map}
+use Rattle.explain.specs.Words.{texts_of, IsSame, IsAmong}
 
 -- the text at a place is that of the text there
 pub text_at : (names : List (Bor (List ℕ))) (place : ℕ) (d : Bor (List ℕ)) → place < length names → get_or (texts_of names) place [] ≡ (get_or names place d).now
@@ -23,13 +22,3 @@ none_more names word place before here j below = grind (arith, before, here)
 -- a word among names is among names that are the same
 pub is_among_same : (names others : List (List ℕ)) (word : List ℕ) → names ≡ others → IsAmong names word → IsAmong others word
 is_among_same names others word same among = subst (λ (xs : List (List ℕ)). IsAmong xs word) same among
-
--- the nearest of the names from a place on, from that of those after it
-pub nearest_more : (names : List (Bor (List ℕ))) (word : List ℕ) (place next : ℕ) (d : Bor (List ℕ)) (found after : Option (List ℕ)) →
-    place < length names → next ≡ place + 1 → after ≡ nearest word (drop next (texts_of names)) →
-    found ≡ nearer word (get_or names place d).now after → found ≡ nearest word (drop place (texts_of names))
-nearest_more names word place next d found after below is_next is_after is_found =
-    let step : nearest word (drop place (texts_of names)) ≡ nearer word (get_or names place d).now (nearest word (drop (place + 1) (texts_of names))) =
-    rw (drop_more (texts_of names) place [] (search (rules, length-map))) (rw (text_at names place d below) refl) in
-    let there : after ≡ nearest word (drop (place + 1) (texts_of names)) = subst (λ (k : ℕ). after ≡ nearest word (drop k (texts_of names))) is_next is_after in
-    cc

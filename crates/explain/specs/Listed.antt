@@ -73,6 +73,7 @@ listed =
     codes "E2" ∷
     codes "NoLongerCovered" ∷
     codes "UNREACHED" ∷
+    codes "HIDDEN" ∷
     codes "FRAME" ∷
     codes "RANK" ∷
     codes "GROUP" ∷

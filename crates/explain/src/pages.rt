@@ -1,7 +1,7 @@
 //! The words and the paragraphs of their texts: written by tests/explain-words from docs/CODES.md.
 
 /// Each word; its place is that of its paragraphs.
-pub static WORDS: [&str; 128] = [
+pub static WORDS: [&str; 129] = [
     "PBC1",
     "entry",
     "ceiling",
@@ -71,6 +71,7 @@ pub static WORDS: [&str; 128] = [
     "E2",
     "NoLongerCovered",
     "UNREACHED",
+    "HIDDEN",
     "FRAME",
     "RANK",
     "GROUP",
@@ -733,98 +734,111 @@ const P201: &str = r#"    FRAME 1a RANK 0 PRICE 0 GROUP - SCRIPT -
     FRAME 1b RANK - PRICE 5 GROUP - SCRIPT #
     UNREACHED 2a PRICE 0 GROUP 7"#;
 
-const P202: &str = r#"X1 TooLong"#;
+const P202: &str = r#"HIDDEN"#;
 
-const P203: &str = r#"The file has more than 16,777,216 bytes."#;
+const P203: &str = r#"A warning: this row has text, but the row above has double height (8D), which
+takes up both rows. No caller sees the text."#;
 
-const P204: &str = r#"    head -c 16777217 /dev/zero >base.toml
+const P204: &str = r#"    sed '0,/rows = .*/s//rows = ["\\u008DTITLE", "text"]/' base >two
+    pageaudit lint two 2>&1 | sed -n 's/^two:5:24: //; s/;.*//; 1p'"#;
+
+const P205: &str =
+    r#"    warning: HIDDEN: row 2 of frame 1a is hidden by the double height of row 1"#;
+
+const P206: &str = r#"Fix: leave the row below double height empty."#;
+
+const P207: &str = r#"X1 TooLong"#;
+
+const P208: &str = r#"The file has more than 16,777,216 bytes."#;
+
+const P209: &str = r#"    head -c 16777217 /dev/zero >base.toml
     pageaudit walk base.toml ''"#;
 
-const P205: &str = r#"    base: X1 TooLong"#;
+const P210: &str = r#"    base: X1 TooLong"#;
 
-const P206: &str = r#"Fix: split the base, or shorten bodies."#;
+const P211: &str = r#"Fix: split the base, or shorten bodies."#;
 
-const P207: &str = r#"X2 NotToml"#;
+const P212: &str = r#"X2 NotToml"#;
 
-const P208: &str = r#"The file isn't UTF-8 or TOML: a quotation mark or bracket is missing, a key
+const P213: &str = r#"The file isn't UTF-8 or TOML: a quotation mark or bracket is missing, a key
 comes twice, an integer is outside 64 bits, or one of several frames begins
 with '[frame]'."#;
 
-const P209: &str = r#"    printf '%s\n' 'entry = 1' '[[frame]]' 'id = "1a"' "$@" >base.toml
+const P214: &str = r#"    printf '%s\n' 'entry = 1' '[[frame]]' 'id = "1a"' "$@" >base.toml
     pageaudit walk base.toml ''"#;
 
-const P210: &str = r#"    sh try 'rows = ["HELLO]'"#;
+const P215: &str = r#"    sh try 'rows = ["HELLO]'"#;
 
-const P211: &str = r#"    base: X2 NotToml"#;
+const P216: &str = r#"    base: X2 NotToml"#;
 
-const P212: &str = r#"Fix: 'pageaudit lint' names the line and what is wrong there."#;
+const P217: &str = r#"Fix: 'pageaudit lint' names the line and what is wrong there."#;
 
-const P213: &str = r#"X3 UnknownKey"#;
+const P218: &str = r#"X3 UnknownKey"#;
 
-const P214: &str = r#"A base has the keys 'entry', 'outside' and 'frame'; a frame 'id', 'price',
+const P219: &str = r#"A base has the keys 'entry', 'outside' and 'frame'; a frame 'id', 'price',
 'group', 'next', 'routes', 'lead', 'body' and 'rows'; 'routes' the digits '0'
 to '9'."#;
 
-const P215: &str = r#"    sh try 'title = "Town"'"#;
+const P220: &str = r#"    sh try 'title = "Town"'"#;
 
-const P216: &str = r#"    base: frame 0: X3 UnknownKey"#;
+const P221: &str = r#"    base: frame 0: X3 UnknownKey"#;
 
-const P217: &str = r#"Fix: correct the spelling, or put '#' before it."#;
+const P222: &str = r#"Fix: correct the spelling, or put '#' before it."#;
 
-const P218: &str = r#"X4 Absent"#;
+const P223: &str = r#"X4 Absent"#;
 
-const P219: &str = r#"A required key is missing: 'entry', a frame's 'id', or its text, 'body' or
+const P224: &str = r#"A required key is missing: 'entry', a frame's 'id', or its text, 'body' or
 'rows'."#;
 
-const P220: &str = r#"    sh try
+const P225: &str = r#"    sh try
     printf 'entry = 1\n[[frame]]\n' >base.toml
     pageaudit walk base.toml ''"#;
 
-const P221: &str = r#"    base: frame 0: X4 Absent body
+const P226: &str = r#"    base: frame 0: X4 Absent body
     base: frame 0: X4 Absent id"#;
 
-const P222: &str = r#"Fix: add it. A frame without text has 'rows = []'."#;
+const P227: &str = r#"Fix: add it. A frame without text has 'rows = []'."#;
 
-const P223: &str = r#"X5 WrongKind"#;
+const P228: &str = r#"X5 WrongKind"#;
 
-const P224: &str = r#"'entry', 'price', 'group' and routes are integers, 'outside' is an array of
+const P229: &str = r#"'entry', 'price', 'group' and routes are integers, 'outside' is an array of
 integers, 'id', 'lead' and 'body' are strings, 'rows' is an array of strings,
 'next' a boolean, 'routes' a table, each frame a '[[frame]]'."#;
 
-const P225: &str = r#"    sh try 'next = 1'"#;
+const P230: &str = r#"    sh try 'next = 1'"#;
 
-const P226: &str = r#"    base: frame 0: X5 WrongKind next"#;
+const P231: &str = r#"    base: frame 0: X5 WrongKind next"#;
 
-const P227: &str = r#"Fix: write the value in its kind."#;
+const P232: &str = r#"Fix: write the value in its kind."#;
 
-const P228: &str = r#"X6 Range"#;
+const P233: &str = r#"X6 Range"#;
 
-const P229: &str = r#"'entry', pages of 'outside' and routes are 0 to 999,999,999, 'price' is 0 to
+const P234: &str = r#"'entry', pages of 'outside' and routes are 0 to 999,999,999, 'price' is 0 to
 9,999, 'group' 1 to 65,535. 'lead' is 'clear' or 'keep', codes of 'body' are 0
 to FF, and there are at most 22 'rows'."#;
 
-const P230: &str = r#"    sh try 'price = 10000'
+const P235: &str = r#"    sh try 'price = 10000'
     sh try 'group = 0'
     sh try 'routes = { 2 = -1 }'
     sh try 'lead = "Clear"'
     printf 'entry = 1\noutside = [-1]\n' >base.toml
     pageaudit walk base.toml ''"#;
 
-const P231: &str = r#"    base: frame 0: X6 Range price
+const P236: &str = r#"    base: frame 0: X6 Range price
     base: frame 0: X6 Range group
     base: frame 0: X6 Range routes
     base: frame 0: X6 Range lead
     base: X6 Range outside"#;
 
-const P232: &str = r#"Fix: bring the value into its range. Curly quotation marks and long dashes are
+const P237: &str = r#"Fix: bring the value into its range. Curly quotation marks and long dashes are
 above FF."#;
 
-const P233: &str = r#"Range"#;
+const P238: &str = r#"Range"#;
 
-const P234: &str = r#"A number is above its limit: 999,999,999 for 'entry', 9,999 for 'ceiling',
+const P239: &str = r#"A number is above its limit: 999,999,999 for 'entry', 9,999 for 'ceiling',
 65,535 for all others. Or a group is 0, or the seventeenth."#;
 
-const P235: &str = r#"    PBC1
+const P240: &str = r#"    PBC1
     entry 1
     ceiling 0
     keyings 0
@@ -832,255 +846,258 @@ const P235: &str = r#"    PBC1
     1a 0 s40
     end"#;
 
-const P236: &str = r#"    sed "$1" base.cert >other.cert
+const P241: &str = r#"    sed "$1" base.cert >other.cert
     pageaudit check base.toml other.cert --ceiling 0 --keyings 0"#;
 
-const P237: &str = r#"    sh try 's/^ceiling 0/ceiling 10000/'"#;
+const P242: &str = r#"    sh try 's/^ceiling 0/ceiling 10000/'"#;
 
-const P238: &str = r#"    certificate: line 3: Range"#;
+const P243: &str = r#"    certificate: line 3: Range"#;
 
-const P239: &str = r#"Fix: take the file as 'audit' printed it."#;
+const P244: &str = r#"Fix: take the file as 'audit' printed it."#;
 
-const P240: &str = r#"X7 BodyAndRows"#;
+const P245: &str = r#"X7 BodyAndRows"#;
 
-const P241: &str = r#"The frame has both 'body' and 'rows'."#;
+const P246: &str = r#"The frame has both 'body' and 'rows'."#;
 
-const P242: &str = r#"    sh try 'body = ""' 'rows = []'"#;
+const P247: &str = r#"    sh try 'body = ""' 'rows = []'"#;
 
-const P243: &str = r#"    base: frame 0: X7 BodyAndRows"#;
+const P248: &str = r#"    base: frame 0: X7 BodyAndRows"#;
 
-const P244: &str = r#"Fix: remove one of them."#;
+const P249: &str = r#"Fix: remove one of them."#;
 
-const P245: &str = r#"X8 RowTooLong"#;
+const P250: &str = r#"X8 RowTooLong"#;
 
-const P246: &str = r#"A row has more than 40 codes."#;
+const P251: &str = r#"A row has more than 40 codes."#;
 
-const P247: &str = r#"    sh try "rows = ['$(seq -s '' 25)']""#;
+const P252: &str = r#"    sh try "rows = ['$(seq -s '' 25)']""#;
 
-const P248: &str = r#"    base: frame 0: X8 RowTooLong"#;
+const P253: &str = r#"    base: frame 0: X8 RowTooLong"#;
 
-const P249: &str = r#"Fix: cut the row in two."#;
+const P254: &str = r#"Fix: cut the row in two."#;
 
-const P250: &str = r#"X9 RowCode"#;
+const P255: &str = r#"X9 RowCode"#;
 
-const P251: &str = r#"A row has a code outside 20 to 7F (characters) and 80 to 9F (attributes)."#;
+const P256: &str = r#"A row has a code outside 20 to 7F (characters) and 80 to 9F (attributes)."#;
 
-const P252: &str = r#"    sh try 'rows = ["CAF\u00C9"]'"#;
+const P257: &str = r#"    sh try 'rows = ["CAF\u00C9"]'"#;
 
-const P253: &str = r#"    base: frame 0: X9 RowCode"#;
+const P258: &str = r#"    base: frame 0: X9 RowCode"#;
 
-const P254: &str = r#"Fix: replace the code. For control codes use 'body'."#;
+const P259: &str = r#"Fix: replace the code. For control codes use 'body'."#;
 
-const P255: &str = r#"I2 BadFrame"#;
+const P260: &str = r#"I2 BadFrame"#;
 
-const P256: &str = r#"The 'id' isn't a page number, 0 to 999,999,999 without leading zeros, and a
+const P261: &str = r#"The 'id' isn't a page number, 0 to 999,999,999 without leading zeros, and a
 letter, 'a' to 'z'."#;
 
-const P257: &str = r#"    entry = 1
+const P262: &str = r#"    entry = 1
 
     [[frame]]
     id = "1A"
     rows = []"#;
 
-const P258: &str = r#"    pageaudit walk base.toml ''"#;
+const P263: &str = r#"    pageaudit walk base.toml ''"#;
 
-const P259: &str = r#"    base: frame 0: I2 BadFrame"#;
+const P264: &str = r#"    base: frame 0: I2 BadFrame"#;
 
-const P260: &str = r#"Fix: correct the id."#;
+const P265: &str = r#"Fix: correct the id."#;
 
-const P261: &str = r#"B1 Duplicate"#;
+const P266: &str = r#"B1 Duplicate"#;
 
-const P262: &str = r#"Two frames have this id (the smallest is named)."#;
+const P267: &str = r#"Two frames have this id (the smallest is named)."#;
 
-const P263: &str = r#"    sh try 'rows = []' '[[frame]]' 'id = "1a"' 'rows = []'"#;
+const P268: &str = r#"    sh try 'rows = []' '[[frame]]' 'id = "1a"' 'rows = []'"#;
 
-const P264: &str = r#"    base: B1 Duplicate 1a"#;
+const P269: &str = r#"    base: B1 Duplicate 1a"#;
 
-const P265: &str = r#"Fix: remove a frame, or give it another id."#;
+const P270: &str = r#"Fix: remove a frame, or give it another id."#;
 
-const P266: &str = r#"B2 OutsideInside"#;
+const P271: &str = r#"B2 OutsideInside"#;
 
-const P267: &str = r#"This page (the smallest is named) is in 'outside' and has frames."#;
+const P272: &str = r#"This page (the smallest is named) is in 'outside' and has frames."#;
 
-const P268: &str = r#"    entry = 1
+const P273: &str = r#"    entry = 1
     outside = [1]
 
     [[frame]]
     id = "1a"
     rows = []"#;
 
-const P269: &str = r#"    base: B2 OutsideInside 1"#;
+const P274: &str = r#"    base: B2 OutsideInside 1"#;
 
-const P270: &str = r#"Fix: remove the page from 'outside', or its frames."#;
+const P275: &str = r#"Fix: remove the page from 'outside', or its frames."#;
 
-const P271: &str = r#"B3 NextAfterZ"#;
+const P276: &str = r#"B3 NextAfterZ"#;
 
-const P272: &str = r#"This frame 'z' (the smallest is named) has 'next = true'."#;
+const P277: &str = r#"This frame 'z' (the smallest is named) has 'next = true'."#;
 
-const P273: &str = r#"    entry = 1
+const P278: &str = r#"    entry = 1
 
     [[frame]]
     id = "1z"
     next = true
     rows = []"#;
 
-const P274: &str = r#"    base: B3 NextAfterZ 1z"#;
+const P279: &str = r#"    base: B3 NextAfterZ 1z"#;
 
-const P275: &str = r#"Fix: remove 'next = true', and lead on by a route."#;
+const P280: &str = r#"Fix: remove 'next = true', and lead on by a route."#;
 
-const P276: &str = r#"B4 TooMany"#;
+const P281: &str = r#"B4 TooMany"#;
 
-const P277: &str = r#"There are more than 65,535 frames or entries of 'outside'."#;
+const P282: &str = r#"There are more than 65,535 frames or entries of 'outside'."#;
 
-const P278: &str = r#"    printf 'entry = 1\noutside = [%s]\n' $(seq -s , 0 65535) >base.toml
+const P283: &str = r#"    printf 'entry = 1\noutside = [%s]\n' $(seq -s , 0 65535) >base.toml
     pageaudit walk base.toml ''"#;
 
-const P279: &str = r#"    base: B4 TooMany"#;
+const P284: &str = r#"    base: B4 TooMany"#;
 
-const P280: &str = r#"Fix: split the base."#;
+const P285: &str = r#"Fix: split the base."#;
 
-const P281: &str = r#"B5 BodyTooLong"#;
+const P286: &str = r#"B5 BodyTooLong"#;
 
-const P282: &str = r#"This frame's body (the smallest id is named) has more than 4,096 bytes."#;
+const P287: &str = r#"This frame's body (the smallest id is named) has more than 4,096 bytes."#;
 
-const P283: &str = r#"    sh try "$(printf 'body = "%4097s"')""#;
+const P288: &str = r#"    sh try "$(printf 'body = "%4097s"')""#;
 
-const P284: &str = r#"    base: B5 BodyTooLong 1a"#;
+const P289: &str = r#"    base: B5 BodyTooLong 1a"#;
 
-const P285: &str = r#"Fix: shorten the body, or cut the frame in two with 'next = true'."#;
+const P290: &str = r#"Fix: shorten the body, or cut the frame in two with 'next = true'."#;
 
-const P286: &str = r#"Magic"#;
+const P291: &str = r#"Magic"#;
 
-const P287: &str = r#"Line 1 is neither PBC1 nor PBC2. Often the file is a list of faults, or its
+const P292: &str = r#"Line 1 is neither PBC1 nor PBC2. Often the file is a list of faults, or its
 lines end with 0D 0A."#;
 
-const P288: &str = r#"    sh try 's/$/\r/'"#;
+const P293: &str = r#"    sh try 's/$/\r/'"#;
 
-const P289: &str = r#"    certificate: line 1: Magic"#;
+const P294: &str = r#"    certificate: line 1: Magic"#;
 
-const P290: &str = r#"Word"#;
+const P295: &str = r#"Word"#;
 
-const P291: &str = r#"A line before the rows doesn't begin with its word and one space (on line 5
+const P296: &str = r#"A line before the rows doesn't begin with its word and one space (on line 5
 'groups' for PBC2, 'rows' for PBC1). Or a row lacks its id or two spaces, or a
 line has over 128 bytes."#;
 
-const P292: &str = r#"    sh try 's/^entry/Entry/'"#;
+const P297: &str = r#"    sh try 's/^entry/Entry/'"#;
 
-const P293: &str = r#"    certificate: line 2: Word"#;
+const P298: &str = r#"    certificate: line 2: Word"#;
 
-const P294: &str = r#"Number"#;
+const P299: &str = r#"Number"#;
 
-const P295: &str = r#"A number isn't in decimal digits without leading zeros, or a group isn't after
+const P300: &str = r#"A number isn't in decimal digits without leading zeros, or a group isn't after
 one space."#;
 
-const P296: &str = r#"    sh try 's/^entry 1/entry 01/'"#;
+const P301: &str = r#"    sh try 's/^entry 1/entry 01/'"#;
 
-const P297: &str = r#"    certificate: line 2: Number"#;
+const P302: &str = r#"    certificate: line 2: Number"#;
 
-const P298: &str = r#"Order"#;
+const P303: &str = r#"Order"#;
 
-const P299: &str = r#"An id isn't greater than the one before, by page, then by letter; or a group
+const P304: &str = r#"An id isn't greater than the one before, by page, then by letter; or a group
 isn't."#;
 
-const P300: &str = r#"    sh try 's/^rows 1/rows 2/; s/^1a.*/&\n&/'"#;
+const P305: &str = r#"    sh try 's/^rows 1/rows 2/; s/^1a.*/&\n&/'"#;
 
-const P301: &str = r#"    certificate: line 7: Order"#;
+const P306: &str = r#"    certificate: line 7: Order"#;
 
-const P302: &str = r#"Cursor"#;
+const P307: &str = r#"Cursor"#;
 
-const P303: &str = r#"A row's cursor isn't one: see 'any'."#;
+const P308: &str = r#"A row's cursor isn't one: see 'any'."#;
 
-const P304: &str = r#"    sh try 's/s40/s960/'"#;
+const P309: &str = r#"    sh try 's/s40/s960/'"#;
 
-const P305: &str = r#"    certificate: line 6: Cursor"#;
+const P310: &str = r#"    certificate: line 6: Cursor"#;
 
-const P306: &str = r#"Count"#;
+const P311: &str = r#"Count"#;
 
-const P307: &str = r#"There are more or fewer rows than the line 'rows' says."#;
+const P312: &str = r#"There are more or fewer rows than the line 'rows' says."#;
 
-const P308: &str = r#"    sh try 's/^rows 1/rows 2/'"#;
+const P313: &str = r#"    sh try 's/^rows 1/rows 2/'"#;
 
-const P309: &str = r#"    certificate: line 7: Count"#;
+const P314: &str = r#"    certificate: line 7: Count"#;
 
-const P310: &str = r#"Tail"#;
+const P315: &str = r#"Tail"#;
 
-const P311: &str = r#"Something follows the line 'end'."#;
+const P316: &str = r#"Something follows the line 'end'."#;
 
-const P312: &str = r#"    sh try 's/^end/&\n&/'"#;
+const P317: &str = r#"    sh try 's/^end/&\n&/'"#;
 
-const P313: &str = r#"    certificate: line 8: Tail"#;
+const P318: &str = r#"    certificate: line 8: Tail"#;
 
-const P314: &str = r#"Truncated"#;
+const P319: &str = r#"Truncated"#;
 
-const P315: &str = r#"The file ends before the line 'end', or in it."#;
+const P320: &str = r#"The file ends before the line 'end', or in it."#;
 
-const P316: &str = r#"    sh try '/^end/d'"#;
+const P321: &str = r#"    sh try '/^end/d'"#;
 
-const P317: &str = r#"    certificate: line 7: Truncated"#;
+const P322: &str = r#"    certificate: line 7: Truncated"#;
 
-const P318: &str = r#"I4 BadGroups"#;
+const P323: &str = r#"I4 BadGroups"#;
 
-const P319: &str = r#"--groups isn't 1 to 16 numbers, 1 to 65,535 without leading zeros, ascending,
+const P324: &str = r#"--groups isn't 1 to 16 numbers, 1 to 65,535 without leading zeros, ascending,
 with only commas between."#;
 
-const P320: &str = r#"    pageaudit walk base.toml '' --groups 9,7"#;
+const P325: &str = r#"    pageaudit walk base.toml '' --groups 9,7"#;
 
-const P321: &str = r#"They print on standard error, with status 2:"#;
+const P326: &str = r#"They print on standard error, with status 2:"#;
 
-const P322: &str = r#"    groups: I4 BadGroups"#;
+const P327: &str = r#"    groups: I4 BadGroups"#;
 
-const P323: &str = r#"Fix: write them as '7,9'. For callers in no group leave the option out."#;
+const P328: &str = r#"Fix: write them as '7,9'. For callers in no group leave the option out."#;
 
-const P324: &str = r#"I3 BadKey"#;
+const P329: &str = r#"I3 BadKey"#;
 
-const P325: &str = r#"No key begins at this byte of a walk's keys. Nothing is walked."#;
+const P330: &str = r#"No key begins at this byte of a walk's keys. Nothing is walked."#;
 
-const P326: &str = r#"    pageaudit walk base.toml '1*5#'"#;
+const P331: &str = r#"    pageaudit walk base.toml '1*5#'"#;
 
-const P327: &str = r#"    keys: I3 BadKey 1"#;
+const P332: &str = r#"    keys: I3 BadKey 1"#;
 
-const P328: &str =
+const P333: &str =
     r#"Fix: write '0' to '9', '#', '*#', '*00' and '*09', without spaces, in quotation
 marks."#;
 
-const P329: &str = r#"read failed"#;
+const P334: &str = r#"read failed"#;
 
-const P330: &str = r#"The file can't be opened, or reading it failed, as it does for a folder."#;
+const P335: &str = r#"The file can't be opened, or reading it failed, as it does for a folder.
+'lint', 'show', 'list' and 'map' name it, with the reason."#;
 
-const P331: &str = r#"    pageaudit walk a ''
+const P336: &str = r#"    pageaudit walk a ''
     pageaudit check base.toml a -c 0 -k 0
     pageaudit change base.toml base.toml a a -c 0 -k 0
-    pageaudit change base.toml base.toml base.toml a -c 0 -k 0"#;
+    pageaudit change base.toml base.toml base.toml a -c 0 -k 0
+    pageaudit lint a"#;
 
-const P332: &str = r#"    base: read failed
+const P337: &str = r#"    base: read failed
     certificate: read failed
     new base: read failed
-    new certificate: read failed"#;
+    new certificate: read failed
+    a: no such file"#;
 
-const P333: &str = r#"Fix: look at the path, and at who may read the file."#;
+const P338: &str = r#"Fix: look at the path, and at who may read the file."#;
 
-const P334: &str = r#"write failed"#;
+const P339: &str = r#"write failed"#;
 
-const P335: &str = r#"Standard output took only this many bytes. No answer was given, whatever was
+const P340: &str = r#"Standard output took only this many bytes. No answer was given, whatever was
 printed."#;
 
-const P336: &str = r#"    pageaudit walk base.toml '' >/dev/full"#;
+const P341: &str = r#"    pageaudit walk base.toml '' >/dev/full"#;
 
-const P337: &str = r#"    output: write failed after 0 bytes"#;
+const P342: &str = r#"    output: write failed after 0 bytes"#;
 
-const P338: &str = r#"Fix: make room, or see why the reader of the output ended, and run again."#;
+const P343: &str = r#"Fix: make room, or see why the reader of the output ended, and run again."#;
 
-const P339: &str = r#"memory refused"#;
+const P344: &str = r#"memory refused"#;
 
-const P340: &str =
+const P345: &str =
     r#"There isn't enough memory. If there isn't even enough for this line, nothing is
 printed."#;
 
-const P341: &str = r#"Fix: run with more. The largest base takes some 200 MB."#;
+const P346: &str = r#"Fix: run with more. The largest base takes some 200 MB."#;
 
-const P342: &str = r#"I1"#;
+const P347: &str = r#"I1"#;
 
-const P343: &str = r#"Codes of the libraries, which no run prints: I1 no page number, L1 a
+const P348: &str = r#"Codes of the libraries, which no run prints: I1 no page number, L1 a
 certificate's line at fault, L2 a reader used after that, S1 ENTRYMISSING, S2
 ENTRYCLOSED, C1 rows out of order, C2 too many rows, C3 no cursor. Nor is
 'certificate: failed' printed, or '*#', '*00' or '*09' in a script."#;
@@ -1162,60 +1179,61 @@ pub(crate) fn paragraphs_at(place: usize) -> &'static [&'static str] {
             P190, P191, P192, P193, P4, P194, P6, P195, P196, P197, P198, P2, P199, P4, P200, P6,
             P201,
         ],
-        ..=72 => &[P197, P198, P2, P199, P4, P200, P6, P201],
-        ..=74 => &[P202, P203, P4, P204, P177, P205, P206],
-        ..=76 => &[P207, P208, P32, P209, P4, P210, P177, P211, P212],
-        ..=78 => &[P213, P214, P32, P209, P4, P215, P177, P216, P217],
-        ..=80 => &[P218, P219, P32, P209, P4, P220, P177, P221, P222],
-        ..=82 => &[P223, P224, P32, P209, P4, P225, P177, P226, P227],
-        ..=83 => &[P228, P229, P32, P209, P4, P230, P177, P231, P232],
-        ..=84 => &[
-            P228, P229, P32, P209, P4, P230, P177, P231, P232, P233, P234, P2, P175, P30, P235,
-            P32, P236, P4, P237, P177, P238, P239,
+        ..=69 => &[P202, P203, P192, P193, P4, P204, P6, P205, P206],
+        ..=73 => &[P197, P198, P2, P199, P4, P200, P6, P201],
+        ..=75 => &[P207, P208, P4, P209, P177, P210, P211],
+        ..=77 => &[P212, P213, P32, P214, P4, P215, P177, P216, P217],
+        ..=79 => &[P218, P219, P32, P214, P4, P220, P177, P221, P222],
+        ..=81 => &[P223, P224, P32, P214, P4, P225, P177, P226, P227],
+        ..=83 => &[P228, P229, P32, P214, P4, P230, P177, P231, P232],
+        ..=84 => &[P233, P234, P32, P214, P4, P235, P177, P236, P237],
+        ..=85 => &[
+            P233, P234, P32, P214, P4, P235, P177, P236, P237, P238, P239, P2, P175, P30, P240,
+            P32, P241, P4, P242, P177, P243, P244,
         ],
-        ..=86 => &[P240, P241, P32, P209, P4, P242, P177, P243, P244],
-        ..=88 => &[P245, P246, P32, P209, P4, P247, P177, P248, P249],
-        ..=90 => &[P250, P251, P32, P209, P4, P252, P177, P253, P254],
-        ..=92 => &[P255, P256, P2, P257, P4, P258, P177, P259, P260],
-        ..=94 => &[P261, P262, P32, P209, P4, P263, P177, P264, P265],
-        ..=96 => &[P266, P267, P2, P268, P4, P258, P177, P269, P270],
-        ..=98 => &[P271, P272, P2, P273, P4, P258, P177, P274, P275],
-        ..=100 => &[P276, P277, P4, P278, P177, P279, P280],
-        ..=102 => &[P281, P282, P32, P209, P4, P283, P177, P284, P285],
-        ..=103 => &[
-            P286, P287, P2, P175, P30, P235, P32, P236, P4, P288, P177, P289, P239,
-        ],
+        ..=87 => &[P245, P246, P32, P214, P4, P247, P177, P248, P249],
+        ..=89 => &[P250, P251, P32, P214, P4, P252, P177, P253, P254],
+        ..=91 => &[P255, P256, P32, P214, P4, P257, P177, P258, P259],
+        ..=93 => &[P260, P261, P2, P262, P4, P263, P177, P264, P265],
+        ..=95 => &[P266, P267, P32, P214, P4, P268, P177, P269, P270],
+        ..=97 => &[P271, P272, P2, P273, P4, P263, P177, P274, P275],
+        ..=99 => &[P276, P277, P2, P278, P4, P263, P177, P279, P280],
+        ..=101 => &[P281, P282, P4, P283, P177, P284, P285],
+        ..=103 => &[P286, P287, P32, P214, P4, P288, P177, P289, P290],
         ..=104 => &[
-            P290, P291, P2, P175, P30, P235, P32, P236, P4, P292, P177, P293, P239,
+            P291, P292, P2, P175, P30, P240, P32, P241, P4, P293, P177, P294, P244,
         ],
         ..=105 => &[
-            P294, P295, P2, P175, P30, P235, P32, P236, P4, P296, P177, P297, P239,
+            P295, P296, P2, P175, P30, P240, P32, P241, P4, P297, P177, P298, P244,
         ],
         ..=106 => &[
-            P233, P234, P2, P175, P30, P235, P32, P236, P4, P237, P177, P238, P239,
+            P299, P300, P2, P175, P30, P240, P32, P241, P4, P301, P177, P302, P244,
         ],
         ..=107 => &[
-            P298, P299, P2, P175, P30, P235, P32, P236, P4, P300, P177, P301, P239,
+            P238, P239, P2, P175, P30, P240, P32, P241, P4, P242, P177, P243, P244,
         ],
         ..=108 => &[
-            P302, P303, P2, P175, P30, P235, P32, P236, P4, P304, P177, P305, P239,
+            P303, P304, P2, P175, P30, P240, P32, P241, P4, P305, P177, P306, P244,
         ],
         ..=109 => &[
-            P306, P307, P2, P175, P30, P235, P32, P236, P4, P308, P177, P309, P239,
+            P307, P308, P2, P175, P30, P240, P32, P241, P4, P309, P177, P310, P244,
         ],
         ..=110 => &[
-            P310, P311, P2, P175, P30, P235, P32, P236, P4, P312, P177, P313, P239,
+            P311, P312, P2, P175, P30, P240, P32, P241, P4, P313, P177, P314, P244,
         ],
         ..=111 => &[
-            P314, P315, P2, P175, P30, P235, P32, P236, P4, P316, P177, P317, P239,
+            P315, P316, P2, P175, P30, P240, P32, P241, P4, P317, P177, P318, P244,
         ],
-        ..=112 => &[P173, P174, P2, P175, P4, P176, P177, P178, P179],
-        ..=114 => &[P318, P319, P2, P175, P4, P320, P321, P322, P323],
-        ..=116 => &[P324, P325, P2, P175, P4, P326, P321, P327, P328],
-        ..=117 => &[P329, P330, P2, P175, P4, P331, P177, P332, P333],
+        ..=112 => &[
+            P319, P320, P2, P175, P30, P240, P32, P241, P4, P321, P177, P322, P244,
+        ],
+        ..=113 => &[P173, P174, P2, P175, P4, P176, P177, P178, P179],
+        ..=115 => &[P323, P324, P2, P175, P4, P325, P326, P327, P328],
+        ..=117 => &[P329, P330, P2, P175, P4, P331, P326, P332, P333],
         ..=118 => &[P334, P335, P2, P175, P4, P336, P177, P337, P338],
-        ..=119 => &[P339, P340, P341],
-        _ => &[P342, P343],
+        ..=119 => &[P339, P340, P2, P175, P4, P341, P177, P342, P343],
+        ..=120 => &[P344, P345, P346],
+        _ => &[P347, P348],
     }
 }
 
@@ -1257,6 +1275,7 @@ NEW                     the new edition fails
 E1, EntryMoved          the entry page changed
 E2, NoLongerCovered     a frame is lost
 UNREACHED               no key leads to a frame
+HIDDEN                  a row under double height
 FRAME, RANK, GROUP, UNREACHED  a frame of a list
 X1, TooLong             the file is too long
 X2, NotToml             the file isn't TOML

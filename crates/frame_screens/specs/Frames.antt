@@ -1,5 +1,5 @@
 -- Which frames are sent for a screen. A caller is the list of the closed user groups to which the caller belongs.
-use Rattle.std.specs.Prelude.{◌≡◌, ℕ, ◌-◌, List, [], ◌∷◌, ◌++◌, Option, Some, None, Result, Ok, Err, length, slice_get, position}
+use Rattle.std.specs.Prelude.{◌≡◌, ℕ, ◌-◌, List, [], ◌∷◌, ◌++◌, Option, Some, None, Result, Ok, Err, length, map, slice_get, position}
 use Rattle.page_ids.specs.Ids.{Id, id_eq}
 use Rattle.page_ids.specs.declared.key.Key.{Key}
 use Rattle.frame_records.specs.declared.base.Sought.{Sought}
@@ -14,6 +14,10 @@ use Rattle.finder.specs.declared.found.Discovered.{Discovered}
 use Rattle.finder.specs.Finds.{IsFinding, script}
 use Rattle.frame_screens.specs.declared.keyed.NoScreen.{NoScreen}
 use Rattle.frame_screens.specs.declared.keyed.NoScreen.TheVariants as none
+
+-- the ids of a base's frames, ascending
+abbrev pub ids_of : BaseView → List Id
+ids_of base = map (λ f. f.id) base.frames
 
 -- the last of frames
 abbrev pub last_of : List Id → Option Id

@@ -1,5 +1,5 @@
 -- The laws of screens, of every base, caller and list of keys.
-use Rattle.std.specs.Prelude.{◌≡◌, ℕ, Bool, false, true, List, [], ◌∷◌, ◌++◌, Some, get_or, if◌then◌else◌}
+use Rattle.std.specs.Prelude.{◌≡◌, ℕ, Bool, false, true, List, [], ◌∷◌, ◌++◌, Ok, Some, get_or, if◌then◌else◌}
 use Rattle.std.specs.List.{list_any}
 use Rattle.page_ids.specs.Ids.{Id}
 use Rattle.page_ids.specs.declared.key.Key.{Key}
@@ -17,7 +17,7 @@ use Rattle.cert_table.specs.Table.{CertView}
 use Rattle.checker.specs.declared.policy.Policy.{Policy}
 use Rattle.checker.specs.declared.verdict.Verdict.TheVariants.{Cleared}
 use Rattle.checker.specs.Verdict.{verdict}
-use Rattle.frame_screens.specs.Frames.{frames_sent, last_of, place_of, way_by}
+use Rattle.frame_screens.specs.Frames.{frames_sent, keyed_frames, last_of, place_of, way_by}
 use Rattle.frame_screens.specs.Screens.{new_terminal, with_frames, records}
 
 -- The headline, seen.
@@ -84,10 +84,13 @@ pub record FramesDecide : Type 0 where
 
 -- Where a way ends.
 
--- the last frame of the way to a frame is that frame; if a key reaches it, it is also the present one after its keys
+-- the last frame of the way to a frame is that frame; if a key reaches it, it is also the present one after its keys, and a
+-- session of these keys shows the way
 pub record LeadsThere (caller : List ℕ) (base : BaseView) (found : List Discovered) : Type 0 where
   pub last : (id : Id) → last_of (way_by caller base found id (place_of found id)) ≡ Some id
   pub present : (id : Id) (place : ℕ) → place_of found id ≡ Some place → present (state_after caller base (opening base) (script found place)) ≡ Some id
+  pub keyed : (id : Id) (place : ℕ) → place_of found id ≡ Some place
+      → keyed_frames caller base (script found place) ≡ Ok (way_by caller base found id (Some place))
 
 abbrev pub WaysLeadThere : Type 0
 WaysLeadThere = (caller : List ℕ) (base : BaseView) (found : List Discovered) → FindsReached caller base found → LeadsThere caller base found

@@ -1,4 +1,3 @@
 pub mod Frames
 pub mod Screens
-pub mod Near
 pub mod Laws

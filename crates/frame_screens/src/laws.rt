@@ -1,7 +1,6 @@
 ghost use Rattle.frame_screens.specs.Laws.{HeadlineIsSeen, FramesDecide, WaysLeadThere};
 
 use checker::{cleared_is_good, good_is_safe};
-use finder::scripts_lead;
 
 /// If the check of a base is Cleared, then after every list of keys the screen, before the centre's rows are painted, has in
 /// rows 0 and 23 what was there before, or blanks if a frame cleared it; on a new terminal they are blank. No double height in
@@ -18,9 +17,8 @@ pub fn frames_decide()
     ensures { FramesDecide }
 {}
 
-/// A frame is the last on the way to it, and if a key reaches it, the one at which its keys leave the caller.
+/// A frame is the last on the way to it. If a key reaches it, its keys leave the caller there, and the frames of a session of
+/// these keys are the way.
 pub fn ways_lead_there()
     ensures { WaysLeadThere }
-{
-    scripts_lead();
-}
+{}

@@ -6,7 +6,8 @@
 //! frames_after(alloc, &base, &Groups::none(), keys.as_slice())? // the frames of a session, or NoScreen::Gone(7)
 //! ```
 //!
-//! - [`way_to`]: the frames that are sent on the keys that lead to a frame, as `list` prints them.
+//! - [`way_to`]: the frames that are sent on the keys that lead to a frame, as `list` prints them. [`way_at`]: the same, if the
+//!   ways were looked up before.
 //! - [`frames_after`], [`NoScreen`]: the frames that a session's keys show, or why there is no screen at its end.
 //! - [`FrameList`]: frames in the order in which they are sent, at least one.
 //! - [`screen`], [`terminal_after`], [`send`]: what they leave on a new terminal, with the centre's rows and without.
@@ -28,4 +29,4 @@ pub use laws::{frames_decide, headline_is_seen, ways_lead_there};
 pub use list::FrameList;
 pub use near::nearest;
 pub use sending::{send, terminal_after};
-pub use way::way_to;
+pub use way::{way_at, way_to};

@@ -1,4 +1,4 @@
-ghost use Rattle.std.specs.Prelude.{◌≡◌, ◌∷◌, [], ◌++◌, Some, IfOk, OnOk};
+ghost use Rattle.std.specs.Prelude.{◌≡◌, ◌∷◌, [], ◌++◌, Some, IfOk, OnOk, reverse};
 ghost use Rattle.frame_screens.specs.Frames.{last_of, sent_by};
 
 use page_ids::FrameId;
@@ -33,15 +33,29 @@ impl FrameList {
         Ok(FrameList { ids })
     }
 
+    // Adds a frame at the end.
+    pub(crate) fn push(&mut self, id: FrameId) -> Result<(), AllocError>
+        ensures { OnOk result (self.new ≡ self.old ++ id ∷ []) }
+    {
+        self.ids.push(id)?;
+        Ok(())
+    }
+
+    // Turns the order round.
+    pub(crate) fn reverse(&mut self)
+        ensures { self.new ≡ reverse self.old }
+    {
+        self.ids.reverse();
+    }
+
     // Adds the frame that a reply sends, if it sends one.
     pub(crate) fn push_sent(&mut self, reply: &Reply) -> Result<(), AllocError>
         ensures { OnOk result (self.new ≡ self.old ++ sent_by reply.now) }
     {
         match reply {
-            Reply::Shown(id, _) | Reply::Again(id) => self.ids.push(*id)?,
-            Reply::NotOffered | Reply::Missing(_) | Reply::Closed(_) | Reply::Gone(_) => {}
+            Reply::Shown(id, _) | Reply::Again(id) => self.push(*id),
+            Reply::NotOffered | Reply::Missing(_) | Reply::Closed(_) | Reply::Gone(_) => Ok(()),
         }
-        Ok(())
     }
 
     /// The frames, in order.

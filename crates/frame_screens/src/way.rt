@@ -1,13 +1,11 @@
-ghost use Rattle.std.specs.Prelude.{◌≡◌, ◌<◌, IfOk, IfSome, length};
-ghost use Rattle.finder.specs.Finds.{EntryIsFound};
+ghost use Rattle.std.specs.Prelude.{◌≡◌, ◌<◌, IfOk, IfSome, Some, length, slice_get};
+ghost use Rattle.finder.specs.Finds.{FindsReached, script};
 ghost use Rattle.frame_screens.specs.Frames.{IsWay, frames_sent, place_of};
 
-use crate::keyed::press;
 use crate::list::FrameList;
-use finder::{Found, find, script_to};
+use finder::{Discovered, Found, Survey};
 use frame_records::{Base, Groups};
-use page_ids::{FrameId, Key};
-use session_machine::Session;
+use page_ids::FrameId;
 use std::alloc::{AllocError, Global};
 
 // Where a frame is in the list of those that are reached.
@@ -18,20 +16,29 @@ fn place_of(found: &Found, id: FrameId) -> Option<usize>
     found.as_slice().iter().position(|frame| frame.id == id)
 }
 
-// The frames that are sent on keys from an entry frame that is found.
-fn sent_on(
-    alloc: Global,
-    base: &Base,
-    groups: &Groups,
-    keys: &[Key],
-) -> Result<FrameList, AllocError>
-    requires { EntryIsFound groups.now base.now }
-    ensures { IfOk result (λ list. list ≡ frames_sent groups.now base.now keys.now) }
+fn reached_at<'a>(survey: &'a Survey, place: usize) -> &'a Discovered
+    requires { place < length survey.now.found }
+    ensures { slice_get survey.now.found place ≡ Some result.now }
 {
-    match Session::open(alloc, base, groups) {
-        Ok((mut session, _)) => press(alloc, base, &mut session, keys),
-        Err(_) => Err(AllocError),
+    &survey.found().as_slice()[place]
+}
+
+/// The frames that are sent on the keys that lead to the frame at a place of the list of those that are reached. It is the
+/// last of them, and each other one is the parent of the next.
+pub fn way_at(alloc: Global, survey: &Survey, place: usize) -> Result<FrameList, AllocError>
+    requires finds { FindsReached survey.now.groups survey.now.base survey.now.found }
+    requires within { place < length survey.now.found }
+    ensures { IfOk result (λ list.
+        list ≡ frames_sent survey.now.groups survey.now.base (script survey.now.found place)) }
+{
+    let mut at = reached_at(survey, place);
+    let mut back = FrameList::of(alloc, at.id)?;
+    while let Some(parent) = at.parent {
+        at = reached_at(survey, parent as usize);
+        back.push(at.id)?;
     }
+    back.reverse();
+    Ok(back)
 }
 
 /// The frames that are sent for the screen of a frame: those on the keys that lead a caller of these groups there from the
@@ -46,11 +53,9 @@ pub fn way_to(
 ) -> Result<FrameList, AllocError>
     ensures { IfOk result (IsWay groups.now base.now id) }
 {
-    let found = find(alloc, base, groups)?;
-    let _most = base.frames();
-    let Some(place) = place_of(&found, id) else {
-        return FrameList::of(alloc, id);
-    };
-    let keys = script_to(alloc, &found, place as u32)?;
-    sent_on(alloc, base, groups, keys.as_slice())
+    let survey = Survey::of(alloc, base, groups)?;
+    match place_of(survey.found(), id) {
+        Some(place) => way_at(alloc, &survey, place),
+        None => FrameList::of(alloc, id),
+    }
 }

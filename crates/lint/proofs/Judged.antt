@@ -1,9 +1,8 @@
 -- A text that is judged in steps.
-use Rattle.std.proofs.Common.{◌≡◌, ◌∙◌, ◌<◌, ◌≤◌, Bool, true, false, List, [], ◌∷◌, ◌++◌, Ok, Err, Some, None, IsUtf8, length, map, refl, sym, ap, subst, arith}
-use Rattle.std.specs.Prelude.{ℕ, nat_lt, Option, Result, IfOk}
+use Rattle.std.proofs.Common.{◌≡◌, ◌∙◌, ◌<◌, ◌≤◌, Bool, true, false, List, [], ◌∷◌, ◌++◌, Ok, Some, None, length, map, refl, sym, ap, subst, arith}
+use Rattle.std.specs.Prelude.{ℕ, nat_lt, Option}
 use Rattle.std.specs.Str.{is_utf8}
 use Rattle.std.proofs.lemmas.Bool.Decides.{nat_tests}
-use Rattle.std.proofs.lemmas.Str.{IsUtf8-from_is_utf8, is_utf8-from_IsUtf8}
 use Rattle.toml.specs.Data.{Members}
 use Rattle.toml.specs.Parse.{parse_document}
 use Rattle.checker.specs.declared.policy.Policy.{Policy}
@@ -21,9 +20,9 @@ use Rattle.lint.proofs.Readings.{nothing, something}
 
 -- what is wrong with a text that isn't too long is what is wrong with its tree
 pub in_tree : (text : List ℕ) (tree : Option Members) (subjects : List Subject) → nat_lt MOST_TEXT (length text) ≡ false → tree_of text ≡ tree
-    → AreTreeSubjects tree subjects → AreSubjects text subjects
+    → AreTreeSubjects text tree subjects → AreSubjects text subjects
 in_tree text tree subjects short is are =
-    subst (λ b. AreSubjectsIf b text subjects) (sym short) (subst (λ t. AreTreeSubjects t subjects) (sym is) are)
+    subst (λ b. AreSubjectsIf b text subjects) (sym short) (subst (λ t. AreTreeSubjects text t subjects) (sym is) are)
 
 pub of_length : (text : List ℕ) (policy : Policy) (findings : List FindingView) → MOST_TEXT < length text → findings ≡ map (finding_of text) (Length ∷ [])
     → IsJudged text policy findings
@@ -35,7 +34,7 @@ pub of_toml : (text : List ℕ) (policy : Policy) (findings : List FindingView) 
     → IsJudged text policy findings
 of_toml text policy findings short none is =
     let e : nat_lt MOST_TEXT (length text) ≡ false = grind (arith, nat_tests) in
-    (Toml is.0 is.1 ∷ [], in_tree text None (Toml is.0 is.1 ∷ []) e none (is.0, is.1, refl), is.2)
+    (Toml is.0 is.1 ∷ [], in_tree text None (Toml is.0 is.1 ∷ []) e none (is.0, is.1, is.2, refl), is.3)
 
 -- something is wrong, and each of it is a finding
 of_some : (text : List ℕ) (policy : Policy) (findings : List FindingView) (subjects : List Subject) → (subjects ≡ [] → ⊥)
@@ -43,24 +42,25 @@ of_some : (text : List ℕ) (policy : Policy) (findings : List FindingView) (sub
 of_some text policy findings [] some is = absurd (some refl)
 of_some text policy findings (s ∷ ss) some is = is
 
-each : (text : List ℕ) (faults : List TextFault) (whole : List WholeFault)
-    → map (text_finding (marks text)) faults ++ map (whole_finding text (marks text)) whole ≡ map (finding_of text) (faulty faults whole)
-each text [] [] = refl
-each text [] (w ∷ ws) = ap (λ fs. whole_finding text (marks text) w ∷ fs) (each text [] ws)
-each text (t ∷ ts) whole = ap (λ fs. text_finding (marks text) t ∷ fs) (each text ts whole)
+-- a finding for each subject
+pub each_subject : (text : List ℕ) (faults : List TextFault) (whole : List WholeFault)
+    → map (text_finding text (marks text)) faults ++ map (whole_finding text (marks text)) whole ≡ map (finding_of text) (faulty faults whole)
+each_subject text [] [] = refl
+each_subject text [] (w ∷ ws) = ap (λ fs. whole_finding text (marks text) w ∷ fs) (each_subject text [] ws)
+each_subject text (t ∷ ts) whole = ap (λ fs. text_finding text (marks text) t ∷ fs) (each_subject text ts whole)
 
 -- what was done with a draft whose base is audited, and with one that has none
 pub record HasBase (text : List ℕ) (policy : Policy) (findings : List FindingView) (base : BaseView) (d : DraftView) : Type 0 where
   pub whole : List WholeFault
   pub are : AreWholeFaults d.outside d.frames d.tables whole
   pub listed : IsListed d.faults d.entry d.outside d.frames base
-  pub audited : AreAuditFindings (marks text) (tables_of d.frames d.tables) base policy findings
+  pub audited : AreAuditFindings text (marks text) (tables_of d.frames d.tables) base policy findings
 
 pub record HasNone (text : List ℕ) (findings : List FindingView) (d : DraftView) : Type 0 where
   pub whole : List WholeFault
   pub are : AreWholeFaults d.outside d.frames d.tables whole
   pub refused : IsRefused d.faults d.entry d.outside d.frames
-  pub are_findings : findings ≡ map (text_finding (marks text)) d.faults ++ map (whole_finding text (marks text)) whole
+  pub are_findings : findings ≡ map (text_finding text (marks text)) d.faults ++ map (whole_finding text (marks text)) whole
 
 module _ (agree : WholeFaultsAgree) (tables : DraftsHaveTables) (entries : SoundDraftsHaveEntries) (begins : DraftsBeginAlike) (text : List ℕ) (policy : Policy) (findings : List FindingView) where
   parts : (ms : Members) (e : ℕ) → nat_lt MOST_TEXT (length text) ≡ false → tree_of text ≡ Some ms → (draft_of ms).faults ≡ [] → (draft_of ms).entry ≡ Some e
@@ -78,7 +78,7 @@ module _ (agree : WholeFaultsAgree) (tables : DraftsHaveTables) (entries : Sound
       let l = h.listed in
       let none = nothing agree tables entries begins ms h.whole h.are l.0 l.1 base l.3 in
       let p : PartsView = record { entry = l.1; outside = (draft_of ms).outside; frames = (draft_of ms).frames } in
-      let tables = subst (λ t. AreAuditFindings (marks text) (tree_tables t) base policy findings) (sym is.2) h.audited in
+      let tables = subst (λ t. AreAuditFindings text (marks text) (tree_tables t) base policy findings) (sym is.2) h.audited in
       ([], in_tree text (Some ms) [] is.1 is.2 (h.whole, h.are, sym none), (base, (p, parts ms l.1 is.1 is.2 l.0 l.2, l.3), tables))
 
   pub of_faults : (draft : DraftView) → IsDraftOf text draft → HasNone text findings draft → IsJudged text policy findings
@@ -86,7 +86,7 @@ module _ (agree : WholeFaultsAgree) (tables : DraftsHaveTables) (entries : Sound
       let ms = is.0 in
       let h = subst (HasNone text findings) is.3 has in
       let subjects = faulty (draft_of ms).faults h.whole in
-      (subjects, in_tree text (Some ms) subjects is.1 is.2 (h.whole, h.are, refl), of_some text policy findings subjects (something agree tables entries begins ms h.whole h.are h.refused) (h.are_findings ∙ each text (draft_of ms).faults h.whole))
+      (subjects, in_tree text (Some ms) subjects is.1 is.2 (h.whole, h.are, refl), of_some text policy findings subjects (something agree tables entries begins ms h.whole h.are h.refused) (h.are_findings ∙ each_subject text (draft_of ms).faults h.whole))
 
 pub parsed : (bs : List ℕ) (ms : Members) → tree_of bs ≡ Some ms → parse_document bs ≡ Some ms
 parsed bs ms e = on_test (is_utf8 bs) refl where

@@ -1,7 +1,11 @@
 pub mod NumberTurns
+pub mod HiddenRows
+pub mod Turns
 pub mod Ordering
 pub mod Judged
 pub mod Readings
 pub mod Errors
 pub mod Meanings
 pub mod Warnings
+pub mod Printed
+pub mod SpansLie

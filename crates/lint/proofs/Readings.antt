@@ -121,10 +121,10 @@ module _ (agree : WholeFaultsAgree) (tables : DraftsHaveTables) (entries : Sound
         clash e = cc
 
 module _ (agree : WholeFaultsAgree) (tables : DraftsHaveTables) (entries : SoundDraftsHaveEntries) (begins : DraftsBeginAlike) where
-  of_tree : (tree : Option Members) (subjects : List Subject) (answer : Result BaseView BaseFault) → AreTreeSubjects tree subjects
+  of_tree : (text : List ℕ) (tree : Option Members) (subjects : List Subject) (answer : Result BaseView BaseFault) → AreTreeSubjects text tree subjects
       → IsAnswerTo (tree_parts tree) answer → Agrees answer_of answer subjects
-  of_tree None subjects answer are a = subst (Agrees answer_of answer) (sym are.2) (of_itself (top_fault cause.NotToml) (Toml are.0 are.1) [] answer refl a)
-  of_tree (Some ms) subjects answer are a = subst (Agrees answer_of answer) (sym are.2) (of_draft agree tables entries begins ms are.0 are.1 answer a)
+  of_tree text None subjects answer are a = subst (Agrees answer_of answer) (sym are.3) (of_itself (top_fault cause.NotToml) (Toml are.0 are.1) [] answer refl a)
+  of_tree text (Some ms) subjects answer are a = subst (Agrees answer_of answer) (sym are.2) (of_draft agree tables entries begins ms are.0 are.1 answer a)
 
   -- nothing is wrong with a text if base_read answers a base; else the first is what it answers
   pub agreed : (text : List ℕ) (subjects : List Subject) (answer : Result BaseView BaseFault) → AreSubjects text subjects → IsAnswer text answer
@@ -136,4 +136,4 @@ module _ (agree : WholeFaultsAgree) (tables : DraftsHaveTables) (entries : Sound
 
     on : (long : Bool) → nat_lt MOST_TEXT (length text) ≡ long → IsAnswerTo (parts_of text) answer → Agrees answer_of answer subjects
     on true e b = subst (Agrees answer_of answer) (sym (rw e at are)) (of_itself (top_fault cause.TooLong) Length [] answer refl (rw e at b))
-    on false e b = of_tree (tree_of text) subjects answer (rw e at are) (rw e at b)
+    on false e b = of_tree text (tree_of text) subjects answer (rw e at are) (rw e at b)

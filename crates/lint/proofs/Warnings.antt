@@ -1,5 +1,5 @@
 -- The frames that are warned of.
-use Rattle.std.proofs.Common.{◌≡◌, ◌∙◌, ◌≢◌, ◌&&◌, ◌||◌, ℕ, Bool, true, false, cond, not, List, [], ◌∷◌, ◌++◌, map, get_or, Option, Some, None, is_none, refl, sym, ap, subst, Contains, inl, inr, arith}
+use Rattle.std.proofs.Common.{◌≡◌, ◌∙◌, ◌≢◌, ◌||◌, ℕ, Bool, true, false, cond, not, List, [], ◌∷◌, ◌++◌, map, get_or, Option, Some, None, is_none, refl, sym, ap, subst, Contains, inl, inr, arith}
 use Rattle.std.specs.Option.{option_or}
 use Rattle.std.specs.Prelude.{filter, AllPairs, ◌⊎◌, ◌↔◌}
 use Rattle.std.specs.List.{list_any}
@@ -21,7 +21,8 @@ use Rattle.toml_places.specs.Places.{marks}
 use Rattle.lint.specs.declared.finding.Level.TheVariants.{Error}
 use Rattle.lint.specs.Findings.{FindingView, AreInOrder}
 use Rattle.lint.specs.Lookups.{value_of}
-use Rattle.lint.specs.Lint.{ranks_of, is_unreached, unreached, warned, ids_of, warning, fault_finding, text_tables}
+use Rattle.lint.specs.Hidden.{hidden_rows}
+use Rattle.lint.specs.Lint.{ranks_of, is_unreached, unreached, warned, ids_of, warning, hidden_findings, fault_finding, text_tables}
 use Rattle.lint.specs.Laws.{IsCutOff, AreOfAudit, WarnsOfCutOff}
 use Rattle.page_ids.proofs.Truths.{both, not_so, not_true}
 
@@ -112,12 +113,13 @@ warns text policy findings base is a =
     let ms = marks text in
     let tables = text_tables text in
     let frames = warned policy.groups a.1.found base.frames in
-    let faults = map (fault_finding ms tables base policy (ranks_of a.1.found)) a.1.faults in
+    let faults = map (fault_finding text ms tables base policy (ranks_of a.1.found)) a.1.faults in
+    let hidden = hidden_findings text ms tables (hidden_rows base.frames) in
     record {
       errors = faults;
       frames = frames;
-      are_errors = All-map (λ f. f.level ≡ Error) (fault_finding ms tables base policy (ranks_of a.1.found)) a.1.faults (λ k d lt. refl);
+      are_errors = All-map (λ f. f.level ≡ Error) (fault_finding text ms tables base policy (ranks_of a.1.found)) a.1.faults (λ k d lt. refl);
       cut_off = warned_is_cut_off policy.groups base a.1.found a.1.reached;
       once = once policy.groups base a.1.found is.2.valid.ascending;
-      in_order = subst (λ fs. AreInOrder fs findings) (a.1.all ∙ ap (λ fs. faults ++ fs) (each (warning ms tables) frames)) a.2;
+      in_order = subst (λ fs. AreInOrder fs findings) (a.1.all ∙ ap (λ fs. faults ++ fs ++ hidden) (each (warning text ms tables) frames)) a.2;
     }

@@ -1,5 +1,7 @@
 -- What the findings of a text mean, for a caller who is in the policy's groups and no others.
-use Rattle.std.specs.Prelude.{◌≡◌, ◌≢◌, ◌↔◌, ℕ, true, List, [], ◌∷◌, ◌++◌, map, Result, Ok, Err, All, AllPairs, Contains}
+use Rattle.std.specs.Prelude.{◌≡◌, ◌≢◌, ◌↔◌, ℕ, true, List, [], ◌∷◌, ◌++◌, map, Result, Ok, Err, All, AllPairs, Contains, length, codes, count_by, ◌==◌}
+use Rattle.std.specs.List.{concat}
+use Rattle.lint_words.specs.Lines.{IsLine}
 use Rattle.frame_records.specs.declared.frame.Frame.{Frame}
 use Rattle.frame_records.specs.Bases.{BaseView}
 use Rattle.frame_records.specs.Seek.{is_open}
@@ -14,8 +16,9 @@ use Rattle.checker.specs.Safe.{Safe}
 use Rattle.finder.specs.Finds.{EntryIsFound, IsReached}
 use Rattle.fault_scripts.specs.Faults.{AreFaults}
 use Rattle.lint.specs.declared.finding.Level.TheVariants.{Error}
-use Rattle.lint.specs.Findings.{FindingView, count_of, AreInOrder}
-use Rattle.lint.specs.Lint.{Subject, Length, Toml, Text, Whole, finding_of, text_tables, warning, IsAudited, IsLint}
+use Rattle.lint.specs.Findings.{FindingView, count_of, AreInOrder, AreFindingLines}
+use Rattle.lint.specs.Hidden.{hidden_rows}
+use Rattle.lint.specs.Lint.{Subject, Length, Toml, Text, Whole, finding_of, text_tables, warning, hidden_findings, IsWithin, IsAudited, IsLint}
 use Rattle.toml_places.specs.Places.{marks}
 
 -- The text, and what base_read answers for it.
@@ -28,7 +31,7 @@ IsAnswer text (Err fault) = IsFaultOf (parts_of text) fault
 -- the fault that base_read answers for a subject that is the first
 abbrev pub answer_of : Subject → BaseFault
 answer_of Length = top_fault TooLong
-answer_of (Toml at message) = top_fault NotToml
+answer_of (Toml span message) = top_fault NotToml
 answer_of (Text fault) = base_fault fault
 answer_of (Whole fault) = top_fault (whole_cause fault)
 
@@ -83,17 +86,44 @@ pub record IsCutOff (groups : List ℕ) (base : BaseView) (f : Frame) : Type 0 w
   pub opens : is_open groups f ≡ true
   pub unreached : IsReached groups base f.id → ⊥
 
--- besides errors the findings are one warning for each of these frames and no other, at its header
+-- besides errors the findings are one warning for each of these frames, at its header, one for each row of a frame given as rows
+-- whose text the row above hides, and no other
 pub record WarnsOfCutOff (text : List ℕ) (policy : Policy) (base : BaseView) (findings : List FindingView) : Type 0 where
   pub errors : List FindingView
   pub frames : List Frame
   pub are_errors : All (λ f. f.level ≡ Error) errors
   pub cut_off : (f : Frame) → Contains frames f ↔ IsCutOff policy.groups base f
   pub once : AllPairs (λ f g. f.id ≢ g.id) frames
-  pub in_order : AreInOrder (errors ++ map (λ f. warning (marks text) (text_tables text) f.id) frames) findings
+  pub in_order : AreInOrder (errors ++ map (λ f. warning text (marks text) (text_tables text) f.id) frames
+      ++ hidden_findings text (marks text) (text_tables text) (hidden_rows base.frames)) findings
 
 abbrev pub WarnsOfUnreached : List ℕ → Policy → List FindingView → Type 0
 WarnsOfUnreached text policy findings = (base : BaseView) → IsTextBase text base → WarnsOfCutOff text policy base findings
 
 abbrev pub LintWarnsOfUnreached : Type 0
 LintWarnsOfUnreached = (text : List ℕ) (policy : Policy) (findings : List FindingView) → IsLint text policy findings → WarnsOfUnreached text policy findings
+
+-- What is printed.
+
+-- a text of this many lines: each is without a control character, and a line feed ends it
+pub record AreWholeLines (count : ℕ) (text : List ℕ) : Type 0 where
+  pub lines : List (List ℕ)
+  pub are_lines : All IsLine lines
+  pub as_many : length lines ≡ count
+  pub text_is : text ≡ concat (map (λ line. line ++ codes "\n") lines)
+  pub feeds : count_by (λ byte. byte == 10) text ≡ count
+
+-- what is printed of findings is a line for each of them, whatever is in the text and the path
+abbrev pub FindingsAreWholeLines : Type 0
+FindingsAreWholeLines =
+    (path text : List ℕ) (findings : List FindingView) (out : List ℕ) → AreFindingLines path text findings out
+    → AreWholeLines (length findings) out
+
+-- Spans.
+
+-- every finding's span begins and ends in the text
+abbrev pub SpansLieIn : List ℕ → List FindingView → Type 0
+SpansLieIn text findings = All (λ f. IsWithin text f.span) findings
+
+abbrev pub LintSpansLieIn : Type 0
+LintSpansLieIn = (text : List ℕ) (policy : Policy) (findings : List FindingView) → IsLint text policy findings → SpansLieIn text findings

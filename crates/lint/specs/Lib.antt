@@ -1,4 +1,6 @@
 pub mod Lookups
+pub mod Hidden
+pub mod Tables
 pub mod Spots
 pub mod Lint
 pub mod Findings

@@ -1,5 +1,5 @@
 -- Every finding of a text.
-use Rattle.std.specs.Prelude.{◌≡◌, ℕ, Bool, true, false, ◌&&◌, List, [], ◌∷◌, ◌++◌, map, Option, Some, None, unwrap_or, is_none, option_and_then, codes, nat_lt, length, zip, filter}
+use Rattle.std.specs.Prelude.{◌≡◌, ◌≤◌, ℕ, Bool, true, false, ◌&&◌, List, [], ◌∷◌, ◌++◌, map, flat_map, if◌then◌else◌, Option, Some, None, unwrap_or, is_none, option_and_then, codes, nat_lt, length, zip, filter}
 use Rattle.page_ids.specs.Ids.{Id}
 use Rattle.frame_records.specs.declared.frame.Frame.{Frame}
 use Rattle.frame_records.specs.declared.build.BuildFault.{BuildFault}
@@ -10,26 +10,29 @@ use Rattle.finder.specs.declared.found.Discovered.{Discovered}
 use Rattle.finder.specs.Finds.{FindsReached, RanksAreLeast}
 use Rattle.fault_scripts.specs.declared.fault.Fault.{Fault}
 use Rattle.fault_scripts.specs.Faults.{AreFaults}
-use Rattle.toml_places.specs.Places.{Mark, Keeps, header_place, key_place, marks}
+use Rattle.toml_places.specs.declared.spans.Span.{Span}
+use Rattle.toml_places.specs.Places.{Mark, marks}
 use Rattle.lint_words.specs.declared.fault_words.Judged.{Judged}
 use Rattle.lint_words.specs.FaultWords.{fault_words, unreached_words}
+use Rattle.lint_words.specs.WarningWords.{hidden_words}
 use Rattle.lint.specs.declared.audit_findings.Audit.{Audit}
 use Rattle.lint.specs.declared.audit_findings.Sources.{Sources}
 use Rattle.lint.specs.Findings.{FindingView, error_at, warning_at, AreInOrder}
 use Rattle.lint.specs.Lookups.{value_of, Knows}
-use Rattle.lint.specs.Spots.{has_rows, audit_fault_place, text_fault_place, whole_fault_place}
+use Rattle.lint.specs.Tables.{TableView, KnowsTables, empty_at, frame_whole, table_at, id_place}
+use Rattle.lint.specs.Hidden.{hidden_rows}
+use Rattle.lint.specs.Spots.{has_rows, row_span, detail_span, whole_table, whole_span, kind_table, audit_span}
 use Rattle.base_text.specs.declared.detail.TextFault.{TextFault}
 use Rattle.base_text.specs.declared.whole_fault.WholeFault.{WholeFault}
 use Rattle.base_text.specs.declared.whole_fault.WholeFault.TheVariants.{Duplicate}
 use Rattle.toml_places.specs.Skips.{place_at}
-use Rattle.lint_words.specs.TextWords.{text_fault_words}
+use Rattle.lint_words.specs.TextWords.{text_fault_words, too_long_words, not_toml_words}
 use Rattle.lint_words.specs.WholeWords.{whole_fault_words}
 use Rattle.toml.specs.Data.{Members}
 use Rattle.base_text.specs.declared.limits.TheConstants.{MOST_TEXT}
 use Rattle.base_text.specs.Whole.{tree_of, IsTextBase}
 use Rattle.base_text.specs.Drafts.{DraftView, draft_of}
 use Rattle.base_text.specs.WholeFaults.{AreWholeFaults}
-use Rattle.lint_words.specs.HintRules.{hint_text}
 
 -- The findings of an audit: its faults, and the frames that no key reaches.
 
@@ -60,10 +63,11 @@ pub record IsAudit (base : BaseView) (policy : Policy) (audit : Audit) : Type 0 
   pub least : RanksAreLeast policy.groups base found
   pub known : Knows (ranks_of found) audit.ranks
   pub unreached : audit.unreached.items ≡ ids_of (warned policy.groups found base.frames)
+  pub hidden : audit.hidden.items ≡ hidden_rows base.frames
 
-abbrev pub is_clear : List Fault → List Id → Bool
-is_clear [] [] = true
-is_clear faults ids = false
+abbrev pub is_clear : List Fault → List Id → List (Id × ℕ) → Bool
+is_clear [] [] [] = true
+is_clear faults ids rows = false
 
 abbrev pub table_of : List (Id × ℕ) → Id → ℕ
 table_of tables id = unwrap_or (value_of tables id) 0
@@ -75,63 +79,79 @@ rank_of ranks id = option_and_then (λ r. r) (value_of ranks id)
 abbrev pub group_of : BaseView → Fault → Option ℕ
 group_of base fault = option_and_then (λ f. f.group) (frame_at base (unwrap_or fault.sought fault.frame))
 
-abbrev pub judged : List Mark → ℕ → BaseView → Policy → List (Id × Option ℕ) → Fault → Judged
-judged ms table base policy ranks fault = record {
+abbrev pub judged : TableView → BaseView → Policy → List (Id × Option ℕ) → Fault → Judged
+judged table base policy ranks fault = record {
   ceiling = policy.ceiling;
   keyings = policy.keyings;
-  has_rows = has_rows ms table;
+  has_rows = has_rows table;
   rank = rank_of ranks fault.frame;
   group = group_of base fault;
 }
 
-abbrev pub fault_finding : List Mark → List (Id × ℕ) → BaseView → Policy → List (Id × Option ℕ) → Fault → FindingView
-fault_finding ms tables base policy ranks fault =
-    let table = table_of tables fault.frame in
-    error_at (audit_fault_place ms table fault) (fault_words (judged ms table base policy ranks fault) fault)
+-- the table that a fault is about
+abbrev pub fault_table : List ℕ → List Mark → List (Id × ℕ) → Fault → TableView
+fault_table text ms tables fault = table_at text ms (kind_table (table_of tables fault.frame) fault.kind)
 
-abbrev pub warning : List Mark → List (Id × ℕ) → Id → FindingView
-warning ms tables id = warning_at (header_place ms (table_of tables id)) (unreached_words id)
+abbrev pub fault_finding : List ℕ → List Mark → List (Id × ℕ) → BaseView → Policy → List (Id × Option ℕ) → Fault → FindingView
+fault_finding text ms tables base policy ranks fault =
+    let table = fault_table text ms tables fault in
+    error_at (audit_span table fault) (fault_words (judged table base policy ranks fault) fault)
+
+abbrev pub warning : List ℕ → List Mark → List (Id × ℕ) → Id → FindingView
+warning text ms tables id = warning_at (frame_whole text ms (table_of tables id)) (unreached_words id)
+
+-- the warning of a row whose text is hidden, if this is the table of a frame that is given as rows
+abbrev pub hidden_in : TableView → Id × ℕ → List FindingView
+hidden_in table p = if has_rows table then warning_at (row_span table p.1) (hidden_words p.0 p.1) ∷ [] else []
+
+abbrev pub hidden_finding : List ℕ → List Mark → List (Id × ℕ) → Id × ℕ → List FindingView
+hidden_finding text ms tables p = hidden_in (table_at text ms (Some (table_of tables p.0))) p
+
+abbrev pub hidden_findings : List ℕ → List Mark → List (Id × ℕ) → List (Id × ℕ) → List FindingView
+hidden_findings text ms tables rows = flat_map (hidden_finding text ms tables) rows
 
 -- what the sources know
 pub record AreKnown (ms : List Mark) (tables : List (Id × ℕ)) (sources : Sources) : Type 0 where
-  pub keeps : Keeps sources.places.now ms
+  pub places : KnowsTables ms sources.text.now
   pub knows : Knows tables sources.tables
 
--- each fault of a base, and then each frame that no key reaches
-pub record AreAuditFindings (ms : List Mark) (tables : List (Id × ℕ)) (base : BaseView) (policy : Policy) (findings : List FindingView) : Type 0 where
+-- each fault of a base, then each frame that no key reaches, and then each row whose text is hidden
+pub record AreAuditFindings (text : List ℕ) (ms : List Mark) (tables : List (Id × ℕ)) (base : BaseView) (policy : Policy) (findings : List FindingView) : Type 0 where
   pub faults : List Fault
   pub found : List Discovered
   pub are_faults : AreFaults base policy faults
   pub reached : FindsReached policy.groups base found
   pub least : RanksAreLeast policy.groups base found
-  pub all : findings ≡ map (fault_finding ms tables base policy (ranks_of found)) faults ++ map (warning ms tables) (ids_of (warned policy.groups found base.frames))
+  pub all : findings ≡ map (fault_finding text ms tables base policy (ranks_of found)) faults ++ map (warning text ms tables) (ids_of (warned policy.groups found base.frames))
+      ++ hidden_findings text ms tables (hidden_rows base.frames)
 
 -- The findings of the faults of a base's text.
 
-abbrev pub text_finding : List Mark → TextFault → FindingView
-text_finding ms fault = error_at (text_fault_place ms fault) (text_fault_words fault)
+abbrev pub text_finding : List ℕ → List Mark → TextFault → FindingView
+text_finding text ms fault = error_at (detail_span (table_at text ms fault.frame) fault.detail) (text_fault_words fault)
 
 -- the line of the first frame with the id, if the fault is a further frame with it
 abbrev pub first_line : List ℕ → List Mark → WholeFault → ℕ
-first_line text ms (Duplicate table first id) = (place_at text (key_place ms (Some first) (codes "id"))).0
+first_line text ms (Duplicate table first id) = (place_at text (id_place text ms first)).0
 first_line text ms _ = 0
 
 abbrev pub whole_finding : List ℕ → List Mark → WholeFault → FindingView
-whole_finding text ms fault = error_at (whole_fault_place ms fault) (whole_fault_words fault (first_line text ms fault))
+whole_finding text ms fault =
+    error_at (whole_span (table_at text ms (whole_table fault)) fault) (whole_fault_words fault (first_line text ms fault))
 
 -- What a finding of a text is about, if it isn't one of the audit.
 
--- the text's length; toml's message and its place, which are taken as given; a fault of the text; one of its base as a whole
+-- the text's length; toml's message and its span, which are taken as given; a fault of the text; one of its base as a whole
 pub data Subject : Type 0 where
   Length : Subject
-  Toml : (at : ℕ) (message : List ℕ) → Subject
+  Toml : (span : Span) (message : List ℕ) → Subject
   Text : (fault : TextFault) → Subject
   Whole : (fault : WholeFault) → Subject
 
 abbrev pub finding_of : List ℕ → Subject → FindingView
-finding_of text Length = error_at 0 (codes "X1 TooLong: the text has more than 16,777,216 bytes")
-finding_of text (Toml at message) = error_at at (codes "X2 NotToml: " ++ message ++ hint_text text at message)
-finding_of text (Text fault) = text_finding (marks text) fault
+finding_of text Length = error_at (empty_at 0) too_long_words
+finding_of text (Toml span message) = error_at span (not_toml_words message)
+finding_of text (Text fault) = text_finding text (marks text) fault
 finding_of text (Whole fault) = whole_finding text (marks text) fault
 
 -- the faults of a text and of its base as a whole, in the order of judging
@@ -142,15 +162,20 @@ abbrev pub AreDraftSubjects : DraftView → List Subject → Type 0
 AreDraftSubjects draft subjects =
     (whole : List WholeFault) × AreWholeFaults draft.outside draft.frames draft.tables whole × (subjects ≡ faulty draft.faults whole)
 
+-- the span begins and ends in the text
+pub record IsWithin (text : List ℕ) (span : Span) : Type 0 where
+  pub ascends : span.begin ≤ span.end
+  pub within : span.end ≤ length text
+
 -- a text that isn't TOML has nothing else
-abbrev pub AreTreeSubjects : Option Members → List Subject → Type 0
-AreTreeSubjects None subjects = (at : ℕ) × (message : List ℕ) × (subjects ≡ Toml at message ∷ [])
-AreTreeSubjects (Some ms) subjects = AreDraftSubjects (draft_of ms) subjects
+abbrev pub AreTreeSubjects : List ℕ → Option Members → List Subject → Type 0
+AreTreeSubjects text None subjects = (span : Span) × (message : List ℕ) × IsWithin text span × (subjects ≡ Toml span message ∷ [])
+AreTreeSubjects text (Some ms) subjects = AreDraftSubjects (draft_of ms) subjects
 
 -- nor has one that is too long, which isn't read
 abbrev pub AreSubjectsIf : Bool → List ℕ → List Subject → Type 0
 AreSubjectsIf true text subjects = subjects ≡ Length ∷ []
-AreSubjectsIf false text subjects = AreTreeSubjects (tree_of text) subjects
+AreSubjectsIf false text subjects = AreTreeSubjects text (tree_of text) subjects
 
 -- all that is wrong with a text before its base is audited, in the order of judging
 abbrev pub AreSubjects : List ℕ → List Subject → Type 0
@@ -171,7 +196,7 @@ text_tables text = tree_tables (tree_of text)
 
 -- the findings of the audit of a base of the text
 abbrev pub IsAudited : List ℕ → Policy → BaseView → List FindingView → Type 0
-IsAudited text policy base findings = AreAuditFindings (marks text) (text_tables text) base policy findings
+IsAudited text policy base findings = AreAuditFindings text (marks text) (text_tables text) base policy findings
 
 -- if nothing is wrong with the text, its base is audited
 abbrev pub IsJudgedBy : List Subject → List ℕ → Policy → List FindingView → Type 0
@@ -181,14 +206,15 @@ IsJudgedBy (s ∷ ss) text policy findings = findings ≡ map (finding_of text) 
 abbrev pub IsJudged : List ℕ → Policy → List FindingView → Type 0
 IsJudged text policy findings = (subjects : List Subject) × AreSubjects text subjects × IsJudgedBy subjects text policy findings
 
--- the findings in the order of their places
+-- the findings in the order of where they begin
 abbrev pub IsLint : List ℕ → Policy → List FindingView → Type 0
 IsLint text policy findings = (judged : List FindingView) × IsJudged text policy judged × AreInOrder judged findings
 
 -- What the steps of lint say.
 
 abbrev pub IsNotToml : List ℕ → List FindingView → Type 0
-IsNotToml text findings = (at : ℕ) × (message : List ℕ) × (findings ≡ map (finding_of text) (Toml at message ∷ []))
+IsNotToml text findings =
+    (span : Span) × (message : List ℕ) × IsWithin text span × (findings ≡ map (finding_of text) (Toml span message ∷ []))
 
 -- the base of what a draft without a fault lists
 abbrev pub IsListed : List TextFault → Option ℕ → List ℕ → List Frame → BaseView → Type 0

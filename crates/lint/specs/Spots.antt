@@ -1,91 +1,184 @@
--- The place of a fault: the offset of the expression that wrote what is at fault.
-use Rattle.std.specs.Prelude.{ℕ, ◌==◌, nat_lt, not, Bool, if◌then◌else◌, List, codes, Option, Some, None}
+-- The span of a fault: of the smallest piece of a text that is at fault. If that can't be found, it is that of a larger one, up to
+-- the whole table.
+use Rattle.std.specs.Prelude.{ℕ, ◌-◌, nat_lt, Bool, true, false, if◌then◌else◌, List, codes, Option, Some, None, is_some, unwrap_or, option_map, option_and_then}
+use Rattle.std.specs.Option.{option_or}
 use Rattle.page_ids.specs.declared.key.Key.{Key}
 use Rattle.page_ids.specs.declared.key.Key.TheVariants as key
 use Rattle.frame_records.specs.declared.limits.TheConstants.{MOST_LISTED}
+use Rattle.abstract_paint.specs.declared.start.Start.{Start}
+use Rattle.base_text.specs.declared.keys.Field.{Field}
 use Rattle.base_text.specs.declared.keys.Field.TheVariants as field
+use Rattle.base_text.specs.declared.keys.TableKind.{TableKind}
 use Rattle.base_text.specs.declared.keys.TableKind.TheVariants as kind
-use Rattle.base_text.specs.Fields.{field_name}
-use Rattle.base_text.specs.Fields.{digit_key}
+use Rattle.base_text.specs.Fields.{field_name, digit_key}
 use Rattle.base_text.specs.declared.detail.Detail.{Detail}
 use Rattle.base_text.specs.declared.detail.Detail.TheVariants.{UnknownKey, Absent, WrongKind, WrongItem, Number, ItemNumber, Lead, BodyCode, TooManyRows, BodyAndRows, RowTooLong, RowCode, BadFrame}
-use Rattle.base_text.specs.declared.detail.TextFault.{TextFault}
 use Rattle.base_text.specs.declared.whole_fault.WholeFault.{WholeFault}
 use Rattle.base_text.specs.declared.whole_fault.WholeFault.TheVariants.{TooManyFrames, TooManyOutside, BodyTooLong, NextAfterZ, Duplicate, OutsideInside}
 use Rattle.fault_scripts.specs.declared.fault.Fault.{Fault}
 use Rattle.fault_scripts.specs.declared.fault.FaultKind.{FaultKind}
 use Rattle.fault_scripts.specs.declared.fault.FaultKind.TheVariants as fault_kind
-use Rattle.toml_places.specs.Places.{Mark, header_place, key_place, route_place}
+use Rattle.toml_places.specs.declared.spans.Span.{Span}
+use Rattle.toml_places.specs.declared.spans.Spot.{Spot}
+use Rattle.toml_places.specs.Spans.{key_span, pair_span, char_span}
+use Rattle.lint.specs.Tables.{TableView, value_at}
 
--- the key that a detail is about
-abbrev pub key_of : Detail → List ℕ
-key_of (UnknownKey table key) = key
-key_of (Absent f) = field_name f
-key_of (WrongKind f k) = field_name f
-key_of (WrongItem f i k) = field_name f
-key_of (Number f z) = field_name f
-key_of (ItemNumber f i z) = field_name f
-key_of (Lead text) = field_name field.Lead
-key_of (BodyCode i c) = field_name field.Body
-key_of (TooManyRows n) = field_name field.Rows
-key_of BodyAndRows = field_name field.Rows
-key_of (RowTooLong i n) = field_name field.Rows
-key_of (RowCode i j c) = field_name field.Rows
-key_of (BadFrame text) = field_name field.Id
+infixl 10 ◌>>=◌
+abbrev ◌>>=◌ : {A B : Type 0} → Option A → (A → Option B) → Option B
+o >>= f = option_and_then f o
 
--- the key of a digit's route
-abbrev pub digit_text : ℕ → Option (List ℕ)
-digit_text digit = if nat_lt digit 10 then Some (digit_key digit) else None
+-- The pieces of a table.
 
--- the key below `routes` that a detail is about, if it is about one
-abbrev pub route_of : Detail → Option (List ℕ)
-route_of (UnknownKey kind.Routes key) = Some key
-route_of (WrongItem field.Routes digit k) = digit_text digit
-route_of (ItemNumber field.Routes digit z) = digit_text digit
-route_of _ = None
+abbrev pub key_at : List ℕ → Option Spot → Option Span
+key_at text spot = spot >>= (λ s. key_span s text)
 
-abbrev pub place_of : List Mark → Option ℕ → Option (List ℕ) → List ℕ → ℕ
-place_of ms (Some frame) (Some route) key = route_place ms frame route
-place_of ms frame route key = key_place ms frame key
+abbrev pub pair_at : List ℕ → Option Spot → Option Span
+pair_at text spot = spot >>= (λ s. pair_span s text)
 
-abbrev pub text_fault_place : List Mark → TextFault → ℕ
-text_fault_place ms fault = place_of ms fault.frame (route_of fault.detail) (key_of fault.detail)
+-- a key of the table as it is written, its value, and both
+abbrev pub key_of : TableView → List ℕ → Option Span
+key_of t key = key_at t.text (t.key key)
 
--- the frame is written with `rows`: that key has a place of its own
-abbrev pub has_rows : List Mark → ℕ → Bool
-has_rows ms table = not (key_place ms (Some table) (codes "rows") == header_place ms table)
+abbrev pub value_of : TableView → List ℕ → Option Span
+value_of t key = value_at t.text (t.key key)
 
--- the place of what a frame shows
-abbrev pub text_place : List Mark → ℕ → ℕ
-text_place ms table = key_place ms (Some table) (if has_rows ms table then codes "rows" else codes "body")
+abbrev pub pair_of : TableView → List ℕ → Option Span
+pair_of t key = pair_at t.text (t.key key)
 
-abbrev pub whole_fault_place : List Mark → WholeFault → ℕ
-whole_fault_place ms (TooManyFrames n) = header_place ms MOST_LISTED
-whole_fault_place ms (TooManyOutside n) = key_place ms None (codes "outside")
-whole_fault_place ms (BodyTooLong table id n) = text_place ms table
-whole_fault_place ms (NextAfterZ table id) = key_place ms (Some table) (codes "next")
-whole_fault_place ms (Duplicate table first id) = key_place ms (Some table) (codes "id")
-whole_fault_place ms (OutsideInside page) = key_place ms None (codes "outside")
+-- a key below `routes`, and a route with its page; else all of `routes`
+abbrev pub route_key : TableView → List ℕ → Option Span
+route_key t key = option_or (key_at t.text (t.route key)) (value_of t (codes "routes"))
 
--- the place of a key that is pressed at a frame
-abbrev pub pressed_place : List Mark → ℕ → Key → ℕ
-pressed_place ms table (key.Route digit) = route_place ms table (digit_key digit)
-pressed_place ms table key.Next = key_place ms (Some table) (codes "next")
-pressed_place ms table _ = header_place ms table
+abbrev pub route_pair : TableView → List ℕ → Option Span
+route_pair t key = option_or (pair_at t.text (t.route key)) (value_of t (codes "routes"))
 
-abbrev pub sought_place : List Mark → ℕ → Option Key → ℕ
-sought_place ms table None = header_place ms table
-sought_place ms table (Some k) = pressed_place ms table k
+-- an item of the table's list, by its index, else all of the list, which is under this key
+abbrev pub item_of : TableView → List ℕ → ℕ → Option Span
+item_of t key k = option_or (t.item k) (value_of t key)
 
-abbrev pub audit_place : List Mark → ℕ → Fault → FaultKind → ℕ
-audit_place ms table fault fault_kind.EntryMissing = key_place ms None (codes "entry")
-audit_place ms table fault fault_kind.EntryClosed = key_place ms (Some table) (codes "group")
-audit_place ms table fault fault_kind.Price = key_place ms (Some table) (codes "price")
-audit_place ms table fault fault_kind.Touches = text_place ms table
-audit_place ms table fault fault_kind.Missing = sought_place ms table fault.key
-audit_place ms table fault fault_kind.Closed = sought_place ms table fault.key
-audit_place ms table fault fault_kind.NoReturn = header_place ms table
+-- a character of the string in a span, by its index, else the string
+abbrev pub char_of : TableView → ℕ → Span → Span
+char_of t k s = unwrap_or (char_span k s.begin t.text) s
 
--- the place of a fault of the audit, whose frame is written by this table
-abbrev pub audit_fault_place : List Mark → ℕ → Fault → ℕ
-audit_fault_place ms table fault = audit_place ms table fault fault.kind
+-- the one of two that begins later
+abbrev pub later : Option Span → Option Span → Option Span
+later None b = b
+later (Some a) None = Some a
+later (Some a) (Some b) = if nat_lt a.begin b.begin then Some b else Some a
+
+-- Faults of a text.
+
+abbrev pub unknown_at : TableView → TableKind → List ℕ → Option Span
+unknown_at t kind.Routes key = route_key t key
+unknown_at t kind.Top key = key_of t key
+unknown_at t kind.Frame key = key_of t key
+
+abbrev pub digit_at : TableView → ℕ → Option Span
+digit_at t digit = if nat_lt digit 10 then route_pair t (digit_key digit) else None
+
+abbrev pub is_routes : Field → Bool
+is_routes field.Routes = true
+is_routes _ = false
+
+-- an item of a list, by its number from 1, or a route, by its digit
+abbrev pub listed_at : TableView → Field → ℕ → Option Span
+listed_at t f n = if is_routes f then digit_at t n else item_of t (field_name f) (n - 1)
+
+-- a row, and a character of it, each by its number from 1
+abbrev pub row_at : TableView → ℕ → Option Span
+row_at t n = item_of t (codes "rows") (n - 1)
+
+abbrev pub row_char : TableView → ℕ → ℕ → Option Span
+row_char t n i = option_map (char_of t (i - 1)) (row_at t n)
+
+-- a character of the body, by its index
+abbrev pub body_char : TableView → ℕ → Option Span
+body_char t k = option_map (char_of t k) (value_of t (codes "body"))
+
+abbrev pub detail_at : TableView → Detail → Option Span
+detail_at t (UnknownKey k key) = unknown_at t k key
+detail_at t (Absent f) = None
+detail_at t (WrongKind f k) = value_of t (field_name f)
+detail_at t (WrongItem f n k) = listed_at t f n
+detail_at t (Number f z) = value_of t (field_name f)
+detail_at t (ItemNumber f n z) = listed_at t f n
+detail_at t (Lead text) = value_of t (codes "lead")
+detail_at t (BodyCode n c) = body_char t (n - 1)
+detail_at t (TooManyRows n) = row_at t 23
+detail_at t BodyAndRows = later (key_of t (codes "body")) (key_of t (codes "rows"))
+detail_at t (RowTooLong n length) = row_at t n
+detail_at t (RowCode n i c) = row_char t n i
+detail_at t (BadFrame text) = value_of t (codes "id")
+
+abbrev pub detail_span : TableView → Detail → Span
+detail_span t detail = unwrap_or (detail_at t detail) t.whole
+
+-- Faults of a base as a whole.
+
+-- the table of a fault: none is the top
+abbrev pub whole_table : WholeFault → Option ℕ
+whole_table (TooManyFrames n) = Some MOST_LISTED
+whole_table (TooManyOutside n) = None
+whole_table (BodyTooLong table id n) = Some table
+whole_table (NextAfterZ table id) = Some table
+whole_table (Duplicate table first id) = Some table
+whole_table (OutsideInside page) = None
+
+-- the frame is written with `rows`
+abbrev pub has_rows : TableView → Bool
+has_rows t = is_some (t.key (codes "rows"))
+
+abbrev pub shown_at : TableView → Option Span
+shown_at t = value_of t (if has_rows t then codes "rows" else codes "body")
+
+abbrev pub whole_at : TableView → WholeFault → Option Span
+whole_at t (TooManyFrames n) = None
+whole_at t (TooManyOutside n) = item_of t (codes "outside") MOST_LISTED
+whole_at t (BodyTooLong table id n) = shown_at t
+whole_at t (NextAfterZ table id) = pair_of t (codes "next")
+whole_at t (Duplicate table first id) = value_of t (codes "id")
+whole_at t (OutsideInside page) = value_of t (codes "outside")
+
+abbrev pub whole_span : TableView → WholeFault → Span
+whole_span t fault = unwrap_or (whole_at t fault) t.whole
+
+-- Faults of an audit.
+
+-- a key that is pressed at a frame
+abbrev pub pressed_at : TableView → Key → Option Span
+pressed_at t (key.Route digit) = digit_at t digit
+pressed_at t key.Next = pair_of t (codes "next")
+pressed_at t _ = None
+
+abbrev pub sought_at : TableView → Option Key → Option Span
+sought_at t key = key >>= pressed_at t
+
+-- the character of the byte at fault, if it is known
+abbrev pub byte_at : TableView → Option Start → Option Span
+byte_at t None = value_of t (codes "body")
+byte_at t (Some start) = body_char t start.offset
+
+-- of rows it is the last one that writes into the last row of the screen
+abbrev pub touched_at : TableView → Option Start → Option Span
+touched_at t start = if has_rows t then row_at t 22 else byte_at t start
+
+abbrev pub kind_at : TableView → Fault → FaultKind → Option Span
+kind_at t fault fault_kind.EntryMissing = value_of t (codes "entry")
+kind_at t fault fault_kind.EntryClosed = value_of t (codes "group")
+kind_at t fault fault_kind.Price = value_of t (codes "price")
+kind_at t fault fault_kind.Touches = touched_at t fault.start
+kind_at t fault fault_kind.Missing = sought_at t fault.key
+kind_at t fault fault_kind.Closed = sought_at t fault.key
+kind_at t fault fault_kind.NoReturn = None
+
+abbrev pub audit_span : TableView → Fault → Span
+audit_span t fault = unwrap_or (kind_at t fault fault.kind) t.whole
+
+-- the span of a row of a frame that is given as rows
+abbrev pub row_span : TableView → ℕ → Span
+row_span t n = unwrap_or (row_at t n) t.whole
+
+-- of a missing entry frame the top is at fault, else the frame, which is written by this table
+abbrev pub kind_table : ℕ → FaultKind → Option ℕ
+kind_table table fault_kind.EntryMissing = None
+kind_table table _ = Some table

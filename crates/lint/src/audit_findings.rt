@@ -1,30 +1,34 @@
 ghost use Rattle.std.specs.Prelude.{◌≡◌, ◌++◌, ℕ, List, Option, map, IfOk, OnOk};
 ghost use Rattle.page_ids.specs.Ids.{Id};
-ghost use Rattle.toml_places.specs.Places.{Mark, Keeps};
+ghost use Rattle.toml_places.specs.Places.{Mark};
+ghost use Rattle.lint.specs.Tables.{KnowsTables, IsTable, seen};
 ghost use Rattle.lint.specs.Lookups.{Knows};
 ghost use Rattle.lint.specs.Lint as spec;
 
 use crate::finding::Finding;
+use crate::hidden::hidden_rows;
 use crate::lookup::Lookup;
-use crate::spots::{audit_fault_at, has_rows};
+use crate::spots::{audit_span, has_rows, kind_table, row_span};
+use crate::tables::{TableSpots, TextTables};
 use checker::Policy;
 use fault_scripts::{Fault, FaultList, Judgement, judge_base};
 use finder::Discovered;
 use frame_records::{Base, Frame, GroupNo, Groups};
-use lint_words::{Judged, push_fault, push_unreached};
+use lint_words::{Judged, audit_fault_words, hidden_words, unreached_words};
 use page_ids::FrameId;
 use std::alloc::{AllocError, Global};
-use toml_places::Places;
 
 // The fewest keys from each frame that is reached back to the entry frame.
 pub type Ranks = Lookup<Option<u16>>;
 
-// An audit of a base: its faults, and the frames that no key reaches.
+// An audit of a base: its faults, the frames that no key reaches, and the rows that nobody sees.
 #[derive(Drop)]
 pub struct Audit {
     faults: FaultList,
     ranks: Ranks,
     unreached: Vec<FrameId>,
+    // Rows with text that double height hides, if their frames are given as rows.
+    hidden: Vec<(FrameId, usize)>,
 }
 
 fn ranks_of(alloc: Global, found: &[Discovered]) -> Result<Vec<(FrameId, Option<u16>)>, AllocError>
@@ -84,25 +88,27 @@ impl Audit {
         let Judgement { faults, found } = judge_base(alloc, base, policy)?;
         let ranks = Lookup::of(alloc, ranks_of(alloc, found.as_slice())?.as_slice())?;
         let unreached = warned(alloc, base, &policy.groups, found.as_slice(), &ranks)?;
+        let hidden = hidden_rows(alloc, base.frames())?;
         Ok(Audit {
             faults,
             ranks,
             unreached,
+            hidden,
         })
     }
 
     // Whether it found nothing.
     pub fn is_clear(&self) -> bool
-        ensures { result ≡ spec.is_clear self.now.faults self.now.unreached.items }
+        ensures { result ≡ spec.is_clear self.now.faults self.now.unreached.items self.now.hidden.items }
     {
-        self.faults.as_slice().is_empty() && self.unreached.is_empty()
+        self.faults.as_slice().is_empty() && self.unreached.is_empty() && self.hidden.is_empty()
     }
 }
 
 // What the words and places of an audit's findings are made of.
 #[derive(Drop)]
 pub struct Sources<'a> {
-    pub places: &'a Places,
+    pub text: &'a TextTables<'a>,
     // The index of each frame's table.
     pub tables: Lookup<usize>,
     pub base: &'a Base,
@@ -129,27 +135,36 @@ impl<'a> Sources<'a> {
         self.tables.get(id).unwrap_or(0)
     }
 
-    fn judged(&self, table: usize, ranks: &Ranks, fault: &Fault) -> Judged
-        ensures { (ms : List Mark) (known : List (Id × Option ℕ)) → Keeps self.now.places.now ms → Knows known ranks.now
-            → result ≡ spec.judged ms table self.now.base.now self.now.policy.now known fault.now }
+    fn judged(&self, table: &TableSpots<'_>, ranks: &Ranks, fault: &Fault) -> Judged
+        ensures { (known : List (Id × Option ℕ)) → Knows known ranks.now
+            → result ≡ spec.judged (seen table.now) self.now.base.now self.now.policy.now known fault.now }
     {
         Judged {
             ceiling: self.policy.ceiling,
             keyings: self.policy.keyings,
-            has_rows: has_rows(self.places, table),
+            has_rows: has_rows(table),
             rank: rank_of(ranks, fault.frame),
             group: group_of(self.base, fault),
         }
     }
 
-    fn finding(&self, alloc: Global, ranks: &Ranks, fault: &Fault) -> Result<Finding, AllocError>
-        ensures { IfOk result (λ f. (ms : List Mark) (tables : List (Id × ℕ)) (known : List (Id × Option ℕ)) → spec.AreKnown ms tables self.now → Knows known ranks.now
-            → f ≡ spec.fault_finding ms tables self.now.base.now self.now.policy.now known fault.now) }
+    fn finding(
+        &self,
+        alloc: Global,
+        table: &mut TableSpots<'a>,
+        ranks: &Ranks,
+        fault: &Fault,
+    ) -> Result<Finding, AllocError>
+        ensures finding { IfOk result (λ f. (ms : List Mark) (tables : List (Id × ℕ)) (known : List (Id × Option ℕ)) → spec.AreKnown ms tables self.now → Knows known ranks.now
+            → IsTable self.now.text.now.text.now ms (seen table.old) → f ≡ spec.fault_finding self.now.text.now.text.now ms tables self.now.base.now self.now.policy.now known fault.now) }
+        ensures table { OnOk result ((ms : List Mark) → KnowsTables ms self.now.text.now
+            → IsTable self.now.text.now.text.now ms (seen table.old) → IsTable self.now.text.now.text.now ms (seen table.new)) }
     {
-        let table = self.table_of(fault.frame);
-        let mut words = Vec::new(alloc);
-        push_fault(&mut words, &self.judged(table, ranks, fault), fault)?;
-        Ok(Finding::error(audit_fault_at(self.places, table, fault), words))
+        let frame = kind_table(self.table_of(fault.frame), fault.kind);
+        self.text.turn(alloc, table, frame)?;
+        let judged = self.judged(table, ranks, fault);
+        let words = audit_fault_words(alloc, &judged, fault, self.base.find(fault.frame))?;
+        Ok(Finding::error(audit_span(table, fault), words))
     }
 
     fn add_faults(
@@ -159,20 +174,20 @@ impl<'a> Sources<'a> {
         findings: &mut Vec<Finding>,
     ) -> Result<(), AllocError>
         ensures { OnOk result ((ms : List Mark) (tables : List (Id × ℕ)) (known : List (Id × Option ℕ)) → spec.AreKnown ms tables self.now → Knows known audit.now.ranks
-            → findings.new.items ≡ findings.old.items ++ map (spec.fault_finding ms tables self.now.base.now self.now.policy.now known) audit.now.faults) }
+            → findings.new.items ≡ findings.old.items ++ map (spec.fault_finding self.now.text.now.text.now ms tables self.now.base.now self.now.policy.now known) audit.now.faults) }
     {
+        let mut table = self.text.table(alloc, None)?;
         for fault in audit.faults.as_slice() {
-            findings.push(self.finding(alloc, &audit.ranks, fault)?)?;
+            findings.push(self.finding(alloc, &mut table, &audit.ranks, fault)?)?;
         }
         Ok(())
     }
 
     fn warning(&self, alloc: Global, id: FrameId) -> Result<Finding, AllocError>
-        ensures { IfOk result (λ f. (ms : List Mark) (tables : List (Id × ℕ)) → spec.AreKnown ms tables self.now → f ≡ spec.warning ms tables id) }
+        ensures { IfOk result (λ f. (ms : List Mark) (tables : List (Id × ℕ)) → spec.AreKnown ms tables self.now → f ≡ spec.warning self.now.text.now.text.now ms tables id) }
     {
-        let mut words = Vec::new(alloc);
-        push_unreached(&mut words, id)?;
-        Ok(Finding::warning(self.places.of_header(self.table_of(id)), words))
+        let words = unreached_words(alloc, id)?;
+        Ok(Finding::warning(self.text.frame_whole(self.table_of(id)), words))
     }
 
     fn add_warnings(
@@ -182,10 +197,45 @@ impl<'a> Sources<'a> {
         findings: &mut Vec<Finding>,
     ) -> Result<(), AllocError>
         ensures { OnOk result ((ms : List Mark) (tables : List (Id × ℕ)) → spec.AreKnown ms tables self.now
-            → findings.new.items ≡ findings.old.items ++ map (spec.warning ms tables) ids.now) }
+            → findings.new.items ≡ findings.old.items ++ map (spec.warning self.now.text.now.text.now ms tables) ids.now) }
     {
         for id in ids {
             findings.push(self.warning(alloc, *id)?)?;
+        }
+        Ok(())
+    }
+
+    // Appends the warning of a row whose text is hidden, if the frame is given as rows.
+    fn add_hidden_row(
+        &self,
+        alloc: Global,
+        table: &TableSpots<'_>,
+        hidden: (FrameId, usize),
+        findings: &mut Vec<Finding>,
+    ) -> Result<(), AllocError>
+        ensures { OnOk result (findings.new.items ≡ findings.old.items ++ spec.hidden_in (seen table.now) hidden) }
+    {
+        let (id, row) = hidden;
+        if has_rows(table) {
+            let words = hidden_words(alloc, id, row)?;
+            findings.push(Finding::warning(row_span(table, row), words))?;
+        }
+        Ok(())
+    }
+
+    fn add_hidden(
+        &self,
+        alloc: Global,
+        rows: &[(FrameId, usize)],
+        findings: &mut Vec<Finding>,
+    ) -> Result<(), AllocError>
+        ensures { OnOk result ((ms : List Mark) (tables : List (Id × ℕ)) → spec.AreKnown ms tables self.now
+            → findings.new.items ≡ findings.old.items ++ spec.hidden_findings self.now.text.now.text.now ms tables rows.now) }
+    {
+        let mut table = self.text.table(alloc, None)?;
+        for row in rows {
+            self.text.turn(alloc, &mut table, Some(self.table_of(row.0)))?;
+            self.add_hidden_row(alloc, &table, *row, findings)?;
         }
         Ok(())
     }
@@ -194,11 +244,12 @@ impl<'a> Sources<'a> {
     pub fn findings(&self, alloc: Global, audit: &Audit) -> Result<Vec<Finding>, AllocError>
         requires { spec.IsAudit self.now.base.now self.now.policy.now audit.now }
         ensures { IfOk result (λ fs. (ms : List Mark) (tables : List (Id × ℕ)) → spec.AreKnown ms tables self.now
-            → spec.AreAuditFindings ms tables self.now.base.now self.now.policy.now fs.items) }
+            → spec.AreAuditFindings self.now.text.now.text.now ms tables self.now.base.now self.now.policy.now fs.items) }
     {
         let mut findings = Vec::new(alloc);
         self.add_faults(alloc, audit, &mut findings)?;
         self.add_warnings(alloc, audit.unreached.as_slice(), &mut findings)?;
+        self.add_hidden(alloc, audit.hidden.as_slice(), &mut findings)?;
         Ok(findings)
     }
 }

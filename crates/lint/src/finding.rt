@@ -1,4 +1,6 @@
+use lint_words::Words;
 use std::marker::Model;
+use toml_places::Span;
 
 /// How bad a finding is.
 #[derive(Debug, Clone, Copy, PartialEq, Eq)]
@@ -10,10 +12,10 @@ pub enum Level {
 /// Something that was found in a base's text.
 #[derive(Debug, Drop)]
 pub struct Finding {
-    /// The offset of the expression that it is about, in bytes.
-    pub at: usize,
+    /// The smallest piece of the text that is at fault.
+    pub span: Span,
     pub level: Level,
-    pub words: Vec<u8>,
+    pub words: Words,
 }
 
 impl Model for Finding {
@@ -21,28 +23,28 @@ impl Model for Finding {
 
     ghost Value = { FindingView };
 
-    ghost view = { λ f. record { at = f.at; level = f.level; words = f.words.items } };
+    ghost view = { λ f. record { span = f.span; level = f.level; words = f.words } };
 }
 
 impl Finding {
     ghost use Rattle.std.specs.Prelude.{◌≡◌};
     ghost use Rattle.lint.specs.Findings.{error_at, warning_at};
 
-    pub(crate) fn error(at: usize, words: Vec<u8>) -> Finding
-        ensures { result ≡ error_at at words.items }
+    pub(crate) fn error(span: Span, words: Words) -> Finding
+        ensures { result ≡ error_at span words }
     {
         Finding {
-            at,
+            span,
             level: Level::Error,
             words,
         }
     }
 
-    pub(crate) fn warning(at: usize, words: Vec<u8>) -> Finding
-        ensures { result ≡ warning_at at words.items }
+    pub(crate) fn warning(span: Span, words: Words) -> Finding
+        ensures { result ≡ warning_at span words }
     {
         Finding {
-            at,
+            span,
             level: Level::Warning,
             words,
         }

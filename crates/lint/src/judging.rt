@@ -1,19 +1,23 @@
-ghost use Rattle.std.specs.Prelude.{◌≡◌, ◌++◌, ◌∷◌, [], ℕ, List, map, IfOk, OnOk, OnErr, MatchOption, Some, None};
+ghost use Rattle.std.specs.Prelude.{◌≡◌, ◌++◌, ◌∷◌, [], ℕ, List, map, IfOk, IfErr, OnOk, OnErr, MatchOption, Some, None};
 ghost use Rattle.std.specs.Str.{IsUtf8};
 ghost use Rattle.toml.specs.Data.{Members};
+ghost use Rattle.toml.specs.Errors.{IsWithin as IsWithinText};
 ghost use Rattle.toml.specs.Parse.{parse_document};
 ghost use Rattle.toml.specs.View.{table_view};
 ghost use Rattle.base_text.specs.Whole.{tree_of};
 ghost use Rattle.toml_places.specs.Places.{marks};
 ghost use Rattle.lint.specs.Findings.{error_at};
-ghost use Rattle.lint.specs.Laws.{FollowsBaseRead, DecidesSafety, WarnsOfUnreached};
+ghost use Rattle.lint.specs.Laws.{FollowsBaseRead, DecidesSafety, WarnsOfUnreached, SpansLieIn};
 ghost use Rattle.lint.specs.Lint as spec;
 
 use crate::audit_findings::{Audit, Sources};
 use crate::finding::Finding;
-use crate::laws::{lint_follows_base_read, lint_warns_of_unreached, no_error_is_safe};
+use crate::laws::{
+    lint_follows_base_read, lint_warns_of_unreached, no_error_is_safe, spans_lie_in_the_text,
+};
 use crate::lookup::Lookup;
 use crate::order::put_in_order;
+use crate::tables::TextTables;
 use crate::text_findings::{add_text_findings, add_whole_findings};
 use base_text::{
     Draft, MOST_TEXT, TextFault, WholeFault, draft_of, drafts_are_sound, faults_are_listed,
@@ -21,18 +25,18 @@ use base_text::{
 };
 use checker::Policy;
 use frame_records::{Base, Frame};
-use lint_words::push_hint;
+use lint_words::{Words, not_toml_words, too_long_words};
 use page_ids::{FrameId, PageNo};
 use std::alloc::{AllocError, Global};
 use toml::Table;
 use toml::de::Error;
-use toml_places::{Places, TextLines};
+use toml_places::{Places, Span, TextLines};
 
-fn one(alloc: Global, at: usize, words: Vec<u8>) -> Result<Vec<Finding>, AllocError>
-    ensures { IfOk result (λ fs. fs.items ≡ error_at at words.items ∷ []) }
+fn one(alloc: Global, span: Span, words: Words) -> Result<Vec<Finding>, AllocError>
+    ensures { IfOk result (λ fs. fs.items ≡ error_at span words ∷ []) }
 {
     let mut findings = Vec::new(alloc);
-    findings.push(Finding::error(at, words))?;
+    findings.push(Finding::error(span, words))?;
     Ok(findings)
 }
 
@@ -40,33 +44,38 @@ fn one(alloc: Global, at: usize, words: Vec<u8>) -> Result<Vec<Finding>, AllocEr
 fn too_long(alloc: Global) -> Result<Vec<Finding>, AllocError>
     ensures { IfOk result (λ fs. (text : List ℕ) → fs.items ≡ map (spec.finding_of text) (spec.Length ∷ [])) }
 {
-    let mut words = Vec::new(alloc);
-    words.extend_from_slice(b"X1 TooLong: the text has more than 16,777,216 bytes")?;
-    one(alloc, 0, words)
+    one(alloc, Span { begin: 0, end: 0 }, too_long_words(alloc)?)
 }
 
-// X2, with toml's message at the start of its span, and a hint.
+// X2, with toml's message and span, and a hint.
 fn not_toml(
     alloc: Global,
     text: &[u8],
-    at: usize,
+    span: Span,
     message: &str,
 ) -> Result<Vec<Finding>, AllocError>
-    ensures { IfOk result (λ fs. fs.items ≡ map (spec.finding_of text.now) (spec.Toml at message.now ∷ [])) }
+    ensures { IfOk result (λ fs. fs.items ≡ map (spec.finding_of text.now) (spec.Toml span message.now ∷ [])) }
 {
-    let mut words = Vec::new(alloc);
-    words.extend_from_slice(b"X2 NotToml: ")?;
-    words.extend_from_slice(message.as_bytes())?;
-    push_hint(&mut words, text, at, message)?;
-    one(alloc, at, words)
+    one(
+        alloc,
+        span,
+        not_toml_words(alloc, text, span.begin, message)?,
+    )
 }
 
 fn refused(alloc: Global, text: &[u8], error: &Error) -> Result<Vec<Finding>, AllocError>
+    requires { IsWithinText text.now error.now }
     ensures { IfOk result (λ fs. spec.IsNotToml text.now fs.items) }
 {
     match error.span() {
         None => Err(AllocError),
-        Some(span) => not_toml(alloc, text, span.start, error.message()),
+        Some(range) => {
+            let span = Span {
+                begin: range.start,
+                end: range.end,
+            };
+            not_toml(alloc, text, span, error.message())
+        }
     }
 }
 
@@ -77,13 +86,15 @@ fn faulty(
     faults: &[TextFault],
     whole: &[WholeFault],
 ) -> Result<Vec<Finding>, AllocError>
-    ensures { IfOk result (λ fs. (ms : Members) → parse_document text.now ≡ Some ms → fs.items ≡ map (spec.text_finding (marks text.now)) faults.now ++ map (spec.whole_finding text.now (marks text.now)) whole.now) }
+    ensures { IfOk result (λ fs. (ms : Members) → parse_document text.now ≡ Some ms → fs.items ≡ map (spec.text_finding text.now (marks text.now)) faults.now ++ map (spec.whole_finding text.now (marks text.now)) whole.now) }
 {
     let places = Places::of(alloc, text)?;
+    let tables = TextTables::of(alloc, text, &places)?;
     let lines = TextLines::of(alloc, text.as_bytes())?;
     let mut findings = Vec::new(alloc);
-    add_text_findings(alloc, &places, faults, &mut findings)?;
-    add_whole_findings(alloc, &places, &lines, whole, &mut findings)?;
+    let first_frame = lines.place(tables.frame_whole(0).begin).0;
+    add_text_findings(alloc, &tables, first_frame, faults, &mut findings)?;
+    add_whole_findings(alloc, &tables, &lines, whole, &mut findings)?;
     Ok(findings)
 }
 
@@ -95,15 +106,16 @@ fn audited(
     base: &Base,
     policy: &Policy,
 ) -> Result<Vec<Finding>, AllocError>
-    ensures { IfOk result (λ fs. (ms : Members) → parse_document text.now ≡ Some ms → spec.AreAuditFindings (marks text.now) tables.now base.now policy.now fs.items) }
+    ensures { IfOk result (λ fs. (ms : Members) → parse_document text.now ≡ Some ms → spec.AreAuditFindings text.now (marks text.now) tables.now base.now policy.now fs.items) }
 {
     let audit = Audit::of(alloc, base, policy)?;
     if audit.is_clear() {
         return Ok(Vec::new(alloc));
     }
     let places = Places::of(alloc, text)?;
+    let written = TextTables::of(alloc, text, &places)?;
     let sources = Sources {
-        places: &places,
+        text: &written,
         tables: Lookup::of(alloc, tables)?,
         base,
         policy,
@@ -173,6 +185,7 @@ fn tree(alloc: Global, text: &[u8]) -> Result<Result<Table, Error>, AllocError>
     ensures ok { IfOk result (λ read. IfOk read (λ table. tree_of text.now ≡ Some (table_view table))) }
     ensures utf8 { IfOk result (λ read. OnOk read (IsUtf8 text.now)) }
     ensures refused { IfOk result (λ read. OnErr read (tree_of text.now ≡ None)) }
+    ensures span { IfOk result (λ read. IfErr read (IsWithinText text.now)) }
 {
     match toml::table_from_slice(alloc, text) {
         Ok(table) => Ok(Ok(table)),
@@ -202,7 +215,7 @@ fn judged(alloc: Global, text: &[u8], policy: &Policy) -> Result<Vec<Finding>, A
     }
 }
 
-/// Every finding of a base's text, in the order of their places: all faults of the text, or if it has none those of the
+/// Every finding of a base's text, in the order of where they begin: all faults of the text, or if it has none those of the
 /// audit, and the frames that no key reaches.
 pub fn lint(alloc: Global, text: &[u8], policy: &Policy) -> Result<Vec<Finding>, AllocError>
     ensures findings { IfOk result (λ fs. spec.IsLint text.now policy.now fs.items) }
@@ -211,10 +224,12 @@ pub fn lint(alloc: Global, text: &[u8], policy: &Policy) -> Result<Vec<Finding>,
     ensures text { IfOk result (λ fs. FollowsBaseRead text.now policy.now fs.items) }
     ensures errors { IfOk result (λ fs. DecidesSafety text.now policy.now fs.items) }
     ensures warnings { IfOk result (λ fs. WarnsOfUnreached text.now policy.now fs.items) }
+    ensures spans { IfOk result (λ fs. SpansLieIn text.now fs.items) }
 {
     lint_follows_base_read();
     no_error_is_safe();
     lint_warns_of_unreached();
+    spans_lie_in_the_text();
     let mut findings = judged(alloc, text, policy)?;
     put_in_order(&mut findings)?;
     Ok(findings)

@@ -1,7 +1,8 @@
-ghost use Rattle.lint.specs.Laws.{LintFollowsBaseRead, NoErrorIsSafe, LintWarnsOfUnreached};
+ghost use Rattle.lint.specs.Laws.{LintFollowsBaseRead, NoErrorIsSafe, LintWarnsOfUnreached, LintSpansLieIn, FindingsAreWholeLines};
 
 use base_text::{drafts_are_sound, faults_are_listed, texts_mean_one_base, whole_faults_agree};
 use fault_scripts::{faults_are_one, none_is_safe};
+use toml_places::{places_are_within, spans_stand};
 
 /// The findings of a text follow what `base_read` answers for it, unless it is out of memory. If that is a base, they are
 /// those of its audit, and none is of the text. If it is a fault, they are of the text, and the first in the order of
@@ -31,4 +32,18 @@ pub fn lint_warns_of_unreached()
     ensures { LintWarnsOfUnreached }
 {
     lint_follows_base_read();
+}
+
+/// What is printed of findings is a line for each of them, without a control character, whatever is in the text and the
+/// path.
+pub fn findings_are_whole_lines()
+    ensures { FindingsAreWholeLines }
+{}
+
+/// The span of every finding begins and ends in the text.
+pub fn spans_lie_in_the_text()
+    ensures { LintSpansLieIn }
+{
+    spans_stand();
+    places_are_within();
 }

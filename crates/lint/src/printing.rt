@@ -1,10 +1,14 @@
-ghost use Rattle.std.specs.Prelude.{◌≡◌, ◌++◌, ◌∷◌, [], IfOk, OnOk, decimal};
-ghost use Rattle.lint.specs.Findings.{level_text, place_text, finding_line, finding_lines};
+ghost use Rattle.std.specs.Prelude.{◌≡◌, ◌++◌, ◌∷◌, [], ℕ, List, length, IfOk, OnOk, IfSome, option_copied, codes, decimal};
+ghost use Rattle.lint_words.specs.Lines.{IsLine, line_of};
+ghost use Rattle.lint.specs.Findings.{level_text, begin_of, place_text, code_text, hint_text, words_text, line_text, AddsLine, AreFindingLines};
+ghost use Rattle.lint.specs.Laws.{AreWholeLines};
 
 use crate::finding::{Finding, Level};
+use crate::laws::findings_are_whole_lines;
+use lint_words::{Code, Line, Words};
 use page_ids::push_number;
 use std::alloc::{AllocError, Global};
-use toml_places::TextLines;
+use toml_places::{Span, TextLines};
 
 fn level_text(level: Level) -> &'static str
     ensures { result.now ≡ level_text level }
@@ -23,61 +27,142 @@ fn push_part(out: &mut Vec<u8>, number: usize) -> Result<(), AllocError>
     Ok(())
 }
 
-// The path, the line and the column, each with a colon.
-fn push_place(out: &mut Vec<u8>, path: &[u8], place: (usize, usize)) -> Result<(), AllocError>
-    ensures { OnOk result (out.new.items ≡ out.old.items ++ place_text path.now place) }
+// The line and the column at which a span begins.
+fn begin_of(lines: &TextLines<'_>, span: Span) -> (usize, usize)
+    ensures { result ≡ begin_of lines.now span }
 {
-    out.extend_from_slice(path)?;
+    let extent = lines.extent(span);
+    (extent.line, extent.column)
+}
+
+// The path, the line and the column, each with a colon.
+fn push_place(out: &mut Vec<u8>, path: &Line, line: usize, column: usize) -> Result<(), AllocError>
+    ensures place { OnOk result (out.new.items ≡ out.old.items ++ place_text path.now (line, column)) }
+    ensures is_line { OnOk result (IsLine (place_text path.now (line, column))) }
+{
+    out.extend_from_slice(path.as_str().as_bytes())?;
     out.extend_from_slice(b":")?;
-    push_part(out, place.0)?;
-    push_part(out, place.1)
+    push_part(out, line)?;
+    push_part(out, column)
+}
+
+// The code, and its name if it has one.
+fn push_code(out: &mut Vec<u8>, code: Code) -> Result<(), AllocError>
+    ensures { OnOk result (out.new.items ≡ out.old.items ++ code_text code) }
+{
+    out.extend_from_slice(code.word().as_bytes())?;
+    if code.name().is_empty() {
+        return Ok(());
+    }
+    out.extend_from_slice(b" ")?;
+    out.extend_from_slice(code.name().as_bytes())
+}
+
+fn push_hint(out: &mut Vec<u8>, hint: Option<&Line>) -> Result<(), AllocError>
+    ensures hint { OnOk result (out.new.items ≡ out.old.items ++ hint_text (option_copied hint.entry)) }
+    ensures is_line { OnOk result (IfSome (option_copied hint.entry) IsLine) }
+{
+    match hint {
+        None => Ok(()),
+        Some(hint) => {
+            let text = hint.as_str();
+            out.extend_from_slice(b"; ")?;
+            out.extend_from_slice(text.as_bytes())
+        }
+    }
+}
+
+fn push_words(out: &mut Vec<u8>, words: &Words, hint: Option<&Line>) -> Result<(), AllocError>
+    ensures words { OnOk result (out.new.items ≡ out.old.items ++ words_text words.now (option_copied hint.entry)) }
+    ensures is_line { OnOk result (IsLine (words_text words.now (option_copied hint.entry))) }
+{
+    push_code(out, words.code())?;
+    out.extend_from_slice(b": ")?;
+    out.extend_from_slice(words.message().as_str().as_bytes())?;
+    push_hint(out, hint)
+}
+
+// A line without its line feed.
+fn push_line_text(
+    out: &mut Vec<u8>,
+    path: &Line,
+    place: (usize, usize),
+    level: Level,
+    words: &Words,
+    hint: Option<&Line>,
+) -> Result<(), AllocError>
+    ensures line { OnOk result (out.new.items ≡ out.old.items ++ line_text path.now place level words.now (option_copied hint.entry)) }
+    ensures is_line { OnOk result (IsLine (line_text path.now place level words.now (option_copied hint.entry))) }
+{
+    push_place(out, path, place.0, place.1)?;
+    out.extend_from_slice(b" ")?;
+    out.extend_from_slice(level_text(level).as_bytes())?;
+    out.extend_from_slice(b": ")?;
+    push_words(out, words, hint)
+}
+
+fn push_line(
+    out: &mut Vec<u8>,
+    path: &Line,
+    place: (usize, usize),
+    level: Level,
+    words: &Words,
+    hint: Option<&Line>,
+) -> Result<(), AllocError>
+    ensures line { OnOk result (out.new.items ≡ out.old.items ++ (line_text path.now place level words.now (option_copied hint.entry) ++ codes "\n")) }
+    ensures is_line { OnOk result (IsLine (line_text path.now place level words.now (option_copied hint.entry))) }
+{
+    push_line_text(out, path, place, level, words, hint)?;
+    out.extend_from_slice(b"\n")
 }
 
 fn push_finding(
     out: &mut Vec<u8>,
-    path: &[u8],
+    path: &Line,
     lines: &TextLines<'_>,
     finding: &Finding,
 ) -> Result<(), AllocError>
-    ensures { OnOk result (out.new.items ≡ out.old.items ++ finding_line path.now lines.now finding.now) }
+    ensures { OnOk result ((bytes : List ℕ) → path.now ≡ line_of bytes → AddsLine bytes lines.now finding.now out.old.items out.new.items) }
 {
-    push_place(out, path, lines.place(finding.at))?;
-    out.extend_from_slice(b" ")?;
-    out.extend_from_slice(level_text(finding.level).as_bytes())?;
-    out.extend_from_slice(b": ")?;
-    out.extend_from_slice(finding.words.as_slice())?;
-    out.extend_from_slice(b"\n")
+    let place = begin_of(lines, finding.span);
+    let words = &finding.words;
+    push_line(out, path, place, finding.level, words, words.hint())
 }
 
-fn push_findings(
-    out: &mut Vec<u8>,
-    path: &[u8],
+fn lines_text(
+    alloc: Global,
+    path: &Line,
     lines: &TextLines<'_>,
     findings: &[Finding],
-) -> Result<(), AllocError>
-    ensures { OnOk result (out.new.items ≡ out.old.items ++ finding_lines path.now lines.now findings.now) }
+) -> Result<Vec<u8>, AllocError>
+    ensures { IfOk result (λ out. (bytes : List ℕ) → path.now ≡ line_of bytes → AreFindingLines bytes lines.now findings.now out.items) }
 {
+    let mut out = Vec::new(alloc);
     for finding in findings {
-        push_finding(out, path, lines, finding)?;
+        push_finding(&mut out, path, lines, finding)?;
     }
-    Ok(())
+    Ok(out)
 }
 
-/// What is printed of findings in a text, as `PATH:LINE:COLUMN: error: WORDS` and a line feed each, in their order.
+/// What is printed of findings in a text: a line `PATH:LINE:COLUMN: error: CODE NAME: MESSAGE; HINT` for each, in their
+/// order.
 ///
-/// The path is printed as it is given. Lines and columns are from 1; a column counts characters.
+/// A control character of the path is written as `\u{1b}`, and U+FFFD in place of what isn't UTF-8. Lines and columns are
+/// from 1; a column counts characters.
 pub fn lint_text(
     alloc: Global,
     path: &[u8],
     text: &[u8],
     findings: &[Finding],
 ) -> Result<Vec<u8>, AllocError>
-    ensures { IfOk result (λ out. out.items ≡ finding_lines path.now text.now findings.now) }
+    ensures lines { IfOk result (λ out. AreFindingLines path.now text.now findings.now out.items) }
+    ensures whole { IfOk result (λ out. AreWholeLines (length findings.now) out.items) }
 {
-    let mut out = Vec::new(alloc);
-    if !findings.is_empty() {
-        let lines = TextLines::of(alloc, text)?;
-        push_findings(&mut out, path, &lines, findings)?;
+    findings_are_whole_lines();
+    if findings.is_empty() {
+        return Ok(Vec::new(alloc));
     }
-    Ok(out)
+    let path = Line::of(alloc, path)?;
+    let lines = TextLines::of(alloc, text)?;
+    lines_text(alloc, &path, &lines, findings)
 }

@@ -1,131 +1,317 @@
-//! The place of a fault: the offset of the expression that wrote what is at fault.
+//! The span of a fault: of the smallest piece of a text that is at fault.
 
-ghost use Rattle.std.specs.Prelude.{◌≡◌, List, option_copied};
-ghost use Rattle.toml_places.specs.Places.{Mark, Keeps};
+ghost use Rattle.std.specs.Prelude.{◌≡◌};
+ghost use Rattle.lint.specs.Tables.{seen};
 ghost use Rattle.lint.specs.Spots as spec;
 
-use base_text::{Detail, Field, TableKind, TextFault, WholeFault, digit_key};
+use crate::tables::TableSpots;
+use abstract_paint::Start;
+use base_text::{Detail, Field, TableKind, WholeFault, digit_key};
 use fault_scripts::{Fault, FaultKind};
 use frame_records::MOST_LISTED;
 use page_ids::Key;
-use toml_places::Places;
+use toml_places::{Span, char_span, key_span, pair_span, value_span};
 
-// The key that a detail is about.
-fn key_of(detail: &Detail) -> &str
-    ensures { result.now ≡ spec.key_of detail.now }
+// A key of the table as it is written.
+fn key_of(table: &TableSpots<'_>, key: &str) -> Option<Span>
+    ensures { result ≡ spec.key_of (seen table.now) key.now }
 {
-    match detail {
-        Detail::UnknownKey(_, key) => key.as_str(),
-        Detail::Absent(field)
-        | Detail::WrongKind(field, _)
-        | Detail::WrongItem(field, _, _)
-        | Detail::Number(field, _)
-        | Detail::ItemNumber(field, _, _) => field.name(),
-        Detail::Lead(_) => Field::Lead.name(),
-        Detail::BodyCode(_, _) => Field::Body.name(),
-        Detail::TooManyRows(_)
-        | Detail::BodyAndRows
-        | Detail::RowTooLong(_, _)
-        | Detail::RowCode(_, _, _) => Field::Rows.name(),
-        Detail::BadFrame(_) => Field::Id.name(),
+    key_span(table.text(), table.key(key)?)
+}
+
+fn value_of(table: &TableSpots<'_>, key: &str) -> Option<Span>
+    ensures { result ≡ spec.value_of (seen table.now) key.now }
+{
+    value_span(table.text(), table.key(key)?)
+}
+
+// A key of the table with its value.
+fn pair_of(table: &TableSpots<'_>, key: &str) -> Option<Span>
+    ensures { result ≡ spec.pair_of (seen table.now) key.now }
+{
+    pair_span(table.text(), table.key(key)?)
+}
+
+// A key below `routes`.
+fn route_key(table: &TableSpots<'_>, key: &str) -> Option<Span>
+    ensures { result ≡ spec.route_key (seen table.now) key.now }
+{
+    let written = match table.route(key) {
+        Some(spot) => key_span(table.text(), spot),
+        None => None,
+    };
+    written.or(value_of(table, "routes"))
+}
+
+// A route with its page.
+fn route_pair(table: &TableSpots<'_>, key: &str) -> Option<Span>
+    ensures { result ≡ spec.route_pair (seen table.now) key.now }
+{
+    let written = match table.route(key) {
+        Some(spot) => pair_span(table.text(), spot),
+        None => None,
+    };
+    written.or(value_of(table, "routes"))
+}
+
+// An item of the table's list, which is under this key.
+fn item_of(table: &TableSpots<'_>, key: &str, index: usize) -> Option<Span>
+    ensures { result ≡ spec.item_of (seen table.now) key.now index }
+{
+    table.item(index).or(value_of(table, key))
+}
+
+// A character of the string in a span.
+fn char_of(table: &TableSpots<'_>, index: usize, string: Span) -> Span
+    ensures { result ≡ spec.char_of (seen table.now) index string }
+{
+    char_span(table.text(), string.begin, index).unwrap_or(string)
+}
+
+fn later(one: Option<Span>, other: Option<Span>) -> Option<Span>
+    ensures { result ≡ spec.later one other }
+{
+    match (one, other) {
+        (Some(one), Some(other)) => {
+            if one.begin < other.begin {
+                Some(other)
+            } else {
+                Some(one)
+            }
+        }
+        (Some(one), None) => Some(one),
+        (None, other) => other,
     }
 }
 
-fn digit_text(digit: usize) -> Option<&'static str>
-    ensures { option_copied result ≡ spec.digit_text digit }
+fn unknown_at(table: &TableSpots<'_>, kind: TableKind, key: &str) -> Option<Span>
+    ensures { result ≡ spec.unknown_at (seen table.now) kind key.now }
+{
+    match kind {
+        TableKind::Routes => route_key(table, key),
+        TableKind::Top | TableKind::Frame => key_of(table, key),
+    }
+}
+
+fn digit_at(table: &TableSpots<'_>, digit: usize) -> Option<Span>
+    ensures { result ≡ spec.digit_at (seen table.now) digit }
 {
     if digit < 10 {
-        Some(digit_key(digit))
+        route_pair(table, digit_key(digit))
     } else {
         None
     }
 }
 
-// The key below `routes` that a detail is about, if it is about one.
-fn route_of(detail: &Detail) -> Option<&str>
-    ensures { option_copied result ≡ spec.route_of detail.now }
-{
-    match detail {
-        Detail::UnknownKey(TableKind::Routes, key) => Some(key.as_str()),
-        Detail::WrongItem(Field::Routes, digit, _) => digit_text(*digit),
-        Detail::ItemNumber(Field::Routes, digit, _) => digit_text(*digit),
-        _ => None,
+// The page of a route, by its digit.
+fn route_value(table: &TableSpots<'_>, digit: usize) -> Option<Span> {
+    if digit < 10 {
+        value_span(table.text(), table.route(digit_key(digit))?)
+    } else {
+        None
     }
 }
 
-// The place of a fault of a text.
-pub fn text_fault_at(places: &Places, fault: &TextFault) -> usize
-    ensures { (ms : List Mark) → Keeps places.now ms → result ≡ spec.text_fault_place ms fault.now }
+// An item of a list, by its number from 1, or a route, by its digit.
+fn listed_at(table: &TableSpots<'_>, field: Field, number: usize) -> Option<Span>
+    ensures { result ≡ spec.listed_at (seen table.now) field number }
 {
-    match (fault.frame, route_of(&fault.detail)) {
-        (Some(frame), Some(route)) => places.of_route(frame, route),
-        _ => places.of_key(fault.frame, key_of(&fault.detail)),
+    if field == Field::Routes {
+        digit_at(table, number)
+    } else {
+        item_of(table, field.name(), number.saturating_sub(1))
+    }
+}
+
+// A row, by its number from 1.
+fn row_at(table: &TableSpots<'_>, number: usize) -> Option<Span>
+    ensures { result ≡ spec.row_at (seen table.now) number }
+{
+    item_of(table, "rows", number.saturating_sub(1))
+}
+
+// A character of the body, by its index.
+fn body_char(table: &TableSpots<'_>, index: usize) -> Option<Span>
+    ensures { result ≡ spec.body_char (seen table.now) index }
+{
+    let body = value_of(table, "body")?;
+    Some(char_of(table, index, body))
+}
+
+// A character of a row, each by its number from 1.
+fn row_char(table: &TableSpots<'_>, row: usize, number: usize) -> Option<Span>
+    ensures { result ≡ spec.row_char (seen table.now) row number }
+{
+    let row = row_at(table, row)?;
+    Some(char_of(table, number.saturating_sub(1), row))
+}
+
+fn detail_at(table: &TableSpots<'_>, detail: &Detail) -> Option<Span>
+    ensures { result ≡ spec.detail_at (seen table.now) detail.now }
+{
+    match detail {
+        Detail::UnknownKey(kind, key) => unknown_at(table, *kind, key.as_str()),
+        Detail::Absent(_) => None,
+        Detail::WrongKind(field, _) => value_of(table, field.name()),
+        Detail::WrongItem(field, number, _) => listed_at(table, *field, *number),
+        Detail::Number(field, _) => value_of(table, field.name()),
+        Detail::ItemNumber(field, number, _) => listed_at(table, *field, *number),
+        Detail::Lead(_) => value_of(table, "lead"),
+        Detail::BodyCode(number, _) => body_char(table, number.saturating_sub(1)),
+        Detail::TooManyRows(_) => row_at(table, 23),
+        Detail::BodyAndRows => later(key_of(table, "body"), key_of(table, "rows")),
+        Detail::RowTooLong(row, _) => row_at(table, *row),
+        Detail::RowCode(row, number, _) => row_char(table, *row, *number),
+        Detail::BadFrame(_) => value_of(table, "id"),
+    }
+}
+
+// The value that a detail is about, as it is written, if a hint can use it.
+pub fn written_value<'t>(table: &'t TableSpots<'_>, detail: &Detail) -> &'t [u8] {
+    let span = match detail {
+        Detail::WrongKind(field, _) => value_of(table, field.name()),
+        Detail::WrongItem(Field::Routes, digit, _) => route_value(table, *digit),
+        _ => None,
+    };
+    match span {
+        None => b"",
+        Some(span) => table
+            .text()
+            .as_bytes()
+            .get(span.begin..span.end)
+            .unwrap_or(b""),
+    }
+}
+
+// The span of what is wrong with a table.
+pub fn detail_span(table: &TableSpots<'_>, detail: &Detail) -> Span
+    ensures { result ≡ spec.detail_span (seen table.now) detail.now }
+{
+    detail_at(table, detail).unwrap_or(table.whole())
+}
+
+// The frame whose table a fault of a base as a whole is about; none if it is about the top.
+pub fn whole_table(fault: &WholeFault) -> Option<usize>
+    ensures { result ≡ spec.whole_table fault.now }
+{
+    match *fault {
+        WholeFault::TooManyFrames(_) => Some(MOST_LISTED),
+        WholeFault::TooManyOutside(_) | WholeFault::OutsideInside(_) => None,
+        WholeFault::BodyTooLong { table, .. } => Some(table),
+        WholeFault::NextAfterZ { table, .. } => Some(table),
+        WholeFault::Duplicate { table, .. } => Some(table),
     }
 }
 
 // Whether a frame is written with `rows`.
-pub fn has_rows(places: &Places, table: usize) -> bool
-    ensures { (ms : List Mark) → Keeps places.now ms → result ≡ spec.has_rows ms table }
+pub fn has_rows(table: &TableSpots<'_>) -> bool
+    ensures { result ≡ spec.has_rows (seen table.now) }
 {
-    places.of_key(Some(table), "rows") != places.of_header(table)
+    table.key("rows").is_some()
 }
 
-fn text_at(places: &Places, table: usize) -> usize
-    ensures { (ms : List Mark) → Keeps places.now ms → result ≡ spec.text_place ms table }
+// What a frame shows.
+fn shown_at(table: &TableSpots<'_>) -> Option<Span>
+    ensures { result ≡ spec.shown_at (seen table.now) }
 {
-    let key = if has_rows(places, table) {
-        Field::Rows
+    let key = if has_rows(table) { "rows" } else { "body" };
+    value_of(table, key)
+}
+
+fn whole_at(table: &TableSpots<'_>, fault: &WholeFault) -> Option<Span>
+    ensures { result ≡ spec.whole_at (seen table.now) fault.now }
+{
+    match fault {
+        WholeFault::TooManyFrames(_) => None,
+        WholeFault::TooManyOutside(_) => item_of(table, "outside", MOST_LISTED),
+        WholeFault::BodyTooLong { .. } => shown_at(table),
+        WholeFault::NextAfterZ { .. } => pair_of(table, "next"),
+        WholeFault::Duplicate { .. } => value_of(table, "id"),
+        WholeFault::OutsideInside(_) => value_of(table, "outside"),
+    }
+}
+
+// The span of a fault of a base as a whole, in its table.
+pub fn whole_span(table: &TableSpots<'_>, fault: &WholeFault) -> Span
+    ensures { result ≡ spec.whole_span (seen table.now) fault.now }
+{
+    whole_at(table, fault).unwrap_or(table.whole())
+}
+
+// A key that is pressed at a frame.
+fn pressed_at(table: &TableSpots<'_>, key: &Key) -> Option<Span>
+    ensures { result ≡ spec.pressed_at (seen table.now) key.now }
+{
+    match key {
+        Key::Route(digit) => digit_at(table, digit.get() as usize),
+        Key::Next => pair_of(table, "next"),
+        _ => None,
+    }
+}
+
+fn sought_at(table: &TableSpots<'_>, key: &Option<Key>) -> Option<Span>
+    ensures { result ≡ spec.sought_at (seen table.now) key.now }
+{
+    match key {
+        Some(key) => pressed_at(table, key),
+        None => None,
+    }
+}
+
+// The character of the byte at fault, if it is known.
+fn byte_at(table: &TableSpots<'_>, start: Option<Start>) -> Option<Span>
+    ensures { result ≡ spec.byte_at (seen table.now) start }
+{
+    match start {
+        Some(start) => body_char(table, start.offset),
+        None => value_of(table, "body"),
+    }
+}
+
+// Of rows it is the last one that writes into the last row of the screen.
+fn touched_at(table: &TableSpots<'_>, start: Option<Start>) -> Option<Span>
+    ensures { result ≡ spec.touched_at (seen table.now) start }
+{
+    if has_rows(table) {
+        row_at(table, 22)
     } else {
-        Field::Body
-    };
-    places.of_key(Some(table), key.name())
-}
-
-// The place of a fault of a base as a whole.
-pub fn whole_fault_at(places: &Places, fault: &WholeFault) -> usize
-    ensures { (ms : List Mark) → Keeps places.now ms → result ≡ spec.whole_fault_place ms fault.now }
-{
-    match *fault {
-        WholeFault::TooManyFrames(_) => places.of_header(MOST_LISTED),
-        WholeFault::TooManyOutside(_) | WholeFault::OutsideInside(_) => {
-            places.of_key(None, "outside")
-        }
-        WholeFault::BodyTooLong { table, .. } => text_at(places, table),
-        WholeFault::NextAfterZ { table, .. } => places.of_key(Some(table), "next"),
-        WholeFault::Duplicate { table, .. } => places.of_key(Some(table), "id"),
+        byte_at(table, start)
     }
 }
 
-// The place of a key that is pressed at a frame.
-fn pressed_at(places: &Places, table: usize, key: &Key) -> usize
-    ensures { (ms : List Mark) → Keeps places.now ms → result ≡ spec.pressed_place ms table key.now }
-{
-    match key {
-        Key::Route(digit) => places.of_route(table, digit_key(digit.get() as usize)),
-        Key::Next => places.of_key(Some(table), "next"),
-        _ => places.of_header(table),
-    }
-}
-
-fn sought_at(places: &Places, table: usize, key: &Option<Key>) -> usize
-    ensures { (ms : List Mark) → Keeps places.now ms → result ≡ spec.sought_place ms table key.now }
-{
-    match key {
-        Some(key) => pressed_at(places, table, key),
-        None => places.of_header(table),
-    }
-}
-
-// The place of a fault of the audit, whose frame is written by this table.
-pub fn audit_fault_at(places: &Places, table: usize, fault: &Fault) -> usize
-    ensures { (ms : List Mark) → Keeps places.now ms → result ≡ spec.audit_fault_place ms table fault.now }
+fn kind_at(table: &TableSpots<'_>, fault: &Fault) -> Option<Span>
+    ensures { result ≡ spec.kind_at (seen table.now) fault.now fault.now.kind }
 {
     match fault.kind {
-        FaultKind::EntryMissing => places.of_key(None, "entry"),
-        FaultKind::EntryClosed => places.of_key(Some(table), "group"),
-        FaultKind::Price => places.of_key(Some(table), "price"),
-        FaultKind::Touches => text_at(places, table),
-        FaultKind::Missing | FaultKind::Closed => sought_at(places, table, &fault.key),
-        FaultKind::NoReturn => places.of_header(table),
+        FaultKind::EntryMissing => value_of(table, "entry"),
+        FaultKind::EntryClosed => value_of(table, "group"),
+        FaultKind::Price => value_of(table, "price"),
+        FaultKind::Touches => touched_at(table, fault.start),
+        FaultKind::Missing | FaultKind::Closed => sought_at(table, &fault.key),
+        FaultKind::NoReturn => None,
+    }
+}
+
+// The span of a fault of the audit, in its table.
+pub fn audit_span(table: &TableSpots<'_>, fault: &Fault) -> Span
+    ensures { result ≡ spec.audit_span (seen table.now) fault.now }
+{
+    kind_at(table, fault).unwrap_or(table.whole())
+}
+
+// The span of a row, by its number from 1, of a frame given as rows.
+pub fn row_span(table: &TableSpots<'_>, row: usize) -> Span
+    ensures { result ≡ spec.row_span (seen table.now) row }
+{
+    row_at(table, row).unwrap_or(table.whole())
+}
+
+// The frame whose table a fault of the audit is about, which this table writes; none if the entry frame is missing.
+pub fn kind_table(table: usize, kind: FaultKind) -> Option<usize>
+    ensures { result ≡ spec.kind_table table kind }
+{
+    match kind {
+        FaultKind::EntryMissing => None,
+        _ => Some(table),
     }
 }

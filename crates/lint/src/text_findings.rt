@@ -1,72 +1,95 @@
 ghost use Rattle.std.specs.Prelude.{◌≡◌, ◌++◌, List, map, IfOk, OnOk};
-ghost use Rattle.toml_places.specs.Places.{Mark, Keeps};
+ghost use Rattle.toml_places.specs.Places.{Mark};
+ghost use Rattle.lint.specs.Tables.{KnowsTables, IsTable, seen};
 ghost use Rattle.lint.specs.Lint as spec;
 
 use crate::finding::Finding;
-use crate::spots::{text_fault_at, whole_fault_at};
+use crate::spots::{detail_span, whole_span, whole_table, written_value};
+use crate::tables::{TableSpots, TextTables};
 use base_text::{TextFault, WholeFault};
-use lint_words::{push_text_fault, push_whole_fault};
+use lint_words::{Written, text_fault_words, whole_fault_words};
 use std::alloc::{AllocError, Global};
-use toml_places::{Places, TextLines};
+use toml_places::TextLines;
 
-fn text_finding(alloc: Global, places: &Places, fault: &TextFault) -> Result<Finding, AllocError>
-    ensures { IfOk result (λ f. (ms : List Mark) → Keeps places.now ms → f ≡ spec.text_finding ms fault.now) }
+fn text_finding<'a>(
+    alloc: Global,
+    tables: &TextTables<'a>,
+    table: &mut TableSpots<'a>,
+    first_frame: usize,
+    fault: &TextFault,
+) -> Result<Finding, AllocError>
+    ensures finding { IfOk result (λ f. (ms : List Mark) → KnowsTables ms tables.now → IsTable tables.now.text.now ms (seen table.old)
+        → f ≡ spec.text_finding tables.now.text.now ms fault.now) }
+    ensures table { OnOk result ((ms : List Mark) → KnowsTables ms tables.now → IsTable tables.now.text.now ms (seen table.old) → IsTable tables.now.text.now ms (seen table.new)) }
 {
-    let mut words = Vec::new(alloc);
-    push_text_fault(alloc, &mut words, fault)?;
-    Ok(Finding::error(text_fault_at(places, fault), words))
+    tables.turn(alloc, table, fault.frame)?;
+    let written = Written {
+        value: written_value(table, &fault.detail),
+        first_frame,
+    };
+    let words = text_fault_words(alloc, fault, &written)?;
+    Ok(Finding::error(detail_span(table, &fault.detail), words))
 }
 
-// Appends the findings of a text's faults.
+// Appends the findings of a text's faults. The first frame begins on this line, from 1.
 pub fn add_text_findings(
     alloc: Global,
-    places: &Places,
+    tables: &TextTables<'_>,
+    first_frame: usize,
     faults: &[TextFault],
     findings: &mut Vec<Finding>,
 ) -> Result<(), AllocError>
-    ensures { OnOk result ((ms : List Mark) → Keeps places.now ms → findings.new.items ≡ findings.old.items ++ map (spec.text_finding ms) faults.now) }
+    ensures { OnOk result ((ms : List Mark) → KnowsTables ms tables.now
+        → findings.new.items ≡ findings.old.items ++ map (spec.text_finding tables.now.text.now ms) faults.now) }
 {
+    let mut table = tables.table(alloc, None)?;
     for fault in faults {
-        findings.push(text_finding(alloc, places, fault)?)?;
+        findings.push(text_finding(alloc, tables, &mut table, first_frame, fault)?)?;
     }
     Ok(())
 }
 
 // The line of the first frame with the id, if the fault is a further frame with it.
-fn first_line(places: &Places, lines: &TextLines<'_>, fault: &WholeFault) -> usize
-    ensures { (ms : List Mark) → Keeps places.now ms → result ≡ spec.first_line lines.now ms fault.now }
+fn first_line(tables: &TextTables<'_>, lines: &TextLines<'_>, fault: &WholeFault) -> usize
+    ensures { (ms : List Mark) → KnowsTables ms tables.now → lines.now ≡ tables.now.text.now
+        → result ≡ spec.first_line tables.now.text.now ms fault.now }
 {
     match *fault {
-        WholeFault::Duplicate { first, .. } => lines.place(places.of_key(Some(first), "id")).0,
+        WholeFault::Duplicate { first, .. } => lines.place(tables.id_place(first)).0,
         _ => 0,
     }
 }
 
-fn whole_finding(
+fn whole_finding<'a>(
     alloc: Global,
-    places: &Places,
+    tables: &TextTables<'a>,
+    table: &mut TableSpots<'a>,
     lines: &TextLines<'_>,
     fault: &WholeFault,
 ) -> Result<Finding, AllocError>
-    ensures { IfOk result (λ f. (ms : List Mark) → Keeps places.now ms → f ≡ spec.whole_finding lines.now ms fault.now) }
+    ensures finding { IfOk result (λ f. (ms : List Mark) → KnowsTables ms tables.now → lines.now ≡ tables.now.text.now → IsTable tables.now.text.now ms (seen table.old)
+        → f ≡ spec.whole_finding tables.now.text.now ms fault.now) }
+    ensures table { OnOk result ((ms : List Mark) → KnowsTables ms tables.now → IsTable tables.now.text.now ms (seen table.old) → IsTable tables.now.text.now ms (seen table.new)) }
 {
-    let mut words = Vec::new(alloc);
-    push_whole_fault(&mut words, fault, first_line(places, lines, fault))?;
-    Ok(Finding::error(whole_fault_at(places, fault), words))
+    tables.turn(alloc, table, whole_table(fault))?;
+    let words = whole_fault_words(alloc, fault, first_line(tables, lines, fault))?;
+    Ok(Finding::error(whole_span(table, fault), words))
 }
 
 // Appends the findings of the faults of a base as a whole.
 pub fn add_whole_findings(
     alloc: Global,
-    places: &Places,
+    tables: &TextTables<'_>,
     lines: &TextLines<'_>,
     faults: &[WholeFault],
     findings: &mut Vec<Finding>,
 ) -> Result<(), AllocError>
-    ensures { OnOk result ((ms : List Mark) → Keeps places.now ms → findings.new.items ≡ findings.old.items ++ map (spec.whole_finding lines.now ms) faults.now) }
+    ensures { OnOk result ((ms : List Mark) → KnowsTables ms tables.now → lines.now ≡ tables.now.text.now
+        → findings.new.items ≡ findings.old.items ++ map (spec.whole_finding tables.now.text.now ms) faults.now) }
 {
+    let mut table = tables.table(alloc, None)?;
     for fault in faults {
-        findings.push(whole_finding(alloc, places, lines, fault)?)?;
+        findings.push(whole_finding(alloc, tables, &mut table, lines, fault)?)?;
     }
     Ok(())
 }

@@ -1,9 +1,10 @@
 //! The words of an audit's faults, of frames that no walk reaches, and of counts.
 
+use crate::printed::printed;
 use abstract_paint::Start;
 use fault_scripts::{Fault, FaultKind};
 use frame_records::{GroupNo, Pence};
-use lint_words::{Judged, push_counted, push_fault, push_unreached};
+use lint_words::{Judged, audit_fault_words, push_counted, unreached_words};
 use page_ids::{FrameId, keys_read};
 use std::alloc::Global;
 use std::test::Fail;
@@ -151,14 +152,12 @@ fn judged_of(case: &Case) -> Result<Judged, Fail> {
 }
 
 // The words of a fault as it is judged.
-fn judged_words(alloc: Global, judged: &Judged, fault: &Fault) -> Result<Vec<u8>, Fail> {
-    let mut out = Vec::new(alloc);
-    push_fault(&mut out, judged, fault)?;
-    Ok(out)
+fn judged_words(alloc: Global, judged: &Judged, fault: &Fault) -> Result<String, Fail> {
+    Ok(printed(alloc, &audit_fault_words(alloc, judged, fault, None)?)?)
 }
 
 // The words of a case's fault.
-fn words_of(alloc: Global, case: &Case) -> Result<Vec<u8>, Fail> {
+fn words_of(alloc: Global, case: &Case) -> Result<String, Fail> {
     let fault = fault_of(alloc, case)?;
     match judged_of(case) {
         Ok(judged) => judged_words(alloc, &judged, &fault),
@@ -170,7 +169,7 @@ fn words_of(alloc: Global, case: &Case) -> Result<Vec<u8>, Fail> {
 fn each_kind_of_fault_has_its_words(rt: HostRuntime) -> Result<(), Fail> {
     for case in CASES {
         let words = words_of(rt.alloc(), &case)?;
-        same_in(case.words, words.as_slice(), case.words.as_bytes())?;
+        same_in(case.words, words.as_str(), case.words)?;
     }
     Ok(())
 }
@@ -178,9 +177,8 @@ fn each_kind_of_fault_has_its_words(rt: HostRuntime) -> Result<(), Fail> {
 #[test]
 fn unreached_frames_and_counts_have_their_words(rt: HostRuntime) -> Result<(), Fail> {
     let words = "UNREACHED: no key leads to frame 3319a from the entry page";
-    let mut out = Vec::new(rt.alloc());
-    push_unreached(&mut out, FrameId::read("3319a")?)?;
-    same_in(words, out.as_slice(), words.as_bytes())?;
+    let given = unreached_words(rt.alloc(), FrameId::read("3319a")?)?;
+    same_in(words, printed(rt.alloc(), &given)?.as_str(), words)?;
     let counts = [
         (0, 0, ""),
         (1, 0, "1 error"),

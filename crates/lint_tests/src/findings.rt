@@ -7,7 +7,7 @@ use std::alloc::Global;
 use std::test::Fail;
 use test_support::{same, same_in};
 
-fn policy(ceiling: u16, keyings: u16, groups: &str) -> Result<Policy, Fail> {
+pub fn policy(ceiling: u16, keyings: u16, groups: &str) -> Result<Policy, Fail> {
     let groups = if groups.is_empty() {
         Ok(Groups::none())
     } else {
@@ -45,10 +45,10 @@ fn all_faults_of_a_text_are_printed_in_the_order_of_their_places(
 ) -> Result<(), Fail> {
     let text = "entry = -1\noutsides = [0]\n[[frame]]\nid = \"1a\"\nprice = 10000\nrows = []\n\
         [[frame]]\nid = \"2a\"\nrows = []\n[[frame]]\nid = \"2a\"\nrows = []\n";
-    let lines = "b.toml:1:1: error: X6 Range: \"entry\" is -1, at least 0 is needed\n\
+    let lines = "b.toml:1:9: error: X6 Range: \"entry\" is -1, at least 0 is needed\n\
         b.toml:2:1: error: X3 UnknownKey: \"outsides\" is not a key of a base; did you mean \"outside\"?\n\
-        b.toml:5:1: error: X6 Range: \"price\" of frame 1a is 10000, at most 9999 is allowed\n\
-        b.toml:11:1: error: B1 Duplicate: frame 2a is defined already on line 8\n";
+        b.toml:5:9: error: X6 Range: \"price\" of frame 1a is 10000, at most 9999 is allowed\n\
+        b.toml:11:6: error: B1 Duplicate: frame 2a is defined already on line 8\n";
     prints(rt.alloc(), text, &policy(9_999, 9, "")?, lines, (4, 0))
 }
 
@@ -66,8 +66,8 @@ fn beyond_1_000_faults_of_a_table_one_finding_has_their_number(
     same(
         last.as_slice(),
         &[
-            "b.toml:2:1: error: X6 Range: item 1,000 of \"outside\" is -1, at least 0 is needed",
-            "b.toml:2:1: error: X6 Range: 500 more faults at the top, not listed",
+            "b.toml:2:4008: error: X6 Range: item 1,000 of \"outside\" is -1, at least 0 is needed",
+            "b.toml:2:4012: error: X6 Range: 500 more faults at the top, not listed",
             "b.toml:3:1: error: X4 Absent: frame 1a has no \"body\" and no \"rows\"",
         ],
     )
@@ -82,12 +82,12 @@ const SHOP: &str =
 #[test]
 fn an_audit_is_printed_with_the_frames_that_no_key_reaches(rt: HostRuntime) -> Result<(), Fail> {
     let missing =
-        "b.toml:7:1: error: MISSING: key 3 of frame 1a leads to page 4, which has no frame a (keys 3)\n\
+        "b.toml:7:12: error: MISSING: key 3 of frame 1a leads to page 4, which has no frame a (keys 3)\n\
         b.toml:12:1: warning: UNREACHED: no key leads to frame 2a from the entry page\n";
     prints(rt.alloc(), SHOP, &policy(5, 1, "")?, missing, (1, 1))?;
     let closed =
-        "b.toml:5:1: error: PRICE: frame 1a costs 5, the ceiling is 4 (at the entry page)\n\
-        b.toml:7:1: error: MISSING: key 3 of frame 1a leads to page 4, which has no frame a (keys 3)\n\
+        "b.toml:5:9: error: PRICE: frame 1a costs 5, the ceiling is 4 (at the entry page)\n\
+        b.toml:7:12: error: MISSING: key 3 of frame 1a leads to page 4, which has no frame a (keys 3)\n\
         b.toml:8:1: error: NORETURN: from frame 1b the entry page is 1 key away, at most 0 are allowed (keys #)\n\
         b.toml:12:1: warning: UNREACHED: no key leads to frame 2a from the entry page\n\
         b.toml:15:1: warning: UNREACHED: no key leads to frame 3a from the entry page\n";
@@ -123,6 +123,26 @@ fn counts_are_printed_if_there_are_some(rt: HostRuntime) -> Result<(), Fail> {
     for (errors, warnings, wanted) in rows {
         let text = counted_text(rt.alloc(), &Counts { errors, warnings })?;
         same_in(wanted, str::from_utf8(text.as_slice()), Ok(wanted))?;
+    }
+    Ok(())
+}
+
+#[test]
+fn a_line_has_no_control_character(rt: HostRuntime) -> Result<(), Fail> {
+    let rows: [(&[u8], &str); 3] = [
+        (b"a\nb\x1B[31m", "a\\u{a}b\\u{1b}[31m:1:9: error: "),
+        (
+            b"caf\xC3\xA9\x7F\xC2\x85",
+            "caf\u{E9}\\u{7f}\\u{85}:1:9: error: ",
+        ),
+        (b"\xFF.toml", "\u{FFFD}.toml:1:9: error: "),
+    ];
+    for (path, front) in rows {
+        let findings = lint(rt.alloc(), b"entry = 1\n", &policy(5, 1, "")?)?;
+        let printed = lint_text(rt.alloc(), path, b"entry = 1\n", findings.as_slice())?;
+        let printed = str::from_utf8(printed.as_slice())?;
+        same_in(front, printed.starts_with(front), true)?;
+        same_in(front, printed.lines().count(), 1)?;
     }
     Ok(())
 }

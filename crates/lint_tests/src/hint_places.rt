@@ -1,33 +1,32 @@
 //! Places and messages that toml doesn't have, and names.
 
-use lint_words::push_hint;
+use crate::printed;
+use lint_words::not_toml_words;
 use std::alloc::Global;
 use std::test::Fail;
 use test_support::{same, same_in};
 
 fn hint(alloc: Global, text: &str, at: usize, message: &str) -> Result<String, Fail> {
-    let mut out = Vec::new(alloc);
-    out.extend_from_slice(b"X2")?;
-    push_hint(&mut out, text.as_bytes(), at, message)?;
-    Ok(String::from_utf8_lossy(alloc, &out)?)
+    let words = not_toml_words(alloc, text.as_bytes(), at, message)?;
+    Ok(printed::hint(alloc, &words)?)
 }
 
-// A place past the end is the end, and what was there stays.
+// A place past the end is the end.
 #[test]
 fn any_place_and_any_message(rt: HostRuntime) -> Result<(), Fail> {
-    let missing = "X2; a quotation mark is missing";
+    let missing = "; a quotation mark is missing";
     let rows = [
-        ("", 0, "", "X2"),
+        ("", 0, "", ""),
         ("", 7, "invalid string", missing),
         ("a = \"b", usize::MAX, "invalid string", missing),
         (
             "a = [",
             99,
             "invalid key, expected letters, numbers, `-`, `_` or a quoted key",
-            "X2; [ of line 1 is not closed",
+            "; [ of line 1 is not closed",
         ),
-        ("a = 1", 2, "duplicate key", "X2"),
-        ("a = 1", 9, "no message of toml", "X2"),
+        ("a = 1", 2, "duplicate key", ""),
+        ("a = 1", 9, "no message of toml", ""),
     ];
     for (text, at, message, wanted) in rows {
         let given = hint(rt.alloc(), text, at, message)?;
@@ -44,13 +43,13 @@ fn long_names_are_cut(rt: HostRuntime) -> Result<(), Fail> {
     let whole = hint(rt.alloc(), text, 45, "duplicate key")?;
     same(
         whole.as_str(),
-        "X2; \"a23456789-123456789-123456789-123456789_\" is defined already on line 1",
+        "; \"a23456789-123456789-123456789-123456789_\" is defined already on line 1",
     )?;
     let text =
         "a23456789-123456789-123456789-123456789_5 = 1\na23456789-123456789-123456789-123456789_5 = 2\n";
     let cut = hint(rt.alloc(), text, 46, "duplicate key")?;
     same(
         cut.as_str(),
-        "X2; \"a23456789-123456789-123456789-123456789_...\" is defined already on line 1",
+        "; \"a23456789-123456789-123456789-123456789_...\" is defined already on line 1",
     )
 }

@@ -1,6 +1,7 @@
 //! Texts that aren't TOML: toml's message and place, which no clause pins, and the hint.
 
-use lint_words::push_hint;
+use crate::printed::hint;
+use lint_words::not_toml_words;
 use std::alloc::Global;
 use std::test::Fail;
 use test_support::same_in;
@@ -21,10 +22,9 @@ fn read(alloc: Global, text: &[u8]) -> Result<(usize, String, String), Fail> {
         Some(span) => span.start,
         None => return Err(Fail::new(format_args!("no memory"))),
     };
-    let mut hint = Vec::new(alloc);
-    push_hint(&mut hint, text, at, error.message())?;
+    let words = not_toml_words(alloc, text, at, error.message())?;
     let message = String::from_str(alloc, error.message())?;
-    Ok((at, message, String::from_utf8_lossy(alloc, &hint)?))
+    Ok((at, message, hint(alloc, &words)?))
 }
 
 fn have_hints(alloc: Global, faults: &[Fault<'_>]) -> Result<(), Fail> {
@@ -180,7 +180,97 @@ fn marks_and_words(rt: HostRuntime) -> Result<(), Fail> {
             "; put a text in quotation marks",
         ),
         (b"a = 12cd\n", 4, BAD_VALUE, ""),
-        (b"a = [0 1]\n", 5, BAD_VALUE, ""),
+        (
+            b"a = [0 1]\n",
+            5,
+            BAD_VALUE,
+            "; put a comma between two values",
+        ),
+    ];
+    have_hints(rt.alloc(), &faults)
+}
+
+// A price, a page and a truth value, written as people do.
+#[test]
+fn values_by_their_keys(rt: HostRuntime) -> Result<(), Fail> {
+    let pence = "; a price is whole pence: write 15";
+    let page = "; a page number has no letter: write 620";
+    let truth = "; true or false, without quotation marks";
+    let faults: [Fault<'_>; 11] = [
+        (b"price = 15p\n", 8, BAD_VALUE, pence),
+        (b"price = \xC2\xA30.15 # c\n", 8, BAD_VALUE, pence),
+        (
+            b"price = 1,500\n",
+            9,
+            "unexpected key or value",
+            "; a price is whole pence: write 1500",
+        ),
+        (b"price = free\n", 8, BAD_VALUE, "; a price is whole pence"),
+        (b"entry = 620a\n", 8, BAD_VALUE, page),
+        (b"outside = [0, 620a]\n", 14, BAD_VALUE, page),
+        (b"routes = { 0 = 1, 1 = 620a }\n", 22, BAD_VALUE, page),
+        (b"routes.0 = 620a\n", 11, BAD_VALUE, page),
+        (b"next = 620b\n", 7, BAD_VALUE, truth),
+        (
+            b"group = A\n",
+            8,
+            BAD_VALUE,
+            "; a group is a number from 1 to 65535",
+        ),
+        (
+            b"routes = { 0 = 1 2 = 1 }\n",
+            15,
+            BAD_VALUE,
+            "; put a comma between two values",
+        ),
+    ];
+    have_hints(rt.alloc(), &faults)
+}
+
+#[test]
+fn comments_marks_and_line_ends(rt: HostRuntime) -> Result<(), Fail> {
+    let comment = "; a comment begins with #";
+    let space = "; this is a no-break space (U+00A0), write a space";
+    let inside = "; write \\\" inside a text";
+    let escape = "invalid escape sequence";
+    let faults: [Fault<'_>; 12] = [
+        (b"; c\nentry = 1\n", 0, "invalid key", comment),
+        (b"entry = 1 ; c\n", 10, "unexpected key or value", comment),
+        (b"entry\xC2\xA0= 1\n", 5, "key with no value", space),
+        (
+            b"# a\rentry = 1\r",
+            3,
+            "invalid key",
+            "; its lines end with CR alone, save it with LF or CR LF",
+        ),
+        (b"rows = [\"\\81 A\"]\n", 10, escape, "; write \\u0081"),
+        (
+            b"rows = [\"Fish\\chips\"]\n",
+            14,
+            escape,
+            "; write \\\\ for a backslash",
+        ),
+        (b"rows = [\"The \"Mary\" crew\"]\n", 14, NO_COMMA, inside),
+        (b"lead = \"a\"b\"\n", 10, "unexpected key or value", inside),
+        (
+            b"rows = ['WHAT'S ON']\n",
+            14,
+            NO_COMMA,
+            "; write a text with ' in it in double quotation marks",
+        ),
+        (
+            b"rows = [\"\x1B A\"]\n",
+            9,
+            "invalid string",
+            "; write a control character as an escape, as \\u001B",
+        ),
+        (
+            b"routes = { 0 = 1, # = 62022 }\n\n[[frame]]\n",
+            31,
+            "invalid key",
+            "; # begins a comment: for the next frame write next = true",
+        ),
+        (b"lead = \"a\" \"b\"\n", 11, "unexpected key or value", ""),
     ];
     have_hints(rt.alloc(), &faults)
 }

@@ -9,6 +9,8 @@ mod drafts;
 #[cfg(test)]
 mod fault_words;
 #[cfg(test)]
+mod finding_spans;
+#[cfg(test)]
 mod findings;
 #[cfg(test)]
 mod hint_places;
@@ -17,10 +19,14 @@ mod hints;
 #[cfg(test)]
 mod places;
 #[cfg(test)]
+mod printed;
+#[cfg(test)]
 mod spans;
 #[cfg(test)]
 mod text_lines;
 #[cfg(test)]
 mod text_words;
+#[cfg(test)]
+mod value_hints;
 #[cfg(test)]
 mod whole_words;

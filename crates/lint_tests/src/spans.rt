@@ -4,8 +4,8 @@ use std::alloc::Global;
 use std::test::Fail;
 use test_support::same_in;
 use toml_places::{
-    Extent, Places, Span, Spot, TablePlaces, TextLines, char_span, element_span, frame_span,
-    key_span, later_element_span, pair_span, value_span,
+    Extent, Places, Span, Spot, TablePlaces, TextLines, char_span, element_span, element_spans,
+    frame_span, key_span, later_element_span, pair_span, value_span,
 };
 
 // The text of a span.
@@ -187,6 +187,10 @@ fn elements_are_counted_from_zero(rt: HostRuntime) -> Result<(), Fail> {
             wanted,
         )?;
     }
+    let all = element_spans(rt.alloc(), text, 7)?;
+    same_in("all", all.len(), 5)?;
+    same_in("third", shown(text, all.get(2).copied()), "'''\n]'''")?;
+    same_in("no array", element_spans(rt.alloc(), text, 8)?.len(), 0)?;
     let later = element_span(text, 7, 1).unwrap_or(span(0, 0)).begin;
     same_in(
         "later",

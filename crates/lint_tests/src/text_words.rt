@@ -1,11 +1,18 @@
 //! The words of a text's faults.
 
+use crate::printed::printed;
 use base_text::{Detail, Field, TableKind, TextFault, ValueKind, Word};
-use lint_words::push_text_fault;
+use lint_words::{Written, text_fault_words};
 use page_ids::FrameId;
 use std::alloc::Global;
 use std::test::Fail;
 use test_support::same_in;
+
+// A value of digits alone, in a text whose first frame begins on line 3.
+const WRITTEN: Written<'static> = Written {
+    value: b"\"15\"",
+    first_frame: 3,
+};
 
 // The words of a detail in a table of an index with an id, or at the top.
 fn words_of(
@@ -13,16 +20,14 @@ fn words_of(
     frame: Option<usize>,
     id: &Option<FrameId>,
     detail: Detail,
-) -> Result<Vec<u8>, Fail> {
-    let mut out = Vec::new(alloc);
+) -> Result<String, Fail> {
     let fault = TextFault {
         frame,
         id: *id,
         detail,
         unlisted: 0,
     };
-    push_text_fault(alloc, &mut out, &fault)?;
-    Ok(out)
+    Ok(printed(alloc, &text_fault_words(alloc, &fault, &WRITTEN)?)?)
 }
 
 // Whether each detail has its words.
@@ -34,7 +39,7 @@ fn say(
 ) -> Result<(), Fail> {
     for (detail, words) in details {
         let out = words_of(alloc, frame, &id, detail)?;
-        same_in(words, out.as_slice(), words.as_bytes())?;
+        same_in(words, out.as_str(), words)?;
     }
     Ok(())
 }
@@ -54,15 +59,14 @@ fn a_fault_that_is_listed_for_others_has_their_number(rt: HostRuntime) -> Result
         ),
     ];
     for (frame, unlisted, words) in rows {
-        let mut out = Vec::new(rt.alloc());
         let fault = TextFault {
             frame,
             id: None,
             detail: Detail::RowTooLong(1_000, 41),
             unlisted,
         };
-        push_text_fault(rt.alloc(), &mut out, &fault)?;
-        same_in(words, out.as_slice(), words.as_bytes())?;
+        let out = printed(rt.alloc(), &text_fault_words(rt.alloc(), &fault, &WRITTEN)?)?;
+        same_in(words, out.as_str(), words)?;
     }
     Ok(())
 }
@@ -80,7 +84,7 @@ fn faults_without_an_id_have_their_words(rt: HostRuntime) -> Result<(), Fail> {
         ),
         (
             Detail::WrongKind(Field::Outside, ValueKind::Integer),
-            "X5 WrongKind: \"outside\" is a whole number, a list of whole numbers is needed",
+            "X5 WrongKind: \"outside\" is a whole number, a list of whole numbers is needed; write [15]",
         ),
         (
             Detail::WrongKind(Field::Frame, ValueKind::Table),
@@ -118,7 +122,7 @@ fn faults_without_an_id_have_their_words(rt: HostRuntime) -> Result<(), Fail> {
         ),
         (
             Detail::Number(Field::Group, 0),
-            "X6 Range: \"group\" of this frame is 0, at least 1 is needed",
+            "X6 Range: \"group\" of this frame is 0, at least 1 is needed; leave group out for a frame that is open to all",
         ),
         (
             Detail::BodyAndRows,
@@ -138,11 +142,11 @@ fn faults_of_a_frame_have_their_words(rt: HostRuntime) -> Result<(), Fail> {
         ),
         (
             Detail::WrongKind(Field::Price, ValueKind::Float),
-            "X5 WrongKind: \"price\" of frame 33163a is a decimal number, a whole number is needed; prices are whole pence",
+            "X5 WrongKind: \"price\" of frame 33163a is a decimal number, a whole number is needed; a price is whole pence: write 15",
         ),
         (
             Detail::WrongKind(Field::Next, ValueKind::String),
-            "X5 WrongKind: \"next\" of frame 33163a is a string, true or false is needed; leave out the quotation marks",
+            "X5 WrongKind: \"next\" of frame 33163a is a string, true or false is needed; true or false, without quotation marks",
         ),
         (
             Detail::WrongKind(Field::Routes, ValueKind::Boolean),
@@ -215,7 +219,7 @@ fn near_keys_are_proposed(rt: HostRuntime) -> Result<(), Fail> {
         let out = words_of(rt.alloc(), None, &None, detail)?;
         same_in(
             words,
-            out.as_slice().strip_prefix(b"X3 UnknownKey: "),
+            out.as_bytes().strip_prefix(b"X3 UnknownKey: "),
             Some(words.as_bytes()),
         )?;
     }
@@ -246,7 +250,7 @@ fn texts_of_the_file_are_quoted(rt: HostRuntime) -> Result<(), Fail> {
         let detail = Detail::BadFrame(Word::of(rt.alloc(), text)?);
         let out = words_of(rt.alloc(), Some(0), &None, detail)?;
         let end = b" is not a frame id; write a page number and one small letter, as 1231a";
-        let words = out.as_slice().strip_prefix(b"I2 BadFrame: ").ok_or("name")?;
+        let words = out.as_bytes().strip_prefix(b"I2 BadFrame: ").ok_or("name")?;
         same_in(text, words.strip_suffix(end), Some(quoted.as_bytes()))?;
     }
     Ok(())

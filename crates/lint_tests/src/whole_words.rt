@@ -1,7 +1,8 @@
 //! The words of a base's faults as a whole.
 
+use crate::printed::printed;
 use base_text::WholeFault;
-use lint_words::push_whole_fault;
+use lint_words::whole_fault_words;
 use page_ids::{FrameId, PageNo};
 use std::test::Fail;
 use test_support::same_in;
@@ -38,9 +39,8 @@ fn faults_of_the_whole_have_their_words(rt: HostRuntime) -> Result<(), Fail> {
         ),
     ];
     for (fault, words) in faults {
-        let mut out = Vec::new(rt.alloc());
-        push_whole_fault(&mut out, &fault, 196_607)?;
-        same_in(words, out.as_slice(), words.as_bytes())?;
+        let given = whole_fault_words(rt.alloc(), &fault, 196_607)?;
+        same_in(words, printed(rt.alloc(), &given)?.as_str(), words)?;
     }
     Ok(())
 }

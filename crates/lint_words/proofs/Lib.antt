@@ -1,3 +1,3 @@
 mod Quotes
-pub mod SearchTurns
-pub mod MarkTurns
+pub mod LineParts
+mod Showing

@@ -6,35 +6,39 @@ use Rattle.fault_scripts.specs.declared.fault.Fault.{Fault}
 use Rattle.fault_scripts.specs.declared.fault.FaultKind.{FaultKind}
 use Rattle.fault_scripts.specs.declared.fault.FaultKind.TheVariants.{EntryMissing, EntryClosed, Price, Touches, Missing, Closed, NoReturn}
 use Rattle.lint_words.specs.Pieces.{grouped, number_of, frame_name, shown_by, pressed_text, group_text}
+use Rattle.lint_words.specs.Lines.{line_of}
+use Rattle.lint_words.specs.WordsOf.{WordsView, words_of}
+use Rattle.lint_words.specs.declared.code.Code.{Code}
+use Rattle.lint_words.specs.declared.code.Code.TheVariants as code
 use Rattle.lint_words.specs.declared.fault_words.Judged.{Judged}
 
 abbrev pub entry_missing_words : Fault → List ℕ
 entry_missing_words fault =
-    codes "ENTRYMISSING: the entry page " ++ (page_text fault.frame.page ++ codes " has no frame a")
+    codes "the entry page " ++ (page_text fault.frame.page ++ codes " has no frame a")
 
 abbrev pub entry_closed_words : Option ℕ → Fault → List ℕ
 entry_closed_words group fault =
-    codes "ENTRYCLOSED: frame " ++ (frame_text fault.frame ++ (codes ", the entry page, is closed to these callers" ++
+    codes "frame " ++ (frame_text fault.frame ++ (codes ", the entry page, is closed to these callers" ++
     group_text group))
 
 abbrev pub price_words : ℕ → Fault → List ℕ
 price_words ceiling fault =
-    codes "PRICE: frame " ++ (frame_text fault.frame ++ (codes " costs " ++ (decimal fault.price ++
+    codes "frame " ++ (frame_text fault.frame ++ (codes " costs " ++ (decimal fault.price ++
     (codes ", the ceiling is " ++ (decimal ceiling ++ shown_by fault.script)))))
 
 -- In a frame that is given as rows only double height in row 22 writes into a service row: the law `rows_are_clean`.
 abbrev pub row_touches_words : Fault → List ℕ
 row_touches_words fault =
-    codes "TOUCHES: row 22 of frame " ++ (frame_text fault.frame ++
+    codes "row 22 of frame " ++ (frame_text fault.frame ++
     (codes " has double height, which writes into the last row" ++ shown_by fault.script))
 
 -- For a body the words name the byte that writes, and the position of the start from which it does.
 abbrev pub body_touches_words : Option Start → Fault → List ℕ
 body_touches_words None fault =
-    codes "TOUCHES: the body of frame " ++ (frame_text fault.frame ++ (codes " writes into a service row" ++
+    codes "the body of frame " ++ (frame_text fault.frame ++ (codes " writes into a service row" ++
     shown_by fault.script))
 body_touches_words (Some start) fault =
-    codes "TOUCHES: byte " ++ (grouped start.offset ++ (codes " of the body of frame " ++ (frame_text fault.frame ++
+    codes "byte " ++ (grouped start.offset ++ (codes " of the body of frame " ++ (frame_text fault.frame ++
     (codes " writes into a service row, from start " ++ (decimal start.at ++ shown_by fault.script)))))
 
 abbrev pub touches_words : Bool → Fault → List ℕ
@@ -43,13 +47,13 @@ touches_words has_rows fault = if has_rows then row_touches_words fault else bod
 -- a key leads to a page without a first frame
 abbrev pub missing_page_words : ℕ → Fault → List ℕ
 missing_page_words page fault =
-    codes "MISSING: " ++ (pressed_text fault.key ++ (codes " of frame " ++ (frame_text fault.frame ++
+    codes "" ++ (pressed_text fault.key ++ (codes " of frame " ++ (frame_text fault.frame ++
     (codes " leads to page " ++ (page_text page ++ (codes ", which has no frame a" ++ shown_by fault.script))))))
 
 -- a key leads to a further frame that isn't there
 abbrev pub missing_frame_words : Fault → List ℕ
 missing_frame_words fault =
-    codes "MISSING: " ++ (pressed_text fault.key ++ (codes " of frame " ++ (frame_text fault.frame ++
+    codes "" ++ (pressed_text fault.key ++ (codes " of frame " ++ (frame_text fault.frame ++
     (codes " leads to " ++ (frame_name fault.sought ++ (codes ", which the base lacks" ++ shown_by fault.script))))))
 
 -- by the letter of the frame sought; 97 is `a`
@@ -59,20 +63,20 @@ missing_words (Some id) fault = if id.letter == 97 then missing_page_words id.pa
 
 abbrev pub closed_words : Option ℕ → Fault → List ℕ
 closed_words group fault =
-    codes "CLOSED: " ++ (pressed_text fault.key ++ (codes " of frame " ++ (frame_text fault.frame ++
+    codes "" ++ (pressed_text fault.key ++ (codes " of frame " ++ (frame_text fault.frame ++
     (codes " leads to " ++ (frame_name fault.sought ++ (codes ", which is closed to these callers" ++
     (group_text group ++ shown_by fault.script)))))))
 
 -- no walk leads back
 abbrev pub cut_off_words : Fault → List ℕ
 cut_off_words fault =
-    codes "NORETURN: no keys lead from frame " ++ (frame_text fault.frame ++ (codes " back to the entry page" ++
+    codes "no keys lead from frame " ++ (frame_text fault.frame ++ (codes " back to the entry page" ++
     shown_by fault.script))
 
 -- the shortest walk back is too long
 abbrev pub too_far_words : ℕ → ℕ → Fault → List ℕ
 too_far_words rank keyings fault =
-    codes "NORETURN: from frame " ++ (frame_text fault.frame ++ (codes " the entry page is " ++
+    codes "from frame " ++ (frame_text fault.frame ++ (codes " the entry page is " ++
     (number_of rank (codes "key") (codes "keys") ++ (codes " away, at most " ++
     (number_of keyings (codes "is") (codes "are") ++ (codes " allowed" ++ shown_by fault.script))))))
 
@@ -80,19 +84,32 @@ abbrev pub no_return_words : Option ℕ → ℕ → Fault → List ℕ
 no_return_words None keyings fault = cut_off_words fault
 no_return_words (Some rank) keyings fault = too_far_words rank keyings fault
 
-abbrev pub words_as : FaultKind → Judged → Fault → List ℕ
-words_as EntryMissing j fault = entry_missing_words fault
-words_as EntryClosed j fault = entry_closed_words j.group fault
-words_as Price j fault = price_words j.ceiling fault
-words_as Touches j fault = touches_words j.has_rows fault
-words_as Missing j fault = missing_words fault.sought fault
-words_as Closed j fault = closed_words j.group fault
-words_as NoReturn j fault = no_return_words j.rank j.keyings fault
+abbrev pub message_as : FaultKind → Judged → Fault → List ℕ
+message_as EntryMissing j fault = entry_missing_words fault
+message_as EntryClosed j fault = entry_closed_words j.group fault
+message_as Price j fault = price_words j.ceiling fault
+message_as Touches j fault = touches_words j.has_rows fault
+message_as Missing j fault = missing_words fault.sought fault
+message_as Closed j fault = closed_words j.group fault
+message_as NoReturn j fault = no_return_words j.rank j.keyings fault
+
+abbrev pub message_of : Judged → Fault → List ℕ
+message_of j fault = message_as fault.kind j fault
+
+abbrev pub code_of : FaultKind → Code
+code_of EntryMissing = code.EntryMissing
+code_of EntryClosed = code.EntryClosed
+code_of Price = code.Price
+code_of Touches = code.Touches
+code_of Missing = code.Missing
+code_of Closed = code.Closed
+code_of NoReturn = code.NoReturn
 
 -- a fault by its kind
-abbrev pub fault_words : Judged → Fault → List ℕ
-fault_words j fault = words_as fault.kind j fault
+abbrev pub fault_words : Judged → Fault → WordsView
+fault_words j fault = words_of (code_of fault.kind) (line_of (message_of j fault))
 
 -- a frame that no walk reaches
-abbrev pub unreached_words : Id → List ℕ
-unreached_words id = codes "UNREACHED: no key leads to frame " ++ (frame_text id ++ codes " from the entry page")
+abbrev pub unreached_words : Id → WordsView
+unreached_words id =
+    words_of code.Unreached (line_of (codes "no key leads to frame " ++ (frame_text id ++ codes " from the entry page")))

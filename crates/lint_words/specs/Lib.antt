@@ -1,8 +1,10 @@
+pub mod Codes
+pub mod Lines
+pub mod WordsOf
 pub mod KeyPieces
 pub mod Words
 pub mod FaultWords
-pub mod NearKeys
 pub mod TextWords
+pub mod WarningWords
 pub mod WholeWords
 pub mod Pieces
-pub mod HintRules

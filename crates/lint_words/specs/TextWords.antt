@@ -1,5 +1,5 @@
 -- The words of a fault of a base's text.
-use Rattle.std.specs.Prelude.{ℕ, ℤ, Bool, true, false, ◌||◌, ◌==◌, if◌then◌else◌, List, [], ◌++◌, codes, Option, Some, None}
+use Rattle.std.specs.Prelude.{ℕ, ℤ, Bool, true, false, ◌==◌, if◌then◌else◌, List, ◌++◌, codes, Option, Some, None}
 use Rattle.page_ids.specs.Ids.{Id}
 use Rattle.base_text.specs.declared.keys.Field.{Field}
 use Rattle.base_text.specs.declared.keys.Field.TheVariants as field
@@ -12,7 +12,10 @@ use Rattle.base_text.specs.declared.detail.ValueKind.TheVariants as value
 use Rattle.base_text.specs.declared.detail.TextFault.{TextFault}
 use Rattle.lint_words.specs.Pieces.{grouped, number_of, quoted, char_text, frame_name}
 use Rattle.lint_words.specs.KeyPieces.{key_text, key_subject, item_text, out_of_range_text}
-use Rattle.lint_words.specs.NearKeys.{nearest, named_keys}
+use Rattle.lint_words.specs.Lines.{line_of}
+use Rattle.lint_words.specs.WordsOf.{WordsView, words_of}
+use Rattle.lint_words.specs.declared.code.Code.{Code}
+use Rattle.lint_words.specs.declared.code.Code.TheVariants as code
 
 -- what a value is
 abbrev pub kind_text : ValueKind → List ℕ
@@ -38,47 +41,10 @@ needed_text field.Lead = codes "a string"
 needed_text field.Body = codes "a string"
 needed_text field.Rows = codes "a list of strings"
 
--- how to write a value that has quotation marks and needs none, or the other way round
-abbrev pub unquote : List ℕ
-unquote = codes "; leave out the quotation marks"
-
-abbrev pub enquote : List ℕ
-enquote = codes "; put it in quotation marks"
-
--- how to fix a value of another kind, if there is more to say
-abbrev pub kind_advice : Field → ValueKind → List ℕ
-kind_advice field.Entry value.String = unquote
-kind_advice field.Price value.String = unquote
-kind_advice field.Price value.Float = codes "; prices are whole pence"
-kind_advice field.Group value.String = unquote
-kind_advice field.Next value.String = unquote
-kind_advice field.Frame value.Table = codes "; write [[frame]] with two brackets"
-kind_advice field.Id k = enquote
-kind_advice field.Lead k = enquote
-kind_advice field.Body k = enquote
-kind_advice f k = []
-
 -- what it has to be
 abbrev pub item_needed : Field → List ℕ
 item_needed field.Rows = codes "a string"
 item_needed f = codes "a whole number"
-
-abbrev pub item_advice : Field → ValueKind → List ℕ
-item_advice field.Outside value.String = unquote
-item_advice field.Routes value.String = codes "; write the page number alone, without quotation marks"
-item_advice field.Rows k = enquote
-item_advice f k = []
-
--- how to write a character that can't be there, for those that are often typed or pasted
-abbrev pub code_advice : ℕ → List ℕ
-code_advice c =
-    if c == 0x09 then codes "; write spaces"
-    else if c == 0xA0 then codes "; write a space"
-    else if c == 0xA3 then codes "; write # for a pound sign"
-    else if c == 0x2013 || c == 0x2014 then codes "; write -"
-    else if c == 0x2018 || c == 0x2019 then codes "; write '"
-    else if c == 0x201C || c == 0x201D then codes "; write \\\""
-    else []
 
 -- the table that doesn't have a key
 abbrev pub unknown_text : TableKind → List ℕ
@@ -86,15 +52,8 @@ unknown_text table.Top = codes " is not a key of a base"
 unknown_text table.Frame = codes " is not a key of a frame"
 unknown_text table.Routes = codes " is not a key of routes, use the digits 0 to 9"
 
--- with the key that was probably meant, if there is one
-abbrev pub unknown_as : TableKind → List ℕ → Option Field → List ℕ
-unknown_as t key None = quoted key ++ unknown_text t
-unknown_as t key (Some f) =
-    quoted key ++ (unknown_text t ++ (codes "; did you mean " ++ (key_text f ++
-    codes "?")))
-
 abbrev pub unknown_words : TableKind → List ℕ → List ℕ
-unknown_words t key = unknown_as t key (nearest key (named_keys t))
+unknown_words t key = quoted key ++ unknown_text t
 
 -- a key that has to be there and isn't; a frame has one of `body` and `rows`
 abbrev pub absent_words : Field → Option Id → List ℕ
@@ -106,17 +65,16 @@ absent_words f id = frame_name id ++ (codes " has no " ++ key_text f)
 abbrev pub no_table_words : ValueKind → List ℕ
 no_table_words k = codes "an item of \"frame\" is " ++ (kind_text k ++ codes ", a table is needed")
 
--- of a key or an item: what is found, what is needed, and how to fix it
-abbrev pub misfit_words : List ℕ → List ℕ → List ℕ → List ℕ → List ℕ
-misfit_words subject found needed advice =
-    subject ++ (codes " is " ++ (found ++ (codes ", " ++ (needed ++ (codes " is needed" ++
-    advice)))))
+-- of a key or an item: what is found, and what is needed
+abbrev pub misfit_words : List ℕ → List ℕ → List ℕ → List ℕ
+misfit_words subject found needed =
+    subject ++ (codes " is " ++ (found ++ (codes ", " ++ (needed ++ codes " is needed"))))
 
 abbrev pub wrong_kind_words : Field → ValueKind → Option Id → List ℕ
-wrong_kind_words f k id = misfit_words (key_subject f id) (kind_text k) (needed_text f) (kind_advice f k)
+wrong_kind_words f k id = misfit_words (key_subject f id) (kind_text k) (needed_text f)
 
 abbrev pub wrong_item_words : Field → ℕ → ValueKind → Option Id → List ℕ
-wrong_item_words f n k id = misfit_words (item_text f n id) (kind_text k) (item_needed f) (item_advice f k)
+wrong_item_words f n k id = misfit_words (item_text f n id) (kind_text k) (item_needed f)
 
 -- an integer out of its range
 abbrev pub range_words : Field → ℤ → Option Id → List ℕ
@@ -134,7 +92,7 @@ lead_words text id =
 abbrev pub body_code_words : ℕ → ℕ → Option Id → List ℕ
 body_code_words n c id =
     codes "character " ++ (grouped n ++ (codes " of " ++ (key_subject field.Body id ++ (codes " is " ++
-    (char_text c ++ (codes ", at most U+00FF is allowed" ++ code_advice c))))))
+    (char_text c ++ codes ", at most U+00FF is allowed")))))
 
 abbrev pub too_many_rows_words : ℕ → Option Id → List ℕ
 too_many_rows_words n id =
@@ -152,12 +110,11 @@ long_row_words row n id =
 abbrev pub row_code_words : ℕ → ℕ → ℕ → Option Id → List ℕ
 row_code_words row n c id =
     codes "character " ++ (grouped n ++ (codes " of " ++ (item_text field.Rows row id ++ (codes " is " ++
-    (char_text c ++ (codes ", which no row may have" ++ code_advice c))))))
+    (char_text c ++ codes ", which no row may have")))))
 
 abbrev pub bad_frame_words : List ℕ → List ℕ
 bad_frame_words text =
-    quoted text ++
-    codes " is not a frame id; write a page number and one small letter, as 1231a"
+    quoted text ++ codes " is not a frame id"
 
 -- whether `frame` names the frame of an index, and not the key of the top
 abbrev pub is_element : Option ℕ → Field → Bool
@@ -186,24 +143,34 @@ unlisted_words None id n = number_of n (codes "more fault") (codes "more faults"
 unlisted_words (Some i) id n =
     number_of n (codes "more fault") (codes "more faults") ++ (codes " in " ++ (frame_name id ++ codes ", not listed"))
 
--- the code and the name of what is wrong
-abbrev pub code_text : Detail → List ℕ
-code_text (UnknownKey t key) = codes "X3 UnknownKey: "
-code_text (Absent f) = codes "X4 Absent: "
-code_text (WrongKind f k) = codes "X5 WrongKind: "
-code_text (WrongItem f n k) = codes "X5 WrongKind: "
-code_text (Number f z) = codes "X6 Range: "
-code_text (ItemNumber f n z) = codes "X6 Range: "
-code_text (Lead text) = codes "X6 Range: "
-code_text (BodyCode n c) = codes "X6 Range: "
-code_text (TooManyRows n) = codes "X6 Range: "
-code_text BodyAndRows = codes "X7 BodyAndRows: "
-code_text (RowTooLong row n) = codes "X8 RowTooLong: "
-code_text (RowCode row n c) = codes "X9 RowCode: "
-code_text (BadFrame text) = codes "I2 BadFrame: "
+abbrev pub code_of : Detail → Code
+code_of (UnknownKey t key) = code.UnknownKey
+code_of (Absent f) = code.Absent
+code_of (WrongKind f k) = code.WrongKind
+code_of (WrongItem f n k) = code.WrongKind
+code_of (Number f z) = code.Range
+code_of (ItemNumber f n z) = code.Range
+code_of (Lead text) = code.Range
+code_of (BodyCode n c) = code.Range
+code_of (TooManyRows n) = code.Range
+code_of BodyAndRows = code.BodyAndRows
+code_of (RowTooLong row n) = code.RowTooLong
+code_of (RowCode row n c) = code.RowCode
+code_of (BadFrame text) = code.BadFrame
 
--- a fault of a text, or the one that is listed for all others of its table
-abbrev pub text_fault_words : TextFault → List ℕ
-text_fault_words fault =
-    code_text fault.detail ++
-    (if fault.unlisted == 0 then detail_words fault.frame fault.id fault.detail else unlisted_words fault.frame fault.id fault.unlisted)
+-- what is wrong; of a fault that is listed for all others of its table, how many these are
+abbrev pub message_of : TextFault → List ℕ
+message_of fault =
+    if fault.unlisted == 0 then detail_words fault.frame fault.id fault.detail
+    else unlisted_words fault.frame fault.id fault.unlisted
+
+-- a fault of a text
+abbrev pub text_fault_words : TextFault → WordsView
+text_fault_words fault = words_of (code_of fault.detail) (line_of (message_of fault))
+
+-- a text that is too long, and one that isn't TOML, on which toml has this message
+abbrev pub too_long_words : WordsView
+too_long_words = words_of code.TooLong (line_of (codes "the text has more than 16,777,216 bytes"))
+
+abbrev pub not_toml_words : List ℕ → WordsView
+not_toml_words message = words_of code.NotToml (line_of message)

@@ -4,43 +4,59 @@ use Rattle.page_ids.specs.Ids.{Id, frame_text, page_text}
 use Rattle.frame_records.specs.declared.limits.TheConstants.{MOST_LISTED, MOST_BODY}
 use Rattle.base_text.specs.declared.whole_fault.WholeFault.{WholeFault}
 use Rattle.base_text.specs.declared.whole_fault.WholeFault.TheVariants.{TooManyFrames, TooManyOutside, BodyTooLong, NextAfterZ, Duplicate, OutsideInside}
+use Rattle.lint_words.specs.Lines.{line_of}
 use Rattle.lint_words.specs.Pieces.{grouped}
+use Rattle.lint_words.specs.WordsOf.{WordsView, words_of}
+use Rattle.lint_words.specs.declared.code.Code.{Code}
+use Rattle.lint_words.specs.declared.code.Code.TheVariants as code
 
 -- more frames, or more outside pages as listed, than a base may have
 abbrev pub too_many_frames_words : ℕ → List ℕ
 too_many_frames_words n =
-    codes "B4 TooMany: the base has " ++ (grouped n ++ (codes " frames, at most " ++ (grouped MOST_LISTED ++
+    codes "the base has " ++ (grouped n ++ (codes " frames, at most " ++ (grouped MOST_LISTED ++
     codes " are allowed")))
 
 abbrev pub too_many_outside_words : ℕ → List ℕ
 too_many_outside_words n =
-    codes "B4 TooMany: \"outside\" has " ++ (grouped n ++ (codes " pages, at most " ++ (grouped MOST_LISTED ++
+    codes "\"outside\" has " ++ (grouped n ++ (codes " pages, at most " ++ (grouped MOST_LISTED ++
     codes " are allowed")))
 
 abbrev pub long_body_words : Id → ℕ → List ℕ
 long_body_words id length =
-    codes "B5 BodyTooLong: the body of frame " ++ (frame_text id ++ (codes " has " ++ (grouped length ++
+    codes "the body of frame " ++ (frame_text id ++ (codes " has " ++ (grouped length ++
     (codes " bytes, at most " ++ (grouped MOST_BODY ++ codes " are allowed")))))
 
 abbrev pub next_words : Id → List ℕ
 next_words id =
-    codes "B3 NextAfterZ: frame " ++ (frame_text id ++ codes " has \"next\", but z is the last frame of a page")
+    codes "frame " ++ (frame_text id ++ codes " has \"next\", but z is the last frame of a page")
 
 -- the id's first frame is named by the line of its id
 abbrev pub duplicate_words : Id → ℕ → List ℕ
 duplicate_words id first_line =
-    codes "B1 Duplicate: frame " ++ (frame_text id ++ (codes " is defined already on line " ++ decimal first_line))
+    codes "frame " ++ (frame_text id ++ (codes " is defined already on line " ++ decimal first_line))
 
 abbrev pub inside_words : ℕ → List ℕ
 inside_words page =
-    codes "B2 OutsideInside: page " ++ (page_text page ++
+    codes "page " ++ (page_text page ++
     codes " is listed as outside, but the base has a frame of it")
 
--- a fault of the whole; the line is of the id of the first frame of an id that others have too
-abbrev pub whole_fault_words : WholeFault → ℕ → List ℕ
-whole_fault_words (TooManyFrames n) line = too_many_frames_words n
-whole_fault_words (TooManyOutside n) line = too_many_outside_words n
-whole_fault_words (BodyTooLong table id length) line = long_body_words id length
-whole_fault_words (NextAfterZ table id) line = next_words id
-whole_fault_words (Duplicate table first id) line = duplicate_words id line
-whole_fault_words (OutsideInside page) line = inside_words page
+-- the line is of the id of the first frame of an id that others have too
+abbrev pub message_of : WholeFault → ℕ → List ℕ
+message_of (TooManyFrames n) line = too_many_frames_words n
+message_of (TooManyOutside n) line = too_many_outside_words n
+message_of (BodyTooLong table id length) line = long_body_words id length
+message_of (NextAfterZ table id) line = next_words id
+message_of (Duplicate table first id) line = duplicate_words id line
+message_of (OutsideInside page) line = inside_words page
+
+abbrev pub code_of : WholeFault → Code
+code_of (TooManyFrames n) = code.TooMany
+code_of (TooManyOutside n) = code.TooMany
+code_of (BodyTooLong table id length) = code.BodyTooLong
+code_of (NextAfterZ table id) = code.NextAfterZ
+code_of (Duplicate table first id) = code.Duplicate
+code_of (OutsideInside page) = code.OutsideInside
+
+-- a fault of the whole
+abbrev pub whole_fault_words : WholeFault → ℕ → WordsView
+whole_fault_words fault line = words_of (code_of fault) (line_of (message_of fault line))

@@ -1,29 +1,23 @@
 //! A bracket or a brace that isn't closed.
 
-ghost use Rattle.std.specs.Prelude.{◌≡◌, ◌≤◌, ◌<◌, length, IfSome};
-ghost use Rattle.lint_words.specs.HintRules as spec;
-ghost use Rattle.lint_words.specs.HintRules.{last_place};
+ghost use Rattle.std.specs.Prelude.{◌≤◌, ◌<◌, length, IfSome};
 
 use crate::backwards::Turn;
-use crate::near_bytes::{Class, begins_expression, run_start};
+use crate::near_bytes::{Class, after, begins_expression, run_start};
+use crate::written_keys::begins_element;
 use toml_parser::bytes::byte_at;
 
-fn closes(byte: u8) -> bool
-    ensures { result ≡ spec.closes byte }
-{
+fn closes(byte: u8) -> bool {
     byte == b']' || byte == b'}'
 }
 
-fn opens(byte: u8) -> bool
-    ensures { result ≡ spec.opens byte }
-{
+fn opens(byte: u8) -> bool {
     byte == b'[' || byte == b'{'
 }
 
 // The byte before a place, blanks aside.
 fn byte_before(text: &[u8], at: usize) -> u8
     requires { at ≤ length text.now }
-    ensures { result ≡ spec.byte_before text.now at }
 {
     let end = run_start(text, at, Class::Blank);
     byte_at(text, end.saturating_sub(1))
@@ -32,14 +26,12 @@ fn byte_before(text: &[u8], at: usize) -> u8
 // Whether a bracket or a brace opens a value.
 fn opens_value(text: &[u8], at: usize) -> bool
     requires { at < length text.now }
-    ensures { result ≡ spec.opens_value text.now at }
 {
     opens(text[at]) && byte_before(text, at) == b'='
 }
 
 fn bracket_turn(text: &[u8], at: usize) -> Turn
     requires { at < length text.now }
-    ensures { result ≡ spec.bracket_turn text.now at }
 {
     if opens_value(text, at) {
         Turn::Found
@@ -51,10 +43,8 @@ fn bracket_turn(text: &[u8], at: usize) -> Turn
 }
 
 // The bracket or brace that is open at a place.
-#[tactic(auto, using(crate::proofs::SearchTurns::last_place_turn, crate::proofs::SearchTurns::last_place_end))]
 fn open_before(text: &[u8], end: usize) -> Option<usize>
     requires { end ≤ length text.now }
-    ensures place { result ≡ last_place (spec.bracket_turn text.now) end }
 {
     let mut at = end;
     while at > 0 {
@@ -71,7 +61,6 @@ fn open_before(text: &[u8], end: usize) -> Option<usize>
 // Where a list or table had to be closed at the latest.
 fn latest_end(text: &[u8], at: usize) -> Option<usize>
     requires { at ≤ length text.now }
-    ensures place { result ≡ spec.latest_end text.now at }
     ensures within { IfSome result (λ end. end ≤ length text.now) }
 {
     let start = run_start(text, at, Class::Line);
@@ -87,7 +76,36 @@ fn latest_end(text: &[u8], at: usize) -> Option<usize>
 // The bracket or brace that isn't closed where it had to be.
 pub fn open_bracket(text: &[u8], at: usize) -> Option<usize>
     requires { at ≤ length text.now }
-    ensures place { result ≡ spec.open_bracket text.now at }
 {
     open_before(text, latest_end(text, at)?)
+}
+
+// Whether `#` is written as a key after a brace on its line.
+fn is_next_key(text: &[u8], at: usize) -> bool
+    requires { at < length text.now }
+{
+    let (before, rest) = text.split_at(at);
+    let line = &before[run_start(before, before.len(), Class::Line)..];
+    match rest {
+        [b'#', value @ ..] => line.contains(&b'{')
+            && byte_at(after(value, Class::Blank), 0) == b'=',
+        _ => false,
+    }
+}
+
+// Whether `#` is written as a key of routes before a place, in the same frame.
+pub fn has_next_key(text: &[u8], end: usize) -> bool
+    requires { end ≤ length text.now }
+{
+    let mut at = end;
+    while at > 0 {
+        at -= 1;
+        if is_next_key(text, at) {
+            return true;
+        }
+        if begins_element(text, at) {
+            return false;
+        }
+    }
+    false
 }

@@ -1,7 +1,7 @@
 ghost use Rattle.std.specs.Prelude.{◌≡◌, ◌++◌, OnOk};
 ghost use Rattle.lint_words.specs.Pieces.{counted};
 
-use crate::piece::Piece::{Count, Words};
+use crate::piece::Piece::{Count, Text};
 use crate::piece::push_pieces;
 use std::alloc::AllocError;
 
@@ -19,6 +19,6 @@ pub fn push_counted(out: &mut Vec<u8>, errors: usize, warnings: usize) -> Result
     } else if errors == 0 {
         push_pieces(out, &[some_warnings])
     } else {
-        push_pieces(out, &[some_errors, Words(", "), some_warnings])
+        push_pieces(out, &[some_errors, Text(", "), some_warnings])
     }
 }

@@ -1,15 +1,17 @@
-ghost use Rattle.std.specs.Prelude.{◌≡◌, ◌++◌, OnOk, Some, None};
-ghost use Rattle.lint_words.specs.FaultWords.{entry_missing_words, entry_closed_words, price_words, row_touches_words, body_touches_words, touches_words, missing_page_words, missing_frame_words, missing_words, closed_words, cut_off_words, too_far_words, no_return_words, fault_words, unreached_words};
+ghost use Rattle.std.specs.Prelude.{◌≡◌, ◌++◌, IfOk, OnOk, Some, None};
+ghost use Rattle.lint_words.specs.FaultWords.{entry_missing_words, entry_closed_words, price_words, row_touches_words, body_touches_words, touches_words, missing_page_words, missing_frame_words, missing_words, closed_words, cut_off_words, too_far_words, no_return_words, code_of, message_of, fault_words, unreached_words};
 
-use crate::piece::Piece::{
-    Count, Frame, Group, Grouped, Id, Number, Page, Pressed, ShownBy, Words,
-};
+use crate::audit_hints::audit_hint;
+use crate::code::Code;
+use crate::line::Line;
+use crate::piece::Piece::{Count, Frame, Group, Grouped, Id, Number, Page, Pressed, ShownBy, Text};
 use crate::piece::push_pieces;
+use crate::words::Words;
 use abstract_paint::Start;
 use fault_scripts::{Fault, FaultKind};
 use frame_records::{GroupNo, Pence};
 use page_ids::{FrameId, PageNo};
-use std::alloc::AllocError;
+use std::alloc::{AllocError, Global};
 
 /// What the words of a fault say beside the fault itself.
 #[derive(Debug, Clone, Copy)]
@@ -29,12 +31,13 @@ pub struct Judged {
 fn push_entry_missing(out: &mut Vec<u8>, fault: &Fault) -> Result<(), AllocError>
     ensures { OnOk result (out.new.items ≡ out.old.items ++ entry_missing_words fault.now) }
 {
+    let id = fault.frame;
     push_pieces(
         out,
         &[
-            Words("ENTRYMISSING: the entry page "),
-            Page(fault.frame.page),
-            Words(" has no frame a"),
+            Text("the entry page "),
+            Page(id.page),
+            Text(" has no frame a"),
         ],
     )
 }
@@ -49,9 +52,9 @@ fn push_entry_closed(
     push_pieces(
         out,
         &[
-            Words("ENTRYCLOSED: frame "),
+            Text("frame "),
             Id(fault.frame),
-            Words(", the entry page, is closed to these callers"),
+            Text(", the entry page, is closed to these callers"),
             Group(group),
         ],
     )
@@ -63,11 +66,11 @@ fn push_price(out: &mut Vec<u8>, ceiling: Pence, fault: &Fault) -> Result<(), Al
     push_pieces(
         out,
         &[
-            Words("PRICE: frame "),
+            Text("frame "),
             Id(fault.frame),
-            Words(" costs "),
+            Text(" costs "),
             Number(u64::from(fault.price.get())),
-            Words(", the ceiling is "),
+            Text(", the ceiling is "),
             Number(u64::from(ceiling.get())),
             ShownBy(fault.script.as_slice()),
         ],
@@ -81,9 +84,9 @@ fn push_row_touches(out: &mut Vec<u8>, fault: &Fault) -> Result<(), AllocError>
     push_pieces(
         out,
         &[
-            Words("TOUCHES: row 22 of frame "),
+            Text("row 22 of frame "),
             Id(fault.frame),
-            Words(" has double height, which writes into the last row"),
+            Text(" has double height, which writes into the last row"),
             ShownBy(fault.script.as_slice()),
         ],
     )
@@ -96,9 +99,9 @@ fn push_body_touches(out: &mut Vec<u8>, fault: &Fault) -> Result<(), AllocError>
     push_pieces(
         out,
         &[
-            Words("TOUCHES: the body of frame "),
+            Text("the body of frame "),
             Id(fault.frame),
-            Words(" writes into a service row"),
+            Text(" writes into a service row"),
             ShownBy(fault.script.as_slice()),
         ],
     )
@@ -111,11 +114,11 @@ fn push_byte_touches(out: &mut Vec<u8>, start: Start, fault: &Fault) -> Result<(
     push_pieces(
         out,
         &[
-            Words("TOUCHES: byte "),
+            Text("byte "),
             Grouped(start.offset),
-            Words(" of the body of frame "),
+            Text(" of the body of frame "),
             Id(fault.frame),
-            Words(" writes into a service row, from start "),
+            Text(" writes into a service row, from start "),
             Number(u64::from(start.at)),
             ShownBy(fault.script.as_slice()),
         ],
@@ -141,13 +144,13 @@ fn push_missing_page(out: &mut Vec<u8>, page: PageNo, fault: &Fault) -> Result<(
     push_pieces(
         out,
         &[
-            Words("MISSING: "),
+            Text(""),
             Pressed(fault.key),
-            Words(" of frame "),
+            Text(" of frame "),
             Id(fault.frame),
-            Words(" leads to page "),
+            Text(" leads to page "),
             Page(page),
-            Words(", which has no frame a"),
+            Text(", which has no frame a"),
             ShownBy(fault.script.as_slice()),
         ],
     )
@@ -160,13 +163,13 @@ fn push_missing_frame(out: &mut Vec<u8>, fault: &Fault) -> Result<(), AllocError
     push_pieces(
         out,
         &[
-            Words("MISSING: "),
+            Text(""),
             Pressed(fault.key),
-            Words(" of frame "),
+            Text(" of frame "),
             Id(fault.frame),
-            Words(" leads to "),
+            Text(" leads to "),
             Frame(fault.sought),
-            Words(", which the base lacks"),
+            Text(", which the base lacks"),
             ShownBy(fault.script.as_slice()),
         ],
     )
@@ -191,13 +194,13 @@ fn push_closed(out: &mut Vec<u8>, group: Option<GroupNo>, fault: &Fault) -> Resu
     push_pieces(
         out,
         &[
-            Words("CLOSED: "),
+            Text(""),
             Pressed(fault.key),
-            Words(" of frame "),
+            Text(" of frame "),
             Id(fault.frame),
-            Words(" leads to "),
+            Text(" leads to "),
             Frame(fault.sought),
-            Words(", which is closed to these callers"),
+            Text(", which is closed to these callers"),
             Group(group),
             ShownBy(fault.script.as_slice()),
         ],
@@ -211,9 +214,9 @@ fn push_cut_off(out: &mut Vec<u8>, fault: &Fault) -> Result<(), AllocError>
     push_pieces(
         out,
         &[
-            Words("NORETURN: no keys lead from frame "),
+            Text("no keys lead from frame "),
             Id(fault.frame),
-            Words(" back to the entry page"),
+            Text(" back to the entry page"),
             ShownBy(fault.script.as_slice()),
         ],
     )
@@ -226,13 +229,13 @@ fn push_too_far(out: &mut Vec<u8>, rank: u16, keyings: u16, fault: &Fault) -> Re
     push_pieces(
         out,
         &[
-            Words("NORETURN: from frame "),
+            Text("from frame "),
             Id(fault.frame),
-            Words(" the entry page is "),
+            Text(" the entry page is "),
             Count(usize::from(rank), "key", "keys"),
-            Words(" away, at most "),
+            Text(" away, at most "),
             Count(usize::from(keyings), "is", "are"),
-            Words(" allowed"),
+            Text(" allowed"),
             ShownBy(fault.script.as_slice()),
         ],
     )
@@ -248,9 +251,22 @@ fn push_no_return(out: &mut Vec<u8>, judged: &Judged, fault: &Fault) -> Result<(
     }
 }
 
-/// Appends the kind and the words of a fault of an audit.
-pub fn push_fault(out: &mut Vec<u8>, judged: &Judged, fault: &Fault) -> Result<(), AllocError>
-    ensures { OnOk result (out.new.items ≡ out.old.items ++ fault_words judged.now fault.now) }
+fn code_of(kind: FaultKind) -> Code
+    ensures { result ≡ code_of kind }
+{
+    match kind {
+        FaultKind::EntryMissing => Code::EntryMissing,
+        FaultKind::EntryClosed => Code::EntryClosed,
+        FaultKind::Price => Code::Price,
+        FaultKind::Touches => Code::Touches,
+        FaultKind::Missing => Code::Missing,
+        FaultKind::Closed => Code::Closed,
+        FaultKind::NoReturn => Code::NoReturn,
+    }
+}
+
+fn push_message(out: &mut Vec<u8>, judged: &Judged, fault: &Fault) -> Result<(), AllocError>
+    ensures { OnOk result (out.new.items ≡ out.old.items ++ message_of judged.now fault.now) }
 {
     match fault.kind {
         FaultKind::EntryMissing => push_entry_missing(out, fault),
@@ -263,16 +279,34 @@ pub fn push_fault(out: &mut Vec<u8>, judged: &Judged, fault: &Fault) -> Result<(
     }
 }
 
-/// Appends the words of a frame that no walk reaches.
-pub fn push_unreached(out: &mut Vec<u8>, id: FrameId) -> Result<(), AllocError>
-    ensures { OnOk result (out.new.items ≡ out.old.items ++ unreached_words id) }
+/// The words of a fault of an audit. The frame is the one at fault, for the hint alone.
+pub fn audit_fault_words(
+    alloc: Global,
+    judged: &Judged,
+    fault: &Fault,
+    frame: Option<&frame_records::Frame>,
+) -> Result<Words, AllocError>
+    ensures { IfOk result (λ words. words ≡ fault_words judged.now fault.now) }
 {
+    let mut message = Vec::new(alloc);
+    push_message(&mut message, judged, fault)?;
+    let message = Line::of(alloc, &message)?;
+    let hint = audit_hint(alloc, judged, fault, frame)?;
+    Ok(Words::new(code_of(fault.kind), message, hint))
+}
+
+/// The words of a frame that no walk reaches.
+pub fn unreached_words(alloc: Global, id: FrameId) -> Result<Words, AllocError>
+    ensures { IfOk result (λ words. words ≡ unreached_words id) }
+{
+    let mut message = Vec::new(alloc);
     push_pieces(
-        out,
+        &mut message,
         &[
-            Words("UNREACHED: no key leads to frame "),
+            Text("no key leads to frame "),
             Id(id),
-            Words(" from the entry page"),
+            Text(" from the entry page"),
         ],
-    )
+    )?;
+    Ok(Words::new(Code::Unreached, Line::of(alloc, &message)?, None))
 }

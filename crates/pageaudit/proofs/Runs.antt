@@ -26,7 +26,7 @@ use Rattle.pageaudit.specs.declared.show_run.Answer.{Answer}
 use Rattle.pageaudit.specs.declared.show_run.Answer.TheVariants as answer
 use Rattle.pageaudit.specs.ShowRun.{IsShown, IsAnswerWritten, IsShowRun}
 use Rattle.lint.specs.declared.counts.Counts.{Counts}
-use Rattle.lint.specs.Findings.{FindingView, finding_lines}
+use Rattle.lint.specs.Findings.{FindingView, AreFindingLines}
 use Rattle.lint.specs.Lint.{IsLint}
 use Rattle.pageaudit.specs.LintRun.{IsLintRun, counts_of}
 use Rattle.pageaudit.proofs.Within.{base_within, text_within}
@@ -98,9 +98,10 @@ split_run base_file cert out base read policy (Faulty faults) is r w =
 
 -- a run of lint that read its text and wrote the lines of its findings
 pub lint_run : (base_file out : Device) (path text : List ℕ) → IsTextOfFile base_file text → (policy : Policy) (findings : List FindingView) → IsLint text policy findings
-    → (r : Result Counts RunFault) → IsTextWritten out (finding_lines path text findings) (counts_of findings) r → IsLintRun base_file out path policy r
-lint_run base_file out path text read policy findings is =
-    by_answer out (finding_lines path text findings) (counts_of findings) (IsLintRun base_file out path policy)
-    (λ s w. record { text = text; read = read; findings = findings; is = is; written = w })
-    (λ wrote w. record { text = text; read = read; findings = findings; is = is; written = w })
+    → (lines : List ℕ) → AreFindingLines path text findings lines
+    → (r : Result Counts RunFault) → IsTextWritten out lines (counts_of findings) r → IsLintRun base_file out path policy r
+lint_run base_file out path text read policy findings is lines are =
+    by_answer out lines (counts_of findings) (IsLintRun base_file out path policy)
+    (λ s w. record { text = text; read = read; findings = findings; is = is; lines = lines; are_lines = are; written = w })
+    (λ wrote w. record { text = text; read = read; findings = findings; is = is; lines = lines; are_lines = are; written = w })
     (λ none. (text_within base_file text read, none))

@@ -1,11 +1,12 @@
 -- What a run of lint does.
-use Rattle.std.specs.Prelude.{◌==◌, ℕ, if◌then◌else◌, List, Result, Ok, Err}
+use Rattle.std.specs.Prelude.{ℕ, Bool, nat_lt, ◌||◌, if◌then◌else◌, List, Result, Ok, Err}
 use Rattle.checker.specs.declared.policy.Policy.{Policy}
 use Rattle.audit_report.specs.declared.run_fault.RunFault.{RunFault}
 use Rattle.audit_report.specs.declared.run_fault.RunFault.TheVariants as run
 use Rattle.lint.specs.declared.counts.Counts.{Counts}
+use Rattle.lint.specs.declared.finding.Level.{Level}
 use Rattle.lint.specs.declared.finding.Level.TheVariants.{Error, Warning}
-use Rattle.lint.specs.Findings.{FindingView, count_of, finding_lines}
+use Rattle.lint.specs.Findings.{FindingView, count_of, AreFindingLines}
 use Rattle.lint.specs.Lint.{IsLint}
 use Rattle.pageaudit.specs.Files.{Device, IsUntouched, IsTextWritten, base_limit, IsTextOfFile, IsBaseBroken, IsReadWithin}
 use Rattle.pageaudit.specs.Status.{fault_number}
@@ -20,7 +21,9 @@ pub record IsLinted (base_file out : Device) (path : List ℕ) (policy : Policy)
   pub read : IsTextOfFile base_file text
   pub findings : List FindingView
   pub is : IsLint text policy findings
-  pub written : IsTextWritten out (finding_lines path text findings) (counts_of findings) answer
+  pub lines : List ℕ
+  pub are_lines : AreFindingLines path text findings lines
+  pub written : IsTextWritten out lines (counts_of findings) answer
 
 -- a run by its answer: the numbers of findings, or the first fault of a device
 abbrev pub IsLintRun : Device → Device → List ℕ → Policy → Result Counts RunFault → Type 0
@@ -30,7 +33,12 @@ IsLintRun base_file out path policy (Err (run.Write wrote)) = IsLinted base_file
 IsLintRun base_file out path policy (Err run.Memory) = IsReadWithin base_limit base_file × IsUntouched out
 IsLintRun base_file out path policy (Err _) = ⊥
 
--- the exit status: 1 if there is an error
-abbrev pub lint_number : Result Counts RunFault → ℕ
-lint_number (Ok counts) = if counts.errors == 0 then 0 else 1
-lint_number (Err fault) = fault_number fault
+-- there is a finding of this level or a worse one
+abbrev pub reaches : Level → Counts → Bool
+reaches Error counts = nat_lt 0 counts.errors
+reaches Warning counts = nat_lt 0 counts.errors || nat_lt 0 counts.warnings
+
+-- the exit status, 1 for a finding of this level or a worse one
+abbrev pub lint_number : Level → Result Counts RunFault → ℕ
+lint_number denied (Ok counts) = if reaches denied counts then 1 else 0
+lint_number denied (Err fault) = fault_number fault

@@ -1,15 +1,15 @@
 -- What a run of show does.
 use Rattle.std.specs.Prelude.{◌≡◌, ℕ, List, [], ◌∷◌, Option, Some, None, Vec, Result, Ok, Err}
 use Rattle.std.specs.declared.alloc.Global.{Global}
-use Rattle.page_ids.specs.Ids.{Id}
+use Rattle.page_ids.specs.Ids.{Id, frame_text}
 use Rattle.page_ids.specs.declared.key.Key.{Key}
 use Rattle.frame_records.specs.declared.frame.Frame.{Frame}
 use Rattle.frame_records.specs.Bases.{BaseView, frame_at}
 use Rattle.frame_records.specs.Seek.{entry_of}
 use Rattle.frame_screens.specs.declared.keyed.NoScreen.{NoScreen}
 use Rattle.frame_screens.specs.declared.keyed.NoScreen.TheVariants as none
-use Rattle.frame_screens.specs.Frames.{IsWay, keyed_frames, last_of}
-use Rattle.frame_screens.specs.Near.{nearest}
+use Rattle.frame_screens.specs.Frames.{IsWay, keyed_frames, ids_of, last_of}
+use Rattle.near_words.specs.Near.{nearest}
 use Rattle.frame_screens.specs.Screens.{screen_codes}
 use Rattle.cell_looks.specs.declared.look.Look.{Look}
 use Rattle.cell_looks.specs.Looks.{looks}
@@ -62,7 +62,7 @@ pub record IsWayAnswer (caller : List ℕ) (f : Form) (base : BaseView) (id : Id
 
 -- a frame, by its record; the nearest id if there is none
 abbrev pub IsFrameAnswer : List ℕ → Form → BaseView → Id → Option Frame → Answer → Type 0
-IsFrameAnswer caller f base id None shown = shown ≡ answer.Nothing (NoFrame (nearest base id))
+IsFrameAnswer caller f base id None shown = shown ≡ answer.Nothing (NoFrame (nearest frame_text (frame_text id) (ids_of base)))
 IsFrameAnswer caller f base id (Some frame) shown = IsWayAnswer caller f base id shown
 
 -- why there is no screen after keys

@@ -42,7 +42,7 @@ pub use audit_run::{run_audit, run_audit_into};
 pub use base_map::View;
 pub use change_run::run_change;
 pub use check_run::run_check;
-pub use lint::{Counts, counted_text};
+pub use lint::{Counts, Level, counted_text};
 pub use lint_run::{run_lint, status_of_lint};
 pub use list_run::run_list;
 pub use map_run::{MapStatus, run_map, status_of_map};

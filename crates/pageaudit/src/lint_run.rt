@@ -1,31 +1,24 @@
 ghost use Rattle.std.specs.Prelude.{◌≡◌, false};
-ghost use Rattle.lint.specs.Findings.{finding_lines};
 ghost use Rattle.pageaudit.specs.Files.{device, IsTextWritten};
-ghost use Rattle.pageaudit.specs.LintRun.{IsLintRun, counts_of, lint_number};
+ghost use Rattle.pageaudit.specs.LintRun.{IsLintRun, counts_of, lint_number, reaches};
 
 use crate::status::status_of;
 use audit_report::{RunFault, Sink, Source, SourceFault, read_whole, write_whole};
 use base_text::MOST_TEXT;
 use checker::Policy;
-use lint::{Counts, Finding, lint, lint_text};
+use lint::{Counts, Finding, Level, lint, lint_text};
 use std::alloc::Global;
 
-// Writes a line for each finding; returns how many there are if all of them were taken and flushed.
-fn write_findings<O: Sink>(
-    alloc: Global,
+// Writes the lines of findings; returns how many findings there are if all lines were taken and flushed.
+fn write_lines<O: Sink>(
     out: &mut O,
-    path: &str,
-    text: &[u8],
+    lines: &[u8],
     findings: &[Finding],
 ) -> Result<Counts, RunFault>
     requires { (O.seen out.old).failed ≡ false }
-    ensures { IsTextWritten (device O.seen out.old out.new) (finding_lines path.now text.now findings.now)
-        (counts_of findings.now) result }
+    ensures { IsTextWritten (device O.seen out.old out.new) lines.now (counts_of findings.now) result }
 {
-    let Ok(lines) = lint_text(alloc, path.as_bytes(), text, findings) else {
-        return Err(RunFault::Memory);
-    };
-    match write_whole(out, lines.as_slice()) {
+    match write_whole(out, lines) {
         Ok(()) => Ok(Counts::of(findings)),
         Err(fault) => Err(RunFault::Write(fault.wrote)),
     }
@@ -52,19 +45,38 @@ pub fn run_lint<B: Source, O: Sink>(
         Err(SourceFault::Broken) => return Err(RunFault::ReadBase),
         Err(SourceFault::Memory) => return Err(RunFault::Memory),
     };
-    match lint(alloc, text.as_slice(), policy) {
-        Ok(findings) => write_findings(alloc, out, path, text.as_slice(), findings.as_slice()),
+    let Ok(findings) = lint(alloc, text.as_slice(), policy) else {
+        return Err(RunFault::Memory);
+    };
+    match lint_text(
+        alloc,
+        path.as_bytes(),
+        text.as_slice(),
+        findings.as_slice(),
+    ) {
+        Ok(lines) => write_lines(out, lines.as_slice(), findings.as_slice()),
         Err(_) => Err(RunFault::Memory),
     }
 }
 
-/// The program's exit status after a run of lint: 0 no error, 1 an error; of a fault as `status_of`.
-pub fn status_of_lint(run: &Result<Counts, RunFault>) -> u8
-    ensures { result ≡ lint_number run.now }
+// Whether there is a finding of this level or a worse one.
+fn reaches(counts: &Counts, level: Level) -> bool
+    ensures { result ≡ reaches level counts.now }
+{
+    match level {
+        Level::Error => counts.errors > 0,
+        Level::Warning => counts.errors > 0 || counts.warnings > 0,
+    }
+}
+
+/// The program's exit status after lint: 1 if there is a finding of the denied level or a worse one, else 0; of a fault as
+/// `status_of`.
+pub fn status_of_lint(run: &Result<Counts, RunFault>, denied: Level) -> u8
+    ensures { result ≡ lint_number denied run.now }
 {
     match run {
-        Ok(counts) if counts.errors == 0 => 0,
-        Ok(_) => 1,
+        Ok(counts) if reaches(counts, denied) => 1,
+        Ok(_) => 0,
         Err(fault) => status_of(&Err(*fault)),
     }
 }

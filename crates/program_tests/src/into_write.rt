@@ -1,4 +1,5 @@
 use devices::{Broken, IntoWrite, Sink, WriteFault, write_whole};
+use std::io::{self, ErrorKind, Write};
 use std::test::Fail;
 use test_support::{FakeSink, same, same_in};
 
@@ -55,5 +56,35 @@ fn a_failed_write_or_flush_is_kept_in_mind(rt: HostRuntime) -> Result<(), Fail> 
         same_in("for good", sink.failed(), true)?;
     }
     same_in("flushed once more", writer.flushes, 2)?;
+    Ok(())
+}
+
+// A writer that answers each call with an error of this kind.
+#[derive(Drop)]
+struct Failing {
+    kind: ErrorKind,
+}
+
+impl Write for Failing {
+    fn write(&mut self, _bytes: &[u8]) -> io::Result<usize> {
+        Err(self.kind.into())
+    }
+
+    fn flush(&mut self) -> io::Result<()> {
+        Err(self.kind.into())
+    }
+}
+
+#[test]
+fn a_pipe_without_a_reader_is_closed() -> Result<(), Fail> {
+    for (kind, closed) in [(ErrorKind::BrokenPipe, true), (ErrorKind::StorageFull, false)] {
+        let mut sink = IntoWrite::new(Failing { kind });
+        same_in("before", sink.is_closed(), false)?;
+        same_in(kind, sink.write(b"A"), Err(Broken))?;
+        same_in(kind, sink.is_closed(), closed)?;
+        let mut sink = IntoWrite::new(Failing { kind });
+        same_in(kind, sink.flush(), Err(Broken))?;
+        same_in(kind, sink.is_closed(), closed)?;
+    }
     Ok(())
 }

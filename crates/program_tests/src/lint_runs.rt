@@ -3,7 +3,7 @@
 use crate::expected::{ALL, policy, sink, source, taken};
 use audit_report::RunFault;
 use checker::Policy;
-use pageaudit::{Counts, run_lint, status_of_lint};
+use pageaudit::{Counts, Level, run_lint, status_of_lint};
 use std::alloc::Global;
 use std::test::Fail;
 use test_support::same_in;
@@ -11,7 +11,7 @@ use test_support::same_in;
 const TEXT: &str = "entry = 1\n[[frame]]\nid = \"1a\"\nrows = []\nroutes = { 3 = 4 }\n";
 
 const LINE: &str =
-    "x/b.toml:5:1: error: MISSING: key 3 of frame 1a leads to page 4, which has no frame a (keys 3)\n";
+    "x/b.toml:5:12: error: MISSING: key 3 of frame 1a leads to page 4, which has no frame a (keys 3)\n";
 
 // What a lint answers, its status, how often the file is read and the output flushed, and how many bytes of the line are taken.
 type Linted = (Result<Counts, RunFault>, u8, u32, u32, usize);
@@ -20,7 +20,7 @@ fn linted(alloc: Global, kept: usize, room: usize, policy: &Policy) -> Linted {
     let mut base = source(TEXT, ALL, kept);
     let mut out = sink(alloc, LINE, room);
     let answer = run_lint(alloc, &mut base, &mut out, "x/b.toml", policy);
-    let status = status_of_lint(&answer);
+    let status = status_of_lint(&answer, Level::Error);
     (answer, status, base.calls, out.flushes, taken(&out, LINE))
 }
 
@@ -63,6 +63,25 @@ fn a_text_at_fault_is_read_once(rt: HostRuntime) -> Result<(), Fail> {
     let mut base = source("", ALL, ALL);
     let mut out = sink(rt.alloc(), line, ALL);
     let answer = run_lint(rt.alloc(), &mut base, &mut out, "b.toml", &policy(50, 3)?);
-    let told = (status_of_lint(&answer), base.calls, out.flushes);
+    let told = (status_of_lint(&answer, Level::Error), base.calls, out.flushes);
     same_in("no entry", told, (1, 1, 1))
+}
+
+// How many errors and warnings there are, which level is denied, and the status.
+const STATUSES: [(usize, usize, Level, u8); 6] = [
+    (0, 0, Level::Warning, 0),
+    (0, 1, Level::Error, 0),
+    (0, 1, Level::Warning, 1),
+    (1, 0, Level::Error, 1),
+    (1, 0, Level::Warning, 1),
+    (2, 3, Level::Error, 1),
+];
+
+#[test]
+fn warnings_count_if_they_are_denied() -> Result<(), Fail> {
+    for (errors, warnings, denied, status) in STATUSES {
+        let counts = Counts { errors, warnings };
+        same_in((errors, warnings), status_of_lint(&Ok(counts), denied), status)?;
+    }
+    Ok(())
 }

@@ -16,7 +16,7 @@ use answers::{
     of_base, of_cert, of_fed, of_frames, of_keyed, of_keys, of_script, of_verdict, shown,
 };
 use anyhow::{Context, Result};
-use audit_report::report;
+use audit_report::{RunFault, report};
 use base_text::{base_read, body_of_rows};
 use cert_text::cert_read;
 use checker::check_bytes;
@@ -25,8 +25,8 @@ use finder::find;
 use frame_screens::{frames_after, nearest, way_to};
 use page_ids::keys_read;
 use pageaudit::{
-    run_audit, run_change, run_check, run_lint, run_list, run_map, run_show, run_walk, status_of,
-    status_of_lint, status_of_map, status_of_show,
+    Counts, Level, run_audit, run_change, run_check, run_lint, run_list, run_map, run_show, run_walk,
+    status_of, status_of_lint, status_of_map, status_of_show,
 };
 use std::env;
 use tried::{calls, ran};
@@ -64,6 +64,10 @@ fn called(rt: &HostRuntime, words: &mut Words) -> Option<()> {
     }
 }
 
+fn status_of_errors(run: &Result<Counts, RunFault>) -> u8 {
+    status_of_lint(run, Level::Error)
+}
+
 // The runs, on files and an output that can fail.
 fn run(rt: &HostRuntime, name: &str, words: &mut Words) -> Option<()> {
     calls! { rt, name, words, alloc;
@@ -83,7 +87,7 @@ fn run(rt: &HostRuntime, name: &str, words: &mut Words) -> Option<()> {
         run_show(base: file, target: target, form: form, out: word, groups: groups) =>
             ran!(alloc, out, status_of_show, run_show(alloc, &mut base.source(), &groups, &target, form, out));
         run_lint(base: file, out: word, policy: policy) =>
-            ran!(alloc, out, status_of_lint, run_lint(alloc, &mut base.source(), out, "base.toml", &policy));
+            ran!(alloc, out, status_of_errors, run_lint(alloc, &mut base.source(), out, "base.toml", &policy));
         _ => None
     }
 }

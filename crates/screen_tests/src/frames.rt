@@ -1,6 +1,9 @@
 use base_text::base_read;
+use finder::{Survey, script_to};
 use frame_records::{Base, Groups, Lead};
-use frame_screens::{FrameList, NoScreen, frames_after, screen, send, terminal_after, way_to};
+use frame_screens::{
+    FrameList, NoScreen, frames_after, nearest, screen, send, terminal_after, way_at, way_to,
+};
 use page_ids::{FrameId, PageNo, keys_read};
 use std::alloc::Global;
 use std::test::Fail;
@@ -295,4 +298,46 @@ fn the_terminal_has_what_the_centre_paints_over(rt: HostRuntime) -> Result<(), F
     same(frame.lead, Lead::Keep)?;
     send(&mut terminal, frame);
     same(row_of(terminal.cells(), 0)?, row(b"BEFOREAB"))
+}
+
+#[test]
+fn an_id_that_the_base_lacks_is_answered_with_the_nearest(rt: HostRuntime) -> Result<(), Fail> {
+    let alloc = rt.alloc();
+    let base = base_of(alloc, BASE)?;
+    let rows = [
+        ("8a", Some("7a")),
+        ("71c", Some("71a")),
+        ("47a", Some("7a")),
+        ("17b", Some("71b")),
+        ("132456789a", Some("123456789a")),
+        ("132546789a", Some("123456789a")),
+        ("8b", Some("71b")),
+        ("8c", Some("78a")),
+        ("90c", None),
+        ("4321a", None),
+    ];
+    for (word, wanted) in rows {
+        let near = nearest(alloc, &base, FrameId::read(word)?)?;
+        let wanted = match wanted {
+            None => None,
+            Some(name) => Some(FrameId::read(name)?),
+        };
+        same_in(word, near, wanted)?;
+    }
+    Ok(())
+}
+
+#[test]
+fn the_way_at_a_place_is_what_the_keys_to_it_send(rt: HostRuntime) -> Result<(), Fail> {
+    let alloc = rt.alloc();
+    let base = base_of(alloc, BASE)?;
+    let groups = Groups::none();
+    let survey = Survey::of(alloc, &base, &groups)?;
+    for place in 0..survey.found().as_slice().len() {
+        let way = way_at(alloc, &survey, place)?;
+        let keys = script_to(alloc, survey.found(), u32::try_from(place)?)?;
+        let keyed = frames_after(alloc, &base, &groups, keys.as_slice())?;
+        same_in(place, way.as_slice() == keyed.as_slice(), true)?;
+    }
+    Ok(())
 }

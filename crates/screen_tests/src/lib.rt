@@ -1,10 +1,12 @@
-//! Tests of `cell_looks`, `screen_texts` and `frame_screens`.
+//! Tests of `near_words`, `cell_looks`, `screen_texts` and `frame_screens`.
 #![tactic(auto)]
 
 #[cfg(test)]
 mod frames;
 #[cfg(test)]
 mod looks;
+#[cfg(test)]
+mod names;
 #[cfg(test)]
 mod notation;
 #[cfg(test)]

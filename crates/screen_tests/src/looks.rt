@@ -1,5 +1,5 @@
 use crate::notation::notation;
-use cell_looks::screen_looks;
+use cell_looks::{hides_text, screen_looks};
 use std::test::Fail;
 use test_support::same_in;
 
@@ -128,6 +128,26 @@ fn double_height_counts_in_rows_1_to_22(rt: HostRuntime) -> Result<(), Fail> {
     for (row, wanted) in [0, 1, 22, 23].iter().zip(wanted) {
         if let Some(looks) = looks.rows().get(*row) {
             same_in(*row, notation(rt.alloc(), &looks[1..2])?.as_str(), wanted)?;
+        }
+    }
+    Ok(())
+}
+
+// Rows from row 1 on, and which rows of the screen have text that the row above hides.
+const COVERED: [(&[&[u8]], &[usize]); 5] = [
+    (&[&[0x8d, 0x41], &[0x42]], &[2]),
+    (&[&[0x8d, 0x41], &[0x81, 0x20]], &[]),
+    (&[&[0x41], &[0x42]], &[]),
+    (&[&[0x8d], &[0x8d, 0x42], &[0x43]], &[2]),
+    (&[&[0x8d], &[0x91, 0x7f], &[0x8d], &[0x21]], &[2, 4]),
+];
+
+#[test]
+fn double_height_hides_the_text_beneath() -> Result<(), Fail> {
+    for (rows, hidden) in COVERED {
+        let (cells, _) = screen_of(rows);
+        for row in 0..25 {
+            same_in((rows, row), hides_text(&cells, row), hidden.contains(&row))?;
         }
     }
     Ok(())

@@ -2,6 +2,7 @@ pub mod Options
 pub mod StringTurns
 pub mod StringFollows
 pub mod SkipTurns
+pub mod ListTurns
 pub mod Follows
 pub mod Firsts
 pub mod PairTurns

@@ -176,6 +176,14 @@ abbrev pub route_in : Option TablePlaces → List ℕ → Option Spot
 route_in None q = None
 route_in (Some f) q = get_by_text f.routes q
 
+-- the spot that places have of a key of the top or of a frame, and of one below `routes` of a frame
+abbrev pub kept_key : Places → Option ℕ → List ℕ → Option Spot
+kept_key p None q = get_by_text p.top q
+kept_key p (Some k) q = key_in (slice_get p.frames.items k) q
+
+abbrev pub kept_route : Places → ℕ → List ℕ → Option Spot
+kept_route p k q = route_in (slice_get p.frames.items k) q
+
 -- the places have the first spot of each of these marks
 pub record Keeps (p : Places) (ms : List Mark) : Type 0 where
   pub tops : (q : List ℕ) → get_by_text p.top q ≡ first_spot ms None (q ∷ [])

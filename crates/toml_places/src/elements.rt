@@ -9,7 +9,7 @@ use toml_parser::text::{first, skip, skip_blank};
 
 // An element as it is written, from its first byte on and after its last, and the text from the next one on.
 #[tactic(auto, unfolding(crate::specs::Values::next_element))]
-fn next_element(text: &str) -> Option<(&str, &str, &str)>
+pub fn next_element(text: &str) -> Option<(&str, &str, &str)>
     ensures value { option_map (λ e. ((e.0.now, e.1.now), e.2.now)) result ≡ spec.next_element text.now }
     ensures within { IfSome result (λ e. (length e.0.now ≤ length text.now) × (length e.1.now ≤ length e.0.now) × (length e.2.now < length text.now)) }
 {

@@ -5,7 +5,7 @@ ghost use Rattle.std.specs.Option.{option_copied};
 ghost use Rattle.toml_parser.specs.Reading.{key_view, path_view};
 ghost use Rattle.toml.specs.Parse.{parse_document};
 ghost use Rattle.toml_places.specs.Places as spec;
-ghost use Rattle.toml_places.specs.Places.{Keeps, is_key, routes_key, first_at, first_spot, header_place, key_place, route_place};
+ghost use Rattle.toml_places.specs.Places.{Keeps, is_key, routes_key, first_at, first_spot, header_place, key_place, route_place, kept_key, kept_route};
 ghost use Rattle.toml_places.specs.Walk.{frame_count, section_view, frames_after, IsOpen, Walks};
 
 use crate::lines::{Line, Sort, read_line, skip_bom};
@@ -191,7 +191,8 @@ impl Places {
 
     // Where a key of a frame is first written.
     fn frame_key(&self, frame: usize, key: &str) -> Option<Spot>
-        ensures { (ms : List spec.Mark) → Keeps self.now ms → result ≡ first_spot ms (Some frame) (key.now ∷ []) }
+        ensures spot { (ms : List spec.Mark) → Keeps self.now ms → result ≡ first_spot ms (Some frame) (key.now ∷ []) }
+        ensures kept { result ≡ kept_key self.now (Some frame) key.now }
     {
         match self.frames.get(frame) {
             Some(places) => places.key(key),
@@ -201,7 +202,8 @@ impl Places {
 
     /// Where a key of a frame that has a header, or of the top, is first written.
     pub fn key(&self, frame: Option<usize>, key: &str) -> Option<Spot>
-        ensures { (ms : List spec.Mark) → Keeps self.now ms → result ≡ first_spot ms frame (key.now ∷ []) }
+        ensures spot { (ms : List spec.Mark) → Keeps self.now ms → result ≡ first_spot ms frame (key.now ∷ []) }
+        ensures kept { result ≡ kept_key self.now frame key.now }
     {
         match frame {
             Some(frame) => self.frame_key(frame, key),
@@ -211,7 +213,8 @@ impl Places {
 
     /// Where a key below `routes` of a frame is first written as a dotted key or a header.
     pub fn route(&self, frame: usize, sub: &str) -> Option<Spot>
-        ensures { (ms : List spec.Mark) → Keeps self.now ms → result ≡ first_spot ms (Some frame) (routes_key ∷ sub.now ∷ []) }
+        ensures spot { (ms : List spec.Mark) → Keeps self.now ms → result ≡ first_spot ms (Some frame) (routes_key ∷ sub.now ∷ []) }
+        ensures kept { result ≡ kept_route self.now frame sub.now }
     {
         match self.frames.get(frame) {
             Some(places) => places.route(sub),

@@ -1,15 +1,17 @@
 //! Spans of a text: where a key, a value, a header, an element or a character is written.
 
-ghost use Rattle.std.specs.Prelude.{◌≡◌, ◌<◌, ◌≤◌, ◌-◌, length, option_map, IfSome};
+ghost use Rattle.std.specs.Prelude.{◌≡◌, ℕ, ◌<◌, ◌≤◌, ◌-◌, length, slice_get, option_map, IfOk, IfSome};
 ghost use Rattle.std.specs.Option.{option_copied};
 ghost use Rattle.toml_parser.specs.Lexical.{right_bracket};
 ghost use Rattle.toml.specs.Parse.{after_byte};
+ghost use Rattle.toml_places.specs.Values.{element_from};
 ghost use Rattle.toml_places.specs.Spans as spec;
 
-use crate::elements::{element, element_from};
+use crate::elements::{element, element_from, next_element};
 use crate::keys::{after_key, after_part, part_from, value_from};
 use crate::strings::{starts_char, string_char};
 use crate::values::after_value;
+use std::alloc::{AllocError, Global};
 use toml_parser::RECURSION_LIMIT;
 use toml_parser::text::{byte_at, first, skip, skip_ws};
 
@@ -220,6 +222,38 @@ pub fn later_element_span(text: &str, at: usize, index: usize) -> Option<Span>
 {
     let (start, rest) = element_from(from_offset(text, at)?, index)?;
     Some(Span::between(text, start, rest))
+}
+
+// The spans of the elements from here on.
+fn spans_from(alloc: Global, text: &str, elements: &str) -> Result<Vec<Span>, AllocError>
+    requires { length elements.now ≤ length text.now }
+    ensures { IfOk result (λ spans. (k : ℕ) → slice_get spans.items k ≡ option_map (spec.span_in text.now) (element_from k elements.now)) }
+{
+    let mut spans = Vec::new(alloc);
+    let mut rest = elements;
+    'elements: loop {
+        let Some((start, end, next)) = next_element(rest) else {
+            return Ok(spans);
+        };
+        spans.push(Span::between(text, start, end))?;
+        rest = next;
+    }
+}
+
+/// The elements of the array at an offset, in order; none if no array is there. The array is read once.
+pub fn element_spans(alloc: Global, text: &str, at: usize) -> Result<Vec<Span>, AllocError>
+    ensures { IfOk result (λ spans. (k : ℕ) → slice_get spans.items k ≡ spec.element_span k at text.now) }
+{
+    match from_offset(text, at) {
+        Some(array) => {
+            if first(array) == b'[' {
+                spans_from(alloc, text, skip(array, 1))
+            } else {
+                Ok(Vec::new(alloc))
+            }
+        }
+        None => Ok(Vec::new(alloc)),
+    }
 }
 
 /// A character, by its index from 0, of the string at an offset, as it is written: `\u00E9` is six characters of the text.

@@ -1,5 +1,5 @@
 # Completion of pageaudit 1.0.0 for fish.
-complete -c pageaudit -n __fish_use_subcommand -f -a lint -d 'Find every fault of a base, each at its line and column'
+complete -c pageaudit -n __fish_use_subcommand -f -a lint -d 'Find every fault of bases, each at its line and column'
 complete -c pageaudit -n __fish_use_subcommand -f -a audit -d 'Find a base'\''s certificate, or list its faults with the keys that show them'
 complete -c pageaudit -n __fish_use_subcommand -f -a check -d 'Check a certificate against a base, without any search'
 complete -c pageaudit -n __fish_use_subcommand -f -a change -d 'Check whether a new edition may take an old one'\''s place while callers are inside'
@@ -8,8 +8,9 @@ complete -c pageaudit -n __fish_use_subcommand -f -a show -d 'Show a screen as a
 complete -c pageaudit -n __fish_use_subcommand -f -a list -d 'List the frames of a base, with the keys that lead there'
 complete -c pageaudit -n __fish_use_subcommand -f -a map -d 'Draw a base as a graph, a DOT file for Graphviz'
 complete -c pageaudit -n __fish_use_subcommand -f -a explain -d 'Explain a printed word, with an example and the fix'
+complete -c pageaudit -n '__fish_seen_subcommand_from lint' -l deny-warnings -d 'End with status 1 for a warning too'
 complete -c pageaudit -n '__fish_seen_subcommand_from lint' -s c -l ceiling -x -d 'Report each frame that costs more than N pence, 0 to 9999 [default: 9999]'
-complete -c pageaudit -n '__fish_seen_subcommand_from lint' -s k -l keyings -x -d 'Report each frame more than N keys away from the entry page, 0 to 65535 [default: 65535]'
+complete -c pageaudit -n '__fish_seen_subcommand_from lint' -s k -l keyings -x -d 'Report each frame more than N keys back to the entry page, 0 to 65535 [default: 65535]'
 complete -c pageaudit -n '__fish_seen_subcommand_from lint' -s g -l groups -x -d 'Assume callers in these groups: at most 16, ascending, 1 to 65535, e.g. '\''7,9'\'''
 complete -c pageaudit -n '__fish_seen_subcommand_from lint' -s h -l help -d 'Print help'
 complete -c pageaudit -n '__fish_seen_subcommand_from audit' -s o -l out -x -d 'Write the certificate to FILE, only if there is one'

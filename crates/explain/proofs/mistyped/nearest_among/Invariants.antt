@@ -1,14 +1,11 @@
-use Rattle.std.proofs.Common.{◌≡◌, ◌≤◌, length, drop}
-use Rattle.explain.specs.Words.{texts_of, nearest, name_of, HasDistance}
+use Rattle.std.proofs.Common.{◌≡◌, drop}
+use Rattle.std.specs.Prelude.{option_map}
+use Rattle.near_words.specs.Near.{found_after, nearest}
+use Rattle.explain.specs.Words.{lower, texts_of}
 use Rattle.explain.proofs.mistyped.nearest_among.Given as goal
 
--- the nearest of the names that have been seen
-abbrev pub invariant-loop-left : goal.invariant-loop-left
-invariant-loop-left l = record {
-  within : l.left ≤ length l.names;
-  has : HasDistance l.word l.found;
-  same : name_of l.found ≡ nearest l.word (drop l.left (texts_of l.names));
-}
-
-abbrev pub decreases-loop-left : goal.decreases-loop-left
-decreases-loop-left l = l.left
+-- what is found, and the names that are left, lead to the nearest of all
+abbrev pub invariant-loop-name : goal.invariant-loop-name
+invariant-loop-name l =
+    found_after lower l.search (option_map (λ name. name.now) l.found) (texts_of (drop l.name-index l.names))
+    ≡ nearest lower (lower l.fn.word) (texts_of l.names)

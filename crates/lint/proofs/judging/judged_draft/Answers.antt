@@ -23,7 +23,7 @@ returns-in-Some c =
       whole = c.in_ok-whole.whole.items;
       are = c.in_ok-whole.ensures;
       listed = listed;
-      audited = subst (λ t. AreAuditFindings (marks text) t base policy fs.items) tables (audited c.requires.0 (parsed text c.requires.0 c.requires.2));
+      audited = subst (λ t. AreAuditFindings text (marks text) t base policy fs.items) tables (audited c.requires.0 (parsed text c.requires.0 c.requires.2));
     } in
     of_base c.whole_faults_agree.ensures.agree c.whole_faults_agree.ensures.tables c.drafts_are_sound.ensures.entry c.faults_are_listed.ensures.first text policy fs.items base draft c.requires has) c.audited.ensures
 
@@ -42,7 +42,7 @@ returns c =
       are = c.in_ok-whole.ensures;
       refused = refused;
       are_findings = found c.requires.0 (parsed text c.requires.0 c.requires.2)
-          ∙ ap (λ faults. map (text_finding (marks text)) faults ++ map (whole_finding text (marks text)) c.as_slice-in-None-2.result.now) faults
-          ∙ ap (λ whole. map (text_finding (marks text)) draft.faults ++ map (whole_finding text (marks text)) whole) c.as_slice-in-None-2.ensures.value;
+          ∙ ap (λ faults. map (text_finding text (marks text)) faults ++ map (whole_finding text (marks text)) c.as_slice-in-None-2.result.now) faults
+          ∙ ap (λ whole. map (text_finding text (marks text)) draft.faults ++ map (whole_finding text (marks text)) whole) c.as_slice-in-None-2.ensures.value;
     } in
     of_faults c.whole_faults_agree.ensures.agree c.whole_faults_agree.ensures.tables c.drafts_are_sound.ensures.entry c.faults_are_listed.ensures.first text policy fs.items draft c.requires has) c.faulty.ensures

@@ -1,9 +1,8 @@
-use Rattle.std.proofs.Common.{◌≡◌, ◌≤◌}
-use Rattle.lint_words.specs.HintRules.{last_place, bracket_turn}
+use Rattle.std.proofs.Common.{◌≤◌}
 use Rattle.lint_words.proofs.brackets.open_before.Given as goal
 
 abbrev pub invariant-loop-at : goal.invariant-loop-at
-invariant-loop-at l = (l.at ≤ l.end) × (last_place (bracket_turn l.text) l.at ≡ last_place (bracket_turn l.text) l.end)
+invariant-loop-at l = l.at ≤ l.end
 
 abbrev pub decreases-loop-at : goal.decreases-loop-at
 decreases-loop-at l = l.at

@@ -7,4 +7,4 @@ use Rattle.lint.proofs.audit_findings.Sources.add_warnings.Given as goal
 
 abbrev pub invariant-loop-id : goal.invariant-loop-id
 invariant-loop-id l = (ms : List Mark) (tables : List (Id × ℕ)) → AreKnown ms tables l.self
-    → l.findings.items ++ map (warning ms tables) (drop l.id-index l.ids) ≡ l.fn.findings.items ++ map (warning ms tables) l.ids
+    → l.findings.items ++ map (warning l.self.text.now.text.now ms tables) (drop l.id-index l.ids) ≡ l.fn.findings.items ++ map (warning l.self.text.now.text.now ms tables) l.ids

@@ -4,4 +4,4 @@ use Rattle.toml_places.proofs.Firsts.{spots_at}
 use Rattle.toml_places.proofs.places.Places.first.Goals as goal
 
 pub returns : goal.returns
-returns c ms h = c.offset_of.ensures ∙ ap (λ o. option_map (λ (s : Spot). s.at) o) (c.key.ensures ms h) ∙ spots_at ms c.args.frame (c.args.key.now ∷ [])
+returns c ms h = c.offset_of.ensures ∙ ap (λ o. option_map (λ (s : Spot). s.at) o) (c.key.ensures.spot ms h) ∙ spots_at ms c.args.frame (c.args.key.now ∷ [])

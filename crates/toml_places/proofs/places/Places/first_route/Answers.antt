@@ -5,4 +5,4 @@ use Rattle.toml_places.proofs.Firsts.{spots_at}
 use Rattle.toml_places.proofs.places.Places.first_route.Goals as goal
 
 pub returns : goal.returns
-returns c ms h = c.offset_of.ensures ∙ ap (λ o. option_map (λ (s : Spot). s.at) o) (c.route.ensures ms h) ∙ spots_at ms (Some c.args.frame) (routes_key ∷ c.args.sub.now ∷ [])
+returns c ms h = c.offset_of.ensures ∙ ap (λ o. option_map (λ (s : Spot). s.at) o) (c.route.ensures.spot ms h) ∙ spots_at ms (Some c.args.frame) (routes_key ∷ c.args.sub.now ∷ [])

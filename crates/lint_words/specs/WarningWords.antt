@@ -1,0 +1,34 @@
+-- The words of warnings about what a frame shows.
+use Rattle.std.specs.Prelude.{ℕ, ◌-◌, List, ◌++◌, codes, Some}
+use Rattle.page_ids.specs.Ids.{Id, frame_text}
+use Rattle.base_text.specs.declared.keys.Field.TheVariants as field
+use Rattle.lint_words.specs.KeyPieces.{item_text}
+use Rattle.lint_words.specs.Lines.{line_of}
+use Rattle.lint_words.specs.Pieces.{grouped}
+use Rattle.lint_words.specs.WordsOf.{WordsView, words_of}
+use Rattle.lint_words.specs.declared.code.Code.TheVariants as code
+
+-- a row, counted from 1, that the row above hides
+abbrev pub hidden_message : Id → ℕ → List ℕ
+hidden_message id row =
+    item_text field.Rows row (Some id) ++ (codes " is hidden by the double height of row " ++ grouped (row - 1))
+
+-- a line end in a body that is a line feed alone
+abbrev pub line_end_message : Id → List ℕ
+line_end_message id =
+    codes "a line of the body of frame " ++ (frame_text id ++
+    codes " ends with a line feed alone, so the text goes on in the same column")
+
+-- a row, counted from 1, with an escape where there is none
+abbrev pub escape_message : Id → ℕ → List ℕ
+escape_message id row =
+    item_text field.Rows row (Some id) ++ codes " has \\u00 in single quotation marks, which is shown as it is"
+
+abbrev pub hidden_words : Id → ℕ → WordsView
+hidden_words id row = words_of code.Hidden (line_of (hidden_message id row))
+
+abbrev pub line_end_words : Id → WordsView
+line_end_words id = words_of code.LineEnd (line_of (line_end_message id))
+
+abbrev pub escape_words : Id → ℕ → WordsView
+escape_words id row = words_of code.Escape (line_of (escape_message id row))

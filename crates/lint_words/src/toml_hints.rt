@@ -1,0 +1,354 @@
+//! The hint for a text that isn't TOML: by toml's message, and by the bytes around its place.
+
+ghost use Rattle.std.specs.Prelude.{◌≤◌, length};
+
+use crate::brackets::{has_next_key, open_bracket};
+use crate::hint::{Hint, said};
+use crate::line::Line;
+use crate::near_bytes::{Class, after, begins_pair, run_len, run_start};
+use crate::value_hints::{price_hint, word_hint};
+use crate::values::{as_text, is_number};
+use crate::written_keys::{earlier_definition, name_at, name_before, named_field};
+use base_text::Field;
+use std::alloc::{AllocError, Global};
+use toml_parser::bytes::byte_at;
+use toml_places::place_in;
+
+const BAD_UTF8: &str = "invalid UTF-8";
+
+const DUPLICATE: &str = "duplicate key";
+
+const BAD_STRING: &str = "invalid string";
+
+const BAD_ESCAPE: &str = "invalid escape sequence";
+
+const BAD_KEY: &str = "invalid key, expected letters, numbers, `-`, `_` or a quoted key";
+
+const UNEXPECTED: &str = "unexpected key or value, expected newline, `#`";
+
+const BAD_VALUE: &str =
+    "invalid value, expected a string, number, boolean, date-time, array or inline table";
+
+const NO_COMMA: &str = "missing comma between array elements, expected `,` or `]`";
+
+const NO_COMMA_OF_PAIRS: &str = "missing comma between key-value pairs, expected `,` or `}`";
+
+const COMMENT: Hint<'static> = Hint::Words("a comment begins with #");
+
+const TWO_BRACKETS: Hint<'static> = Hint::Words("write [[frame]] with two brackets");
+
+const MISSING_QUOTE: Hint<'static> = Hint::Words("a quotation mark is missing");
+
+// The line of a place, from 1.
+fn line_of(text: &[u8], place: usize) -> usize {
+    place_in(text, place).0
+}
+
+// UTF-16 has a byte order mark, or a zero byte beside each of the first letters.
+fn is_utf16(text: &[u8]) -> bool {
+    match text {
+        [0xFF, 0xFE, ..] | [0xFE, 0xFF, ..] | [0, _, ..] | [_, 0, ..] => true,
+        _ => false,
+    }
+}
+
+fn is_certificate(text: &[u8]) -> bool {
+    text.starts_with(b"PBC1\n") || text.starts_with(b"PBC2\n")
+}
+
+fn has_bare_returns(text: &[u8]) -> bool {
+    text.contains(&b'\r') && !text.contains(&b'\n')
+}
+
+// What is wrong with the text as a whole.
+fn file_hint(text: &[u8], message: &str) -> Option<Hint<'static>> {
+    if is_utf16(text) {
+        Some(Hint::Words("this is UTF-16, save the file as UTF-8"))
+    } else if message == BAD_UTF8 {
+        Some(Hint::Words("this is not UTF-8, save the file as UTF-8"))
+    } else if is_certificate(text) {
+        Some(Hint::Words("this is a certificate, not a base"))
+    } else if has_bare_returns(text) {
+        Some(Hint::Words("its lines end with CR alone, save it with LF or CR LF"))
+    } else {
+        None
+    }
+}
+
+fn is_curly(rest: &[u8]) -> bool {
+    matches!(rest, [0xE2, 0x80, 0x98..=0x9F, ..])
+}
+
+// What begins at the place.
+fn token_hint(rest: &[u8], message: &str) -> Option<Hint<'static>> {
+    let may_be_comment = message == BAD_KEY || message == UNEXPECTED;
+    if is_curly(rest) {
+        Some(Hint::Words("use straight quotation marks"))
+    } else if rest.starts_with(b"//") || (may_be_comment && rest.starts_with(b";")) {
+        Some(COMMENT)
+    } else if rest.starts_with(b"\xC2\xA0") {
+        Some(Hint::Words("this is a no-break space (U+00A0), write a space"))
+    } else {
+        None
+    }
+}
+
+// A header of a frame that lacks a bracket, right before the place.
+fn header_hint(before: &[u8]) -> Option<Hint<'static>> {
+    if before.ends_with(b"[frame]") || before.ends_with(b"[frame") {
+        Some(TWO_BRACKETS)
+    } else {
+        None
+    }
+}
+
+fn second_definition(text: &[u8], at: usize, place: usize) -> Hint<'_>
+    requires { at ≤ length text.now }
+{
+    let line = line_of(text, place);
+    if text[at..].starts_with(b"[[") {
+        Hint::TwoBracketsOn(line)
+    } else {
+        Hint::Defined(as_text(name_at(text, at)), line)
+    }
+}
+
+// A key that is defined twice.
+fn duplicate_hint<'a>(text: &'a [u8], at: usize, message: &str) -> Option<Hint<'a>>
+    requires { at ≤ length text.now }
+{
+    if message != DUPLICATE {
+        None
+    } else if text[at..].starts_with(b"[frame]") {
+        Some(TWO_BRACKETS)
+    } else {
+        let place = earlier_definition(text, at)?;
+        Some(second_definition(text, at, place))
+    }
+}
+
+// Whether a message can come of a list or table that isn't closed.
+fn is_in_brackets(message: &str) -> bool {
+    message == NO_COMMA
+        || message == NO_COMMA_OF_PAIRS
+        || message == BAD_KEY
+        || message == BAD_VALUE
+}
+
+// A bracket or a brace that isn't closed, perhaps since `#` begins a comment.
+fn bracket_hint(text: &[u8], at: usize, message: &str) -> Option<Hint<'static>>
+    requires { at ≤ length text.now }
+{
+    if !is_in_brackets(message) {
+        return None;
+    }
+    if has_next_key(text, at) {
+        return Some(Hint::Words("# begins a comment: for the next frame write next = true"));
+    }
+    let place = open_bracket(text, at)?;
+    let bracket = if byte_at(text, place) == b'[' {
+        "["
+    } else {
+        "{"
+    };
+    Some(Hint::NotClosed(bracket, line_of(text, place)))
+}
+
+fn ends_line(rest: &[u8]) -> bool {
+    match rest {
+        [] => true,
+        [byte, ..] => *byte == b'\n' || *byte == b'\r',
+    }
+}
+
+// Whether the quotation marks so far are odd in number, and whether the next byte is escaped.
+fn marks_after(odd: bool, escaped: bool, byte: u8) -> (bool, bool) {
+    let flips = byte == b'"' && !escaped;
+    (odd != flips, byte == b'\\' && !escaped)
+}
+
+fn has_odd_marks(bytes: &[u8]) -> bool {
+    let mut marks = (false, false);
+    for byte in bytes {
+        marks = marks_after(marks.0, marks.1, *byte);
+    }
+    marks.0
+}
+
+// The line of a place.
+fn line_at(text: &[u8], at: usize) -> &[u8]
+    requires { at ≤ length text.now }
+{
+    let line = &text[run_start(text, at, Class::Line)..];
+    &line[..run_len(line, Class::Line)]
+}
+
+// A string that isn't closed where its line ends, or a line with an odd number of quotation marks.
+fn quote_hint(text: &[u8], at: usize, message: &str) -> Option<Hint<'static>>
+    requires { at ≤ length text.now }
+{
+    if message == BAD_STRING && ends_line(&text[at..]) {
+        Some(MISSING_QUOTE)
+    } else if (message == NO_COMMA || message == BAD_VALUE) && has_odd_marks(line_at(text, at)) {
+        Some(MISSING_QUOTE)
+    } else {
+        None
+    }
+}
+
+// A quotation mark right before a word, which was meant to be inside a text.
+fn inner_mark_hint(before: &[u8], rest: &[u8], message: &str) -> Option<Hint<'static>> {
+    if (message != NO_COMMA && message != UNEXPECTED) || run_len(rest, Class::Bare) == 0 {
+        None
+    } else if before.ends_with(b"\"") {
+        Some(Hint::Words("write \\\" inside a text"))
+    } else if before.ends_with(b"'") {
+        Some(Hint::Words("write a text with ' in it in double quotation marks"))
+    } else {
+        None
+    }
+}
+
+// An escape that isn't TOML's, or a control character as it is.
+fn string_hint<'a>(rest: &'a [u8], message: &str) -> Option<Hint<'a>> {
+    let is_control = byte_at(rest, 0) < b' ' && !ends_line(rest);
+    match rest {
+        [tens, ones, ..]
+            if message == BAD_ESCAPE && tens.is_ascii_digit() && ones.is_ascii_hexdigit() => {
+            Some(Hint::Escape(as_text(rest.get(..2)?)))
+        }
+        _ if message == BAD_ESCAPE => Some(Hint::Words("write \\\\ for a backslash")),
+        _ if message == BAD_STRING && is_control => {
+            Some(Hint::Words("write a control character as an escape, as \\u001B"))
+        }
+        _ => None,
+    }
+}
+
+fn has_leading_zero(word: &[u8]) -> bool {
+    match word {
+        [b'0', next, ..] => next.is_ascii_digit(),
+        _ => false,
+    }
+}
+
+// Whether a word answers yes or no, in any case of letters.
+fn is_answer(word: &[u8]) -> bool {
+    word.eq_ignore_ascii_case(b"true")
+        || word.eq_ignore_ascii_case(b"false")
+        || word.eq_ignore_ascii_case(b"yes")
+        || word.eq_ignore_ascii_case(b"no")
+}
+
+fn is_letter(bytes: &[u8]) -> bool {
+    match bytes {
+        [byte] => byte.is_ascii_alphabetic(),
+        _ => false,
+    }
+}
+
+// Whether a word begins with a letter, or is digits and a letter, as an id.
+fn is_text(word: &[u8]) -> bool {
+    byte_at(word, 0).is_ascii_alphabetic() || is_letter(after(word, Class::Digit))
+}
+
+// Whether a number is followed by another on its line.
+fn lacks_comma(rest: &[u8]) -> bool {
+    let number = &rest[..run_len(rest, Class::Digit)];
+    let blanks = after(rest, Class::Digit);
+    let next = after(blanks, Class::Blank);
+    !number.is_empty() && next.len() < blanks.len() && byte_at(next, 0).is_ascii_digit()
+}
+
+// A word or number that is no value, of a key that isn't known.
+fn any_word_hint(word: &[u8]) -> Option<Hint<'static>> {
+    if is_text(word) {
+        Some(Hint::Words("put a text in quotation marks"))
+    } else {
+        None
+    }
+}
+
+fn bad_word_hint(field: Option<Field>, word: &[u8]) -> Option<Hint<'_>> {
+    if is_answer(word) {
+        return Some(Hint::Words("write true or false, in small letters"));
+    }
+    match field {
+        _ if has_leading_zero(word) && after(word, Class::Digit).is_empty() => {
+            Some(Hint::Words("a number has no leading zero"))
+        }
+        None => any_word_hint(word),
+        Some(_) if word.is_empty() || is_number(word) => None,
+        Some(field) => word_hint(field, word),
+    }
+}
+
+// Where the value of the line's last key before a place begins: after its equals sign.
+fn value_start(text: &[u8], at: usize) -> Option<usize>
+    requires { at ≤ length text.now }
+{
+    let line = run_start(text, at, Class::Line);
+    let before = text.get(line..at)?;
+    let length = before.iter().rev().take_while(|b| **b != b'=').count();
+    if length == before.len() {
+        None
+    } else {
+        at.checked_sub(length)
+    }
+}
+
+// The value on the rest of a line, without a comment.
+fn rest_of_value(text: &[u8], start: usize) -> &[u8] {
+    let rest = text.get(start..).unwrap_or(b"");
+    let length = rest
+        .iter()
+        .take_while(|b| **b != b'#' && **b != b'\n' && **b != b'\r')
+        .count();
+    rest.get(..length).unwrap_or(b"")
+}
+
+// A bad value, by its key.
+fn value_hint<'a>(text: &'a [u8], at: usize, message: &str) -> Option<Hint<'a>>
+    requires { at ≤ length text.now }
+{
+    let rest = &text[at..];
+    let word = &rest[..run_len(rest, Class::Bare)];
+    let start = value_start(text, at);
+    let field = named_field(name_before(text, start.unwrap_or(0)));
+    if field == Some(Field::Price) && (message == BAD_VALUE || message == UNEXPECTED) {
+        Some(price_hint(rest_of_value(text, start.unwrap_or(0))))
+    } else if message != BAD_VALUE || begins_pair(rest) {
+        None
+    } else if lacks_comma(rest) {
+        Some(Hint::Words("put a comma between two values"))
+    } else {
+        bad_word_hint(field, word)
+    }
+}
+
+// The first of the rules that applies.
+fn hint_at<'a>(text: &'a [u8], at: usize, message: &str) -> Option<Hint<'a>>
+    requires { at ≤ length text.now }
+{
+    let (before, rest) = text.split_at(at);
+    file_hint(text, message)
+        .or(token_hint(rest, message))
+        .or(header_hint(before))
+        .or(duplicate_hint(text, at, message))
+        .or(bracket_hint(text, at, message))
+        .or(quote_hint(text, at, message))
+        .or(inner_mark_hint(before, rest, message))
+        .or(string_hint(rest, message))
+        .or(value_hint(text, at, message))
+}
+
+// A hint at the cause of toml's message on a text, if a rule applies. The offset is that of the message's span; one past
+// the end is the end.
+pub fn toml_hint(
+    alloc: Global,
+    text: &[u8],
+    at: usize,
+    message: &str,
+) -> Result<Option<Line>, AllocError> {
+    said(alloc, hint_at(text, at.min(text.len()), message))
+}

@@ -1,0 +1,104 @@
+//! What was probably meant by a value that doesn't read.
+
+ghost use Rattle.std.specs.Prelude.{◌≤◌, length};
+
+use crate::near_bytes::{Class, after, run_len, run_start};
+use frame_records::MOST_PENCE;
+
+// A text without blanks and quotation marks around it.
+pub fn unquoted(written: &[u8]) -> &[u8] {
+    let text = after(written, Class::Blank);
+    let text = &text[..run_start(text, text.len(), Class::Blank)];
+    text.strip_prefix(b"\"")
+        .and_then(|rest| rest.strip_suffix(b"\""))
+        .or(
+            text.strip_prefix(b"'")
+                .and_then(|rest| rest.strip_suffix(b"'")),
+        )
+        .unwrap_or(text)
+}
+
+// The bytes as a text, which is empty if they aren't UTF-8.
+pub fn as_text(bytes: &[u8]) -> &str {
+    str::from_utf8(bytes).unwrap_or("")
+}
+
+pub fn is_number(written: &[u8]) -> bool {
+    !written.is_empty() && after(written, Class::Digit).is_empty()
+}
+
+// A number in decimal, in which commas don't count.
+fn number_of(digits: &[u8]) -> Option<u32> {
+    if digits.is_empty() {
+        return None;
+    }
+    let mut number: u32 = 0;
+    for byte in digits {
+        if byte.is_ascii_digit() {
+            number = number
+                .saturating_mul(10)
+                .saturating_add(u32::from(*byte) % 16);
+        } else if *byte != b',' {
+            return None;
+        }
+    }
+    Some(number)
+}
+
+// The pence of an amount in pounds, as `0.15`, `.5` or `3`.
+fn pence_of_pounds(amount: &[u8]) -> Option<u32> {
+    let point = amount.iter().take_while(|b| **b != b'.').count();
+    let pounds = match &amount[..point] {
+        [] => 0,
+        pounds => number_of(pounds)?,
+    };
+    let pence = match &amount[point..] {
+        [] => 0,
+        [_, tenths] => number_of(&[*tenths, b'0'])?,
+        [_, tens, ones] => number_of(&[*tens, *ones])?,
+        _ => return None,
+    };
+    Some(pounds.saturating_mul(100).saturating_add(pence))
+}
+
+// The price that was probably meant by `15p`, `£0.15`, `0.15` or `1,500`, in pence.
+pub fn pence_of(written: &[u8]) -> Option<u32> {
+    let amount = unquoted(written);
+    let amount = amount.strip_suffix(b"p").unwrap_or(amount);
+    let pence = if let Some(pounds) = amount.strip_prefix(b"\xC2\xA3") {
+        pence_of_pounds(pounds)?
+    } else if amount.contains(&b'.') {
+        pence_of_pounds(amount)?
+    } else {
+        number_of(amount)?
+    };
+    if pence <= u32::from(MOST_PENCE) {
+        Some(pence)
+    } else {
+        None
+    }
+}
+
+// The page number of a page's number and letters, as of `620a`.
+pub fn page_of(written: &[u8]) -> Option<&str> {
+    let id = unquoted(written);
+    let (page, letters) = id.split_at(run_len(id, Class::Digit));
+    let has_letters = !letters.is_empty() && letters.iter().all(|b| b.is_ascii_alphabetic());
+    if !page.is_empty() && has_letters {
+        Some(as_text(page))
+    } else {
+        None
+    }
+}
+
+// The first number in a value, as of `[6203]`.
+pub fn first_number(written: &[u8]) -> Option<&str> {
+    let start = written.iter().take_while(|b| !b.is_ascii_digit()).count();
+    let rest = &written[start..];
+    let number = &rest[..run_len(rest, Class::Digit)];
+    if number.is_empty() {
+        None
+    } else {
+        Some(as_text(number))
+    }
+}

@@ -1,0 +1,85 @@
+//! The words of warnings about what a frame shows.
+
+ghost use Rattle.std.specs.Prelude.{◌≡◌, ◌++◌, IfOk, OnOk};
+ghost use Rattle.lint_words.specs.WarningWords.{hidden_message, line_end_message, escape_message, hidden_words, line_end_words, escape_words};
+
+use crate::code::Code;
+use crate::hint::hint_of;
+use crate::line::Line;
+use crate::piece::Piece::{Grouped, Id, Item, Text};
+use crate::piece::push_pieces;
+use crate::words::Words;
+use base_text::Field;
+use page_ids::FrameId;
+use std::alloc::{AllocError, Global};
+
+fn push_hidden(out: &mut Vec<u8>, id: FrameId, row: usize) -> Result<(), AllocError>
+    ensures { OnOk result (out.new.items ≡ out.old.items ++ hidden_message id row) }
+{
+    push_pieces(
+        out,
+        &[
+            Item(Field::Rows, row, Some(id)),
+            Text(" is hidden by the double height of row "),
+            Grouped(row.saturating_sub(1)),
+        ],
+    )
+}
+
+fn push_line_end(out: &mut Vec<u8>, id: FrameId) -> Result<(), AllocError>
+    ensures { OnOk result (out.new.items ≡ out.old.items ++ line_end_message id) }
+{
+    push_pieces(
+        out,
+        &[
+            Text("a line of the body of frame "),
+            Id(id),
+            Text(" ends with a line feed alone, so the text goes on in the same column"),
+        ],
+    )
+}
+
+fn push_escape(out: &mut Vec<u8>, id: FrameId, row: usize) -> Result<(), AllocError>
+    ensures { OnOk result (out.new.items ≡ out.old.items ++ escape_message id row) }
+{
+    push_pieces(
+        out,
+        &[
+            Item(Field::Rows, row, Some(id)),
+            Text(" has \\u00 in single quotation marks, which is shown as it is"),
+        ],
+    )
+}
+
+/// The words of a row, counted from 1, whose text the double height of the row above hides.
+pub fn hidden_words(alloc: Global, id: FrameId, row: usize) -> Result<Words, AllocError>
+    ensures { IfOk result (λ words. words ≡ hidden_words id row) }
+{
+    let mut message = Vec::new(alloc);
+    push_hidden(&mut message, id, row)?;
+    let hint = hint_of(alloc, &[Text("leave row "), Grouped(row), Text(" empty")])?;
+    Ok(Words::new(Code::Hidden, Line::of(alloc, &message)?, hint))
+}
+
+/// The words of a body over several lines of the file, of which one ends with a line feed alone.
+pub fn line_end_words(alloc: Global, id: FrameId) -> Result<Words, AllocError>
+    ensures { IfOk result (λ words. words ≡ line_end_words id) }
+{
+    let mut message = Vec::new(alloc);
+    push_line_end(&mut message, id)?;
+    let hint = hint_of(
+        alloc,
+        &[Text("write \\u000D\\u000A at the end of each line")],
+    )?;
+    Ok(Words::new(Code::LineEnd, Line::of(alloc, &message)?, hint))
+}
+
+/// The words of a row, counted from 1, that has `\u00` in single quotation marks.
+pub fn escape_words(alloc: Global, id: FrameId, row: usize) -> Result<Words, AllocError>
+    ensures { IfOk result (λ words. words ≡ escape_words id row) }
+{
+    let mut message = Vec::new(alloc);
+    push_escape(&mut message, id, row)?;
+    let hint = hint_of(alloc, &[Text("write the row in double quotation marks")])?;
+    Ok(Words::new(Code::Escape, Line::of(alloc, &message)?, hint))
+}
