@@ -29,8 +29,10 @@ fn lint_file<R: Files + Print + AllocGlobal>(
     path: &str,
     policy: &Policy,
 ) -> Result<Counts, Unfinished> {
-    let base = open_base(rt, path)?;
-    lint_source(rt, &mut FromRead::new(base), path, policy)
+    match open_base(rt, path) {
+        Ok(base) => lint_source(rt, &mut FromRead::new(base), path, policy),
+        Err(unfinished) => Err(unfinished),
+    }
 }
 
 fn lint_path<R: Files + Input + Print + AllocGlobal>(

@@ -227,11 +227,15 @@ fn map_file<R: Files + Print + AllocGlobal>(
     view: &View,
     groups: &Groups,
 ) -> Result<MapStatus, Unfinished> {
-    let base = open_base(rt, base)?;
-    let mut base = FromRead::new(base);
-    let mut out = IntoWrite::new(io::writer(rt));
-    let run = run_map(rt.alloc(), &mut base, groups, view, &mut out);
-    ended(run, &out)
+    match open_base(rt, base) {
+        Ok(base) => {
+            let mut base = FromRead::new(base);
+            let mut out = IntoWrite::new(io::writer(rt));
+            let run = run_map(rt.alloc(), &mut base, groups, view, &mut out);
+            ended(run, &out)
+        }
+        Err(unfinished) => Err(unfinished),
+    }
 }
 
 fn tell_no_page<R: Eprint>(rt: &R, view: &View) {
@@ -378,9 +382,13 @@ fn list_file<R: Files + Print + AllocGlobal>(
     base: &str,
     groups: &Groups,
 ) -> Result<Status, Unfinished> {
-    let base = open_base(rt, base)?;
-    let mut base = FromRead::new(base);
-    let mut out = IntoWrite::new(io::writer(rt));
-    let run = run_list(rt.alloc(), &mut base, groups, &mut out);
-    ended(run, &out)
+    match open_base(rt, base) {
+        Ok(base) => {
+            let mut base = FromRead::new(base);
+            let mut out = IntoWrite::new(io::writer(rt));
+            let run = run_list(rt.alloc(), &mut base, groups, &mut out);
+            ended(run, &out)
+        }
+        Err(unfinished) => Err(unfinished),
+    }
 }

@@ -16,12 +16,6 @@ pub enum Unfinished {
     Fault(RunFault),
 }
 
-impl From<RunFault> for Unfinished {
-    fn from(fault: RunFault) -> Unfinished {
-        Unfinished::Fault(fault)
-    }
-}
-
 // What the system says of a file that doesn't open.
 fn reason(error: &io::Error) -> Unfinished {
     match error.kind() {

@@ -1,7 +1,7 @@
 //! The command `show`: in which form, into which file, and what is said if there is no screen.
 
-use crate::out_file::{Out, open_out};
 use crate::named_files::{Unfinished, ended, open_base, report};
+use crate::out_file::{Out, open_out};
 use audit_report::{FromRead, IntoWrite, RunFault};
 use command_words::Show;
 use frame_records::Groups;
@@ -68,25 +68,52 @@ fn target_of<R: AllocGlobal>(rt: &R, asked: &Show) -> Result<Target, RunFault> {
     }
 }
 
+// Where the screen goes.
+fn out_of<R: Files + AllocGlobal>(rt: &R, asked: &Show) -> Result<Out<R::File>, RunFault> {
+    let Some(path) = asked.out else {
+        return Ok(Out::Output);
+    };
+    match open_out(rt, path) {
+        Ok(out) => Ok(out),
+        Err(error) if error.kind() == io::ErrorKind::OutOfMemory => Err(RunFault::Memory),
+        Err(_) => Err(RunFault::Write(0)),
+    }
+}
+
+// Which screen was asked for, in which form.
+fn screen_of<R: Files + Env + AllocGlobal>(
+    rt: &R,
+    asked: &Show,
+) -> Result<(Target, Form), RunFault> {
+    let target = target_of(rt, asked)?;
+    Ok((target, form_of(rt, asked)?))
+}
+
 // Writes the screen to standard output, or to the file that is named.
 fn show_file<R: Files + Env + Print + AllocGlobal>(
     rt: &R,
     errors: Stderr,
     asked: &Show,
 ) -> Result<ShowStatus, Unfinished> {
-    let base = open_base(rt, asked.base)?;
-    let target = target_of(rt, asked)?;
-    let form = form_of(rt, asked)?;
-    let out = match asked.out {
-        None => Ok(Out::Output),
-        Some(path) => open_out(rt, path),
+    match open_base(rt, asked.base) {
+        Ok(base) => show_opened(rt, errors, asked, base),
+        Err(unfinished) => Err(unfinished),
+    }
+}
+
+fn show_opened<R: Files + Env + Print + AllocGlobal>(
+    rt: &R,
+    errors: Stderr,
+    asked: &Show,
+    base: R::File,
+) -> Result<ShowStatus, Unfinished> {
+    let (target, form) = match screen_of(rt, asked) {
+        Ok(screen) => screen,
+        Err(fault) => return Err(Unfinished::Fault(fault)),
     };
-    match out {
+    match out_of(rt, asked) {
         Ok(out) => show_to(rt, errors, base, (&target, form, &asked.groups), out),
-        Err(error) if error.kind() == io::ErrorKind::OutOfMemory => {
-            Err(Unfinished::Fault(RunFault::Memory))
-        }
-        Err(_) => Err(Unfinished::Fault(RunFault::Write(0))),
+        Err(fault) => Err(Unfinished::Fault(fault)),
     }
 }
 
@@ -114,7 +141,10 @@ fn show_to<R: Files + Print + AllocGlobal>(
                 let mut output = IntoWrite::new(file);
                 run_show(rt.alloc(), &mut base, groups, target, form, &mut output)
             };
-            Ok(names.close(rt, run, &ShowStatus::Shown)?)
+            match names.close(rt, run, &ShowStatus::Shown) {
+                Ok(status) => Ok(status),
+                Err(fault) => Err(Unfinished::Fault(fault)),
+            }
         }
     }
 }
