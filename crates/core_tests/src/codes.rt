@@ -51,7 +51,7 @@ const RUNS: [(&[u8], [u8; 3], u16, bool, bool); 24] = [
 #[test]
 fn writes_moves_and_shows_by_the_byte_table() -> Result<(), Fail> {
     for (bytes, cells, at, pending, visible) in RUNS {
-        let terminal = after(bytes);
+        let terminal = after(bytes).copy();
         let seen = terminal.cells();
         let seen = [seen[0], seen[1], seen[959]];
         let state = (terminal.at(), terminal.is_pending(), terminal.is_visible());

@@ -40,6 +40,18 @@ impl Terminal {
         }
     }
 
+    /// Another terminal in the same state.
+    pub fn copy(&self) -> Self
+        ensures { result ≡ self.now }
+    {
+        Terminal {
+            cells: self.cells,
+            at: self.at,
+            pending: self.pending,
+            visible: self.visible,
+        }
+    }
+
     /// The position at which the next code is written.
     pub fn at(&self) -> u16
         ensures value { result ≡ self.now.at }
