@@ -1,4 +1,4 @@
-//! Tests of `base_text`, `toml_places`, `lint_words` and `lint`. The wanted words are those of
+//! Tests of `base_text`, `toml_places`, `lint_words`, `lint` and `finding_forms`. The wanted words are those of
 //! tests/cases/lint.md, or follow the front pages of these crates.
 #![tactic(auto)]
 
@@ -12,6 +12,8 @@ mod fault_words;
 mod finding_spans;
 #[cfg(test)]
 mod findings;
+#[cfg(test)]
+mod forms;
 #[cfg(test)]
 mod hint_places;
 #[cfg(test)]

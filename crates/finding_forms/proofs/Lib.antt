@@ -1,0 +1,4 @@
+pub mod Printed
+mod Windows
+pub mod Marks
+mod Commands

@@ -1,0 +1,19 @@
+use Rattle.std.proofs.Common.{◌∙◌, ap, subst, option_copied}
+use Rattle.lint_words.specs.Lines.{line_of}
+use Rattle.lint.specs.Findings.{FindingView}
+use Rattle.finding_forms.specs.LineForm.{line_text, AddsLine}
+use Rattle.finding_forms.proofs.Printed.{both_on}
+use Rattle.finding_forms.proofs.line_form.push_line_finding.Goals as goal
+
+pub returns : goal.returns
+returns c =
+    let f = c.finding.inside in
+    let old = c.args.out.now.items in
+    let new = c.push_line.new.out.items in
+    let hint = option_copied c.hint.result in
+    let line = line_text c.args.path.now c.begin_of-place.result f.level f.words hint in
+    both_on c.push_line.result c.push_line.ensures.line c.push_line.ensures.is_line (λ added is_line. λ bytes shown.
+    let is = ap (λ path. line_text path c.begin_of-place.result f.level f.words hint) shown
+    ∙ ap (λ place. line_text (line_of bytes) place f.level f.words hint) c.begin_of-place.ensures in
+    let adds : AddsLine bytes c.args.lines.now (record { span = f.span; level = f.level; words = f.words }) old new = (line, record { hint = hint; is = is; is_line = is_line }, added) in
+    subst (λ (v : FindingView). AddsLine bytes c.args.lines.now v old new) c.finding.view_is adds)

@@ -1,0 +1,73 @@
+-- The form `full`: under the line of a finding the line of the text, and carets below the span.
+use Rattle.std.specs.Prelude.{◌≡◌, ℕ, ◌-◌, Bool, ◌==◌, if◌then◌else◌, List, [], ◌∷◌, ◌++◌, codes, decimal, length, drop, replicate, flat_map}
+use Rattle.std.specs.Str.{chars, encode_utf8_all}
+use Rattle.std.specs.Str.Lossy.{utf8_lossy}
+use Rattle.lint_words.specs.Lines.{shown_char}
+use Rattle.lint.specs.Findings.{FindingView}
+use Rattle.toml_places.specs.declared.spans.Span.{Span}
+use Rattle.toml_places.specs.Extents.{extent}
+use Rattle.finding_forms.specs.declared.drawing.Drawing.{Drawing}
+use Rattle.finding_forms.specs.declared.drawing.Drawing.TheVariants.{Text, Blank, Carets}
+use Rattle.finding_forms.specs.declared.excerpt.Excerpt.{Excerpt}
+use Rattle.finding_forms.specs.LineForm.{IsFindingLine}
+use Rattle.finding_forms.specs.Excerpts.{mark_length, part, excerpt_of}
+
+-- The characters of a line, and what is below them.
+
+-- a tab (9) is kept, and another control character is shown as \u{1b}
+abbrev pub kept_char : ℕ → List ℕ
+kept_char c = if c == 9 then c ∷ [] else shown_char c
+
+-- a space or a caret for each column of a character; below a tab a tab
+abbrev pub drawn_char : Drawing → ℕ → List ℕ
+drawn_char Text c = encode_utf8_all (kept_char c)
+drawn_char Blank c = if c == 9 then c ∷ [] else replicate (length (shown_char c)) 32
+drawn_char Carets c = replicate (length (kept_char c)) 94
+
+-- the characters of bytes, with U+FFFD in place of what isn't UTF-8
+abbrev pub drawn : Drawing → List ℕ → List ℕ
+drawn d bytes = flat_map (drawn_char d) (chars (utf8_lossy bytes))
+
+-- a caret at least
+abbrev pub carets : List ℕ → List ℕ
+carets [] = codes "^"
+carets (b ∷ bs) = drawn Carets (b ∷ bs)
+
+-- Both lines.
+
+-- the number of the line, in 5 columns at least, and a bar
+abbrev pub number_bar : ℕ → List ℕ
+number_bar line = replicate (5 - length (decimal line)) 32 ++ (decimal line ++ codes " | ")
+
+abbrev pub blank_bar : ℕ → List ℕ
+blank_bar line = replicate (5 - length (decimal line)) 32 ++ (replicate (length (decimal line)) 32 ++ codes " | ")
+
+abbrev pub dots : Bool → List ℕ
+dots cut = if cut then codes "..." else []
+
+abbrev pub blank_dots : Bool → List ℕ
+blank_dots cut = if cut then codes "   " else []
+
+abbrev pub source_line : List ℕ → Excerpt → List ℕ
+source_line text e = dots e.goes_before ++ (drawn Text (part text e.from e.to) ++ (dots e.goes_on ++ codes "\n"))
+
+abbrev pub caret_line : List ℕ → Excerpt → List ℕ
+caret_line text e =
+    blank_dots e.goes_before ++ (drawn Blank (part text e.from e.begin) ++ (carets (part text e.begin e.end) ++ codes "\n"))
+
+abbrev pub both_lines : List ℕ → ℕ → Excerpt → List ℕ
+both_lines text line e = number_bar line ++ (source_line text e ++ (blank_bar line ++ caret_line text e))
+
+-- of a text without a byte order mark, which this many bytes are
+abbrev pub lines_below : List ℕ → ℕ → Span → ℕ → List ℕ
+lines_below text mark s line =
+    both_lines (drop mark text) line (excerpt_of (drop mark text) (record { begin = s.begin - mark; end = s.end - mark }))
+
+abbrev pub source_text : List ℕ → Span → List ℕ
+source_text text s = lines_below text (mark_length text) s (extent text s).line
+
+-- the line of a finding, and both lines below it
+pub record IsFullFinding (path text : List ℕ) (f : FindingView) (out : List ℕ) : Type 0 where
+  pub line : List ℕ
+  pub is_line : IsFindingLine path text f line
+  pub is : out ≡ line ++ codes "\n" ++ source_text text f.span

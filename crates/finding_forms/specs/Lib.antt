@@ -1,0 +1,6 @@
+pub mod LineForm
+pub mod Excerpts
+pub mod FullForm
+pub mod GithubForm
+pub mod Forms
+pub mod Laws

@@ -1,0 +1,101 @@
+//! The characters of a line, and what is below them.
+
+ghost use Rattle.std.specs.Prelude.{◌≡◌, ◌++◌, ◌∷◌, [], replicate, length, IfOk, OnOk};
+ghost use Rattle.std.specs.Char.{encode_utf8};
+ghost use Rattle.std.specs.Str.{encode_utf8_all};
+ghost use Rattle.lint_words.specs.Lines.{shown_char, line_of};
+ghost use Rattle.finding_forms.specs.FullForm as spec;
+
+use lint_words::Line;
+use std::alloc::{AllocError, Global};
+
+// How characters are drawn.
+#[derive(Debug, Clone, Copy, PartialEq, Eq)]
+pub enum Drawing {
+    // As they are, but a control character, unless it is a tab, as `\u{1b}`.
+    Text,
+    // As a space for each of their columns; a tab is kept.
+    Blank,
+    // As a caret for each of their columns.
+    Carets,
+}
+
+fn push_utf8(out: &mut Vec<u8>, c: char) -> Result<(), AllocError>
+    ensures { OnOk result (out.new.items ≡ out.old.items ++ encode_utf8 c) }
+{
+    let mut bytes = [0; 4];
+    out.extend_from_slice(c.encode_utf8(&mut bytes).as_bytes())
+}
+
+// A character as a line.
+fn line_of(alloc: Global, c: char) -> Result<Line, AllocError>
+    ensures { IfOk result (λ line. line ≡ encode_utf8_all (shown_char c)) }
+{
+    let mut bytes = [0; 4];
+    Line::of(alloc, c.encode_utf8(&mut bytes).as_bytes())
+}
+
+fn push_text(alloc: Global, out: &mut Vec<u8>, c: char) -> Result<(), AllocError>
+    ensures { OnOk result (out.new.items ≡ out.old.items ++ encode_utf8_all (spec.kept_char c)) }
+{
+    if c == '\t' || !c.is_control() {
+        push_utf8(out, c)
+    } else {
+        out.extend_from_slice(line_of(alloc, c)?.as_str().as_bytes())
+    }
+}
+
+// How many columns a character has, as it is shown.
+fn columns(c: char) -> usize
+    ensures { result ≡ length (spec.kept_char c) }
+{
+    if c == '\t' || !c.is_control() {
+        1
+    } else if c < '\u{10}' {
+        5
+    } else {
+        6
+    }
+}
+
+#[tactic(auto, using(crate::proofs::Marks::one_more))]
+pub fn push_times(out: &mut Vec<u8>, byte: u8, times: usize) -> Result<(), AllocError>
+    ensures { OnOk result (out.new.items ≡ out.old.items ++ replicate times byte) }
+{
+    'times: for _done in 0..times {
+        out.push(byte)?;
+    }
+    Ok(())
+}
+
+fn push_drawn_char(
+    alloc: Global,
+    out: &mut Vec<u8>,
+    drawing: Drawing,
+    c: char,
+) -> Result<(), AllocError>
+    ensures { OnOk result (out.new.items ≡ out.old.items ++ spec.drawn_char drawing c) }
+{
+    match drawing {
+        Drawing::Text => push_text(alloc, out, c),
+        Drawing::Blank if c == '\t' => out.extend_from_slice(b"\t"),
+        Drawing::Blank => push_times(out, b' ', columns(c)),
+        Drawing::Carets => push_times(out, b'^', columns(c)),
+    }
+}
+
+// The characters of bytes, with U+FFFD in place of what isn't UTF-8.
+pub fn push_drawn(
+    alloc: Global,
+    out: &mut Vec<u8>,
+    drawing: Drawing,
+    bytes: &[u8],
+) -> Result<(), AllocError>
+    ensures { OnOk result (out.new.items ≡ out.old.items ++ spec.drawn drawing bytes.now) }
+{
+    let text = String::from_utf8_lossy(alloc, bytes)?;
+    'chars: for c in text.chars() {
+        push_drawn_char(alloc, out, drawing, c)?;
+    }
+    Ok(())
+}

@@ -1,0 +1,10 @@
+/// How findings are printed.
+#[derive(Debug, Clone, Copy, PartialEq, Eq)]
+pub enum Format {
+    /// The line of [`Format::Line`], then the line of the text and carets below the span.
+    Full,
+    /// `PATH:LINE:COLUMN: error: CODE NAME: MESSAGE; HINT`.
+    Line,
+    /// A workflow command of GitHub: `::error file=PATH,line=..,endLine=..,col=..,endColumn=..,title=CODE NAME::MESSAGE; HINT`.
+    Github,
+}

@@ -1,0 +1,100 @@
+//! Findings in a form, one after another.
+
+ghost use Rattle.std.specs.Prelude.{◌≡◌, ℕ, List, IfOk, OnOk, length, true};
+ghost use Rattle.lint_words.specs.Lines.{line_of};
+ghost use Rattle.finding_forms.specs.Forms.{AddsPrinted, ArePrinted, is_one_line};
+ghost use Rattle.finding_forms.specs.declared.format.Format.TheVariants.{Full};
+ghost use Rattle.finding_forms.specs.Laws.{AreWholeLines};
+
+use crate::format::Format;
+use crate::full_form::push_lines_below;
+use crate::github_form::push_command;
+use crate::laws::findings_are_whole_lines;
+use crate::line_form::push_line_finding;
+use lint::Finding;
+use lint_words::Line;
+use std::alloc::{AllocError, Global};
+use toml_places::TextLines;
+
+fn push_full_finding(
+    alloc: Global,
+    out: &mut Vec<u8>,
+    path: &Line,
+    text: &[u8],
+    lines: &TextLines<'_>,
+    finding: &Finding,
+) -> Result<(), AllocError>
+    requires { lines.now ≡ text.now }
+    ensures { OnOk result ((bytes : List ℕ) → path.now ≡ line_of bytes → AddsPrinted Full bytes text.now finding.now out.old.items out.new.items) }
+{
+    push_line_finding(out, path, lines, finding)?;
+    push_lines_below(
+        alloc,
+        out,
+        text,
+        finding.span,
+        lines.extent(finding.span).line,
+    )
+}
+
+fn push_finding(
+    alloc: Global,
+    out: &mut Vec<u8>,
+    format: Format,
+    path: &Line,
+    text: &[u8],
+    lines: &TextLines<'_>,
+    finding: &Finding,
+) -> Result<(), AllocError>
+    requires { lines.now ≡ text.now }
+    ensures { OnOk result ((bytes : List ℕ) → path.now ≡ line_of bytes → AddsPrinted format bytes text.now finding.now out.old.items out.new.items) }
+{
+    match format {
+        Format::Full => push_full_finding(alloc, out, path, text, lines, finding),
+        Format::Line => push_line_finding(out, path, lines, finding),
+        Format::Github => push_command(out, path, lines, finding),
+    }
+}
+
+fn printed(
+    alloc: Global,
+    format: Format,
+    path: &Line,
+    text: &[u8],
+    lines: &TextLines<'_>,
+    findings: &[Finding],
+) -> Result<Vec<u8>, AllocError>
+    requires { lines.now ≡ text.now }
+    ensures { IfOk result (λ out. (bytes : List ℕ) → path.now ≡ line_of bytes → ArePrinted format bytes text.now findings.now out.items) }
+{
+    let mut out = Vec::new(alloc);
+    for finding in findings {
+        push_finding(alloc, &mut out, format, path, text, lines, finding)?;
+    }
+    Ok(out)
+}
+
+/// What is printed of findings in a text, in their order.
+///
+/// A control character of the path or of the text's lines is written as `\u{1b}`, unless it is a tab of a line, and U+FFFD in
+/// place of what isn't UTF-8. Lines and columns are from 1; a column counts characters. In [`Format::Full`] a line of more than
+/// 120 characters is cut: up to 37 are left before the span and 77 from its first on. The carets end with the span or the line,
+/// and there is one at least.
+pub fn findings_text(
+    alloc: Global,
+    format: Format,
+    path: &[u8],
+    text: &[u8],
+    findings: &[Finding],
+) -> Result<Vec<u8>, AllocError>
+    ensures printed { IfOk result (λ out. ArePrinted format path.now text.now findings.now out.items) }
+    ensures whole { IfOk result (λ out. is_one_line format ≡ true → AreWholeLines (length findings.now) out.items) }
+{
+    findings_are_whole_lines();
+    if findings.is_empty() {
+        return Ok(Vec::new(alloc));
+    }
+    let path = Line::of(alloc, path)?;
+    let lines = TextLines::of(alloc, text)?;
+    printed(alloc, format, &path, text, &lines, findings)
+}
