@@ -239,7 +239,8 @@ def ran(status, text="", fault=""):
 UNWRITTEN = "output: write failed after {} bytes"
 LINE = BASES["missing"].splitlines().index("routes = { 0 = 123, 9 = 555 }") + 1
 MISSING = f"base.toml:{LINE}:21: error: MISSING: key 9 of frame 1231b leads to page 555, which has no frame a (keys 1#9)\n"
-UNKNOWN = 'base.toml:2:1: error: X3 UnknownKey: "name" is not a key of a base; did you mean "frame"?\n'
+MISSING += f"{LINE:5} | routes = {{ 0 = 123, 9 = 555 }}\n      | {' ' * 20}^^^^^^^\n"
+UNKNOWN = 'base.toml:2:1: error: X3 UnknownKey: "name" is not a key of a base; did you mean "frame"?\n    2 | name = 2\n      | ^^^^\n'
 # The entry frame's codes, and the text of frame 1231b, which is painted over 1231a.
 CELLS = f"{'123a':>35}{'0p':>5}{'WELCOME':<920}"
 SHOWN = f"{'1231b':>35}{'0p':>5}\nPART TWO" + "\n" * 23

@@ -6,7 +6,7 @@ use crate::named_files::{Unfinished, ended, open_base, report};
 use audit_report::{FromRead, IntoWrite, Source};
 use checker::Policy;
 use command_words::Lint;
-use pageaudit::{Counts, counted_text, run_lint, status_of_lint};
+use pageaudit::{Counts, Format, counted_text, run_lint, status_of_lint};
 use std::io;
 use std::rt::Files;
 
@@ -16,11 +16,12 @@ fn lint_source<R: Print + AllocGlobal, B: Source>(
     base: &mut B,
     path: &str,
     policy: &Policy,
+    format: Format,
 ) -> Result<Counts, Unfinished>
     requires { (B.seen base.old).failed ≡ false }
 {
     let mut out = IntoWrite::new(io::writer(rt));
-    let run = run_lint(rt.alloc(), base, &mut out, path, policy);
+    let run = run_lint(rt.alloc(), base, &mut out, path, policy, format);
     ended(run, &out)
 }
 
@@ -28,9 +29,10 @@ fn lint_file<R: Files + Print + AllocGlobal>(
     rt: &R,
     path: &str,
     policy: &Policy,
+    format: Format,
 ) -> Result<Counts, Unfinished> {
     match open_base(rt, path) {
-        Ok(base) => lint_source(rt, &mut FromRead::new(base), path, policy),
+        Ok(base) => lint_source(rt, &mut FromRead::new(base), path, policy, format),
         Err(unfinished) => Err(unfinished),
     }
 }
@@ -39,11 +41,12 @@ fn lint_path<R: Files + Input + Print + AllocGlobal>(
     rt: &R,
     path: &str,
     policy: &Policy,
+    format: Format,
 ) -> Result<Counts, Unfinished> {
     if path == "-" {
-        lint_source(rt, &mut FromRead::new(rt.reader()), path, policy)
+        lint_source(rt, &mut FromRead::new(rt.reader()), path, policy, format)
     } else {
-        lint_file(rt, path, policy)
+        lint_file(rt, path, policy, format)
     }
 }
 
@@ -67,7 +70,7 @@ pub fn lint<R: Files + Input + Print + Eprint + AllocGlobal>(rt: &R, asked: &Lin
     };
     let mut unread = None;
     for path in asked.bases {
-        match lint_path(rt, path, &asked.policy) {
+        match lint_path(rt, path, &asked.policy, asked.format) {
             Ok(found) => {
                 counts.errors = counts.errors.saturating_add(found.errors);
                 counts.warnings = counts.warnings.saturating_add(found.warnings);

@@ -7,13 +7,16 @@ use checker::Policy;
 use clap::{Arg, ArgAction, ArgMatches, Command, Error, value_parser};
 use frame_records::{Groups, GroupsFault, MOST_PENCE, Pence};
 use page_ids::{FrameId, MOST_PAGE, PageNo};
-use pageaudit::{Form, Level};
+use pageaudit::{Form, Format, Level};
 use std::alloc::{AllocError, Global};
 use std::rt::Env;
 use std::{env, io};
 
 // The words for the forms of a screen.
 const FORMS: &[&str] = &["text", "ansi", "svg", "cells"];
+
+// The words for the forms of findings.
+const FORMATS: &[&str] = &["full", "line", "github"];
 
 // A word that is known by its place.
 fn place<'a>(alloc: Global, name: &'a str, help: &'a str) -> Arg<'a> {
@@ -85,6 +88,19 @@ fn flag<'a>(alloc: Global, name: &'a str, help: &'a str) -> Arg<'a> {
         .help(help)
 }
 
+// The form in which findings are printed.
+fn format_option<'a>(alloc: Global) -> Arg<'a> {
+    Arg::new(alloc, "format")
+        .long("format")
+        .value_name("FORMAT")
+        .action(ArgAction::Set)
+        .value_parser(FORMATS)
+        .default_value("full")
+        .help(
+            "Print each finding with its line of the base, as one line, or as a command of GitHub",
+        )
+}
+
 fn lint_command<'a>(alloc: Global) -> Result<Command<'a>, AllocError> {
     let bases = place(alloc, "BASE", "The bases, TOML files; - is standard input")
         .num_args(1..)
@@ -93,7 +109,12 @@ fn lint_command<'a>(alloc: Global) -> Result<Command<'a>, AllocError> {
         .about("Find every fault of bases, each at its line and column")
         .after_help(help::LINT)
         .arg(bases)?
-        .arg(flag(alloc, "deny-warnings", "End with status 1 for a warning too"))?
+        .arg(format_option(alloc))?
+        .arg(flag(
+            alloc,
+            "deny-warnings",
+            "End with status 1 for a warning too",
+        ))?
         .arg(
             number(
                 alloc,
@@ -310,6 +331,7 @@ fn collected(rt: &(impl Env + AllocGlobal), alloc: Global) -> io::Result<Vec<Str
 pub struct Lint<'a> {
     /// At least one. `-` is standard input.
     pub bases: &'a [&'a str],
+    pub format: Format,
     pub policy: Policy,
     /// The least level of a finding that makes the exit status 1.
     pub denied: Level,
@@ -444,10 +466,21 @@ fn form_of(word: &str) -> Option<Form> {
     }
 }
 
+// The form of findings that a word names.
+fn format_of(word: &str) -> Option<Format> {
+    match word {
+        "full" => Some(Format::Full),
+        "line" => Some(Format::Line),
+        "github" => Some(Format::Github),
+        _ => None,
+    }
+}
+
 // Which bases are linted, and how.
 fn lint_of<'a>(words: &'a ArgMatches, groups: Groups) -> Option<Request<'a>> {
     Some(Request::Lint(Lint {
         bases: words.get_strs("BASE")?,
+        format: words.get_str("format").and_then(format_of)?,
         policy: policy_of(words, groups)?,
         denied: if words.get_flag("deny-warnings") {
             Level::Warning

@@ -695,7 +695,7 @@ const P193: &str = r#"    entry = 1
     id = "2a"
     rows = []"#;
 
-const P194: &str = r#"    pageaudit lint base 2>/dev/null"#;
+const P194: &str = r#"    pageaudit lint base --format line 2>/dev/null"#;
 
 const P195: &str =
     r#"    base:7:1: warning: UNREACHED: no key leads to frame 2a from the entry page"#;

@@ -7,5 +7,4 @@ pub mod Readings
 pub mod Errors
 pub mod Meanings
 pub mod Warnings
-pub mod Printed
 pub mod SpansLie

@@ -1,7 +1,5 @@
 -- What the findings of a text mean, for a caller who is in the policy's groups and no others.
-use Rattle.std.specs.Prelude.{◌≡◌, ◌≢◌, ◌↔◌, ℕ, true, List, [], ◌∷◌, ◌++◌, map, Result, Ok, Err, All, AllPairs, Contains, length, codes, count_by, ◌==◌}
-use Rattle.std.specs.List.{concat}
-use Rattle.lint_words.specs.Lines.{IsLine}
+use Rattle.std.specs.Prelude.{◌≡◌, ◌≢◌, ◌↔◌, ℕ, true, List, [], ◌∷◌, ◌++◌, map, Result, Ok, Err, All, AllPairs, Contains}
 use Rattle.frame_records.specs.declared.frame.Frame.{Frame}
 use Rattle.frame_records.specs.Bases.{BaseView}
 use Rattle.frame_records.specs.Seek.{is_open}
@@ -16,7 +14,7 @@ use Rattle.checker.specs.Safe.{Safe}
 use Rattle.finder.specs.Finds.{EntryIsFound, IsReached}
 use Rattle.fault_scripts.specs.Faults.{AreFaults}
 use Rattle.lint.specs.declared.finding.Level.TheVariants.{Error}
-use Rattle.lint.specs.Findings.{FindingView, count_of, AreInOrder, AreFindingLines}
+use Rattle.lint.specs.Findings.{FindingView, count_of, AreInOrder}
 use Rattle.lint.specs.Hidden.{hidden_rows}
 use Rattle.lint.specs.Lint.{Subject, Length, Toml, Text, Whole, finding_of, text_tables, warning, hidden_findings, IsWithin, IsAudited, IsLint}
 use Rattle.toml_places.specs.Places.{marks}
@@ -102,22 +100,6 @@ WarnsOfUnreached text policy findings = (base : BaseView) → IsTextBase text ba
 
 abbrev pub LintWarnsOfUnreached : Type 0
 LintWarnsOfUnreached = (text : List ℕ) (policy : Policy) (findings : List FindingView) → IsLint text policy findings → WarnsOfUnreached text policy findings
-
--- What is printed.
-
--- a text of this many lines: each is without a control character, and a line feed ends it
-pub record AreWholeLines (count : ℕ) (text : List ℕ) : Type 0 where
-  pub lines : List (List ℕ)
-  pub are_lines : All IsLine lines
-  pub as_many : length lines ≡ count
-  pub text_is : text ≡ concat (map (λ line. line ++ codes "\n") lines)
-  pub feeds : count_by (λ byte. byte == 10) text ≡ count
-
--- what is printed of findings is a line for each of them, whatever is in the text and the path
-abbrev pub FindingsAreWholeLines : Type 0
-FindingsAreWholeLines =
-    (path text : List ℕ) (findings : List FindingView) (out : List ℕ) → AreFindingLines path text findings out
-    → AreWholeLines (length findings) out
 
 -- Spans.
 

@@ -1,4 +1,4 @@
-ghost use Rattle.lint.specs.Laws.{LintFollowsBaseRead, NoErrorIsSafe, LintWarnsOfUnreached, LintSpansLieIn, FindingsAreWholeLines};
+ghost use Rattle.lint.specs.Laws.{LintFollowsBaseRead, NoErrorIsSafe, LintWarnsOfUnreached, LintSpansLieIn};
 
 use base_text::{drafts_are_sound, faults_are_listed, texts_mean_one_base, whole_faults_agree};
 use fault_scripts::{faults_are_one, none_is_safe};
@@ -33,12 +33,6 @@ pub fn lint_warns_of_unreached()
 {
     lint_follows_base_read();
 }
-
-/// What is printed of findings is a line for each of them, without a control character, whatever is in the text and the
-/// path.
-pub fn findings_are_whole_lines()
-    ensures { FindingsAreWholeLines }
-{}
 
 /// The span of every finding begins and ends in the text.
 pub fn spans_lie_in_the_text()

@@ -1,8 +1,9 @@
 //! What is printed of a text.
 
 use checker::Policy;
+use finding_forms::{Format, findings_text};
 use frame_records::{Groups, Pence};
-use lint::{Counts, counted_text, lint, lint_text};
+use lint::{Counts, counted_text, lint};
 use std::alloc::Global;
 use std::test::Fail;
 use test_support::{same, same_in};
@@ -32,7 +33,13 @@ fn prints(
     counts: (usize, usize),
 ) -> Result<(), Fail> {
     let findings = lint(alloc, text.as_bytes(), policy)?;
-    let printed = lint_text(alloc, b"b.toml", text.as_bytes(), findings.as_slice())?;
+    let printed = findings_text(
+        alloc,
+        Format::Line,
+        b"b.toml",
+        text.as_bytes(),
+        findings.as_slice(),
+    )?;
     same_in(text, str::from_utf8(printed.as_slice()), Ok(lines))?;
     let Counts { errors, warnings } = Counts::of(findings.as_slice());
     same_in(text, (errors, warnings), counts)
@@ -60,7 +67,13 @@ fn beyond_1_000_faults_of_a_table_one_finding_has_their_number(
     let pages = "-1, ".repeat(rt.alloc(), 1_500)?;
     let text = format!(in rt.alloc(); "entry = 1\noutside = [{pages}]\n[[frame]]\nid = \"1a\"\n")?;
     let findings = lint(rt.alloc(), text.as_bytes(), &policy(5, 1, "")?)?;
-    let printed = lint_text(rt.alloc(), b"b.toml", text.as_bytes(), findings.as_slice())?;
+    let printed = findings_text(
+        rt.alloc(),
+        Format::Line,
+        b"b.toml",
+        text.as_bytes(),
+        findings.as_slice(),
+    )?;
     let lines = str::from_utf8(printed.as_slice())?;
     let last: Vec<&str> = lines.lines().skip(999).collect(rt.alloc())?;
     same(
@@ -139,7 +152,13 @@ fn a_line_has_no_control_character(rt: HostRuntime) -> Result<(), Fail> {
     ];
     for (path, front) in rows {
         let findings = lint(rt.alloc(), b"entry = 1\n", &policy(5, 1, "")?)?;
-        let printed = lint_text(rt.alloc(), path, b"entry = 1\n", findings.as_slice())?;
+        let printed = findings_text(
+            rt.alloc(),
+            Format::Line,
+            path,
+            b"entry = 1\n",
+            findings.as_slice(),
+        )?;
         let printed = str::from_utf8(printed.as_slice())?;
         same_in(front, printed.starts_with(front), true)?;
         same_in(front, printed.lines().count(), 1)?;

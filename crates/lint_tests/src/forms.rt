@@ -26,14 +26,16 @@ const PRICE: &[u8] = b"entry = 1\n[[frame]]\nid = \"1a\"\nprice = 10000\nrows = 
 
 #[test]
 fn full_has_the_line_of_the_text_and_carets(rt: HostRuntime) -> Result<(), Fail> {
-    let wanted = "a,b.toml:4:9: error: X6 Range: \"price\" of frame 1a is 10000, at most 9999 is allowed\n    \
+    let wanted =
+        "a,b.toml:4:9: error: X6 Range: \"price\" of frame 1a is 10000, at most 9999 is allowed\n    \
         4 | price = 10000\n      |         ^^^^^\n";
     prints(rt.alloc(), Format::Full, PRICE, wanted)
 }
 
 #[test]
 fn line_is_the_line_alone(rt: HostRuntime) -> Result<(), Fail> {
-    let wanted = "a,b.toml:4:9: error: X6 Range: \"price\" of frame 1a is 10000, at most 9999 is allowed\n";
+    let wanted =
+        "a,b.toml:4:9: error: X6 Range: \"price\" of frame 1a is 10000, at most 9999 is allowed\n";
     prints(rt.alloc(), Format::Line, PRICE, wanted)
 }
 
@@ -44,7 +46,7 @@ fn github_has_the_columns_of_a_span_on_one_line(rt: HostRuntime) -> Result<(), F
     prints(rt.alloc(), Format::Github, PRICE, one)?;
     let text = b"entry = 1\n[[frame]]\nid = \"\"\"\n50%:\"\"\"\nrows = []\n";
     let more = "::error file=a%2Cb.toml,line=3,endLine=4,title=I2 BadFrame::\
-        \"id\" is \"50%25:\", an id is a page number and a letter, as 1a\n";
+        \"50%25:\" is not a frame id; write a page number and one small letter, as 1231a\n";
     prints(rt.alloc(), Format::Github, text, more)
 }
 
@@ -87,12 +89,23 @@ fn carets_go_below_all_columns_of_a_span(rt: HostRuntime) -> Result<(), Fail> {
 #[test]
 fn a_long_line_is_cut_around_the_span(rt: HostRuntime) -> Result<(), Fail> {
     let alloc = rt.alloc();
-    for (before, after, cut) in [(90, 19, false), (90, 20, true), (30, 200, true)] {
+    for (before, after, cut) in [(90, 21, false), (90, 22, true), (30, 200, true)] {
         let (front, back) = (" ".repeat(alloc, before)?, "#".repeat(alloc, after)?);
-        let text = format!(in alloc; "entry ={front}-1{back}\n[[frame]]\nid = \"1a\"\nrows = []\n")?;
+        let text = format!(in alloc;
+            "entry ={front}-1{back}\n[[frame]]\nid = \"1a\"\nrows = []\n"
+        )?;
         let findings = lint(alloc, text.as_bytes(), &policy(5, 9, "")?)?;
-        let printed = findings_text(alloc, Format::Full, b"b", text.as_bytes(), findings.as_slice())?;
-        let source = str::from_utf8(printed.as_slice())?.lines().nth(1).unwrap_or("");
+        let printed = findings_text(
+            alloc,
+            Format::Full,
+            b"b",
+            text.as_bytes(),
+            findings.as_slice(),
+        )?;
+        let source = str::from_utf8(printed.as_slice())?
+            .lines()
+            .nth(1)
+            .unwrap_or("");
         same_in(source, source.contains("..."), cut)?;
         same_in(source, source.chars().count() <= 128, true)?;
     }

@@ -26,7 +26,9 @@ use Rattle.pageaudit.specs.declared.show_run.Answer.{Answer}
 use Rattle.pageaudit.specs.declared.show_run.Answer.TheVariants as answer
 use Rattle.pageaudit.specs.ShowRun.{IsShown, IsAnswerWritten, IsShowRun}
 use Rattle.lint.specs.declared.counts.Counts.{Counts}
-use Rattle.lint.specs.Findings.{FindingView, AreFindingLines}
+use Rattle.lint.specs.Findings.{FindingView}
+use Rattle.finding_forms.specs.declared.format.Format.{Format}
+use Rattle.finding_forms.specs.Forms.{ArePrinted}
 use Rattle.lint.specs.Lint.{IsLint}
 use Rattle.pageaudit.specs.LintRun.{IsLintRun, counts_of}
 use Rattle.pageaudit.proofs.Within.{base_within, text_within}
@@ -96,12 +98,12 @@ split_run base_file cert out base read policy (Faulty faults) is r w =
     text_run base_file out base read _ _ (report_text (Faulty faults)) (status_of_outcome (Faulty faults)) (λ none. (w.1, none))
     (λ r text. record { outcome = Faulty faults; is = is; written = (text, w.1) }) r w.0
 
--- a run of lint that read its text and wrote the lines of its findings
-pub lint_run : (base_file out : Device) (path text : List ℕ) → IsTextOfFile base_file text → (policy : Policy) (findings : List FindingView) → IsLint text policy findings
-    → (lines : List ℕ) → AreFindingLines path text findings lines
-    → (r : Result Counts RunFault) → IsTextWritten out lines (counts_of findings) r → IsLintRun base_file out path policy r
-lint_run base_file out path text read policy findings is lines are =
-    by_answer out lines (counts_of findings) (IsLintRun base_file out path policy)
-    (λ s w. record { text = text; read = read; findings = findings; is = is; lines = lines; are_lines = are; written = w })
-    (λ wrote w. record { text = text; read = read; findings = findings; is = is; lines = lines; are_lines = are; written = w })
+-- a run of lint that read its text and wrote its findings
+pub lint_run : (base_file out : Device) (path text : List ℕ) → IsTextOfFile base_file text → (policy : Policy) (format : Format) (findings : List FindingView)
+    → IsLint text policy findings → (printed : List ℕ) → ArePrinted format path text findings printed
+    → (r : Result Counts RunFault) → IsTextWritten out printed (counts_of findings) r → IsLintRun base_file out path policy format r
+lint_run base_file out path text read policy format findings is printed are =
+    by_answer out printed (counts_of findings) (IsLintRun base_file out path policy format)
+    (λ s w. record { text = text; read = read; findings = findings; is = is; printed = printed; are_printed = are; written = w })
+    (λ wrote w. record { text = text; read = read; findings = findings; is = is; printed = printed; are_printed = are; written = w })
     (λ none. (text_within base_file text read, none))

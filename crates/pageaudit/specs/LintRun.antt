@@ -6,7 +6,9 @@ use Rattle.audit_report.specs.declared.run_fault.RunFault.TheVariants as run
 use Rattle.lint.specs.declared.counts.Counts.{Counts}
 use Rattle.lint.specs.declared.finding.Level.{Level}
 use Rattle.lint.specs.declared.finding.Level.TheVariants.{Error, Warning}
-use Rattle.lint.specs.Findings.{FindingView, count_of, AreFindingLines}
+use Rattle.lint.specs.Findings.{FindingView, count_of}
+use Rattle.finding_forms.specs.declared.format.Format.{Format}
+use Rattle.finding_forms.specs.Forms.{ArePrinted}
 use Rattle.lint.specs.Lint.{IsLint}
 use Rattle.pageaudit.specs.Files.{Device, IsUntouched, IsTextWritten, base_limit, IsTextOfFile, IsBaseBroken, IsReadWithin}
 use Rattle.pageaudit.specs.Status.{fault_number}
@@ -14,24 +16,24 @@ use Rattle.pageaudit.specs.Status.{fault_number}
 abbrev pub counts_of : List FindingView → Counts
 counts_of findings = record { errors = count_of Error findings; warnings = count_of Warning findings }
 
--- the base's file was read, the lines of all findings in its text were written, and the answer is their numbers, or a write
+-- the base's file was read, all findings in its text were written in the form, and the answer is their numbers, or a write
 -- fault with the number of bytes written
-pub record IsLinted (base_file out : Device) (path : List ℕ) (policy : Policy) (answer : Result Counts RunFault) : Type 0 where
+pub record IsLinted (base_file out : Device) (path : List ℕ) (policy : Policy) (format : Format) (answer : Result Counts RunFault) : Type 0 where
   pub text : List ℕ
   pub read : IsTextOfFile base_file text
   pub findings : List FindingView
   pub is : IsLint text policy findings
-  pub lines : List ℕ
-  pub are_lines : AreFindingLines path text findings lines
-  pub written : IsTextWritten out lines (counts_of findings) answer
+  pub printed : List ℕ
+  pub are_printed : ArePrinted format path text findings printed
+  pub written : IsTextWritten out printed (counts_of findings) answer
 
 -- a run by its answer: the numbers of findings, or the first fault of a device
-abbrev pub IsLintRun : Device → Device → List ℕ → Policy → Result Counts RunFault → Type 0
-IsLintRun base_file out path policy (Ok counts) = IsLinted base_file out path policy (Ok counts)
-IsLintRun base_file out path policy (Err run.ReadBase) = IsBaseBroken base_file × IsUntouched out
-IsLintRun base_file out path policy (Err (run.Write wrote)) = IsLinted base_file out path policy (Err (run.Write wrote))
-IsLintRun base_file out path policy (Err run.Memory) = IsReadWithin base_limit base_file × IsUntouched out
-IsLintRun base_file out path policy (Err _) = ⊥
+abbrev pub IsLintRun : Device → Device → List ℕ → Policy → Format → Result Counts RunFault → Type 0
+IsLintRun base_file out path policy format (Ok counts) = IsLinted base_file out path policy format (Ok counts)
+IsLintRun base_file out path policy format (Err run.ReadBase) = IsBaseBroken base_file × IsUntouched out
+IsLintRun base_file out path policy format (Err (run.Write wrote)) = IsLinted base_file out path policy format (Err (run.Write wrote))
+IsLintRun base_file out path policy format (Err run.Memory) = IsReadWithin base_limit base_file × IsUntouched out
+IsLintRun base_file out path policy format (Err _) = ⊥
 
 -- there is a finding of this level or a worse one
 abbrev pub reaches : Level → Counts → Bool

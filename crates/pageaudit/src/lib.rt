@@ -19,7 +19,7 @@
 //! - [`run_show`], [`Target`], [`Form`], [`ShowStatus`], [`status_of_show`]: the screen of a frame or after keys, and the exit
 //!   status for it; [`read_keys`] reads the keys.
 //! - [`run_list`]: a line for each frame of a base.
-//! - [`run_lint`], [`status_of_lint`]: every finding in a base's file, and the exit status for them.
+//! - [`run_lint`], [`Format`], [`status_of_lint`]: every finding in a base's file, in a form, and the exit status for them.
 //! - [`run_map`], [`View`], [`MapStatus`], [`status_of_map`]: the map of a base, and the exit status for it.
 //! - [`Status`], [`status_of`]: the result of another run, and the program's exit status for it.
 #![tactic(auto)]
@@ -42,6 +42,7 @@ pub use audit_run::{run_audit, run_audit_into};
 pub use base_map::View;
 pub use change_run::run_change;
 pub use check_run::run_check;
+pub use finding_forms::Format;
 pub use lint::{Counts, Level, counted_text};
 pub use lint_run::{run_lint, status_of_lint};
 pub use list_run::run_list;

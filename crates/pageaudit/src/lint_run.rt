@@ -6,15 +6,12 @@ use crate::status::status_of;
 use audit_report::{RunFault, Sink, Source, SourceFault, read_whole, write_whole};
 use base_text::MOST_TEXT;
 use checker::Policy;
-use lint::{Counts, Finding, Level, lint, lint_text};
+use finding_forms::{Format, findings_text};
+use lint::{Counts, Finding, Level, lint};
 use std::alloc::Global;
 
 // Writes the lines of findings; returns how many findings there are if all lines were taken and flushed.
-fn write_lines<O: Sink>(
-    out: &mut O,
-    lines: &[u8],
-    findings: &[Finding],
-) -> Result<Counts, RunFault>
+fn write_lines<O: Sink>(out: &mut O, lines: &[u8], findings: &[Finding]) -> Result<Counts, RunFault>
     requires { (O.seen out.old).failed ≡ false }
     ensures { IsTextWritten (device O.seen out.old out.new) lines.now (counts_of findings.now) result }
 {
@@ -24,8 +21,8 @@ fn write_lines<O: Sink>(
     }
 }
 
-/// Finds every fault of a base's file, and the frames that no key reaches, and writes a line for each under the path that is
-/// given; if nothing is found nothing is written.
+/// Finds every fault of a base's file, and the frames that no key reaches, and writes each in this form under the path that
+/// is given; if nothing is found nothing is written.
 ///
 /// The file is read whole first: one byte more than a base may have is enough. A fault of its text is a finding and no fault of
 /// the run. On every fault except `Write`, nothing was written. A device is not called again after it returned an error.
@@ -35,10 +32,11 @@ pub fn run_lint<B: Source, O: Sink>(
     out: &mut O,
     path: &str,
     policy: &Policy,
+    format: Format,
 ) -> Result<Counts, RunFault>
     requires base_open { (B.seen base.old).failed ≡ false }
     requires out_open { (O.seen out.old).failed ≡ false }
-    ensures { IsLintRun (device B.seen base.old base.new) (device O.seen out.old out.new) path.now policy.now result }
+    ensures { IsLintRun (device B.seen base.old base.new) (device O.seen out.old out.new) path.now policy.now format result }
 {
     let text = match read_whole(alloc, base, MOST_TEXT + 1) {
         Ok(text) => text,
@@ -48,8 +46,9 @@ pub fn run_lint<B: Source, O: Sink>(
     let Ok(findings) = lint(alloc, text.as_slice(), policy) else {
         return Err(RunFault::Memory);
     };
-    match lint_text(
+    match findings_text(
         alloc,
+        format,
         path.as_bytes(),
         text.as_slice(),
         findings.as_slice(),

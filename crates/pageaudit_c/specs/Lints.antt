@@ -2,7 +2,9 @@
 use Rattle.std.specs.Prelude.{◌≡◌, ◌⊎◌, ◌==◌, ℕ, if◌then◌else◌, List}
 use Rattle.checker.specs.declared.policy.Policy.{Policy}
 use Rattle.lint.specs.declared.finding.Level.TheVariants.{Error}
-use Rattle.lint.specs.Findings.{FindingView, count_of, AreFindingLines}
+use Rattle.lint.specs.Findings.{FindingView, count_of}
+use Rattle.finding_forms.specs.declared.format.Format.TheVariants.{Line}
+use Rattle.finding_forms.specs.Forms.{ArePrinted}
 use Rattle.lint.specs.Lint.{IsLint}
 use Rattle.pageaudit_c.specs.declared.status.Status.{Status}
 use Rattle.pageaudit_c.specs.declared.status.Status.TheVariants.{Clear, Faulty}
@@ -17,7 +19,7 @@ pub record AreFindingsPrinted (name base_text : List ℕ) (policy : Policy) (sta
   pub findings : List FindingView
   pub are : IsLint base_text policy findings
   pub status_is : status ≡ status_of_findings findings
-  pub lines : AreFindingLines name base_text findings text
+  pub lines : ArePrinted Line name base_text findings text
 
 -- the answer of lint for a text, under the name that is printed before each line
 abbrev pub IsLintAnswer : List ℕ → List ℕ → Policy → Status → List ℕ → Type 0

@@ -6,7 +6,8 @@ use crate::answer::{Answer, bad_policy, lay_over, out_of_memory};
 use crate::policy::policy_of;
 use crate::status::Status;
 use checker::Policy;
-use lint::{Counts, Finding, lint, lint_text};
+use finding_forms::{Format, findings_text};
+use lint::{Counts, Finding, lint};
 use std::alloc::Global;
 
 // Faulty if and only if there is an error.
@@ -28,7 +29,7 @@ fn linted(alloc: Global, name: &[u8], text: &[u8], policy: &Policy) -> Answer
         Ok(findings) => findings,
         Err(_) => return out_of_memory(alloc),
     };
-    match lint_text(alloc, name, text, findings.as_slice()) {
+    match findings_text(alloc, Format::Line, name, text, findings.as_slice()) {
         Ok(lines) => Answer {
             status: status_of_findings(findings.as_slice()),
             text: lines,

@@ -3,7 +3,7 @@
 use crate::expected::{ALL, policy, sink, source, taken};
 use audit_report::RunFault;
 use checker::Policy;
-use pageaudit::{Counts, Level, run_lint, status_of_lint};
+use pageaudit::{Counts, Format, Level, run_lint, status_of_lint};
 use std::alloc::Global;
 use std::test::Fail;
 use test_support::same_in;
@@ -19,7 +19,7 @@ type Linted = (Result<Counts, RunFault>, u8, u32, u32, usize);
 fn linted(alloc: Global, kept: usize, room: usize, policy: &Policy) -> Linted {
     let mut base = source(TEXT, ALL, kept);
     let mut out = sink(alloc, LINE, room);
-    let answer = run_lint(alloc, &mut base, &mut out, "x/b.toml", policy);
+    let answer = run_lint(alloc, &mut base, &mut out, "x/b.toml", policy, Format::Line);
     let status = status_of_lint(&answer, Level::Error);
     (answer, status, base.calls, out.flushes, taken(&out, LINE))
 }
@@ -62,8 +62,19 @@ fn a_text_at_fault_is_read_once(rt: HostRuntime) -> Result<(), Fail> {
     let line = "b.toml:1:1: error: X4 Absent: the base needs a key 'entry', its page\n";
     let mut base = source("", ALL, ALL);
     let mut out = sink(rt.alloc(), line, ALL);
-    let answer = run_lint(rt.alloc(), &mut base, &mut out, "b.toml", &policy(50, 3)?);
-    let told = (status_of_lint(&answer, Level::Error), base.calls, out.flushes);
+    let answer = run_lint(
+        rt.alloc(),
+        &mut base,
+        &mut out,
+        "b.toml",
+        &policy(50, 3)?,
+        Format::Line,
+    );
+    let told = (
+        status_of_lint(&answer, Level::Error),
+        base.calls,
+        out.flushes,
+    );
     same_in("no entry", told, (1, 1, 1))
 }
 
@@ -81,7 +92,11 @@ const STATUSES: [(usize, usize, Level, u8); 6] = [
 fn warnings_count_if_they_are_denied() -> Result<(), Fail> {
     for (errors, warnings, denied, status) in STATUSES {
         let counts = Counts { errors, warnings };
-        same_in((errors, warnings), status_of_lint(&Ok(counts), denied), status)?;
+        same_in(
+            (errors, warnings),
+            status_of_lint(&Ok(counts), denied),
+            status,
+        )?;
     }
     Ok(())
 }

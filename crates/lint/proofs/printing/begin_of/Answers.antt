@@ -1,6 +1,0 @@
-use Rattle.std.proofs.Common.{ap}
-use Rattle.toml_places.specs.declared.text_lines.Extent.{Extent}
-use Rattle.lint.proofs.printing.begin_of.Goals as goal
-
-pub returns : goal.returns
-returns c = ap (λ (e : Extent). (e.line, e.column)) c.extent-extent.ensures

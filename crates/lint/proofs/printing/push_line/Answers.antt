@@ -1,5 +1,0 @@
-use Rattle.lint.proofs.Printed.{always}
-use Rattle.lint.proofs.printing.push_line.Goals as goal
-
-pub returns-clause-is_line : goal.returns-clause-is_line
-returns-clause-is_line c = always c.extend_from_slice.result c.in_ok-push_line_text.ensures.is_line

@@ -1,6 +1,0 @@
-use Rattle.lint.proofs.Printed.{always, IsLine-place}
-use Rattle.lint.proofs.printing.push_place.Goals as goal
-
-pub returns-clause-is_line : goal.returns-clause-is_line
-returns-clause-is_line c =
-    always c.push_part-2.result (IsLine-place c.args.path.now c.args.line c.args.column c.as_str.ensures.line c.ranges.line.fits c.ranges.column.fits)
