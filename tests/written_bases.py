@@ -380,6 +380,8 @@ class Written:
         """What of a value the words are about."""
         if "at most 22 are allowed" in words:
             return 22, "value"
+        if " more character" in words:
+            return ()
         if found := re.search(r"character ([\d,]+) of row ([\d,]+) of", words):
             return *(int(found[group].replace(",", "")) - 1 for group in (2, 1)), "character"
         if found := re.search(r"character ([\d,]+) of \"body\"", words):
@@ -610,10 +612,24 @@ class FaultyText(Written):
             frame.fault("text", words, "body")
             return
         before = self.pick([0, 1, 11, 999, 1_500])
-        code, shown = self.pick(FAR_CODES)
-        frame.fields["body"] = "\xa3\t" * (before // 2) + "A" * (before % 2) + code + self.pick(["", "\u2019", "B"])
-        where = f'character {before + 1:,} of "body" of {{F}}'
-        frame.fault("text", f"X6 Range: {where} is {shown}, at most U+00FF is allowed", "body")
+        text = "\xa3\t" * (before // 2) + "A" * (before % 2)
+        frame.fields["body"] = self.add_codes(
+            frame, text, FAR_CODES, ["body"], "X6 Range", '"body" of {F}', ("at most U+00FF is allowed", "above U+00FF")
+        )
+
+    def add_codes(self, frame, text, codes, keys, code, where, ends):
+        """A text with refused characters added. Ten have a fault of their own, and the eleventh one for the others."""
+        places = []
+        for _ in range(self.pick([1, 1, 1, 2, 10, 11, 12, 30])):
+            c, shown = self.pick(codes)
+            places.append(len(text))
+            if len(places) <= 10:
+                frame.fault("text", f"{code}: character {len(text) + 1:,} of {where} is {shown}, {ends[0]}", keys[0])
+            text += c + self.pick(["", "", "B", "\x80~"])
+        if more := places[10:]:
+            words = f"{len(more):,} more character{'s' * (len(more) > 1)} {ends[1]}"
+            frame.fault("text", f"{code}: {where} has {words}", *keys, more[0], "character")
+        return text
 
     def spoil_rows(self, frame):
         if self.chance(0.2):
@@ -637,15 +653,16 @@ class FaultyText(Written):
             frame.fault("text", words, "rows")
             return
         before = self.pick([0, 1, 39, 40])
-        code, shown = self.pick([*CODES, *FAR_CODES])
-        has_code = share < 0.6
-        rows[number] = "A" * before + (code + self.pick(["", "\xa3"]) if has_code else "B" * self.pick([41, 1_000]))
+        first = len(frame.faults.get("text", []))
+        if share < 0.6:
+            ends = "which no row may have", "that no row may have"
+            codes, keys = [*CODES, *FAR_CODES], ["rows", number]
+            rows[number] = self.add_codes(frame, "A" * before, codes, keys, "X9 RowCode", name, ends)
+        else:
+            rows[number] = "A" * before + "B" * self.pick([41, 1_000])
         if len(rows[number]) > 40:
             words = f"X8 RowTooLong: {name} has {len(rows[number]):,} characters, at most 40 are allowed"
-            frame.fault("text", words, "rows")
-        if has_code:
-            words = f"X9 RowCode: character {before + 1} of {name} is {shown}, which no row may have"
-            frame.fault("text", words, "rows")
+            frame.faults.setdefault("text", []).insert(first, (("rows",), words))
 
     def spoil_whole(self, right):
         """Faults of the base as a whole, of frames without a fault of their own: B5, B3, B1, B2."""

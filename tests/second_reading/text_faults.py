@@ -14,6 +14,7 @@ KEYS_OF_A_FRAME = ["id", "price", "group", "next", "routes", "lead", "body", "ro
 assert set(KEYS_OF_A_FRAME) == FRAME_KEYS
 MOST_ROWS = 22
 MOST_FAULTS = 1_000
+MOST_CODES = 10
 
 
 def wrong_kind(name, value, needed):
@@ -124,26 +125,34 @@ def lead_flaw(lead, name):
 def text_flaws(table, name):
     if "body" in table and "rows" in table:
         yield ("later_key", "body", "rows"), f'X7 BodyAndRows: {name} has both "body" and "rows", leave out one'
-    if "body" in table and (flaw := body_flaw(table["body"], name)):
-        yield flaw
+    if "body" in table:
+        yield from body_flaws(table["body"], name)
     if "rows" in table:
         yield from rows_flaws(table["rows"], name)
     if "body" not in table and "rows" not in table:
         yield ("header",), f'X4 Absent: {name} has no "body" and no "rows"'
 
 
-def body_flaw(body, name):
+def body_flaws(body, name):
+    here = f'"body" of {name}'
     if not isinstance(body, str):
-        return ("value", "body"), wrong_kind(f'"body" of {name}', body, "a string")
-    if not (far := re.search(r"[^\x00-\xff]", body)):
-        return None
-    c, at = far[0], counted(far.start() + 1)
-    words = f'X6 Range: character {at} of "body" of {name} is {code(c)}, at most U+00FF is allowed'
-    return ("character", "body", far.start()), words
+        yield ("value", "body"), wrong_kind(here, body, "a string")
+        return
+    for at, words in code_flaws(r"[^\x00-\xff]", body, here, "at most U+00FF is allowed", "above U+00FF"):
+        yield ("character", "body", at), f"X6 Range: {words}"
+
+
+def code_flaws(refused, text, here, needed, others):
+    """The first characters of a text that are refused, each with its place, then how many more there are."""
+    found = list(re.finditer(refused, text))
+    for bad in found[:MOST_CODES]:
+        yield bad.start(), f"character {counted(bad.start() + 1)} of {here} is {code(bad[0])}, {needed}"
+    if more := found[MOST_CODES:]:
+        yield more[0].start(), f"{here} has {number_of(len(more), 'more character', 'more characters')} {others}"
 
 
 def rows_flaws(rows, name):
-    """Of each row its kind, or its length and its first code that no row may have."""
+    """Of each row its kind, or its length and the codes that no row may have."""
     if not isinstance(rows, list):
         yield ("value", "rows"), wrong_kind(f'"rows" of {name}', rows, "a list of strings")
         return
@@ -158,10 +167,8 @@ def rows_flaws(rows, name):
             continue
         if len(row) > 40:
             yield piece, f"X8 RowTooLong: {here} has {counted(len(row))} characters, at most 40 are allowed"
-        if bad := re.search(r"[^\x20-\x9f]", row):
-            c, at = bad[0], counted(bad.start() + 1)
-            words = f"X9 RowCode: character {at} of {here} is {code(c)}, which no row may have"
-            yield ("character", "rows", number - 1, bad.start()), words
+        for at, words in code_flaws(r"[^\x20-\x9f]", row, here, "which no row may have", "that no row may have"):
+            yield ("character", "rows", number - 1, at), f"X9 RowCode: {words}"
 
 
 def outside_read(tree):

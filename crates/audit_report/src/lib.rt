@@ -7,7 +7,7 @@
 //!
 //! - [`report`], [`verdict_text`], [`change_text`], [`walk_text`], [`entry_text`], [`fault_text`]: each printed text, byte for byte as it is
 //!   defined.
-//! - [`RunFault`]: why a run ends without its work done.
+//! - [`Status`]: whether what was judged is clear. [`RunFault`]: why a run ends without its work done.
 //!
 //! - [`list`], [`Listing`]: the text of `list`, a line for each frame: the frames that a caller can reach, in the order of their
 //!   discovery, and then the others, in the order of their ids. Its memory is taken before its first line is written.
@@ -25,6 +25,7 @@ mod reached;
 mod report_lines;
 mod run_fault;
 mod script;
+mod status;
 mod verdict_line;
 mod walk_lines;
 
@@ -36,5 +37,6 @@ pub use laws::lists_every_frame;
 pub use listing::{Listing, list};
 pub use report_lines::report;
 pub use run_fault::RunFault;
+pub use status::Status;
 pub use verdict_line::{change_text, verdict_text};
 pub use walk_lines::{entry_text, walk_text};

@@ -1,3 +1,4 @@
 pub mod Rows
 pub mod Ways
 pub mod Cells
+pub mod Painted

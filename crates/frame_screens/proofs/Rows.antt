@@ -161,7 +161,7 @@ frames_above (f ∷ fs) t p clean v inside before = frames_above fs (with_frame 
 keeps_rows : (fs : List Frame) → AllByRecursion IsCleanFrame fs → (t : Screen) → IsScreen t → KeepsServiceRows t fs
 keeps_rows fs clean t v = record { rows = λ p inside. frames_rows fs t p clean v inside; above = λ p inside before. frames_above fs t p clean v inside before }
 
-new_is_screen : IsScreen new_terminal
+pub new_is_screen : IsScreen new_terminal
 new_is_screen = record { cells = length-replicate {A = ℕ} 960 32; at = omega arith }
 
 blank_either : (b : Bool) (n : ℕ) → n ≡ 32 → cond b 32 n ≡ 32
@@ -228,7 +228,7 @@ bytes_alike t u bytes v w same =
       pending = ap (λ (c : Caret). c.pending) both.ends;
     }
 
-frames_alike : (t u : Screen) (fs : List Frame) → IsScreen t → IsScreen u → LooksSame t u → LooksSame (with_frames t fs) (with_frames u fs)
+pub frames_alike : (t u : Screen) (fs : List Frame) → IsScreen t → IsScreen u → LooksSame t u → LooksSame (with_frames t fs) (with_frames u fs)
 frames_alike t u [] v w same = same
 frames_alike t u (f ∷ fs) v w same =
     let lead = lead_codes f.lead in

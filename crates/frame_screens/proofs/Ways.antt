@@ -166,6 +166,13 @@ module _ (caller : List ℕ) (base : BaseView) (found : List Discovered) (finds 
       ap (frames_sent caller base) first ∙ ap (λ (x : Id). x ∷ []) entry
   sent_by_parent i d (Some a) at parent = (after_parent i d a at parent).1
 
+  pub parent_before : (i : ℕ) (d : Discovered) (a : ℕ) → slice_get found i ≡ Some d → d.parent ≡ Some a → a < i
+  parent_before i d a at parent = (after_parent i d a at parent).0
+
+  -- the frame is sent last
+  pub last_sent : (place : ℕ) (d : Discovered) → slice_get found place ≡ Some d → last_of (sent_to place) ≡ Some d.id
+  last_sent place d at = (there caller base (script found place) (entry_of base) d.id [] (scripts.leads place d at)).1
+
   pub parent_is_listed : (i : ℕ) (d : Discovered) (a : ℕ) → slice_get found i ≡ Some d → d.parent ≡ Some a
       → a < length found
   parent_is_listed i d a at parent = omega (arith, (after_parent i d a at parent).0, slice_get_within found i d at)

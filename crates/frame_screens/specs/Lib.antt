@@ -1,3 +1,4 @@
 pub mod Frames
 pub mod Screens
 pub mod Laws
+pub mod Painted

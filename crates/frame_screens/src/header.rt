@@ -10,6 +10,7 @@ use crate::sending::terminal_after;
 use arrayvec::{ArrayString, ArrayVec};
 use frame_records::{Base, Frame, Pence};
 use itoa::Buffer;
+use terminal_codes::Terminal;
 
 // The blank cells of a row.
 const BLANK: [u8; 40] = [0x20; 40];
@@ -84,6 +85,14 @@ fn with_rows(top: &[u8], cells: &[u8; 960]) -> [u8; 960]
     codes
 }
 
+// The 960 codes of a terminal with the centre's rows, after this frame.
+pub fn screen_with(frame: Option<&Frame>, terminal: &Terminal) -> [u8; 960]
+    ensures { result ≡ with_rows (top_by (option_copied frame.entry)) terminal.now.cells }
+{
+    let top = top_by(frame);
+    with_rows(top.as_slice(), terminal.cells())
+}
+
 /// The 960 codes of the screen after the frames, with the centre's rows: in row 0 the last frame's id, ending at column 34, and
 /// its price, as `5p`, ending at column 39; row 23 is empty.
 ///
@@ -91,7 +100,5 @@ fn with_rows(top: &[u8], cells: &[u8; 960]) -> [u8; 960]
 pub fn screen(base: &Base, frames: &FrameList) -> [u8; 960]
     ensures { result ≡ screen_codes base.now frames.now }
 {
-    let terminal = terminal_after(base, frames);
-    let top = top_by(base.find(frames.last()));
-    with_rows(top.as_slice(), terminal.cells())
+    screen_with(base.find(frames.last()), &terminal_after(base, frames))
 }

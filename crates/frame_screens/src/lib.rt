@@ -11,6 +11,7 @@
 //! - [`frames_after`], [`NoScreen`]: the frames that a session's keys show, or why there is no screen at its end.
 //! - [`FrameList`]: frames in the order in which they are sent, at least one.
 //! - [`screen`], [`terminal_after`], [`send`]: what they leave on a new terminal, with the centre's rows and without.
+//! - [`Painter`]: the screens of all frames that are reached, one after another, each from its parent's terminal.
 //! - [`nearest`]: the frame that was probably meant by an id that the base lacks.
 //! - [`headline_is_seen`]: rows 0 and 23 of a cleared base's screens; [`frames_decide`], [`ways_lead_there`]: laws.
 #![tactic(auto)]
@@ -20,6 +21,7 @@ mod keyed;
 mod laws;
 mod list;
 mod near;
+mod painter;
 mod sending;
 mod way;
 
@@ -28,5 +30,6 @@ pub use keyed::{NoScreen, frames_after};
 pub use laws::{frames_decide, headline_is_seen, ways_lead_there};
 pub use list::FrameList;
 pub use near::nearest;
+pub use painter::Painter;
 pub use sending::{send, terminal_after};
 pub use way::{way_at, way_to};

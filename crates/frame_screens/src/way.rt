@@ -16,7 +16,8 @@ fn place_of(found: &Found, id: FrameId) -> Option<usize>
     found.as_slice().iter().position(|frame| frame.id == id)
 }
 
-fn reached_at<'a>(survey: &'a Survey, place: usize) -> &'a Discovered
+// A frame in the list of those that are reached.
+pub fn reached_at<'a>(survey: &'a Survey, place: usize) -> &'a Discovered
     requires { place < length survey.now.found }
     ensures { slice_get survey.now.found place ≡ Some result.now }
 {

@@ -14,7 +14,7 @@ use Rattle.base_text.specs.declared.keys.TableKind.{TableKind}
 use Rattle.base_text.specs.declared.keys.TableKind.TheVariants as kind
 use Rattle.base_text.specs.Fields.{field_name, digit_key}
 use Rattle.base_text.specs.declared.detail.Detail.{Detail}
-use Rattle.base_text.specs.declared.detail.Detail.TheVariants.{UnknownKey, Absent, WrongKind, WrongItem, Number, ItemNumber, Lead, BodyCode, TooManyRows, BodyAndRows, RowTooLong, RowCode, BadFrame}
+use Rattle.base_text.specs.declared.detail.Detail.TheVariants.{UnknownKey, Absent, WrongKind, WrongItem, Number, ItemNumber, Lead, BodyCode, MoreBodyCodes, TooManyRows, BodyAndRows, RowTooLong, RowCode, MoreRowCodes, BadFrame}
 use Rattle.base_text.specs.declared.detail.TextFault.{TextFault}
 use Rattle.base_text.specs.declared.whole_fault.WholeFault.{WholeFault}
 use Rattle.base_text.specs.declared.whole_fault.WholeFault.TheVariants.{TooManyFrames, TooManyOutside, BodyTooLong, NextAfterZ, Duplicate, OutsideInside}
@@ -135,11 +135,13 @@ module _ (stand : SpansStand) where
     detail_at_lies (ItemNumber f n z) = listed_lies f n
     detail_at_lies (Lead text) = value_of_lies (codes "lead")
     detail_at_lies (BodyCode n c) = body_char_lies (n - 1)
+    detail_at_lies (MoreBodyCodes n more) = body_char_lies (n - 1)
     detail_at_lies (TooManyRows n) = row_lies 23
     detail_at_lies BodyAndRows =
         later_lies t.text (key_of t (codes "body")) (key_of t (codes "rows")) (key_at_lies (t.key (codes "body"))) (key_at_lies (t.key (codes "rows")))
     detail_at_lies (RowTooLong n length) = row_lies n
     detail_at_lies (RowCode n i c) = map_lies t.text (row_at t n) (char_of t (i - 1)) (char_lies (i - 1)) (row_lies n)
+    detail_at_lies (MoreRowCodes n i more) = map_lies t.text (row_at t n) (char_of t (i - 1)) (char_lies (i - 1)) (row_lies n)
     detail_at_lies (BadFrame text) = value_of_lies (codes "id")
 
     shown_lies : Lies t.text (shown_at t)

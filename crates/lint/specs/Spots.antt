@@ -12,7 +12,7 @@ use Rattle.base_text.specs.declared.keys.TableKind.{TableKind}
 use Rattle.base_text.specs.declared.keys.TableKind.TheVariants as kind
 use Rattle.base_text.specs.Fields.{field_name, digit_key}
 use Rattle.base_text.specs.declared.detail.Detail.{Detail}
-use Rattle.base_text.specs.declared.detail.Detail.TheVariants.{UnknownKey, Absent, WrongKind, WrongItem, Number, ItemNumber, Lead, BodyCode, TooManyRows, BodyAndRows, RowTooLong, RowCode, BadFrame}
+use Rattle.base_text.specs.declared.detail.Detail.TheVariants.{UnknownKey, Absent, WrongKind, WrongItem, Number, ItemNumber, Lead, BodyCode, MoreBodyCodes, TooManyRows, BodyAndRows, RowTooLong, RowCode, MoreRowCodes, BadFrame}
 use Rattle.base_text.specs.declared.whole_fault.WholeFault.{WholeFault}
 use Rattle.base_text.specs.declared.whole_fault.WholeFault.TheVariants.{TooManyFrames, TooManyOutside, BodyTooLong, NextAfterZ, Duplicate, OutsideInside}
 use Rattle.fault_scripts.specs.declared.fault.Fault.{Fault}
@@ -104,10 +104,12 @@ detail_at t (Number f z) = value_of t (field_name f)
 detail_at t (ItemNumber f n z) = listed_at t f n
 detail_at t (Lead text) = value_of t (codes "lead")
 detail_at t (BodyCode n c) = body_char t (n - 1)
+detail_at t (MoreBodyCodes n more) = body_char t (n - 1)
 detail_at t (TooManyRows n) = row_at t 23
 detail_at t BodyAndRows = later (key_of t (codes "body")) (key_of t (codes "rows"))
 detail_at t (RowTooLong n length) = row_at t n
 detail_at t (RowCode n i c) = row_char t n i
+detail_at t (MoreRowCodes n i more) = row_char t n i
 detail_at t (BadFrame text) = value_of t (codes "id")
 
 abbrev pub detail_span : TableView → Detail → Span

@@ -157,11 +157,15 @@ fn detail_at(table: &TableSpots<'_>, detail: &Detail) -> Option<Span>
         Detail::Number(field, _) => value_of(table, field.name()),
         Detail::ItemNumber(field, number, _) => listed_at(table, *field, *number),
         Detail::Lead(_) => value_of(table, "lead"),
-        Detail::BodyCode(number, _) => body_char(table, number.saturating_sub(1)),
+        Detail::BodyCode(number, _) | Detail::MoreBodyCodes(number, _) => {
+            body_char(table, number.saturating_sub(1))
+        }
         Detail::TooManyRows(_) => row_at(table, 23),
         Detail::BodyAndRows => later(key_of(table, "body"), key_of(table, "rows")),
         Detail::RowTooLong(row, _) => row_at(table, *row),
-        Detail::RowCode(row, number, _) => row_char(table, *row, *number),
+        Detail::RowCode(row, number, _) | Detail::MoreRowCodes(row, number, _) => {
+            row_char(table, *row, *number)
+        }
         Detail::BadFrame(_) => value_of(table, "id"),
     }
 }

@@ -79,6 +79,48 @@ fn what_has_no_fault_is_kept(rt: HostRuntime) -> Result<(), Fail> {
     same(kept(&whole), (Some(1), 2, [0, 1].as_slice(), 0))
 }
 
+// Ten refused characters of a row, with their numbers, as a draft shows them.
+const TEN_CODES: &str = "Some(0) 1a RowCode(1, 1, 'À')
+Some(0) 1a RowCode(1, 2, 'Á')
+Some(0) 1a RowCode(1, 4, 'Â')
+Some(0) 1a RowCode(1, 5, 'Ã')
+Some(0) 1a RowCode(1, 6, 'Ä')
+Some(0) 1a RowCode(1, 7, 'Å')
+Some(0) 1a RowCode(1, 8, 'Æ')
+Some(0) 1a RowCode(1, 9, 'Ç')
+Some(0) 1a RowCode(1, 10, 'È')
+Some(0) 1a RowCode(1, 11, 'É')
+";
+
+#[test]
+fn of_refused_characters_ten_are_listed_and_the_others_counted(
+    rt: HostRuntime,
+) -> Result<(), Fail> {
+    let rows = [
+        ("ÀÁ.ÂÃÄÅÆÇÈÉ", ""),
+        ("ÀÁ.ÂÃÄÅÆÇÈÉ.Ê", "Some(0) 1a MoreRowCodes(1, 13, 1)\n"),
+        ("ÀÁ.ÂÃÄÅÆÇÈÉ.ÊË.ÌÍ", "Some(0) 1a MoreRowCodes(1, 13, 4)\n"),
+    ];
+    for (row, more) in rows {
+        let text = format!(in rt.alloc();
+            "entry = 1\nframe = [{{ id = '1a', rows = ['{row}'] }}]"
+        )?;
+        let wanted = format!(in rt.alloc(); "{TEN_CODES}{more}")?;
+        same_in(
+            row,
+            faults(rt.alloc(), text.as_str())?.as_str(),
+            wanted.as_str(),
+        )?;
+    }
+    let body = "entry = 1\nframe = [{ id = '1a', body = 'ĀĀĀĀĀĀĀĀĀĀ.ĀĀ' }]";
+    let found = faults(rt.alloc(), body)?;
+    same(found.as_str().lines().count(), 11)?;
+    same(
+        found.as_str().lines().last(),
+        Some("Some(0) 1a MoreBodyCodes(12, 2)"),
+    )
+}
+
 // What is wrong at the top, each alone; the second is what is found there.
 #[test]
 fn faults_of_the_top_show_what_was_found(rt: HostRuntime) -> Result<(), Fail> {
@@ -149,7 +191,7 @@ fn faults_of_a_frame_show_what_was_found(rt: HostRuntime) -> Result<(), Fail> {
         ),
         (
             "id = '1a', body = 'a\u{FF}\u{100}\u{101}'",
-            "Some(0) 1a BodyCode(3, 'Ā')\n",
+            "Some(0) 1a BodyCode(3, 'Ā')\nSome(0) 1a BodyCode(4, 'ā')\n",
         ),
         (
             "id = '1a', rows = 'a'",
@@ -157,7 +199,7 @@ fn faults_of_a_frame_show_what_was_found(rt: HostRuntime) -> Result<(), Fail> {
         ),
         (
             "id = '1a', rows = [1, 'a\u{E9}a\u{E8}']",
-            "Some(0) 1a WrongItem(Rows, 1, Integer)\nSome(0) 1a RowCode(2, 2, 'é')\n",
+            "Some(0) 1a WrongItem(Rows, 1, Integer)\nSome(0) 1a RowCode(2, 2, 'é')\nSome(0) 1a RowCode(2, 4, 'è')\n",
         ),
         (
             "id = '1a', rows = ['0123456789012345678901234567890123456789', '0123456789012345678901234567890123456789\u{E9}']",

@@ -138,9 +138,26 @@ fn a_character_is_as_it_is_written(rt: HostRuntime) -> Result<(), Fail> {
         ("body = '''\n\t\\\u{20AC}'''\n", "\u{20AC}"),
         (
             "rows = [\"ok\", # \"\n'\\u', \"\\x41\\u00E9\\tb\"]\n",
-            "\\u00E9",
+            "\\u00E9|\\t",
         ),
         ("rows = [\"\"\"\nA\\\n  B\\t\"\"\", 'C\tD']\n", "\\t|\t"),
+    ];
+    in_frame(rt.alloc(), &rows)
+}
+
+#[test]
+fn each_refused_character_has_its_place_and_the_eleventh_is_for_the_others(
+    rt: HostRuntime,
+) -> Result<(), Fail> {
+    let rows = [
+        (
+            "rows = [\"\u{E0}\u{E1} \u{E2}\u{E3}\u{E4}\u{E5}\u{E6}\\u00E7\u{E8}\u{E9}\\u00EA\u{EB}\"]\n",
+            "\u{E0}|\u{E1}|\u{E2}|\u{E3}|\u{E4}|\u{E5}|\u{E6}|\\u00E7|\u{E8}|\u{E9}|\\u00EA",
+        ),
+        (
+            "body = '\u{E9}0123456789ABCDEFGHIJKL\u{20AC}\u{20AD}'\n",
+            "\u{20AC}|\u{20AD}",
+        ),
     ];
     in_frame(rt.alloc(), &rows)
 }

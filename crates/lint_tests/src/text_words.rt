@@ -272,6 +272,22 @@ fn characters_are_shown_with_their_code_points(rt: HostRuntime) -> Result<(), Fa
             "X9 RowCode: character 1 of row 1 of frame 1b is U+00A0, which no row may have; write a space",
         ),
         (
+            Detail::MoreRowCodes(4, 1_011, 1),
+            "X9 RowCode: row 4 of frame 1b has 1 more character that no row may have",
+        ),
+        (
+            Detail::MoreRowCodes(4, 11, 1_234),
+            "X9 RowCode: row 4 of frame 1b has 1,234 more characters that no row may have",
+        ),
+        (
+            Detail::MoreBodyCodes(11, 1),
+            "X6 Range: \"body\" of frame 1b has 1 more character above U+00FF",
+        ),
+        (
+            Detail::MoreBodyCodes(11, 2),
+            "X6 Range: \"body\" of frame 1b has 2 more characters above U+00FF",
+        ),
+        (
             Detail::BodyCode(1_501, '\u{2026}'),
             "X6 Range: character 1,501 of \"body\" of frame 1b is \u{2026} (U+2026), at most U+00FF is allowed",
         ),

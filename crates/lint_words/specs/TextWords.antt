@@ -6,7 +6,7 @@ use Rattle.base_text.specs.declared.keys.Field.TheVariants as field
 use Rattle.base_text.specs.declared.keys.TableKind.{TableKind}
 use Rattle.base_text.specs.declared.keys.TableKind.TheVariants as table
 use Rattle.base_text.specs.declared.detail.Detail.{Detail}
-use Rattle.base_text.specs.declared.detail.Detail.TheVariants.{UnknownKey, Absent, WrongKind, WrongItem, Number, ItemNumber, Lead, BodyCode, TooManyRows, BodyAndRows, RowTooLong, RowCode, BadFrame}
+use Rattle.base_text.specs.declared.detail.Detail.TheVariants.{UnknownKey, Absent, WrongKind, WrongItem, Number, ItemNumber, Lead, BodyCode, MoreBodyCodes, TooManyRows, BodyAndRows, RowTooLong, RowCode, MoreRowCodes, BadFrame}
 use Rattle.base_text.specs.declared.detail.ValueKind.{ValueKind}
 use Rattle.base_text.specs.declared.detail.ValueKind.TheVariants as value
 use Rattle.base_text.specs.declared.detail.TextFault.{TextFault}
@@ -112,6 +112,17 @@ row_code_words row n c id =
     codes "character " ++ (grouped n ++ (codes " of " ++ (item_text field.Rows row id ++ (codes " is " ++
     (char_text c ++ codes ", which no row may have")))))
 
+-- how many more characters are refused
+abbrev pub more_body_codes_words : ℕ → Option Id → List ℕ
+more_body_codes_words n id =
+    key_subject field.Body id ++ (codes " has " ++ (number_of n (codes "more character") (codes "more characters") ++
+    codes " above U+00FF"))
+
+abbrev pub more_row_codes_words : ℕ → ℕ → Option Id → List ℕ
+more_row_codes_words row n id =
+    item_text field.Rows row id ++ (codes " has " ++ (number_of n (codes "more character") (codes "more characters") ++
+    codes " that no row may have"))
+
 abbrev pub bad_frame_words : List ℕ → List ℕ
 bad_frame_words text =
     quoted text ++ codes " is not a frame id"
@@ -131,10 +142,12 @@ detail_words frame id (Number f z) = range_words f z id
 detail_words frame id (ItemNumber f n z) = item_range_words f n z id
 detail_words frame id (Lead text) = lead_words text id
 detail_words frame id (BodyCode n c) = body_code_words n c id
+detail_words frame id (MoreBodyCodes n more) = more_body_codes_words more id
 detail_words frame id (TooManyRows n) = too_many_rows_words n id
 detail_words frame id BodyAndRows = body_and_rows_words id
 detail_words frame id (RowTooLong row n) = long_row_words row n id
 detail_words frame id (RowCode row n c) = row_code_words row n c id
+detail_words frame id (MoreRowCodes row n more) = more_row_codes_words row more id
 detail_words frame id (BadFrame text) = bad_frame_words text
 
 -- how many faults of a frame's table or of the top aren't listed
@@ -152,10 +165,12 @@ code_of (Number f z) = code.Range
 code_of (ItemNumber f n z) = code.Range
 code_of (Lead text) = code.Range
 code_of (BodyCode n c) = code.Range
+code_of (MoreBodyCodes n more) = code.Range
 code_of (TooManyRows n) = code.Range
 code_of BodyAndRows = code.BodyAndRows
 code_of (RowTooLong row n) = code.RowTooLong
 code_of (RowCode row n c) = code.RowCode
+code_of (MoreRowCodes row n more) = code.RowCode
 code_of (BadFrame text) = code.BadFrame
 
 -- what is wrong; of a fault that is listed for all others of its table, how many these are

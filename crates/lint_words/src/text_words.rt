@@ -1,7 +1,7 @@
 ghost use Rattle.std.specs.Prelude.{◌≡◌, ◌++◌, IfOk, OnOk};
 ghost use Rattle.base_text.specs.declared.detail.Detail.TheVariants.{WrongKind};
 ghost use Rattle.lint_words.specs.KeyPieces.{key_subject, item_text};
-ghost use Rattle.lint_words.specs.TextWords.{kind_text, needed_text, item_needed, unknown_text, unknown_words, absent_words, no_table_words, is_element, misfit_words, wrong_kind_words, wrong_item_words, range_words, item_range_words, lead_words, body_code_words, too_many_rows_words, body_and_rows_words, long_row_words, row_code_words, bad_frame_words, detail_words, unlisted_words, code_of, message_of, text_fault_words, too_long_words, not_toml_words};
+ghost use Rattle.lint_words.specs.TextWords.{kind_text, needed_text, item_needed, unknown_text, unknown_words, absent_words, no_table_words, is_element, misfit_words, wrong_kind_words, wrong_item_words, range_words, item_range_words, lead_words, body_code_words, too_many_rows_words, body_and_rows_words, long_row_words, row_code_words, more_body_codes_words, more_row_codes_words, bad_frame_words, detail_words, unlisted_words, code_of, message_of, text_fault_words, too_long_words, not_toml_words};
 
 use crate::code::Code;
 use crate::line::Line;
@@ -298,6 +298,45 @@ fn push_row_code(
     )
 }
 
+// How many characters of the body, beyond those that are reported, are no bytes.
+fn push_more_body_codes(
+    out: &mut Vec<u8>,
+    more: usize,
+    id: Option<FrameId>,
+) -> Result<(), AllocError>
+    ensures { OnOk result (out.new.items ≡ out.old.items ++ more_body_codes_words more id) }
+{
+    push_pieces(
+        out,
+        &[
+            Subject(Field::Body, id),
+            Text(" has "),
+            Count(more, "more character", "more characters"),
+            Text(" above U+00FF"),
+        ],
+    )
+}
+
+// How many characters of a row, beyond those that are reported, no row may have.
+fn push_more_row_codes(
+    out: &mut Vec<u8>,
+    row: usize,
+    more: usize,
+    id: Option<FrameId>,
+) -> Result<(), AllocError>
+    ensures { OnOk result (out.new.items ≡ out.old.items ++ more_row_codes_words row more id) }
+{
+    push_pieces(
+        out,
+        &[
+            Item(Field::Rows, row, id),
+            Text(" has "),
+            Count(more, "more character", "more characters"),
+            Text(" that no row may have"),
+        ],
+    )
+}
+
 fn push_bad_frame(out: &mut Vec<u8>, text: &str) -> Result<(), AllocError>
     ensures { OnOk result (out.new.items ≡ out.old.items ++ bad_frame_words text.now) }
 {
@@ -344,10 +383,12 @@ fn push_detail(out: &mut Vec<u8>, fault: &TextFault) -> Result<(), AllocError>
         Detail::ItemNumber(field, n, number) => push_item_range(out, *field, *n, *number, id),
         Detail::Lead(text) => push_lead(out, text.as_str(), id),
         Detail::BodyCode(n, c) => push_body_code(out, *n, *c, id),
+        Detail::MoreBodyCodes(_, more) => push_more_body_codes(out, *more, id),
         Detail::TooManyRows(count) => push_too_many_rows(out, *count, id),
         Detail::BodyAndRows => push_body_and_rows(out, id),
         Detail::RowTooLong(row, length) => push_long_row(out, *row, *length, id),
         Detail::RowCode(row, n, c) => push_row_code(out, *row, *n, *c, id),
+        Detail::MoreRowCodes(row, _, more) => push_more_row_codes(out, *row, *more, id),
         Detail::BadFrame(text) => push_bad_frame(out, text.as_str()),
     }
 }
@@ -377,10 +418,11 @@ fn code_of(detail: &Detail) -> Code
         | Detail::ItemNumber(_, _, _)
         | Detail::Lead(_)
         | Detail::BodyCode(_, _)
+        | Detail::MoreBodyCodes(_, _)
         | Detail::TooManyRows(_) => Code::Range,
         Detail::BodyAndRows => Code::BodyAndRows,
         Detail::RowTooLong(_, _) => Code::RowTooLong,
-        Detail::RowCode(_, _, _) => Code::RowCode,
+        Detail::RowCode(_, _, _) | Detail::MoreRowCodes(_, _, _) => Code::RowCode,
         Detail::BadFrame(_) => Code::BadFrame,
     }
 }

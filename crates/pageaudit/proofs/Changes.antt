@@ -9,8 +9,9 @@ use Rattle.checker.specs.declared.change.ChangeVerdict.{ChangeVerdict}
 use Rattle.checker.specs.declared.change.ChangeVerdict.TheVariants as change
 use Rattle.checker.specs.Change.{change_verdict, IsSafeChange}
 use Rattle.audit_report.specs.declared.run_fault.RunFault.{RunFault}
-use Rattle.pageaudit.specs.declared.status.Status.{Status}
-use Rattle.pageaudit.specs.declared.status.Status.TheVariants.{Clear}
+use Rattle.audit_report.specs.Statuses.{status_of_change}
+use Rattle.audit_report.specs.declared.status.Status.{Status}
+use Rattle.audit_report.specs.declared.status.Status.TheVariants.{Clear}
 use Rattle.pageaudit.specs.declared.file_fault.FileFault.TheVariants as file
 use Rattle.pageaudit.specs.declared.edition.EditionFault.{EditionFault}
 use Rattle.pageaudit.specs.declared.edition.EditionFault.TheVariants as edition
@@ -18,7 +19,7 @@ use Rattle.pageaudit.specs.Files.{Device, device, IsUntouched, base_limit, cert_
 use Rattle.pageaudit.proofs.Within.{untouched_within, base_within, cert_within}
 use Rattle.pageaudit.proofs.Runs.{by_answer}
 use Rattle.pageaudit.specs.FileFaults.{old_fault, new_fault}
-use Rattle.pageaudit.specs.ChangeRun.{EditionFiles, IsEditionOf, IsEditionFault, AreUntouched, AreReadWithin, IsOfEditions, IsVerdictWritten, IsChangeRun, HoldsOfChange, status_of_change}
+use Rattle.pageaudit.specs.ChangeRun.{EditionFiles, IsEditionOf, IsEditionFault, AreUntouched, AreReadWithin, IsOfEditions, IsVerdictWritten, IsChangeRun, HoldsOfChange}
 
 -- a device that was not called
 pub untouched : {D : Type 0} (seen : D → Seen) (d : D) → (seen d).failed ≡ false → IsUntouched (device seen d d)

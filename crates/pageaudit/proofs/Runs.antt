@@ -11,11 +11,12 @@ use Rattle.audit_report.specs.ReportLines.{report_text}
 use Rattle.audit_report.specs.Listing.{IsListText}
 use Rattle.base_map.specs.declared.view.View.{View}
 use Rattle.base_map.specs.Windows.{IsViewed}
-use Rattle.pageaudit.specs.declared.status.Status.{Status}
+use Rattle.audit_report.specs.Statuses.{status_of_outcome}
+use Rattle.audit_report.specs.declared.status.Status.{Status}
 use Rattle.pageaudit.specs.declared.map_run.MapStatus.{MapStatus}
 use Rattle.pageaudit.specs.declared.map_run.MapStatus.TheVariants.{Drawn}
 use Rattle.pageaudit.specs.Files.{Device, IsUntouched, IsTextWritten, IsTextOfFile, IsBaseOfFile, IsBaseRun}
-use Rattle.pageaudit.specs.AuditRun.{IsAuditRun, IsAuditIntoRun, IsSplitWritten, status_of_outcome}
+use Rattle.pageaudit.specs.AuditRun.{IsAuditRun, IsAuditIntoRun, IsSplitWritten}
 use Rattle.pageaudit.specs.ListRun.{IsListRun, status_of_entry}
 use Rattle.pageaudit.specs.MapRun.{IsMapRun, IsMapWritten}
 use Rattle.pageaudit.specs.declared.show_run.Target.{Target}

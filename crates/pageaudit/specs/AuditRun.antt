@@ -7,14 +7,10 @@ use Rattle.fault_scripts.specs.declared.outcome.Outcome.TheVariants.{Certified, 
 use Rattle.fault_scripts.specs.Outcomes.{IsOutcomeOf}
 use Rattle.audit_report.specs.declared.run_fault.RunFault.{RunFault}
 use Rattle.audit_report.specs.ReportLines.{report_text}
-use Rattle.pageaudit.specs.declared.status.Status.{Status}
-use Rattle.pageaudit.specs.declared.status.Status.TheVariants as status
+use Rattle.audit_report.specs.Statuses.{status_of_outcome}
+use Rattle.audit_report.specs.declared.status.Status.{Status}
+use Rattle.audit_report.specs.declared.status.Status.TheVariants as status
 use Rattle.pageaudit.specs.Files.{Device, IsUntouched, IsTextWritten, IsBaseRun}
-
--- clear if and only if there is a certificate
-abbrev pub status_of_outcome : Outcome → Status
-status_of_outcome (Certified cert) = status.Clear
-status_of_outcome (Faulty faults) = status.Faulty
 
 -- `Written` holds of the base's outcome and the answer
 pub record IsOutcomeWritten (Written : Outcome → Result Status RunFault → Type 0) (policy : Policy) (base : BaseView) (answer : Result Status RunFault) : Type 0 where

@@ -9,8 +9,9 @@ use Rattle.checker.specs.Change.{change_verdict, IsSafeChange}
 use Rattle.audit_report.specs.declared.run_fault.RunFault.{RunFault}
 use Rattle.audit_report.specs.declared.run_fault.RunFault.TheVariants as run
 use Rattle.audit_report.specs.Lines.{change_text}
-use Rattle.pageaudit.specs.declared.status.Status.{Status}
-use Rattle.pageaudit.specs.declared.status.Status.TheVariants.{Clear, Faulty}
+use Rattle.audit_report.specs.Statuses.{status_of_change}
+use Rattle.audit_report.specs.declared.status.Status.{Status}
+use Rattle.audit_report.specs.declared.status.Status.TheVariants.{Clear, Faulty}
 use Rattle.pageaudit.specs.declared.edition.EditionFault.{EditionFault}
 use Rattle.pageaudit.specs.declared.edition.EditionFault.TheVariants as part
 use Rattle.pageaudit.specs.Files.{Device, IsUntouched, IsTextWritten, base_limit, cert_limit, IsBaseOfFile, IsCertOfFile, IsBaseTextFault, IsCertTextFault, IsBaseBroken, IsCertBroken, IsReadWithin, IsBaseFileFault, IsCertFileFault}
@@ -45,11 +46,6 @@ AreReadWithin files = IsReadWithin base_limit files.base × IsReadWithin cert_li
 -- nothing was read of either file
 abbrev pub AreUntouched : EditionFiles → Type 0
 AreUntouched files = IsUntouched files.base × IsUntouched files.cert
-
--- the status of a verdict: clear for Cleared, and faulty for everything else
-abbrev pub status_of_change : ChangeVerdict → Status
-status_of_change change.Cleared = Clear
-status_of_change _ = Faulty
 
 -- all four files were read to their ends and are right; `What` holds of the two editions
 pub record IsOfEditions (old_files new_files : EditionFiles) (What : BaseView → CertView → BaseView → CertView → Type 0) : Type 0 where

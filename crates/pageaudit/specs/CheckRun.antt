@@ -10,14 +10,10 @@ use Rattle.checker.specs.Headline.{Headline}
 use Rattle.audit_report.specs.declared.run_fault.RunFault.{RunFault}
 use Rattle.audit_report.specs.declared.run_fault.RunFault.TheVariants as run
 use Rattle.audit_report.specs.Lines.{verdict_text}
-use Rattle.pageaudit.specs.declared.status.Status.{Status}
-use Rattle.pageaudit.specs.declared.status.Status.TheVariants.{Clear, Faulty}
+use Rattle.audit_report.specs.Statuses.{status_of_verdict}
+use Rattle.audit_report.specs.declared.status.Status.{Status}
+use Rattle.audit_report.specs.declared.status.Status.TheVariants.{Clear, Faulty}
 use Rattle.pageaudit.specs.Files.{Device, IsUntouched, IsTextWritten, base_limit, cert_limit, WasRead, IsBaseOfFile, IsCertOfFile, IsBaseTextFault, IsCertTextFault, IsBaseBroken, IsCertBroken, IsReadWithin}
-
--- the status of a verdict: clear for Cleared, and faulty for everything else
-abbrev pub status_of_verdict : Verdict → Status
-status_of_verdict Cleared = Clear
-status_of_verdict (Refused cause) = Faulty
 
 -- both files were read to their ends and are right; the line of their verdict was written, and the answer is its status, or
 -- a write fault with the number of bytes written

@@ -3,8 +3,8 @@ use Rattle.std.specs.Prelude.{ℕ, Bool, List, Result, if◌then◌else◌}
 use Rattle.frame_records.specs.Bases.{BaseView}
 use Rattle.audit_report.specs.declared.run_fault.RunFault.{RunFault}
 use Rattle.audit_report.specs.Listing.{IsListText}
-use Rattle.pageaudit.specs.declared.status.Status.{Status}
-use Rattle.pageaudit.specs.declared.status.Status.TheVariants.{Clear, Faulty}
+use Rattle.audit_report.specs.declared.status.Status.{Status}
+use Rattle.audit_report.specs.declared.status.Status.TheVariants.{Clear, Faulty}
 use Rattle.pageaudit.specs.Files.{Device, IsUntouched, IsTextWritten, IsBaseRun}
 
 -- clear if and only if the entry frame is found

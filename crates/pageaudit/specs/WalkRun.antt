@@ -12,8 +12,8 @@ use Rattle.session_machine.specs.Runs.{session_of}
 use Rattle.audit_report.specs.declared.run_fault.RunFault.{RunFault}
 use Rattle.audit_report.specs.declared.run_fault.RunFault.TheVariants as run
 use Rattle.audit_report.specs.Lines.{walk_text, entry_text}
-use Rattle.pageaudit.specs.declared.status.Status.{Status}
-use Rattle.pageaudit.specs.declared.status.Status.TheVariants.{Clear, Faulty}
+use Rattle.audit_report.specs.declared.status.Status.{Status}
+use Rattle.audit_report.specs.declared.status.Status.TheVariants.{Clear, Faulty}
 use Rattle.pageaudit.specs.Files.{Device, IsUntouched, IsTextWritten, base_limit, IsReadWithin, IsBaseRun}
 
 -- what a session prints: a line for each reply, or the line of an entry frame that isn't found

@@ -1,26 +1,16 @@
 ghost use Rattle.std.specs.Prelude.{◌≡◌, false};
 ghost use Rattle.audit_report.specs.ReportLines.{report_text};
+ghost use Rattle.audit_report.specs.Statuses.{status_of_outcome};
 ghost use Rattle.pageaudit.specs.Files.{device, IsTextWritten};
-ghost use Rattle.pageaudit.specs.AuditRun.{IsAuditRun, IsAuditIntoRun, IsSplitWritten, status_of_outcome};
+ghost use Rattle.pageaudit.specs.AuditRun.{IsAuditRun, IsAuditIntoRun, IsSplitWritten};
 
 use crate::file_fault::base_fault;
 use crate::input::read_base;
 use crate::output::write_text;
-use crate::status::Status;
-use audit_report::{RunFault, Sink, Source, report};
+use audit_report::{RunFault, Sink, Source, Status, report};
 use checker::Policy;
 use fault_scripts::{Outcome, audit};
 use std::alloc::Global;
-
-// Clear if and only if there is a certificate.
-fn status_of_outcome(outcome: &Outcome) -> Status
-    ensures { result ≡ status_of_outcome outcome.now }
-{
-    match outcome {
-        Outcome::Certified(_) => Status::Clear,
-        Outcome::Faulty(_) => Status::Faulty,
-    }
-}
 
 // Writes the report of an outcome.
 fn write_report<O: Sink>(alloc: Global, out: &mut O, outcome: &Outcome) -> Result<Status, RunFault>
@@ -29,7 +19,7 @@ fn write_report<O: Sink>(alloc: Global, out: &mut O, outcome: &Outcome) -> Resul
         (status_of_outcome outcome.now) result }
 {
     match report(alloc, outcome) {
-        Ok(text) => write_text(out, text.as_slice(), status_of_outcome(outcome)),
+        Ok(text) => write_text(out, text.as_slice(), Status::of_outcome(outcome)),
         Err(_) => Err(RunFault::Memory),
     }
 }

@@ -1,24 +1,14 @@
 ghost use Rattle.std.specs.Prelude.{◌≡◌, false};
 ghost use Rattle.audit_report.specs.Lines.{change_text};
+ghost use Rattle.audit_report.specs.Statuses.{status_of_change};
 ghost use Rattle.pageaudit.specs.Files.{device, IsTextWritten};
-ghost use Rattle.pageaudit.specs.ChangeRun.{IsChangeRun, HoldsOfChange, edition, status_of_change};
+ghost use Rattle.pageaudit.specs.ChangeRun.{IsChangeRun, HoldsOfChange, edition};
 
 use crate::edition::{new_fault, old_fault, read_edition};
 use crate::output::write_text;
-use crate::status::Status;
-use audit_report::{RunFault, Sink, Source, change_text};
+use audit_report::{RunFault, Sink, Source, Status, change_text};
 use checker::{ChangeVerdict, Policy, check_change};
 use std::alloc::Global;
-
-// Clear for Cleared, and Faulty for everything else.
-fn status_of_change(verdict: &ChangeVerdict) -> Status
-    ensures { result ≡ status_of_change verdict.now }
-{
-    match verdict {
-        ChangeVerdict::Cleared => Status::Clear,
-        _ => Status::Faulty,
-    }
-}
 
 // Writes the line of a verdict.
 fn write_change<O: Sink>(
@@ -31,7 +21,7 @@ fn write_change<O: Sink>(
         (status_of_change verdict.now) result }
 {
     match change_text(alloc, verdict) {
-        Ok(text) => write_text(out, text.as_slice(), status_of_change(verdict)),
+        Ok(text) => write_text(out, text.as_slice(), Status::of_change(verdict)),
         Err(_) => Err(RunFault::Memory),
     }
 }

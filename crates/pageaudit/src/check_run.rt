@@ -1,13 +1,13 @@
 ghost use Rattle.std.specs.Prelude.{◌≡◌, false};
 ghost use Rattle.audit_report.specs.Lines.{verdict_text};
+ghost use Rattle.audit_report.specs.Statuses.{status_of_verdict};
 ghost use Rattle.pageaudit.specs.Files.{device, IsTextWritten};
-ghost use Rattle.pageaudit.specs.CheckRun.{IsCheckRun, HoldsOfFiles, status_of_verdict};
+ghost use Rattle.pageaudit.specs.CheckRun.{IsCheckRun, HoldsOfFiles};
 
 use crate::file_fault::{base_fault, cert_fault};
 use crate::input::{read_base, read_cert};
 use crate::output::write_text;
-use crate::status::{Status, status_of_verdict};
-use audit_report::{RunFault, Sink, Source, verdict_text};
+use audit_report::{RunFault, Sink, Source, Status, verdict_text};
 use checker::{Policy, Verdict, check};
 use std::alloc::Global;
 
@@ -18,7 +18,7 @@ fn write_verdict<O: Sink>(alloc: Global, out: &mut O, verdict: &Verdict) -> Resu
         (status_of_verdict verdict.now) result }
 {
     match verdict_text(alloc, verdict) {
-        Ok(text) => write_text(out, text.as_slice(), status_of_verdict(verdict)),
+        Ok(text) => write_text(out, text.as_slice(), Status::of_verdict(verdict)),
         Err(_) => Err(RunFault::Memory),
     }
 }

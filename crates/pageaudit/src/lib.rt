@@ -38,6 +38,7 @@ mod show_run;
 mod status;
 mod walk_run;
 
+pub use audit_report::Status;
 pub use audit_run::{run_audit, run_audit_into};
 pub use base_map::View;
 pub use change_run::run_change;
@@ -48,5 +49,5 @@ pub use lint_run::{run_lint, status_of_lint};
 pub use list_run::run_list;
 pub use map_run::{MapStatus, run_map, status_of_map};
 pub use show_run::{Form, ShowStatus, Target, run_show, status_of_show};
-pub use status::{Status, status_of};
+pub use status::status_of;
 pub use walk_run::{read_keys, run_walk};

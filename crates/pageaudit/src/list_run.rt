@@ -4,8 +4,7 @@ ghost use Rattle.pageaudit.specs.ListRun.{IsListRun, status_of_entry};
 
 use crate::file_fault::base_fault;
 use crate::input::read_base;
-use crate::status::Status;
-use audit_report::{Listing, RunFault, Sink, Source, list};
+use audit_report::{Listing, RunFault, Sink, Source, Status, list};
 use frame_records::Groups;
 use std::alloc::Global;
 

@@ -6,8 +6,7 @@ ghost use Rattle.pageaudit.specs.WalkRun.{IsWalkRun, IsKeysAnswer, IsSessionAnsw
 use crate::file_fault::base_fault;
 use crate::input::read_base;
 use crate::output::write_text;
-use crate::status::Status;
-use audit_report::{RunFault, Sink, Source, entry_text, walk_text};
+use audit_report::{RunFault, Sink, Source, Status, entry_text, walk_text};
 use frame_records::{Base, Groups};
 use page_ids::{IdFault, KeyList, keys_read};
 use session_machine::{OpenFault, Reply, Session};

@@ -7,17 +7,12 @@ use Rattle.checker.specs.declared.bytes.InputFault.TheVariants as input
 use Rattle.checker.specs.Headline.{IsBaseRefused}
 use Rattle.base_text.specs.declared.fault.BaseFault.{BaseFault}
 use Rattle.fault_scripts.specs.declared.outcome.Outcome.{Outcome}
-use Rattle.fault_scripts.specs.declared.outcome.Outcome.TheVariants.{Certified, Faulty}
 use Rattle.fault_scripts.specs.Outcomes.{IsOutcomeOf}
 use Rattle.audit_report.specs.ReportLines.{report_text}
 use Rattle.pageaudit_c.specs.declared.status.Status.{Status}
-use Rattle.pageaudit_c.specs.declared.status.Status.TheVariants as status
+use Rattle.audit_report.specs.Statuses.{status_of_outcome}
+use Rattle.pageaudit_c.specs.Status.{of_judged}
 use Rattle.pageaudit_c.specs.Calls.{IsOutOfMemory, IsFaultAnswer}
-
--- clear if and only if there is a certificate
-abbrev pub status_of_outcome : Outcome → Status
-status_of_outcome (Certified cert) = status.Clear
-status_of_outcome (Faulty faults) = status.Faulty
 
 -- the text is that of a base, and its outcome was reported
 pub record IsReported (base_text : List ℕ) (policy : Policy) (due : Status) (text : List ℕ) : Type 0 where
@@ -25,7 +20,7 @@ pub record IsReported (base_text : List ℕ) (policy : Policy) (due : Status) (t
   pub of_base : IsTextBase base_text base
   pub outcome : Outcome
   pub is : IsOutcomeOf base policy outcome
-  pub status_is : due ≡ status_of_outcome outcome
+  pub status_is : due ≡ of_judged (status_of_outcome outcome)
   pub report : text ≡ report_text outcome
 
 -- the text is that of no base: its first fault

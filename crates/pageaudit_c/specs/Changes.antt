@@ -5,14 +5,13 @@ use Rattle.base_text.specs.Whole.{IsTextBase}
 use Rattle.cert_table.specs.Table.{CertView}
 use Rattle.cert_text.specs.Grammar.{IsCertificateText}
 use Rattle.checker.specs.declared.policy.Policy.{Policy}
-use Rattle.checker.specs.declared.change.ChangeVerdict.{ChangeVerdict}
-use Rattle.checker.specs.declared.change.ChangeVerdict.TheVariants as change
 use Rattle.checker.specs.declared.bytes.InputFault.{InputFault}
 use Rattle.checker.specs.Change.{change_verdict, IsSafeChange}
 use Rattle.checker.specs.Headline.{IsInputFault}
 use Rattle.audit_report.specs.Lines.{change_text}
 use Rattle.pageaudit_c.specs.declared.status.Status.{Status}
-use Rattle.pageaudit_c.specs.declared.status.Status.TheVariants.{Clear, Faulty}
+use Rattle.audit_report.specs.Statuses.{status_of_change}
+use Rattle.pageaudit_c.specs.Status.{of_judged}
 use Rattle.pageaudit_c.specs.Calls.{IsAnswer, IsFaultAnswer, IsNewFaultAnswer}
 
 -- the texts of an edition
@@ -28,13 +27,6 @@ pub record IsEditionOf (texts : EditionTexts) (base : BaseView) (cert : CertView
   pub of_base : IsTextBase texts.base base
   pub of_cert : IsCertificateText texts.cert cert
 
-abbrev pub status_of_change : ChangeVerdict → Status
-status_of_change change.Cleared = Clear
-status_of_change (change.Old cause) = Faulty
-status_of_change (change.New cause) = Faulty
-status_of_change change.EntryMoved = Faulty
-status_of_change (change.NoLongerCovered id) = Faulty
-
 -- the line of the verdict on two editions
 pub record IsVerdictAnswer (old_texts new_texts : EditionTexts) (policy : Policy) (status : Status) (text : List ℕ) : Type 0 where
   pub old : BaseView
@@ -43,7 +35,7 @@ pub record IsVerdictAnswer (old_texts new_texts : EditionTexts) (policy : Policy
   pub new_cert : CertView
   pub of_old : IsEditionOf old_texts old old_cert
   pub of_new : IsEditionOf new_texts new new_cert
-  pub answer : IsAnswer (status_of_change (change_verdict policy old old_cert new new_cert)) (change_text (change_verdict policy old old_cert new new_cert)) status text
+  pub answer : IsAnswer (of_judged (status_of_change (change_verdict policy old old_cert new new_cert))) (change_text (change_verdict policy old old_cert new new_cert)) status text
 
 -- the line of the first fault in the old edition's texts
 pub record IsOldFaultAnswer (old_texts : EditionTexts) (status : Status) (text : List ℕ) : Type 0 where

@@ -2,21 +2,17 @@
 use Rattle.std.specs.Prelude.{ℕ, List, Result, Ok, Err}
 use Rattle.checker.specs.declared.policy.Policy.{Policy}
 use Rattle.checker.specs.declared.verdict.Verdict.{Verdict}
-use Rattle.checker.specs.declared.verdict.Verdict.TheVariants.{Cleared, Refused}
 use Rattle.checker.specs.declared.bytes.InputFault.{InputFault}
 use Rattle.checker.specs.Headline.{IsChecked}
 use Rattle.audit_report.specs.Lines.{verdict_text}
 use Rattle.pageaudit_c.specs.declared.status.Status.{Status}
-use Rattle.pageaudit_c.specs.declared.status.Status.TheVariants.{Clear, Faulty}
+use Rattle.audit_report.specs.Statuses.{status_of_verdict}
+use Rattle.pageaudit_c.specs.Status.{of_judged}
 use Rattle.pageaudit_c.specs.Calls.{IsAnswer, IsFaultAnswer}
-
-abbrev pub status_of_verdict : Verdict → Status
-status_of_verdict Cleared = Clear
-status_of_verdict (Refused cause) = Faulty
 
 -- the verdict's line, or that of the first fault in the texts
 abbrev pub IsResultAnswer : Result Verdict InputFault → Status → List ℕ → Type 0
-IsResultAnswer (Ok verdict) status text = IsAnswer (status_of_verdict verdict) (verdict_text verdict) status text
+IsResultAnswer (Ok verdict) status text = IsAnswer (of_judged (status_of_verdict verdict)) (verdict_text verdict) status text
 IsResultAnswer (Err fault) status text = IsFaultAnswer fault status text
 
 -- the answer of the check of two texts

@@ -1,7 +1,14 @@
 -- Statuses as numbers and as words.
 use Rattle.std.specs.Prelude.{◌==◌, ℕ, if◌then◌else◌, List, [], codes}
+use Rattle.audit_report.specs.declared.status.Status.{Status as Judged}
+use Rattle.audit_report.specs.declared.status.Status.TheVariants as judged
 use Rattle.pageaudit_c.specs.declared.status.Status.{Status}
 use Rattle.pageaudit_c.specs.declared.status.Status.TheVariants.{Clear, Faulty, BadPolicy, BadText, OutOfMemory}
+
+-- what a judgment comes to
+abbrev pub of_judged : Judged → Status
+of_judged judged.Clear = Clear
+of_judged judged.Faulty = Faulty
 
 -- the program's exit status for the same texts
 abbrev pub number_of : Status → ℕ

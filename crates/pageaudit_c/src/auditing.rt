@@ -1,26 +1,17 @@
 ghost use Rattle.std.specs.Prelude.{◌≡◌, ◌⊎◌};
 ghost use Rattle.base_text.specs.Whole.{IsTextBase};
+ghost use Rattle.audit_report.specs.Statuses.{status_of_outcome};
 ghost use Rattle.pageaudit_c.specs.Calls.{IsOutOfMemory, asked, IsAskedAnswer, IsCall, buffer};
-ghost use Rattle.pageaudit_c.specs.Audits.{status_of_outcome, IsReported, IsAuditAnswer};
+ghost use Rattle.pageaudit_c.specs.Audits.{IsReported, IsAuditAnswer};
 
 use crate::answer::{Answer, bad_policy, fault_answer, lay_over, out_of_memory};
 use crate::policy::policy_of;
 use crate::status::Status;
 use audit_report::report;
 use checker::{Policy, base_of};
-use fault_scripts::{Outcome, audit};
+use fault_scripts::audit;
 use frame_records::Base;
 use std::alloc::Global;
-
-// Clear if and only if there is a certificate.
-fn status_of_outcome(outcome: &Outcome) -> Status
-    ensures { result ≡ status_of_outcome outcome.now }
-{
-    match outcome {
-        Outcome::Certified(_) => Status::Clear,
-        Outcome::Faulty(_) => Status::Faulty,
-    }
-}
 
 // The report of the base of a text.
 fn reported(alloc: Global, base: &Base, policy: &Policy, text: &[u8]) -> Answer
@@ -33,7 +24,7 @@ fn reported(alloc: Global, base: &Base, policy: &Policy, text: &[u8]) -> Answer
     };
     match report(alloc, &outcome) {
         Ok(text) => Answer {
-            status: status_of_outcome(&outcome),
+            status: Status::of(audit_report::Status::of_outcome(&outcome)),
             text,
         },
         Err(_) => out_of_memory(alloc),

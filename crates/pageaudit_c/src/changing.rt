@@ -1,9 +1,11 @@
 ghost use Rattle.std.specs.Prelude.{◌≡◌, IfOk, IfErr};
 ghost use Rattle.checker.specs.Headline.{IsInputFault};
 ghost use Rattle.audit_report.specs.Lines.{change_text};
+ghost use Rattle.audit_report.specs.Statuses.{status_of_change};
 ghost use Rattle.pageaudit_c.specs.declared.status.Status.TheVariants.{Clear};
+ghost use Rattle.pageaudit_c.specs.Status.{of_judged};
 ghost use Rattle.pageaudit_c.specs.Calls.{IsAnswer, asked, HoldsForPolicy, IsAskedAnswer, IsCall, buffer};
-ghost use Rattle.pageaudit_c.specs.Changes.{edition, IsEditionOf, status_of_change, IsVerdictAnswer, IsChangeAnswer, IsSafeChangeOf};
+ghost use Rattle.pageaudit_c.specs.Changes.{edition, IsEditionOf, IsVerdictAnswer, IsChangeAnswer, IsSafeChangeOf};
 
 use crate::answer::{Answer, bad_policy, fault_answer, lay_over, new_fault_answer, out_of_memory};
 use crate::policy::policy_of;
@@ -42,24 +44,14 @@ fn edition_of(alloc: Global, texts: Texts<'_>) -> Result<Edition, InputFault>
     }
 }
 
-fn status_of_change(verdict: &ChangeVerdict) -> Status
-    ensures status { result ≡ status_of_change verdict.now }
-    ensures clear { result ≡ Clear → verdict.now ≡ ChangeVerdict.Cleared }
-{
-    match verdict {
-        ChangeVerdict::Cleared => Status::Clear,
-        _ => Status::Faulty,
-    }
-}
-
 // The line of a verdict.
 fn verdict_answer(alloc: Global, verdict: &ChangeVerdict) -> Answer
-    ensures answer { IsAnswer (status_of_change verdict.now) (change_text verdict.now) result.status result.text.items }
+    ensures answer { IsAnswer (of_judged (status_of_change verdict.now)) (change_text verdict.now) result.status result.text.items }
     ensures clear { result.status ≡ Clear → verdict.now ≡ ChangeVerdict.Cleared }
 {
     match change_text(alloc, verdict) {
         Ok(text) => Answer {
-            status: status_of_change(verdict),
+            status: Status::of(audit_report::Status::of_change(verdict)),
             text,
         },
         Err(_) => out_of_memory(alloc),

@@ -1,9 +1,11 @@
 ghost use Rattle.std.specs.Prelude.{◌≡◌};
 ghost use Rattle.checker.specs.Headline.{Headline};
 ghost use Rattle.audit_report.specs.Lines.{verdict_text};
+ghost use Rattle.audit_report.specs.Statuses.{status_of_verdict};
 ghost use Rattle.pageaudit_c.specs.declared.status.Status.TheVariants.{Clear};
+ghost use Rattle.pageaudit_c.specs.Status.{of_judged};
 ghost use Rattle.pageaudit_c.specs.Calls.{IsAnswer, asked, HoldsForPolicy, IsAskedAnswer, IsCall, buffer};
-ghost use Rattle.pageaudit_c.specs.Checks.{status_of_verdict, IsResultAnswer, IsCheckAnswer};
+ghost use Rattle.pageaudit_c.specs.Checks.{IsResultAnswer, IsCheckAnswer};
 
 use crate::answer::{Answer, bad_policy, fault_answer, lay_over, out_of_memory};
 use crate::policy::policy_of;
@@ -12,22 +14,13 @@ use audit_report::verdict_text;
 use checker::{InputFault, Policy, Verdict, check_bytes};
 use std::alloc::Global;
 
-fn status_of_verdict(verdict: &Verdict) -> Status
-    ensures { result ≡ status_of_verdict verdict.now }
-{
-    match verdict {
-        Verdict::Cleared => Status::Clear,
-        Verdict::Refused(_) => Status::Faulty,
-    }
-}
-
 // The line of a verdict.
 fn verdict_answer(alloc: Global, verdict: &Verdict) -> Answer
-    ensures { IsAnswer (status_of_verdict verdict.now) (verdict_text verdict.now) result.status result.text.items }
+    ensures { IsAnswer (of_judged (status_of_verdict verdict.now)) (verdict_text verdict.now) result.status result.text.items }
 {
     match verdict_text(alloc, verdict) {
         Ok(text) => Answer {
-            status: status_of_verdict(verdict),
+            status: Status::of(audit_report::Status::of_verdict(verdict)),
             text,
         },
         Err(_) => out_of_memory(alloc),

@@ -15,7 +15,17 @@ pub enum Status {
 
 impl Status {
     ghost use Rattle.std.specs.Prelude.{◌≡◌};
-    ghost use Rattle.pageaudit_c.specs.Status.{number_of};
+    ghost use Rattle.pageaudit_c.specs.Status.{number_of, of_judged};
+
+    // What a judgment comes to.
+    pub fn of(judged: audit_report::Status) -> Status
+        ensures { result ≡ of_judged judged }
+    {
+        match judged {
+            audit_report::Status::Clear => Status::Clear,
+            audit_report::Status::Faulty => Status::Faulty,
+        }
+    }
 
     pub fn number(self) -> u32
         ensures value { result ≡ number_of self }

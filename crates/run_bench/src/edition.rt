@@ -19,7 +19,7 @@ const PIECE: usize = 4_096;
 pub fn policy(ceiling: u16, mark: Mark) -> Option<Policy> {
     let groups = match mark {
         Mark::Group => Groups::read("1,2,3,4,5,6,7,8,9,10,11,12,13,14,15,16").ok()?,
-        Mark::None | Mark::Price | Mark::LongRow => Groups::none(),
+        Mark::None | Mark::Keep | Mark::Price | Mark::LongRow => Groups::none(),
     };
     Some(Policy {
         ceiling: Pence::new(ceiling)?,

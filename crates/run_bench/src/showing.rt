@@ -9,14 +9,14 @@ use anyhow::{Result, bail};
 use cell_looks::screen_looks;
 use finder::Survey;
 use frame_records::{Base, Groups};
-use frame_screens::{FrameList, screen, way_at, way_to};
+use frame_screens::{Painter, screen, way_to};
 use screen_texts::{Writing, push_text};
 use std::alloc::{AllocError, Global};
 
 const RUNS: u32 = 3;
 
-fn push_screen(out: &mut Vec<u8>, base: &Base, way: &FrameList) -> Result<(), AllocError> {
-    push_text(out, &screen_looks(&screen(base, way)), Writing::Plain)
+fn push_screen(out: &mut Vec<u8>, codes: &[u8; 960]) -> Result<(), AllocError> {
+    push_text(out, &screen_looks(codes), Writing::Plain)
 }
 
 /// The screen of the last frame of a text's base.
@@ -25,23 +25,21 @@ pub fn shown(alloc: Global, text: &[u8]) -> Option<Vec<u8>> {
     let frame = base.frames().last()?;
     let way = way_to(alloc, &base, &Groups::none(), frame.id).ok()?;
     let mut out = Vec::new(alloc);
-    push_screen(&mut out, &base, &way).ok()?;
+    push_screen(&mut out, &screen(&base, &way)).ok()?;
     Some(out)
 }
 
 /// Makes the screens of all frames that a caller of no group can reach, one after another, and says how many there are.
 pub fn all_shown(alloc: Global, base: &Base) -> Option<usize> {
     let groups = Groups::none();
-    let Ok(survey) = Survey::of(alloc, base, &groups) else {
-        return None;
-    };
+    let painter = Painter::of(alloc, Survey::of(alloc, base, &groups).ok()?).ok()?;
+    let count = painter.survey().found().as_slice().len();
     let mut out = Vec::new(alloc);
-    for place in 0..survey.found().as_slice().len() {
+    for place in 0..count {
         out.clear();
-        let way = way_at(alloc, &survey, place).ok()?;
-        push_screen(&mut out, base, &way).ok()?;
+        push_screen(&mut out, &painter.screen(place)).ok()?;
     }
-    Some(survey.found().as_slice().len())
+    Some(count)
 }
 
 fn measure_one(rt: &HostRuntime, shape: Shape, size: Size) -> Result<()> {
@@ -56,8 +54,8 @@ fn measure_one(rt: &HostRuntime, shape: Shape, size: Size) -> Result<()> {
 }
 
 // The nanoseconds of a screen, of a base with this many frames.
-fn screen_time(rt: &HostRuntime, shape: Shape, frames: u32) -> Result<u128> {
-    let text = shape.text(rt.alloc(), frames, Mark::None)?;
+fn screen_time(rt: &HostRuntime, shape: Shape, mark: Mark, frames: u32) -> Result<u128> {
+    let text = shape.text(rt.alloc(), frames, mark)?;
     let Some(base) = whole_base(rt.alloc(), text.as_slice()) else {
         bail!("the base is refused");
     };
@@ -65,10 +63,10 @@ fn screen_time(rt: &HostRuntime, shape: Shape, frames: u32) -> Result<u128> {
     Ok(all.as_nanos() / u128::from(frames.max(1)))
 }
 
-fn measure_growth(rt: &HostRuntime, shape: Shape, size: Size) -> Result<()> {
+fn measure_growth(rt: &HostRuntime, shape: Shape, mark: Mark, size: Size) -> Result<()> {
     let frames = size.of(shape.most());
-    let few = screen_time(rt, shape, frames / 10)?;
-    let many = screen_time(rt, shape, frames)?;
+    let few = screen_time(rt, shape, mark, frames / 10)?;
+    let many = screen_time(rt, shape, mark, frames)?;
     let figures = [
         Figure::of("a screen of a tenth", few, "ns"),
         Figure::of("a screen of all", many, "ns"),
@@ -82,13 +80,15 @@ fn measure_growth(rt: &HostRuntime, shape: Shape, size: Size) -> Result<()> {
     tell(rt, shape.name(), &figures)
 }
 
-/// Measures one screen and all of them. In a chain a way is as long as the base, so there only one is measured.
+/// Measures one screen and all of them.
 pub fn measure(rt: &HostRuntime, size: Size) -> Result<()> {
     for shape in [Shape::Tree, Shape::Scattered, Shape::Chain, Shape::Bodies] {
         measure_one(rt, shape, size)?;
     }
-    for shape in [Shape::Tree, Shape::Scattered] {
-        measure_growth(rt, shape, size)?;
+    for shape in [Shape::Tree, Shape::Scattered, Shape::Chain] {
+        measure_growth(rt, shape, Mark::None, size)?;
     }
+    // each frame is shown over all before it
+    measure_growth(rt, Shape::Chain, Mark::Keep, size)?;
     Ok(())
 }

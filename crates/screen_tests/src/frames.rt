@@ -2,7 +2,8 @@ use base_text::base_read;
 use finder::{Survey, script_to};
 use frame_records::{Base, Groups, Lead};
 use frame_screens::{
-    FrameList, NoScreen, frames_after, nearest, screen, send, terminal_after, way_at, way_to,
+    FrameList, NoScreen, Painter, frames_after, nearest, screen, send, terminal_after, way_at,
+    way_to,
 };
 use page_ids::{FrameId, PageNo, keys_read};
 use std::alloc::Global;
@@ -338,6 +339,21 @@ fn the_way_at_a_place_is_what_the_keys_to_it_send(rt: HostRuntime) -> Result<(),
         let keys = script_to(alloc, survey.found(), u32::try_from(place)?)?;
         let keyed = frames_after(alloc, &base, &groups, keys.as_slice())?;
         same_in(place, way.as_slice() == keyed.as_slice(), true)?;
+    }
+    Ok(())
+}
+
+#[test]
+fn a_painter_makes_the_screen_of_each_way(rt: HostRuntime) -> Result<(), Fail> {
+    let alloc = rt.alloc();
+    let base = base_of(alloc, BASE)?;
+    let groups = Groups::none();
+    let painter = Painter::of(alloc, Survey::of(alloc, &base, &groups)?)?;
+    let count = painter.survey().found().as_slice().len();
+    same(count, 6)?;
+    for place in 0..count {
+        let way = way_at(alloc, painter.survey(), place)?;
+        same_in(place, painter.screen(place) == screen(&base, &way), true)?;
     }
     Ok(())
 }
