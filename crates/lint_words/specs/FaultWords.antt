@@ -113,3 +113,9 @@ fault_words j fault = words_of (code_of fault.kind) (line_of (message_of j fault
 abbrev pub unreached_words : Id → WordsView
 unreached_words id =
     words_of code.Unreached (line_of (codes "no key leads to frame " ++ (frame_text id ++ codes " from the entry page")))
+
+-- how many frames no walk reaches, of a base whose entry frame isn't found
+abbrev pub none_reached_words : ℕ → WordsView
+none_reached_words n =
+    words_of code.Unreached (line_of (codes "no key leads to " ++
+    (number_of n (codes "frame") (codes "frames") ++ codes " from the entry page")))
