@@ -69,6 +69,8 @@ TOUCHING = [
     ("\x1e" + "\n" * 22 + "ABC\x8d", 26),
     ("\x1e" + "\n" * 22 + "AB\x1bM", 26),
 ]
+# Bodies with a line feed after which text goes on in its column, and the index of that line feed.
+FEEDS = {"\x1e\nTEXT\nTEXT": 6, "\x1e\nAB\n\nCD": 5, "\x1e\n\tA\n\x80": 4}
 # The fields in the order of judging: unknown keys, then these; `text` is the body or the rows.
 JUDGED = ["", "id", "price", "group", "next", "routes", "lead", "text"]
 
@@ -295,8 +297,10 @@ class Written:
     def plain_text(self):
         """A body or rows that writes into no service row."""
         if self.chance(0.5):
-            rows = ["", "ONE", "TWO # 2", "'\"'", "[[frame]]"]
+            rows = ["", "ONE", "TWO # 2", "'\"'", "[[frame]]", "\\u0081X"]
             return {"rows": [self.pick(rows) for _ in range(self.pick([0, 1, 2, 21]))]}
+        if self.chance(0.3):
+            return {"body": self.pick(list(FEEDS))}
         return {"body": "\x1e\n" + self.pick(["", "TEXT", "= ] }", "\x1bAx", "\u00e9\u00a3", "'\"\\", "TEXT\r\nTEXT"])}
 
     def write(self):
@@ -366,7 +370,7 @@ class Written:
         table, (code, *_) = self.table(index), words.replace(":", "").split(" ")
         if code == "X4" and index is None:
             return 0
-        if code in ("X4", "NORETURN", "UNREACHED"):
+        if code in ("X4", "NORETURN", "UNREACHED") and index is not None:
             return self.begin(*table, "value")
         if code == "X7":
             return max(self.begin(*table, key, "key") for key in ("body", "rows"))
@@ -407,7 +411,7 @@ class Written:
             words = words() if callable(words) else words
             yield self.at_fault(None if frame is None else self.index(frame), keys, words), "error", words
         for frame, keys, words in self.warnings:
-            yield self.at_fault(self.index(frame), keys, words), "warning", words
+            yield self.at_fault(None if frame is None else self.index(frame), keys, words), "warning", words
 
     def answer(self, path):
         """Standard output, standard error and status of `lint`."""
@@ -726,6 +730,25 @@ class FaultyWalks(Written):
             if not frame.fields.get("routes") and self.chance(0.5):
                 frame.fields.pop("routes", None)
 
+    def findings(self):
+        yield from super().findings()
+        for index, frame in enumerate(self.frames):
+            for name, words in self.shown(frame):
+                begin, end = self.sheet.spans[*self.table(index), *name]
+                piece = self.sheet.text[begin:end]
+                if piece == "\n" or name[0] == "rows" and piece[0] == "'":
+                    yield begin, "warning", words
+
+    def shown(self, frame):
+        """What may be wrong with what a frame shows, by where it is; how it is written decides."""
+        if (at := FEEDS.get(frame.fields.get("body"))) is not None:
+            words = f"a line of the body of frame {frame.id} ends with a line feed alone, so the text goes on in the same column"
+            yield ("body", at, "character"), f"LINEEND: {words}"
+        for at, row in enumerate(frame.fields.get("rows", [])):
+            if "\\u00" in row:
+                words = f"row {at + 1} of frame {frame.id} has \\u00 in single quotation marks, which is shown as it is"
+                yield ("rows", at, "value"), f"ESCAPE: {words}"
+
     def outside(self):
         pages = [frame.fields["routes"] for frame in self.reached if self.chance(0.2)]
         listed = [self.page() for _ in range(min(3, len(pages)))]
@@ -747,9 +770,15 @@ class FaultyWalks(Written):
         return frame
 
     def spoil_entry(self):
-        """The entry frame is missing or closed, and nothing else is reported; other frames are there."""
-        other = self.add(self.page(), "a", None, None)
-        other.fields["price"] = 9_999
+        """The entry frame is missing or closed. Of the other frames those that are open are counted."""
+        others = self.pick([0, 1, 1, 2, 5])
+        for _ in range(others):
+            self.add(self.page(), "a", None, None).fields["price"] = 9_999
+        if self.chance(0.3):
+            self.add(self.page(), "a", None, None).fields["group"] = 8
+        if others:
+            words = f"no key leads to {others} frame{'s' * (others > 1)} from the entry page"
+            self.warnings.append((None, ["entry"], f"UNREACHED: {words}"))
         if self.chance(0.5):
             self.frames.remove(self.entry)
             words = f"ENTRYMISSING: the entry page {self.entry.page} has no frame a"

@@ -6,11 +6,13 @@ UNREAD, which matches any place and any message.
 
 import re
 from functools import cached_property
+from itertools import pairwise
 
 from .audit import discover, outcome, ranks_of
 from .base import BAD_GROUPS, MOST_BYTES, build, caller_of, fits_64_bits, frame_in, id_in, id_text
 from .pieces import Pieces
 from .places import expressions, tree_of
+from .screen import step
 from .session import unopened
 from .spans import Lines
 from .text_faults import MOST_ROWS, text_faults
@@ -103,13 +105,17 @@ class Audited:
             words = f"from frame {id} the entry page is {number_of(rank, 'key', 'keys')} away, {allowed}"
         return self.pieces.header(self.table(id_in(id))), f"NORETURN: {words}{keys_in_brackets(script)}"
 
-    def warnings(self):
-        """The open frames that no walk reaches, if there is a walk, in the order of their ids."""
+    def unreached(self):
+        """The open frames that no walk reaches, in the order of their ids. If there is no walk they are counted."""
         _, _, groups = self.policy
+        ids = [id for id, frame in sorted(self.base.frames.items()) if frame.is_open(groups)]
         if unopened(self.base, groups):
+            if ids:
+                words = f"no key leads to {number_of(len(ids), 'frame', 'frames')} from the entry page"
+                yield self.pieces.value(None, "entry"), f"UNREACHED: {words}"
             return
-        for id, frame in sorted(self.base.frames.items()):
-            if id not in self.reached and frame.is_open(groups):
+        for id in ids:
+            if id not in self.reached:
                 yield self.pieces.header(self.table(id)), f"UNREACHED: no key leads to frame {id_text(id)} from the entry page"
 
     def hidden(self):
@@ -121,6 +127,39 @@ class Audited:
                     words = f"HIDDEN: row {number} of frame {id_text(id)} is hidden by the double height of row {number - 1}"
                     yield self.pieces.element(self.table(id), "rows", number - 1), words
                 covered = "\x8d" in row and not covered
+
+    def escapes(self):
+        """The rows in single quotation marks that hold the beginning of an escape."""
+        for id in sorted(self.base.frames):
+            for number, row in enumerate(self.tables[id][1].get("rows", []), 1):
+                span = self.pieces.element(self.table(id), "rows", number - 1)
+                if "\\u00" in row and self.pieces.text[span[0]] == "'":
+                    words = f"row {number} of frame {id_text(id)} has \\u00 in single quotation marks, which is shown as it is"
+                    yield span, f"ESCAPE: {words}"
+
+    def line_ends(self):
+        """In each body the first line feed after which text goes on in its column, if the file writes it as a line end."""
+        for id in sorted(self.base.frames):
+            body = self.tables[id][1].get("body", "")
+            at = first_feed(body.encode("latin-1"))
+            if at is not None:
+                begin, end = span = self.pieces.character(self.table(id), "body", at)
+                if self.pieces.text[begin:end] == "\n":
+                    words = f"a line of the body of frame {id_text(id)} ends with a line feed alone"
+                    yield span, f"LINEEND: {words}, so the text goes on in the same column"
+
+    def warnings(self):
+        return [*self.unreached(), *self.hidden(), *self.escapes(), *self.line_ends()]
+
+
+def first_feed(body):
+    """The first line feed of a body that isn't in the first column, and after which a byte of 20 or more is next."""
+    state = 40, False
+    for at, (byte, following) in enumerate(pairwise(body)):
+        if byte == 0x0A and state[0] % 40 and following >= 0x20:
+            return at
+        state, _ = step(state, byte)
+    return None
 
 
 def keys_in_brackets(script):
@@ -143,7 +182,7 @@ def findings(tree, pieces, lines, policy):
     if not faults:
         frames = [frame_in(table, index) for index, table in enumerate(tree.get("frame", []))]
         audited = Audited(tree, build(tree["entry"], tree.get("outside", []), frames), pieces, policy)
-        faults, warnings = audited.faults(), [*audited.warnings(), *audited.hidden()]
+        faults, warnings = audited.faults(), audited.warnings()
     return [(span, "error", words) for span, words in faults] + [(span, "warning", words) for span, words in warnings]
 
 

@@ -1,6 +1,6 @@
 -- How many errors there are among findings.
 use Rattle.std.proofs.Common.{◌≡◌, ◌∙◌, ◌+◌, ℕ, Bool, true, false, List, [], ◌∷◌, ◌++◌, length, map, cond, refl, ap, arith}
-use Rattle.std.specs.Prelude.{if◌then◌else◌}
+use Rattle.std.specs.Prelude.{if◌then◌else◌, Option, Some, None, ◌==◌}
 use Rattle.std.proofs.lemmas.List.Sums.{sum_by-cons, sum_by-append}
 use Rattle.std.proofs.lemmas.List.Sorted.{sum_by-IsPermutation}
 use Rattle.frame_records.specs.Bases.{BaseView}
@@ -9,9 +9,17 @@ use Rattle.page_ids.specs.Ids.{Id}
 use Rattle.toml_places.specs.Places.{Mark, marks}
 use Rattle.lint.specs.declared.finding.Level.{Level}
 use Rattle.lint.specs.declared.finding.Level.TheVariants.{Error, Warning}
-use Rattle.lint.specs.Findings.{FindingView, same_level, count_of, AreInOrder}
-use Rattle.lint.specs.Lint.{Subject, Length, Toml, Text, Whole, finding_of, ranks_of, ids_of, warned, warning, hidden_finding, hidden_findings, fault_finding, text_tables, IsAudited}
-use Rattle.lint.specs.Hidden.{hidden_rows}
+use Rattle.lint.specs.Findings.{FindingView, warning_at, same_level, count_of, AreInOrder}
+use Rattle.lint.specs.Lint.{Subject, Length, Toml, Text, Whole, finding_of, ranks_of, finds_none, ids_of, table_of, unreached, warning, warning_if, unreached_findings, look_in, look_finding, look_findings, fault_finding, text_tables, IsAudited}
+use Rattle.lint_words.specs.FaultWords.{none_reached_words}
+use Rattle.lint_words.specs.WarningWords.{line_end_words, escape_words}
+use Rattle.lint_words.specs.WordsOf.{WordsView}
+use Rattle.toml_places.specs.declared.spans.Span.{Span}
+use Rattle.lint.specs.Tables.{TableView, table_at}
+use Rattle.lint.specs.Spots.{has_rows, entry_span, single_at, line_end_at}
+use Rattle.lint.specs.declared.looks.Look.{Look}
+use Rattle.lint.specs.declared.looks.Look.TheVariants.{Hidden, Escape, LineEnd}
+use Rattle.lint.specs.Looks.{looks_of}
 
 abbrev errors : List FindingView → ℕ
 errors findings = count_of Error findings
@@ -28,19 +36,38 @@ module _ {X : Type 0} (f : X → FindingView) where
   no_errors are [] = refl
   no_errors are (x ∷ xs) = one_more (f x) (map f xs) ∙ ap (λ (l : Level). cond (same_level l Error) 1 0 + errors (map f xs)) (are x) ∙ omega (arith, no_errors are xs)
 
--- a row whose text is hidden is no error
+-- a warning about what a frame shows is no error
 module _ (text : List ℕ) (ms : List Mark) (tables : List (Id × ℕ)) where
-  one_hidden : (b : Bool) (f : FindingView) → f.level ≡ Warning → errors (if b then f ∷ [] else []) ≡ 0
-  one_hidden true f is = one_more f [] ∙ ap (λ (l : Level). cond (same_level l Error) 1 0 + errors []) is
-  one_hidden false f is = refl
+  one_warning : (f : FindingView) → f.level ≡ Warning → errors (f ∷ []) ≡ 0
+  one_warning f is = one_more f [] ∙ ap (λ (l : Level). cond (same_level l Error) 1 0 + errors []) is
 
-  no_hidden_errors : (rows : List (Id × ℕ)) → errors (hidden_findings text ms tables rows) ≡ 0
-  no_hidden_errors [] = refl
-  no_hidden_errors (p ∷ ps) =
-      let here : errors (hidden_finding text ms tables p) ≡ 0 = one_hidden _ _ refl in
-      let both : errors (hidden_findings text ms tables (p ∷ ps)) ≡ errors (hidden_finding text ms tables p) + errors (hidden_findings text ms tables ps) =
-      sum_by-append (λ (g : FindingView). cond (same_level g.level Error) 1 0) (hidden_finding text ms tables p) (hidden_findings text ms tables ps) in
-      omega (arith, both, here, no_hidden_errors ps)
+  warning_or_none : (b : Bool) (f : FindingView) → f.level ≡ Warning → errors (if b then f ∷ [] else []) ≡ 0
+  warning_or_none true f is = one_warning f is
+  warning_or_none false f is = refl
+
+  warning_if_span : (span : Option Span) (words : WordsView) → errors (warning_if span words) ≡ 0
+  warning_if_span None words = refl
+  warning_if_span (Some span) words = one_warning (warning_at span words) refl
+
+  no_look_error : (table : TableView) (id : Id) (look : Look) → errors (look_in table id look) ≡ 0
+  no_look_error table id (Hidden row) = warning_or_none (has_rows table) _ refl
+  no_look_error table id (Escape row) = warning_if_span (single_at table row) (escape_words id row)
+  no_look_error table id (LineEnd index) = warning_if_span (line_end_at table index) (line_end_words id)
+
+  no_look_errors : (looks : List (Id × Look)) → errors (look_findings text ms tables looks) ≡ 0
+  no_look_errors [] = refl
+  no_look_errors (p ∷ ps) =
+      let here : errors (look_finding text ms tables p) ≡ 0 = no_look_error (table_at text ms (Some (table_of tables p.0))) p.0 p.1 in
+      let both : errors (look_findings text ms tables (p ∷ ps)) ≡ errors (look_finding text ms tables p) + errors (look_findings text ms tables ps) =
+      sum_by-append (λ (g : FindingView). cond (same_level g.level Error) 1 0) (look_finding text ms tables p) (look_findings text ms tables ps) in
+      omega (arith, both, here, no_look_errors ps)
+
+  no_unreached_errors : (none : Bool) (ids : List Id) → errors (unreached_findings text ms tables none ids) ≡ 0
+  no_unreached_errors true ids = on (length ids == 0) where
+    on : (b : Bool) → errors (if b then [] else warning_at (entry_span (table_at text ms None)) (none_reached_words (length ids)) ∷ []) ≡ 0
+    on true = refl
+    on false = one_warning (warning_at (entry_span (table_at text ms None)) (none_reached_words (length ids))) refl
+  no_unreached_errors false ids = no_errors (warning text ms tables) (λ id. refl) ids
 
 is_error : (text : List ℕ) (s : Subject) → (finding_of text s).level ≡ Error
 is_error text Length = refl
@@ -64,12 +91,21 @@ module _ (judged findings : List FindingView) (order : AreInOrder judged finding
       let ms = marks text in
       let tables = text_tables text in
       let faults = fault_finding text ms tables base policy (ranks_of a.found) in
-      let ids = ids_of (warned policy.groups a.found base.frames) in
-      let hidden = hidden_findings text ms tables (hidden_rows base.frames) in
+      let none = finds_none a.found in
+      let ids = ids_of (unreached policy.groups (ranks_of a.found) base.frames) in
+      let out = unreached_findings text ms tables none ids in
+      let looks = look_findings text ms tables (looks_of base.frames) in
       let weight : FindingView → ℕ = λ (g : FindingView). cond (same_level g.level Error) 1 0 in
-      let all : errors judged ≡ errors (map faults a.faults ++ map (warning text ms tables) ids) + errors hidden =
-      ap errors a.all ∙ sum_by-append weight (map faults a.faults ++ map (warning text ms tables) ids) hidden in
-      let both : errors (map faults a.faults ++ map (warning text ms tables) ids) ≡ errors (map faults a.faults) + errors (map (warning text ms tables) ids) =
-      sum_by-append weight (map faults a.faults) (map (warning text ms tables) ids) in
-      omega (arith, same_errors, all, both, all_errors faults (λ fault. refl) a.faults, no_errors (warning text ms tables) (λ id. refl) ids,
-          no_hidden_errors text ms tables (hidden_rows base.frames))
+      let all : errors judged ≡ errors (map faults a.faults ++ out) + errors looks =
+      ap errors a.all ∙ sum_by-append weight (map faults a.faults ++ out) looks in
+      let both : errors (map faults a.faults ++ out) ≡ errors (map faults a.faults) + errors out =
+      sum_by-append weight (map faults a.faults) out in
+      omega (
+        arith,
+        same_errors,
+        all,
+        both,
+        all_errors faults (λ fault. refl) a.faults,
+        no_unreached_errors text ms tables none ids,
+        no_look_errors text ms tables (looks_of base.frames),
+      )

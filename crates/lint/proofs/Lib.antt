@@ -1,5 +1,5 @@
 pub mod NumberTurns
-pub mod HiddenRows
+pub mod LookRows
 pub mod Turns
 pub mod Ordering
 pub mod Judged

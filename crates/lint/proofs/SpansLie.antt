@@ -1,6 +1,6 @@
 -- Every span of a finding lies in the text.
 use Rattle.std.proofs.Common.{◌≡◌, ℕ, ◌-◌, Bool, true, false, cond, nat_lt, List, [], ◌∷◌, length, map, get_or, Option, Some, None, unwrap_or, option_map, option_and_then, le_refl, refl, sym, subst, arith}
-use Rattle.std.specs.Prelude.{All, codes, ◌++◌, if◌then◌else◌}
+use Rattle.std.specs.Prelude.{All, codes, ◌++◌, ◌==◌, ◌&&◌, slice_get, if◌then◌else◌}
 use Rattle.std.specs.Option.{option_or}
 use Rattle.std.proofs.lemmas.List.Elements.{All-map, All-append}
 use Rattle.std.proofs.lemmas.List.Sorted.{All-permutation}
@@ -34,11 +34,16 @@ use Rattle.toml_places.specs.Strings.{string_char}
 use Rattle.toml_places.specs.Values.{element}
 use Rattle.toml_places.specs.SpanReads.{Stand, SpansStand}
 use Rattle.toml_places.specs.Places.{marks, first_at, first_spot, frame_key, PlacesAreWithin}
-use Rattle.lint.specs.Findings.{FindingView}
+use Rattle.lint.specs.Findings.{FindingView, warning_at}
 use Rattle.lint.specs.Tables.{TableView, is_in_line, value_at, element_at, frame_element, header_span, frame_whole, whole, table_at}
-use Rattle.lint.specs.Spots.{key_at, pair_at, key_of, value_of, route_key, route_pair, item_of, char_of, later, unknown_at, digit_at, is_routes, listed_at, row_at, body_char, detail_at, detail_span, has_rows, shown_at, whole_at, whole_span, pressed_at, byte_at, touched_at, kind_at, audit_span, row_span, kind_table, whole_table}
-use Rattle.lint.specs.Lint.{Subject, Length, Toml, Text, Whole, finding_of, faulty, IsWithin, AreSubjects, AreSubjectsIf, AreTreeSubjects, IsJudgedBy, text_tables, warning, hidden_finding, hidden_findings, fault_finding, ranks_of, ids_of, warned, table_of, text_finding, whole_finding, IsAudited}
-use Rattle.lint.specs.Hidden.{hidden_rows}
+use Rattle.lint.specs.Spots.{key_at, pair_at, key_of, value_of, route_key, route_pair, item_of, char_of, later, unknown_at, digit_at, is_routes, listed_at, row_at, body_char, detail_at, detail_span, has_rows, shown_at, whole_at, whole_span, pressed_at, byte_at, touched_at, kind_at, audit_span, row_span, entry_span, is_byte, is_one, feed_span, line_end_at, single_span, single_at, kind_table, whole_table}
+use Rattle.lint.specs.Lint.{Subject, Length, Toml, Text, Whole, finding_of, faulty, IsWithin, AreSubjects, AreSubjectsIf, AreTreeSubjects, IsJudgedBy, text_tables, warning, warning_if, unreached_findings, look_in, look_finding, look_findings, fault_finding, ranks_of, finds_none, ids_of, unreached, table_of, text_finding, whole_finding, IsAudited}
+use Rattle.lint_words.specs.FaultWords.{none_reached_words}
+use Rattle.lint_words.specs.WarningWords.{line_end_words, escape_words}
+use Rattle.lint_words.specs.WordsOf.{WordsView}
+use Rattle.lint.specs.declared.looks.Look.{Look}
+use Rattle.lint.specs.declared.looks.Look.TheVariants.{Hidden, Escape, LineEnd}
+use Rattle.lint.specs.Looks.{looks_of}
 use Rattle.page_ids.specs.Ids.{Id}
 use Rattle.lint.specs.Laws.{LintSpansLieIn}
 use Rattle.lint.proofs.Judged.{each_subject}
@@ -252,28 +257,68 @@ module _ (stand : SpansStand) where
     row_span_lies frame n =
         let t = table_at text (marks text) frame in in_table frame (row_at t n) (row_lies t (items_lie frame) n)
 
-    one_hidden : (b : Bool) (f : FindingView) → IsWithin text f.span → AllLie (if b then f ∷ [] else [])
-    one_hidden true f lies = each (λ (u : Unit {0}). f) (λ u. lies) (tt ∷ [])
-    one_hidden false f lies = each (λ (u : Unit {0}). f) (λ u. lies) []
+    entry_lies : IsWithin text (entry_span (table_at text (marks text) None))
+    entry_lies = let t = table_at text (marks text) None in in_table None (value_of t (codes "entry")) (value_of_lies t (items_lie None) (codes "entry"))
 
-    hidden_lie : (rows : List (Id × ℕ)) → AllLie (hidden_findings text (marks text) (text_tables text) rows)
-    hidden_lie [] = All-map (λ f. IsWithin text f.span) (λ (f : FindingView). f) [] (λ k d lt. absurd (omega (arith, lt)))
-    hidden_lie (p ∷ ps) =
-        All-append (λ f. IsWithin text f.span) (hidden_finding text (marks text) (text_tables text) p) (hidden_findings text (marks text) (text_tables text) ps)
-        (one_hidden _ _ (row_span_lies (Some (table_of (text_tables text) p.0)) p.1)) (hidden_lie ps)
+    single_lies : (frame : Option ℕ) (n : ℕ) → Lies text (single_at (table_at text (marks text) frame) n)
+    single_lies frame n =
+        let t = table_at text (marks text) frame in on (t.item (n - 1)) (items_lie frame (n - 1)) where
+          on : (o : Option Span) → Lies text o → Lies text (option_and_then (single_span text) o)
+          on None lies = tt
+          on (Some s) lies = if_lies text (is_byte 0x27 (slice_get text s.begin)) (Some s) None lies tt
+
+    line_end_lies : (frame : Option ℕ) (k : ℕ) → Lies text (line_end_at (table_at text (marks text) frame) k)
+    line_end_lies frame k =
+        let t = table_at text (marks text) frame in on (body_char t k) (body_char_lies t (items_lie frame) k) where
+          on : (o : Option Span) → Lies text o → Lies text (option_and_then (feed_span text) o)
+          on None lies = tt
+          on (Some s) lies = if_lies text (is_one s && is_byte 0x0A (slice_get text s.begin)) (Some s) None lies tt
+
+    one_lie : (f : FindingView) → IsWithin text f.span → AllLie (f ∷ [])
+    one_lie f lies = each (λ (u : Unit {0}). f) (λ u. lies) (tt ∷ [])
+
+    none_lie : AllLie []
+    none_lie = All-map (λ f. IsWithin text f.span) (λ (f : FindingView). f) [] (λ k d lt. absurd (omega (arith, lt)))
+
+    one_or_none : (b : Bool) (f : FindingView) → IsWithin text f.span → AllLie (if b then f ∷ [] else [])
+    one_or_none true f lies = one_lie f lies
+    one_or_none false f lies = none_lie
+
+    if_span_lies : (o : Option Span) (words : WordsView) → Lies text o → AllLie (warning_if o words)
+    if_span_lies None words lies = none_lie
+    if_span_lies (Some s) words lies = one_lie (warning_at s words) lies
+
+    look_lies : (frame : Option ℕ) (id : Id) (look : Look) → AllLie (look_in (table_at text (marks text) frame) id look)
+    look_lies frame id (Hidden row) = one_or_none (has_rows (table_at text (marks text) frame)) _ (row_span_lies frame row)
+    look_lies frame id (Escape row) = if_span_lies (single_at (table_at text (marks text) frame) row) (escape_words id row) (single_lies frame row)
+    look_lies frame id (LineEnd k) = if_span_lies (line_end_at (table_at text (marks text) frame) k) (line_end_words id) (line_end_lies frame k)
+
+    looks_lie : (looks : List (Id × Look)) → AllLie (look_findings text (marks text) (text_tables text) looks)
+    looks_lie [] = none_lie
+    looks_lie (p ∷ ps) =
+        All-append (λ f. IsWithin text f.span) (look_finding text (marks text) (text_tables text) p) (look_findings text (marks text) (text_tables text) ps)
+        (look_lies (Some (table_of (text_tables text) p.0)) p.0 p.1) (looks_lie ps)
+
+    unreached_lie : (none : Bool) (ids : List Id) → AllLie (unreached_findings text (marks text) (text_tables text) none ids)
+    unreached_lie true ids = on (length ids == 0) where
+      on : (b : Bool) → AllLie (if b then [] else warning_at (entry_span (table_at text (marks text) None)) (none_reached_words (length ids)) ∷ [])
+      on true = none_lie
+      on false = one_lie (warning_at (entry_span (table_at text (marks text) None)) (none_reached_words (length ids))) entry_lies
+    unreached_lie false ids = each (warning text (marks text) (text_tables text)) (λ id. frame_lies (table_of (text_tables text) id)) ids
 
     audited_lie : (policy : Policy) (base : BaseView) (findings : List FindingView) → IsAudited text policy base findings → AllLie findings
     audited_lie policy base findings a =
         let m = marks text in
         let tables = text_tables text in
         let faults = fault_finding text m tables base policy (ranks_of a.found) in
-        let ids = ids_of (warned policy.groups a.found base.frames) in
-        let rows = hidden_rows base.frames in
+        let none = finds_none a.found in
+        let ids = ids_of (unreached policy.groups (ranks_of a.found) base.frames) in
+        let looks = looks_of base.frames in
         subst AllLie (sym a.all)
-        (All-append (λ f. IsWithin text f.span) (map faults a.faults ++ map (warning text m tables) ids) (hidden_findings text m tables rows)
-        (All-append (λ f. IsWithin text f.span) (map faults a.faults) (map (warning text m tables) ids)
+        (All-append (λ f. IsWithin text f.span) (map faults a.faults ++ unreached_findings text m tables none ids) (look_findings text m tables looks)
+        (All-append (λ f. IsWithin text f.span) (map faults a.faults) (unreached_findings text m tables none ids)
         (each faults (λ fault. audit_lies (kind_table (table_of tables fault.frame) fault.kind) fault) a.faults)
-        (each (warning text m tables) (λ id. frame_lies (table_of tables id)) ids)) (hidden_lie rows))
+        (unreached_lie none ids)) (looks_lie looks))
 
     judged_lie : (policy : Policy) (judged : List FindingView) (subjects : List Subject) → AreSubjects text subjects
         → IsJudgedBy subjects text policy judged → AllLie judged

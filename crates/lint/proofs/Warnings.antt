@@ -1,5 +1,5 @@
 -- The frames that are warned of.
-use Rattle.std.proofs.Common.{◌≡◌, ◌∙◌, ◌≢◌, ◌||◌, ℕ, Bool, true, false, cond, not, List, [], ◌∷◌, ◌++◌, map, get_or, Option, Some, None, is_none, refl, sym, ap, subst, Contains, inl, inr, arith}
+use Rattle.std.proofs.Common.{◌≡◌, ◌∙◌, ◌≢◌, ◌||◌, ℕ, Bool, true, false, cond, not, List, [], ◌∷◌, ◌++◌, map, get_or, Option, Some, None, is_none, refl, sym, ap, subst, Contains, inl, inr, suc, length, append-nil, append_assoc, arith}
 use Rattle.std.specs.Option.{option_or}
 use Rattle.std.specs.Prelude.{filter, AllPairs, ◌⊎◌, ◌↔◌}
 use Rattle.std.specs.List.{list_any}
@@ -21,8 +21,8 @@ use Rattle.toml_places.specs.Places.{marks}
 use Rattle.lint.specs.declared.finding.Level.TheVariants.{Error}
 use Rattle.lint.specs.Findings.{FindingView, AreInOrder}
 use Rattle.lint.specs.Lookups.{value_of}
-use Rattle.lint.specs.Hidden.{hidden_rows}
-use Rattle.lint.specs.Lint.{ranks_of, is_unreached, unreached, warned, ids_of, warning, hidden_findings, fault_finding, text_tables}
+use Rattle.lint.specs.Looks.{looks_of}
+use Rattle.lint.specs.Lint.{ranks_of, finds_none, is_unreached, unreached, ids_of, warning, none_reached, unreached_findings, look_findings, fault_finding, text_tables}
 use Rattle.lint.specs.Laws.{IsCutOff, AreOfAudit, WarnsOfCutOff}
 use Rattle.page_ids.proofs.Truths.{both, not_so, not_true}
 
@@ -85,15 +85,24 @@ module _ (groups : List ℕ) (base : BaseView) (found : List Discovered) (finds 
       let none = unranked found f.id ∙ not_so (list_any (λ d. id_eq d.id f.id) found) (λ e. c.unreached (reached f.id e)) in
       kept (is_unreached groups (ranks_of found)) base.frames f c.listed (rw (c.opens, none) refl)
 
--- those that are warned of; without an entry frame none is
+-- without an entry frame nothing is reached, and else it is
+no_entry : (groups : List ℕ) (base : BaseView) → FindsReached groups base [] → ¬ (EntryIsFound groups base)
+no_entry groups base finds entry =
+    let a = (finds.reached (entry_of base)).0 (record { steps = 0; entry = entry; walk = refl }) in absurd (omega (arith, a.2))
+
+an_entry : (groups : List ℕ) (base : BaseView) (d : Discovered) (ds : List Discovered) → FindsReached groups base (d ∷ ds) → EntryIsFound groups base
+an_entry groups base d ds finds = (reached groups base (d ∷ ds) finds d.id (rw (id_eq_refl d.id) refl)).entry
+
+-- the frames that are cut off; without an entry frame none is
+abbrev warned : List ℕ → List Discovered → List Frame → List Frame
+warned groups [] frames = []
+warned groups (d ∷ ds) frames = unreached groups (ranks_of (d ∷ ds)) frames
+
 warned_is_cut_off : (groups : List ℕ) (base : BaseView) (found : List Discovered) → FindsReached groups base found
     → (f : Frame) → Contains (warned groups found base.frames) f ↔ IsCutOff groups base f
-warned_is_cut_off groups base [] finds f = (
-  λ c. absurd (omega (arith, c.1)),
-  λ c. let a = (finds.reached (entry_of base)).0 (record { steps = 0; entry = c.entry; walk = refl }) in absurd (omega (arith, a.2)),
-)
+warned_is_cut_off groups base [] finds f = (λ c. absurd (omega (arith, c.1)), λ c. absurd (no_entry groups base finds c.entry))
 warned_is_cut_off groups base (d ∷ ds) finds f = (
-  kept_is_cut_off groups base (d ∷ ds) finds (reached groups base (d ∷ ds) finds d.id (rw (id_eq_refl d.id) refl)).entry f,
+  kept_is_cut_off groups base (d ∷ ds) finds (an_entry groups base d ds finds) f,
   cut_off_is_kept groups base (d ∷ ds) finds f,
 )
 
@@ -107,19 +116,58 @@ once : (groups : List ℕ) (base : BaseView) (found : List Discovered) → IsAsc
 once groups base [] up = λ i j d lt within same. absurd (omega (arith, within))
 once groups base (d ∷ ds) up = AllPairs-filter (λ f g. f.id ≢ g.id) (is_unreached groups (ranks_of (d ∷ ds))) base.frames (apart base up)
 
+-- where nothing is reached, each frame that is open isn't
+open_ids : (groups : List ℕ) (frames : List Frame) → length (ids_of (unreached groups [] frames)) ≡ length (filter (is_open groups) frames)
+open_ids groups [] = refl
+open_ids groups (f ∷ fs) = on (is_open groups f) refl (open_ids groups fs) where
+  on : (b : Bool) → is_open groups f ≡ b → length (ids_of (unreached groups [] fs)) ≡ length (filter (is_open groups) fs)
+      → length (ids_of (unreached groups [] (f ∷ fs))) ≡ length (filter (is_open groups) (f ∷ fs))
+  on true e rest = rw e (ap suc rest)
+  on false e rest = rw e rest
+
+module _ (text : List ℕ) (groups : List ℕ) (base : BaseView) where
+  -- what is said of all frames, if the entry frame isn't found
+  abbrev others : List Discovered → List FindingView
+  others [] = none_reached text (marks text) (length (filter (is_open groups) base.frames))
+  others (d ∷ ds) = []
+
+  others_found : (found : List Discovered) → FindsReached groups base found → EntryIsFound groups base → others found ≡ []
+  others_found [] finds entry = absurd (no_entry groups base finds entry)
+  others_found (d ∷ ds) finds entry = refl
+
+  others_not_found : (found : List Discovered) → FindsReached groups base found → ¬ (EntryIsFound groups base)
+      → others found ≡ none_reached text (marks text) (length (filter (is_open groups) base.frames))
+  others_not_found [] finds none = refl
+  others_not_found (d ∷ ds) finds none = absurd (none (an_entry groups base d ds finds))
+
+  -- both are what is said of frames that aren't reached
+  parts : (tables : List (Id × ℕ)) (found : List Discovered)
+      → unreached_findings text (marks text) tables (finds_none found) (ids_of (unreached groups (ranks_of found) base.frames))
+      ≡ map (λ (f : Frame). warning text (marks text) tables f.id) (warned groups found base.frames) ++ others found
+  parts tables [] = ap (none_reached text (marks text)) (open_ids groups base.frames)
+  parts tables (d ∷ ds) =
+      each (warning text (marks text) tables) (unreached groups (ranks_of (d ∷ ds)) base.frames) ∙ sym (append-nil _)
+
 pub warns : (text : List ℕ) (policy : Policy) (findings : List FindingView) (base : BaseView) → IsTextBase text base
     → AreOfAudit text policy findings base → WarnsOfCutOff text policy base findings
 warns text policy findings base is a =
     let ms = marks text in
     let tables = text_tables text in
-    let frames = warned policy.groups a.1.found base.frames in
-    let faults = map (fault_finding text ms tables base policy (ranks_of a.1.found)) a.1.faults in
-    let hidden = hidden_findings text ms tables (hidden_rows base.frames) in
+    let found = a.1.found in
+    let frames = warned policy.groups found base.frames in
+    let each_frame = map (λ (f : Frame). warning text ms tables f.id) frames in
+    let faults = map (fault_finding text ms tables base policy (ranks_of found)) a.1.faults in
+    let looks = look_findings text ms tables (looks_of base.frames) in
+    let rest = others text policy.groups base found in
     record {
       errors = faults;
       frames = frames;
-      are_errors = All-map (λ f. f.level ≡ Error) (fault_finding text ms tables base policy (ranks_of a.1.found)) a.1.faults (λ k d lt. refl);
-      cut_off = warned_is_cut_off policy.groups base a.1.found a.1.reached;
-      once = once policy.groups base a.1.found is.2.valid.ascending;
-      in_order = subst (λ fs. AreInOrder fs findings) (a.1.all ∙ ap (λ fs. faults ++ fs ++ hidden) (each (warning text ms tables) frames)) a.2;
+      others = rest;
+      are_errors = All-map (λ f. f.level ≡ Error) (fault_finding text ms tables base policy (ranks_of found)) a.1.faults (λ k d lt. refl);
+      cut_off = warned_is_cut_off policy.groups base found a.1.reached;
+      once = once policy.groups base found is.2.valid.ascending;
+      found = others_found text policy.groups base found a.1.reached;
+      not_found = others_not_found text policy.groups base found a.1.reached;
+      in_order = subst (λ fs. AreInOrder fs findings)
+          (a.1.all ∙ ap (λ fs. faults ++ fs ++ looks) (parts text policy.groups base tables found) ∙ ap (λ fs. fs ++ looks) (sym (append_assoc faults each_frame rest))) a.2;
     }

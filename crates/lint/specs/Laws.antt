@@ -1,5 +1,5 @@
 -- What the findings of a text mean, for a caller who is in the policy's groups and no others.
-use Rattle.std.specs.Prelude.{◌≡◌, ◌≢◌, ◌↔◌, ℕ, true, List, [], ◌∷◌, ◌++◌, map, Result, Ok, Err, All, AllPairs, Contains}
+use Rattle.std.specs.Prelude.{◌≡◌, ◌≢◌, ◌↔◌, ℕ, true, List, [], ◌∷◌, ◌++◌, map, Result, Ok, Err, All, AllPairs, Contains, length, filter}
 use Rattle.frame_records.specs.declared.frame.Frame.{Frame}
 use Rattle.frame_records.specs.Bases.{BaseView}
 use Rattle.frame_records.specs.Seek.{is_open}
@@ -15,8 +15,8 @@ use Rattle.finder.specs.Finds.{EntryIsFound, IsReached}
 use Rattle.fault_scripts.specs.Faults.{AreFaults}
 use Rattle.lint.specs.declared.finding.Level.TheVariants.{Error}
 use Rattle.lint.specs.Findings.{FindingView, count_of, AreInOrder}
-use Rattle.lint.specs.Hidden.{hidden_rows}
-use Rattle.lint.specs.Lint.{Subject, Length, Toml, Text, Whole, finding_of, text_tables, warning, hidden_findings, IsWithin, IsAudited, IsLint}
+use Rattle.lint.specs.Looks.{looks_of}
+use Rattle.lint.specs.Lint.{Subject, Length, Toml, Text, Whole, finding_of, text_tables, warning, none_reached, look_findings, IsWithin, IsAudited, IsLint}
 use Rattle.toml_places.specs.Places.{marks}
 
 -- The text, and what base_read answers for it.
@@ -84,16 +84,19 @@ pub record IsCutOff (groups : List ℕ) (base : BaseView) (f : Frame) : Type 0 w
   pub opens : is_open groups f ≡ true
   pub unreached : IsReached groups base f.id → ⊥
 
--- besides errors the findings are one warning for each of these frames, at its header, one for each row of a frame given as rows
--- whose text the row above hides, and no other
+-- Besides errors the findings are one warning for each of these frames, at its header; if the entry frame isn't found one for
+-- all frames that are open to the caller, with their number; those of what frames show; and no other.
 pub record WarnsOfCutOff (text : List ℕ) (policy : Policy) (base : BaseView) (findings : List FindingView) : Type 0 where
   pub errors : List FindingView
   pub frames : List Frame
+  pub others : List FindingView
   pub are_errors : All (λ f. f.level ≡ Error) errors
   pub cut_off : (f : Frame) → Contains frames f ↔ IsCutOff policy.groups base f
   pub once : AllPairs (λ f g. f.id ≢ g.id) frames
-  pub in_order : AreInOrder (errors ++ map (λ f. warning text (marks text) (text_tables text) f.id) frames
-      ++ hidden_findings text (marks text) (text_tables text) (hidden_rows base.frames)) findings
+  pub found : EntryIsFound policy.groups base → others ≡ []
+  pub not_found : ¬ (EntryIsFound policy.groups base) → others ≡ none_reached text (marks text) (length (filter (is_open policy.groups) base.frames))
+  pub in_order : AreInOrder (errors ++ map (λ f. warning text (marks text) (text_tables text) f.id) frames ++ others
+      ++ look_findings text (marks text) (text_tables text) (looks_of base.frames)) findings
 
 abbrev pub WarnsOfUnreached : List ℕ → Policy → List FindingView → Type 0
 WarnsOfUnreached text policy findings = (base : BaseView) → IsTextBase text base → WarnsOfCutOff text policy base findings

@@ -1,5 +1,5 @@
 pub mod Lookups
-pub mod Hidden
+pub mod Looks
 pub mod Tables
 pub mod Spots
 pub mod Lint

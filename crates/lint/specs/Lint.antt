@@ -1,5 +1,5 @@
 -- Every finding of a text.
-use Rattle.std.specs.Prelude.{◌≡◌, ◌≤◌, ℕ, Bool, true, false, ◌&&◌, List, [], ◌∷◌, ◌++◌, map, flat_map, if◌then◌else◌, Option, Some, None, unwrap_or, is_none, option_and_then, codes, nat_lt, length, zip, filter}
+use Rattle.std.specs.Prelude.{◌≡◌, ◌≤◌, ℕ, ◌==◌, Bool, true, false, ◌&&◌, List, [], ◌∷◌, ◌++◌, map, flat_map, if◌then◌else◌, Option, Some, None, unwrap_or, is_none, option_and_then, codes, nat_lt, length, zip, filter}
 use Rattle.page_ids.specs.Ids.{Id}
 use Rattle.frame_records.specs.declared.frame.Frame.{Frame}
 use Rattle.frame_records.specs.declared.build.BuildFault.{BuildFault}
@@ -13,15 +13,18 @@ use Rattle.fault_scripts.specs.Faults.{AreFaults}
 use Rattle.toml_places.specs.declared.spans.Span.{Span}
 use Rattle.toml_places.specs.Places.{Mark, marks}
 use Rattle.lint_words.specs.declared.fault_words.Judged.{Judged}
-use Rattle.lint_words.specs.FaultWords.{fault_words, unreached_words}
-use Rattle.lint_words.specs.WarningWords.{hidden_words}
+use Rattle.lint_words.specs.FaultWords.{fault_words, unreached_words, none_reached_words}
+use Rattle.lint_words.specs.WarningWords.{hidden_words, line_end_words, escape_words}
+use Rattle.lint_words.specs.WordsOf.{WordsView}
 use Rattle.lint.specs.declared.audit_findings.Audit.{Audit}
 use Rattle.lint.specs.declared.audit_findings.Sources.{Sources}
 use Rattle.lint.specs.Findings.{FindingView, error_at, warning_at, AreInOrder}
 use Rattle.lint.specs.Lookups.{value_of, Knows}
 use Rattle.lint.specs.Tables.{TableView, KnowsTables, empty_at, frame_whole, table_at, id_place}
-use Rattle.lint.specs.Hidden.{hidden_rows}
-use Rattle.lint.specs.Spots.{has_rows, row_span, detail_span, whole_table, whole_span, kind_table, audit_span}
+use Rattle.lint.specs.declared.looks.Look.{Look}
+use Rattle.lint.specs.declared.looks.Look.TheVariants.{Hidden, Escape, LineEnd}
+use Rattle.lint.specs.Looks.{looks_of}
+use Rattle.lint.specs.Spots.{has_rows, row_span, entry_span, line_end_at, single_at, detail_span, whole_table, whole_span, kind_table, audit_span}
 use Rattle.base_text.specs.declared.detail.TextFault.{TextFault}
 use Rattle.base_text.specs.declared.whole_fault.WholeFault.{WholeFault}
 use Rattle.base_text.specs.declared.whole_fault.WholeFault.TheVariants.{Duplicate}
@@ -47,10 +50,10 @@ is_unreached groups ranks f = is_open groups f && is_none (value_of ranks f.id)
 abbrev pub unreached : List ℕ → List (Id × Option ℕ) → List Frame → List Frame
 unreached groups ranks frames = filter (is_unreached groups ranks) frames
 
--- the frames that a warning is about; none if the entry frame isn't found
-abbrev pub warned : List ℕ → List Discovered → List Frame → List Frame
-warned groups [] frames = []
-warned groups (d ∷ ds) frames = unreached groups (ranks_of (d ∷ ds)) frames
+-- not even the entry frame is found
+abbrev pub finds_none : List Discovered → Bool
+finds_none [] = true
+finds_none (d ∷ ds) = false
 
 abbrev pub ids_of : List Frame → List Id
 ids_of frames = map (λ f. f.id) frames
@@ -62,12 +65,13 @@ pub record IsAudit (base : BaseView) (policy : Policy) (audit : Audit) : Type 0 
   pub reached : FindsReached policy.groups base found
   pub least : RanksAreLeast policy.groups base found
   pub known : Knows (ranks_of found) audit.ranks
-  pub unreached : audit.unreached.items ≡ ids_of (warned policy.groups found base.frames)
-  pub hidden : audit.hidden.items ≡ hidden_rows base.frames
+  pub finds_none : audit.finds_none ≡ finds_none found
+  pub unreached : audit.unreached.items ≡ ids_of (unreached policy.groups (ranks_of found) base.frames)
+  pub looks : audit.looks.items ≡ looks_of base.frames
 
-abbrev pub is_clear : List Fault → List Id → List (Id × ℕ) → Bool
+abbrev pub is_clear : List Fault → List Id → List (Id × Look) → Bool
 is_clear [] [] [] = true
-is_clear faults ids rows = false
+is_clear faults ids looks = false
 
 abbrev pub table_of : List (Id × ℕ) → Id → ℕ
 table_of tables id = unwrap_or (value_of tables id) 0
@@ -100,30 +104,45 @@ fault_finding text ms tables base policy ranks fault =
 abbrev pub warning : List ℕ → List Mark → List (Id × ℕ) → Id → FindingView
 warning text ms tables id = warning_at (frame_whole text ms (table_of tables id)) (unreached_words id)
 
--- the warning of a row whose text is hidden, if this is the table of a frame that is given as rows
-abbrev pub hidden_in : TableView → Id × ℕ → List FindingView
-hidden_in table p = if has_rows table then warning_at (row_span table p.1) (hidden_words p.0 p.1) ∷ [] else []
+-- if the entry frame isn't found, one warning has the number of all these frames
+abbrev pub none_reached : List ℕ → List Mark → ℕ → List FindingView
+none_reached text ms n = if n == 0 then [] else warning_at (entry_span (table_at text ms None)) (none_reached_words n) ∷ []
 
-abbrev pub hidden_finding : List ℕ → List Mark → List (Id × ℕ) → Id × ℕ → List FindingView
-hidden_finding text ms tables p = hidden_in (table_at text ms (Some (table_of tables p.0))) p
+abbrev pub unreached_findings : List ℕ → List Mark → List (Id × ℕ) → Bool → List Id → List FindingView
+unreached_findings text ms tables none ids = if none then none_reached text ms (length ids) else map (warning text ms tables) ids
 
-abbrev pub hidden_findings : List ℕ → List Mark → List (Id × ℕ) → List (Id × ℕ) → List FindingView
-hidden_findings text ms tables rows = flat_map (hidden_finding text ms tables) rows
+-- a warning if the text has the span that it is about
+abbrev pub warning_if : Option Span → WordsView → List FindingView
+warning_if None words = []
+warning_if (Some span) words = warning_at span words ∷ []
+
+-- the warning of what may be wrong with what the frame of this table shows, if the text writes it so
+abbrev pub look_in : TableView → Id → Look → List FindingView
+look_in table id (Hidden row) = if has_rows table then warning_at (row_span table row) (hidden_words id row) ∷ [] else []
+look_in table id (Escape row) = warning_if (single_at table row) (escape_words id row)
+look_in table id (LineEnd index) = warning_if (line_end_at table index) (line_end_words id)
+
+abbrev pub look_finding : List ℕ → List Mark → List (Id × ℕ) → Id × Look → List FindingView
+look_finding text ms tables p = look_in (table_at text ms (Some (table_of tables p.0))) p.0 p.1
+
+abbrev pub look_findings : List ℕ → List Mark → List (Id × ℕ) → List (Id × Look) → List FindingView
+look_findings text ms tables looks = flat_map (look_finding text ms tables) looks
 
 -- what the sources know
 pub record AreKnown (ms : List Mark) (tables : List (Id × ℕ)) (sources : Sources) : Type 0 where
   pub places : KnowsTables ms sources.text.now
   pub knows : Knows tables sources.tables
 
--- each fault of a base, then each frame that no key reaches, and then each row whose text is hidden
+-- each fault of a base, then each frame that no key reaches or their number, and then what is wrong with what frames show
 pub record AreAuditFindings (text : List ℕ) (ms : List Mark) (tables : List (Id × ℕ)) (base : BaseView) (policy : Policy) (findings : List FindingView) : Type 0 where
   pub faults : List Fault
   pub found : List Discovered
   pub are_faults : AreFaults base policy faults
   pub reached : FindsReached policy.groups base found
   pub least : RanksAreLeast policy.groups base found
-  pub all : findings ≡ map (fault_finding text ms tables base policy (ranks_of found)) faults ++ map (warning text ms tables) (ids_of (warned policy.groups found base.frames))
-      ++ hidden_findings text ms tables (hidden_rows base.frames)
+  pub all : findings ≡ map (fault_finding text ms tables base policy (ranks_of found)) faults
+      ++ unreached_findings text ms tables (finds_none found) (ids_of (unreached policy.groups (ranks_of found) base.frames))
+      ++ look_findings text ms tables (looks_of base.frames)
 
 -- The findings of the faults of a base's text.
 

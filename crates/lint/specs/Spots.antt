@@ -1,6 +1,6 @@
 -- The span of a fault: of the smallest piece of a text that is at fault. If that can't be found, it is that of a larger one, up to
 -- the whole table.
-use Rattle.std.specs.Prelude.{ℕ, ◌-◌, nat_lt, Bool, true, false, if◌then◌else◌, List, codes, Option, Some, None, is_some, unwrap_or, option_map, option_and_then}
+use Rattle.std.specs.Prelude.{ℕ, ◌-◌, ◌==◌, ◌&&◌, nat_lt, Bool, true, false, if◌then◌else◌, List, slice_get, codes, Option, Some, None, is_some, unwrap_or, option_map, option_and_then}
 use Rattle.std.specs.Option.{option_or}
 use Rattle.page_ids.specs.declared.key.Key.{Key}
 use Rattle.page_ids.specs.declared.key.Key.TheVariants as key
@@ -179,6 +179,37 @@ audit_span t fault = unwrap_or (kind_at t fault fault.kind) t.whole
 -- the span of a row of a frame that is given as rows
 abbrev pub row_span : TableView → ℕ → Span
 row_span t n = unwrap_or (row_at t n) t.whole
+
+-- Warnings.
+
+-- the value of `entry`
+abbrev pub entry_span : TableView → Span
+entry_span t = unwrap_or (value_of t (codes "entry")) t.whole
+
+-- a byte of a text, if it has one there, is this one
+abbrev pub is_byte : ℕ → Option ℕ → Bool
+is_byte b None = false
+is_byte b (Some c) = c == b
+
+-- of one byte
+abbrev pub is_one : Span → Bool
+is_one s = nat_lt s.begin s.end && (s.end - s.begin == 1)
+
+-- a span that is a line feed of the text
+abbrev pub feed_span : List ℕ → Span → Option Span
+feed_span text s = if is_one s && is_byte 0x0A (slice_get text s.begin) then Some s else None
+
+-- the code of the body at an index, if the text writes it as a line feed
+abbrev pub line_end_at : TableView → ℕ → Option Span
+line_end_at t k = body_char t k >>= feed_span t.text
+
+-- a span of the text that begins with a single quotation mark
+abbrev pub single_span : List ℕ → Span → Option Span
+single_span text s = if is_byte 0x27 (slice_get text s.begin) then Some s else None
+
+-- a row, by its number from 1, in single quotation marks
+abbrev pub single_at : TableView → ℕ → Option Span
+single_at t n = t.item (n - 1) >>= single_span t.text
 
 -- of a missing entry frame the top is at fault, else the frame, which is written by this table
 abbrev pub kind_table : ℕ → FaultKind → Option ℕ

@@ -3,32 +3,39 @@ ghost use Rattle.page_ids.specs.Ids.{Id};
 ghost use Rattle.toml_places.specs.Places.{Mark};
 ghost use Rattle.lint.specs.Tables.{KnowsTables, IsTable, seen};
 ghost use Rattle.lint.specs.Lookups.{Knows};
+ghost use Rattle.lint.specs.declared.looks.Look.TheVariants.{Hidden, Escape, LineEnd};
 ghost use Rattle.lint.specs.Lint as spec;
 
 use crate::finding::Finding;
-use crate::hidden::hidden_rows;
+use crate::looks::{Look, looks_of};
 use crate::lookup::Lookup;
-use crate::spots::{audit_span, has_rows, kind_table, row_span};
+use crate::spots::{
+    audit_span, entry_span, has_rows, kind_table, line_end_at, row_span, single_at,
+};
 use crate::tables::{TableSpots, TextTables};
 use checker::Policy;
 use fault_scripts::{Fault, FaultList, Judgement, judge_base};
 use finder::Discovered;
 use frame_records::{Base, Frame, GroupNo, Groups};
-use lint_words::{Judged, audit_fault_words, hidden_words, unreached_words};
+use lint_words::{
+    Judged, audit_fault_words, escape_words, hidden_words, line_end_words, none_reached_words,
+    unreached_words,
+};
 use page_ids::FrameId;
 use std::alloc::{AllocError, Global};
 
 // The fewest keys from each frame that is reached back to the entry frame.
 pub type Ranks = Lookup<Option<u16>>;
 
-// An audit of a base: its faults, the frames that no key reaches, and the rows that nobody sees.
+// An audit of a base: its faults, the frames that no key reaches, and what may be wrong with what frames show.
 #[derive(Drop)]
 pub struct Audit {
     faults: FaultList,
     ranks: Ranks,
+    // Whether not even the entry frame is found.
+    finds_none: bool,
     unreached: Vec<FrameId>,
-    // Rows with text that double height hides, if their frames are given as rows.
-    hidden: Vec<(FrameId, usize)>,
+    looks: Vec<(FrameId, Look)>,
 }
 
 fn ranks_of(alloc: Global, found: &[Discovered]) -> Result<Vec<(FrameId, Option<u16>)>, AllocError>
@@ -64,20 +71,12 @@ fn unreached(
     Ok(ids)
 }
 
-// If the entry frame isn't found, the audit says so, and no frame is reported as unreached.
-fn warned(
-    alloc: Global,
-    base: &Base,
-    groups: &Groups,
-    found: &[Discovered],
-    ranks: &Ranks,
-) -> Result<Vec<FrameId>, AllocError>
-    requires { Knows (spec.ranks_of found.now) ranks.now }
-    ensures { IfOk result (λ ids. ids.items ≡ spec.ids_of (spec.warned groups.now found.now base.now.frames)) }
+fn finds_none(found: &[Discovered]) -> bool
+    ensures { result ≡ spec.finds_none found.now }
 {
     match found {
-        [] => Ok(Vec::new(alloc)),
-        _ => unreached(alloc, ranks, groups, base.frames()),
+        [] => true,
+        _ => false,
     }
 }
 
@@ -87,21 +86,23 @@ impl Audit {
     {
         let Judgement { faults, found } = judge_base(alloc, base, policy)?;
         let ranks = Lookup::of(alloc, ranks_of(alloc, found.as_slice())?.as_slice())?;
-        let unreached = warned(alloc, base, &policy.groups, found.as_slice(), &ranks)?;
-        let hidden = hidden_rows(alloc, base.frames())?;
+        let finds_none = finds_none(found.as_slice());
+        let unreached = unreached(alloc, &ranks, &policy.groups, base.frames())?;
+        let looks = looks_of(alloc, base.frames())?;
         Ok(Audit {
             faults,
             ranks,
+            finds_none,
             unreached,
-            hidden,
+            looks,
         })
     }
 
     // Whether it found nothing.
     pub fn is_clear(&self) -> bool
-        ensures { result ≡ spec.is_clear self.now.faults self.now.unreached.items self.now.hidden.items }
+        ensures { result ≡ spec.is_clear self.now.faults self.now.unreached.items self.now.looks.items }
     {
-        self.faults.as_slice().is_empty() && self.unreached.is_empty() && self.hidden.is_empty()
+        self.faults.as_slice().is_empty() && self.unreached.is_empty() && self.looks.is_empty()
     }
 }
 
@@ -126,6 +127,71 @@ fn rank_of(ranks: &Ranks, id: FrameId) -> Option<u16>
     ensures { (known : List (Id × Option ℕ)) → Knows known ranks.now → result ≡ spec.rank_of known id }
 {
     ranks.get(id)?
+}
+
+// Appends the warning of a row whose text is hidden, if the frame is given as rows.
+fn add_hidden(
+    alloc: Global,
+    table: &TableSpots<'_>,
+    id: FrameId,
+    row: usize,
+    findings: &mut Vec<Finding>,
+) -> Result<(), AllocError>
+    ensures { OnOk result (findings.new.items ≡ findings.old.items ++ spec.look_in (seen table.now) id (Hidden row)) }
+{
+    if has_rows(table) {
+        let words = hidden_words(alloc, id, row)?;
+        findings.push(Finding::warning(row_span(table, row), words))?;
+    }
+    Ok(())
+}
+
+fn add_escape(
+    alloc: Global,
+    table: &TableSpots<'_>,
+    id: FrameId,
+    row: usize,
+    findings: &mut Vec<Finding>,
+) -> Result<(), AllocError>
+    ensures { OnOk result (findings.new.items ≡ findings.old.items ++ spec.look_in (seen table.now) id (Escape row)) }
+{
+    if let Some(span) = single_at(table, row) {
+        findings.push(Finding::warning(span, escape_words(alloc, id, row)?))?;
+    }
+    Ok(())
+}
+
+fn add_line_end(
+    alloc: Global,
+    table: &TableSpots<'_>,
+    id: FrameId,
+    index: usize,
+    findings: &mut Vec<Finding>,
+) -> Result<(), AllocError>
+    ensures { OnOk result (findings.new.items
+        ≡ findings.old.items ++ spec.look_in (seen table.now) id (LineEnd index)) }
+{
+    if let Some(span) = line_end_at(table, index) {
+        findings.push(Finding::warning(span, line_end_words(alloc, id)?))?;
+    }
+    Ok(())
+}
+
+// Appends the warning of what may be wrong with what a frame shows, if the text writes it so.
+fn add_look(
+    alloc: Global,
+    table: &TableSpots<'_>,
+    id: FrameId,
+    look: &Look,
+    findings: &mut Vec<Finding>,
+) -> Result<(), AllocError>
+    ensures { OnOk result (findings.new.items ≡ findings.old.items ++ spec.look_in (seen table.now) id look.now) }
+{
+    match look {
+        Look::Hidden(row) => add_hidden(alloc, table, id, *row, findings),
+        Look::Escape(row) => add_escape(alloc, table, id, *row, findings),
+        Look::LineEnd(index) => add_line_end(alloc, table, id, *index, findings),
+    }
 }
 
 impl<'a> Sources<'a> {
@@ -205,37 +271,55 @@ impl<'a> Sources<'a> {
         Ok(())
     }
 
-    // Appends the warning of a row whose text is hidden, if the frame is given as rows.
-    fn add_hidden_row(
+    // Appends the one warning for all frames that no key reaches, of a base whose entry frame isn't found.
+    fn add_none_reached(
         &self,
         alloc: Global,
-        table: &TableSpots<'_>,
-        hidden: (FrameId, usize),
+        frames: usize,
         findings: &mut Vec<Finding>,
     ) -> Result<(), AllocError>
-        ensures { OnOk result (findings.new.items ≡ findings.old.items ++ spec.hidden_in (seen table.now) hidden) }
+        ensures { OnOk result ((ms : List Mark) (tables : List (Id × ℕ)) → spec.AreKnown ms tables self.now
+            → findings.new.items ≡ findings.old.items ++ spec.none_reached self.now.text.now.text.now ms frames) }
     {
-        let (id, row) = hidden;
-        if has_rows(table) {
-            let words = hidden_words(alloc, id, row)?;
-            findings.push(Finding::warning(row_span(table, row), words))?;
+        if frames > 0 {
+            let table = self.text.table(alloc, None)?;
+            let words = none_reached_words(alloc, frames)?;
+            findings.push(Finding::warning(entry_span(&table), words))?;
         }
         Ok(())
     }
 
-    fn add_hidden(
+    fn add_unreached(
         &self,
         alloc: Global,
-        rows: &[(FrameId, usize)],
+        finds_none: bool,
+        ids: &[FrameId],
         findings: &mut Vec<Finding>,
     ) -> Result<(), AllocError>
         ensures { OnOk result ((ms : List Mark) (tables : List (Id × ℕ)) → spec.AreKnown ms tables self.now
-            → findings.new.items ≡ findings.old.items ++ spec.hidden_findings self.now.text.now.text.now ms tables rows.now) }
+            → findings.new.items ≡ findings.old.items ++ spec.unreached_findings self.now.text.now.text.now ms tables finds_none ids.now) }
+    {
+        if finds_none {
+            self.add_none_reached(alloc, ids.len(), findings)
+        } else {
+            self.add_warnings(alloc, ids, findings)
+        }
+    }
+
+    fn add_looks(
+        &self,
+        alloc: Global,
+        looks: &[(FrameId, Look)],
+        findings: &mut Vec<Finding>,
+    ) -> Result<(), AllocError>
+        ensures { OnOk result ((ms : List Mark) (tables : List (Id × ℕ)) → spec.AreKnown ms tables self.now
+            → findings.new.items ≡ findings.old.items ++ spec.look_findings self.now.text.now.text.now ms tables looks.now) }
     {
         let mut table = self.text.table(alloc, None)?;
-        for row in rows {
-            self.text.turn(alloc, &mut table, Some(self.table_of(row.0)))?;
-            self.add_hidden_row(alloc, &table, *row, findings)?;
+        for look in looks {
+            self.text
+                .turn(alloc, &mut table, Some(self.table_of(look.0)))?;
+            add_look(alloc, &table, look.0, &look.1, findings)?;
         }
         Ok(())
     }
@@ -248,8 +332,9 @@ impl<'a> Sources<'a> {
     {
         let mut findings = Vec::new(alloc);
         self.add_faults(alloc, audit, &mut findings)?;
-        self.add_warnings(alloc, audit.unreached.as_slice(), &mut findings)?;
-        self.add_hidden(alloc, audit.hidden.as_slice(), &mut findings)?;
+        let unreached = audit.unreached.as_slice();
+        self.add_unreached(alloc, audit.finds_none, unreached, &mut findings)?;
+        self.add_looks(alloc, audit.looks.as_slice(), &mut findings)?;
         Ok(findings)
     }
 }

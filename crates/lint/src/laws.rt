@@ -27,7 +27,8 @@ pub fn no_error_is_safe()
 }
 
 /// The warnings are one for each frame that is open to the caller and that no walk from the entry frame reaches, if the
-/// entry frame is found; else there is none.
+/// entry frame is found; else one with the number of all frames that are open to the caller, if there is one. Besides these
+/// there are those of what frames show.
 pub fn lint_warns_of_unreached()
     ensures { LintWarnsOfUnreached }
 {

@@ -17,9 +17,9 @@
 mod audit_findings;
 mod counts;
 mod finding;
-mod hidden;
 mod judging;
 mod laws;
+mod looks;
 mod lookup;
 mod order;
 mod spots;

@@ -1,6 +1,6 @@
 //! The span of a fault: of the smallest piece of a text that is at fault.
 
-ghost use Rattle.std.specs.Prelude.{◌≡◌};
+ghost use Rattle.std.specs.Prelude.{◌≡◌, slice_get};
 ghost use Rattle.lint.specs.Tables.{seen};
 ghost use Rattle.lint.specs.Spots as spec;
 
@@ -308,6 +308,66 @@ pub fn row_span(table: &TableSpots<'_>, row: usize) -> Span
     ensures { result ≡ spec.row_span (seen table.now) row }
 {
     row_at(table, row).unwrap_or(table.whole())
+}
+
+// The span of the entry page, in the top.
+pub fn entry_span(table: &TableSpots<'_>) -> Span
+    ensures { result ≡ spec.entry_span (seen table.now) }
+{
+    value_of(table, "entry").unwrap_or(table.whole())
+}
+
+// Whether a text has this byte at an offset.
+fn has_byte(text: &str, at: usize, byte: u8) -> bool
+    ensures { result ≡ spec.is_byte byte (slice_get text.now at) }
+{
+    match text.as_bytes().get(at) {
+        Some(there) => *there == byte,
+        None => false,
+    }
+}
+
+// Whether a span has one byte.
+fn is_one(span: Span) -> bool
+    ensures { result ≡ spec.is_one span }
+{
+    span.begin < span.end && span.end - span.begin == 1
+}
+
+// The span, if the text there is a line feed.
+fn feed_span(text: &str, span: Span) -> Option<Span>
+    ensures { result ≡ spec.feed_span text.now span }
+{
+    if is_one(span) && has_byte(text, span.begin, b'\n') {
+        Some(span)
+    } else {
+        None
+    }
+}
+
+// The code of the body at an index, if the text writes it as a line feed.
+pub fn line_end_at(table: &TableSpots<'_>, index: usize) -> Option<Span>
+    ensures { result ≡ spec.line_end_at (seen table.now) index }
+{
+    feed_span(table.text(), body_char(table, index)?)
+}
+
+// The span, if it begins with a single quotation mark.
+fn single_span(text: &str, span: Span) -> Option<Span>
+    ensures { result ≡ spec.single_span text.now span }
+{
+    if has_byte(text, span.begin, b'\'') {
+        Some(span)
+    } else {
+        None
+    }
+}
+
+// A row, by its number from 1, in single quotation marks.
+pub fn single_at(table: &TableSpots<'_>, row: usize) -> Option<Span>
+    ensures { result ≡ spec.single_at (seen table.now) row }
+{
+    single_span(table.text(), table.item(row.saturating_sub(1))?)
 }
 
 // The frame whose table a fault of the audit is about, which this table writes; none if the entry frame is missing.

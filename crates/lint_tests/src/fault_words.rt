@@ -4,7 +4,7 @@ use crate::printed::printed;
 use abstract_paint::Start;
 use fault_scripts::{Fault, FaultKind};
 use frame_records::{GroupNo, Pence};
-use lint_words::{Judged, audit_fault_words, push_counted, unreached_words};
+use lint_words::{Judged, audit_fault_words, none_reached_words, push_counted, unreached_words};
 use page_ids::{FrameId, keys_read};
 use std::alloc::Global;
 use std::test::Fail;
@@ -176,6 +176,17 @@ fn each_kind_of_fault_has_its_words(rt: HostRuntime) -> Result<(), Fail> {
 
 #[test]
 fn unreached_frames_and_counts_have_their_words(rt: HostRuntime) -> Result<(), Fail> {
+    let counts = [
+        (1, "UNREACHED: no key leads to 1 frame from the entry page"),
+        (
+            1_200,
+            "UNREACHED: no key leads to 1,200 frames from the entry page",
+        ),
+    ];
+    for (frames, wanted) in counts {
+        let given = none_reached_words(rt.alloc(), frames)?;
+        same_in(wanted, printed(rt.alloc(), &given)?.as_str(), wanted)?;
+    }
     let words = "UNREACHED: no key leads to frame 3319a from the entry page";
     let given = unreached_words(rt.alloc(), FrameId::read("3319a")?)?;
     same_in(words, printed(rt.alloc(), &given)?.as_str(), words)?;

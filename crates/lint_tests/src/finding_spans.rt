@@ -206,7 +206,7 @@ fn faults_of_a_whole_base_are_at_what_they_are_about(rt: HostRuntime) -> Result<
 #[test]
 fn the_entry_page_is_at_its_value_or_its_group(rt: HostRuntime) -> Result<(), Fail> {
     let rows = [
-        ("[[frame]]\nid = '2a'\nrows = []\n", "1"),
+        ("[[frame]]\nid = '2a'\nrows = []\n", "1|1"),
         ("[[frame]]\nid = '1a'\ngroup = 7 # x\nrows = []\n", "7"),
         ("frame = [{ id = '1a', rows = [], group = 0x7 }]", "0x7"),
     ];

@@ -25,7 +25,7 @@ pub fn policy(ceiling: u16, keyings: u16, groups: &str) -> Result<Policy, Fail> 
 }
 
 // The lines of a text, and how many errors and warnings there are.
-fn prints(
+pub fn prints(
     alloc: Global,
     text: &str,
     policy: &Policy,

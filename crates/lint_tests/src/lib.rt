@@ -31,4 +31,6 @@ mod text_words;
 #[cfg(test)]
 mod value_hints;
 #[cfg(test)]
+mod warnings;
+#[cfg(test)]
 mod whole_words;

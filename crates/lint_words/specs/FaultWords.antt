@@ -114,3 +114,9 @@ fault_words j fault = words_of (code_of fault.kind) (fault_about fault) (line_of
 abbrev pub unreached_words : Id → WordsView
 unreached_words id =
     words_of code.Unreached (about_frame (Some id)) (line_of (codes "no key leads to frame " ++ (frame_text id ++ codes " from the entry page")))
+
+-- how many frames no walk reaches, of a base whose entry frame isn't found
+abbrev pub none_reached_words : ℕ → WordsView
+none_reached_words n =
+    words_of code.Unreached (about_frame None) (line_of (codes "no key leads to " ++
+    (number_of n (codes "frame") (codes "frames") ++ codes " from the entry page")))

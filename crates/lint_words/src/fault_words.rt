@@ -1,5 +1,5 @@
 ghost use Rattle.std.specs.Prelude.{◌≡◌, ◌++◌, IfOk, OnOk, Some, None};
-ghost use Rattle.lint_words.specs.FaultWords.{entry_missing_words, entry_closed_words, price_words, row_touches_words, body_touches_words, touches_words, missing_page_words, missing_frame_words, missing_words, closed_words, cut_off_words, too_far_words, no_return_words, code_of, message_of, fault_words, unreached_words};
+ghost use Rattle.lint_words.specs.FaultWords.{entry_missing_words, entry_closed_words, price_words, row_touches_words, body_touches_words, touches_words, missing_page_words, missing_frame_words, missing_words, closed_words, cut_off_words, too_far_words, no_return_words, code_of, message_of, fault_words, unreached_words, none_reached_words};
 
 use crate::about::{About, fault_about};
 use crate::audit_hints::audit_hint;
@@ -311,5 +311,22 @@ pub fn unreached_words(alloc: Global, id: FrameId) -> Result<Words, AllocError>
         ],
     )?;
     let about = About::frame(Some(id));
+    Ok(Words::new(Code::Unreached, about, Line::of(alloc, &message)?, None))
+}
+
+/// The words of the frames that no walk reaches, this many, of a base whose entry frame isn't found.
+pub fn none_reached_words(alloc: Global, frames: usize) -> Result<Words, AllocError>
+    ensures { IfOk result (λ words. words ≡ none_reached_words frames) }
+{
+    let mut message = Vec::new(alloc);
+    push_pieces(
+        &mut message,
+        &[
+            Text("no key leads to "),
+            Count(frames, "frame", "frames"),
+            Text(" from the entry page"),
+        ],
+    )?;
+    let about = About::frame(None);
     Ok(Words::new(Code::Unreached, about, Line::of(alloc, &message)?, None))
 }

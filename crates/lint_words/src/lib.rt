@@ -10,6 +10,7 @@
 //! audit_fault_words(alloc, &judged, &fault, frame)? // PRICE: frame 33163a costs 55, the ceiling is 50 (keys 63)
 //! whole_fault_words(alloc, &fault, 185)? // B1 Duplicate: frame 33152a is defined already on line 185
 //! unreached_words(alloc, id)? // UNREACHED: no key leads to frame 3319a from the entry page
+//! none_reached_words(alloc, 12)? // UNREACHED: no key leads to 12 frames from the entry page
 //! not_toml_words(alloc, b"entry = 0331\n", 8, "invalid value, ..")? // X2 NotToml: invalid value, ..; a number has ..
 //! push_counted(out, 3, 1)? // 3 errors, 1 warning
 //! ```
@@ -61,7 +62,7 @@ mod written_keys;
 pub use about::About;
 pub use code::Code;
 pub use count_words::push_counted;
-pub use fault_words::{Judged, audit_fault_words, unreached_words};
+pub use fault_words::{Judged, audit_fault_words, none_reached_words, unreached_words};
 pub use line::Line;
 pub use text_hints::Written;
 pub use text_words::{not_toml_words, text_fault_words, too_long_words};

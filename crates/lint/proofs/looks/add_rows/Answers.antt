@@ -1,5 +1,5 @@
-use Rattle.lint.proofs.HiddenRows.{rows_begin, rows_more}
-use Rattle.lint.proofs.hidden.add_rows.Goals as goal
+use Rattle.lint.proofs.LookRows.{rows_begin, rows_more}
+use Rattle.lint.proofs.looks.add_rows.Goals as goal
 
 pub loop-above-init : goal.loop-above-init
 loop-above-init c = rows_begin _ _ _

@@ -1,0 +1,80 @@
+-- What may be wrong with what frames show, by their codes alone; how the text writes it decides.
+use Rattle.std.specs.Prelude.{ℕ, zero, suc, Bool, ◌==◌, ◌&&◌, ◌||◌, not, nat_le, ◌+◌, ◌%◌, false, true, if◌then◌else◌, List, [], ◌∷◌, ◌++◌, flat_map, replicate, Option, Some, None, is_some}
+use Rattle.std.specs.List.{list_any}
+use Rattle.page_ids.specs.Ids.{Id}
+use Rattle.frame_records.specs.declared.frame.Frame.{Frame}
+use Rattle.terminal_codes.specs.Screen.{Screen, CaretView, run}
+use Rattle.terminal_codes.specs.Writes.{caret_step}
+use Rattle.cell_looks.specs.Looks.{row_of, hides_text}
+use Rattle.lint.specs.declared.looks.Look.{Look}
+use Rattle.lint.specs.declared.looks.Look.TheVariants.{Hidden, Escape, LineEnd}
+
+abbrev pub blank : Screen
+blank = record { cells = replicate 960 0x20; at = 0; pending = false; visible = true }
+
+-- The rows of a frame, as if it were given as rows.
+
+-- the four codes of \u00 come first
+abbrev pub begins_escape : List ℕ → Bool
+begins_escape (a ∷ b ∷ c ∷ d ∷ rest) = (a == 0x5C) && ((b == 0x75) && ((c == 0x30) && (d == 0x30)))
+begins_escape _ = false
+
+-- they are somewhere
+abbrev pub holds_escape : List ℕ → Bool
+holds_escape [] = false
+holds_escape (b ∷ bs) = begins_escape (b ∷ bs) || holds_escape bs
+
+-- a row with the frame, if its text is hidden
+abbrev pub hidden_if : Id → List ℕ → ℕ → List (Id × Look)
+hidden_if id cells r = if hides_text cells r then (id, Hidden r) ∷ [] else []
+
+-- a row with the frame, if it holds \u00
+abbrev pub escape_if : Id → List ℕ → ℕ → List (Id × Look)
+escape_if id cells r = if holds_escape (row_of cells r) then (id, Escape r) ∷ [] else []
+
+abbrev pub row_looks : Id → List ℕ → ℕ → List (Id × Look)
+row_looks id cells r = hidden_if id cells r ++ escape_if id cells r
+
+-- those of the rows of a screen, from 1 to this number
+unfoldable pub rows_up_to : Id → List ℕ → ℕ → List (Id × Look)
+rows_up_to id cells zero = []
+rows_up_to id cells (suc n) = rows_up_to id cells n ++ row_looks id cells (suc n)
+
+-- those of a blank screen after a frame's body
+abbrev pub rows_of : Frame → List (Id × Look)
+rows_of f = rows_up_to f.id (run blank f.body).cells 22
+
+-- rows have no escapes of the terminal, so without the byte 8D none has double height; nor does one hold \u00 without a \
+abbrev pub needs_rows : List ℕ → Bool
+needs_rows body = list_any (λ b. b == 0x8D) body || list_any (λ b. b == 0x5C) body
+
+abbrev pub rows_if : Frame → List (Id × Look)
+rows_if f = if needs_rows f.body then rows_of f else []
+
+-- The line feeds of a body.
+
+-- the index of a byte that is a line feed in another column than the first
+abbrev pub feed_at : CaretView → ℕ → ℕ → Option ℕ
+feed_at c b n = if (b == 0x0A) && not (c.at % 40 == 0) then Some n else None
+
+-- the index of the first such line feed that a code of 20 or more follows: that of the byte before, if it is one, or a later one
+abbrev pub feed_from : CaretView → Option ℕ → ℕ → List ℕ → Option ℕ
+feed_from c feed n [] = None
+feed_from c feed n (b ∷ bs) =
+    if nat_le 0x20 b && is_some feed then feed else feed_from (caret_step c b) (feed_at c b n) (n + 1) bs
+
+-- that of a body that is sent after a cleared screen
+abbrev pub line_end_of : List ℕ → Option ℕ
+line_end_of body = feed_from (record { at = 40; pending = false }) None 0 body
+
+abbrev pub line_end_if : Id → Option ℕ → List (Id × Look)
+line_end_if id None = []
+line_end_if id (Some n) = (id, LineEnd n) ∷ []
+
+-- all of it
+abbrev pub frame_looks : Frame → List (Id × Look)
+frame_looks f = rows_if f ++ line_end_if f.id (line_end_of f.body)
+
+-- of all frames, in their order
+abbrev pub looks_of : List Frame → List (Id × Look)
+looks_of frames = flat_map frame_looks frames

@@ -1,0 +1,193 @@
+//! What may be wrong with what frames show, by their codes alone; how the text writes it decides.
+
+ghost use Rattle.std.specs.Prelude.{◌≡◌, ◌++◌, ◌<◌, length, IfOk, OnOk};
+ghost use Rattle.cell_looks.specs.Looks.{row_of};
+ghost use Rattle.lint.specs.Looks as spec;
+
+use cell_looks::hides_text;
+use frame_records::Frame;
+use page_ids::FrameId;
+use std::alloc::{AllocError, Global};
+use terminal_codes::{Caret, Terminal};
+
+// The attribute double height.
+const DOUBLE: u8 = 0x8d;
+
+// What may be wrong with what a frame shows.
+#[derive(Debug, Clone, Copy)]
+pub enum Look {
+    // The text of a row, by its number from 1, is hidden, if the frame is given as rows.
+    Hidden(usize),
+    // A row, by its number, has an escape, which is none in single quotation marks.
+    Escape(usize),
+    // The code of the body at this index is a line feed, after which text goes on in another column than the first.
+    LineEnd(usize),
+}
+
+// Whether codes begin with \u00.
+fn begins_escape(codes: &[u8]) -> bool
+    ensures { result ≡ spec.begins_escape codes.now }
+{
+    match codes {
+        [a, b, c, d, ..] => *a == b'\\' && *b == b'u' && *c == b'0' && *d == b'0',
+        _ => false,
+    }
+}
+
+// Whether \u00 is among codes.
+fn holds_escape(codes: &[u8]) -> bool
+    ensures { result ≡ spec.holds_escape codes.now }
+{
+    match codes {
+        [] => false,
+        [_, rest @ ..] => begins_escape(codes) || holds_escape(rest),
+    }
+}
+
+// The codes of a row.
+fn row_codes(cells: &[u8; 960], row: usize) -> &[u8]
+    requires { row < 24 }
+    ensures { result.now ≡ row_of cells.now row }
+{
+    &cells[40 * row..40 * row + 40]
+}
+
+fn add_hidden(
+    frame: FrameId,
+    cells: &[u8; 960],
+    row: usize,
+    looks: &mut Vec<(FrameId, Look)>,
+) -> Result<(), AllocError>
+    ensures { OnOk result (looks.new.items ≡ looks.old.items ++ spec.hidden_if frame cells.now row) }
+{
+    if hides_text(cells, row) {
+        looks.push((frame, Look::Hidden(row)))?;
+    }
+    Ok(())
+}
+
+fn add_escape(
+    frame: FrameId,
+    cells: &[u8; 960],
+    row: usize,
+    looks: &mut Vec<(FrameId, Look)>,
+) -> Result<(), AllocError>
+    requires { row < 24 }
+    ensures { OnOk result (looks.new.items ≡ looks.old.items ++ spec.escape_if frame cells.now row) }
+{
+    if holds_escape(row_codes(cells, row)) {
+        looks.push((frame, Look::Escape(row)))?;
+    }
+    Ok(())
+}
+
+fn add_row(
+    frame: FrameId,
+    cells: &[u8; 960],
+    row: usize,
+    looks: &mut Vec<(FrameId, Look)>,
+) -> Result<(), AllocError>
+    requires { row < 24 }
+    ensures { OnOk result (looks.new.items ≡ looks.old.items ++ spec.row_looks frame cells.now row) }
+{
+    add_hidden(frame, cells, row, looks)?;
+    add_escape(frame, cells, row, looks)
+}
+
+// Appends what may be wrong with the rows of a screen, from 1 to 22.
+fn add_rows(
+    frame: FrameId,
+    cells: &[u8; 960],
+    looks: &mut Vec<(FrameId, Look)>,
+) -> Result<(), AllocError>
+    ensures { OnOk result (looks.new.items ≡ looks.old.items ++ spec.rows_up_to frame cells.now 22) }
+{
+    for above in 0..22 {
+        add_row(frame, cells, above + 1, looks)?;
+    }
+    Ok(())
+}
+
+fn add_rows_of(frame: &Frame, looks: &mut Vec<(FrameId, Look)>) -> Result<(), AllocError>
+    ensures { OnOk result (looks.new.items ≡ looks.old.items ++ spec.rows_of frame.now) }
+{
+    let mut terminal = Terminal::new();
+    terminal.run(frame.body.as_slice());
+    add_rows(frame.id, terminal.cells(), looks)
+}
+
+// Rows have no escapes of the terminal: without the byte 8D none has double height.
+fn needs_rows(body: &[u8]) -> bool
+    ensures { result ≡ spec.needs_rows body.now }
+{
+    body.contains(&DOUBLE) || body.contains(&b'\\')
+}
+
+fn add_rows_if(frame: &Frame, looks: &mut Vec<(FrameId, Look)>) -> Result<(), AllocError>
+    ensures { OnOk result (looks.new.items ≡ looks.old.items ++ spec.rows_if frame.now) }
+{
+    if needs_rows(frame.body.as_slice()) {
+        add_rows_of(frame, looks)
+    } else {
+        Ok(())
+    }
+}
+
+// The index of a byte that is a line feed in another column than the first.
+fn feed_at(caret: Caret, byte: u8, index: usize) -> Option<usize>
+    ensures { result ≡ spec.feed_at caret byte index }
+{
+    if byte == b'\n' && caret.at % 40 != 0 {
+        Some(index)
+    } else {
+        None
+    }
+}
+
+// The index of the first line feed of a body, as it is sent after a cleared screen, after which text goes on in the same
+// column, if that isn't the first.
+fn line_end_of(body: &[u8]) -> Option<usize>
+    ensures { result ≡ spec.line_end_of body.now }
+{
+    let mut caret = Caret {
+        at: 40,
+        pending: false,
+    };
+    let mut feed = None;
+    for (index, byte) in body.iter().enumerate() {
+        if *byte >= 0x20 && feed.is_some() {
+            return feed;
+        }
+        feed = feed_at(caret, *byte, index);
+        caret = caret.step(*byte);
+    }
+    None
+}
+
+fn add_line_end(frame: &Frame, looks: &mut Vec<(FrameId, Look)>) -> Result<(), AllocError>
+    ensures { OnOk result (looks.new.items
+        ≡ looks.old.items ++ spec.line_end_if frame.now.id (spec.line_end_of frame.now.body)) }
+{
+    if let Some(index) = line_end_of(frame.body.as_slice()) {
+        looks.push((frame.id, Look::LineEnd(index)))?;
+    }
+    Ok(())
+}
+
+fn add_looks(frame: &Frame, looks: &mut Vec<(FrameId, Look)>) -> Result<(), AllocError>
+    ensures { OnOk result (looks.new.items ≡ looks.old.items ++ spec.frame_looks frame.now) }
+{
+    add_rows_if(frame, looks)?;
+    add_line_end(frame, looks)
+}
+
+// What may be wrong with what frames show, each after the frame.
+pub fn looks_of(alloc: Global, frames: &[Frame]) -> Result<Vec<(FrameId, Look)>, AllocError>
+    ensures { IfOk result (λ looks. looks.items ≡ spec.looks_of frames.now) }
+{
+    let mut looks = Vec::new(alloc);
+    for frame in frames {
+        add_looks(frame, &mut looks)?;
+    }
+    Ok(looks)
+}
