@@ -16,7 +16,7 @@ use std::{env, io};
 const FORMS: &[&str] = &["text", "ansi", "svg", "cells"];
 
 // The words for the forms of findings.
-const FORMATS: &[&str] = &["full", "line", "github"];
+const FORMATS: &[&str] = &["full", "line", "json", "github"];
 
 // A word that is known by its place.
 fn place<'a>(alloc: Global, name: &'a str, help: &'a str) -> Arg<'a> {
@@ -97,7 +97,7 @@ fn format_option<'a>(alloc: Global) -> Arg<'a> {
         .value_parser(FORMATS)
         .default_value("full")
         .help(
-            "Print each finding with its line of the base, as one line, or as a command of GitHub",
+            "Print each finding with its line of the base, as one line, as JSON, or as a command of GitHub",
         )
 }
 
@@ -471,6 +471,7 @@ fn format_of(word: &str) -> Option<Format> {
     match word {
         "full" => Some(Format::Full),
         "line" => Some(Format::Line),
+        "json" => Some(Format::Json),
         "github" => Some(Format::Github),
         _ => None,
     }

@@ -2,3 +2,4 @@ pub mod Printed
 mod Windows
 pub mod Marks
 mod Commands
+mod Objects

@@ -22,7 +22,7 @@ use Rattle.finding_forms.specs.declared.format.Format.{Format}
 use Rattle.finding_forms.specs.declared.format.Format.TheVariants as format
 use Rattle.finding_forms.specs.LineForm.{level_text, place_text, code_text, hint_text, words_text, line_text}
 use Rattle.finding_forms.specs.Forms.{IsPrinted, ArePrinted, is_one_line}
-use Rattle.finding_forms.specs.Laws.{AreWholeLines}
+use Rattle.finding_forms.specs.Laws.{IsLineIn, AreWholeLines}
 
 -- Parts of a line.
 
@@ -99,10 +99,10 @@ IsLine-line path place l w hint at words =
 
 -- Line feeds.
 
-abbrev feeds : List ℕ → ℕ
+abbrev pub feeds : List ℕ → ℕ
 feeds bytes = count_by (λ byte. byte == 10) bytes
 
-feeds-append : (xs ys : List ℕ) → feeds (xs ++ ys) ≡ feeds xs + feeds ys
+pub feeds-append : (xs ys : List ℕ) → feeds (xs ++ ys) ≡ feeds xs + feeds ys
 feeds-append xs ys = sum_by-append (λ byte. if byte == 10 then 1 else 0) xs ys
 
 feeds_char : (c : ℕ) → not (is_control c) ≡ true → feeds (encode c) ≡ 0
@@ -121,21 +121,28 @@ feeds_line line is = rw (encodes-chars line is.utf8) at (feeds_chars (chars line
 
 -- The lines of all findings.
 
-record IsOneLine (one : List ℕ) : Type 0 where
+feeds_line_in : (f : Format) (line : List ℕ) → IsLineIn f line → feeds line ≡ 0
+feeds_line_in format.Full line is = feeds_line line is
+feeds_line_in format.Line line is = feeds_line line is
+feeds_line_in format.Json line is = is
+feeds_line_in format.Github line is = feeds_line line is
+
+record IsOneLine (f : Format) (one : List ℕ) : Type 0 where
   line : List ℕ
-  is_line : IsLine line
+  is_line : IsLineIn f line
   is : one ≡ line ++ codes "\n"
 
-one_line : (f : Format) (path text : List ℕ) (v : FindingView) (one : List ℕ) → is_one_line f ≡ true → IsPrinted f path text v one → IsOneLine one
+one_line : (f : Format) (path text : List ℕ) (v : FindingView) (one : List ℕ) → is_one_line f ≡ true → IsPrinted f path text v one → IsOneLine f one
 one_line format.Full path text v one p is = absurd cc
 one_line format.Line path text v one p (line, is, made) = record { line = line; is_line = is.is_line; is = made }
+one_line format.Json path text v one p (line, is, made) = record { line = line; is_line = is.no_feed; is = made }
 one_line format.Github path text v one p (line, is, made) = record { line = line; is_line = is.is_line; is = made }
 
 pub whole : (format : Format) (path text : List ℕ) (findings : List FindingView) (out : List ℕ) → is_one_line format ≡ true
-    → ArePrinted format path text findings out → AreWholeLines (length findings) out
+    → ArePrinted format path text findings out → AreWholeLines format (length findings) out
 whole format path text [] out p is = record {
   lines = [];
-  are_lines = All-nil IsLine;
+  are_lines = All-nil (IsLineIn format);
   as_many = refl;
   text_is = is;
   feeds = rw is refl;
@@ -146,13 +153,13 @@ whole format path text (f ∷ fs) out p (one, rest, is, are, joined) =
     let both : out ≡ this.line ++ codes "\n" ++ rest = joined ∙ ap (λ x. x ++ rest) this.is in
     record {
       lines = this.line ∷ more.lines;
-      are_lines = All-cons IsLine this.line more.lines this.is_line more.are_lines;
+      are_lines = All-cons (IsLineIn format) this.line more.lines this.is_line more.are_lines;
       as_many = ap suc more.as_many;
       text_is = both ∙ ap (λ x. this.line ++ codes "\n" ++ x) more.text_is;
       feeds =
           let all : feeds out ≡ feeds (this.line ++ codes "\n" ++ rest) = ap feeds both in
           let nl : feeds (codes "\n") ≡ 1 = refl in
-          omega (arith, all, feeds-append (this.line ++ codes "\n") rest, feeds-append this.line (codes "\n"), feeds_line this.line this.is_line, nl, more.feeds);
+          omega (arith, all, feeds-append (this.line ++ codes "\n") rest, feeds-append this.line (codes "\n"), feeds_line_in format this.line this.is_line, nl, more.feeds);
     }
 
 -- What a call gives if it isn't out of memory.

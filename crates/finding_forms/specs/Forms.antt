@@ -2,15 +2,17 @@
 use Rattle.std.specs.Prelude.{◌≡◌, ℕ, Bool, true, false, List, [], ◌∷◌, ◌++◌, codes}
 use Rattle.lint.specs.Findings.{FindingView}
 use Rattle.finding_forms.specs.declared.format.Format.{Format}
-use Rattle.finding_forms.specs.declared.format.Format.TheVariants.{Full, Line, Github}
+use Rattle.finding_forms.specs.declared.format.Format.TheVariants.{Full, Line, Json, Github}
 use Rattle.finding_forms.specs.LineForm.{IsFindingLine}
 use Rattle.finding_forms.specs.FullForm.{IsFullFinding}
+use Rattle.finding_forms.specs.JsonForm.{IsObject}
 use Rattle.finding_forms.specs.GithubForm.{IsCommand}
 
 -- the text of one finding
 abbrev pub IsPrinted : Format → List ℕ → List ℕ → FindingView → List ℕ → Type 0
 IsPrinted Full path text f out = IsFullFinding path text f out
 IsPrinted Line path text f out = (line : List ℕ) × IsFindingLine path text f line × (out ≡ line ++ codes "\n")
+IsPrinted Json path text f out = (line : List ℕ) × IsObject path text f line × (out ≡ line ++ codes "\n")
 IsPrinted Github path text f out = (line : List ℕ) × IsCommand path text f line × (out ≡ line ++ codes "\n")
 
 -- the texts of findings, in their order
@@ -27,4 +29,5 @@ AddsPrinted format path text f old new = (one : List ℕ) × IsPrinted format pa
 abbrev pub is_one_line : Format → Bool
 is_one_line Full = false
 is_one_line Line = true
+is_one_line Json = true
 is_one_line Github = true

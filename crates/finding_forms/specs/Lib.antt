@@ -2,5 +2,6 @@ pub mod LineForm
 pub mod Excerpts
 pub mod FullForm
 pub mod GithubForm
+pub mod JsonForm
 pub mod Forms
 pub mod Laws

@@ -1,6 +1,7 @@
 //! Findings in a form, one after another.
 
 ghost use Rattle.std.specs.Prelude.{◌≡◌, ℕ, List, IfOk, OnOk, length, true};
+ghost use Rattle.std.specs.Str.Lossy.{utf8_lossy};
 ghost use Rattle.lint_words.specs.Lines.{line_of};
 ghost use Rattle.finding_forms.specs.Forms.{AddsPrinted, ArePrinted, is_one_line};
 ghost use Rattle.finding_forms.specs.declared.format.Format.TheVariants.{Full};
@@ -9,6 +10,7 @@ ghost use Rattle.finding_forms.specs.Laws.{AreWholeLines};
 use crate::format::Format;
 use crate::full_form::push_lines_below;
 use crate::github_form::push_command;
+use crate::json_form::push_object;
 use crate::laws::findings_are_whole_lines;
 use crate::line_form::push_line_finding;
 use lint::Finding;
@@ -42,34 +44,40 @@ fn push_finding(
     out: &mut Vec<u8>,
     format: Format,
     path: &Line,
+    file: &str,
     text: &[u8],
     lines: &TextLines<'_>,
     finding: &Finding,
 ) -> Result<(), AllocError>
     requires { lines.now ≡ text.now }
-    ensures { OnOk result ((bytes : List ℕ) → path.now ≡ line_of bytes → AddsPrinted format bytes text.now finding.now out.old.items out.new.items) }
+    ensures { OnOk result ((bytes : List ℕ) → path.now ≡ line_of bytes → file.now ≡ utf8_lossy bytes
+        → AddsPrinted format bytes text.now finding.now out.old.items out.new.items) }
 {
     match format {
         Format::Full => push_full_finding(alloc, out, path, text, lines, finding),
         Format::Line => push_line_finding(out, path, lines, finding),
+        Format::Json => push_object(alloc, out, file, lines, finding),
         Format::Github => push_command(out, path, lines, finding),
     }
 }
 
+// The path is given as a line, and as it is.
 fn printed(
     alloc: Global,
     format: Format,
     path: &Line,
+    file: &str,
     text: &[u8],
     lines: &TextLines<'_>,
     findings: &[Finding],
 ) -> Result<Vec<u8>, AllocError>
     requires { lines.now ≡ text.now }
-    ensures { IfOk result (λ out. (bytes : List ℕ) → path.now ≡ line_of bytes → ArePrinted format bytes text.now findings.now out.items) }
+    ensures { IfOk result (λ out. (bytes : List ℕ) → path.now ≡ line_of bytes → file.now ≡ utf8_lossy bytes
+        → ArePrinted format bytes text.now findings.now out.items) }
 {
     let mut out = Vec::new(alloc);
     for finding in findings {
-        push_finding(alloc, &mut out, format, path, text, lines, finding)?;
+        push_finding(alloc, &mut out, format, path, file, text, lines, finding)?;
     }
     Ok(out)
 }
@@ -88,13 +96,14 @@ pub fn findings_text(
     findings: &[Finding],
 ) -> Result<Vec<u8>, AllocError>
     ensures printed { IfOk result (λ out. ArePrinted format path.now text.now findings.now out.items) }
-    ensures whole { IfOk result (λ out. is_one_line format ≡ true → AreWholeLines (length findings.now) out.items) }
+    ensures whole { IfOk result (λ out. is_one_line format ≡ true → AreWholeLines format (length findings.now) out.items) }
 {
     findings_are_whole_lines();
     if findings.is_empty() {
         return Ok(Vec::new(alloc));
     }
+    let file = String::from_utf8_lossy(alloc, path)?;
     let path = Line::of(alloc, path)?;
     let lines = TextLines::of(alloc, text)?;
-    printed(alloc, format, &path, text, &lines, findings)
+    printed(alloc, format, &path, &file, text, &lines, findings)
 }

@@ -8,7 +8,7 @@
 //!
 //! - [`Format`]: the forms. [`findings_text`]: the text of findings, one after another.
 //! - [`findings_are_whole_lines`]: in every form but `full` a finding is one line, whatever is in the base and the path.
-//! - Definitions: each form's text of a finding (`LineForm`, `FullForm`, `GithubForm`), which part of a line is shown (`Excerpts`),
+//! - Definitions: each form's text of a finding (`LineForm`, `FullForm`, `JsonForm`, `GithubForm`), which part of a line is shown (`Excerpts`),
 //!   the texts of all findings (`Forms`), the laws (`Laws`).
 #![tactic(auto)]
 
@@ -18,6 +18,7 @@ mod format;
 mod forms;
 mod full_form;
 mod github_form;
+mod json_form;
 mod laws;
 mod line_form;
 

@@ -1,5 +1,6 @@
 pub mod Codes
 pub mod Lines
+pub mod AboutOf
 pub mod WordsOf
 pub mod KeyPieces
 pub mod Words

@@ -13,6 +13,7 @@ use Rattle.base_text.specs.declared.detail.TextFault.{TextFault}
 use Rattle.lint_words.specs.Pieces.{grouped, number_of, quoted, char_text, frame_name}
 use Rattle.lint_words.specs.KeyPieces.{key_text, key_subject, item_text, out_of_range_text}
 use Rattle.lint_words.specs.Lines.{line_of}
+use Rattle.lint_words.specs.AboutOf.{about_frame, text_about}
 use Rattle.lint_words.specs.WordsOf.{WordsView, words_of}
 use Rattle.lint_words.specs.declared.code.Code.{Code}
 use Rattle.lint_words.specs.declared.code.Code.TheVariants as code
@@ -181,11 +182,11 @@ message_of fault =
 
 -- a fault of a text
 abbrev pub text_fault_words : TextFault → WordsView
-text_fault_words fault = words_of (code_of fault.detail) (line_of (message_of fault))
+text_fault_words fault = words_of (code_of fault.detail) (text_about fault) (line_of (message_of fault))
 
 -- a text that is too long, and one that isn't TOML, on which toml has this message
 abbrev pub too_long_words : WordsView
-too_long_words = words_of code.TooLong (line_of (codes "the text has more than 16,777,216 bytes"))
+too_long_words = words_of code.TooLong (about_frame None) (line_of (codes "the text has more than 16,777,216 bytes"))
 
 abbrev pub not_toml_words : List ℕ → WordsView
-not_toml_words message = words_of code.NotToml (line_of message)
+not_toml_words message = words_of code.NotToml (about_frame None) (line_of message)

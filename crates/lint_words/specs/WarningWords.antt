@@ -5,6 +5,7 @@ use Rattle.base_text.specs.declared.keys.Field.TheVariants as field
 use Rattle.lint_words.specs.KeyPieces.{item_text}
 use Rattle.lint_words.specs.Lines.{line_of}
 use Rattle.lint_words.specs.Pieces.{grouped}
+use Rattle.lint_words.specs.AboutOf.{about_key}
 use Rattle.lint_words.specs.WordsOf.{WordsView, words_of}
 use Rattle.lint_words.specs.declared.code.Code.TheVariants as code
 
@@ -25,10 +26,10 @@ escape_message id row =
     item_text field.Rows row (Some id) ++ codes " has \\u00 in single quotation marks, which is shown as it is"
 
 abbrev pub hidden_words : Id → ℕ → WordsView
-hidden_words id row = words_of code.Hidden (line_of (hidden_message id row))
+hidden_words id row = words_of code.Hidden (about_key (Some id) (codes "rows")) (line_of (hidden_message id row))
 
 abbrev pub line_end_words : Id → WordsView
-line_end_words id = words_of code.LineEnd (line_of (line_end_message id))
+line_end_words id = words_of code.LineEnd (about_key (Some id) (codes "body")) (line_of (line_end_message id))
 
 abbrev pub escape_words : Id → ℕ → WordsView
-escape_words id row = words_of code.Escape (line_of (escape_message id row))
+escape_words id row = words_of code.Escape (about_key (Some id) (codes "rows")) (line_of (escape_message id row))

@@ -6,6 +6,7 @@ use Rattle.base_text.specs.declared.whole_fault.WholeFault.{WholeFault}
 use Rattle.base_text.specs.declared.whole_fault.WholeFault.TheVariants.{TooManyFrames, TooManyOutside, BodyTooLong, NextAfterZ, Duplicate, OutsideInside}
 use Rattle.lint_words.specs.Lines.{line_of}
 use Rattle.lint_words.specs.Pieces.{grouped}
+use Rattle.lint_words.specs.AboutOf.{whole_about}
 use Rattle.lint_words.specs.WordsOf.{WordsView, words_of}
 use Rattle.lint_words.specs.declared.code.Code.{Code}
 use Rattle.lint_words.specs.declared.code.Code.TheVariants as code
@@ -59,4 +60,4 @@ code_of (OutsideInside page) = code.OutsideInside
 
 -- a fault of the whole
 abbrev pub whole_fault_words : WholeFault → ℕ → WordsView
-whole_fault_words fault line = words_of (code_of fault) (line_of (message_of fault line))
+whole_fault_words fault line = words_of (code_of fault) (whole_about fault) (line_of (message_of fault line))

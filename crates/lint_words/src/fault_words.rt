@@ -1,6 +1,7 @@
 ghost use Rattle.std.specs.Prelude.{◌≡◌, ◌++◌, IfOk, OnOk, Some, None};
 ghost use Rattle.lint_words.specs.FaultWords.{entry_missing_words, entry_closed_words, price_words, row_touches_words, body_touches_words, touches_words, missing_page_words, missing_frame_words, missing_words, closed_words, cut_off_words, too_far_words, no_return_words, code_of, message_of, fault_words, unreached_words, none_reached_words};
 
+use crate::about::{About, fault_about};
 use crate::audit_hints::audit_hint;
 use crate::code::Code;
 use crate::line::Line;
@@ -292,7 +293,8 @@ pub fn audit_fault_words(
     push_message(&mut message, judged, fault)?;
     let message = Line::of(alloc, &message)?;
     let hint = audit_hint(alloc, judged, fault, frame)?;
-    Ok(Words::new(code_of(fault.kind), message, hint))
+    let about = fault_about(alloc, fault)?;
+    Ok(Words::new(code_of(fault.kind), about, message, hint))
 }
 
 /// The words of a frame that no walk reaches.
@@ -308,7 +310,8 @@ pub fn unreached_words(alloc: Global, id: FrameId) -> Result<Words, AllocError>
             Text(" from the entry page"),
         ],
     )?;
-    Ok(Words::new(Code::Unreached, Line::of(alloc, &message)?, None))
+    let about = About::frame(Some(id));
+    Ok(Words::new(Code::Unreached, about, Line::of(alloc, &message)?, None))
 }
 
 /// The words of the frames that no walk reaches, this many, of a base whose entry frame isn't found.
@@ -324,5 +327,6 @@ pub fn none_reached_words(alloc: Global, frames: usize) -> Result<Words, AllocEr
             Text(" from the entry page"),
         ],
     )?;
-    Ok(Words::new(Code::Unreached, Line::of(alloc, &message)?, None))
+    let about = About::key(alloc, None, "entry")?;
+    Ok(Words::new(Code::Unreached, about, Line::of(alloc, &message)?, None))
 }

@@ -34,6 +34,7 @@
 //!   no TOML, not even where a string ends: it is a guess at the cause. If no rule applies, there is none.
 #![tactic(auto)]
 
+mod about;
 mod audit_hints;
 mod backwards;
 mod brackets;
@@ -58,6 +59,7 @@ mod whole_words;
 mod words;
 mod written_keys;
 
+pub use about::About;
 pub use code::Code;
 pub use count_words::push_counted;
 pub use fault_words::{Judged, audit_fault_words, none_reached_words, unreached_words};

@@ -3,6 +3,7 @@ ghost use Rattle.base_text.specs.declared.detail.Detail.TheVariants.{WrongKind};
 ghost use Rattle.lint_words.specs.KeyPieces.{key_subject, item_text};
 ghost use Rattle.lint_words.specs.TextWords.{kind_text, needed_text, item_needed, unknown_text, unknown_words, absent_words, no_table_words, is_element, misfit_words, wrong_kind_words, wrong_item_words, range_words, item_range_words, lead_words, body_code_words, too_many_rows_words, body_and_rows_words, long_row_words, row_code_words, more_body_codes_words, more_row_codes_words, bad_frame_words, detail_words, unlisted_words, code_of, message_of, text_fault_words, too_long_words, not_toml_words};
 
+use crate::about::{About, text_about};
 use crate::code::Code;
 use crate::line::Line;
 use crate::piece::Piece::{
@@ -450,6 +451,7 @@ pub fn text_fault_words(
     let message = Line::of(alloc, &message)?;
     Ok(Words::new(
         code_of(&fault.detail),
+        text_about(alloc, fault)?,
         message,
         text_hint(alloc, fault, written)?,
     ))
@@ -460,7 +462,7 @@ pub fn too_long_words(alloc: Global) -> Result<Words, AllocError>
     ensures { IfOk result (λ words. words ≡ too_long_words) }
 {
     let message = Line::of(alloc, b"the text has more than 16,777,216 bytes")?;
-    Ok(Words::new(Code::TooLong, message, None))
+    Ok(Words::new(Code::TooLong, About::frame(None), message, None))
 }
 
 /// The words of X2: toml's message on a text, whose span begins at the byte offset `at`, and a hint. The hint goes over
@@ -474,5 +476,6 @@ pub fn not_toml_words(
     ensures { IfOk result (λ words. words ≡ not_toml_words message.now) }
 {
     let hint = toml_hint(alloc, text, at, message)?;
-    Ok(Words::new(Code::NotToml, Line::of(alloc, message.as_bytes())?, hint))
+    let message = Line::of(alloc, message.as_bytes())?;
+    Ok(Words::new(Code::NotToml, About::frame(None), message, hint))
 }

@@ -3,6 +3,7 @@
 ghost use Rattle.std.specs.Prelude.{◌≡◌, ◌++◌, IfOk, OnOk};
 ghost use Rattle.lint_words.specs.WarningWords.{hidden_message, line_end_message, escape_message, hidden_words, line_end_words, escape_words};
 
+use crate::about::About;
 use crate::code::Code;
 use crate::hint::hint_of;
 use crate::line::Line;
@@ -58,7 +59,8 @@ pub fn hidden_words(alloc: Global, id: FrameId, row: usize) -> Result<Words, All
     let mut message = Vec::new(alloc);
     push_hidden(&mut message, id, row)?;
     let hint = hint_of(alloc, &[Text("leave row "), Grouped(row), Text(" empty")])?;
-    Ok(Words::new(Code::Hidden, Line::of(alloc, &message)?, hint))
+    let about = About::key(alloc, Some(id), "rows")?;
+    Ok(Words::new(Code::Hidden, about, Line::of(alloc, &message)?, hint))
 }
 
 /// The words of a body over several lines of the file, of which one ends with a line feed alone.
@@ -71,7 +73,8 @@ pub fn line_end_words(alloc: Global, id: FrameId) -> Result<Words, AllocError>
         alloc,
         &[Text("write \\u000D\\u000A at the end of each line")],
     )?;
-    Ok(Words::new(Code::LineEnd, Line::of(alloc, &message)?, hint))
+    let about = About::key(alloc, Some(id), "body")?;
+    Ok(Words::new(Code::LineEnd, about, Line::of(alloc, &message)?, hint))
 }
 
 /// The words of a row, counted from 1, that has `\u00` in single quotation marks.
@@ -81,5 +84,6 @@ pub fn escape_words(alloc: Global, id: FrameId, row: usize) -> Result<Words, All
     let mut message = Vec::new(alloc);
     push_escape(&mut message, id, row)?;
     let hint = hint_of(alloc, &[Text("write the row in double quotation marks")])?;
-    Ok(Words::new(Code::Escape, Line::of(alloc, &message)?, hint))
+    let about = About::key(alloc, Some(id), "rows")?;
+    Ok(Words::new(Code::Escape, about, Line::of(alloc, &message)?, hint))
 }

@@ -1,6 +1,7 @@
 ghost use Rattle.std.specs.Prelude.{◌≡◌, ◌++◌, IfOk, OnOk};
 ghost use Rattle.lint_words.specs.WholeWords.{too_many_frames_words, too_many_outside_words, long_body_words, next_words, duplicate_words, inside_words, code_of, message_of, whole_fault_words};
 
+use crate::about::whole_about;
 use crate::code::Code;
 use crate::line::Line;
 use crate::piece::Piece::{Grouped, Id, Number, Page, Text};
@@ -134,5 +135,6 @@ pub fn whole_fault_words(
 {
     let mut message = Vec::new(alloc);
     push_message(&mut message, fault, first_line)?;
-    Ok(Words::new(code_of(fault), Line::of(alloc, &message)?, None))
+    let about = whole_about(alloc, fault)?;
+    Ok(Words::new(code_of(fault), about, Line::of(alloc, &message)?, None))
 }

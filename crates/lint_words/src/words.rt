@@ -1,5 +1,6 @@
 ghost use Rattle.std.specs.Prelude.{◌≡◌};
 
+use crate::about::About;
 use crate::code::Code;
 use crate::line::Line;
 use std::marker::Model;
@@ -8,6 +9,7 @@ use std::marker::Model;
 #[derive(Debug, Drop)]
 pub struct Words {
     code: Code,
+    about: About,
     message: Line,
     hint: Option<Line>,
 }
@@ -17,7 +19,7 @@ impl Model for Words {
 
     ghost Value = { WordsView };
 
-    ghost view = { λ w. record { code = w.code; message = w.message } };
+    ghost view = { λ w. record { code = w.code; about = w.about; message = w.message } };
 }
 
 impl Words {
@@ -26,11 +28,12 @@ impl Words {
     ghost use Rattle.lint_words.specs.WordsOf.{WordsView, words_of};
 
     // Contracts don't see a hint: it is a line, and nothing else is promised of it.
-    pub(crate) fn new(code: Code, message: Line, hint: Option<Line>) -> Words
-        ensures { result ≡ words_of code message }
+    pub(crate) fn new(code: Code, about: About, message: Line, hint: Option<Line>) -> Words
+        ensures { result ≡ words_of code about message }
     {
         Words {
             code,
+            about,
             message,
             hint,
         }
@@ -40,6 +43,13 @@ impl Words {
         ensures { result ≡ self.now.code }
     {
         self.code
+    }
+
+    /// What it is about.
+    pub fn about(&self) -> &About
+        ensures { result.now ≡ self.now.about }
+    {
+        &self.about
     }
 
     /// What is wrong.

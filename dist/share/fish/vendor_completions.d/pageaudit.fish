@@ -8,7 +8,7 @@ complete -c pageaudit -n __fish_use_subcommand -f -a show -d 'Show a screen as a
 complete -c pageaudit -n __fish_use_subcommand -f -a list -d 'List the frames of a base, with the keys that lead there'
 complete -c pageaudit -n __fish_use_subcommand -f -a map -d 'Draw a base as a graph, a DOT file for Graphviz'
 complete -c pageaudit -n __fish_use_subcommand -f -a explain -d 'Explain a printed word, with an example and the fix'
-complete -c pageaudit -n '__fish_seen_subcommand_from lint' -l format -x -d 'Print each finding with its line of the base, as one line, or as a command of GitHub [default: full] [possible values: full, line, github]'
+complete -c pageaudit -n '__fish_seen_subcommand_from lint' -l format -x -d 'Print each finding with its line of the base, as one line, as JSON, or as a command of GitHub [default: full] [possible values: full, line, json, github]'
 complete -c pageaudit -n '__fish_seen_subcommand_from lint' -l deny-warnings -d 'End with status 1 for a warning too'
 complete -c pageaudit -n '__fish_seen_subcommand_from lint' -s c -l ceiling -x -d 'Report each frame that costs more than N pence, 0 to 9999 [default: 9999]'
 complete -c pageaudit -n '__fish_seen_subcommand_from lint' -s k -l keyings -x -d 'Report each frame more than N keys back to the entry page, 0 to 65535 [default: 65535]'

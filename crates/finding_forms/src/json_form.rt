@@ -1,0 +1,102 @@
+//! The form `json`.
+
+ghost use Rattle.std.specs.Prelude.{◌≡◌, ◌++◌, ℕ, List, codes, option_copied, IfOk, OnOk, count_by, ◌==◌};
+ghost use Rattle.std.specs.Str.Lossy.{utf8_lossy};
+ghost use Rattle.serde_json.specs.View.{view};
+ghost use Rattle.serde_json.specs.Written.{compact_text};
+ghost use Rattle.finding_forms.specs.JsonForm as spec;
+
+use crate::line_form::level_text;
+use lint::{Finding, Level};
+use lint_words::{Line, Words};
+use page_ids::{FrameId, push_id};
+use serde_json::{Value, json};
+use std::alloc::{AllocError, Global};
+use toml_places::{Extent, TextLines};
+
+// A text, or null.
+fn text_value(alloc: Global, text: Option<&Line>) -> Result<Value, AllocError>
+    ensures { IfOk result (λ value. view value ≡ spec.text_data (option_copied text.entry)) }
+{
+    match text {
+        None => Ok(Value::Null),
+        Some(line) => Value::try_from_str(alloc, line.as_str()),
+    }
+}
+
+// A frame's id, or null.
+fn frame_value(alloc: Global, frame: Option<FrameId>) -> Result<Value, AllocError>
+    ensures { IfOk result (λ value. view value ≡ spec.frame_data frame) }
+{
+    match frame {
+        None => Ok(Value::Null),
+        Some(id) => {
+            let mut text = Vec::new(alloc);
+            push_id(&mut text, id)?;
+            Value::try_from_str(alloc, Line::of(alloc, &text)?.as_str())
+        }
+    }
+}
+
+fn object(
+    alloc: Global,
+    file: &str,
+    extent: Extent,
+    level: Level,
+    words: &Words,
+    hint: Option<&Line>,
+) -> Result<Value, AllocError>
+    ensures { IfOk result (λ value. view value ≡ spec.object_data file.now extent level words.now (option_copied hint.entry)) }
+{
+    let about = words.about();
+    let frame = frame_value(alloc, about.frame)?;
+    let hint = text_value(alloc, hint)?;
+    let key = text_value(alloc, about.key.as_ref())?;
+    let keys = text_value(alloc, about.keys.as_ref())?;
+    json!(in alloc; {
+        "code": words.code().word(),
+        "column": extent.column,
+        "end_column": extent.end_column,
+        "end_line": extent.end_line,
+        "file": file,
+        "frame": frame,
+        "hint": hint,
+        "key": key,
+        "keys": keys,
+        "level": level_text(level),
+        "line": extent.line,
+        "message": words.message().as_str()
+    })
+}
+
+fn push_object_line(
+    alloc: Global,
+    out: &mut Vec<u8>,
+    file: &str,
+    extent: Extent,
+    level: Level,
+    words: &Words,
+    hint: Option<&Line>,
+) -> Result<(), AllocError>
+    ensures line { OnOk result (out.new.items ≡ out.old.items ++ (compact_text (spec.object_data file.now extent level words.now (option_copied hint.entry)) ++ codes "\n")) }
+    ensures no_feed { OnOk result (count_by (λ byte. byte == 10) (compact_text (spec.object_data file.now extent level words.now (option_copied hint.entry))) ≡ 0) }
+{
+    let text = object(alloc, file, extent, level, words, hint)?.to_string(alloc)?;
+    out.extend_from_slice(text.as_bytes())?;
+    out.extend_from_slice(b"\n")
+}
+
+// The object of a finding.
+pub fn push_object(
+    alloc: Global,
+    out: &mut Vec<u8>,
+    file: &str,
+    lines: &TextLines<'_>,
+    finding: &Finding,
+) -> Result<(), AllocError>
+    ensures { OnOk result ((bytes : List ℕ) → file.now ≡ utf8_lossy bytes → spec.AddsObject bytes lines.now finding.now out.old.items out.new.items) }
+{
+    let extent = lines.extent(finding.span);
+    let words = &finding.words;
+    push_object_line(alloc, out, file, extent, finding.level, words, words.hint())
+}
