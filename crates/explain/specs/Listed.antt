@@ -19,6 +19,7 @@ listed =
     codes "?" ∷
     codes "FAULTS" ∷
     codes "SCRIPT" ∷
+    codes "keys" ∷
     codes "PRICE" ∷
     codes "TOUCHES" ∷
     codes "BYTE" ∷
@@ -74,6 +75,8 @@ listed =
     codes "NoLongerCovered" ∷
     codes "UNREACHED" ∷
     codes "HIDDEN" ∷
+    codes "LINEEND" ∷
+    codes "ESCAPE" ∷
     codes "FRAME" ∷
     codes "RANK" ∷
     codes "GROUP" ∷
@@ -121,6 +124,7 @@ listed =
     codes "I4" ∷
     codes "BadGroups" ∷
     codes "I3" ∷
+    codes "keys" ∷
     codes "BadKey" ∷
     codes "read failed" ∷
     codes "write failed" ∷

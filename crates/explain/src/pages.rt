@@ -1,7 +1,7 @@
 //! The words and the paragraphs of their texts: written by tests/explain-words from docs/CODES.md.
 
 /// Each word; its place is that of its paragraphs.
-pub static WORDS: [&str; 129] = [
+pub static WORDS: [&str; 133] = [
     "PBC1",
     "entry",
     "ceiling",
@@ -17,6 +17,7 @@ pub static WORDS: [&str; 129] = [
     "?",
     "FAULTS",
     "SCRIPT",
+    "keys",
     "PRICE",
     "TOUCHES",
     "BYTE",
@@ -72,6 +73,8 @@ pub static WORDS: [&str; 129] = [
     "NoLongerCovered",
     "UNREACHED",
     "HIDDEN",
+    "LINEEND",
+    "ESCAPE",
     "FRAME",
     "RANK",
     "GROUP",
@@ -119,6 +122,7 @@ pub static WORDS: [&str; 129] = [
     "I4",
     "BadGroups",
     "I3",
+    "keys",
     "BadKey",
     "read failed",
     "write failed",
@@ -220,17 +224,36 @@ const P22: &str = r#"    FAULTS 1
 
 const P23: &str = r#"Fix: each of them, then audit again, since more frames may be reachable."#;
 
-const P24: &str = r#"PRICE"#;
+const P24: &str = r#"I3 BadKey"#;
 
-const P25: &str = r#"The frame's price, the number after its id, is above the ceiling."#;
+const P25: &str = r#"No key begins at this byte of a walk's keys. Nothing is walked."#;
 
-const P26: &str = r#"Fix: lower the frame's 'price', or raise --ceiling."#;
+const P26: &str = r#"    entry = 1
 
-const P27: &str = r#"K7 Price"#;
+    [[frame]]
+    id = "1a"
+    rows = []"#;
 
-const P28: &str = r#"The row's frame costs more than the certificate's ceiling."#;
+const P27: &str = r#"    pageaudit walk base.toml '1*5#'"#;
 
-const P29: &str = r#"    entry = 1
+const P28: &str = r#"They print on standard error, with status 2:"#;
+
+const P29: &str = r#"    keys: I3 BadKey 1"#;
+
+const P30: &str = r#"Fix: write '0' to '9', '#', '*#', '*00' and '*09', without spaces, in quotation
+marks."#;
+
+const P31: &str = r#"PRICE"#;
+
+const P32: &str = r#"The frame's price, the number after its id, is above the ceiling."#;
+
+const P33: &str = r#"Fix: lower the frame's 'price', or raise --ceiling."#;
+
+const P34: &str = r#"K7 Price"#;
+
+const P35: &str = r#"The row's frame costs more than the certificate's ceiling."#;
+
+const P36: &str = r#"    entry = 1
 
     [[frame]]
     id = "1a"
@@ -243,9 +266,9 @@ const P29: &str = r#"    entry = 1
     rows = []
     routes = { 0 = 1 }"#;
 
-const P30: &str = r#"The file base.cert:"#;
+const P37: &str = r#"The file base.cert:"#;
 
-const P31: &str = r#"    PBC1
+const P38: &str = r#"    PBC1
     entry 1
     ceiling 5
     keyings 1
@@ -254,79 +277,79 @@ const P31: &str = r#"    PBC1
     1b 1 s40
     end"#;
 
-const P32: &str = r#"The file try:"#;
+const P39: &str = r#"The file try:"#;
 
-const P33: &str = r#"    sed "$1" base.cert >other.cert
+const P40: &str = r#"    sed "$1" base.cert >other.cert
     pageaudit check base.toml other.cert --ceiling 5 --keyings 1"#;
 
-const P34: &str = r#"    sh try 's/^ceiling 5/ceiling 4/'"#;
+const P41: &str = r#"    sh try 's/^ceiling 5/ceiling 4/'"#;
 
-const P35: &str = r#"    REFUSED K7 Price 1b"#;
+const P42: &str = r#"    REFUSED K7 Price 1b"#;
 
-const P36: &str = r#"Fix: lower the frame's 'price', or audit again."#;
+const P43: &str = r#"Fix: lower the frame's 'price', or audit again."#;
 
-const P37: &str = r#"TOUCHES"#;
+const P44: &str = r#"TOUCHES"#;
 
-const P38: &str = r#"The body can write into a service row, 0 or 23, or double height, 8D (escape
+const P45: &str = r#"The body can write into a service row, 0 or 23, or double height, 8D (escape
 and M), into row 22, which row 23 shows too. BYTE is the first byte that can,
 START the smallest cursor position before the frame from which it does. Here 1E
 moves to position 0, where A is written."#;
 
-const P39: &str = r#"    entry = 1
+const P46: &str = r#"    entry = 1
 
     [[frame]]
     id = "1a"
     body = "\u001EA""#;
 
-const P40: &str = r#"    FAULTS 1
+const P47: &str = r#"    FAULTS 1
     TOUCHES 1a BYTE 1 START 0 SCRIPT -"#;
 
-const P41: &str = r#"Fix: begin the body with '\u001E\u000A', which moves to row 1, and write at
+const P48: &str = r#"Fix: begin the body with '\u001E\u000A', which moves to row 1, and write at
 most 22 rows, the last without 8D. Or give the frame as 'rows'."#;
 
-const P42: &str = r#"K9 Touches"#;
+const P49: &str = r#"K9 Touches"#;
 
-const P43: &str = r#"The frame's body can write into a service row, or 8D into row 22. The number is
+const P50: &str = r#"The frame's body can write into a service row, or 8D into row 22. The number is
 the first byte that can."#;
 
-const P44: &str = r#"    sed -i '$d; s/^price.*/body = "\\u001EA"/; /1b/,$s/^rows.*//' base.toml
+const P51: &str = r#"    sed -i '$d; s/^price.*/body = "\\u001EA"/; /1b/,$s/^rows.*//' base.toml
     sh try ''"#;
 
-const P45: &str = r#"    REFUSED K9 Touches 1b 1"#;
+const P52: &str = r#"    REFUSED K9 Touches 1b 1"#;
 
-const P46: &str = r#"Fix: the body, as for TOUCHES, and audit again."#;
+const P53: &str = r#"Fix: the body, as for TOUCHES, and audit again."#;
 
-const P47: &str = r#"MISSING"#;
+const P54: &str = r#"MISSING"#;
 
-const P48: &str = r#"A key leads to a frame that the base doesn't have. An audit names that frame,
+const P55: &str = r#"A key leads to a frame that the base doesn't have. An audit names that frame,
 the frame AT which the key is pressed, and the KEY, which ends the script. In a
 walk the caller stays."#;
 
-const P49: &str = r#"    entry = 1
+const P56: &str = r#"    entry = 1
 
     [[frame]]
     id = "1a"
     rows = []
     routes = { 2 = 5 }"#;
 
-const P50: &str = r#"    pageaudit walk base.toml 2
+const P57: &str = r#"    pageaudit walk base.toml 2
     pageaudit audit base.toml --ceiling 0 --keyings 0"#;
 
-const P51: &str = r#"    SHOWN 1a 0
+const P58: &str = r#"    SHOWN 1a 0
     MISSING 5a
     FAULTS 1
     MISSING 5a AT 1a KEY 2 SCRIPT 2"#;
 
-const P52: &str = r#"Fix: add the frame, correct or remove the route (for '#', 'next = true'), or
+const P59: &str = r#"Fix: add the frame, correct or remove the route (for '#', 'next = true'), or
 list another provider's page in 'outside'."#;
 
-const P53: &str = r#"CLOSED"#;
+const P60: &str = r#"CLOSED"#;
 
-const P54: &str = r#"A key leads to a frame of a closed user group that the caller isn't in;
+const P61: &str = r#"A key leads to a frame of a closed user group that the caller isn't in;
 --groups names the caller's groups. The line is like that of MISSING. In a walk
 the caller stays."#;
 
-const P55: &str = r#"    entry = 1
+const P62: &str = r#"    entry = 1
 
     [[frame]]
     id = "1a"
@@ -338,23 +361,23 @@ const P55: &str = r#"    entry = 1
     group = 7
     rows = []"#;
 
-const P56: &str = r#"    pageaudit walk base.toml '#'
+const P63: &str = r#"    pageaudit walk base.toml '#'
     pageaudit audit base.toml --ceiling 0 --keyings 0"#;
 
-const P57: &str = r#"    SHOWN 1a 0
+const P64: &str = r#"    SHOWN 1a 0
     CLOSED 1b
     FAULTS 1
     CLOSED 1b AT 1a KEY # SCRIPT #"#;
 
-const P58: &str = r#"Fix: remove the frame's 'group' or what leads to it, or name the group in
+const P65: &str = r#"Fix: remove the frame's 'group' or what leads to it, or name the group in
 --groups."#;
 
-const P59: &str = r#"NORETURN"#;
+const P66: &str = r#"NORETURN"#;
 
-const P60: &str = r#"No route and next keys lead from the frame back to the entry frame, or more
+const P67: &str = r#"No route and next keys lead from the frame back to the entry frame, or more
 than --keyings are needed. '*#' doesn't count."#;
 
-const P61: &str = r#"    entry = 1
+const P68: &str = r#"    entry = 1
 
     [[frame]]
     id = "1a"
@@ -365,48 +388,48 @@ const P61: &str = r#"    entry = 1
     id = "2a"
     rows = []"#;
 
-const P62: &str = r#"    pageaudit audit base.toml --ceiling 0 --keyings 9"#;
+const P69: &str = r#"    pageaudit audit base.toml --ceiling 0 --keyings 9"#;
 
-const P63: &str = r#"    FAULTS 1
+const P70: &str = r#"    FAULTS 1
     NORETURN 2a SCRIPT 2"#;
 
-const P64: &str = r#"Fix: add a route to the entry page or to a frame that has one. If the way is
+const P71: &str = r#"Fix: add a route to the entry page or to a frame that has one. If the way is
 only too long, raise --keyings."#;
 
-const P65: &str = r#"ENTRYMISSING"#;
+const P72: &str = r#"ENTRYMISSING"#;
 
-const P66: &str = r#"The entry page has no frame 'a'. It is an audit's only fault, and a walk's only
+const P73: &str = r#"The entry page has no frame 'a'. It is an audit's only fault, and a walk's only
 line."#;
 
-const P67: &str = r#"    entry = 1"#;
+const P74: &str = r#"    entry = 1"#;
 
-const P68: &str = r#"    FAULTS 1
+const P75: &str = r#"    FAULTS 1
     ENTRYMISSING 1a"#;
 
-const P69: &str = r#"Fix: correct 'entry', or add the frame."#;
+const P76: &str = r#"Fix: correct 'entry', or add the frame."#;
 
-const P70: &str = r#"ENTRYCLOSED"#;
+const P77: &str = r#"ENTRYCLOSED"#;
 
-const P71: &str = r#"The entry page's frame 'a' is in a closed user group that the caller isn't in.
+const P78: &str = r#"The entry page's frame 'a' is in a closed user group that the caller isn't in.
 It is an audit's only fault, and a walk's only line."#;
 
-const P72: &str = r#"    entry = 1
+const P79: &str = r#"    entry = 1
 
     [[frame]]
     id = "1a"
     group = 7
     rows = []"#;
 
-const P73: &str = r#"    FAULTS 1
+const P80: &str = r#"    FAULTS 1
     ENTRYCLOSED 1a"#;
 
-const P74: &str = r#"Fix: remove the frame's 'group', or name it in --groups."#;
+const P81: &str = r#"Fix: remove the frame's 'group', or name it in --groups."#;
 
-const P75: &str = r#"SHOWN"#;
+const P82: &str = r#"SHOWN"#;
 
-const P76: &str = r#"The frame is sent, and its price charged, in pence."#;
+const P83: &str = r#"The frame is sent, and its price charged, in pence."#;
 
-const P77: &str = r#"    entry = 1
+const P84: &str = r#"    entry = 1
     outside = [9]
 
     [[frame]]
@@ -415,277 +438,272 @@ const P77: &str = r#"    entry = 1
     rows = []
     routes = { 9 = 9 }"#;
 
-const P78: &str = r#"    pageaudit walk base.toml '*09'"#;
+const P85: &str = r#"    pageaudit walk base.toml '*09'"#;
 
-const P79: &str = r#"    SHOWN 1a 5
+const P86: &str = r#"    SHOWN 1a 5
     SHOWN 1a 5"#;
 
-const P80: &str = r#"AGAIN"#;
+const P87: &str = r#"AGAIN"#;
 
-const P81: &str = r#"The frame is sent again by '*00', without charge."#;
+const P88: &str = r#"The frame is sent again by '*00', without charge."#;
 
-const P82: &str = r#"    pageaudit walk base.toml '*00'"#;
+const P89: &str = r#"    pageaudit walk base.toml '*00'"#;
 
-const P83: &str = r#"    SHOWN 1a 5
+const P90: &str = r#"    SHOWN 1a 5
     AGAIN 1a"#;
 
-const P84: &str = r#"NOTOFFERED"#;
+const P91: &str = r#"NOTOFFERED"#;
 
-const P85: &str = r#"The key does nothing: there is no such route, no next frame, no frame for '*#'
+const P92: &str = r#"The key does nothing: there is no such route, no next frame, no frame for '*#'
 to go back to, or the caller left."#;
 
-const P86: &str = r#"    pageaudit walk base.toml '5'"#;
+const P93: &str = r#"    pageaudit walk base.toml '5'"#;
 
-const P87: &str = r#"    SHOWN 1a 5
+const P94: &str = r#"    SHOWN 1a 5
     NOTOFFERED"#;
 
-const P88: &str = r#"Fix: add the route or 'next = true' if the key should lead somewhere."#;
+const P95: &str = r#"Fix: add the route or 'next = true' if the key should lead somewhere."#;
 
-const P89: &str = r#"GONE"#;
+const P96: &str = r#"GONE"#;
 
-const P90: &str = r#"The caller left for an outside page. Later keys are NOTOFFERED."#;
+const P97: &str = r#"The caller left for an outside page. Later keys are NOTOFFERED."#;
 
-const P91: &str = r#"    pageaudit walk base.toml '90'"#;
+const P98: &str = r#"    pageaudit walk base.toml '90'"#;
 
-const P92: &str = r#"    SHOWN 1a 5
+const P99: &str = r#"    SHOWN 1a 5
     GONE 9
     NOTOFFERED"#;
 
-const P93: &str = r#"CLEARED"#;
+const P100: &str = r#"CLEARED"#;
 
-const P94: &str = r#"From 'check': the base is safe within the ceiling and keyings, for callers in
+const P101: &str = r#"From 'check': the base is safe within the ceiling and keyings, for callers in
 exactly the groups of --groups, or in none. From 'change': the new edition may
 replace the old one while such callers are inside."#;
 
-const P95: &str = r#"    pageaudit check base.toml base.cert --ceiling 5 --keyings 1
+const P102: &str = r#"    pageaudit check base.toml base.cert --ceiling 5 --keyings 1
     pageaudit change base.toml base.cert base.toml base.cert -c 5 -k 1"#;
 
-const P96: &str = r#"    CLEARED
+const P103: &str = r#"    CLEARED
     CLEARED"#;
 
-const P97: &str = r#"REFUSED"#;
+const P104: &str = r#"REFUSED"#;
 
-const P98: &str = r#"The first condition that fails: its code, its name, and mostly the frame. A
+const P105: &str = r#"The first condition that fails: its code, its name, and mostly the frame. A
 check tries K1, K2, K3, K15, K4, then K5 to K14 row by row."#;
 
-const P99: &str = r#"    pageaudit check base.toml base.cert --ceiling 0 --keyings 0"#;
+const P106: &str = r#"    pageaudit check base.toml base.cert --ceiling 0 --keyings 0"#;
 
-const P100: &str = r#"    REFUSED K2 CeilingAbove"#;
+const P107: &str = r#"    REFUSED K2 CeilingAbove"#;
 
-const P101: &str = r#"Fix: that of the code."#;
+const P108: &str = r#"Fix: that of the code."#;
 
-const P102: &str = r#"K1 EntryDiffers"#;
+const P109: &str = r#"K1 EntryDiffers"#;
 
-const P103: &str = r#"The certificate's entry page isn't the base's."#;
+const P110: &str = r#"The certificate's entry page isn't the base's."#;
 
-const P104: &str = r#"    sh try 's/^entry 1/entry 2/'"#;
+const P111: &str = r#"    sh try 's/^entry 1/entry 2/'"#;
 
-const P105: &str = r#"    REFUSED K1 EntryDiffers"#;
+const P112: &str = r#"    REFUSED K1 EntryDiffers"#;
 
-const P106: &str = r#"Fix: give the base its own certificate."#;
+const P113: &str = r#"Fix: give the base its own certificate."#;
 
-const P107: &str = r#"K2 CeilingAbove"#;
+const P114: &str = r#"K2 CeilingAbove"#;
 
-const P108: &str = r#"The certificate's ceiling is above --ceiling."#;
+const P115: &str = r#"The certificate's ceiling is above --ceiling."#;
 
-const P109: &str = r#"    pageaudit check base.toml base.cert --ceiling 4 --keyings 1"#;
+const P116: &str = r#"    pageaudit check base.toml base.cert --ceiling 4 --keyings 1"#;
 
-const P110: &str = r#"Fix: lower prices and audit again, or raise --ceiling."#;
+const P117: &str = r#"Fix: lower prices and audit again, or raise --ceiling."#;
 
-const P111: &str = r#"K3 KeyingsAbove"#;
+const P118: &str = r#"K3 KeyingsAbove"#;
 
-const P112: &str = r#"The certificate's keyings are above --keyings."#;
+const P119: &str = r#"The certificate's keyings are above --keyings."#;
 
-const P113: &str = r#"    pageaudit check base.toml base.cert --ceiling 5 --keyings 0"#;
+const P120: &str = r#"    pageaudit check base.toml base.cert --ceiling 5 --keyings 0"#;
 
-const P114: &str = r#"    REFUSED K3 KeyingsAbove"#;
+const P121: &str = r#"    REFUSED K3 KeyingsAbove"#;
 
-const P115: &str = r#"Fix: add shorter ways back and audit again, or raise --keyings."#;
+const P122: &str = r#"Fix: add shorter ways back and audit again, or raise --keyings."#;
 
-const P116: &str = r#"K15 GroupsDiffer"#;
+const P123: &str = r#"K15 GroupsDiffer"#;
 
-const P117: &str =
+const P124: &str =
     r#"The certificate is for callers in other groups than --groups names; without it,
 in any group."#;
 
-const P118: &str = r#"    pageaudit check base.toml base.cert --ceiling 5 --keyings 1 --groups 7"#;
+const P125: &str = r#"    pageaudit check base.toml base.cert --ceiling 5 --keyings 1 --groups 7"#;
 
-const P119: &str = r#"    REFUSED K15 GroupsDiffer"#;
+const P126: &str = r#"    REFUSED K15 GroupsDiffer"#;
 
-const P120: &str = r#"Fix: give the groups of the certificate's line 'groups', or audit with the
+const P127: &str = r#"Fix: give the groups of the certificate's line 'groups', or audit with the
 right ones."#;
 
-const P121: &str = r#"K4 EntryNotCovered"#;
+const P128: &str = r#"K4 EntryNotCovered"#;
 
-const P122: &str = r#"The entry page's frame 'a' has no row."#;
+const P129: &str = r#"The entry page's frame 'a' has no row."#;
 
-const P123: &str = r#"    sh try 's/^rows 2/rows 1/; /^1a/d'"#;
+const P130: &str = r#"    sh try 's/^rows 2/rows 1/; /^1a/d'"#;
 
-const P124: &str = r#"    REFUSED K4 EntryNotCovered"#;
+const P131: &str = r#"    REFUSED K4 EntryNotCovered"#;
 
-const P125: &str = r#"Fix: audit again."#;
+const P132: &str = r#"Fix: audit again."#;
 
-const P126: &str = r#"K5 NoFrame"#;
+const P133: &str = r#"K5 NoFrame"#;
 
-const P127: &str = r#"The base lacks the row's frame."#;
+const P134: &str = r#"The base lacks the row's frame."#;
 
-const P128: &str = r#"    sh try 's/^rows 2/rows 3/; s/^end/2a 1 s40\nend/'"#;
+const P135: &str = r#"    sh try 's/^rows 2/rows 3/; s/^end/2a 1 s40\nend/'"#;
 
-const P129: &str = r#"    REFUSED K5 NoFrame 2a"#;
+const P136: &str = r#"    REFUSED K5 NoFrame 2a"#;
 
-const P130: &str = r#"Fix: audit again, or put the frame back."#;
+const P137: &str = r#"Fix: audit again, or put the frame back."#;
 
-const P131: &str = r#"K6 ClosedFrame"#;
+const P138: &str = r#"K6 ClosedFrame"#;
 
-const P132: &str = r#"The row's frame is in a closed user group, which isn't one of the
+const P139: &str = r#"The row's frame is in a closed user group, which isn't one of the
 certificate's."#;
 
-const P133: &str = r#"    sed -i 's/^price = 5/group = 7/' base.toml
+const P140: &str = r#"    sed -i 's/^price = 5/group = 7/' base.toml
     sh try ''"#;
 
-const P134: &str = r#"    REFUSED K6 ClosedFrame 1b"#;
+const P141: &str = r#"    REFUSED K6 ClosedFrame 1b"#;
 
-const P135: &str =
+const P142: &str =
     r#"Fix: remove the frame's 'group', or what leads to the frame, and audit again."#;
 
-const P136: &str = r#"K8 RankAbove"#;
+const P143: &str = r#"K8 RankAbove"#;
 
-const P137: &str = r#"The row's rank is above the certificate's keyings."#;
+const P144: &str = r#"The row's rank is above the certificate's keyings."#;
 
-const P138: &str = r#"    sh try 's/^keyings 1/keyings 0/'"#;
+const P145: &str = r#"    sh try 's/^keyings 1/keyings 0/'"#;
 
-const P139: &str = r#"    REFUSED K8 RankAbove 1b"#;
+const P146: &str = r#"    REFUSED K8 RankAbove 1b"#;
 
-const P140: &str = r#"K10 CursorDiffers"#;
+const P147: &str = r#"K10 CursorDiffers"#;
 
-const P141: &str = r#"The row's cursor isn't where the frame leaves it."#;
+const P148: &str = r#"The row's cursor isn't where the frame leaves it."#;
 
-const P142: &str = r#"    sh try 's/^1b 1 s40/1b 1 s41/'"#;
+const P149: &str = r#"    sh try 's/^1b 1 s40/1b 1 s41/'"#;
 
-const P143: &str = r#"    REFUSED K10 CursorDiffers 1b"#;
+const P150: &str = r#"    REFUSED K10 CursorDiffers 1b"#;
 
-const P144: &str = r#"K11 RouteNotCovered"#;
+const P151: &str = r#"K11 RouteNotCovered"#;
 
-const P145: &str =
+const P152: &str =
     r#"The route of this digit leads to a page that isn't outside, and whose frame 'a'
 has no row."#;
 
-const P146: &str = r#"    sed -i 's/0 = 1/0 = 1, 2 = 2/' base.toml
+const P153: &str = r#"    sed -i 's/0 = 1/0 = 1, 2 = 2/' base.toml
     sh try ''"#;
 
-const P147: &str = r#"    REFUSED K11 RouteNotCovered 1b 2"#;
+const P154: &str = r#"    REFUSED K11 RouteNotCovered 1b 2"#;
 
-const P148: &str = r#"Fix: audit again; or add the page, correct the route, or list the page in
+const P155: &str = r#"Fix: audit again; or add the page, correct the route, or list the page in
 'outside'."#;
 
-const P149: &str = r#"K12 NextNotCovered"#;
+const P156: &str = r#"K12 NextNotCovered"#;
 
-const P150: &str = r#"The frame has 'next = true', and the next frame has no row."#;
+const P157: &str = r#"The frame has 'next = true', and the next frame has no row."#;
 
-const P151: &str = r#"    sh try 's/^rows 2/rows 1/; /^1b/d'"#;
+const P158: &str = r#"    sh try 's/^rows 2/rows 1/; /^1b/d'"#;
 
-const P152: &str = r#"    REFUSED K12 NextNotCovered 1a"#;
+const P159: &str = r#"    REFUSED K12 NextNotCovered 1a"#;
 
-const P153: &str = r#"Fix: audit again, add the next frame, or remove 'next = true'."#;
+const P160: &str = r#"Fix: audit again, add the next frame, or remove 'next = true'."#;
 
-const P154: &str = r#"K13 RankZero"#;
+const P161: &str = r#"K13 RankZero"#;
 
-const P155: &str = r#"The row has rank 0 and isn't the entry frame's."#;
+const P162: &str = r#"The row has rank 0 and isn't the entry frame's."#;
 
-const P156: &str = r#"    sh try 's/^1b 1/1b 0/'"#;
+const P163: &str = r#"    sh try 's/^1b 1/1b 0/'"#;
 
-const P157: &str = r#"    REFUSED K13 RankZero 1b"#;
+const P164: &str = r#"    REFUSED K13 RankZero 1b"#;
 
-const P158: &str = r#"K14 NoWayDown"#;
+const P165: &str = r#"K14 NoWayDown"#;
 
-const P159: &str = r#"No route or next key of the frame leads to a row of lower rank."#;
+const P166: &str = r#"No route or next key of the frame leads to a row of lower rank."#;
 
-const P160: &str = r#"    sed -i '/^routes/d' base.toml
+const P167: &str = r#"    sed -i '/^routes/d' base.toml
     sh try ''"#;
 
-const P161: &str = r#"    REFUSED K14 NoWayDown 1b"#;
+const P168: &str = r#"    REFUSED K14 NoWayDown 1b"#;
 
-const P162: &str = r#"Fix: give the frame a way back, as for NORETURN, and audit again."#;
+const P169: &str = r#"Fix: give the frame a way back, as for NORETURN, and audit again."#;
 
-const P163: &str = r#"OLD"#;
+const P170: &str = r#"OLD"#;
 
-const P164: &str = r#"The check of the old edition fails; its line follows."#;
+const P171: &str = r#"The check of the old edition fails; its line follows."#;
 
-const P165: &str = r#"    pageaudit change base.toml base.cert base.toml base.cert -c 4 -k 1"#;
+const P172: &str = r#"    pageaudit change base.toml base.cert base.toml base.cert -c 4 -k 1"#;
 
-const P166: &str = r#"    OLD REFUSED K2 CeilingAbove"#;
+const P173: &str = r#"    OLD REFUSED K2 CeilingAbove"#;
 
-const P167: &str = r#"Fix: give the base that is being served, its certificate, and numbers that
+const P174: &str = r#"Fix: give the base that is being served, its certificate, and numbers that
 clear it; or publish when no caller is inside."#;
 
-const P168: &str = r#"NEW"#;
+const P175: &str = r#"NEW"#;
 
-const P169: &str = r#"The check of the new edition fails; its line follows."#;
+const P176: &str = r#"The check of the new edition fails; its line follows."#;
 
-const P170: &str = r#"    sed 's/^price = 5/price = 7/' base.toml >new.toml
+const P177: &str = r#"    sed 's/^price = 5/price = 7/' base.toml >new.toml
     pageaudit change base.toml base.cert new.toml base.cert -c 7 -k 1"#;
 
-const P171: &str = r#"    NEW REFUSED K7 Price 1b"#;
+const P178: &str = r#"    NEW REFUSED K7 Price 1b"#;
 
-const P172: &str = r#"Fix: that of the line. Mostly the new edition needs an audit."#;
+const P179: &str = r#"Fix: that of the line. Mostly the new edition needs an audit."#;
 
-const P173: &str = r#"new base"#;
+const P180: &str = r#"new base"#;
 
-const P174: &str = r#"'new base: ' or 'new certificate: ' and a fault of that file of the new
+const P181: &str = r#"'new base: ' or 'new certificate: ' and a fault of that file of the new
 edition. It is read after the old edition."#;
 
-const P175: &str = r#"    entry = 1
-
-    [[frame]]
-    id = "1a"
-    rows = []"#;
-
-const P176: &str = r#"    pageaudit audit base.toml --ceiling 0 --keyings 0 >base.cert
+const P182: &str = r#"    pageaudit audit base.toml --ceiling 0 --keyings 0 >base.cert
     sed '/^entry/d' base.toml >new.toml
     pageaudit change base.toml base.cert new.toml base.cert -c 0 -k 0"#;
 
-const P177: &str = r#"They print on standard error, with status 3:"#;
+const P183: &str = r#"They print on standard error, with status 3:"#;
 
-const P178: &str = r#"    new base: X4 Absent entry"#;
+const P184: &str = r#"    new base: X4 Absent entry"#;
 
-const P179: &str = r#"Fix: that of the fault."#;
+const P185: &str = r#"Fix: that of the fault."#;
 
-const P180: &str = r#"E1 EntryMoved"#;
+const P186: &str = r#"E1 EntryMoved"#;
 
-const P181: &str = r#"The editions have different entry pages."#;
+const P187: &str = r#"The editions have different entry pages."#;
 
-const P182: &str = r#"    sed 's/1$/2/; s/"1/"2/; s/= 1 /= 2 /' base.toml >new.toml
+const P188: &str = r#"    sed 's/1$/2/; s/"1/"2/; s/= 1 /= 2 /' base.toml >new.toml
     pageaudit audit new.toml --ceiling 5 --keyings 1 >new.cert
     pageaudit change base.toml base.cert new.toml new.cert -c 5 -k 1"#;
 
-const P183: &str = r#"    REFUSED E1 EntryMoved"#;
+const P189: &str = r#"    REFUSED E1 EntryMoved"#;
 
-const P184: &str = r#"Fix: keep the entry page and let it lead to the new one, or publish when no
+const P190: &str = r#"Fix: keep the entry page and let it lead to the new one, or publish when no
 caller is inside."#;
 
-const P185: &str = r#"E2 NoLongerCovered"#;
+const P191: &str = r#"E2 NoLongerCovered"#;
 
-const P186: &str =
+const P192: &str =
     r#"This frame (the smallest is named) has a row in the old certificate and none in
 the new one, so a caller could lose it."#;
 
-const P187: &str = r#"    sed '/^next/d; 7,$d' base.toml >new.toml
+const P193: &str = r#"    sed '/^next/d; 7,$d' base.toml >new.toml
     pageaudit audit new.toml --ceiling 5 --keyings 1 >new.cert
     pageaudit change base.toml base.cert new.toml new.cert -c 5 -k 1"#;
 
-const P188: &str = r#"    REFUSED E2 NoLongerCovered 1b"#;
+const P194: &str = r#"    REFUSED E2 NoLongerCovered 1b"#;
 
-const P189: &str = r#"Fix: keep the frame, perhaps with another text, and a way to it, and audit
+const P195: &str = r#"Fix: keep the frame, perhaps with another text, and a way to it, and audit
 again; or publish when no caller is inside."#;
 
-const P190: &str = r#"UNREACHED"#;
+const P196: &str = r#"UNREACHED"#;
 
-const P191: &str = r#"A warning: no key leads to this frame from the entry page, so no caller sees
-it."#;
+const P197: &str = r#"A warning: no key leads to this frame from the entry page, so no caller sees
+it. If the entry frame isn't found, one line has the number of all frames that
+are open to the caller."#;
 
-const P192: &str = r#"The file base:"#;
+const P198: &str = r#"The file base:"#;
 
-const P193: &str = r#"    entry = 1
+const P199: &str = r#"    entry = 1
 
     [[frame]]
     id = "1a"
@@ -695,23 +713,23 @@ const P193: &str = r#"    entry = 1
     id = "2a"
     rows = []"#;
 
-const P194: &str = r#"    pageaudit lint base --format line 2>/dev/null"#;
+const P200: &str = r#"    pageaudit lint base --format line 2>/dev/null"#;
 
-const P195: &str =
+const P201: &str =
     r#"    base:7:1: warning: UNREACHED: no key leads to frame 2a from the entry page"#;
 
-const P196: &str =
+const P202: &str =
     r#"Fix: add a route or 'next = true' that leads to the frame, or remove it. If the
 edition that is served covers it, 'change' reports E2."#;
 
-const P197: &str = r#"FRAME"#;
+const P203: &str = r#"FRAME"#;
 
-const P198: &str = r#"RANK is the least number of keys '0' to '9' and '#' back to the entry frame.
+const P204: &str = r#"RANK is the least number of keys '0' to '9' and '#' back to the entry frame.
 PRICE is in pence, GROUP is the frame's closed user group, and SCRIPT has keys
 that lead to the frame; '-' is none. UNREACHED is a frame that no key leads
 this caller to, perhaps since it is closed. It is no fault."#;
 
-const P199: &str = r#"    entry = 1
+const P205: &str = r#"    entry = 1
 
     [[frame]]
     id = "1a"
@@ -728,117 +746,143 @@ const P199: &str = r#"    entry = 1
     group = 7
     rows = []"#;
 
-const P200: &str = r#"    pageaudit list base.toml"#;
+const P206: &str = r#"    pageaudit list base.toml"#;
 
-const P201: &str = r#"    FRAME 1a RANK 0 PRICE 0 GROUP - SCRIPT -
+const P207: &str = r#"    FRAME 1a RANK 0 PRICE 0 GROUP - SCRIPT -
     FRAME 1b RANK - PRICE 5 GROUP - SCRIPT #
     UNREACHED 2a PRICE 0 GROUP 7"#;
 
-const P202: &str = r#"HIDDEN"#;
+const P208: &str = r#"HIDDEN"#;
 
-const P203: &str = r#"A warning: this row has text, but the row above has double height (8D), which
+const P209: &str = r#"A warning: this row has text, but the row above has double height (8D), which
 takes up both rows. No caller sees the text."#;
 
-const P204: &str = r#"    sed '0,/rows = .*/s//rows = ["\\u008DTITLE", "text"]/' base >two
+const P210: &str = r#"    sed '0,/rows = .*/s//rows = ["\\u008DTITLE", "text"]/' base >two
     pageaudit lint two 2>&1 | sed -n 's/^two:5:24: //; s/;.*//; 1p'"#;
 
-const P205: &str =
+const P211: &str =
     r#"    warning: HIDDEN: row 2 of frame 1a is hidden by the double height of row 1"#;
 
-const P206: &str = r#"Fix: leave the row below double height empty."#;
+const P212: &str = r#"Fix: leave the row below double height empty."#;
 
-const P207: &str = r#"X1 TooLong"#;
+const P213: &str = r#"LINEEND"#;
 
-const P208: &str = r#"The file has more than 16,777,216 bytes."#;
+const P214: &str = r#"A warning: a line of this 'body' ends in the file with a line feed alone (0A).
+That goes one row down in the same column, where the text goes on. It is the
+first such line end of the body."#;
 
-const P209: &str = r#"    head -c 16777217 /dev/zero >base.toml
+const P215: &str = r#"    printf '[[frame]]\nid = "1b"\nbody = """\nONE\nTWO"""\n' | cat base - >two
+    pageaudit lint two 2>&1 | sed -n 's/^two:13:4: warning: //; s/,.*//; /LINE/p'"#;
+
+const P216: &str = r#"    LINEEND: a line of the body of frame 1b ends with a line feed alone"#;
+
+const P217: &str = r#"Fix: write '\u000D\u000A' and a backslash at the end of each line, or use
+'rows'."#;
+
+const P218: &str = r#"ESCAPE"#;
+
+const P219: &str = r#"A warning: this row has '\u00' in single quotation marks, in which TOML has no
+escapes. The screen shows it as it is written."#;
+
+const P220: &str = r#"    sed "0,/rows = .*/s//rows = ['\\\\u0081RED']/" base >two
+    pageaudit lint two 2>&1 | sed -n 's/^two:5:9: //; s/,.*//; /ESCAPE/p'"#;
+
+const P221: &str = r#"    warning: ESCAPE: row 1 of frame 1a has \u00 in single quotation marks"#;
+
+const P222: &str = r#"Fix: write the row in double quotation marks."#;
+
+const P223: &str = r#"X1 TooLong"#;
+
+const P224: &str = r#"The file has more than 16,777,216 bytes."#;
+
+const P225: &str = r#"    head -c 16777217 /dev/zero >base.toml
     pageaudit walk base.toml ''"#;
 
-const P210: &str = r#"    base: X1 TooLong"#;
+const P226: &str = r#"    base: X1 TooLong"#;
 
-const P211: &str = r#"Fix: split the base, or shorten bodies."#;
+const P227: &str = r#"Fix: split the base, or shorten bodies."#;
 
-const P212: &str = r#"X2 NotToml"#;
+const P228: &str = r#"X2 NotToml"#;
 
-const P213: &str = r#"The file isn't UTF-8 or TOML: a quotation mark or bracket is missing, a key
+const P229: &str = r#"The file isn't UTF-8 or TOML: a quotation mark or bracket is missing, a key
 comes twice, an integer is outside 64 bits, or one of several frames begins
 with '[frame]'."#;
 
-const P214: &str = r#"    printf '%s\n' 'entry = 1' '[[frame]]' 'id = "1a"' "$@" >base.toml
+const P230: &str = r#"    printf '%s\n' 'entry = 1' '[[frame]]' 'id = "1a"' "$@" >base.toml
     pageaudit walk base.toml ''"#;
 
-const P215: &str = r#"    sh try 'rows = ["HELLO]'"#;
+const P231: &str = r#"    sh try 'rows = ["HELLO]'"#;
 
-const P216: &str = r#"    base: X2 NotToml"#;
+const P232: &str = r#"    base: X2 NotToml"#;
 
-const P217: &str = r#"Fix: 'pageaudit lint' names the line and what is wrong there."#;
+const P233: &str = r#"Fix: 'pageaudit lint' names the line and what is wrong there."#;
 
-const P218: &str = r#"X3 UnknownKey"#;
+const P234: &str = r#"X3 UnknownKey"#;
 
-const P219: &str = r#"A base has the keys 'entry', 'outside' and 'frame'; a frame 'id', 'price',
+const P235: &str = r#"A base has the keys 'entry', 'outside' and 'frame'; a frame 'id', 'price',
 'group', 'next', 'routes', 'lead', 'body' and 'rows'; 'routes' the digits '0'
 to '9'."#;
 
-const P220: &str = r#"    sh try 'title = "Town"'"#;
+const P236: &str = r#"    sh try 'title = "Town"'"#;
 
-const P221: &str = r#"    base: frame 0: X3 UnknownKey"#;
+const P237: &str = r#"    base: frame 0: X3 UnknownKey"#;
 
-const P222: &str = r#"Fix: correct the spelling, or put '#' before it."#;
+const P238: &str = r#"Fix: correct the spelling, or put '#' before it."#;
 
-const P223: &str = r#"X4 Absent"#;
+const P239: &str = r#"X4 Absent"#;
 
-const P224: &str = r#"A required key is missing: 'entry', a frame's 'id', or its text, 'body' or
+const P240: &str = r#"A required key is missing: 'entry', a frame's 'id', or its text, 'body' or
 'rows'."#;
 
-const P225: &str = r#"    sh try
+const P241: &str = r#"    sh try
     printf 'entry = 1\n[[frame]]\n' >base.toml
     pageaudit walk base.toml ''"#;
 
-const P226: &str = r#"    base: frame 0: X4 Absent body
+const P242: &str = r#"    base: frame 0: X4 Absent body
     base: frame 0: X4 Absent id"#;
 
-const P227: &str = r#"Fix: add it. A frame without text has 'rows = []'."#;
+const P243: &str = r#"Fix: add it. A frame without text has 'rows = []'."#;
 
-const P228: &str = r#"X5 WrongKind"#;
+const P244: &str = r#"X5 WrongKind"#;
 
-const P229: &str = r#"'entry', 'price', 'group' and routes are integers, 'outside' is an array of
+const P245: &str = r#"'entry', 'price', 'group' and routes are integers, 'outside' is an array of
 integers, 'id', 'lead' and 'body' are strings, 'rows' is an array of strings,
 'next' a boolean, 'routes' a table, each frame a '[[frame]]'."#;
 
-const P230: &str = r#"    sh try 'next = 1'"#;
+const P246: &str = r#"    sh try 'next = 1'"#;
 
-const P231: &str = r#"    base: frame 0: X5 WrongKind next"#;
+const P247: &str = r#"    base: frame 0: X5 WrongKind next"#;
 
-const P232: &str = r#"Fix: write the value in its kind."#;
+const P248: &str = r#"Fix: write the value in its kind."#;
 
-const P233: &str = r#"X6 Range"#;
+const P249: &str = r#"X6 Range"#;
 
-const P234: &str = r#"'entry', pages of 'outside' and routes are 0 to 999,999,999, 'price' is 0 to
+const P250: &str = r#"'entry', pages of 'outside' and routes are 0 to 999,999,999, 'price' is 0 to
 9,999, 'group' 1 to 65,535. 'lead' is 'clear' or 'keep', codes of 'body' are 0
 to FF, and there are at most 22 'rows'."#;
 
-const P235: &str = r#"    sh try 'price = 10000'
+const P251: &str = r#"    sh try 'price = 10000'
     sh try 'group = 0'
     sh try 'routes = { 2 = -1 }'
     sh try 'lead = "Clear"'
     printf 'entry = 1\noutside = [-1]\n' >base.toml
     pageaudit walk base.toml ''"#;
 
-const P236: &str = r#"    base: frame 0: X6 Range price
+const P252: &str = r#"    base: frame 0: X6 Range price
     base: frame 0: X6 Range group
     base: frame 0: X6 Range routes
     base: frame 0: X6 Range lead
     base: X6 Range outside"#;
 
-const P237: &str = r#"Fix: bring the value into its range. Curly quotation marks and long dashes are
+const P253: &str = r#"Fix: bring the value into its range. Curly quotation marks and long dashes are
 above FF."#;
 
-const P238: &str = r#"Range"#;
+const P254: &str = r#"Range"#;
 
-const P239: &str = r#"A number is above its limit: 999,999,999 for 'entry', 9,999 for 'ceiling',
+const P255: &str = r#"A number is above its limit: 999,999,999 for 'entry', 9,999 for 'ceiling',
 65,535 for all others. Or a group is 0, or the seventeenth."#;
 
-const P240: &str = r#"    PBC1
+const P256: &str = r#"    PBC1
     entry 1
     ceiling 0
     keyings 0
@@ -846,258 +890,244 @@ const P240: &str = r#"    PBC1
     1a 0 s40
     end"#;
 
-const P241: &str = r#"    sed "$1" base.cert >other.cert
+const P257: &str = r#"    sed "$1" base.cert >other.cert
     pageaudit check base.toml other.cert --ceiling 0 --keyings 0"#;
 
-const P242: &str = r#"    sh try 's/^ceiling 0/ceiling 10000/'"#;
+const P258: &str = r#"    sh try 's/^ceiling 0/ceiling 10000/'"#;
 
-const P243: &str = r#"    certificate: line 3: Range"#;
+const P259: &str = r#"    certificate: line 3: Range"#;
 
-const P244: &str = r#"Fix: take the file as 'audit' printed it."#;
+const P260: &str = r#"Fix: take the file as 'audit' printed it."#;
 
-const P245: &str = r#"X7 BodyAndRows"#;
+const P261: &str = r#"X7 BodyAndRows"#;
 
-const P246: &str = r#"The frame has both 'body' and 'rows'."#;
+const P262: &str = r#"The frame has both 'body' and 'rows'."#;
 
-const P247: &str = r#"    sh try 'body = ""' 'rows = []'"#;
+const P263: &str = r#"    sh try 'body = ""' 'rows = []'"#;
 
-const P248: &str = r#"    base: frame 0: X7 BodyAndRows"#;
+const P264: &str = r#"    base: frame 0: X7 BodyAndRows"#;
 
-const P249: &str = r#"Fix: remove one of them."#;
+const P265: &str = r#"Fix: remove one of them."#;
 
-const P250: &str = r#"X8 RowTooLong"#;
+const P266: &str = r#"X8 RowTooLong"#;
 
-const P251: &str = r#"A row has more than 40 codes."#;
+const P267: &str = r#"A row has more than 40 codes."#;
 
-const P252: &str = r#"    sh try "rows = ['$(seq -s '' 25)']""#;
+const P268: &str = r#"    sh try "rows = ['$(seq -s '' 25)']""#;
 
-const P253: &str = r#"    base: frame 0: X8 RowTooLong"#;
+const P269: &str = r#"    base: frame 0: X8 RowTooLong"#;
 
-const P254: &str = r#"Fix: cut the row in two."#;
+const P270: &str = r#"Fix: cut the row in two."#;
 
-const P255: &str = r#"X9 RowCode"#;
+const P271: &str = r#"X9 RowCode"#;
 
-const P256: &str = r#"A row has a code outside 20 to 7F (characters) and 80 to 9F (attributes)."#;
+const P272: &str = r#"A row has a code outside 20 to 7F (characters) and 80 to 9F (attributes)."#;
 
-const P257: &str = r#"    sh try 'rows = ["CAF\u00C9"]'"#;
+const P273: &str = r#"    sh try 'rows = ["CAF\u00C9"]'"#;
 
-const P258: &str = r#"    base: frame 0: X9 RowCode"#;
+const P274: &str = r#"    base: frame 0: X9 RowCode"#;
 
-const P259: &str = r#"Fix: replace the code. For control codes use 'body'."#;
+const P275: &str = r#"Fix: replace the code. For control codes use 'body'."#;
 
-const P260: &str = r#"I2 BadFrame"#;
+const P276: &str = r#"I2 BadFrame"#;
 
-const P261: &str = r#"The 'id' isn't a page number, 0 to 999,999,999 without leading zeros, and a
+const P277: &str = r#"The 'id' isn't a page number, 0 to 999,999,999 without leading zeros, and a
 letter, 'a' to 'z'."#;
 
-const P262: &str = r#"    entry = 1
+const P278: &str = r#"    entry = 1
 
     [[frame]]
     id = "1A"
     rows = []"#;
 
-const P263: &str = r#"    pageaudit walk base.toml ''"#;
+const P279: &str = r#"    pageaudit walk base.toml ''"#;
 
-const P264: &str = r#"    base: frame 0: I2 BadFrame"#;
+const P280: &str = r#"    base: frame 0: I2 BadFrame"#;
 
-const P265: &str = r#"Fix: correct the id."#;
+const P281: &str = r#"Fix: correct the id."#;
 
-const P266: &str = r#"B1 Duplicate"#;
+const P282: &str = r#"B1 Duplicate"#;
 
-const P267: &str = r#"Two frames have this id (the smallest is named)."#;
+const P283: &str = r#"Two frames have this id (the smallest is named)."#;
 
-const P268: &str = r#"    sh try 'rows = []' '[[frame]]' 'id = "1a"' 'rows = []'"#;
+const P284: &str = r#"    sh try 'rows = []' '[[frame]]' 'id = "1a"' 'rows = []'"#;
 
-const P269: &str = r#"    base: B1 Duplicate 1a"#;
+const P285: &str = r#"    base: B1 Duplicate 1a"#;
 
-const P270: &str = r#"Fix: remove a frame, or give it another id."#;
+const P286: &str = r#"Fix: remove a frame, or give it another id."#;
 
-const P271: &str = r#"B2 OutsideInside"#;
+const P287: &str = r#"B2 OutsideInside"#;
 
-const P272: &str = r#"This page (the smallest is named) is in 'outside' and has frames."#;
+const P288: &str = r#"This page (the smallest is named) is in 'outside' and has frames."#;
 
-const P273: &str = r#"    entry = 1
+const P289: &str = r#"    entry = 1
     outside = [1]
 
     [[frame]]
     id = "1a"
     rows = []"#;
 
-const P274: &str = r#"    base: B2 OutsideInside 1"#;
+const P290: &str = r#"    base: B2 OutsideInside 1"#;
 
-const P275: &str = r#"Fix: remove the page from 'outside', or its frames."#;
+const P291: &str = r#"Fix: remove the page from 'outside', or its frames."#;
 
-const P276: &str = r#"B3 NextAfterZ"#;
+const P292: &str = r#"B3 NextAfterZ"#;
 
-const P277: &str = r#"This frame 'z' (the smallest is named) has 'next = true'."#;
+const P293: &str = r#"This frame 'z' (the smallest is named) has 'next = true'."#;
 
-const P278: &str = r#"    entry = 1
+const P294: &str = r#"    entry = 1
 
     [[frame]]
     id = "1z"
     next = true
     rows = []"#;
 
-const P279: &str = r#"    base: B3 NextAfterZ 1z"#;
+const P295: &str = r#"    base: B3 NextAfterZ 1z"#;
 
-const P280: &str = r#"Fix: remove 'next = true', and lead on by a route."#;
+const P296: &str = r#"Fix: remove 'next = true', and lead on by a route."#;
 
-const P281: &str = r#"B4 TooMany"#;
+const P297: &str = r#"B4 TooMany"#;
 
-const P282: &str = r#"There are more than 65,535 frames or entries of 'outside'."#;
+const P298: &str = r#"There are more than 65,535 frames or entries of 'outside'."#;
 
-const P283: &str = r#"    printf 'entry = 1\noutside = [%s]\n' $(seq -s , 0 65535) >base.toml
+const P299: &str = r#"    printf 'entry = 1\noutside = [%s]\n' $(seq -s , 0 65535) >base.toml
     pageaudit walk base.toml ''"#;
 
-const P284: &str = r#"    base: B4 TooMany"#;
+const P300: &str = r#"    base: B4 TooMany"#;
 
-const P285: &str = r#"Fix: split the base."#;
+const P301: &str = r#"Fix: split the base."#;
 
-const P286: &str = r#"B5 BodyTooLong"#;
+const P302: &str = r#"B5 BodyTooLong"#;
 
-const P287: &str = r#"This frame's body (the smallest id is named) has more than 4,096 bytes."#;
+const P303: &str = r#"This frame's body (the smallest id is named) has more than 4,096 bytes."#;
 
-const P288: &str = r#"    sh try "$(printf 'body = "%4097s"')""#;
+const P304: &str = r#"    sh try "$(printf 'body = "%4097s"')""#;
 
-const P289: &str = r#"    base: B5 BodyTooLong 1a"#;
+const P305: &str = r#"    base: B5 BodyTooLong 1a"#;
 
-const P290: &str = r#"Fix: shorten the body, or cut the frame in two with 'next = true'."#;
+const P306: &str = r#"Fix: shorten the body, or cut the frame in two with 'next = true'."#;
 
-const P291: &str = r#"Magic"#;
+const P307: &str = r#"Magic"#;
 
-const P292: &str = r#"Line 1 is neither PBC1 nor PBC2. Often the file is a list of faults, or its
+const P308: &str = r#"Line 1 is neither PBC1 nor PBC2. Often the file is a list of faults, or its
 lines end with 0D 0A."#;
 
-const P293: &str = r#"    sh try 's/$/\r/'"#;
+const P309: &str = r#"    sh try 's/$/\r/'"#;
 
-const P294: &str = r#"    certificate: line 1: Magic"#;
+const P310: &str = r#"    certificate: line 1: Magic"#;
 
-const P295: &str = r#"Word"#;
+const P311: &str = r#"Word"#;
 
-const P296: &str = r#"A line before the rows doesn't begin with its word and one space (on line 5
+const P312: &str = r#"A line before the rows doesn't begin with its word and one space (on line 5
 'groups' for PBC2, 'rows' for PBC1). Or a row lacks its id or two spaces, or a
 line has over 128 bytes."#;
 
-const P297: &str = r#"    sh try 's/^entry/Entry/'"#;
+const P313: &str = r#"    sh try 's/^entry/Entry/'"#;
 
-const P298: &str = r#"    certificate: line 2: Word"#;
+const P314: &str = r#"    certificate: line 2: Word"#;
 
-const P299: &str = r#"Number"#;
+const P315: &str = r#"Number"#;
 
-const P300: &str = r#"A number isn't in decimal digits without leading zeros, or a group isn't after
+const P316: &str = r#"A number isn't in decimal digits without leading zeros, or a group isn't after
 one space."#;
 
-const P301: &str = r#"    sh try 's/^entry 1/entry 01/'"#;
+const P317: &str = r#"    sh try 's/^entry 1/entry 01/'"#;
 
-const P302: &str = r#"    certificate: line 2: Number"#;
+const P318: &str = r#"    certificate: line 2: Number"#;
 
-const P303: &str = r#"Order"#;
+const P319: &str = r#"Order"#;
 
-const P304: &str = r#"An id isn't greater than the one before, by page, then by letter; or a group
+const P320: &str = r#"An id isn't greater than the one before, by page, then by letter; or a group
 isn't."#;
 
-const P305: &str = r#"    sh try 's/^rows 1/rows 2/; s/^1a.*/&\n&/'"#;
+const P321: &str = r#"    sh try 's/^rows 1/rows 2/; s/^1a.*/&\n&/'"#;
 
-const P306: &str = r#"    certificate: line 7: Order"#;
+const P322: &str = r#"    certificate: line 7: Order"#;
 
-const P307: &str = r#"Cursor"#;
+const P323: &str = r#"Cursor"#;
 
-const P308: &str = r#"A row's cursor isn't one: see 'any'."#;
+const P324: &str = r#"A row's cursor isn't one: see 'any'."#;
 
-const P309: &str = r#"    sh try 's/s40/s960/'"#;
+const P325: &str = r#"    sh try 's/s40/s960/'"#;
 
-const P310: &str = r#"    certificate: line 6: Cursor"#;
+const P326: &str = r#"    certificate: line 6: Cursor"#;
 
-const P311: &str = r#"Count"#;
+const P327: &str = r#"Count"#;
 
-const P312: &str = r#"There are more or fewer rows than the line 'rows' says."#;
+const P328: &str = r#"There are more or fewer rows than the line 'rows' says."#;
 
-const P313: &str = r#"    sh try 's/^rows 1/rows 2/'"#;
+const P329: &str = r#"    sh try 's/^rows 1/rows 2/'"#;
 
-const P314: &str = r#"    certificate: line 7: Count"#;
+const P330: &str = r#"    certificate: line 7: Count"#;
 
-const P315: &str = r#"Tail"#;
+const P331: &str = r#"Tail"#;
 
-const P316: &str = r#"Something follows the line 'end'."#;
+const P332: &str = r#"Something follows the line 'end'."#;
 
-const P317: &str = r#"    sh try 's/^end/&\n&/'"#;
+const P333: &str = r#"    sh try 's/^end/&\n&/'"#;
 
-const P318: &str = r#"    certificate: line 8: Tail"#;
+const P334: &str = r#"    certificate: line 8: Tail"#;
 
-const P319: &str = r#"Truncated"#;
+const P335: &str = r#"Truncated"#;
 
-const P320: &str = r#"The file ends before the line 'end', or in it."#;
+const P336: &str = r#"The file ends before the line 'end', or in it."#;
 
-const P321: &str = r#"    sh try '/^end/d'"#;
+const P337: &str = r#"    sh try '/^end/d'"#;
 
-const P322: &str = r#"    certificate: line 7: Truncated"#;
+const P338: &str = r#"    certificate: line 7: Truncated"#;
 
-const P323: &str = r#"I4 BadGroups"#;
+const P339: &str = r#"I4 BadGroups"#;
 
-const P324: &str = r#"--groups isn't 1 to 16 numbers, 1 to 65,535 without leading zeros, ascending,
+const P340: &str = r#"--groups isn't 1 to 16 numbers, 1 to 65,535 without leading zeros, ascending,
 with only commas between."#;
 
-const P325: &str = r#"    pageaudit walk base.toml '' --groups 9,7"#;
+const P341: &str = r#"    pageaudit walk base.toml '' --groups 9,7"#;
 
-const P326: &str = r#"They print on standard error, with status 2:"#;
+const P342: &str = r#"    groups: I4 BadGroups"#;
 
-const P327: &str = r#"    groups: I4 BadGroups"#;
+const P343: &str = r#"Fix: write them as '7,9'. For callers in no group leave the option out."#;
 
-const P328: &str = r#"Fix: write them as '7,9'. For callers in no group leave the option out."#;
+const P344: &str = r#"read failed"#;
 
-const P329: &str = r#"I3 BadKey"#;
-
-const P330: &str = r#"No key begins at this byte of a walk's keys. Nothing is walked."#;
-
-const P331: &str = r#"    pageaudit walk base.toml '1*5#'"#;
-
-const P332: &str = r#"    keys: I3 BadKey 1"#;
-
-const P333: &str =
-    r#"Fix: write '0' to '9', '#', '*#', '*00' and '*09', without spaces, in quotation
-marks."#;
-
-const P334: &str = r#"read failed"#;
-
-const P335: &str = r#"The file can't be opened, or reading it failed, as it does for a folder.
+const P345: &str = r#"The file can't be opened, or reading it failed, as it does for a folder.
 'lint', 'show', 'list' and 'map' name it, with the reason."#;
 
-const P336: &str = r#"    pageaudit walk a ''
+const P346: &str = r#"    pageaudit walk a ''
     pageaudit check base.toml a -c 0 -k 0
     pageaudit change base.toml base.toml a a -c 0 -k 0
     pageaudit change base.toml base.toml base.toml a -c 0 -k 0
     pageaudit lint a"#;
 
-const P337: &str = r#"    base: read failed
+const P347: &str = r#"    base: read failed
     certificate: read failed
     new base: read failed
     new certificate: read failed
     a: no such file"#;
 
-const P338: &str = r#"Fix: look at the path, and at who may read the file."#;
+const P348: &str = r#"Fix: look at the path, and at who may read the file."#;
 
-const P339: &str = r#"write failed"#;
+const P349: &str = r#"write failed"#;
 
-const P340: &str = r#"Standard output took only this many bytes. No answer was given, whatever was
+const P350: &str = r#"Standard output took only this many bytes. No answer was given, whatever was
 printed."#;
 
-const P341: &str = r#"    pageaudit walk base.toml '' >/dev/full"#;
+const P351: &str = r#"    pageaudit walk base.toml '' >/dev/full"#;
 
-const P342: &str = r#"    output: write failed after 0 bytes"#;
+const P352: &str = r#"    output: write failed after 0 bytes"#;
 
-const P343: &str = r#"Fix: make room, or see why the reader of the output ended, and run again."#;
+const P353: &str = r#"Fix: make room, or see why the reader of the output ended, and run again."#;
 
-const P344: &str = r#"memory refused"#;
+const P354: &str = r#"memory refused"#;
 
-const P345: &str =
+const P355: &str =
     r#"There isn't enough memory. If there isn't even enough for this line, nothing is
 printed."#;
 
-const P346: &str = r#"Fix: run with more. The largest base takes some 200 MB."#;
+const P356: &str = r#"Fix: run with more. The largest base takes some 200 MB."#;
 
-const P347: &str = r#"I1"#;
+const P357: &str = r#"I1"#;
 
-const P348: &str = r#"Codes of the libraries, which no run prints: I1 no page number, L1 a
+const P358: &str = r#"Codes of the libraries, which no run prints: I1 no page number, L1 a
 certificate's line at fault, L2 a reader used after that, S1 ENTRYMISSING, S2
 ENTRYCLOSED, C1 rows out of order, C2 too many rows, C3 no cursor. Nor is
 'certificate: failed' printed, or '*#', '*00' or '*09' in a script."#;
@@ -1110,130 +1140,135 @@ pub(crate) fn paragraphs_at(place: usize) -> &'static [&'static str] {
         ..=12 => &[P12, P13, P2, P14, P4, P15, P6, P16],
         ..=14 => &[P17, P18, P2, P19, P4, P20, P21, P22, P23],
         ..=15 => &[
-            P24, P25, P2, P19, P4, P20, P21, P22, P26, P27, P28, P2, P29, P30, P31, P32, P33, P4,
-            P34, P21, P35, P36,
+            P17, P18, P2, P19, P4, P20, P21, P22, P23, P24, P25, P2, P26, P4, P27, P28, P29, P30,
         ],
         ..=16 => &[
-            P37, P38, P2, P39, P4, P5, P21, P40, P41, P42, P43, P2, P29, P30, P31, P32, P33, P4,
-            P44, P21, P45, P46,
+            P31, P32, P2, P19, P4, P20, P21, P22, P33, P34, P35, P2, P36, P37, P38, P39, P40, P4,
+            P41, P21, P42, P43,
         ],
-        ..=18 => &[P37, P38, P2, P39, P4, P5, P21, P40, P41],
-        ..=21 => &[P47, P48, P2, P49, P4, P50, P21, P51, P52],
-        ..=22 => &[P53, P54, P2, P55, P4, P56, P21, P57, P58],
-        ..=23 => &[P59, P60, P2, P61, P4, P62, P21, P63, P64],
-        ..=24 => &[P65, P66, P2, P67, P4, P5, P21, P68, P69],
-        ..=25 => &[P70, P71, P2, P72, P4, P5, P21, P73, P74],
-        ..=26 => &[P75, P76, P2, P77, P4, P78, P6, P79],
-        ..=27 => &[P80, P81, P2, P77, P4, P82, P6, P83],
-        ..=28 => &[P84, P85, P2, P77, P4, P86, P6, P87, P88],
-        ..=29 => &[P89, P90, P2, P77, P4, P91, P6, P92],
-        ..=30 => &[P93, P94, P2, P29, P30, P31, P4, P95, P6, P96],
-        ..=31 => &[P97, P98, P2, P29, P30, P31, P4, P99, P21, P100, P101],
-        ..=33 => &[
-            P102, P103, P2, P29, P30, P31, P32, P33, P4, P104, P21, P105, P106,
+        ..=17 => &[
+            P44, P45, P2, P46, P4, P5, P21, P47, P48, P49, P50, P2, P36, P37, P38, P39, P40, P4,
+            P51, P21, P52, P53,
         ],
-        ..=35 => &[P107, P108, P2, P29, P30, P31, P4, P109, P21, P100, P110],
-        ..=37 => &[P111, P112, P2, P29, P30, P31, P4, P113, P21, P114, P115],
-        ..=39 => &[P116, P117, P2, P29, P30, P31, P4, P118, P21, P119, P120],
-        ..=41 => &[
-            P121, P122, P2, P29, P30, P31, P32, P33, P4, P123, P21, P124, P125,
+        ..=19 => &[P44, P45, P2, P46, P4, P5, P21, P47, P48],
+        ..=22 => &[P54, P55, P2, P56, P4, P57, P21, P58, P59],
+        ..=23 => &[P60, P61, P2, P62, P4, P63, P21, P64, P65],
+        ..=24 => &[P66, P67, P2, P68, P4, P69, P21, P70, P71],
+        ..=25 => &[P72, P73, P2, P74, P4, P5, P21, P75, P76],
+        ..=26 => &[P77, P78, P2, P79, P4, P5, P21, P80, P81],
+        ..=27 => &[P82, P83, P2, P84, P4, P85, P6, P86],
+        ..=28 => &[P87, P88, P2, P84, P4, P89, P6, P90],
+        ..=29 => &[P91, P92, P2, P84, P4, P93, P6, P94, P95],
+        ..=30 => &[P96, P97, P2, P84, P4, P98, P6, P99],
+        ..=31 => &[P100, P101, P2, P36, P37, P38, P4, P102, P6, P103],
+        ..=32 => &[P104, P105, P2, P36, P37, P38, P4, P106, P21, P107, P108],
+        ..=34 => &[
+            P109, P110, P2, P36, P37, P38, P39, P40, P4, P111, P21, P112, P113,
         ],
-        ..=43 => &[
-            P126, P127, P2, P29, P30, P31, P32, P33, P4, P128, P21, P129, P130,
+        ..=36 => &[P114, P115, P2, P36, P37, P38, P4, P116, P21, P107, P117],
+        ..=38 => &[P118, P119, P2, P36, P37, P38, P4, P120, P21, P121, P122],
+        ..=40 => &[P123, P124, P2, P36, P37, P38, P4, P125, P21, P126, P127],
+        ..=42 => &[
+            P128, P129, P2, P36, P37, P38, P39, P40, P4, P130, P21, P131, P132,
         ],
-        ..=45 => &[
-            P131, P132, P2, P29, P30, P31, P32, P33, P4, P133, P21, P134, P135,
+        ..=44 => &[
+            P133, P134, P2, P36, P37, P38, P39, P40, P4, P135, P21, P136, P137,
         ],
-        ..=47 => &[
-            P27, P28, P2, P29, P30, P31, P32, P33, P4, P34, P21, P35, P36,
+        ..=46 => &[
+            P138, P139, P2, P36, P37, P38, P39, P40, P4, P140, P21, P141, P142,
         ],
-        ..=49 => &[
-            P136, P137, P2, P29, P30, P31, P32, P33, P4, P138, P21, P139, P125,
+        ..=48 => &[
+            P34, P35, P2, P36, P37, P38, P39, P40, P4, P41, P21, P42, P43,
         ],
-        ..=51 => &[
-            P42, P43, P2, P29, P30, P31, P32, P33, P4, P44, P21, P45, P46,
+        ..=50 => &[
+            P143, P144, P2, P36, P37, P38, P39, P40, P4, P145, P21, P146, P132,
         ],
-        ..=53 => &[
-            P140, P141, P2, P29, P30, P31, P32, P33, P4, P142, P21, P143, P125,
+        ..=52 => &[
+            P49, P50, P2, P36, P37, P38, P39, P40, P4, P51, P21, P52, P53,
         ],
-        ..=55 => &[
-            P144, P145, P2, P29, P30, P31, P32, P33, P4, P146, P21, P147, P148,
+        ..=54 => &[
+            P147, P148, P2, P36, P37, P38, P39, P40, P4, P149, P21, P150, P132,
         ],
-        ..=57 => &[
-            P149, P150, P2, P29, P30, P31, P32, P33, P4, P151, P21, P152, P153,
+        ..=56 => &[
+            P151, P152, P2, P36, P37, P38, P39, P40, P4, P153, P21, P154, P155,
         ],
-        ..=59 => &[
-            P154, P155, P2, P29, P30, P31, P32, P33, P4, P156, P21, P157, P125,
+        ..=58 => &[
+            P156, P157, P2, P36, P37, P38, P39, P40, P4, P158, P21, P159, P160,
         ],
-        ..=61 => &[
-            P158, P159, P2, P29, P30, P31, P32, P33, P4, P160, P21, P161, P162,
+        ..=60 => &[
+            P161, P162, P2, P36, P37, P38, P39, P40, P4, P163, P21, P164, P132,
         ],
-        ..=62 => &[P163, P164, P2, P29, P30, P31, P4, P165, P21, P166, P167],
-        ..=63 => &[
-            P168, P169, P2, P29, P30, P31, P4, P170, P21, P171, P172, P173, P174, P2, P175, P4,
-            P176, P177, P178, P179,
+        ..=62 => &[
+            P165, P166, P2, P36, P37, P38, P39, P40, P4, P167, P21, P168, P169,
         ],
-        ..=65 => &[P180, P181, P2, P29, P30, P31, P4, P182, P21, P183, P184],
-        ..=67 => &[P185, P186, P2, P29, P30, P31, P4, P187, P21, P188, P189],
-        ..=68 => &[
-            P190, P191, P192, P193, P4, P194, P6, P195, P196, P197, P198, P2, P199, P4, P200, P6,
-            P201,
+        ..=63 => &[P170, P171, P2, P36, P37, P38, P4, P172, P21, P173, P174],
+        ..=64 => &[
+            P175, P176, P2, P36, P37, P38, P4, P177, P21, P178, P179, P180, P181, P2, P26, P4,
+            P182, P183, P184, P185,
         ],
-        ..=69 => &[P202, P203, P192, P193, P4, P204, P6, P205, P206],
-        ..=73 => &[P197, P198, P2, P199, P4, P200, P6, P201],
-        ..=75 => &[P207, P208, P4, P209, P177, P210, P211],
-        ..=77 => &[P212, P213, P32, P214, P4, P215, P177, P216, P217],
-        ..=79 => &[P218, P219, P32, P214, P4, P220, P177, P221, P222],
-        ..=81 => &[P223, P224, P32, P214, P4, P225, P177, P226, P227],
-        ..=83 => &[P228, P229, P32, P214, P4, P230, P177, P231, P232],
-        ..=84 => &[P233, P234, P32, P214, P4, P235, P177, P236, P237],
-        ..=85 => &[
-            P233, P234, P32, P214, P4, P235, P177, P236, P237, P238, P239, P2, P175, P30, P240,
-            P32, P241, P4, P242, P177, P243, P244,
+        ..=66 => &[P186, P187, P2, P36, P37, P38, P4, P188, P21, P189, P190],
+        ..=68 => &[P191, P192, P2, P36, P37, P38, P4, P193, P21, P194, P195],
+        ..=69 => &[
+            P196, P197, P198, P199, P4, P200, P6, P201, P202, P203, P204, P2, P205, P4, P206, P6,
+            P207,
         ],
-        ..=87 => &[P245, P246, P32, P214, P4, P247, P177, P248, P249],
-        ..=89 => &[P250, P251, P32, P214, P4, P252, P177, P253, P254],
-        ..=91 => &[P255, P256, P32, P214, P4, P257, P177, P258, P259],
-        ..=93 => &[P260, P261, P2, P262, P4, P263, P177, P264, P265],
-        ..=95 => &[P266, P267, P32, P214, P4, P268, P177, P269, P270],
-        ..=97 => &[P271, P272, P2, P273, P4, P263, P177, P274, P275],
-        ..=99 => &[P276, P277, P2, P278, P4, P263, P177, P279, P280],
-        ..=101 => &[P281, P282, P4, P283, P177, P284, P285],
-        ..=103 => &[P286, P287, P32, P214, P4, P288, P177, P289, P290],
-        ..=104 => &[
-            P291, P292, P2, P175, P30, P240, P32, P241, P4, P293, P177, P294, P244,
+        ..=70 => &[P208, P209, P198, P199, P4, P210, P6, P211, P212],
+        ..=71 => &[P213, P214, P198, P199, P4, P215, P6, P216, P217],
+        ..=72 => &[P218, P219, P198, P199, P4, P220, P6, P221, P222],
+        ..=76 => &[P203, P204, P2, P205, P4, P206, P6, P207],
+        ..=78 => &[P223, P224, P4, P225, P183, P226, P227],
+        ..=80 => &[P228, P229, P39, P230, P4, P231, P183, P232, P233],
+        ..=82 => &[P234, P235, P39, P230, P4, P236, P183, P237, P238],
+        ..=84 => &[P239, P240, P39, P230, P4, P241, P183, P242, P243],
+        ..=86 => &[P244, P245, P39, P230, P4, P246, P183, P247, P248],
+        ..=87 => &[P249, P250, P39, P230, P4, P251, P183, P252, P253],
+        ..=88 => &[
+            P249, P250, P39, P230, P4, P251, P183, P252, P253, P254, P255, P2, P26, P37, P256, P39,
+            P257, P4, P258, P183, P259, P260,
         ],
-        ..=105 => &[
-            P295, P296, P2, P175, P30, P240, P32, P241, P4, P297, P177, P298, P244,
-        ],
-        ..=106 => &[
-            P299, P300, P2, P175, P30, P240, P32, P241, P4, P301, P177, P302, P244,
-        ],
+        ..=90 => &[P261, P262, P39, P230, P4, P263, P183, P264, P265],
+        ..=92 => &[P266, P267, P39, P230, P4, P268, P183, P269, P270],
+        ..=94 => &[P271, P272, P39, P230, P4, P273, P183, P274, P275],
+        ..=96 => &[P276, P277, P2, P278, P4, P279, P183, P280, P281],
+        ..=98 => &[P282, P283, P39, P230, P4, P284, P183, P285, P286],
+        ..=100 => &[P287, P288, P2, P289, P4, P279, P183, P290, P291],
+        ..=102 => &[P292, P293, P2, P294, P4, P279, P183, P295, P296],
+        ..=104 => &[P297, P298, P4, P299, P183, P300, P301],
+        ..=106 => &[P302, P303, P39, P230, P4, P304, P183, P305, P306],
         ..=107 => &[
-            P238, P239, P2, P175, P30, P240, P32, P241, P4, P242, P177, P243, P244,
+            P307, P308, P2, P26, P37, P256, P39, P257, P4, P309, P183, P310, P260,
         ],
         ..=108 => &[
-            P303, P304, P2, P175, P30, P240, P32, P241, P4, P305, P177, P306, P244,
+            P311, P312, P2, P26, P37, P256, P39, P257, P4, P313, P183, P314, P260,
         ],
         ..=109 => &[
-            P307, P308, P2, P175, P30, P240, P32, P241, P4, P309, P177, P310, P244,
+            P315, P316, P2, P26, P37, P256, P39, P257, P4, P317, P183, P318, P260,
         ],
         ..=110 => &[
-            P311, P312, P2, P175, P30, P240, P32, P241, P4, P313, P177, P314, P244,
+            P254, P255, P2, P26, P37, P256, P39, P257, P4, P258, P183, P259, P260,
         ],
         ..=111 => &[
-            P315, P316, P2, P175, P30, P240, P32, P241, P4, P317, P177, P318, P244,
+            P319, P320, P2, P26, P37, P256, P39, P257, P4, P321, P183, P322, P260,
         ],
         ..=112 => &[
-            P319, P320, P2, P175, P30, P240, P32, P241, P4, P321, P177, P322, P244,
+            P323, P324, P2, P26, P37, P256, P39, P257, P4, P325, P183, P326, P260,
         ],
-        ..=113 => &[P173, P174, P2, P175, P4, P176, P177, P178, P179],
-        ..=115 => &[P323, P324, P2, P175, P4, P325, P326, P327, P328],
-        ..=117 => &[P329, P330, P2, P175, P4, P331, P326, P332, P333],
-        ..=118 => &[P334, P335, P2, P175, P4, P336, P177, P337, P338],
-        ..=119 => &[P339, P340, P2, P175, P4, P341, P177, P342, P343],
-        ..=120 => &[P344, P345, P346],
-        _ => &[P347, P348],
+        ..=113 => &[
+            P327, P328, P2, P26, P37, P256, P39, P257, P4, P329, P183, P330, P260,
+        ],
+        ..=114 => &[
+            P331, P332, P2, P26, P37, P256, P39, P257, P4, P333, P183, P334, P260,
+        ],
+        ..=115 => &[
+            P335, P336, P2, P26, P37, P256, P39, P257, P4, P337, P183, P338, P260,
+        ],
+        ..=116 => &[P180, P181, P2, P26, P4, P182, P183, P184, P185],
+        ..=118 => &[P339, P340, P2, P26, P4, P341, P28, P342, P343],
+        ..=121 => &[P24, P25, P2, P26, P4, P27, P28, P29, P30],
+        ..=122 => &[P344, P345, P2, P26, P4, P346, P183, P347, P348],
+        ..=123 => &[P349, P350, P2, P26, P4, P351, P183, P352, P353],
+        ..=124 => &[P354, P355, P356],
+        _ => &[P357, P358],
     }
 }
 
@@ -1241,7 +1276,7 @@ pub(crate) fn paragraphs_at(place: usize) -> &'static [&'static str] {
 pub const OVERVIEW: &str = r#"PBC1, entry, ceiling, keyings, rows, end  a certificate
 PBC2, groups            a certificate for callers in groups
 any, c, s, +, ?         where the cursor is
-FAULTS, SCRIPT          how many faults
+FAULTS, SCRIPT, keys    how many faults
 PRICE                   a frame costs too much
 TOUCHES, BYTE, START    a body writes into a service row
 MISSING, AT, KEY        a key leads to a missing frame
@@ -1276,6 +1311,8 @@ E1, EntryMoved          the entry page changed
 E2, NoLongerCovered     a frame is lost
 UNREACHED               no key leads to a frame
 HIDDEN                  a row under double height
+LINEEND                 text that goes on in the same column
+ESCAPE                  an escape that is none
 FRAME, RANK, GROUP, UNREACHED  a frame of a list
 X1, TooLong             the file is too long
 X2, NotToml             the file isn't TOML
@@ -1303,7 +1340,7 @@ Tail                    something after 'end'
 Truncated               no line 'end'
 new                     a fault in the new edition's file
 I4, BadGroups           not a list of groups
-I3, BadKey              not a key
+I3, keys, BadKey        not a key
 read failed             a file can't be read
 write failed            the output can't be written
 memory refused          out of memory

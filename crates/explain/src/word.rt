@@ -1,10 +1,13 @@
 //! The text of a word.
 
 ghost use Rattle.std.specs.Prelude.{◌≡◌, ◌↔◌, ◌⊎◌, true, IsSome};
+ghost use Rattle.explain.specs.declared.line.Sought.TheVariants.{Any};
+ghost use Rattle.explain.specs.Lines.{HasWord};
 ghost use Rattle.explain.specs.Listed.{listed};
 ghost use Rattle.explain.specs.Words.{is_cursor, names_in_lines, texts_of, IsAmong, IsListed};
 
 use crate::cursor::is_cursor;
+use crate::line::{Sought, first_word};
 use crate::pages::{CURSOR, OVERVIEW, WORDS, paragraphs_at};
 
 /// The words of the list.
@@ -26,17 +29,33 @@ fn place_among(words: &[&'static str], word: &str) -> Option<usize>
     None
 }
 
+// The place of a word of the list in a line: a code, else a word with a capital letter, else any.
+fn place_in_line(line: &str) -> Option<usize>
+    ensures { IsSome result ↔ HasWord Any listed line.now }
+{
+    let bytes = line.as_bytes();
+    if let Some(place) = first_word(Sought::Code, words(), bytes) {
+        return Some(place);
+    }
+    if let Some(place) = first_word(Sought::Capital, words(), bytes) {
+        return Some(place);
+    }
+    first_word(Sought::Any, words(), bytes)
+}
+
 /// What is printed for a word, in paragraphs that a blank line parts: the text of its section, or of both that it is in, each
 /// with its title first. `None` if no section has it.
 ///
-/// The words are those of the list, in any case of letters, and the cursors, by their form.
+/// The words are those of the list, in any case of letters, and the cursors, by their form. For a line with words of the list,
+/// in their own case, it is the text of one: of the first code, as K7, else of the first word with a capital letter, else
+/// of the first.
 pub fn explanation(word: &str) -> Option<&'static [&'static str]>
-    ensures { IsSome result ↔ (IsListed word.now ⊎ (is_cursor word.now ≡ true)) }
+    ensures { IsSome result ↔ (IsListed word.now ⊎ ((is_cursor word.now ≡ true) ⊎ HasWord Any listed word.now)) }
 {
     match place_among(words(), word) {
         Some(place) => Some(paragraphs_at(place)),
         None if is_cursor(word.as_bytes()) => Some(paragraphs_at(CURSOR)),
-        None => None,
+        None => Some(paragraphs_at(place_in_line(word)?)),
     }
 }
 

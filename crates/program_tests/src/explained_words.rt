@@ -35,8 +35,21 @@ fn a_word_has_the_text_of_its_section(_rt: HostRuntime) -> Result<(), Fail> {
         ("s80+?", None),
         ("s", Some("any")),
         ("x10", None),
-        ("K7 ", None),
         ("", None),
+        ("keys", Some("FAULTS")),
+        ("K7 ", Some("K7 Price")),
+        ("K7 Price", Some("K7 Price")),
+        ("X3 UnknownKey", Some("X3 UnknownKey")),
+        ("base: frame 0: X6 Range price", Some("X6 Range")),
+        (
+            "town.toml:5:9: error: X3 UnknownKey: \"K8\" is not a key",
+            Some("X3 UnknownKey"),
+        ),
+        ("K7.toml.K8: PRICED", Some("K7 Price")),
+        ("a:1:1: warning: HIDDEN: row 2 is hidden", Some("HIDDEN")),
+        ("FRAME 1a RANK 0 PRICE 5", Some("FRAME")),
+        ("output: write failed after 0 bytes", Some("write failed")),
+        ("PRICED xK7 K77x s + k7 price", None),
     ];
     for (word, wanted) in rows {
         same_in(word, title(word), wanted)?;
