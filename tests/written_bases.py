@@ -560,7 +560,7 @@ class FaultyText(Written):
     def spoil_price(self, frame):
         value, words = self.wrong_number('"price" of {F}', 0, 9_999)
         frame.fields["price"] = value
-        frame.fault("price", words + "; prices are whole pence" * isinstance(value, float), "price")
+        frame.fault("price", words, "price")
 
     def spoil_group(self, frame):
         frame.fields["group"], words = self.wrong_number('"group" of {F}', 1, 65_535)

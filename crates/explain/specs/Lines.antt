@@ -1,5 +1,5 @@
 -- The words in a line.
-use Rattle.std.specs.Prelude.{◌≡◌, ℕ, ◌<◌, ◌+◌, ◌-◌, List, [], ◌∷◌, length, drop, get_or, slice_get, eqb, ◌==◌, ◌&&◌, ◌||◌, not, Bool, true, false, Option, Some, None}
+use Rattle.std.specs.Prelude.{◌≡◌, ℕ, ◌<◌, ◌-◌, List, [], ◌∷◌, length, drop, get_or, slice_get, eqb, ◌==◌, ◌&&◌, ◌||◌, not, Bool, true, false, Option, Some, None}
 use Rattle.std.specs.Char.{is_ascii_digit, is_ascii_alphabetic, is_ascii_uppercase}
 use Rattle.std.specs.List.{starts_with}
 use Rattle.explain.specs.declared.line.Sought.{Sought}
