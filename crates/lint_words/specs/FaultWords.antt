@@ -7,7 +7,7 @@ use Rattle.fault_scripts.specs.declared.fault.FaultKind.{FaultKind}
 use Rattle.fault_scripts.specs.declared.fault.FaultKind.TheVariants.{EntryMissing, EntryClosed, Price, Touches, Missing, Closed, NoReturn}
 use Rattle.lint_words.specs.Pieces.{grouped, number_of, frame_name, shown_by, pressed_text, group_text}
 use Rattle.lint_words.specs.Lines.{line_of}
-use Rattle.lint_words.specs.AboutOf.{about_frame, about_key, fault_about}
+use Rattle.lint_words.specs.AboutOf.{about_frame, fault_about}
 use Rattle.lint_words.specs.WordsOf.{WordsView, words_of}
 use Rattle.lint_words.specs.declared.code.Code.{Code}
 use Rattle.lint_words.specs.declared.code.Code.TheVariants as code
@@ -118,5 +118,5 @@ unreached_words id =
 -- how many frames no walk reaches, of a base whose entry frame isn't found
 abbrev pub none_reached_words : ℕ → WordsView
 none_reached_words n =
-    words_of code.Unreached (about_key None (codes "entry")) (line_of (codes "no key leads to " ++
+    words_of code.Unreached (about_frame None) (line_of (codes "no key leads to " ++
     (number_of n (codes "frame") (codes "frames") ++ codes " from the entry page")))

@@ -327,6 +327,6 @@ pub fn none_reached_words(alloc: Global, frames: usize) -> Result<Words, AllocEr
             Text(" from the entry page"),
         ],
     )?;
-    let about = About::key(alloc, None, "entry")?;
+    let about = About::frame(None);
     Ok(Words::new(Code::Unreached, about, Line::of(alloc, &message)?, None))
 }
