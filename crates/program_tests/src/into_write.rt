@@ -77,7 +77,10 @@ impl Write for Failing {
 
 #[test]
 fn a_pipe_without_a_reader_is_closed() -> Result<(), Fail> {
-    for (kind, closed) in [(ErrorKind::BrokenPipe, true), (ErrorKind::StorageFull, false)] {
+    for (kind, closed) in [
+        (ErrorKind::BrokenPipe, true),
+        (ErrorKind::StorageFull, false),
+    ] {
         let mut sink = IntoWrite::new(Failing { kind });
         same_in("before", sink.is_closed(), false)?;
         same_in(kind, sink.write(b"A"), Err(Broken))?;
