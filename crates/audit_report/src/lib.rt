@@ -6,11 +6,12 @@
 //! ```
 //!
 //! - [`report`], [`verdict_text`], [`change_text`], [`walk_text`], [`entry_text`], [`fault_text`]: each printed text, byte for byte as it is
-//!   defined.
+//!   defined. [`push_fault`]: the line of one fault.
 //! - [`RunFault`]: why a run ends without its work done.
 //!
 //! - [`list`], [`Listing`]: the text of `list`, a line for each frame: the frames that a caller can reach, in the order of their
 //!   discovery, and then the others, in the order of their ids. Its memory is taken before its first line is written.
+//! - [`Reached`]: the ids of the frames that a caller can reach.
 //! - [`lists_every_frame`]: each frame of the base has one line: FRAME if a walk reaches it, and otherwise UNREACHED.
 //!
 //! What texts are read from and written to is the crate [`devices`]; its names are re-exported here.
@@ -34,7 +35,8 @@ pub use devices::{
 pub use fault_line::fault_text;
 pub use laws::lists_every_frame;
 pub use listing::{Listing, list};
-pub use report_lines::report;
+pub use reached::Reached;
+pub use report_lines::{push_fault, report};
 pub use run_fault::RunFault;
 pub use verdict_line::{change_text, verdict_text};
 pub use walk_lines::{entry_text, walk_text};

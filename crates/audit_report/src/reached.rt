@@ -7,13 +7,14 @@ use indexmap::IndexSet;
 use page_ids::FrameId;
 use std::alloc::{AllocError, Global};
 
-// The ids of the frames that are reached, for look-ups.
+/// The ids of the frames that are reached, for look-ups.
 #[derive(Drop)]
 pub struct Reached {
     ids: IndexSet<FrameId>,
 }
 
 impl Reached {
+    /// The ids of discovered frames.
     pub fn of(alloc: Global, found: &[Discovered]) -> Result<Reached, AllocError>
         ensures { IfOk result (Knows found.now) }
     {
@@ -27,6 +28,7 @@ impl Reached {
         Ok(Reached { ids })
     }
 
+    /// Whether a frame is among them.
     pub fn contains(&self, id: FrameId) -> bool
         ensures { (found : List Entry) → Knows found self.now → result ≡ is_listed found id }
     {

@@ -228,7 +228,7 @@ bytes_alike t u bytes v w same =
       pending = ap (λ (c : Caret). c.pending) both.ends;
     }
 
-frames_alike : (t u : Screen) (fs : List Frame) → IsScreen t → IsScreen u → LooksSame t u → LooksSame (with_frames t fs) (with_frames u fs)
+pub frames_alike : (t u : Screen) (fs : List Frame) → IsScreen t → IsScreen u → LooksSame t u → LooksSame (with_frames t fs) (with_frames u fs)
 frames_alike t u [] v w same = same
 frames_alike t u (f ∷ fs) v w same =
     let lead = lead_codes f.lead in

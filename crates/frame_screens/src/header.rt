@@ -10,6 +10,7 @@ use crate::sending::terminal_after;
 use arrayvec::{ArrayString, ArrayVec};
 use frame_records::{Base, Frame, Pence};
 use itoa::Buffer;
+use terminal_codes::Terminal;
 
 // The blank cells of a row.
 const BLANK: [u8; 40] = [0x20; 40];
@@ -82,6 +83,14 @@ fn with_rows(top: &[u8], cells: &[u8; 960]) -> [u8; 960]
     codes[..40].copy_from_slice(top);
     codes[40..920].copy_from_slice(&cells[40..920]);
     codes
+}
+
+/// The 960 codes of a frame's screen: what a terminal shows, with the centre's rows for the frame.
+pub fn framed(frame: &Frame, terminal: &Terminal) -> [u8; 960]
+    ensures { result ≡ with_rows (top_row frame.now) terminal.now.cells }
+{
+    let top = top_row(frame);
+    with_rows(top.as_slice(), terminal.cells())
 }
 
 /// The 960 codes of the screen after the frames, with the centre's rows: in row 0 the last frame's id, ending at column 34, and

@@ -10,7 +10,8 @@
 //!   ways were looked up before.
 //! - [`frames_after`], [`NoScreen`]: the frames that a session's keys show, or why there is no screen at its end.
 //! - [`FrameList`]: frames in the order in which they are sent, at least one.
-//! - [`screen`], [`terminal_after`], [`send`]: what they leave on a new terminal, with the centre's rows and without.
+//! - [`screen`], [`terminal_after`], [`send`]: what they leave on a new terminal, with the centre's rows and without. [`framed`]: a
+//!   terminal's cells with the centre's rows for a frame.
 //! - [`nearest`]: the frame that was probably meant by an id that the base lacks.
 //! - [`headline_is_seen`]: rows 0 and 23 of a cleared base's screens; [`frames_decide`], [`ways_lead_there`]: laws.
 #![tactic(auto)]
@@ -23,7 +24,7 @@ mod near;
 mod sending;
 mod way;
 
-pub use header::screen;
+pub use header::{framed, screen};
 pub use keyed::{NoScreen, frames_after};
 pub use laws::{frames_decide, headline_is_seen, ways_lead_there};
 pub use list::FrameList;

@@ -13,3 +13,5 @@ mod notation;
 mod parts;
 #[cfg(test)]
 mod texts;
+#[cfg(test)]
+mod pages;

@@ -1,0 +1,59 @@
+-- What comes before the sections: the name of the base's file, the policy and the verdict.
+use Rattle.std.specs.Prelude.{ℕ, List, [], ◌∷◌, ◌++◌, codes, decimal, length, ◌==◌, if◌then◌else◌}
+use Rattle.std.specs.Str.{chars}
+use Rattle.page_ids.specs.Ids.{frame_text}
+use Rattle.frame_records.specs.Bases.{BaseView}
+use Rattle.frame_records.specs.Seek.{entry_of}
+use Rattle.cert_table.specs.Table.{CertView}
+use Rattle.checker.specs.declared.policy.Policy.{Policy}
+use Rattle.fault_scripts.specs.declared.fault.Fault.{Fault}
+use Rattle.fault_scripts.specs.declared.outcome.Outcome.{Outcome}
+use Rattle.fault_scripts.specs.declared.outcome.Outcome.TheVariants.{Certified, Faulty}
+use Rattle.screen_texts.specs.declared.writing.Writing.TheVariants.{Markup}
+use Rattle.screen_texts.specs.Writing.{written}
+use Rattle.base_pages.specs.Faults.{entry_faults, fault_list}
+
+abbrev pub name_line : List ℕ → List ℕ
+name_line name = codes "<h1>" ++ written Markup (chars name) ++ codes "</h1>\n"
+
+-- how many frames the certificate has, and its ceiling and keyings
+abbrev pub certified : CertView → List ℕ
+certified cert =
+    codes "<p class=\"verdict certified\">CERTIFIED</p>\n<p>" ++ decimal (length cert.rows) ++ codes " frames, at most "
+    ++ decimal cert.ceiling ++ codes "p a frame, at most " ++ decimal cert.keyings ++ codes " keys back</p>\n"
+
+-- how many faults there are
+abbrev pub counted : ℕ → List ℕ
+counted n = decimal n ++ (if n == 1 then codes " fault" else codes " faults")
+
+abbrev pub faulty : List Fault → List ℕ
+faulty faults = codes "<p class=\"verdict faulty\">" ++ counted (length faults) ++ codes "</p>\n"
+
+abbrev pub verdict_text : Outcome → List ℕ
+verdict_text (Certified cert) = certified cert
+verdict_text (Faulty faults) = faulty faults
+
+-- groups with a separator before each but the first
+abbrev pub later_groups : List ℕ → List ℕ
+later_groups [] = []
+later_groups (group ∷ groups) = codes "," ++ decimal group ++ later_groups groups
+
+abbrev pub groups_text : List ℕ → List ℕ
+groups_text [] = codes "no groups"
+groups_text (group ∷ groups) = codes "groups " ++ decimal group ++ later_groups groups
+
+abbrev pub policy_line : Policy → List ℕ
+policy_line policy =
+    codes "<p>Policy: at most " ++ decimal policy.ceiling ++ codes "p a frame, at most " ++ decimal policy.keyings
+    ++ codes " keys back, " ++ groups_text policy.groups ++ codes "</p>\n"
+
+-- the faults of an outcome
+abbrev pub faults_in : Outcome → List Fault
+faults_in (Certified cert) = []
+faults_in (Faulty faults) = faults
+
+-- the header, which names the entry frame, and that it isn't found if it isn't
+abbrev pub header : List ℕ → BaseView → Policy → Outcome → List ℕ
+header name base policy outcome =
+    codes "<header data-entry=\"" ++ frame_text (entry_of base) ++ codes "\">\n" ++ name_line name ++ verdict_text outcome
+    ++ policy_line policy ++ codes "</header>\n" ++ fault_list (entry_faults (faults_in outcome))

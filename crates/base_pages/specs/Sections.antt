@@ -1,0 +1,72 @@
+-- The section of a frame.
+use Rattle.std.specs.Prelude.{ℕ, Bool, true, false, List, [], ◌++◌, Option, codes, decimal, filter}
+use Rattle.std.specs.List.{flat_map}
+use Rattle.page_ids.specs.Ids.{Id, frame_text}
+use Rattle.frame_records.specs.declared.frame.Frame.{Frame}
+use Rattle.frame_records.specs.declared.frame.Lead.{Lead}
+use Rattle.frame_records.specs.declared.frame.Lead.TheVariants.{Clear, Keep}
+use Rattle.frame_records.specs.Bases.{BaseView}
+use Rattle.finder.specs.declared.found.Discovered.{Discovered}
+use Rattle.fault_scripts.specs.declared.fault.Fault.{Fault}
+use Rattle.audit_report.specs.Listing.{is_listed}
+use Rattle.base_map.specs.Edges.{shows}
+use Rattle.cell_looks.specs.declared.look.Look.{Look}
+use Rattle.screen_texts.specs.declared.writing.Writing.TheVariants.{Markup}
+use Rattle.screen_texts.specs.Writing.{written}
+use Rattle.screen_texts.specs.Text.{text}
+use Rattle.screen_texts.specs.Svg.{svg}
+use Rattle.base_pages.specs.Ways.{ways_text}
+use Rattle.base_pages.specs.Faults.{faults_about, fault_list, touched_cell}
+use Rattle.base_pages.specs.Screens.{screen_of}
+
+-- what the sections are written of: a base, the caller's groups, the frames that the caller reaches, the faults of the audit, and
+-- the part that is shown
+pub record BookView : Type 0 where
+  pub base : BaseView
+  pub caller : List ℕ
+  pub found : List Discovered
+  pub faults : List Fault
+  pub part : Option (List Id)
+
+-- a frame that no key reaches is marked
+abbrev pub class_of : Bool → List ℕ
+class_of true = []
+class_of false = codes " class=\"unreached\""
+
+abbrev pub section_begin : Id → Bool → List ℕ
+section_begin id is_reached =
+    codes "<section id=\"" ++ frame_text id ++ codes "\"" ++ class_of is_reached ++ codes ">\n<h2>" ++ frame_text id ++ codes "</h2>\n"
+
+-- the picture and the text of a screen
+abbrev pub screen_forms : Id → List (List Look) → Option ℕ → List ℕ
+screen_forms id rows cell = svg id rows cell ++ codes "<pre>" ++ written Markup (text rows) ++ codes "</pre>\n"
+
+-- a price, as `5p`
+abbrev pub price_line : ℕ → List ℕ
+price_line price = codes "<p class=\"price\">" ++ decimal price ++ codes "p</p>\n"
+
+-- a frame that keeps what is on the screen says so
+abbrev pub over : Lead → List ℕ
+over Clear = []
+over Keep = codes "<p class=\"over\">Painted over what is on the screen.</p>\n"
+
+abbrev pub ways_line : BookView → Frame → List ℕ
+ways_line b f = codes "<p class=\"ways\">\n" ++ ways_text b.caller b.base b.part f ++ codes "</p>\n"
+
+-- what comes after the picture and the text
+abbrev pub section_end : BookView → Frame → List Fault → List ℕ
+section_end b f faults = price_line f.price ++ ways_line b f ++ over f.lead ++ fault_list faults ++ codes "</section>\n"
+
+abbrev pub section_by : BookView → Frame → List Fault → List ℕ
+section_by b f faults =
+    section_begin f.id (is_listed b.found f.id)
+    ++ screen_forms f.id (screen_of b.caller b.base b.found f.id) (touched_cell f faults)
+    ++ section_end b f faults
+
+-- its faults are those about its frame
+abbrev pub section : BookView → Frame → List ℕ
+section b f = section_by b f (faults_about b.faults f.id)
+
+-- the sections of the frames that are shown, in order
+abbrev pub sections : BookView → List Frame → List ℕ
+sections b frames = flat_map (section b) (filter (λ f. shows b.part f.id) frames)

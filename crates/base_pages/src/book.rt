@@ -1,0 +1,157 @@
+//! The sections of frames.
+
+ghost use Rattle.std.specs.Prelude.{◌≡◌, ◌++◌, List, Some, OnOk};
+ghost use Rattle.page_ids.specs.Ids.{Id};
+ghost use Rattle.frame_records.specs.Bases.{BaseView, frame_at};
+ghost use Rattle.finder.specs.declared.found.Discovered.{Discovered as Entry};
+ghost use Rattle.cell_looks.specs.Looks.{looks};
+ghost use Rattle.base_pages.specs.Sections as spec;
+ghost use Rattle.base_pages.specs.Loops.{IsReady, book_view, kept_of, picked};
+
+use crate::faults::{push_faults, touched_cell};
+use crate::index::FaultIndex;
+use crate::screens::Screens;
+use crate::ways::push_ways;
+use audit_report::Reached;
+use base_map::Part;
+use cell_looks::screen_looks;
+use fault_scripts::Fault;
+use frame_records::{Base, Frame, Groups, Lead, Pence};
+use page_ids::{FrameId, push_id, push_number};
+use screen_texts::{Writing, push_svg, push_text};
+use std::alloc::{AllocError, Global};
+
+// What the sections are written of.
+#[derive(Drop)]
+pub struct Book<'a> {
+    pub base: &'a Base,
+    pub groups: &'a Groups,
+    pub part: &'a Part,
+    pub faults: &'a [Fault],
+    pub reached: &'a Reached,
+    pub index: &'a FaultIndex,
+    pub screens: &'a Screens,
+}
+
+// A frame that no key reaches is marked.
+fn class_of(is_reached: bool) -> &'static [u8]
+    ensures { result.now ≡ spec.class_of is_reached }
+{
+    if is_reached {
+        b""
+    } else {
+        b" class=\"unreached\""
+    }
+}
+
+#[tactic(auto, using(std::proofs::Common::append_assoc))]
+fn push_begin(out: &mut Vec<u8>, id: FrameId, is_reached: bool) -> Result<(), AllocError>
+    ensures { OnOk result (out.new.items ≡ out.old.items ++ spec.section_begin id is_reached) }
+{
+    let again = id;
+    out.extend_from_slice(b"<section id=\"")?;
+    push_id(out, id)?;
+    out.extend_from_slice(b"\"")?;
+    out.extend_from_slice(class_of(is_reached))?;
+    out.extend_from_slice(b">\n<h2>")?;
+    push_id(out, again)?;
+    out.extend_from_slice(b"</h2>\n")
+}
+
+// The picture and the text of a screen.
+#[tactic(auto, using(std::proofs::Common::append_assoc))]
+fn push_screen(
+    out: &mut Vec<u8>,
+    id: FrameId,
+    codes: &[u8; 960],
+    cell: Option<u16>,
+) -> Result<(), AllocError>
+    ensures { OnOk result (out.new.items ≡ out.old.items ++ spec.screen_forms id (looks codes.now) cell) }
+{
+    let looks = screen_looks(codes);
+    push_svg(out, id, &looks, cell)?;
+    out.extend_from_slice(b"<pre>")?;
+    push_text(out, &looks, Writing::Markup)?;
+    out.extend_from_slice(b"</pre>\n")
+}
+
+#[tactic(auto, using(std::proofs::Common::append_assoc))]
+fn push_price(out: &mut Vec<u8>, price: Pence) -> Result<(), AllocError>
+    ensures { OnOk result (out.new.items ≡ out.old.items ++ spec.price_line price) }
+{
+    out.extend_from_slice(b"<p class=\"price\">")?;
+    push_number(out, u64::from(price.get()))?;
+    out.extend_from_slice(b"p</p>\n")
+}
+
+fn over(lead: Lead) -> &'static [u8]
+    ensures { result.now ≡ spec.over lead }
+{
+    match lead {
+        Lead::Clear => b"",
+        Lead::Keep => b"<p class=\"over\">Painted over what is on the screen.</p>\n",
+    }
+}
+
+impl<'a> Book<'a> {
+    #[tactic(auto, using(std::proofs::Common::append_assoc))]
+    fn push_ways(&self, out: &mut Vec<u8>, frame: &Frame) -> Result<(), AllocError>
+        ensures { (found : List Entry) → OnOk result (out.new.items ≡ out.old.items ++ spec.ways_line (book_view self.now found) frame.now) }
+    {
+        out.extend_from_slice(b"<p class=\"ways\">\n")?;
+        push_ways(out, self.base, self.groups, self.part, frame)?;
+        out.extend_from_slice(b"</p>\n")
+    }
+
+    // What comes after the picture and the text.
+    #[tactic(auto, using(std::proofs::Common::append_assoc))]
+    fn push_below(
+        &self,
+        alloc: Global,
+        out: &mut Vec<u8>,
+        frame: &Frame,
+        numbers: &[usize],
+    ) -> Result<(), AllocError>
+        ensures { (found : List Entry) → OnOk result (out.new.items ≡ out.old.items
+            ++ spec.section_end (book_view self.now found) frame.now (picked self.now.faults.now numbers.now)) }
+    {
+        push_price(out, frame.price)?;
+        self.push_ways(out, frame)?;
+        out.extend_from_slice(over(frame.lead))?;
+        push_faults(alloc, out, self.faults, numbers)?;
+        out.extend_from_slice(b"</section>\n")
+    }
+
+    // A section with the faults of numbers.
+    #[tactic(auto, using(std::proofs::Common::append_assoc))]
+    fn push_with(
+        &self,
+        alloc: Global,
+        out: &mut Vec<u8>,
+        frame: &Frame,
+        numbers: &[usize],
+    ) -> Result<(), AllocError>
+        ensures { (found : List Entry) → IsReady self.now found → frame_at self.now.base.now frame.now.id ≡ Some frame.now
+            → OnOk result (out.new.items ≡ out.old.items
+            ++ spec.section_by (book_view self.now found) frame.now (picked self.now.faults.now numbers.now)) }
+    {
+        let codes = self.screens.codes(frame);
+        let cell = touched_cell(frame, self.faults, numbers);
+        push_begin(out, frame.id, self.reached.contains(frame.id))?;
+        push_screen(out, frame.id, &codes, cell)?;
+        self.push_below(alloc, out, frame, numbers)
+    }
+
+    // The section of a frame of the base.
+    pub fn push_section(
+        &self,
+        alloc: Global,
+        out: &mut Vec<u8>,
+        frame: &Frame,
+    ) -> Result<(), AllocError>
+        ensures { (found : List Entry) → IsReady self.now found → frame_at self.now.base.now frame.now.id ≡ Some frame.now
+            → OnOk result (out.new.items ≡ out.old.items ++ spec.section (book_view self.now found) frame.now) }
+    {
+        self.push_with(alloc, out, frame, self.index.numbers(frame.id))
+    }
+}
