@@ -70,7 +70,7 @@ module _ (caller : List ℕ) (base : BaseView) where
 
   module _ (found : List Discovered) where
     -- the frame at the place where it was found
-    at_place : (id : Id) (place : ℕ) → place_of found id ≡ Some place → (d : Discovered) × (slice_get found place ≡ Some d) × (d.id ≡ id)
+    pub at_place : (id : Id) (place : ℕ) → place_of found id ≡ Some place → (d : Discovered) × (slice_get found place ≡ Some d) × (d.id ≡ id)
     at_place id place e = by found refl where
       by : (all : List Discovered) → all ≡ found → (d : Discovered) × (slice_get found place ≡ Some d) × (d.id ≡ id)
       by [] is = let none : place_of [] id ≡ Some place = ap (λ (ds : List Discovered). place_of ds id) is ∙ e in absurd cc
@@ -148,7 +148,7 @@ module _ (caller : List ℕ) (base : BaseView) (found : List Discovered) (finds 
       (way_key h.pair.1, by_parent ∙ ap (parent_by (Some a)) h.has.key)
 
   -- a frame is sent after its parent's frames
-  after_parent : (i : ℕ) (d : Discovered) (a : ℕ) → slice_get found i ≡ Some d → d.parent ≡ Some a
+  pub after_parent : (i : ℕ) (d : Discovered) (a : ℕ) → slice_get found i ≡ Some d → d.parent ≡ Some a
       → (a < i) × (sent_to i ≡ sent_to a ++ d.id ∷ [])
   after_parent i d a at parent =
       let p = parent_at i d a at parent in
