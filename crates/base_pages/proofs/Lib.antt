@@ -1,3 +1,4 @@
 pub mod Numbering
 pub mod Kept
 pub mod Owned
+pub mod OnTheWay

@@ -1,5 +1,5 @@
 -- The faults of a base, frame by frame, in HTML.
-use Rattle.std.specs.Prelude.{ℕ, ◌+◌, ◌==◌, ◌&&◌, not, Bool, true, false, List, [], ◌∷◌, ◌++◌, Option, Some, None, codes, filter, get_or, nat_lt, take, if◌then◌else◌}
+use Rattle.std.specs.Prelude.{ℕ, ◌+◌, ◌==◌, ◌&&◌, not, Bool, true, false, List, [], ◌∷◌, ◌++◌, Option, Some, None, codes, filter, get_or, length, nat_lt, take, if◌then◌else◌}
 use Rattle.std.specs.List.{flat_map}
 use Rattle.page_ids.specs.Ids.{Id, id_eq}
 use Rattle.frame_records.specs.declared.frame.Frame.{Frame}
@@ -43,10 +43,13 @@ item fault = codes "<li>" ++ written Markup (words_as fault.kind fault) ++ codes
 abbrev pub items : List Fault → List ℕ
 items faults = flat_map item faults
 
--- items in a list, if there are any
+-- items in a list
+abbrev pub listed : List ℕ → List ℕ
+listed bs = codes "<ul class=\"faults\">\n" ++ bs ++ codes "</ul>\n"
+
+-- if there are any
 abbrev pub wrapped : List ℕ → List ℕ
-wrapped [] = []
-wrapped (b ∷ bs) = codes "<ul class=\"faults\">\n" ++ (b ∷ bs) ++ codes "</ul>\n"
+wrapped bs = if length bs == 0 then [] else listed bs
 
 abbrev pub fault_list : List Fault → List ℕ
 fault_list faults = wrapped (items faults)

@@ -1,10 +1,11 @@
 -- What comes before the sections: the name of the base's file, the policy and the verdict.
 use Rattle.std.specs.Prelude.{ℕ, List, [], ◌∷◌, ◌++◌, codes, decimal, length, ◌==◌, if◌then◌else◌}
 use Rattle.std.specs.Str.{chars}
-use Rattle.page_ids.specs.Ids.{frame_text}
+use Rattle.page_ids.specs.Ids.{Id, frame_text}
 use Rattle.frame_records.specs.Bases.{BaseView}
 use Rattle.frame_records.specs.Seek.{entry_of}
 use Rattle.cert_table.specs.Table.{CertView}
+use Rattle.cert_text.specs.Grammar.{spaced}
 use Rattle.checker.specs.declared.policy.Policy.{Policy}
 use Rattle.fault_scripts.specs.declared.fault.Fault.{Fault}
 use Rattle.fault_scripts.specs.declared.outcome.Outcome.{Outcome}
@@ -16,11 +17,15 @@ use Rattle.base_pages.specs.Faults.{entry_faults, fault_list}
 abbrev pub name_line : List ℕ → List ℕ
 name_line name = codes "<h1>" ++ written Markup (chars name) ++ codes "</h1>\n"
 
+-- a ceiling and keyings
+abbrev pub limits_text : ℕ → ℕ → List ℕ
+limits_text ceiling keyings = codes "at most " ++ decimal ceiling ++ codes "p a frame, at most " ++ decimal keyings ++ codes " keys back"
+
 -- how many frames the certificate has, and its ceiling and keyings
 abbrev pub certified : CertView → List ℕ
 certified cert =
-    codes "<p class=\"verdict certified\">CERTIFIED</p>\n<p>" ++ decimal (length cert.rows) ++ codes " frames, at most "
-    ++ decimal cert.ceiling ++ codes "p a frame, at most " ++ decimal cert.keyings ++ codes " keys back</p>\n"
+    codes "<p class=\"verdict certified\">CERTIFIED</p>\n<p>" ++ decimal (length cert.rows) ++ codes " frames, "
+    ++ limits_text cert.ceiling cert.keyings ++ codes "</p>\n"
 
 -- how many faults there are
 abbrev pub counted : ℕ → List ℕ
@@ -33,27 +38,27 @@ abbrev pub verdict_text : Outcome → List ℕ
 verdict_text (Certified cert) = certified cert
 verdict_text (Faulty faults) = faulty faults
 
--- groups with a separator before each but the first
-abbrev pub later_groups : List ℕ → List ℕ
-later_groups [] = []
-later_groups (group ∷ groups) = codes "," ++ decimal group ++ later_groups groups
-
+-- groups, with a space before each
 abbrev pub groups_text : List ℕ → List ℕ
-groups_text [] = codes "no groups"
-groups_text (group ∷ groups) = codes "groups " ++ decimal group ++ later_groups groups
+groups_text groups = if length groups == 0 then codes "no groups" else codes "groups" ++ spaced groups
 
 abbrev pub policy_line : Policy → List ℕ
 policy_line policy =
-    codes "<p>Policy: at most " ++ decimal policy.ceiling ++ codes "p a frame, at most " ++ decimal policy.keyings
-    ++ codes " keys back, " ++ groups_text policy.groups ++ codes "</p>\n"
+    codes "<p>Policy: " ++ limits_text policy.ceiling policy.keyings ++ codes ", " ++ groups_text policy.groups ++ codes "</p>\n"
 
 -- the faults of an outcome
 abbrev pub faults_in : Outcome → List Fault
 faults_in (Certified cert) = []
 faults_in (Faulty faults) = faults
 
+-- it names the entry frame
+abbrev pub header_begin : Id → List ℕ
+header_begin entry = codes "<header data-entry=\"" ++ frame_text entry ++ codes "\">\n"
+
+abbrev pub header_end : Outcome → List ℕ
+header_end outcome = codes "</header>\n" ++ fault_list (entry_faults (faults_in outcome))
+
 -- the header, which names the entry frame, and that it isn't found if it isn't
 abbrev pub header : List ℕ → BaseView → Policy → Outcome → List ℕ
 header name base policy outcome =
-    codes "<header data-entry=\"" ++ frame_text (entry_of base) ++ codes "\">\n" ++ name_line name ++ verdict_text outcome
-    ++ policy_line policy ++ codes "</header>\n" ++ fault_list (entry_faults (faults_in outcome))
+    header_begin (entry_of base) ++ name_line name ++ verdict_text outcome ++ policy_line policy ++ header_end outcome

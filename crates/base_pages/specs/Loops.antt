@@ -25,7 +25,8 @@ use Rattle.base_pages.specs.Head.{faults_in}
 use Rattle.base_pages.specs.Pages.{page}
 use Rattle.audit_report.specs.Listing.{Knows}
 use Rattle.base_pages.specs.Sections.{BookView}
-use Rattle.base_pages.specs.Faults.{is_entry_kind}
+use Rattle.abstract_paint.specs.declared.start.Start.{Start}
+use Rattle.base_pages.specs.Faults.{is_entry_kind, item, start_or}
 
 -- The numbers of faults, by frames.
 
@@ -57,6 +58,35 @@ option_list (Some x) = x ∷ []
 
 abbrev pub picked : List Fault → List ℕ → List Fault
 picked faults numbers = flat_map (λ n. option_list (slice_get faults n)) numbers
+
+-- their lines
+abbrev pub item_of : Option Fault → List ℕ
+item_of None = []
+item_of (Some fault) = item fault
+
+abbrev pub numbered_item : List Fault → ℕ → List ℕ
+numbered_item faults n = item_of (slice_get faults n)
+
+abbrev pub numbered_items : List Fault → List ℕ → List ℕ
+numbered_items faults numbers = flat_map (numbered_item faults) numbers
+
+abbrev pub entry_item : Fault → List ℕ
+entry_item fault = if is_entry_kind fault.kind then item fault else []
+
+abbrev pub entry_items : List Fault → List ℕ
+entry_items faults = flat_map entry_item faults
+
+-- and the first start that they name
+abbrev pub start_of : Option Fault → Option Start
+start_of None = None
+start_of (Some fault) = fault.start
+
+abbrev pub numbered_start : List Fault → ℕ → Option Start
+numbered_start faults n = start_of (slice_get faults n)
+
+abbrev pub first_numbered_start : List Fault → List ℕ → Option Start
+first_numbered_start faults [] = None
+first_numbered_start faults (n ∷ ns) = start_or (numbered_start faults n) (first_numbered_start faults ns)
 
 -- The terminals of frames that keep what is on the screen.
 

@@ -1,5 +1,5 @@
 -- The file of a base, and what was written of it.
-use Rattle.std.specs.Prelude.{◌≡◌, ℕ, List, [], ◌++◌, ◌⊎◌, ⊥, Option, Some, None, Result, Ok, Err}
+use Rattle.std.specs.Prelude.{◌≡◌, ℕ, List, [], ◌++◌, ◌⊎◌, Option, Some, None, Result, Ok, Err}
 use Rattle.page_ids.specs.Ids.{Id}
 use Rattle.frame_records.specs.Bases.{BaseView}
 use Rattle.finder.specs.declared.found.Discovered.{Discovered}

@@ -30,12 +30,12 @@ pub record BookView : Type 0 where
 
 -- a frame that no key reaches is marked
 abbrev pub class_of : Bool → List ℕ
-class_of true = []
-class_of false = codes " class=\"unreached\""
+class_of true = codes "\">\n<h2>"
+class_of false = codes "\" class=\"unreached\">\n<h2>"
 
 abbrev pub section_begin : Id → Bool → List ℕ
 section_begin id is_reached =
-    codes "<section id=\"" ++ frame_text id ++ codes "\"" ++ class_of is_reached ++ codes ">\n<h2>" ++ frame_text id ++ codes "</h2>\n"
+    codes "<section id=\"" ++ frame_text id ++ class_of is_reached ++ frame_text id ++ codes "</h2>\n"
 
 -- the picture and the text of a screen
 abbrev pub screen_forms : Id → List (List Look) → Option ℕ → List ℕ
@@ -50,18 +50,18 @@ abbrev pub over : Lead → List ℕ
 over Clear = []
 over Keep = codes "<p class=\"over\">Painted over what is on the screen.</p>\n"
 
-abbrev pub ways_line : BookView → Frame → List ℕ
-ways_line b f = codes "<p class=\"ways\">\n" ++ ways_text b.caller b.base b.part f ++ codes "</p>\n"
+abbrev pub ways_line : List ℕ → BaseView → Option (List Id) → Frame → List ℕ
+ways_line caller base part f = codes "<p class=\"ways\">\n" ++ ways_text caller base part f ++ codes "</p>\n"
 
 -- what comes after the picture and the text
-abbrev pub section_end : BookView → Frame → List Fault → List ℕ
-section_end b f faults = price_line f.price ++ ways_line b f ++ over f.lead ++ fault_list faults ++ codes "</section>\n"
+abbrev pub section_end : List ℕ → BaseView → Option (List Id) → Frame → List Fault → List ℕ
+section_end caller base part f faults = price_line f.price ++ ways_line caller base part f ++ over f.lead ++ fault_list faults ++ codes "</section>\n"
 
 abbrev pub section_by : BookView → Frame → List Fault → List ℕ
 section_by b f faults =
     section_begin f.id (is_listed b.found f.id)
     ++ screen_forms f.id (screen_of b.caller b.base b.found f.id) (touched_cell f faults)
-    ++ section_end b f faults
+    ++ section_end b.caller b.base b.part f faults
 
 -- its faults are those about its frame
 abbrev pub section : BookView → Frame → List ℕ

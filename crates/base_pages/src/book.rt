@@ -38,9 +38,9 @@ fn class_of(is_reached: bool) -> &'static [u8]
     ensures { result.now ≡ spec.class_of is_reached }
 {
     if is_reached {
-        b""
+        b"\">\n<h2>"
     } else {
-        b" class=\"unreached\""
+        b"\" class=\"unreached\">\n<h2>"
     }
 }
 
@@ -51,9 +51,7 @@ fn push_begin(out: &mut Vec<u8>, id: FrameId, is_reached: bool) -> Result<(), Al
     let again = id;
     out.extend_from_slice(b"<section id=\"")?;
     push_id(out, id)?;
-    out.extend_from_slice(b"\"")?;
     out.extend_from_slice(class_of(is_reached))?;
-    out.extend_from_slice(b">\n<h2>")?;
     push_id(out, again)?;
     out.extend_from_slice(b"</h2>\n")
 }
@@ -96,7 +94,8 @@ fn over(lead: Lead) -> &'static [u8]
 impl<'a> Book<'a> {
     #[tactic(auto, using(std::proofs::Common::append_assoc))]
     fn push_ways(&self, out: &mut Vec<u8>, frame: &Frame) -> Result<(), AllocError>
-        ensures { (found : List Entry) → OnOk result (out.new.items ≡ out.old.items ++ spec.ways_line (book_view self.now found) frame.now) }
+        ensures { OnOk result (out.new.items ≡ out.old.items
+            ++ spec.ways_line self.now.groups.now self.now.base.now self.now.part.now frame.now) }
     {
         out.extend_from_slice(b"<p class=\"ways\">\n")?;
         push_ways(out, self.base, self.groups, self.part, frame)?;
@@ -112,8 +111,8 @@ impl<'a> Book<'a> {
         frame: &Frame,
         numbers: &[usize],
     ) -> Result<(), AllocError>
-        ensures { (found : List Entry) → OnOk result (out.new.items ≡ out.old.items
-            ++ spec.section_end (book_view self.now found) frame.now (picked self.now.faults.now numbers.now)) }
+        ensures { OnOk result (out.new.items ≡ out.old.items
+            ++ spec.section_end self.now.groups.now self.now.base.now self.now.part.now frame.now (picked self.now.faults.now numbers.now)) }
     {
         push_price(out, frame.price)?;
         self.push_ways(out, frame)?;

@@ -4,7 +4,7 @@ ghost use Rattle.std.specs.Prelude.{◌≡◌, ◌++◌, ◌∷◌, [], OnOk};
 ghost use Rattle.screen_texts.specs.declared.writing.Writing.TheVariants.{Markup};
 ghost use Rattle.screen_texts.specs.Writing.{written};
 ghost use Rattle.base_pages.specs.Faults as spec;
-ghost use Rattle.base_pages.specs.Loops.{picked};
+ghost use Rattle.base_pages.specs.Loops.{picked, numbered_item, numbered_items, entry_item, entry_items, numbered_start, first_numbered_start};
 
 use crate::index::is_entry_kind;
 use abstract_paint::Start;
@@ -36,6 +36,21 @@ fn push_item(alloc: Global, out: &mut Vec<u8>, fault: &Fault) -> Result<(), Allo
     out.extend_from_slice(b"</li>\n")
 }
 
+// The line of the fault of a number, if there is one.
+fn push_numbered(
+    alloc: Global,
+    out: &mut Vec<u8>,
+    faults: &[Fault],
+    number: usize,
+) -> Result<(), AllocError>
+    ensures { OnOk result (out.new.items ≡ out.old.items ++ numbered_item faults.now number) }
+{
+    match faults.get(number) {
+        Some(fault) => push_item(alloc, out, fault),
+        None => Ok(()),
+    }
+}
+
 // The lines of the faults of numbers.
 fn push_items(
     alloc: Global,
@@ -43,33 +58,37 @@ fn push_items(
     faults: &[Fault],
     numbers: &[usize],
 ) -> Result<(), AllocError>
-    ensures { OnOk result (out.new.items ≡ out.old.items ++ spec.items (picked faults.now numbers.now)) }
+    ensures { OnOk result (out.new.items ≡ out.old.items ++ numbered_items faults.now numbers.now) }
 {
     for number in numbers {
-        match faults.get(*number) {
-            Some(fault) => push_item(alloc, out, fault)?,
-            None => {}
-        }
+        push_numbered(alloc, out, faults, *number)?;
     }
     Ok(())
 }
 
-// Items in a list, if there are any.
+// Items in a list.
 #[tactic(auto, using(std::proofs::Common::append_assoc))]
+fn push_list(out: &mut Vec<u8>, items: &[u8]) -> Result<(), AllocError>
+    ensures { OnOk result (out.new.items ≡ out.old.items ++ spec.listed items.now) }
+{
+    out.extend_from_slice(b"<ul class=\"faults\">\n")?;
+    out.extend_from_slice(items)?;
+    out.extend_from_slice(b"</ul>\n")
+}
+
+// The same, if there are any.
 fn push_wrapped(out: &mut Vec<u8>, items: &[u8]) -> Result<(), AllocError>
     ensures { OnOk result (out.new.items ≡ out.old.items ++ spec.wrapped items.now) }
 {
-    match items {
-        [] => Ok(()),
-        _ => {
-            out.extend_from_slice(b"<ul class=\"faults\">\n")?;
-            out.extend_from_slice(items)?;
-            out.extend_from_slice(b"</ul>\n")
-        }
+    if items.len() == 0 {
+        out.extend_from_slice(b"")
+    } else {
+        push_list(out, items)
     }
 }
 
 // The list of the faults of numbers.
+#[tactic(auto, using(crate::proofs::Numbering::items_picked))]
 pub fn push_faults(
     alloc: Global,
     out: &mut Vec<u8>,
@@ -83,22 +102,32 @@ pub fn push_faults(
     push_wrapped(out, items.as_slice())
 }
 
+// The line of a fault, if it is that the entry frame isn't found.
+fn push_entry_item(alloc: Global, out: &mut Vec<u8>, fault: &Fault) -> Result<(), AllocError>
+    ensures { OnOk result (out.new.items ≡ out.old.items ++ entry_item fault.now) }
+{
+    if is_entry_kind(fault.kind) {
+        push_item(alloc, out, fault)
+    } else {
+        Ok(())
+    }
+}
+
 fn push_entry_items(
     alloc: Global,
     out: &mut Vec<u8>,
     faults: &[Fault],
 ) -> Result<(), AllocError>
-    ensures { OnOk result (out.new.items ≡ out.old.items ++ spec.items (spec.entry_faults faults.now)) }
+    ensures { OnOk result (out.new.items ≡ out.old.items ++ entry_items faults.now) }
 {
     for fault in faults {
-        if is_entry_kind(fault.kind) {
-            push_item(alloc, out, fault)?;
-        }
+        push_entry_item(alloc, out, fault)?;
     }
     Ok(())
 }
 
 // The list of those that the entry frame isn't found.
+#[tactic(auto, using(crate::proofs::Numbering::entry_items_are))]
 pub fn push_entry_faults(
     alloc: Global,
     out: &mut Vec<u8>,
@@ -111,15 +140,23 @@ pub fn push_entry_faults(
     push_wrapped(out, items.as_slice())
 }
 
+// The start that the fault of a number names.
+fn start_at(faults: &[Fault], number: usize) -> Option<Start>
+    ensures { result ≡ numbered_start faults.now number }
+{
+    match faults.get(number) {
+        Some(fault) => fault.start,
+        None => None,
+    }
+}
+
 // The first start that the faults of numbers name.
 fn first_start(faults: &[Fault], numbers: &[usize]) -> Option<Start>
-    ensures { result ≡ spec.first_start (picked faults.now numbers.now) }
+    ensures { result ≡ first_numbered_start faults.now numbers.now }
 {
     for number in numbers {
-        if let Some(fault) = faults.get(*number) {
-            if let Some(start) = fault.start {
-                return Some(start);
-            }
+        if let Some(start) = start_at(faults, *number) {
+            return Some(start);
         }
     }
     None
@@ -145,6 +182,7 @@ fn cell_of(frame: &Frame, start: &Start) -> Option<u16>
 }
 
 // The cell that a frame with the faults of numbers wrongly writes.
+#[tactic(auto, using(crate::proofs::Numbering::start_picked))]
 pub fn touched_cell(frame: &Frame, faults: &[Fault], numbers: &[usize]) -> Option<u16>
     ensures { result ≡ spec.touched_cell frame.now (picked faults.now numbers.now) }
 {

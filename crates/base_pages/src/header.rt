@@ -1,17 +1,18 @@
 //! What comes before the sections.
 
-ghost use Rattle.std.specs.Prelude.{◌≡◌, ◌++◌, ◌∷◌, [], OnOk, drop};
+ghost use Rattle.std.specs.Prelude.{◌≡◌, ◌++◌, OnOk, length};
 ghost use Rattle.std.specs.Str.{chars};
 ghost use Rattle.screen_texts.specs.declared.writing.Writing.TheVariants.{Markup};
 ghost use Rattle.screen_texts.specs.Writing.{written};
+ghost use Rattle.cert_text.specs.Grammar.{spaced};
 ghost use Rattle.base_pages.specs.Head as spec;
 
 use crate::faults::push_entry_faults;
 use cert_table::{Certificate, Cover};
 use checker::Policy;
 use fault_scripts::{Fault, Outcome};
-use frame_records::{Base, Groups};
-use page_ids::{push_id, push_number};
+use frame_records::{Base, Groups, Pence};
+use page_ids::{FrameId, push_id, push_number};
 use screen_texts::{Writing, push_char};
 use std::alloc::{AllocError, Global};
 
@@ -34,17 +35,37 @@ fn push_name(out: &mut Vec<u8>, name: &str) -> Result<(), AllocError>
     out.extend_from_slice(b"</h1>\n")
 }
 
+// A ceiling and keyings.
 #[tactic(auto, using(std::proofs::Common::append_assoc))]
-fn push_certified(out: &mut Vec<u8>, cert: &Certificate) -> Result<(), AllocError>
+fn push_limits(out: &mut Vec<u8>, ceiling: Pence, keyings: u16) -> Result<(), AllocError>
+    ensures { OnOk result (out.new.items ≡ out.old.items ++ spec.limits_text ceiling keyings) }
+{
+    out.extend_from_slice(b"at most ")?;
+    push_number(out, u64::from(ceiling.get()))?;
+    out.extend_from_slice(b"p a frame, at most ")?;
+    push_number(out, u64::from(keyings))?;
+    out.extend_from_slice(b" keys back")
+}
+
+// How many rows a certificate has.
+fn count_of<C: Cover + Drop>(cert: &Certificate<C>) -> u64
+    ensures { result ≡ length cert.now.rows }
+{
+    cert.cover().len() as u64
+}
+
+#[tactic(auto, using(std::proofs::Common::append_assoc))]
+fn push_certified<C: Cover + Drop>(
+    out: &mut Vec<u8>,
+    cert: &Certificate<C>,
+) -> Result<(), AllocError>
     ensures { OnOk result (out.new.items ≡ out.old.items ++ spec.certified cert.now) }
 {
     out.extend_from_slice(b"<p class=\"verdict certified\">CERTIFIED</p>\n<p>")?;
-    push_number(out, cert.cover().len() as u64)?;
-    out.extend_from_slice(b" frames, at most ")?;
-    push_number(out, u64::from(cert.ceiling().get()))?;
-    out.extend_from_slice(b"p a frame, at most ")?;
-    push_number(out, u64::from(cert.keyings()))?;
-    out.extend_from_slice(b" keys back</p>\n")
+    push_number(out, count_of(cert))?;
+    out.extend_from_slice(b" frames, ")?;
+    push_limits(out, cert.ceiling(), cert.keyings())?;
+    out.extend_from_slice(b"</p>\n")
 }
 
 // How many faults there are.
@@ -78,20 +99,14 @@ fn push_verdict(out: &mut Vec<u8>, outcome: &Outcome) -> Result<(), AllocError>
     }
 }
 
-// Groups from one on, with a separator before each.
-#[tactic(auto, using(std::proofs::Common::append_assoc))]
-fn push_group(out: &mut Vec<u8>, group: u16) -> Result<(), AllocError>
-    ensures { OnOk result (out.new.items ≡ out.old.items ++ spec.later_groups (group ∷ [])) }
+// Numbers of groups, with a space before each.
+fn push_numbers(out: &mut Vec<u8>, groups: &Groups) -> Result<(), AllocError>
+    ensures { OnOk result (out.new.items ≡ out.old.items ++ spaced groups.now) }
 {
-    out.extend_from_slice(b",")?;
-    push_number(out, u64::from(group))
-}
-
-fn push_later(out: &mut Vec<u8>, groups: &Groups) -> Result<(), AllocError>
-    ensures { OnOk result (out.new.items ≡ out.old.items ++ spec.later_groups (drop 1 groups.now)) }
-{
-    for i in 1..groups.len() {
-        push_group(out, groups.at(i).get())?;
+    for i in 0..groups.len() {
+        let group = groups.at(i);
+        out.push(b' ')?;
+        push_number(out, u64::from(group.get()))?;
     }
     Ok(())
 }
@@ -103,20 +118,17 @@ fn push_groups(out: &mut Vec<u8>, groups: &Groups) -> Result<(), AllocError>
     if groups.len() == 0 {
         return out.extend_from_slice(b"no groups");
     }
-    out.extend_from_slice(b"groups ")?;
-    push_number(out, u64::from(groups.at(0).get()))?;
-    push_later(out, groups)
+    out.extend_from_slice(b"groups")?;
+    push_numbers(out, groups)
 }
 
 #[tactic(auto, using(std::proofs::Common::append_assoc))]
 fn push_policy(out: &mut Vec<u8>, policy: &Policy) -> Result<(), AllocError>
     ensures { OnOk result (out.new.items ≡ out.old.items ++ spec.policy_line policy.now) }
 {
-    out.extend_from_slice(b"<p>Policy: at most ")?;
-    push_number(out, u64::from(policy.ceiling.get()))?;
-    out.extend_from_slice(b"p a frame, at most ")?;
-    push_number(out, u64::from(policy.keyings))?;
-    out.extend_from_slice(b" keys back, ")?;
+    out.extend_from_slice(b"<p>Policy: ")?;
+    push_limits(out, policy.ceiling, policy.keyings)?;
+    out.extend_from_slice(b", ")?;
     push_groups(out, &policy.groups)?;
     out.extend_from_slice(b"</p>\n")
 }
@@ -131,6 +143,23 @@ pub fn faults_in<'a>(outcome: &'a Outcome) -> &'a [Fault]
     }
 }
 
+#[tactic(auto, using(std::proofs::Common::append_assoc))]
+fn push_begin(out: &mut Vec<u8>, entry: FrameId) -> Result<(), AllocError>
+    ensures { OnOk result (out.new.items ≡ out.old.items ++ spec.header_begin entry) }
+{
+    out.extend_from_slice(b"<header data-entry=\"")?;
+    push_id(out, entry)?;
+    out.extend_from_slice(b"\">\n")
+}
+
+#[tactic(auto, using(std::proofs::Common::append_assoc))]
+fn push_end(alloc: Global, out: &mut Vec<u8>, outcome: &Outcome) -> Result<(), AllocError>
+    ensures { OnOk result (out.new.items ≡ out.old.items ++ spec.header_end outcome.now) }
+{
+    out.extend_from_slice(b"</header>\n")?;
+    push_entry_faults(alloc, out, faults_in(outcome))
+}
+
 // The header, and that the entry frame isn't found if it isn't.
 #[tactic(auto, using(std::proofs::Common::append_assoc))]
 pub fn push_header(
@@ -143,12 +172,9 @@ pub fn push_header(
 ) -> Result<(), AllocError>
     ensures { OnOk result (out.new.items ≡ out.old.items ++ spec.header name.now base.now policy.now outcome.now) }
 {
-    out.extend_from_slice(b"<header data-entry=\"")?;
-    push_id(out, base.entry_frame())?;
-    out.extend_from_slice(b"\">\n")?;
+    push_begin(out, base.entry_frame())?;
     push_name(out, name)?;
     push_verdict(out, outcome)?;
     push_policy(out, policy)?;
-    out.extend_from_slice(b"</header>\n")?;
-    push_entry_faults(alloc, out, faults_in(outcome))
+    push_end(alloc, out, outcome)
 }

@@ -37,18 +37,27 @@ pub fn is_entry_kind(kind: FaultKind) -> bool
     }
 }
 
+// Adds a fault with its number, if it is a frame's own.
+fn number_one(list: &mut Vec<Numbered>, number: usize, fault: &Fault) -> Result<(), AllocError>
+    ensures { OnOk result (list.new.items ≡ list.old.items ++ spec.numbered_one number fault.now) }
+{
+    if is_entry_kind(fault.kind) {
+        return Ok(());
+    }
+    list.push(Numbered {
+        frame: fault.frame,
+        number,
+    })?;
+    Ok(())
+}
+
 // The faults of frames, numbered.
 fn number_all(alloc: Global, faults: &[Fault]) -> Result<Vec<Numbered>, AllocError>
     ensures { IfOk result (λ list. list.items ≡ spec.numbered 0 faults.now) }
 {
     let mut list = Vec::new(alloc);
     for (number, fault) in faults.iter().enumerate() {
-        if !is_entry_kind(fault.kind) {
-            list.push(Numbered {
-                frame: fault.frame,
-                number,
-            })?;
-        }
+        number_one(&mut list, number, fault)?;
     }
     Ok(list)
 }

@@ -1,7 +1,7 @@
 //! The screens of all frames, each painted once.
 
-ghost use Rattle.std.specs.Prelude.{◌≡◌, ◌<◌, ◌+◌, ℕ, List, IfOk, OnOk, Some, length, slice_get};
-ghost use Rattle.page_ids.specs.Ids.{id_eq};
+ghost use Rattle.std.specs.Prelude.{◌≡◌, ◌<◌, ◌+◌, ℕ, List, IfOk, OnOk, None, Some, length, slice_get};
+ghost use Rattle.page_ids.specs.Ids.{Id, id_eq};
 ghost use Rattle.indexmap.specs.IndexMap.{get};
 ghost use Rattle.frame_records.specs.Bases.{BaseView, frame_at};
 ghost use Rattle.finder.specs.declared.found.Discovered.{Discovered as Entry};
@@ -41,6 +41,14 @@ fn discovered_at<'a>(survey: &'a Survey, place: usize) -> &'a Discovered
 }
 
 impl Screens {
+    fn empty(alloc: Global) -> Screens
+        ensures { (id : Id) → get id_eq result.kept id ≡ None }
+    {
+        Screens {
+            kept: IndexMap::new(alloc),
+        }
+    }
+
     // The terminal that is kept for a frame of an id, or else one after the frame alone.
     fn terminal(&self, id: FrameId, frame: &Frame) -> Terminal
         ensures { result ≡ terminal_or (get id_eq self.now.kept id) frame.now }
@@ -92,9 +100,7 @@ impl Screens {
         requires { FindsReached survey.now.groups survey.now.base survey.now.found }
         ensures { IfOk result (λ screens. AreKept survey.now.groups survey.now.base survey.now.found (length survey.now.found) (get id_eq screens.kept)) }
     {
-        let mut screens = Screens {
-            kept: IndexMap::new(alloc),
-        };
+        let mut screens = Screens::empty(alloc);
         for place in 0..survey.found().as_slice().len() {
             screens.add(survey, place)?;
         }

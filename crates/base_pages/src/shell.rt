@@ -4,6 +4,7 @@ ghost use Rattle.std.specs.Prelude.{◌≡◌};
 ghost use Rattle.base_pages.specs.Shell as spec;
 
 // All up to the header, with the style.
+#[tactic(auto, unfolding(crate::specs::Shell::head))]
 pub fn head() -> &'static [u8]
     ensures { result.now ≡ spec.head }
 {
@@ -11,6 +12,7 @@ pub fn head() -> &'static [u8]
 }
 
 // The views and the keypad.
+#[tactic(auto, unfolding(crate::specs::Shell::middle))]
 pub fn middle() -> &'static [u8]
     ensures { result.now ≡ spec.middle }
 {
@@ -18,6 +20,7 @@ pub fn middle() -> &'static [u8]
 }
 
 // All after the sections, with the script.
+#[tactic(auto, unfolding(crate::specs::Shell::foot))]
 pub fn foot() -> &'static [u8]
     ensures { result.now ≡ spec.foot }
 {

@@ -2,6 +2,8 @@
 
 ghost use Rattle.std.specs.Prelude.{◌≡◌, ◌++◌, OnOk};
 ghost use Rattle.page_ids.specs.Ids.{frame_text};
+ghost use Rattle.page_ids.specs.Ways.{way_at, way_key};
+ghost use Rattle.frame_records.specs.Ways.{destination_of};
 ghost use Rattle.base_pages.specs.Ways as spec;
 
 use base_map::Part;
@@ -82,6 +84,22 @@ fn push_way(
     }
 }
 
+// The way at a place of their order.
+fn push_way_at(
+    out: &mut Vec<u8>,
+    base: &Base,
+    groups: &Groups,
+    part: &Part,
+    frame: &Frame,
+    place: u8,
+) -> Result<(), AllocError>
+    ensures { OnOk result (out.new.items ≡ out.old.items ++ spec.way_text part.now (way_key (way_at place))
+        (destination_of groups.now base.now frame.now (way_at place))) }
+{
+    let leads = base.follow(frame, Way::at(place), groups);
+    push_way(out, part, Way::at(place).key(), &leads)
+}
+
 // The ways that a frame offers, in their order.
 pub fn push_ways(
     out: &mut Vec<u8>,
@@ -93,8 +111,7 @@ pub fn push_ways(
     ensures { OnOk result (out.new.items ≡ out.old.items ++ spec.ways_text groups.now base.now part.now frame.now) }
 {
     for place in 0..Way::COUNT {
-        let leads = base.follow(frame, Way::at(place), groups);
-        push_way(out, part, Way::at(place).key(), &leads)?;
+        push_way_at(out, base, groups, part, frame, place)?;
     }
     Ok(())
 }
