@@ -1,12 +1,23 @@
 -- A text on its way to a sink, section by section.
-use Rattle.std.proofs.Common.{rules, ◌≡◌, ◌∙◌, ℕ, Bool, true, false, cond, List, [], ◌∷◌, ◌++◌, sym, ap, refl, append_assoc, append-nil, Option, None, Some}
+use Rattle.std.proofs.Common.{rules, ◌≡◌, ◌∙◌, ℕ, Bool, true, false, cond, List, [], ◌∷◌, ◌++◌, sym, ap, refl, append_assoc, append-nil, Option, None, Some, inl, inr}
 use Rattle.std.specs.Prelude.{filter}
 use Rattle.std.specs.List.{flat_map}
 use Rattle.std.specs.Io.KnownBytes.{Appends}
 use Rattle.devices.specs.Devices.{Seen, IsOnItsWay}
 use Rattle.frame_records.specs.declared.frame.Frame.{Frame}
 use Rattle.base_map.specs.Edges.{shows}
-use Rattle.base_pages.specs.Pages.{StoppedWithin}
+use Rattle.devices.specs.Devices.{TookAll}
+use Rattle.checker.specs.declared.policy.Policy.{Policy}
+use Rattle.frame_records.specs.Bases.{BaseView}
+use Rattle.page_ids.specs.Ids.{Id}
+use Rattle.base_map.specs.declared.view.View.{View}
+use Rattle.base_map.specs.Windows.{IsViewPart}
+use Rattle.base_pages.specs.declared.fault.PagesFault.{PagesFault}
+use Rattle.base_pages.specs.declared.fault.PagesFault.TheVariants.{Write, Memory}
+use Rattle.base_pages.specs.declared.pages.PagesStatus.{PagesStatus}
+use Rattle.base_pages.specs.declared.pages.PagesStatus.TheVariants.{Written, NoPage}
+use Rattle.std.specs.Prelude.{Result, Ok, Err}
+use Rattle.base_pages.specs.Pages.{StoppedWithin, IsStopped, IsPagesFault, IsPartWritten, IsPagesRun}
 use Rattle.base_pages.specs.Sections.{BookView, section, sections}
 
 -- more of the text is kept
@@ -45,3 +56,16 @@ begins old unbroken kept none text is empty = record {
   Keeps-Appends : (o : Option (List ℕ)) → Appends o o []
   Keeps-Appends None = search rules
   Keeps-Appends (Some bs) = search rules
+
+-- a text that isn't written whole
+pub fault_of : (old new : Seen) (Is : List ℕ → Type 0) (text : List ℕ) → Is text → (fault : PagesFault) → IsStopped old new text fault → IsPagesFault old new Is fault
+fault_of old new Is text is (Write wrote) stop = (text, is, stop)
+fault_of old new Is text is Memory stop = inr (text, is, stop)
+
+-- the run of a view that has a part
+pub run_of_part : (old new : Seen) (name : List ℕ) (base : BaseView) (policy : Policy) (view : View) (part : Option (List Id)) → IsViewPart policy.groups base view (Some part)
+    → (r : Result PagesStatus PagesFault) → IsPartWritten old new name base policy part r → IsPagesRun old new name base policy view r
+run_of_part old new name base policy view part is (Ok Written) w = record { part = part; is = is; written = w }
+run_of_part old new name base policy view part is (Ok NoPage) w = absurd w
+run_of_part old new name base policy view part is (Err (Write n)) w = record { part = part; is = is; written = w }
+run_of_part old new name base policy view part is (Err Memory) w = inr (record { part = part; is = is; written = w })

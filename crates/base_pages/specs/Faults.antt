@@ -44,14 +44,17 @@ abbrev pub items : List Fault → List ℕ
 items faults = flat_map item faults
 
 -- items in a list
-abbrev pub listed : List ℕ → List ℕ
-listed bs = codes "<ul class=\"faults\">\n" ++ bs ++ codes "</ul>\n"
+unfoldable pub list_begin : List ℕ
+list_begin = codes "<ul class=\"faults\">\n"
+
+unfoldable pub listed : List ℕ → List ℕ
+listed bs = list_begin ++ bs ++ codes "</ul>\n"
 
 -- if there are any
 abbrev pub wrapped : List ℕ → List ℕ
 wrapped bs = if length bs == 0 then [] else listed bs
 
-abbrev pub fault_list : List Fault → List ℕ
+unfoldable pub fault_list : List Fault → List ℕ
 fault_list faults = wrapped (items faults)
 
 -- The cell that a frame wrongly writes.

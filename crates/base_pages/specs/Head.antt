@@ -14,24 +14,27 @@ use Rattle.screen_texts.specs.declared.writing.Writing.TheVariants.{Markup}
 use Rattle.screen_texts.specs.Writing.{written}
 use Rattle.base_pages.specs.Faults.{entry_faults, fault_list}
 
-abbrev pub name_line : List ℕ → List ℕ
+unfoldable pub name_line : List ℕ → List ℕ
 name_line name = codes "<h1>" ++ written Markup (chars name) ++ codes "</h1>\n"
 
 -- a ceiling and keyings
-abbrev pub limits_text : ℕ → ℕ → List ℕ
+unfoldable pub limits_text : ℕ → ℕ → List ℕ
 limits_text ceiling keyings = codes "at most " ++ decimal ceiling ++ codes "p a frame, at most " ++ decimal keyings ++ codes " keys back"
 
+unfoldable pub certified_begin : List ℕ
+certified_begin = codes "<p class=\"verdict certified\">CERTIFIED</p>\n<p>"
+
 -- how many frames the certificate has, and its ceiling and keyings
-abbrev pub certified : CertView → List ℕ
+unfoldable pub certified : CertView → List ℕ
 certified cert =
-    codes "<p class=\"verdict certified\">CERTIFIED</p>\n<p>" ++ decimal (length cert.rows) ++ codes " frames, "
+    certified_begin ++ decimal (length cert.rows) ++ codes " frames, "
     ++ limits_text cert.ceiling cert.keyings ++ codes "</p>\n"
 
 -- how many faults there are
 abbrev pub counted : ℕ → List ℕ
 counted n = decimal n ++ (if n == 1 then codes " fault" else codes " faults")
 
-abbrev pub faulty : List Fault → List ℕ
+unfoldable pub faulty : List Fault → List ℕ
 faulty faults = codes "<p class=\"verdict faulty\">" ++ counted (length faults) ++ codes "</p>\n"
 
 abbrev pub verdict_text : Outcome → List ℕ
@@ -39,12 +42,12 @@ verdict_text (Certified cert) = certified cert
 verdict_text (Faulty faults) = faulty faults
 
 -- groups, with a space before each
-abbrev pub groups_text : List ℕ → List ℕ
-groups_text groups = if length groups == 0 then codes "no groups" else codes "groups" ++ spaced groups
+unfoldable pub groups_text : List ℕ → List ℕ
+groups_text groups = if length groups == 0 then codes ", no groups" else codes ", groups" ++ spaced groups
 
-abbrev pub policy_line : Policy → List ℕ
+unfoldable pub policy_line : Policy → List ℕ
 policy_line policy =
-    codes "<p>Policy: " ++ limits_text policy.ceiling policy.keyings ++ codes ", " ++ groups_text policy.groups ++ codes "</p>\n"
+    codes "<p>Policy: " ++ limits_text policy.ceiling policy.keyings ++ groups_text policy.groups ++ codes "</p>\n"
 
 -- the faults of an outcome
 abbrev pub faults_in : Outcome → List Fault
@@ -52,10 +55,10 @@ faults_in (Certified cert) = []
 faults_in (Faulty faults) = faults
 
 -- it names the entry frame
-abbrev pub header_begin : Id → List ℕ
+unfoldable pub header_begin : Id → List ℕ
 header_begin entry = codes "<header data-entry=\"" ++ frame_text entry ++ codes "\">\n"
 
-abbrev pub header_end : Outcome → List ℕ
+unfoldable pub header_end : Outcome → List ℕ
 header_end outcome = codes "</header>\n" ++ fault_list (entry_faults (faults_in outcome))
 
 -- the header, which names the entry frame, and that it isn't found if it isn't

@@ -29,43 +29,45 @@ pub record BookView : Type 0 where
   pub part : Option (List Id)
 
 -- a frame that no key reaches is marked
-abbrev pub class_of : Bool → List ℕ
+unfoldable pub class_of : Bool → List ℕ
 class_of true = codes "\">\n<h2>"
 class_of false = codes "\" class=\"unreached\">\n<h2>"
 
-abbrev pub section_begin : Id → Bool → List ℕ
+unfoldable pub section_begin : Id → Bool → List ℕ
 section_begin id is_reached =
     codes "<section id=\"" ++ frame_text id ++ class_of is_reached ++ frame_text id ++ codes "</h2>\n"
 
 -- the picture and the text of a screen
-abbrev pub screen_forms : Id → List (List Look) → Option ℕ → List ℕ
+unfoldable pub screen_forms : Id → List (List Look) → Option ℕ → List ℕ
 screen_forms id rows cell = svg id rows cell ++ codes "<pre>" ++ written Markup (text rows) ++ codes "</pre>\n"
 
 -- a price, as `5p`
-abbrev pub price_line : ℕ → List ℕ
+unfoldable pub price_line : ℕ → List ℕ
 price_line price = codes "<p class=\"price\">" ++ decimal price ++ codes "p</p>\n"
 
 -- a frame that keeps what is on the screen says so
-abbrev pub over : Lead → List ℕ
+unfoldable pub over : Lead → List ℕ
 over Clear = []
 over Keep = codes "<p class=\"over\">Painted over what is on the screen.</p>\n"
 
-abbrev pub ways_line : List ℕ → BaseView → Option (List Id) → Frame → List ℕ
-ways_line caller base part f = codes "<p class=\"ways\">\n" ++ ways_text caller base part f ++ codes "</p>\n"
+unfoldable pub ways_begin : List ℕ
+ways_begin = codes "<p class=\"ways\">\n"
+
+unfoldable pub ways_line : List ℕ → BaseView → Option (List Id) → Frame → List ℕ
+ways_line caller base part f = ways_begin ++ ways_text caller base part f ++ codes "</p>\n"
 
 -- what comes after the picture and the text
-abbrev pub section_end : List ℕ → BaseView → Option (List Id) → Frame → List Fault → List ℕ
+unfoldable pub section_end : List ℕ → BaseView → Option (List Id) → Frame → List Fault → List ℕ
 section_end caller base part f faults = price_line f.price ++ ways_line caller base part f ++ over f.lead ++ fault_list faults ++ codes "</section>\n"
 
-abbrev pub section_by : BookView → Frame → List Fault → List ℕ
-section_by b f faults =
-    section_begin f.id (is_listed b.found f.id)
-    ++ screen_forms f.id (screen_of b.caller b.base b.found f.id) (touched_cell f faults)
-    ++ section_end b.caller b.base b.part f faults
+-- a section by its faults, the looks of its screen, and whether a key reaches its frame
+abbrev pub shaped : List ℕ → BaseView → Option (List Id) → Frame → List Fault → List (List Look) → Bool → List ℕ
+shaped caller base part f faults rows is_reached =
+    section_begin f.id is_reached ++ screen_forms f.id rows (touched_cell f faults) ++ section_end caller base part f faults
 
 -- its faults are those about its frame
 abbrev pub section : BookView → Frame → List ℕ
-section b f = section_by b f (faults_about b.faults f.id)
+section b f = shaped b.caller b.base b.part f (faults_about b.faults f.id) (screen_of b.caller b.base b.found f.id) (is_listed b.found f.id)
 
 -- the sections of the frames that are shown, in order
 abbrev pub sections : BookView → List Frame → List ℕ

@@ -34,6 +34,7 @@ pub struct Book<'a> {
 }
 
 // A frame that no key reaches is marked.
+#[tactic(auto, unfolding(crate::specs::Sections::class_of))]
 fn class_of(is_reached: bool) -> &'static [u8]
     ensures { result.now ≡ spec.class_of is_reached }
 {
@@ -44,7 +45,7 @@ fn class_of(is_reached: bool) -> &'static [u8]
     }
 }
 
-#[tactic(auto, using(std::proofs::Common::append_assoc))]
+#[tactic(auto, using(std::proofs::Common::append_assoc), unfolding(crate::specs::Sections::section_begin))]
 fn push_begin(out: &mut Vec<u8>, id: FrameId, is_reached: bool) -> Result<(), AllocError>
     ensures { OnOk result (out.new.items ≡ out.old.items ++ spec.section_begin id is_reached) }
 {
@@ -57,7 +58,7 @@ fn push_begin(out: &mut Vec<u8>, id: FrameId, is_reached: bool) -> Result<(), Al
 }
 
 // The picture and the text of a screen.
-#[tactic(auto, using(std::proofs::Common::append_assoc))]
+#[tactic(auto, using(std::proofs::Common::append_assoc), unfolding(crate::specs::Sections::screen_forms))]
 fn push_screen(
     out: &mut Vec<u8>,
     id: FrameId,
@@ -73,7 +74,7 @@ fn push_screen(
     out.extend_from_slice(b"</pre>\n")
 }
 
-#[tactic(auto, using(std::proofs::Common::append_assoc))]
+#[tactic(auto, using(std::proofs::Common::append_assoc), unfolding(crate::specs::Sections::price_line))]
 fn push_price(out: &mut Vec<u8>, price: Pence) -> Result<(), AllocError>
     ensures { OnOk result (out.new.items ≡ out.old.items ++ spec.price_line price) }
 {
@@ -82,6 +83,7 @@ fn push_price(out: &mut Vec<u8>, price: Pence) -> Result<(), AllocError>
     out.extend_from_slice(b"p</p>\n")
 }
 
+#[tactic(auto, unfolding(crate::specs::Sections::over))]
 fn over(lead: Lead) -> &'static [u8]
     ensures { result.now ≡ spec.over lead }
 {
@@ -91,19 +93,26 @@ fn over(lead: Lead) -> &'static [u8]
     }
 }
 
+#[tactic(auto, unfolding(crate::specs::Sections::ways_begin))]
+fn ways_begin() -> &'static [u8]
+    ensures { result.now ≡ spec.ways_begin }
+{
+    b"<p class=\"ways\">\n"
+}
+
 impl<'a> Book<'a> {
-    #[tactic(auto, using(std::proofs::Common::append_assoc))]
+    #[tactic(auto, using(std::proofs::Common::append_assoc), unfolding(crate::specs::Sections::ways_line))]
     fn push_ways(&self, out: &mut Vec<u8>, frame: &Frame) -> Result<(), AllocError>
         ensures { OnOk result (out.new.items ≡ out.old.items
             ++ spec.ways_line self.now.groups.now self.now.base.now self.now.part.now frame.now) }
     {
-        out.extend_from_slice(b"<p class=\"ways\">\n")?;
+        out.extend_from_slice(ways_begin())?;
         push_ways(out, self.base, self.groups, self.part, frame)?;
         out.extend_from_slice(b"</p>\n")
     }
 
     // What comes after the picture and the text.
-    #[tactic(auto, using(std::proofs::Common::append_assoc))]
+    #[tactic(auto, using(std::proofs::Common::append_assoc), unfolding(crate::specs::Sections::section_end))]
     fn push_below(
         &self,
         alloc: Global,
@@ -121,7 +130,7 @@ impl<'a> Book<'a> {
         out.extend_from_slice(b"</section>\n")
     }
 
-    // A section with the faults of numbers.
+    // A section with the faults of numbers and a screen.
     #[tactic(auto, using(std::proofs::Common::append_assoc))]
     fn push_with(
         &self,
@@ -129,15 +138,16 @@ impl<'a> Book<'a> {
         out: &mut Vec<u8>,
         frame: &Frame,
         numbers: &[usize],
+        codes: &[u8; 960],
+        is_reached: bool,
     ) -> Result<(), AllocError>
-        ensures { (found : List Entry) → IsReady self.now found → frame_at self.now.base.now frame.now.id ≡ Some frame.now
-            → OnOk result (out.new.items ≡ out.old.items
-            ++ spec.section_by (book_view self.now found) frame.now (picked self.now.faults.now numbers.now)) }
+        ensures { OnOk result (out.new.items ≡ out.old.items
+            ++ spec.shaped self.now.groups.now self.now.base.now self.now.part.now frame.now
+            (picked self.now.faults.now numbers.now) (looks codes.now) is_reached) }
     {
-        let codes = self.screens.codes(frame);
         let cell = touched_cell(frame, self.faults, numbers);
-        push_begin(out, frame.id, self.reached.contains(frame.id))?;
-        push_screen(out, frame.id, &codes, cell)?;
+        push_begin(out, frame.id, is_reached)?;
+        push_screen(out, frame.id, codes, cell)?;
         self.push_below(alloc, out, frame, numbers)
     }
 
@@ -151,6 +161,9 @@ impl<'a> Book<'a> {
         ensures { (found : List Entry) → IsReady self.now found → frame_at self.now.base.now frame.now.id ≡ Some frame.now
             → OnOk result (out.new.items ≡ out.old.items ++ spec.section (book_view self.now found) frame.now) }
     {
-        self.push_with(alloc, out, frame, self.index.numbers(frame.id))
+        let codes = self.screens.codes(frame);
+        let is_reached = self.reached.contains(frame.id);
+        let numbers = self.index.numbers(frame.id);
+        self.push_with(alloc, out, frame, numbers, &codes, is_reached)
     }
 }

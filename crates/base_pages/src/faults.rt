@@ -66,12 +66,19 @@ fn push_items(
     Ok(())
 }
 
+#[tactic(auto, unfolding(crate::specs::Faults::list_begin))]
+fn list_begin() -> &'static [u8]
+    ensures { result.now ≡ spec.list_begin }
+{
+    b"<ul class=\"faults\">\n"
+}
+
 // Items in a list.
-#[tactic(auto, using(std::proofs::Common::append_assoc))]
+#[tactic(auto, using(std::proofs::Common::append_assoc), unfolding(crate::specs::Faults::listed))]
 fn push_list(out: &mut Vec<u8>, items: &[u8]) -> Result<(), AllocError>
     ensures { OnOk result (out.new.items ≡ out.old.items ++ spec.listed items.now) }
 {
-    out.extend_from_slice(b"<ul class=\"faults\">\n")?;
+    out.extend_from_slice(list_begin())?;
     out.extend_from_slice(items)?;
     out.extend_from_slice(b"</ul>\n")
 }
@@ -88,7 +95,7 @@ fn push_wrapped(out: &mut Vec<u8>, items: &[u8]) -> Result<(), AllocError>
 }
 
 // The list of the faults of numbers.
-#[tactic(auto, using(crate::proofs::Numbering::items_picked))]
+#[tactic(auto, using(crate::proofs::Numbering::items_picked), unfolding(crate::specs::Faults::fault_list))]
 pub fn push_faults(
     alloc: Global,
     out: &mut Vec<u8>,
@@ -127,7 +134,7 @@ fn push_entry_items(
 }
 
 // The list of those that the entry frame isn't found.
-#[tactic(auto, using(crate::proofs::Numbering::entry_items_are))]
+#[tactic(auto, using(crate::proofs::Numbering::entry_items_are), unfolding(crate::specs::Faults::fault_list))]
 pub fn push_entry_faults(
     alloc: Global,
     out: &mut Vec<u8>,

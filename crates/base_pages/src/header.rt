@@ -26,7 +26,7 @@ fn push_chars(out: &mut Vec<u8>, text: &str) -> Result<(), AllocError>
     Ok(())
 }
 
-#[tactic(auto, using(std::proofs::Common::append_assoc))]
+#[tactic(auto, using(std::proofs::Common::append_assoc), unfolding(crate::specs::Head::name_line))]
 fn push_name(out: &mut Vec<u8>, name: &str) -> Result<(), AllocError>
     ensures { OnOk result (out.new.items ≡ out.old.items ++ spec.name_line name.now) }
 {
@@ -36,7 +36,7 @@ fn push_name(out: &mut Vec<u8>, name: &str) -> Result<(), AllocError>
 }
 
 // A ceiling and keyings.
-#[tactic(auto, using(std::proofs::Common::append_assoc))]
+#[tactic(auto, using(std::proofs::Common::append_assoc), unfolding(crate::specs::Head::limits_text))]
 fn push_limits(out: &mut Vec<u8>, ceiling: Pence, keyings: u16) -> Result<(), AllocError>
     ensures { OnOk result (out.new.items ≡ out.old.items ++ spec.limits_text ceiling keyings) }
 {
@@ -47,6 +47,13 @@ fn push_limits(out: &mut Vec<u8>, ceiling: Pence, keyings: u16) -> Result<(), Al
     out.extend_from_slice(b" keys back")
 }
 
+#[tactic(auto, unfolding(crate::specs::Head::certified_begin))]
+fn certified_begin() -> &'static [u8]
+    ensures { result.now ≡ spec.certified_begin }
+{
+    b"<p class=\"verdict certified\">CERTIFIED</p>\n<p>"
+}
+
 // How many rows a certificate has.
 fn count_of<C: Cover + Drop>(cert: &Certificate<C>) -> u64
     ensures { result ≡ length cert.now.rows }
@@ -54,14 +61,14 @@ fn count_of<C: Cover + Drop>(cert: &Certificate<C>) -> u64
     cert.cover().len() as u64
 }
 
-#[tactic(auto, using(std::proofs::Common::append_assoc))]
+#[tactic(auto, using(std::proofs::Common::append_assoc), unfolding(crate::specs::Head::certified))]
 fn push_certified<C: Cover + Drop>(
     out: &mut Vec<u8>,
     cert: &Certificate<C>,
 ) -> Result<(), AllocError>
     ensures { OnOk result (out.new.items ≡ out.old.items ++ spec.certified cert.now) }
 {
-    out.extend_from_slice(b"<p class=\"verdict certified\">CERTIFIED</p>\n<p>")?;
+    out.extend_from_slice(certified_begin())?;
     push_number(out, count_of(cert))?;
     out.extend_from_slice(b" frames, ")?;
     push_limits(out, cert.ceiling(), cert.keyings())?;
@@ -81,7 +88,7 @@ fn push_counted(out: &mut Vec<u8>, count: usize) -> Result<(), AllocError>
     }
 }
 
-#[tactic(auto, using(std::proofs::Common::append_assoc))]
+#[tactic(auto, using(std::proofs::Common::append_assoc), unfolding(crate::specs::Head::faulty))]
 fn push_faulty(out: &mut Vec<u8>, faults: &[Fault]) -> Result<(), AllocError>
     ensures { OnOk result (out.new.items ≡ out.old.items ++ spec.faulty faults.now) }
 {
@@ -111,24 +118,23 @@ fn push_numbers(out: &mut Vec<u8>, groups: &Groups) -> Result<(), AllocError>
     Ok(())
 }
 
-#[tactic(auto, using(std::proofs::Common::append_assoc))]
+#[tactic(auto, using(std::proofs::Common::append_assoc), unfolding(crate::specs::Head::groups_text))]
 fn push_groups(out: &mut Vec<u8>, groups: &Groups) -> Result<(), AllocError>
     ensures { OnOk result (out.new.items ≡ out.old.items ++ spec.groups_text groups.now) }
 {
     if groups.len() == 0 {
-        return out.extend_from_slice(b"no groups");
+        return out.extend_from_slice(b", no groups");
     }
-    out.extend_from_slice(b"groups")?;
+    out.extend_from_slice(b", groups")?;
     push_numbers(out, groups)
 }
 
-#[tactic(auto, using(std::proofs::Common::append_assoc))]
+#[tactic(auto, using(std::proofs::Common::append_assoc), unfolding(crate::specs::Head::policy_line))]
 fn push_policy(out: &mut Vec<u8>, policy: &Policy) -> Result<(), AllocError>
     ensures { OnOk result (out.new.items ≡ out.old.items ++ spec.policy_line policy.now) }
 {
     out.extend_from_slice(b"<p>Policy: ")?;
     push_limits(out, policy.ceiling, policy.keyings)?;
-    out.extend_from_slice(b", ")?;
     push_groups(out, &policy.groups)?;
     out.extend_from_slice(b"</p>\n")
 }
@@ -143,7 +149,7 @@ pub fn faults_in<'a>(outcome: &'a Outcome) -> &'a [Fault]
     }
 }
 
-#[tactic(auto, using(std::proofs::Common::append_assoc))]
+#[tactic(auto, using(std::proofs::Common::append_assoc), unfolding(crate::specs::Head::header_begin))]
 fn push_begin(out: &mut Vec<u8>, entry: FrameId) -> Result<(), AllocError>
     ensures { OnOk result (out.new.items ≡ out.old.items ++ spec.header_begin entry) }
 {
@@ -152,7 +158,7 @@ fn push_begin(out: &mut Vec<u8>, entry: FrameId) -> Result<(), AllocError>
     out.extend_from_slice(b"\">\n")
 }
 
-#[tactic(auto, using(std::proofs::Common::append_assoc))]
+#[tactic(auto, using(std::proofs::Common::append_assoc), unfolding(crate::specs::Head::header_end))]
 fn push_end(alloc: Global, out: &mut Vec<u8>, outcome: &Outcome) -> Result<(), AllocError>
     ensures { OnOk result (out.new.items ≡ out.old.items ++ spec.header_end outcome.now) }
 {

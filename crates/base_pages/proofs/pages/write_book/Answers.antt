@@ -32,3 +32,14 @@ returns-in-Ok-write_sections-clause-part g c = λ found ready.
     let way = begins start c.requires.open c.push_front.new.out.items c.new-kept.result.items before c.in-Ok.ensures c.new-kept.ensures.items in
     let written = c.write_foot.ensures.part start (before ++ sections (book_view c.args.book.now found) c.frames.result.now) (c.in-Ok-write_sections.ensures.taken start before found ready own way) in
     subst (λ (fs : List Frame). IfErr c.write_foot.result (λ fault. IsStopped start (g.S.Sink.seen c.write_foot.new.sink) ((before ++ sections (book_view c.args.book.now found) fs) ++ foot) fault)) c.frames.ensures.all written
+
+pub returns-clause-part : goal.returns-clause-part
+returns-clause-part g c = λ found ready.
+    let base = c.args.book.now.base.now in
+    let cover = c.args.cover.now in
+    let start = g.S.Sink.seen c.args.sink.now in
+    let before = front cover.name.now base cover.policy.now cover.outcome.now in
+    let own = subst (All (IsOwn base)) (sym c.frames.ensures.all) (all_own base c.frames.ensures.valid.ascending) in
+    let way = begins start c.requires.open c.push_front.new.out.items c.new-kept.result.items before c.in-Ok.ensures c.new-kept.ensures.items in
+    let stop = c.in-Err-write_sections.ensures.part start before foot found ready own way in
+    subst (λ (fs : List Frame). IsStopped start (g.S.Sink.seen c.write_sections.new.sink) ((before ++ sections (book_view c.args.book.now found) fs) ++ foot) c.in-Err-write_sections.fault) c.frames.ensures.all stop
