@@ -43,11 +43,14 @@ verdict_text (Faulty faults) = faulty faults
 
 -- groups, with a space before each
 unfoldable pub groups_text : List ℕ → List ℕ
-groups_text groups = if length groups == 0 then codes ", no groups" else codes ", groups" ++ spaced groups
+groups_text groups = if length groups == 0 then codes "no groups" else codes "groups" ++ spaced groups
+
+unfoldable pub last_groups : List ℕ → List ℕ
+last_groups groups = codes ", " ++ groups_text groups
 
 unfoldable pub policy_line : Policy → List ℕ
 policy_line policy =
-    codes "<p>Policy: " ++ limits_text policy.ceiling policy.keyings ++ groups_text policy.groups ++ codes "</p>\n"
+    codes "<p>Policy: " ++ limits_text policy.ceiling policy.keyings ++ last_groups policy.groups ++ codes "</p>\n"
 
 -- the faults of an outcome
 abbrev pub faults_in : Outcome → List Fault

@@ -30,12 +30,15 @@ pub record BookView : Type 0 where
 
 -- a frame that no key reaches is marked
 unfoldable pub class_of : Bool → List ℕ
-class_of true = codes "\">\n<h2>"
-class_of false = codes "\" class=\"unreached\">\n<h2>"
+class_of true = codes ">\n<h2>"
+class_of false = codes " class=\"unreached\">\n<h2>"
+
+unfoldable pub opening : Id → List ℕ
+opening id = codes "<section id=\"" ++ frame_text id ++ codes "\""
 
 unfoldable pub section_begin : Id → Bool → List ℕ
 section_begin id is_reached =
-    codes "<section id=\"" ++ frame_text id ++ class_of is_reached ++ frame_text id ++ codes "</h2>\n"
+    opening id ++ class_of is_reached ++ frame_text id ++ codes "</h2>\n"
 
 -- the picture and the text of a screen
 unfoldable pub screen_forms : Id → List (List Look) → Option ℕ → List ℕ
@@ -57,8 +60,11 @@ unfoldable pub ways_line : List ℕ → BaseView → Option (List Id) → Frame 
 ways_line caller base part f = ways_begin ++ ways_text caller base part f ++ codes "</p>\n"
 
 -- what comes after the picture and the text
+unfoldable pub section_tail : Frame → List Fault → List ℕ
+section_tail f faults = over f.lead ++ fault_list faults ++ codes "</section>\n"
+
 unfoldable pub section_end : List ℕ → BaseView → Option (List Id) → Frame → List Fault → List ℕ
-section_end caller base part f faults = price_line f.price ++ ways_line caller base part f ++ over f.lead ++ fault_list faults ++ codes "</section>\n"
+section_end caller base part f faults = price_line f.price ++ ways_line caller base part f ++ section_tail f faults
 
 -- a section by its faults, the looks of its screen, and whether a key reaches its frame
 abbrev pub shaped : List ℕ → BaseView → Option (List Id) → Frame → List Fault → List (List Look) → Bool → List ℕ

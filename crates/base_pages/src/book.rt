@@ -39,10 +39,19 @@ fn class_of(is_reached: bool) -> &'static [u8]
     ensures { result.now ≡ spec.class_of is_reached }
 {
     if is_reached {
-        b"\">\n<h2>"
+        b">\n<h2>"
     } else {
-        b"\" class=\"unreached\">\n<h2>"
+        b" class=\"unreached\">\n<h2>"
     }
+}
+
+#[tactic(auto, using(std::proofs::Common::append_assoc), unfolding(crate::specs::Sections::opening))]
+fn push_opening(out: &mut Vec<u8>, id: FrameId) -> Result<(), AllocError>
+    ensures { OnOk result (out.new.items ≡ out.old.items ++ spec.opening id) }
+{
+    out.extend_from_slice(b"<section id=\"")?;
+    push_id(out, id)?;
+    out.extend_from_slice(b"\"")
 }
 
 #[tactic(auto, using(std::proofs::Common::append_assoc), unfolding(crate::specs::Sections::section_begin))]
@@ -50,8 +59,7 @@ fn push_begin(out: &mut Vec<u8>, id: FrameId, is_reached: bool) -> Result<(), Al
     ensures { OnOk result (out.new.items ≡ out.old.items ++ spec.section_begin id is_reached) }
 {
     let again = id;
-    out.extend_from_slice(b"<section id=\"")?;
-    push_id(out, id)?;
+    push_opening(out, id)?;
     out.extend_from_slice(class_of(is_reached))?;
     push_id(out, again)?;
     out.extend_from_slice(b"</h2>\n")
@@ -100,6 +108,22 @@ fn ways_begin() -> &'static [u8]
     b"<p class=\"ways\">\n"
 }
 
+// What comes after the ways.
+#[tactic(auto, using(std::proofs::Common::append_assoc), unfolding(crate::specs::Sections::section_tail))]
+fn push_tail(
+    alloc: Global,
+    out: &mut Vec<u8>,
+    frame: &Frame,
+    faults: &[Fault],
+    numbers: &[usize],
+) -> Result<(), AllocError>
+    ensures { OnOk result (out.new.items ≡ out.old.items ++ spec.section_tail frame.now (picked faults.now numbers.now)) }
+{
+    out.extend_from_slice(over(frame.lead))?;
+    push_faults(alloc, out, faults, numbers)?;
+    out.extend_from_slice(b"</section>\n")
+}
+
 impl<'a> Book<'a> {
     #[tactic(auto, using(std::proofs::Common::append_assoc), unfolding(crate::specs::Sections::ways_line))]
     fn push_ways(&self, out: &mut Vec<u8>, frame: &Frame) -> Result<(), AllocError>
@@ -125,9 +149,7 @@ impl<'a> Book<'a> {
     {
         push_price(out, frame.price)?;
         self.push_ways(out, frame)?;
-        out.extend_from_slice(over(frame.lead))?;
-        push_faults(alloc, out, self.faults, numbers)?;
-        out.extend_from_slice(b"</section>\n")
+        push_tail(alloc, out, frame, self.faults, numbers)
     }
 
     // A section with the faults of numbers and a screen.

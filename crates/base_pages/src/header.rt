@@ -123,10 +123,18 @@ fn push_groups(out: &mut Vec<u8>, groups: &Groups) -> Result<(), AllocError>
     ensures { OnOk result (out.new.items ≡ out.old.items ++ spec.groups_text groups.now) }
 {
     if groups.len() == 0 {
-        return out.extend_from_slice(b", no groups");
+        return out.extend_from_slice(b"no groups");
     }
-    out.extend_from_slice(b", groups")?;
+    out.extend_from_slice(b"groups")?;
     push_numbers(out, groups)
+}
+
+#[tactic(auto, using(std::proofs::Common::append_assoc), unfolding(crate::specs::Head::last_groups))]
+fn push_last_groups(out: &mut Vec<u8>, groups: &Groups) -> Result<(), AllocError>
+    ensures { OnOk result (out.new.items ≡ out.old.items ++ spec.last_groups groups.now) }
+{
+    out.extend_from_slice(b", ")?;
+    push_groups(out, groups)
 }
 
 #[tactic(auto, using(std::proofs::Common::append_assoc), unfolding(crate::specs::Head::policy_line))]
@@ -135,7 +143,7 @@ fn push_policy(out: &mut Vec<u8>, policy: &Policy) -> Result<(), AllocError>
 {
     out.extend_from_slice(b"<p>Policy: ")?;
     push_limits(out, policy.ceiling, policy.keyings)?;
-    push_groups(out, &policy.groups)?;
+    push_last_groups(out, &policy.groups)?;
     out.extend_from_slice(b"</p>\n")
 }
 
