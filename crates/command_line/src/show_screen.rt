@@ -190,6 +190,14 @@ fn print_no_screen<R: Eprint>(rt: &R, asked: &Show, status: ShowStatus) {
     }
 }
 
+// Says why there is no screen, if there is none; the exit status.
+fn shown<R: Eprint>(rt: &R, asked: &Show, run: &Result<ShowStatus, RunFault>) -> u8 {
+    if let Ok(status) = run {
+        print_no_screen(rt, asked, *status);
+    }
+    status_of_show(run)
+}
+
 /// Shows a screen, or says in a line on standard error why there is none; the exit status.
 pub fn show<R: Files + Env + Print + Eprint + AllocGlobal>(
     rt: &R,
@@ -197,10 +205,7 @@ pub fn show<R: Files + Env + Print + Eprint + AllocGlobal>(
     asked: &Show,
 ) -> u8 {
     match show_file(rt, errors, asked) {
-        Ok(status) => {
-            print_no_screen(rt, asked, status);
-            status_of_show(&Ok(status))
-        }
+        Ok(status) => shown(rt, asked, &Ok(status)),
         Err(unfinished) => report(rt, asked.base, &unfinished),
     }
 }
