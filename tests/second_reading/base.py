@@ -49,6 +49,12 @@ class Base:
         return "FOUND" if frame.is_open(groups) else "CLOSED"
 
 
+def with_advice(answer, file):
+    """What `list`, `map` and `show` answer: of a refused base they say too which command says where."""
+    stdout, stderr, status = answer
+    return stdout, stderr + f"pageaudit lint {file} says where\n" if status == 3 else stderr, status
+
+
 def is_numeral(text):
     return text.isascii() and text.isdigit() and (text == "0" or text[0] != "0")
 
