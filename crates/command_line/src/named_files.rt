@@ -70,7 +70,9 @@ pub fn report<R: Eprint + AllocGlobal>(rt: &R, path: &str, unfinished: &Unfinish
         Unfinished::Unwanted => 3,
         Unfinished::Fault(fault) => {
             let status = refused(rt, fault);
-            if let RunFault::Base(_) = fault {
+            if let RunFault::Base(_) = fault
+                && status == 3
+            {
                 let _ = eprintln!(rt; "pageaudit lint {path} says where");
             }
             status
