@@ -386,6 +386,9 @@ class Written:
             return 22, "value"
         if " more character" in words:
             return ()
+        if found := re.match(r"B2 OutsideInside: page (\d+)", words):
+            is_page = lambda item: type(item) is int and item == int(found[1])
+            return next(at for at, item in enumerate(self.top["outside"]) if is_page(item)), "value"
         if found := re.search(r"character ([\d,]+) of row ([\d,]+) of", words):
             return *(int(found[group].replace(",", "")) - 1 for group in (2, 1)), "character"
         if found := re.search(r"character ([\d,]+) of \"body\"", words):
@@ -687,7 +690,8 @@ class FaultyText(Written):
         if not isinstance(outside, list):
             return
         for page in sorted({frame.page for frame in right if self.chance(0.15)}):
-            outside.insert(self.random.randrange(len(outside) + 1) if not self.top_faults else len(outside), page)
+            for _ in range(self.pick([1, 1, 2])):
+                outside.insert(self.random.randrange(len(outside) + 1) if not self.top_faults else len(outside), page)
             words = f"B2 OutsideInside: page {page} is listed as outside, but the base has a frame of it"
             self.whole_faults.append((None, ["outside"], words))
 

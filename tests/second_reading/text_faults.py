@@ -178,6 +178,12 @@ def outside_read(tree):
     return [page for page in pages if is_integer(page) and 0 <= page <= MOST_PAGE]
 
 
+def page_piece(outside, page, pieces):
+    """The first element that is the page, or all of the list if that element is one too many."""
+    index = next(index for index, item in enumerate(outside) if is_integer(item) and item == page)
+    return pieces.element(None, "outside", index) if index < MOST_LISTED else pieces.value(None, "outside")
+
+
 def base_faults(tree, frames, pieces, lines):
     """B4, B5, B3, B1 and B2 of the frames without a fault, which are listed with the numbers of their tables."""
     outside = outside_read(tree)
@@ -206,7 +212,7 @@ def base_faults(tree, frames, pieces, lines):
             yield pieces.value(index, "id"), words
     for page in sorted(set(outside) & {frame.id[0] for _, frame in frames}):
         words = f"B2 OutsideInside: page {page} is listed as outside, but the base has a frame of it"
-        yield pieces.value(None, "outside"), words
+        yield page_piece(tree["outside"], page, pieces), words
 
 
 def listed(faults, where):

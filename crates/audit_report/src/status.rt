@@ -7,7 +7,7 @@ ghost use Rattle.audit_report.specs.Statuses.{status_of_outcome, status_of_verdi
 use checker::{ChangeVerdict, Verdict};
 use fault_scripts::Outcome;
 
-/// What a judgment comes to.
+/// The result of a judgment.
 #[derive(Debug, Clone, Copy, PartialEq, Eq)]
 pub enum Status {
     /// Certified, cleared, a walk, or a list.

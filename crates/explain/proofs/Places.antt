@@ -7,7 +7,7 @@ use Rattle.std.proofs.lemmas.List.{get_or-map}
 use Rattle.explain.specs.Words.{texts_of, IsSame, IsAmong}
 use Rattle.explain.specs.declared.line.Sought.{Sought}
 use Rattle.explain.specs.declared.line.Sought.TheVariants.{Code, Capital, Any}
-use Rattle.explain.specs.Lines.{is_code, is_capital, stands_at, is_word, HasWord}
+use Rattle.explain.specs.Lines.{is_code, is_capital, is_word_at, is_word, HasWord}
 
 -- the text at a place is that of the text there
 pub text_at : (names : List (Bor (List ℕ))) (place : ℕ) (d : Bor (List ℕ)) → place < length names → get_or (texts_of names) place [] ≡ (get_or names place d).now
@@ -50,10 +50,10 @@ any_word : (sought : Sought) (line : List ℕ) (at : ℕ) (name : List ℕ) → 
 any_word Any line at name e = e
 any_word Code line at [] e = absurd (false≢true e)
 any_word Code line at (a ∷ []) e = absurd (false≢true e)
-any_word Code line at (a ∷ b ∷ rest) e = right (is_code (a ∷ b ∷ rest)) (stands_at line at (a ∷ b ∷ rest)) e
+any_word Code line at (a ∷ b ∷ rest) e = right (is_code (a ∷ b ∷ rest)) (is_word_at line at (a ∷ b ∷ rest)) e
 any_word Capital line at [] e = absurd (false≢true e)
 any_word Capital line at (a ∷ []) e = absurd (false≢true e)
-any_word Capital line at (a ∷ b ∷ rest) e = right (is_capital (a ∷ b ∷ rest)) (stands_at line at (a ∷ b ∷ rest)) e
+any_word Capital line at (a ∷ b ∷ rest) e = right (is_capital (a ∷ b ∷ rest)) (is_word_at line at (a ∷ b ∷ rest)) e
 
 -- the same of other names and another line, which are the same
 pub has_word : (sought : Sought) (names others : List (List ℕ)) (bytes line : List ℕ) → names ≡ others → bytes ≡ line

@@ -23,8 +23,8 @@ abbrev pub is_start : List ℕ → ℕ → Bool
 is_start line at = (at == 0) || is_edge line (at - 1)
 
 -- the line has the name at this place, as a whole word
-abbrev pub stands_at : List ℕ → ℕ → List ℕ → Bool
-stands_at line at name =
+abbrev pub is_word_at : List ℕ → ℕ → List ℕ → Bool
+is_word_at line at name =
     is_start line at && (starts_with eqb (drop at line) name && is_edge (drop at line) (length name))
 
 -- a capital letter and a digit come first
@@ -48,7 +48,7 @@ is_sought Capital name = is_capital name
 is_sought Any name = is_long name
 
 abbrev pub is_word : Sought → List ℕ → ℕ → List ℕ → Bool
-is_word sought line at name = is_sought sought name && stands_at line at name
+is_word sought line at name = is_sought sought name && is_word_at line at name
 
 -- the line has one of the names at this place
 abbrev pub HasWordAt : Sought → List (List ℕ) → List ℕ → ℕ → Type 0

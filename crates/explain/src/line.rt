@@ -2,7 +2,7 @@
 
 ghost use Rattle.std.specs.Prelude.{◌≡◌, ◌↔◌, ◌≤◌, length, IsSome};
 ghost use Rattle.explain.specs.Words.{texts_of};
-ghost use Rattle.explain.specs.Lines.{is_word_byte, is_edge, is_start, stands_at, is_code, is_capital, is_long, is_sought, is_word, HasWordAt, HasWord};
+ghost use Rattle.explain.specs.Lines.{is_word_byte, is_edge, is_start, is_word_at, is_code, is_capital, is_long, is_sought, is_word, HasWordAt, HasWord};
 
 // Which words are sought, of two bytes at least.
 #[derive(Debug, Clone, Copy)]
@@ -38,9 +38,9 @@ fn is_start(line: &[u8], at: usize) -> bool
 }
 
 // Whether the line has the name at this place, as a whole word.
-fn stands_at(line: &[u8], at: usize, name: &[u8]) -> bool
+fn is_word_at(line: &[u8], at: usize, name: &[u8]) -> bool
     requires { at ≤ length line.now }
-    ensures { result ≡ stands_at line.now at name.now }
+    ensures { result ≡ is_word_at line.now at name.now }
 {
     let (_, rest) = line.split_at(at);
     is_start(line, at) && rest.starts_with(name) && is_edge(rest, name.len())
@@ -83,12 +83,12 @@ fn is_sought(sought: Sought, name: &[u8]) -> bool
     }
 }
 
-// Whether a name is sought and stands in the line at this place.
+// Whether a name is sought and the line has it at this place.
 fn is_word(sought: Sought, line: &[u8], at: usize, name: &[u8]) -> bool
     requires { at ≤ length line.now }
     ensures { result ≡ is_word sought line.now at name.now }
 {
-    is_sought(sought, name) && stands_at(line, at, name)
+    is_sought(sought, name) && is_word_at(line, at, name)
 }
 
 // The first of some names that the line has at a place.
@@ -104,7 +104,7 @@ fn word_at(sought: Sought, names: &[&'static str], line: &[u8], at: usize) -> Op
     None
 }
 
-/// The place of the first of some names that stands in a line as a whole word, in its own case of letters.
+/// The place of the first name that a line has as a whole word, in its own case of letters.
 pub fn first_word(sought: Sought, names: &[&'static str], line: &[u8]) -> Option<usize>
     ensures { IsSome result ↔ HasWord sought (texts_of names.now) line.now }
 {

@@ -47,8 +47,8 @@ fn place_in_line(line: &str) -> Option<usize>
 /// with its title first. `None` if no section has it.
 ///
 /// The words are those of the list, in any case of letters, and the cursors, by their form. For a line with words of the list,
-/// in their own case, it is the text of one: of the first code, as K7, else of the first word with a capital letter, else
-/// of the first.
+/// in their own case, it is the text of one word: the first code, as K7, else the first word with a capital letter, else
+/// the first word.
 pub fn explanation(word: &str) -> Option<&'static [&'static str]>
     ensures { IsSome result ↔ (IsListed word.now ⊎ ((is_cursor word.now ≡ true) ⊎ HasWord Any listed word.now)) }
 {

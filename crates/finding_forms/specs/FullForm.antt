@@ -58,7 +58,7 @@ caret_line text e =
 abbrev pub both_lines : List ℕ → ℕ → Excerpt → List ℕ
 both_lines text line e = number_bar line ++ (source_line text e ++ (blank_bar line ++ caret_line text e))
 
--- of a text without a byte order mark, which this many bytes are
+-- the lines of a text without its byte order mark, which has this many bytes
 abbrev pub lines_below : List ℕ → ℕ → Span → ℕ → List ℕ
 lines_below text mark s line =
     both_lines (drop mark text) line (excerpt_of (drop mark text) (record { begin = s.begin - mark; end = s.end - mark }))

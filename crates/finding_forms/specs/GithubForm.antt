@@ -22,7 +22,7 @@ escaped_byte Property b = if b == 58 then codes "%3A" else if b == 44 then codes
 abbrev pub escaped : Slot → List ℕ → List ℕ
 escaped slot bytes = flat_map (escaped_byte slot) bytes
 
--- of a span on one line its columns
+-- the columns of a span on one line
 abbrev pub columns_text : Extent → List ℕ
 columns_text e =
     if e.line == e.end_line then codes ",col=" ++ (decimal e.column ++ (codes ",endColumn=" ++ decimal e.end_column)) else []

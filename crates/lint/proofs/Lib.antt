@@ -1,5 +1,6 @@
 pub mod NumberTurns
 pub mod LookRows
+pub mod Pages
 pub mod Turns
 pub mod Ordering
 pub mod Judged

@@ -1,5 +1,5 @@
 -- Every span of a finding lies in the text.
-use Rattle.std.proofs.Common.{◌≡◌, ℕ, ◌-◌, Bool, true, false, cond, nat_lt, List, [], ◌∷◌, length, map, get_or, Option, Some, None, unwrap_or, option_map, option_and_then, le_refl, refl, sym, subst, arith}
+use Rattle.std.proofs.Common.{◌≡◌, ℕ, zero, suc, ◌+◌, ◌-◌, Bool, true, false, cond, nat_lt, List, [], ◌∷◌, length, map, get_or, Option, Some, None, unwrap_or, option_map, option_and_then, le_refl, refl, sym, subst, arith}
 use Rattle.std.specs.Prelude.{All, codes, ◌++◌, ◌==◌, ◌&&◌, slice_get, if◌then◌else◌}
 use Rattle.std.specs.Option.{option_or}
 use Rattle.std.proofs.lemmas.List.Elements.{All-map, All-append}
@@ -36,6 +36,8 @@ use Rattle.toml_places.specs.SpanReads.{Stand, SpansStand}
 use Rattle.toml_places.specs.Places.{marks, first_at, first_spot, frame_key, PlacesAreWithin}
 use Rattle.lint.specs.Findings.{FindingView, warning_at}
 use Rattle.lint.specs.Tables.{TableView, is_in_line, value_at, element_at, frame_element, header_span, frame_whole, whole, table_at}
+use Rattle.frame_records.specs.declared.limits.TheConstants.{MOST_LISTED}
+use Rattle.lint.specs.Outside.{is_page, page_in, element_if, page_from, page_at, element_of}
 use Rattle.lint.specs.Spots.{key_at, pair_at, key_of, value_of, route_key, route_pair, item_of, char_of, later, unknown_at, digit_at, is_routes, listed_at, row_at, body_char, detail_at, detail_span, has_rows, shown_at, whole_at, whole_span, pressed_at, byte_at, touched_at, kind_at, audit_span, row_span, entry_span, is_byte, is_one, feed_span, line_end_at, single_span, single_at, kind_table, whole_table}
 use Rattle.lint.specs.Lint.{Subject, Length, Toml, Text, Whole, finding_of, faulty, IsWithin, AreSubjects, AreSubjectsIf, AreTreeSubjects, IsJudgedBy, text_tables, warning, warning_if, unreached_findings, look_in, look_finding, look_findings, fault_finding, ranks_of, finds_none, ids_of, unreached, table_of, text_finding, whole_finding, IsAudited}
 use Rattle.lint_words.specs.FaultWords.{none_reached_words}
@@ -206,8 +208,30 @@ module _ (stand : SpansStand) where
     detail_lies : (frame : Option ℕ) (d : Detail) → IsWithin text (detail_span (table_at text (marks text) frame) d)
     detail_lies frame d = let t = table_at text (marks text) frame in in_table frame (detail_at t d) (detail_at_lies t (items_lie frame) d)
 
-    whole_fault_lies : (frame : Option ℕ) (w : WholeFault) → IsWithin text (whole_span (table_at text (marks text) frame) w)
-    whole_fault_lies frame w = let t = table_at text (marks text) frame in in_table frame (whole_at t w) (whole_at_lies t (items_lie frame) w)
+    page_lies : (page n k : ℕ) → Lies text (page_from (table_at text (marks text) None) page n k)
+    unfolding page_from
+    page_lies page zero k = tt
+    page_lies page (suc n) k =
+        let t = table_at text (marks text) None in
+        or_lies text (element_if t page k) _ (on (t.item k) (items_lie None k)) (page_lies page n (k + 1)) where
+          on : (o : Option Span) → Lies text o → Lies text (option_and_then (λ s. if is_page page (page_in text s) then Some s else None) o)
+          on None lies = tt
+          on (Some s) lies = if_lies text (is_page page (page_in text s)) (Some s) None lies tt
+
+    element_of_lies : (w : WholeFault) → Lies text (element_of (page_at (table_at text (marks text) None)) w)
+    element_of_lies (TooManyFrames n) = tt
+    element_of_lies (TooManyOutside n) = tt
+    element_of_lies (BodyTooLong table id n) = tt
+    element_of_lies (NextAfterZ table id) = tt
+    element_of_lies (Duplicate table first id) = tt
+    element_of_lies (OutsideInside page) = page_lies page MOST_LISTED 0
+
+    whole_fault_lies : (frame : Option ℕ) (w : WholeFault)
+        → IsWithin text (whole_span (table_at text (marks text) frame) (element_of (page_at (table_at text (marks text) None)) w) w)
+    whole_fault_lies frame w =
+        let t = table_at text (marks text) frame in
+        let element = element_of (page_at (table_at text (marks text) None)) w in
+        in_table frame (option_or element (whole_at t w)) (or_lies text element _ (element_of_lies w) (whole_at_lies t (items_lie frame) w))
 
     audit_lies : (frame : Option ℕ) (fault : Fault) → IsWithin text (audit_span (table_at text (marks text) frame) fault)
     audit_lies frame fault =

@@ -1,4 +1,5 @@
 pub mod Lookups
+pub mod Outside
 pub mod Looks
 pub mod Tables
 pub mod Spots

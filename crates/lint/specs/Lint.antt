@@ -24,6 +24,7 @@ use Rattle.lint.specs.Tables.{TableView, KnowsTables, empty_at, frame_whole, tab
 use Rattle.lint.specs.declared.looks.Look.{Look}
 use Rattle.lint.specs.declared.looks.Look.TheVariants.{Hidden, Escape, LineEnd}
 use Rattle.lint.specs.Looks.{looks_of}
+use Rattle.lint.specs.Outside.{page_at, element_of}
 use Rattle.lint.specs.Spots.{has_rows, row_span, entry_span, line_end_at, single_at, detail_span, whole_table, whole_span, kind_table, audit_span}
 use Rattle.base_text.specs.declared.detail.TextFault.{TextFault}
 use Rattle.base_text.specs.declared.whole_fault.WholeFault.{WholeFault}
@@ -156,7 +157,8 @@ first_line text ms _ = 0
 
 abbrev pub whole_finding : List ℕ → List Mark → WholeFault → FindingView
 whole_finding text ms fault =
-    error_at (whole_span (table_at text ms (whole_table fault)) fault) (whole_fault_words fault (first_line text ms fault))
+    let element = element_of (page_at (table_at text ms None)) fault in
+    error_at (whole_span (table_at text ms (whole_table fault)) element fault) (whole_fault_words fault (first_line text ms fault))
 
 -- What a finding of a text is about, if it isn't one of the audit.
 

@@ -141,8 +141,9 @@ whole_at t (NextAfterZ table id) = pair_of t (codes "next")
 whole_at t (Duplicate table first id) = value_of t (codes "id")
 whole_at t (OutsideInside page) = value_of t (codes "outside")
 
-abbrev pub whole_span : TableView → WholeFault → Span
-whole_span t fault = unwrap_or (whole_at t fault) t.whole
+-- in the table of the fault; an element of `outside` counts first
+abbrev pub whole_span : TableView → Option Span → WholeFault → Span
+whole_span t element fault = unwrap_or (option_or element (whole_at t fault)) t.whole
 
 -- Faults of an audit.
 
@@ -160,7 +161,7 @@ abbrev pub byte_at : TableView → Option Start → Option Span
 byte_at t None = value_of t (codes "body")
 byte_at t (Some start) = body_char t start.offset
 
--- of rows it is the last one that writes into the last row of the screen
+-- the last row of the screen is written by the last of the rows
 abbrev pub touched_at : TableView → Option Start → Option Span
 touched_at t start = if has_rows t then row_at t 22 else byte_at t start
 
@@ -191,7 +192,7 @@ abbrev pub is_byte : ℕ → Option ℕ → Bool
 is_byte b None = false
 is_byte b (Some c) = c == b
 
--- of one byte
+-- a span of one byte
 abbrev pub is_one : Span → Bool
 is_one s = nat_lt s.begin s.end && (s.end - s.begin == 1)
 
@@ -211,7 +212,7 @@ single_span text s = if is_byte 0x27 (slice_get text s.begin) then Some s else N
 abbrev pub single_at : TableView → ℕ → Option Span
 single_at t n = t.item (n - 1) >>= single_span t.text
 
--- of a missing entry frame the top is at fault, else the frame, which is written by this table
+-- a missing entry frame is a fault of the top, all else of the frame, which this table writes
 abbrev pub kind_table : ℕ → FaultKind → Option ℕ
 kind_table table fault_kind.EntryMissing = None
 kind_table table _ = Some table

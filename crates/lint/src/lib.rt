@@ -11,7 +11,7 @@
 //! - [`Counts`], [`counted_text`]: how many there are.
 //! - [`lint_follows_base_read`], [`no_error_is_safe`], [`lint_warns_of_unreached`]: what the findings of a text mean.
 //! - Definitions: what is found (`Lint`), where a text writes its tables (`Tables`),
-//!   which piece is at fault (`Spots`), the order (`Findings`), the laws (`Laws`).
+//!   which piece is at fault (`Spots`, `Outside`), the order (`Findings`), the laws (`Laws`).
 #![tactic(auto)]
 
 mod audit_findings;
@@ -22,6 +22,7 @@ mod laws;
 mod looks;
 mod lookup;
 mod order;
+mod outside;
 mod spots;
 mod tables;
 mod text_findings;

@@ -1,6 +1,7 @@
 //! The span of a fault: of the smallest piece of a text that is at fault.
 
 ghost use Rattle.std.specs.Prelude.{◌≡◌, slice_get};
+ghost use Rattle.std.specs.Option.{option_or};
 ghost use Rattle.lint.specs.Tables.{seen};
 ghost use Rattle.lint.specs.Spots as spec;
 
@@ -32,6 +33,16 @@ fn pair_of(table: &TableSpots<'_>, key: &str) -> Option<Span>
     pair_span(table.text(), table.key(key)?)
 }
 
+// A span, or if there is none the value of a key, which is read only then: it may be long.
+fn or_value(table: &TableSpots<'_>, span: Option<Span>, key: &str) -> Option<Span>
+    ensures { result ≡ option_or span (spec.value_of (seen table.now) key.now) }
+{
+    match span {
+        Some(span) => Some(span),
+        None => value_of(table, key),
+    }
+}
+
 // A key below `routes`.
 fn route_key(table: &TableSpots<'_>, key: &str) -> Option<Span>
     ensures { result ≡ spec.route_key (seen table.now) key.now }
@@ -40,7 +51,7 @@ fn route_key(table: &TableSpots<'_>, key: &str) -> Option<Span>
         Some(spot) => key_span(table.text(), spot),
         None => None,
     };
-    written.or(value_of(table, "routes"))
+    or_value(table, written, "routes")
 }
 
 // A route with its page.
@@ -51,14 +62,14 @@ fn route_pair(table: &TableSpots<'_>, key: &str) -> Option<Span>
         Some(spot) => pair_span(table.text(), spot),
         None => None,
     };
-    written.or(value_of(table, "routes"))
+    or_value(table, written, "routes")
 }
 
 // An item of the table's list, which is under this key.
 fn item_of(table: &TableSpots<'_>, key: &str, index: usize) -> Option<Span>
     ensures { result ≡ spec.item_of (seen table.now) key.now index }
 {
-    table.item(index).or(value_of(table, key))
+    or_value(table, table.item(index), key)
 }
 
 // A character of the string in a span.
@@ -171,7 +182,7 @@ fn detail_at(table: &TableSpots<'_>, detail: &Detail) -> Option<Span>
 }
 
 // The value that a detail is about, as it is written, if a hint can use it.
-pub fn written_value<'t>(table: &'t TableSpots<'_>, detail: &Detail) -> &'t [u8] {
+pub(crate) fn written_value<'t>(table: &'t TableSpots<'_>, detail: &Detail) -> &'t [u8] {
     let span = match detail {
         Detail::WrongKind(field, _) => value_of(table, field.name()),
         Detail::WrongItem(Field::Routes, digit, _) => route_value(table, *digit),
@@ -235,11 +246,14 @@ fn whole_at(table: &TableSpots<'_>, fault: &WholeFault) -> Option<Span>
     }
 }
 
-// The span of a fault of a base as a whole, in its table.
-pub fn whole_span(table: &TableSpots<'_>, fault: &WholeFault) -> Span
-    ensures { result ≡ spec.whole_span (seen table.now) fault.now }
+// The span of a fault of a base as a whole, in its table: that of the element of `outside` at fault, if one is.
+pub fn whole_span(table: &TableSpots<'_>, element: Option<Span>, fault: &WholeFault) -> Span
+    ensures { result ≡ spec.whole_span (seen table.now) element fault.now }
 {
-    whole_at(table, fault).unwrap_or(table.whole())
+    match element {
+        Some(element) => element,
+        None => whole_at(table, fault).unwrap_or(table.whole()),
+    }
 }
 
 // A key that is pressed at a frame.
@@ -272,7 +286,7 @@ fn byte_at(table: &TableSpots<'_>, start: Option<Start>) -> Option<Span>
     }
 }
 
-// Of rows it is the last one that writes into the last row of the screen.
+// What touches the last row of the screen: of rows it is the 22nd.
 fn touched_at(table: &TableSpots<'_>, start: Option<Start>) -> Option<Span>
     ensures { result ≡ spec.touched_at (seen table.now) start }
 {

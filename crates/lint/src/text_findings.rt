@@ -1,9 +1,11 @@
-ghost use Rattle.std.specs.Prelude.{◌≡◌, ◌++◌, List, map, IfOk, OnOk};
+ghost use Rattle.std.specs.Prelude.{◌≡◌, ◌++◌, List, map, IfOk, OnOk, None};
 ghost use Rattle.toml_places.specs.Places.{Mark};
-ghost use Rattle.lint.specs.Tables.{KnowsTables, IsTable, seen};
+ghost use Rattle.lint.specs.Tables.{KnowsTables, IsTable, table_at, seen};
+ghost use Rattle.lint.specs.Outside.{Lists};
 ghost use Rattle.lint.specs.Lint as spec;
 
 use crate::finding::Finding;
+use crate::outside::OutsidePages;
 use crate::spots::{detail_span, whole_span, whole_table, written_value};
 use crate::tables::{TableSpots, TextTables};
 use base_text::{TextFault, WholeFault};
@@ -65,15 +67,17 @@ fn whole_finding<'a>(
     tables: &TextTables<'a>,
     table: &mut TableSpots<'a>,
     lines: &TextLines<'_>,
+    pages: &OutsidePages,
     fault: &WholeFault,
 ) -> Result<Finding, AllocError>
-    ensures finding { IfOk result (λ f. (ms : List Mark) → KnowsTables ms tables.now → lines.now ≡ tables.now.text.now → IsTable tables.now.text.now ms (seen table.old)
-        → f ≡ spec.whole_finding tables.now.text.now ms fault.now) }
+    ensures finding { IfOk result (λ f. (ms : List Mark) → KnowsTables ms tables.now → lines.now ≡ tables.now.text.now → Lists (table_at tables.now.text.now ms None) pages.now
+        → IsTable tables.now.text.now ms (seen table.old) → f ≡ spec.whole_finding tables.now.text.now ms fault.now) }
     ensures table { OnOk result ((ms : List Mark) → KnowsTables ms tables.now → IsTable tables.now.text.now ms (seen table.old) → IsTable tables.now.text.now ms (seen table.new)) }
 {
     tables.turn(alloc, table, whole_table(fault))?;
     let words = whole_fault_words(alloc, fault, first_line(tables, lines, fault))?;
-    Ok(Finding::error(whole_span(table, fault), words))
+    let span = whole_span(table, pages.element(fault), fault);
+    Ok(Finding::error(span, words))
 }
 
 // Appends the findings of the faults of a base as a whole.
@@ -88,8 +92,10 @@ pub fn add_whole_findings(
         → findings.new.items ≡ findings.old.items ++ map (spec.whole_finding tables.now.text.now ms) faults.now) }
 {
     let mut table = tables.table(alloc, None)?;
+    let pages = OutsidePages::of(alloc, &table)?;
     for fault in faults {
-        findings.push(whole_finding(alloc, tables, &mut table, lines, fault)?)?;
+        let finding = whole_finding(alloc, tables, &mut table, lines, &pages, fault)?;
+        findings.push(finding)?;
     }
     Ok(())
 }

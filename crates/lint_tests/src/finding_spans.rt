@@ -101,6 +101,23 @@ fn a_wrong_value_is_at_the_value_or_the_element(rt: HostRuntime) -> Result<(), F
 }
 
 #[test]
+fn a_page_that_is_inside_is_at_its_first_element(rt: HostRuntime) -> Result<(), Fail> {
+    let frames = "[[frame]]\nid = '1a'\nrows = []\n[[frame]]\nid = '31a'\nrows = []\n";
+    let rows = [
+        ("outside = [2, 31 ,1 ]\n", "31|1"),
+        (
+            "outside = [true, 0x1F, '1', 31,\n# 1\n+1, -1, 1]\n",
+            "true|0x1F|'1'|+1|-1",
+        ),
+    ];
+    for (outside, wanted) in rows {
+        let text = ["entry = 1\n", outside, frames].concat(rt.alloc())?;
+        spans_are(rt.alloc(), &text, &policy(5, 9, "")?, wanted)?;
+    }
+    Ok(())
+}
+
+#[test]
 fn an_id_that_is_none_is_at_its_string(rt: HostRuntime) -> Result<(), Fail> {
     let rows = [("[[frame]]\nid = '''\n1A'''\nrows = []\n", "'''\n1A'''")];
     all_are(rt.alloc(), &rows)

@@ -4,8 +4,8 @@ use std::alloc::Global;
 use std::test::Fail;
 use test_support::same_in;
 use toml_places::{
-    Extent, Places, Span, Spot, TablePlaces, TextLines, char_span, element_span, element_spans,
-    frame_span, key_span, later_element_span, pair_span, value_span,
+    Extent, Places, Span, Spot, TablePlaces, TextLines, char_span, element_spans, frame_span,
+    integer_at, key_span, pair_span, value_span,
 };
 
 // The text of a span.
@@ -179,25 +179,31 @@ fn elements_are_counted_from_zero(rt: HostRuntime) -> Result<(), Fail> {
         (4, "{ a = ']' }"),
         (5, "no span"),
     ];
-    for (index, wanted) in rows {
-        same_in(index, shown(text, element_span(text, 7, index)), wanted)?;
-        same_in(
-            index,
-            shown(text, later_element_span(text, 8, index)),
-            wanted,
-        )?;
-    }
     let all = element_spans(rt.alloc(), text, 7)?;
+    for (index, wanted) in rows {
+        same_in(index, shown(text, all.get(index).copied()), wanted)?;
+    }
     same_in("all", all.len(), 5)?;
-    same_in("third", shown(text, all.get(2).copied()), "'''\n]'''")?;
-    same_in("no array", element_spans(rt.alloc(), text, 8)?.len(), 0)?;
-    let later = element_span(text, 7, 1).unwrap_or(span(0, 0)).begin;
-    same_in(
-        "later",
-        shown(text, later_element_span(text, later, 2)),
-        "[2, [3]]",
-    )?;
-    same_in("no array", shown(text, element_span(text, 8, 0)), "no span")
+    same_in("no array", element_spans(rt.alloc(), text, 8)?.len(), 0)
+}
+
+#[test]
+fn an_integer_is_read_where_it_is_written(rt: HostRuntime) -> Result<(), Fail> {
+    let text = "[ +1_0, 0x1F,-3 ,2.0,\"4\", 99999999999999999999 ]";
+    let rows = [
+        (2, Some(10)),
+        (8, Some(31)),
+        (13, Some(-3)),
+        (17, None),
+        (21, None),
+        (26, None),
+        (0, None),
+        (99, None),
+    ];
+    for (at, wanted) in rows {
+        same_in(at, integer_at(rt.alloc(), text, at)?, wanted)?;
+    }
+    Ok(())
 }
 
 // A string, an index and the character of that index as it is written.

@@ -66,7 +66,7 @@ absent_words f id = frame_name id ++ (codes " has no " ++ key_text f)
 abbrev pub no_table_words : ValueKind → List ℕ
 no_table_words k = codes "an item of \"frame\" is " ++ (kind_text k ++ codes ", a table is needed")
 
--- of a key or an item: what is found, and what is needed
+-- what a key or an item is, and what is needed
 abbrev pub misfit_words : List ℕ → List ℕ → List ℕ → List ℕ
 misfit_words subject found needed =
     subject ++ (codes " is " ++ (found ++ (codes ", " ++ (needed ++ codes " is needed"))))

@@ -41,7 +41,7 @@ inside_words page =
     codes "page " ++ (page_text page ++
     codes " is listed as outside, but the base has a frame of it")
 
--- the line is of the id of the first frame of an id that others have too
+-- the line is that of the first frame with the id
 abbrev pub message_of : WholeFault → ℕ → List ℕ
 message_of (TooManyFrames n) line = too_many_frames_words n
 message_of (TooManyOutside n) line = too_many_outside_words n

@@ -17,7 +17,7 @@ pub struct About {
     pub frame: Option<FrameId>,
     /// The key that is pressed, else the key of the text.
     pub key: Option<Line>,
-    /// Of a fault of an audit the keys that show it; there are none at the entry page.
+    /// The keys that show a fault of an audit; there are none at the entry page.
     pub keys: Option<Line>,
 }
 

@@ -8,7 +8,7 @@ use frame_records::Frame;
 use std::alloc::{AllocError, Global};
 
 // How to fix a fault of an audit, if there is more to say. The frame is the one at fault, if the base has it.
-pub fn audit_hint(
+pub(crate) fn audit_hint(
     alloc: Global,
     judged: &Judged,
     fault: &Fault,

@@ -74,7 +74,7 @@ fn latest_end(text: &[u8], at: usize) -> Option<usize>
 }
 
 // The bracket or brace that isn't closed where it had to be.
-pub fn open_bracket(text: &[u8], at: usize) -> Option<usize>
+pub(crate) fn open_bracket(text: &[u8], at: usize) -> Option<usize>
     requires { at ≤ length text.now }
 {
     open_before(text, latest_end(text, at)?)
@@ -94,7 +94,7 @@ fn is_next_key(text: &[u8], at: usize) -> bool
 }
 
 // Whether `#` is written as a key of routes before a place, in the same frame.
-pub fn has_next_key(text: &[u8], end: usize) -> bool
+pub(crate) fn has_next_key(text: &[u8], end: usize) -> bool
     requires { end ≤ length text.now }
 {
     let mut at = end;

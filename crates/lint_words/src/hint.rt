@@ -35,7 +35,7 @@ pub enum Hint<'a> {
 }
 
 // A hint made of pieces.
-pub fn hint_of(alloc: Global, pieces: &[Piece<'_>]) -> Result<Option<Line>, AllocError> {
+pub(crate) fn hint_of(alloc: Global, pieces: &[Piece<'_>]) -> Result<Option<Line>, AllocError> {
     let mut words = Vec::new(alloc);
     push_pieces(&mut words, pieces)?;
     Ok(Some(Line::of(alloc, &words)?))
@@ -79,7 +79,7 @@ fn words_about_lines(alloc: Global, hint: Hint<'_>) -> Result<Option<Line>, Allo
 }
 
 // The words of a hint.
-pub fn words_of(alloc: Global, hint: Hint<'_>) -> Result<Option<Line>, AllocError> {
+pub(crate) fn words_of(alloc: Global, hint: Hint<'_>) -> Result<Option<Line>, AllocError> {
     match hint {
         Hint::Words(words) => hint_of(alloc, &[Text(words)]),
         Hint::Pence(pence) => {
@@ -106,7 +106,7 @@ pub fn words_of(alloc: Global, hint: Hint<'_>) -> Result<Option<Line>, AllocErro
 }
 
 // The words of a hint, if there is one.
-pub fn said(alloc: Global, hint: Option<Hint<'_>>) -> Result<Option<Line>, AllocError> {
+pub(crate) fn said(alloc: Global, hint: Option<Hint<'_>>) -> Result<Option<Line>, AllocError> {
     match hint {
         None => Ok(None),
         Some(hint) => words_of(alloc, hint),

@@ -15,7 +15,7 @@ pub enum Class {
 }
 
 // Whether a byte ends the key of a pair, or that of a header.
-pub fn ends_key(byte: u8) -> bool {
+pub(crate) fn ends_key(byte: u8) -> bool {
     byte == b'=' || byte == b']'
 }
 
@@ -31,19 +31,19 @@ fn is_in(class: Class, byte: u8) -> bool {
 }
 
 // How many bytes at the front are of the class.
-pub fn run_len(bytes: &[u8], class: Class) -> usize
+pub(crate) fn run_len(bytes: &[u8], class: Class) -> usize
     ensures within { result ≤ length bytes.now }
 {
     bytes.iter().take_while(|b| is_in(class, **b)).count()
 }
 
 // What follows the bytes of a class at the front.
-pub fn after(bytes: &[u8], class: Class) -> &[u8] {
+pub(crate) fn after(bytes: &[u8], class: Class) -> &[u8] {
     &bytes[run_len(bytes, class)..]
 }
 
 // Where the bytes of a class begin that end at a place.
-pub fn run_start(bytes: &[u8], end: usize, class: Class) -> usize
+pub(crate) fn run_start(bytes: &[u8], end: usize, class: Class) -> usize
     requires { end ≤ length bytes.now }
     ensures within { result ≤ end }
 {
@@ -55,13 +55,13 @@ pub fn run_start(bytes: &[u8], end: usize, class: Class) -> usize
 }
 
 // Whether a pair begins whose key begins with a letter.
-pub fn begins_pair(bytes: &[u8]) -> bool {
+pub(crate) fn begins_pair(bytes: &[u8]) -> bool {
     let rest = after(after(bytes, Class::Path), Class::Blank);
     byte_at(bytes, 0).is_ascii_alphabetic() && byte_at(rest, 0) == b'='
 }
 
 // Whether a line begins as a header, or as such a pair.
-pub fn begins_expression(line: &[u8]) -> bool {
+pub(crate) fn begins_expression(line: &[u8]) -> bool {
     let start = after(line, Class::Blank);
     byte_at(start, 0) == b'[' || begins_pair(start)
 }

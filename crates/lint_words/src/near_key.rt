@@ -26,7 +26,11 @@ fn named_keys(table: TableKind) -> &'static [Field] {
 }
 
 // The key of the table that was probably meant.
-pub fn nearest(alloc: Global, table: TableKind, text: &str) -> Result<Option<Field>, AllocError> {
+pub(crate) fn nearest(
+    alloc: Global,
+    table: TableKind,
+    text: &str,
+) -> Result<Option<Field>, AllocError> {
     let mut search = Search::of(text);
     let mut found = None;
     for key in named_keys(table) {

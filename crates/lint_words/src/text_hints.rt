@@ -89,7 +89,7 @@ fn key_hint(
 }
 
 // How to fix a fault of a text, if there is more to say. One that is listed for others has no hint.
-pub fn text_hint(
+pub(crate) fn text_hint(
     alloc: Global,
     fault: &TextFault,
     written: &Written<'_>,

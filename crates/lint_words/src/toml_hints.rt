@@ -344,7 +344,7 @@ fn hint_at<'a>(text: &'a [u8], at: usize, message: &str) -> Option<Hint<'a>>
 
 // A hint at the cause of toml's message on a text, if a rule applies. The offset is that of the message's span; one past
 // the end is the end.
-pub fn toml_hint(
+pub(crate) fn toml_hint(
     alloc: Global,
     text: &[u8],
     at: usize,

@@ -42,6 +42,10 @@ fn body_hint(lead: Lead, body: &[u8], start: &Start) -> Option<Hint<'static>> {
 }
 
 // The hint for a frame that is given as a body, from a start that shows its fault.
-pub fn touch_hint(alloc: Global, frame: &Frame, start: &Start) -> Result<Option<Line>, AllocError> {
+pub(crate) fn touch_hint(
+    alloc: Global,
+    frame: &Frame,
+    start: &Start,
+) -> Result<Option<Line>, AllocError> {
     said(alloc, body_hint(frame.lead, frame.body.as_slice(), start))
 }

@@ -13,7 +13,7 @@ const TRUE_OR_FALSE: Hint<'static> = Hint::Words("true or false, without quotati
 const GROUP: Hint<'static> = Hint::Words("a group is a number from 1 to 65535");
 
 // A price that isn't a whole number.
-pub fn price_hint(written: &[u8]) -> Hint<'static> {
+pub(crate) fn price_hint(written: &[u8]) -> Hint<'static> {
     match pence_of(written) {
         Some(pence) => Hint::Pence(pence),
         None => Hint::Words("a price is whole pence"),
@@ -21,7 +21,7 @@ pub fn price_hint(written: &[u8]) -> Hint<'static> {
 }
 
 // A page that isn't a number.
-pub fn page_hint(written: &[u8]) -> Hint<'_> {
+pub(crate) fn page_hint(written: &[u8]) -> Hint<'_> {
     match page_of(written) {
         Some(page) => Hint::Page(page),
         None => Hint::Words("a page number is digits alone"),
@@ -82,7 +82,7 @@ fn other_kind_hint(field: Field, kind: ValueKind) -> Option<Hint<'static>> {
 }
 
 // A value of another kind.
-pub fn kind_hint(field: Field, kind: ValueKind, written: &[u8]) -> Option<Hint<'_>> {
+pub(crate) fn kind_hint(field: Field, kind: ValueKind, written: &[u8]) -> Option<Hint<'_>> {
     match field {
         Field::Entry | Field::Price | Field::Group => number_kind_hint(field, kind, written),
         Field::Outside if has_pages(kind) => outside_hint(written),
@@ -92,7 +92,7 @@ pub fn kind_hint(field: Field, kind: ValueKind, written: &[u8]) -> Option<Hint<'
 }
 
 // An item of another kind.
-pub fn item_hint(field: Field, kind: ValueKind, written: &[u8]) -> Option<Hint<'_>> {
+pub(crate) fn item_hint(field: Field, kind: ValueKind, written: &[u8]) -> Option<Hint<'_>> {
     match (field, kind) {
         (Field::Outside, ValueKind::String) => Some(UNQUOTE),
         (Field::Routes, ValueKind::String) => match page_of(written) {
@@ -105,7 +105,7 @@ pub fn item_hint(field: Field, kind: ValueKind, written: &[u8]) -> Option<Hint<'
 }
 
 // A value that isn't TOML, for a key that is known.
-pub fn word_hint(field: Field, word: &[u8]) -> Option<Hint<'_>> {
+pub(crate) fn word_hint(field: Field, word: &[u8]) -> Option<Hint<'_>> {
     match field {
         Field::Price => Some(price_hint(word)),
         Field::Group => Some(GROUP),

@@ -6,7 +6,7 @@ use crate::near_bytes::{Class, after, run_len, run_start};
 use frame_records::MOST_PENCE;
 
 // A text without blanks and quotation marks around it.
-pub fn unquoted(written: &[u8]) -> &[u8] {
+pub(crate) fn unquoted(written: &[u8]) -> &[u8] {
     let text = after(written, Class::Blank);
     let text = &text[..run_start(text, text.len(), Class::Blank)];
     text.strip_prefix(b"\"")
@@ -19,11 +19,11 @@ pub fn unquoted(written: &[u8]) -> &[u8] {
 }
 
 // The bytes as a text, which is empty if they aren't UTF-8.
-pub fn as_text(bytes: &[u8]) -> &str {
+pub(crate) fn as_text(bytes: &[u8]) -> &str {
     str::from_utf8(bytes).unwrap_or("")
 }
 
-pub fn is_number(written: &[u8]) -> bool {
+pub(crate) fn is_number(written: &[u8]) -> bool {
     !written.is_empty() && after(written, Class::Digit).is_empty()
 }
 
@@ -62,7 +62,7 @@ fn pence_of_pounds(amount: &[u8]) -> Option<u32> {
 }
 
 // The price that was probably meant by `15p`, `£0.15`, `0.15` or `1,500`, in pence.
-pub fn pence_of(written: &[u8]) -> Option<u32> {
+pub(crate) fn pence_of(written: &[u8]) -> Option<u32> {
     let amount = unquoted(written);
     let amount = amount.strip_suffix(b"p").unwrap_or(amount);
     let pence = if let Some(pounds) = amount.strip_prefix(b"\xC2\xA3") {
@@ -80,7 +80,7 @@ pub fn pence_of(written: &[u8]) -> Option<u32> {
 }
 
 // The page number of a page's number and letters, as of `620a`.
-pub fn page_of(written: &[u8]) -> Option<&str> {
+pub(crate) fn page_of(written: &[u8]) -> Option<&str> {
     let id = unquoted(written);
     let (page, letters) = id.split_at(run_len(id, Class::Digit));
     let has_letters = !letters.is_empty() && letters.iter().all(|b| b.is_ascii_alphabetic());
@@ -92,7 +92,7 @@ pub fn page_of(written: &[u8]) -> Option<&str> {
 }
 
 // The first number in a value, as of `[6203]`.
-pub fn first_number(written: &[u8]) -> Option<&str> {
+pub(crate) fn first_number(written: &[u8]) -> Option<&str> {
     let start = written.iter().take_while(|b| !b.is_ascii_digit()).count();
     let rest = &written[start..];
     let number = &rest[..run_len(rest, Class::Digit)];

@@ -17,14 +17,14 @@ fn part_before(text: &[u8], at: usize) -> &[u8]
 }
 
 // The last part of the key of the expression at a place.
-pub fn name_at(text: &[u8], at: usize) -> &[u8]
+pub(crate) fn name_at(text: &[u8], at: usize) -> &[u8]
     requires { at ≤ length text.now }
 {
     part_before(text, at + run_len(&text[at..], Class::Key))
 }
 
 // The last part of the key whose equals sign ends at a place.
-pub fn name_before(text: &[u8], after: usize) -> &[u8] {
+pub(crate) fn name_before(text: &[u8], after: usize) -> &[u8] {
     let equals = after.min(text.len()).saturating_sub(1);
     part_before(text, equals)
 }
@@ -45,7 +45,7 @@ const FIELDS: &[Field] = &[
 ];
 
 // The key of a name, or `routes` for a digit.
-pub fn named_field(name: &[u8]) -> Option<Field> {
+pub(crate) fn named_field(name: &[u8]) -> Option<Field> {
     match name {
         [digit] if digit.is_ascii_digit() => Some(Field::Routes),
         _ => FIELDS
@@ -63,7 +63,7 @@ fn ends_name(text: &[u8], name: &[u8], at: usize) -> bool
     (ends_key(byte) || byte == b'.') && part_before(text, at) == name
 }
 
-pub fn begins_element(text: &[u8], at: usize) -> bool
+pub(crate) fn begins_element(text: &[u8], at: usize) -> bool
     requires { at < length text.now }
 {
     text[at] == b'[' && byte_at(text, at + 1) == b'['
@@ -98,7 +98,7 @@ fn last_definition(text: &[u8], name: &[u8], end: usize) -> Option<usize>
 }
 
 // Where the name of the expression at a place was defined before, if it is a bare word.
-pub fn earlier_definition(text: &[u8], at: usize) -> Option<usize>
+pub(crate) fn earlier_definition(text: &[u8], at: usize) -> Option<usize>
     requires { at ≤ length text.now }
 {
     let name = name_at(text, at);

@@ -17,7 +17,7 @@ impl Status {
     ghost use Rattle.std.specs.Prelude.{◌≡◌};
     ghost use Rattle.pageaudit_c.specs.Status.{number_of, of_judged};
 
-    // What a judgment comes to.
+    // The status of a judgment.
     pub fn of(judged: audit_report::Status) -> Status
         ensures { result ≡ of_judged judged }
     {

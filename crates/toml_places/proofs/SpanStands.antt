@@ -10,7 +10,7 @@ use Rattle.toml_places.specs.Values.{after_value}
 use Rattle.toml_places.specs.Spans.{from_offset, span_in, up_to, is_double, key_start, after_header, key_piece, after_pair, value_or_key, value_piece, pair_piece, frame_piece, at_offset}
 use Rattle.toml_places.specs.SpanReads.{Stands, Stand, SpansStand, IsPlace}
 use Rattle.toml_places.proofs.Options.{stepped, mapped}
-use Rattle.toml_places.proofs.Rests.{Rest, Leaves, Inside, rest_same, rest_drop, rest_trans, leaves_some, leaves_then, leaves_if, leaves_after, ws_left, byte_left, part_left, part_from_left, key_left, value_from_left, value_left, inside_after, element_inside, element_from_inside, string_char_inside}
+use Rattle.toml_places.proofs.Rests.{Rest, Leaves, Inside, rest_same, rest_drop, rest_trans, leaves_some, leaves_then, leaves_if, leaves_after, ws_left, byte_left, part_left, part_from_left, key_left, value_from_left, value_left, inside_after, element_inside, string_char_inside}
 
 -- the pieces of this reader lie in its text
 abbrev pub Insides : (List ℕ → Option Piece) → Type 0
@@ -140,7 +140,6 @@ spans_stand = record {
   pairs = λ k. stand (pair_piece k) (pair_inside k);
   frames = stand frame_piece frame_inside;
   elements = λ k. stand _ (element_inside k);
-  later_elements = λ k. stand _ (element_from_inside k);
   chars = λ k. stand _ (string_char_inside k);
 }
 

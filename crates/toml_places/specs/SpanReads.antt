@@ -8,7 +8,7 @@ use Rattle.toml.specs.Parse.{val, key_equals}
 use Rattle.toml_places.specs.declared.spans.Span.{Span}
 use Rattle.toml_places.specs.declared.spans.Spot.{Spot}
 use Rattle.toml_places.specs.Strings.{Piece, starts_char, string_char}
-use Rattle.toml_places.specs.Values.{element, element_from}
+use Rattle.toml_places.specs.Values.{element}
 use Rattle.toml_places.specs.Spans.{from_offset, key_start, key_piece, value_piece, pair_piece, frame_piece, at_offset, key_span, value_span, element_span, char_span}
 use Rattle.toml_places.specs.Places.{parts}
 use Rattle.toml_places.specs.Reads.{Writes, IsChar}
@@ -32,7 +32,6 @@ pub record SpansStand : Type 0 where
   pub pairs : (k : ℕ) → Stand (pair_piece k)
   pub frames : Stand frame_piece
   pub elements : (k : ℕ) → Stand (element k)
-  pub later_elements : (k : ℕ) → Stand (element_from k)
   pub chars : (k : ℕ) → Stand (string_char k)
 
 -- a character of the text begins at the offset, or it is the end

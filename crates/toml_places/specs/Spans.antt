@@ -1,12 +1,15 @@
 -- The spans of a text: where a key, a value, a header, an element or a character is written in it.
-use Rattle.std.specs.Prelude.{ℕ, ◌-◌, Bool, ◌&&◌, ◌==◌, nat_le, if◌then◌else◌, List, length, drop, slice_index, Option, Some, None, option_map, option_and_then}
+use Rattle.std.specs.Prelude.{ℕ, ℤ, ◌-◌, Bool, ◌&&◌, ◌==◌, nat_le, if◌then◌else◌, List, length, drop, slice_index, Option, Some, None, option_map, option_and_then}
 use Rattle.toml_parser.specs.Lexical.{left_bracket, right_bracket, dot, first, skip_ws}
 use Rattle.toml_parser.specs.Strings.{recursion_limit}
+use Rattle.toml_parser.specs.Numbers.{unquoted}
+use Rattle.toml_parser.specs.declared.scalar.Scalar.{Scalar}
+use Rattle.toml_parser.specs.declared.scalar.Scalar.TheVariants.{Integer}
 use Rattle.toml.specs.Parse.{after_byte}
 use Rattle.toml_places.specs.declared.spans.Span.{Span}
 use Rattle.toml_places.specs.declared.spans.Spot.{Spot}
 use Rattle.toml_places.specs.Strings.{Piece, starts_char, after_part, part_from, after_key, value_from, string_char}
-use Rattle.toml_places.specs.Values.{after_value, element, element_from}
+use Rattle.toml_places.specs.Values.{after_value, element}
 
 infixl 10 ◌>>=◌
 abbrev ◌>>=◌ : {A B : Type 0} → Option A → (A → Option B) → Option B
@@ -87,8 +90,16 @@ frame_span at text = at_offset frame_piece at text
 abbrev pub element_span : ℕ → ℕ → List ℕ → Option Span
 element_span k at text = at_offset (element k) at text
 
-abbrev pub later_element_span : ℕ → ℕ → List ℕ → Option Span
-later_element_span k at text = at_offset (element_from k) at text
-
 abbrev pub char_span : ℕ → ℕ → List ℕ → Option Span
 char_span k at text = at_offset (string_char k) at text
+
+-- the integer that is written at an offset
+abbrev pub integer_of : Scalar → Option ℤ
+integer_of (Integer n) = Some n
+integer_of _ = None
+
+abbrev pub integer_in : List ℕ → Option ℤ
+integer_in text = unquoted text >>= (λ p. integer_of p.0)
+
+abbrev pub integer_at : ℕ → List ℕ → Option ℤ
+integer_at at text = from_offset at text >>= integer_in

@@ -5,7 +5,7 @@ ghost use Rattle.toml_places.specs.Values as spec;
 
 use crate::values::{after_element, after_value};
 use toml_parser::RECURSION_LIMIT;
-use toml_parser::text::{first, skip, skip_blank};
+use toml_parser::text::{first, skip_blank};
 
 // An element as it is written, from its first byte on and after its last, and the text from the next one on.
 #[tactic(auto, unfolding(crate::specs::Values::next_element))]
@@ -20,31 +20,4 @@ pub fn next_element(text: &str) -> Option<(&str, &str, &str)>
     let rest = after_value(start, RECURSION_LIMIT)?;
     let next = after_element(rest, b']')?;
     Some((start, rest, next))
-}
-
-// An element from here on, by its index.
-pub fn element_from(text: &str, index: usize) -> Option<(&str, &str)>
-    ensures value { option_map (λ p. (p.0.now, p.1.now)) result ≡ spec.element_from index text.now }
-    ensures within { IfSome result (λ p. (length p.0.now ≤ length text.now) × (length p.1.now ≤ length p.0.now)) }
-{
-    let mut rest = text;
-    'elements: for _element in 0..index {
-        let (_, _, next) = next_element(rest)?;
-        rest = next;
-    }
-    let (start, end, _) = next_element(rest)?;
-    Some((start, end))
-}
-
-// An element of an array, by its index.
-#[tactic(auto, unfolding(crate::specs::Values::element))]
-pub fn element(text: &str, index: usize) -> Option<(&str, &str)>
-    ensures value { option_map (λ p. (p.0.now, p.1.now)) result ≡ spec.element index text.now }
-    ensures within { IfSome result (λ p. (length p.0.now ≤ length text.now) × (length p.1.now ≤ length p.0.now)) }
-{
-    if first(text) == b'[' {
-        element_from(skip(text, 1), index)
-    } else {
-        None
-    }
 }

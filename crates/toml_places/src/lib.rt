@@ -24,7 +24,7 @@
 //! - [`spans_stand`]: each span lies in its text. [`spans_are_read`]: what toml's grammar reads in a span is the key, value,
 //!   element or character that it is of.
 //! - If a text isn't TOML, the places are some offsets in it, and there may be no span.
-//! - [`element_spans`] reads an array once. So does a walk that calls [`later_element_span`] with the offset of the last element.
+//! - [`element_spans`] reads an array once.
 //! - Definitions: what an expression writes, and which mark is the place of a key (`Places`); what is passed of a string, a key
 //!   (`Strings`), a value (`Values`) and an expression (`Skips`); the spans (`Spans`) and their lines and columns (`Extents`);
 //!   the laws (`SpanReads`).
@@ -44,8 +44,7 @@ mod values;
 pub use laws::{headers_are_frames, places_are_within, spans_are_read, spans_stand};
 pub use places::Places;
 pub use spans::{
-    Span, Spot, char_span, element_span, element_spans, frame_span, key_span, later_element_span,
-    pair_span, value_span,
+    Span, Spot, char_span, element_spans, frame_span, integer_at, key_span, pair_span, value_span,
 };
 pub use tables::TablePlaces;
 pub use text_lines::{Extent, TextLines, place_in};

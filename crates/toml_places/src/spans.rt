@@ -7,13 +7,13 @@ ghost use Rattle.toml.specs.Parse.{after_byte};
 ghost use Rattle.toml_places.specs.Values.{element_from};
 ghost use Rattle.toml_places.specs.Spans as spec;
 
-use crate::elements::{element, element_from, next_element};
+use crate::elements::next_element;
 use crate::keys::{after_key, after_part, part_from, value_from};
 use crate::strings::{starts_char, string_char};
 use crate::values::after_value;
 use std::alloc::{AllocError, Global};
-use toml_parser::RECURSION_LIMIT;
 use toml_parser::text::{byte_at, first, skip, skip_ws};
+use toml_parser::{ParseError, RECURSION_LIMIT, Scalar, unquoted};
 
 /// A part of a text, from the offset of its first byte up to that after its last.
 #[derive(Debug, Clone, Copy, PartialEq, Eq)]
@@ -208,22 +208,6 @@ pub fn frame_span(text: &str, at: usize) -> Option<Span>
     Some(Span::between(text, start, rest))
 }
 
-/// An element, by its index from 0, of the array at an offset.
-pub fn element_span(text: &str, at: usize, index: usize) -> Option<Span>
-    ensures { result ≡ spec.element_span index at text.now }
-{
-    let (start, rest) = element(from_offset(text, at)?, index)?;
-    Some(Span::between(text, start, rest))
-}
-
-/// The element this many after the one at an offset, which is 0. So a walk along an array reads it once.
-pub fn later_element_span(text: &str, at: usize, index: usize) -> Option<Span>
-    ensures { result ≡ spec.later_element_span index at text.now }
-{
-    let (start, rest) = element_from(from_offset(text, at)?, index)?;
-    Some(Span::between(text, start, rest))
-}
-
 // The spans of the elements from here on.
 fn spans_from(alloc: Global, text: &str, elements: &str) -> Result<Vec<Span>, AllocError>
     requires { length elements.now ≤ length text.now }
@@ -253,6 +237,28 @@ pub fn element_spans(alloc: Global, text: &str, at: usize) -> Result<Vec<Span>, 
             }
         }
         None => Ok(Vec::new(alloc)),
+    }
+}
+
+// The integer that a text begins with.
+fn integer_in(alloc: Global, text: &str) -> Result<Option<i64>, AllocError>
+    ensures { IfOk result (λ n. n ≡ spec.integer_in text.now) }
+{
+    match unquoted(alloc, text) {
+        Ok((Scalar::Integer(number), _)) => Ok(Some(number)),
+        Ok(_) => Ok(None),
+        Err(ParseError::OutOfMemory) => Err(AllocError),
+        Err(_) => Ok(None),
+    }
+}
+
+/// The integer that is written at an offset; `None` if anything else is there.
+pub fn integer_at(alloc: Global, text: &str, at: usize) -> Result<Option<i64>, AllocError>
+    ensures { IfOk result (λ n. n ≡ spec.integer_at at text.now) }
+{
+    match from_offset(text, at) {
+        Some(value) => integer_in(alloc, value),
+        None => Ok(None),
     }
 }
 

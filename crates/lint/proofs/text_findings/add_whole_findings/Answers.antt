@@ -9,7 +9,7 @@ loop-fault-preserved c =
     let so_far = c.loop-fault.invariant in
     record {
       table = λ ms knows lines. found.table ms knows (so_far.table ms knows lines);
-      findings = λ ms knows lines.
+      findings = λ ms knows lines lists.
           one_more c.args.faults.now c.loop-fault.fault-index c.fault-item.result (omega arith) c.fault-item.is (whole_finding c.args.tables.now.text.now ms) _ _ _ _
-          (found.finding ms knows lines (so_far.table ms knows lines)) c.in_ok-push.ensures.items (so_far.findings ms knows lines);
+          (found.finding ms knows lines lists (so_far.table ms knows lines)) c.in_ok-push.ensures.items (so_far.findings ms knows lines lists);
     }

@@ -1,0 +1,15 @@
+use Rattle.std.proofs.Common.{◌≡◌, ◌≤◌, ◌-◌, ℕ}
+use Rattle.frame_records.specs.declared.limits.TheConstants.{MOST_LISTED}
+use Rattle.lint.specs.Tables.{seen}
+use Rattle.lint.specs.Outside.{page_from, listed}
+use Rattle.lint.proofs.outside.OutsidePages.of.Given as goal
+
+-- the elements from the index on are listed
+abbrev pub invariant-elements : goal.invariant-elements
+invariant-elements l = record {
+  within : l.index ≤ MOST_LISTED;
+  lists : (page : ℕ) → listed l.pages page ≡ page_from (seen l.top) page (MOST_LISTED - l.index) l.index;
+}
+
+abbrev pub decreases-elements : goal.decreases-elements
+decreases-elements l = l.index

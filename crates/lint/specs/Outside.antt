@@ -1,0 +1,54 @@
+-- Which element of `outside` a page is.
+use Rattle.std.specs.Prelude.{ℕ, zero, suc, ◌+◌, ℤ, pos, Bool, false, ◌==◌, nat_le, nat_eq, if◌then◌else◌, List, Option, Some, None, option_and_then, ◌≡◌}
+use Rattle.std.specs.Option.{option_or}
+use Rattle.indexmap.specs.IndexMap.{get}
+use Rattle.page_ids.specs.declared.limits.TheConstants.{MOST_PAGE}
+use Rattle.frame_records.specs.declared.limits.TheConstants.{MOST_LISTED}
+use Rattle.base_text.specs.declared.whole_fault.WholeFault.{WholeFault}
+use Rattle.base_text.specs.declared.whole_fault.WholeFault.TheVariants.{OutsideInside}
+use Rattle.toml_places.specs.declared.spans.Span.{Span}
+use Rattle.toml_places.specs.Spans.{integer_at}
+use Rattle.lint.specs.Tables.{TableView}
+use Rattle.lint.specs.declared.outside.OutsidePages.{OutsidePages}
+
+infixl 10 ◌>>=◌
+abbrev ◌>>=◌ : {A B : Type 0} → Option A → (A → Option B) → Option B
+o >>= f = option_and_then f o
+
+abbrev pub page_of : Option ℤ → Option ℕ
+page_of (Some (pos n)) = if nat_le n MOST_PAGE then Some n else None
+page_of _ = None
+
+-- the page that is written in the span
+abbrev pub page_in : List ℕ → Span → Option ℕ
+page_in text s = page_of (integer_at s.begin text)
+
+abbrev pub is_page : ℕ → Option ℕ → Bool
+is_page page None = false
+is_page page (Some n) = n == page
+
+-- the element of an index, if it is this page
+abbrev pub element_if : TableView → ℕ → ℕ → Option Span
+element_if t page k = t.item k >>= (λ s. if is_page page (page_in t.text s) then Some s else None)
+
+-- the first that is this page, of n elements from one on
+unfoldable pub page_from : TableView → ℕ → ℕ → ℕ → Option Span
+page_from t page zero k = None
+page_from t page (suc n) k = option_or (element_if t page k) (page_from t page n (k + 1))
+
+-- of as many as a base may list
+abbrev pub page_at : TableView → ℕ → Option Span
+page_at t page = page_from t page MOST_LISTED 0
+
+-- if the fault is a page of `outside`, its element
+abbrev pub element_of : (ℕ → Option Span) → WholeFault → Option Span
+element_of pages (OutsideInside page) = pages page
+element_of pages _ = None
+
+-- What the code knows of them.
+
+abbrev pub listed : OutsidePages → ℕ → Option Span
+listed pages page = get nat_eq pages.spans page
+
+abbrev pub Lists : TableView → OutsidePages → Type 0
+Lists t pages = (page : ℕ) → listed pages page ≡ page_at t page
