@@ -2,3 +2,4 @@ pub mod Rows
 pub mod Ways
 pub mod Cells
 pub mod Painted
+pub mod Since

@@ -21,8 +21,8 @@ use Rattle.session_machine.specs.declared.reply.Reply.{Reply}
 use Rattle.session_machine.specs.declared.reply.Reply.TheVariants.{Shown, Again, NotOffered, Missing, Closed, Gone}
 use Rattle.checker.specs.Safe.{IsCleanAt, IsCleanReply}
 use Rattle.frame_screens.specs.Frames.{sent_in}
-use Rattle.frame_screens.specs.Screens.{new_terminal, with_frame, with_frames, and_record, records}
-use Rattle.frame_screens.specs.Laws.{is_clearing, has_clearing, cell, KeepsServiceRows, HasBlankServiceRows, AreSentAlike, LooksSame}
+use Rattle.frame_screens.specs.Screens.{new_terminal, with_frame, with_frames, and_record, records, is_clearing}
+use Rattle.frame_screens.specs.Laws.{has_clearing, cell, KeepsServiceRows, HasBlankServiceRows, AreSentAlike, LooksSame}
 
 -- Pairs stored in cells.
 

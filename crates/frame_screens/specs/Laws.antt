@@ -4,8 +4,7 @@ use Rattle.std.specs.List.{list_any}
 use Rattle.page_ids.specs.Ids.{Id}
 use Rattle.page_ids.specs.declared.key.Key.{Key}
 use Rattle.frame_records.specs.declared.frame.Frame.{Frame}
-use Rattle.frame_records.specs.declared.frame.Lead.{Lead}
-use Rattle.frame_records.specs.declared.frame.Lead.TheVariants.{Clear, Keep}
+use Rattle.frame_records.specs.declared.frame.Lead.TheVariants.{Clear}
 use Rattle.frame_records.specs.Bases.{BaseView, AreApart}
 use Rattle.terminal_codes.specs.Screen.{Screen, IsScreen}
 use Rattle.terminal_codes.specs.Writes.{in_service_row, in_row_22, is_double_height}
@@ -18,14 +17,9 @@ use Rattle.checker.specs.declared.policy.Policy.{Policy}
 use Rattle.checker.specs.declared.verdict.Verdict.TheVariants.{Cleared}
 use Rattle.checker.specs.Verdict.{verdict}
 use Rattle.frame_screens.specs.Frames.{frames_sent, keyed_frames, last_of, place_of, way_by}
-use Rattle.frame_screens.specs.Screens.{new_terminal, with_frames, records}
+use Rattle.frame_screens.specs.Screens.{new_terminal, with_frames, records, is_clearing}
 
 -- The headline, seen.
-
--- the frame's lead clears the screen
-abbrev pub is_clearing : Lead → Bool
-is_clearing Clear = true
-is_clearing Keep = false
 
 abbrev pub has_clearing : List Frame → Bool
 has_clearing frames = list_any (λ f. is_clearing f.lead) frames

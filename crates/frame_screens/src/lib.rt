@@ -10,7 +10,7 @@
 //!   ways were looked up before.
 //! - [`frames_after`], [`NoScreen`]: the frames that a session's keys show, or why there is no screen at its end.
 //! - [`FrameList`]: frames in the order in which they are sent, at least one.
-//! - [`screen`], [`terminal_after`], [`send`]: what they leave on a new terminal, with the centre's rows and without.
+//! - [`screen`]: what they leave on a new terminal, with the centre's rows. [`send`]: one frame sent to a terminal.
 //! - [`Painter`]: the screens of all frames that are reached, one after another, each from its parent's terminal.
 //! - [`nearest`]: the frame that was probably meant by an id that the base lacks.
 //! - [`headline_is_seen`]: rows 0 and 23 of a cleared base's screens; [`frames_decide`], [`ways_lead_there`]: laws.
@@ -31,5 +31,5 @@ pub use laws::{frames_decide, headline_is_seen, ways_lead_there};
 pub use list::FrameList;
 pub use near::nearest;
 pub use painter::Painter;
-pub use sending::{send, terminal_after};
+pub use sending::send;
 pub use way::{way_at, way_to};

@@ -41,7 +41,7 @@ impl FrameList {
         Ok(())
     }
 
-    // Turns the order round.
+    // Reverses the order.
     pub(crate) fn reverse(&mut self)
         ensures { self.new ≡ reverse self.old }
     {

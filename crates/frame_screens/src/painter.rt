@@ -21,7 +21,7 @@ use terminal_codes::Terminal;
 #[derive(Drop)]
 pub struct Painter<'a> {
     survey: Survey<'a>,
-    // for each place the terminal after its frame; none if the frame clears, so that nothing sent before it counts
+    // For each place the terminal after its frame; none if the frame clears, so that nothing sent before it counts.
     kept: Vec<Option<Box<Terminal>>>,
 }
 
@@ -75,7 +75,7 @@ fn terminal_before(survey: &Survey<'_>, kept: &[Option<Box<Terminal>>], place: u
     }
 }
 
-// What is kept of the frame at a place.
+// The terminal that is kept for the frame at a place, if one is.
 fn kept_at(
     alloc: Global,
     survey: &Survey<'_>,
@@ -100,7 +100,7 @@ fn kept_at(
 }
 
 impl<'a> Painter<'a> {
-    /// Of the frames that a survey found.
+    /// Makes the painter of the frames that a survey found.
     pub fn of(alloc: Global, survey: Survey<'a>) -> Result<Painter<'a>, AllocError>
         requires { FindsReached survey.groups survey.base survey.found }
         ensures { IfOk result (λ painter. painter ≡ survey.entry) }

@@ -2,8 +2,7 @@ use base_text::base_read;
 use finder::{Survey, script_to};
 use frame_records::{Base, Groups, Lead};
 use frame_screens::{
-    FrameList, NoScreen, Painter, frames_after, nearest, screen, send, terminal_after, way_at,
-    way_to,
+    FrameList, NoScreen, Painter, frames_after, nearest, screen, send, way_at, way_to,
 };
 use page_ids::{FrameId, PageNo, keys_read};
 use std::alloc::Global;
@@ -211,6 +210,30 @@ fn a_frame_is_shown_over_those_on_the_way_to_it(rt: HostRuntime) -> Result<(), F
     Ok(())
 }
 
+// No frame of the way clears.
+const KEPT: &str = "
+entry = 1
+[[frame]]
+id = '1a'
+lead = 'keep'
+body = \"\\u001E\\u000AFIRST\"
+routes = { 2 = 2 }
+[[frame]]
+id = '2a'
+lead = 'keep'
+body = \"\\u001E\\u000A\\u000ASECOND\"
+";
+
+#[test]
+fn without_a_frame_that_clears_all_of_the_way_is_sent(rt: HostRuntime) -> Result<(), Fail> {
+    let alloc = rt.alloc();
+    let base = base_of(alloc, KEPT)?;
+    let frames = way_to(alloc, &base, &Groups::none(), FrameId::read("2a")?)?;
+    let codes = screen(&base, &frames);
+    same(row_of(&codes, 1)?, row(b"FIRST"))?;
+    same(row_of(&codes, 2)?, row(b"SECOND"))
+}
+
 // Keys, the frames that they send, and two rows of the screen after them.
 const SESSIONS: [(&str, &str, (usize, &[u8]), (usize, &[u8])); 9] = [
     ("", " 7a", (1, b"MAIN"), (2, b"SECOND")),
@@ -291,7 +314,8 @@ fn the_terminal_has_what_the_centre_paints_over(rt: HostRuntime) -> Result<(), F
     let alloc = rt.alloc();
     let base = base_of(alloc, BASE)?;
     let id = FrameId::read("77a")?;
-    let alone = terminal_after(&base, &FrameList::of(alloc, id)?);
+    let mut alone = Terminal::new();
+    send(&mut alone, base.find(id).ok_or("frame")?);
     same(row_of(alone.cells(), 0)?, row(b"CD"))?;
     let mut terminal = Terminal::new();
     terminal.run(b"BEFORE");
