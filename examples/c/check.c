@@ -1,27 +1,35 @@
-/* check BASE CERT CEILING KEYINGS [GROUPS]: prints the line of `pageaudit check` and ends with its status.
+/* check BASE CERT CEILING KEYINGS [GROUPS]: prints the line of `pageaudit check` and ends with its status. For C99 and C++.
 
-   cc -o check check.c -lpageaudit */
+   cc -o check check.c $(pkg-config --cflags --libs pageaudit) */
 #include <pageaudit.h>
 #include <stdio.h>
 #include <stdlib.h>
 
-/* Reads a file whole, or ends the program. */
-static struct pageaudit_text read_file(const char *path)
+/* Reads a file whole, into memory that the caller frees. If that fails, prints why and answers another status than
+   PAGEAUDIT_CLEAR; the text is then as it was. */
+static enum pageaudit_status read_file(const char *path, struct pageaudit_text *text)
 {
     size_t room = 1 << 16, length = 0;
-    char *bytes = malloc(room);
+    char *bytes = (char *)malloc(room), *larger = bytes;
     FILE *file = fopen(path, "rb");
-    while (file != NULL && bytes != NULL && !feof(file) && !ferror(file)) {
+    int is_whole;
+    while (file != NULL && larger != NULL && !feof(file) && !ferror(file)) {
         length += fread(bytes + length, 1, room - length, file);
-        if (length == room)
-            bytes = realloc(bytes, room *= 2);
+        if (length == room && (larger = (char *)realloc(bytes, room *= 2)) != NULL)
+            bytes = larger;
     }
-    if (file == NULL || bytes == NULL || ferror(file)) {
+    is_whole = file != NULL && larger != NULL && !ferror(file);
+    if (!is_whole)
         perror(path);
-        exit(bytes == NULL ? PAGEAUDIT_OUT_OF_MEMORY : PAGEAUDIT_BAD_TEXT);
+    if (file != NULL)
+        fclose(file);
+    if (is_whole) {
+        text->bytes = bytes;
+        text->length = length;
+        return PAGEAUDIT_CLEAR;
     }
-    fclose(file);
-    return pageaudit_text_of(bytes, length);
+    free(bytes);
+    return larger == NULL ? PAGEAUDIT_OUT_OF_MEMORY : PAGEAUDIT_BAD_TEXT;
 }
 
 /* A whole number of a word. */
@@ -32,19 +40,33 @@ static uint32_t number(const char *word)
     return *word == '-' || end == word || *end != 0 || value > UINT32_MAX ? UINT32_MAX : (uint32_t)value;
 }
 
-int main(int argc, char **argv)
+/* Prints what the check says. */
+static enum pageaudit_status check(struct pageaudit_text base, struct pageaudit_text cert, const struct pageaudit_policy *policy)
 {
     char line[PAGEAUDIT_LINE_ROOM];
     size_t length;
-    if (argc < 5 || argc > 6)
-        return fputs("usage: check BASE CERT CEILING KEYINGS [GROUPS]\n", stderr), PAGEAUDIT_BAD_POLICY;
-    struct pageaudit_policy policy = {number(argv[3]), number(argv[4]), argv[5]};
-    struct pageaudit_text base = read_file(argv[1]), cert = read_file(argv[2]);
-    enum pageaudit_status status = pageaudit_check_base(base, cert, &policy, line, sizeof line, &length);
+    enum pageaudit_status status = pageaudit_check_base(base, cert, policy, line, sizeof line, &length);
     if (length == 0) {
         length = pageaudit_describe(status, line, sizeof line);
         line[length++] = '\n';
     }
     fwrite(line, 1, length, status <= PAGEAUDIT_FAULTY ? stdout : stderr);
+    return status;
+}
+
+int main(int argc, char **argv)
+{
+    struct pageaudit_text base = {NULL, 0}, cert = {NULL, 0};
+    enum pageaudit_status status;
+    if (argc < 5 || argc > 6)
+        return fputs("usage: check BASE CERT CEILING KEYINGS [GROUPS]\n", stderr), PAGEAUDIT_BAD_POLICY;
+    struct pageaudit_policy policy = {number(argv[3]), number(argv[4]), argv[5]};
+    status = read_file(argv[1], &base);
+    if (status == PAGEAUDIT_CLEAR)
+        status = read_file(argv[2], &cert);
+    if (status == PAGEAUDIT_CLEAR)
+        status = check(base, cert, &policy);
+    free((void *)base.bytes);
+    free((void *)cert.bytes);
     return status;
 }

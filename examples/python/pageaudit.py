@@ -13,8 +13,9 @@
 presses from the entry page on, no key leads to a frame that is missing or closed, no frame shown costs more than the ceiling or
 writes into the service rows, and until the caller leaves the base, at most `keyings` keys lead back to the entry page.
 
-The library is `libpageaudit.so.1`, in the folder that the variable PAGEAUDIT_LIB names, or where the system finds its libraries.
-Calls keep nothing, and several threads may make them at once.
+The library is `libpageaudit.so.1` in the folder that the variable PAGEAUDIT_LIB names. Without that variable it is the one beside
+this file, or else the one that ./install put below its prefix together with this file, or else the system's. If it can't be
+loaded, the import fails with ImportError. Calls keep nothing, and several threads may make them at once.
 """
 
 from __future__ import annotations
@@ -22,9 +23,11 @@ from __future__ import annotations
 import ctypes
 import operator
 import os
+from collections.abc import Mapping, Sequence
 from dataclasses import dataclass
-from typing import Any, Sequence
+from typing import Any, SupportsIndex
 
+__version__ = "1.0.0"
 __all__ = [
     "Audit", "Finding", "Policy", "PolicyError", "TextError", "Verdict", "audit", "change", "check", "lint",
 ]  # fmt: skip
@@ -44,7 +47,7 @@ class TextError(ValueError):
 
 @dataclass(frozen=True)
 class Policy:
-    """What a centre asks of its bases."""
+    """What a centre asks of its bases. Raises TypeError, which names the argument, for what is no number or no list of numbers."""
 
     ceiling: int
     """The most that a frame may cost, in pence: 0 to 9,999."""
@@ -52,6 +55,13 @@ class Policy:
     """The most route and next keys that may be needed to regain the entry page: 0 to 65,535."""
     groups: Sequence[int] = ()
     """The callers' closed user groups, ascending: at most 16 of 1 to 65,535."""
+
+    def __post_init__(self) -> None:
+        if not isinstance(self.groups, Sequence) or isinstance(self.groups, (str, bytes, bytearray, memoryview)):
+            raise TypeError(f"groups has to be a list of whole numbers, not {_kind(self.groups)}")
+        object.__setattr__(self, "ceiling", _whole("ceiling", self.ceiling))
+        object.__setattr__(self, "keyings", _whole("keyings", self.keyings))
+        object.__setattr__(self, "groups", tuple(_whole(f"groups[{place}]", group) for place, group in enumerate(self.groups)))
 
 
 @dataclass(frozen=True)
@@ -90,7 +100,7 @@ def check(base: bytes, cert: bytes, policy: Policy) -> Verdict:
 
     Raises TextError for the first fault of the base's text, or else of the certificate's; PolicyError; or MemoryError.
     """
-    answer, text = _call("pageaudit_check", [base, cert], policy, _LINE_ROOM)
+    answer, text = _call("pageaudit_check", {"base": base, "cert": cert}, policy, _LINE_ROOM)
     return _verdict(answer, text)
 
 
@@ -99,7 +109,8 @@ def change(old_base: bytes, old_cert: bytes, new_base: bytes, new_cert: bytes, p
 
     Raises as `check`; TextError for the first fault of the four texts in their order.
     """
-    answer, text = _call("pageaudit_change", [old_base, old_cert, new_base, new_cert], policy, _LINE_ROOM)
+    texts = {"old_base": old_base, "old_cert": old_cert, "new_base": new_base, "new_cert": new_cert}
+    answer, text = _call("pageaudit_change", texts, policy, _LINE_ROOM)
     return _verdict(answer, text)
 
 
@@ -108,7 +119,7 @@ def audit(base: bytes, policy: Policy) -> Audit:
 
     Raises TextError for the first fault of the text, PolicyError, or MemoryError.
     """
-    answer, text = _call("pageaudit_audit", [base], policy, 1 << 16)
+    answer, text = _call("pageaudit_audit", {"base": base}, policy, 1 << 16)
     if answer == _CLEAR:
         return Audit(text, ())
     return Audit(None, tuple(text.decode("ascii").splitlines()[1:]))
@@ -119,7 +130,7 @@ def lint(base: bytes, policy: Policy) -> list[Finding]:
 
     Raises PolicyError or MemoryError. A text that is no base is an error among the findings, and no TextError.
     """
-    _, text = _call("pageaudit_lint", [b"", base], policy, 1 << 16)
+    _, text = _call("pageaudit_lint", {"name": b"", "base": base}, policy, 1 << 16)
     return [_finding(line) for line in text.decode("utf-8").split("\n")[:-1]]
 
 
@@ -133,33 +144,68 @@ def _finding(text: str) -> Finding:
     return Finding(int(line), int(column), level[1:], words[1:])
 
 
+_FILE = "libpageaudit.so.1"
+# Where ./install puts this file below its prefix.
+_PLACE = os.path.join(os.sep, "share", "doc", "pageaudit", "examples", "python")
+
+
+def _own_folders() -> list[str]:
+    """The folders that may have the library of this file's installation."""
+    here = os.path.dirname(os.path.realpath(__file__))
+    return [here, os.path.join(here[: -len(_PLACE)], "lib")] if here.endswith(_PLACE) else [here]
+
+
 def _load() -> ctypes.CDLL:
-    folder = os.environ.get("PAGEAUDIT_LIB")
-    return ctypes.CDLL(os.path.join(folder, "libpageaudit.so.1") if folder else "libpageaudit.so.1")
+    named = os.environ.get("PAGEAUDIT_LIB")
+    folders = [named] if named else _own_folders()
+    paths = [os.path.join(folder, _FILE) for folder in folders]
+    path = next(filter(os.path.exists, paths), paths[0] if named else _FILE)
+    try:
+        return ctypes.CDLL(path)
+    except OSError as fault:
+        looked = " and ".join(folders if named else [*folders, "the system's folders"])
+        raise ImportError(f"{fault}: looked in {looked}; set PAGEAUDIT_LIB to the folder that has {_FILE}") from fault
 
 
 _LIBRARY = _load()
 
 
-def _number(number: int) -> ctypes.c_uint32:
+def _kind(value: object) -> str:
+    return type(value).__name__
+
+
+def _whole(name: str, value: object) -> int:
+    """The whole number that an argument is. True and False are none."""
+    if isinstance(value, bool) or not isinstance(value, SupportsIndex):
+        raise TypeError(f"{name} has to be a whole number, not {_kind(value)}")
+    return operator.index(value)
+
+
+def _number(name: str, value: int) -> ctypes.c_uint32:
     """A number as the library takes it; ctypes alone would cut it to 32 bits."""
-    if not 0 <= operator.index(number) < 1 << 32:
-        raise PolicyError(f"{number} is out of range")
-    return ctypes.c_uint32(number)
+    if not 0 <= value < 1 << 32:
+        raise PolicyError(f"{name} is out of range")
+    return ctypes.c_uint32(value)
 
 
-def _slices(texts: Sequence[bytes]) -> list[Any]:
-    """Each text's address and length."""
-    for text in texts:
-        if not isinstance(text, bytes):
-            raise TypeError(f"bytes are wanted, not {type(text).__name__}")
-    return [word for text in texts for word in (ctypes.c_char_p(text), ctypes.c_size_t(len(text)))]
+def _slice(name: str, text: bytes) -> tuple[ctypes.c_char_p, ctypes.c_size_t]:
+    """A text's address and length."""
+    if not isinstance(text, bytes):
+        raise TypeError(f"{name} has to be bytes, not {_kind(text)}")
+    return ctypes.c_char_p(text), ctypes.c_size_t(len(text))
 
 
-def _call(name: str, texts: Sequence[bytes], policy: Policy, room: int) -> tuple[int, bytes]:
+def _policy_words(policy: Policy) -> list[Any]:
+    """A policy as the library takes it."""
+    if not isinstance(policy, Policy):
+        raise TypeError(f"policy has to be a Policy, not {_kind(policy)}")
+    groups = ",".join(map(str, policy.groups)).encode("ascii")
+    return [_number("ceiling", policy.ceiling), _number("keyings", policy.keyings), *_slice("groups", groups)]
+
+
+def _call(name: str, texts: Mapping[str, bytes], policy: Policy, room: int) -> tuple[int, bytes]:
     """The status of a call and what it printed; raises for each other status."""
-    groups = ",".join(str(operator.index(group)) for group in policy.groups).encode("ascii")
-    words = [*_slices(texts), _number(policy.ceiling), _number(policy.keyings), *_slices([groups])]
+    words = [word for text in texts.items() for word in _slice(*text)] + _policy_words(policy)
     function, length = _LIBRARY[name], ctypes.c_size_t(room)
     function.restype = ctypes.c_uint32
     while True:

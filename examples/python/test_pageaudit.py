@@ -37,8 +37,10 @@ class Check(unittest.TestCase):
 
     def test_takes_nothing_but_bytes(self):
         for text in DEMO.decode(), None, bytearray(DEMO), 5:
-            with self.assertRaises(TypeError):
+            with self.assertRaisesRegex(TypeError, f"^base has to be bytes, not {type(text).__name__}$"):
                 pageaudit.check(text, DEMO_CERT, POLICY)
+            with self.assertRaisesRegex(TypeError, "^new_cert has to be bytes, not "):
+                pageaudit.change(DEMO, DEMO_CERT, DEMO, text, POLICY)
 
     def test_answers_threads(self):
         with ThreadPoolExecutor(8) as pool:
@@ -61,6 +63,36 @@ class Policies(unittest.TestCase):
         for groups in (9, 7), (7, 7), (0,), (65_536,), (-1,), range(1, 18):
             with self.assertRaises(PolicyError):
                 pageaudit.audit(DEMO, Policy(20, 3, groups))
+
+    def test_refuses_other_kinds_by_name(self):
+        wrong = True, 5.0, "5", None, [5]
+        for number in wrong:
+            with self.assertRaisesRegex(TypeError, f"^ceiling has to be a whole number, not {type(number).__name__}$"):
+                Policy(number, 3)
+            with self.assertRaisesRegex(TypeError, "^keyings has to be a whole number, not "):
+                Policy(20, number)
+            with self.assertRaisesRegex(TypeError, r"^groups\[1\] has to be a whole number, not "):
+                Policy(20, 3, [7, number])
+        for groups in "7,9", b"79", None, 7, {7, 9}, iter([7]):
+            with self.assertRaisesRegex(TypeError, f"^groups has to be a list of whole numbers, not {type(groups).__name__}$"):
+                Policy(20, 3, groups)
+
+    def test_refuses_to_call_without_a_policy(self):
+        for policy in None, (20, 3), 20:
+            for call in (
+                lambda: pageaudit.check(DEMO, DEMO_CERT, policy),
+                lambda: pageaudit.change(DEMO, DEMO_CERT, DEMO, DEMO_CERT, policy),
+                lambda: pageaudit.audit(DEMO, policy),
+                lambda: pageaudit.lint(DEMO, policy),
+            ):
+                with self.assertRaisesRegex(TypeError, f"^policy has to be a Policy, not {type(policy).__name__}$"):
+                    call()
+
+    def test_keeps_its_own_groups(self):
+        groups = [7]
+        policy = Policy(20, 3, groups)
+        groups.append(5)
+        self.assertEqual(policy, Policy(20, 3, (7,)))
 
     def test_groups_open_their_frames(self):
         self.assertNotEqual(pageaudit.audit(CLOSED, Policy(20, 3)), pageaudit.audit(CLOSED, Policy(20, 3, [7])))
