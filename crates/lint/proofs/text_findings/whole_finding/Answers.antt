@@ -27,8 +27,8 @@ pub returns-clause-finding : goal.returns-clause-finding
 returns-clause-finding c ms knows lines lists is =
     let text = c.args.tables.now.text.now in
     let fault = c.args.fault.now in
-    found fault _ (table_at text ms _) _ (element_of (page_at (table_at text ms None)) fault) c.whole_span.result c.first_line.result _ _ c.error.result
+    found fault _ (table_at text ms _) _ (element_of (page_at (table_at text ms None)) fault) c.whole_span-span.result c.first_line.result _ _ c.error.result
     (c.in_ok-turn.ensures.turned ms knows is ∙ ap (table_at text ms) c.whole_table.ensures)
     (c.element.ensures ∙ element_known _ _ fault lists)
-    c.whole_span.ensures (c.first_line.ensures ms knows lines)
+    c.whole_span-span.ensures (c.first_line.ensures ms knows lines)
     c.in_ok-words.ensures c.error.ensures
