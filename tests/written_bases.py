@@ -71,6 +71,8 @@ TOUCHING = [
 ]
 # Bodies with a line feed after which text goes on in its column, and the index of that line feed.
 FEEDS = {"\x1e\nTEXT\nTEXT": 6, "\x1e\nAB\n\nCD": 5, "\x1e\n\tA\n\x80": 4}
+# Bodies with a line feed after a return, and its index.
+RETURNS = {"\x1e\nTEXT\r\nTEXT": 7, "\x1e\n\r\nAB\r\n\r\nA\r\n\x80": 12}
 # The fields in the order of judging: unknown keys, then these; `text` is the body or the rows.
 JUDGED = ["", "id", "price", "group", "next", "routes", "lead", "text"]
 
@@ -300,8 +302,8 @@ class Written:
             rows = ["", "ONE", "TWO # 2", "'\"'", "[[frame]]", "\\u0081X"]
             return {"rows": [self.pick(rows) for _ in range(self.pick([0, 1, 2, 21]))]}
         if self.chance(0.3):
-            return {"body": self.pick(list(FEEDS))}
-        return {"body": "\x1e\n" + self.pick(["", "TEXT", "= ] }", "\x1bAx", "\u00e9\u00a3", "'\"\\", "TEXT\r\nTEXT"])}
+            return {"body": self.pick([*FEEDS, *RETURNS])}
+        return {"body": "\x1e\n" + self.pick(["", "TEXT", "= ] }", "\x1bAx", "\u00e9\u00a3", "'\"\\"])}
 
     def write(self):
         self.sheet = sheet = Sheet(self.pen)
@@ -737,21 +739,24 @@ class FaultyWalks(Written):
     def findings(self):
         yield from super().findings()
         for index, frame in enumerate(self.frames):
-            for name, words in self.shown(frame):
+            for name, before, words in self.shown(frame):
                 begin, end = self.sheet.spans[*self.table(index), *name]
-                piece = self.sheet.text[begin:end]
-                if piece == "\n" or name[0] == "rows" and piece[0] == "'":
+                piece, start = self.sheet.text[begin:end], self.sheet.text[:begin]
+                if start.endswith(before) and (piece == "\n" or name[0] == "rows" and piece[0] == "'"):
                     yield begin, "warning", words
 
     def shown(self, frame):
-        """What may be wrong with what a frame shows, by where it is; how it is written decides."""
+        """What may be wrong with what a frame shows, by where it is and what is before it; how it is written decides."""
         if (at := FEEDS.get(frame.fields.get("body"))) is not None:
             words = f"a line of the body of frame {frame.id} ends with a line feed alone, so the text goes on in the same column"
-            yield ("body", at, "character"), f"LINEEND: {words}"
+            yield ("body", at, "character"), "", f"LINEEND: {words}"
+        if (at := RETURNS.get(frame.fields.get("body"))) is not None:
+            words = f"a line of the body of frame {frame.id} ends with CR LF as the file does"
+            yield ("body", at, "character"), "\r", f"LINEEND: {words}: saved with LF, the text goes on in the same column"
         for at, row in enumerate(frame.fields.get("rows", [])):
             if "\\u00" in row:
                 words = f"row {at + 1} of frame {frame.id} has \\u00 in single quotation marks, which is shown as it is"
-                yield ("rows", at, "value"), f"ESCAPE: {words}"
+                yield ("rows", at, "value"), "", f"ESCAPE: {words}"
 
     def outside(self):
         pages = [frame.fields["routes"] for frame in self.reached if self.chance(0.2)]

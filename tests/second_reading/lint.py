@@ -138,26 +138,37 @@ class Audited:
                     yield span, f"ESCAPE: {words}"
 
     def line_ends(self):
-        """In each body the first line feed after which text goes on in its column, if the file writes it as a line end."""
+        """In each body the first line end of each kind, if the file writes it as one, before text."""
         for id in sorted(self.base.frames):
-            body = self.tables[id][1].get("body", "")
-            at = first_feed(body.encode("latin-1"))
-            if at is not None:
+            body = self.tables[id][1].get("body", "").encode("latin-1")
+            for returns, how in LINE_ENDS.items():
+                at = first_feed(body, returns)
+                if at is None:
+                    continue
                 begin, end = span = self.pieces.character(self.table(id), "body", at)
-                if self.pieces.text[begin:end] == "\n":
-                    words = f"a line of the body of frame {id_text(id)} ends with a line feed alone"
-                    yield span, f"LINEEND: {words}, so the text goes on in the same column"
+                if self.pieces.text[begin:end] == "\n" and (not returns or self.pieces.text[begin - 1] == "\r"):
+                    yield span, f"LINEEND: a line of the body of frame {id_text(id)} {how}"
 
     def warnings(self):
         return [*self.unreached(), *self.hidden(), *self.escapes(), *self.line_ends()]
 
 
-def first_feed(body):
-    """The first line feed of a body that isn't in the first column, and after which a byte of 20 or more is next."""
-    state = 40, False
+# What a line end does, by whether it returns to the first column.
+LINE_ENDS = {
+    False: "ends with a line feed alone, so the text goes on in the same column",
+    True: "ends with CR LF as the file does: saved with LF, the text goes on in the same column",
+}
+
+
+def first_feed(body, returns):
+    """The first line feed of a body before a byte of 20 or more that isn't in the first column, or that follows a return from
+    another column."""
+    state, returned = (40, False), False
     for at, (byte, following) in enumerate(pairwise(body)):
-        if byte == 0x0A and state[0] % 40 and following >= 0x20:
+        is_inside = state[0] % 40 > 0
+        if byte == 0x0A and following >= 0x20 and (returned if returns else is_inside):
             return at
+        returned = byte == 0x0D and is_inside
         state, _ = step(state, byte)
     return None
 

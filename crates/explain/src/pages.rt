@@ -767,9 +767,10 @@ const P212: &str = r#"Fix: leave the row below double height empty."#;
 
 const P213: &str = r#"LINEEND"#;
 
-const P214: &str = r#"A warning: a line of this 'body' ends in the file with a line feed alone (0A).
-That goes one row down in the same column, where the text goes on. It is the
-first such line end of the body."#;
+const P214: &str =
+    r#"A warning: a line of this 'body' ends with the file's own line end. A line feed
+alone (0A) goes one row down in the same column, where the text goes on; CR LF
+is right until the file is saved with LF. It is the first such line end."#;
 
 const P215: &str = r#"    printf '[[frame]]\nid = "1b"\nbody = """\nONE\nTWO"""\n' | cat base - >two
     pageaudit lint two 2>/dev/null | sed -n 's/,.*//; s/^two:13:4: .*g: //p'"#;

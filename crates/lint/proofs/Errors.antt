@@ -18,7 +18,7 @@ use Rattle.toml_places.specs.declared.spans.Span.{Span}
 use Rattle.lint.specs.Tables.{TableView, table_at}
 use Rattle.lint.specs.Spots.{has_rows, entry_span, single_at, line_end_at}
 use Rattle.lint.specs.declared.looks.Look.{Look}
-use Rattle.lint.specs.declared.looks.Look.TheVariants.{Hidden, Escape, LineEnd}
+use Rattle.lint.specs.declared.looks.Look.TheVariants.{Hidden, Escape, EndsLine}
 use Rattle.lint.specs.Looks.{looks_of}
 
 abbrev errors : List FindingView → ℕ
@@ -52,7 +52,7 @@ module _ (text : List ℕ) (ms : List Mark) (tables : List (Id × ℕ)) where
   no_look_error : (table : TableView) (id : Id) (look : Look) → errors (look_in table id look) ≡ 0
   no_look_error table id (Hidden row) = warning_or_none (has_rows table) _ refl
   no_look_error table id (Escape row) = warning_if_span (single_at table row) (escape_words id row)
-  no_look_error table id (LineEnd index) = warning_if_span (line_end_at table index) (line_end_words id)
+  no_look_error table id (EndsLine end index) = warning_if_span (line_end_at table end index) (line_end_words id end)
 
   no_look_errors : (looks : List (Id × Look)) → errors (look_findings text ms tables looks) ≡ 0
   no_look_errors [] = refl

@@ -16,8 +16,10 @@ one_more t page n k = refl
 pub one_before : (t : TableView) (page most k : ℕ) → 0 < k → k ≤ most
     → page_from t page (most - (k - 1)) (k - 1) ≡ option_or (element_if t page (k - 1)) (page_from t page (most - k) k)
 one_before t page most (suc k) above below =
-    ap (λ n. page_from t page n k) (omega (arith, below) : most - k ≡ suc (most - suc k))
-    ∙ one_more t page (most - suc k) k ∙ ap (λ j. option_or (element_if t page k) (page_from t page (most - suc k) j)) (omega arith : k + 1 ≡ suc k)
+    let left : most - k ≡ suc (most - suc k) = omega (arith, below) in
+    let next : k + 1 ≡ suc k = omega arith in
+    ap (λ n. page_from t page n k) left ∙ one_more t page (most - suc k) k
+    ∙ ap (λ j. option_or (element_if t page k) (page_from t page (most - suc k) j)) next
 
 pub noted : {X : Type 0} (b : Bool) (x : X) (old new : Option X) → new ≡ cond b (Some x) old → new ≡ option_or (cond b (Some x) None) old
 noted true x old new is = is

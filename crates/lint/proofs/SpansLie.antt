@@ -38,13 +38,15 @@ use Rattle.lint.specs.Findings.{FindingView, warning_at}
 use Rattle.lint.specs.Tables.{TableView, is_in_line, value_at, element_at, frame_element, header_span, frame_whole, whole, table_at}
 use Rattle.frame_records.specs.declared.limits.TheConstants.{MOST_LISTED}
 use Rattle.lint.specs.Outside.{is_page, page_in, element_if, page_from, page_at, element_of}
-use Rattle.lint.specs.Spots.{key_at, pair_at, key_of, value_of, route_key, route_pair, item_of, char_of, later, unknown_at, digit_at, is_routes, listed_at, row_at, body_char, detail_at, detail_span, has_rows, shown_at, whole_at, whole_span, pressed_at, byte_at, touched_at, kind_at, audit_span, row_span, entry_span, is_byte, is_one, feed_span, line_end_at, single_span, single_at, kind_table, whole_table}
+use Rattle.lint.specs.Spots.{key_at, pair_at, key_of, value_of, route_key, route_pair, item_of, char_of, later, unknown_at, digit_at, is_routes, listed_at, row_at, body_char, detail_at, detail_span, has_rows, shown_at, whole_at, whole_span, pressed_at, byte_at, touched_at, kind_at, audit_span, row_span, entry_span, is_byte, is_one, feed_span, ended_span, line_end_at, single_span, single_at, kind_table, whole_table}
 use Rattle.lint.specs.Lint.{Subject, Length, Toml, Text, Whole, finding_of, faulty, IsWithin, AreSubjects, AreSubjectsIf, AreTreeSubjects, IsJudgedBy, text_tables, warning, warning_if, unreached_findings, look_in, look_finding, look_findings, fault_finding, ranks_of, finds_none, ids_of, unreached, table_of, text_finding, whole_finding, IsAudited}
 use Rattle.lint_words.specs.FaultWords.{none_reached_words}
+use Rattle.lint_words.specs.declared.warning_words.LineEnd.{LineEnd}
+use Rattle.lint_words.specs.declared.warning_words.LineEnd.TheVariants.{Feed, Return}
 use Rattle.lint_words.specs.WarningWords.{line_end_words, escape_words}
 use Rattle.lint_words.specs.WordsOf.{WordsView}
 use Rattle.lint.specs.declared.looks.Look.{Look}
-use Rattle.lint.specs.declared.looks.Look.TheVariants.{Hidden, Escape, LineEnd}
+use Rattle.lint.specs.declared.looks.Look.TheVariants.{Hidden, Escape, EndsLine}
 use Rattle.lint.specs.Looks.{looks_of}
 use Rattle.page_ids.specs.Ids.{Id}
 use Rattle.lint.specs.Laws.{LintSpansLieIn}
@@ -291,12 +293,20 @@ module _ (stand : SpansStand) where
           on None lies = tt
           on (Some s) lies = if_lies text (is_byte 0x27 (slice_get text s.begin)) (Some s) None lies tt
 
-    line_end_lies : (frame : Option ℕ) (k : ℕ) → Lies text (line_end_at (table_at text (marks text) frame) k)
-    line_end_lies frame k =
-        let t = table_at text (marks text) frame in on (body_char t k) (body_char_lies t (items_lie frame) k) where
-          on : (o : Option Span) → Lies text o → Lies text (option_and_then (feed_span text) o)
-          on None lies = tt
-          on (Some s) lies = if_lies text (is_one s && is_byte 0x0A (slice_get text s.begin)) (Some s) None lies tt
+    kept_lies : (keep : Span → Option Span) → ((s : Span) → IsWithin text s → Lies text (keep s)) → (o : Option Span) → Lies text o → Lies text (option_and_then keep o)
+    kept_lies keep keeps None lies = tt
+    kept_lies keep keeps (Some s) lies = keeps s lies
+
+    ended_lies : (end : LineEnd) (s : Span) → IsWithin text s → Lies text (ended_span end text s)
+    ended_lies Feed s lies = lies
+    ended_lies Return s lies = if_lies text (is_byte 0x0D (slice_get text (s.begin - 1))) (Some s) None lies tt
+
+    line_end_lies : (frame : Option ℕ) (end : LineEnd) (k : ℕ) → Lies text (line_end_at (table_at text (marks text) frame) end k)
+    line_end_lies frame end k =
+        let t = table_at text (marks text) frame in
+        kept_lies (ended_span end text) (ended_lies end) (option_and_then (feed_span text) (body_char t k))
+        (kept_lies (feed_span text) (λ s lies. if_lies text (is_one s && is_byte 0x0A (slice_get text s.begin)) (Some s) None lies tt) (body_char t k)
+        (body_char_lies t (items_lie frame) k))
 
     one_lie : (f : FindingView) → IsWithin text f.span → AllLie (f ∷ [])
     one_lie f lies = each (λ (u : Unit {0}). f) (λ u. lies) (tt ∷ [])
@@ -315,7 +325,8 @@ module _ (stand : SpansStand) where
     look_lies : (frame : Option ℕ) (id : Id) (look : Look) → AllLie (look_in (table_at text (marks text) frame) id look)
     look_lies frame id (Hidden row) = one_or_none (has_rows (table_at text (marks text) frame)) _ (row_span_lies frame row)
     look_lies frame id (Escape row) = if_span_lies (single_at (table_at text (marks text) frame) row) (escape_words id row) (single_lies frame row)
-    look_lies frame id (LineEnd k) = if_span_lies (line_end_at (table_at text (marks text) frame) k) (line_end_words id) (line_end_lies frame k)
+    look_lies frame id (EndsLine end k) =
+        if_span_lies (line_end_at (table_at text (marks text) frame) end k) (line_end_words id end) (line_end_lies frame end k)
 
     looks_lie : (looks : List (Id × Look)) → AllLie (look_findings text (marks text) (text_tables text) looks)
     looks_lie [] = none_lie

@@ -22,7 +22,7 @@ use Rattle.lint.specs.Findings.{FindingView, error_at, warning_at, AreInOrder}
 use Rattle.lint.specs.Lookups.{value_of, Knows}
 use Rattle.lint.specs.Tables.{TableView, KnowsTables, empty_at, frame_whole, table_at, id_place}
 use Rattle.lint.specs.declared.looks.Look.{Look}
-use Rattle.lint.specs.declared.looks.Look.TheVariants.{Hidden, Escape, LineEnd}
+use Rattle.lint.specs.declared.looks.Look.TheVariants.{Hidden, Escape, EndsLine}
 use Rattle.lint.specs.Looks.{looks_of}
 use Rattle.lint.specs.Outside.{page_at, element_of}
 use Rattle.lint.specs.Spots.{has_rows, row_span, entry_span, line_end_at, single_at, detail_span, whole_table, whole_span, kind_table, audit_span}
@@ -121,7 +121,7 @@ warning_if (Some span) words = warning_at span words ∷ []
 abbrev pub look_in : TableView → Id → Look → List FindingView
 look_in table id (Hidden row) = if has_rows table then warning_at (row_span table row) (hidden_words id row) ∷ [] else []
 look_in table id (Escape row) = warning_if (single_at table row) (escape_words id row)
-look_in table id (LineEnd index) = warning_if (line_end_at table index) (line_end_words id)
+look_in table id (EndsLine end index) = warning_if (line_end_at table end index) (line_end_words id end)
 
 abbrev pub look_finding : List ℕ → List Mark → List (Id × ℕ) → Id × Look → List FindingView
 look_finding text ms tables p = look_in (table_at text ms (Some (table_of tables p.0))) p.0 p.1

@@ -6,8 +6,10 @@ use Rattle.frame_records.specs.declared.frame.Frame.{Frame}
 use Rattle.terminal_codes.specs.Screen.{Screen, CaretView, run}
 use Rattle.terminal_codes.specs.Writes.{caret_step}
 use Rattle.cell_looks.specs.Looks.{row_of, hides_text}
+use Rattle.lint_words.specs.declared.warning_words.LineEnd.{LineEnd}
+use Rattle.lint_words.specs.declared.warning_words.LineEnd.TheVariants.{Feed, Return}
 use Rattle.lint.specs.declared.looks.Look.{Look}
-use Rattle.lint.specs.declared.looks.Look.TheVariants.{Hidden, Escape, LineEnd}
+use Rattle.lint.specs.declared.looks.Look.TheVariants.{Hidden, Escape, EndsLine}
 
 abbrev pub blank : Screen
 blank = record { cells = replicate 960 0x20; at = 0; pending = false; visible = true }
@@ -53,27 +55,36 @@ rows_if f = if needs_rows f.body then rows_of f else []
 
 -- The line feeds of a body.
 
--- the index of a byte that is a line feed in another column than the first
-abbrev pub feed_at : CaretView → ℕ → ℕ → Option ℕ
-feed_at c b n = if (b == 0x0A) && not (c.at % 40 == 0) then Some n else None
+-- the byte leaves another column than the first by this code
+abbrev pub leaves_by : ℕ → CaretView → ℕ → Bool
+leaves_by code c b = (b == code) && not (c.at % 40 == 0)
+
+-- the byte is a line feed, in another column than the first or after a return from one
+abbrev pub ends_line : LineEnd → CaretView → Bool → ℕ → Bool
+ends_line Feed c returned b = leaves_by 0x0A c b
+ends_line Return c returned b = (b == 0x0A) && returned
+
+abbrev pub feed_at : LineEnd → CaretView → Bool → ℕ → ℕ → Option ℕ
+feed_at end c returned b n = if ends_line end c returned b then Some n else None
 
 -- the index of the first such line feed that a code of 20 or more follows: that of the byte before, if it is one, or a later one
-abbrev pub feed_from : CaretView → Option ℕ → ℕ → List ℕ → Option ℕ
-feed_from c feed n [] = None
-feed_from c feed n (b ∷ bs) =
-    if nat_le 0x20 b && is_some feed then feed else feed_from (caret_step c b) (feed_at c b n) (n + 1) bs
+abbrev pub feed_from : LineEnd → CaretView → Bool → Option ℕ → ℕ → List ℕ → Option ℕ
+feed_from end c returned feed n [] = None
+feed_from end c returned feed n (b ∷ bs) =
+    if nat_le 0x20 b && is_some feed then feed
+    else feed_from end (caret_step c b) (leaves_by 0x0D c b) (feed_at end c returned b n) (n + 1) bs
 
 -- that of a body that is sent after a cleared screen
-abbrev pub line_end_of : List ℕ → Option ℕ
-line_end_of body = feed_from (record { at = 40; pending = false }) None 0 body
+abbrev pub line_end_of : LineEnd → List ℕ → Option ℕ
+line_end_of end body = feed_from end (record { at = 40; pending = false }) false None 0 body
 
-abbrev pub line_end_if : Id → Option ℕ → List (Id × Look)
-line_end_if id None = []
-line_end_if id (Some n) = (id, LineEnd n) ∷ []
+abbrev pub line_end_if : Id → LineEnd → Option ℕ → List (Id × Look)
+line_end_if id end None = []
+line_end_if id end (Some n) = (id, EndsLine end n) ∷ []
 
 -- all of it
 abbrev pub frame_looks : Frame → List (Id × Look)
-frame_looks f = rows_if f ++ line_end_if f.id (line_end_of f.body)
+frame_looks f = rows_if f ++ (line_end_if f.id Feed (line_end_of Feed f.body) ++ line_end_if f.id Return (line_end_of Return f.body))
 
 -- of all frames, in their order
 abbrev pub looks_of : List Frame → List (Id × Look)

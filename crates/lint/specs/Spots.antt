@@ -18,6 +18,8 @@ use Rattle.base_text.specs.declared.whole_fault.WholeFault.TheVariants.{TooManyF
 use Rattle.fault_scripts.specs.declared.fault.Fault.{Fault}
 use Rattle.fault_scripts.specs.declared.fault.FaultKind.{FaultKind}
 use Rattle.fault_scripts.specs.declared.fault.FaultKind.TheVariants as fault_kind
+use Rattle.lint_words.specs.declared.warning_words.LineEnd.{LineEnd}
+use Rattle.lint_words.specs.declared.warning_words.LineEnd.TheVariants.{Feed, Return}
 use Rattle.toml_places.specs.declared.spans.Span.{Span}
 use Rattle.toml_places.specs.declared.spans.Spot.{Spot}
 use Rattle.toml_places.specs.Spans.{key_span, pair_span, char_span}
@@ -200,9 +202,18 @@ is_one s = nat_lt s.begin s.end && (s.end - s.begin == 1)
 abbrev pub feed_span : List ℕ → Span → Option Span
 feed_span text s = if is_one s && is_byte 0x0A (slice_get text s.begin) then Some s else None
 
--- the code of the body at an index, if the text writes it as a line feed
-abbrev pub line_end_at : TableView → ℕ → Option Span
-line_end_at t k = body_char t k >>= feed_span t.text
+-- a span of the text that has a carriage return before it
+abbrev pub returned_span : List ℕ → Span → Option Span
+returned_span text s = if is_byte 0x0D (slice_get text (s.begin - 1)) then Some s else None
+
+-- a line's end in this way
+abbrev pub ended_span : LineEnd → List ℕ → Span → Option Span
+ended_span Feed text s = Some s
+ended_span Return text s = returned_span text s
+
+-- the code of the body at an index, if the text writes a line's end there in this way
+abbrev pub line_end_at : TableView → LineEnd → ℕ → Option Span
+line_end_at t end k = (body_char t k >>= feed_span t.text) >>= ended_span end t.text
 
 -- a span of the text that begins with a single quotation mark
 abbrev pub single_span : List ℕ → Span → Option Span

@@ -3,7 +3,7 @@ ghost use Rattle.page_ids.specs.Ids.{Id};
 ghost use Rattle.toml_places.specs.Places.{Mark};
 ghost use Rattle.lint.specs.Tables.{KnowsTables, IsTable, seen};
 ghost use Rattle.lint.specs.Lookups.{Knows};
-ghost use Rattle.lint.specs.declared.looks.Look.TheVariants.{Hidden, Escape, LineEnd};
+ghost use Rattle.lint.specs.declared.looks.Look.TheVariants.{Hidden, Escape, EndsLine};
 ghost use Rattle.lint.specs.Lint as spec;
 
 use crate::finding::Finding;
@@ -18,8 +18,8 @@ use fault_scripts::{Fault, FaultList, Judgement, judge_base};
 use finder::Discovered;
 use frame_records::{Base, Frame, GroupNo, Groups};
 use lint_words::{
-    Judged, audit_fault_words, escape_words, hidden_words, line_end_words, none_reached_words,
-    unreached_words,
+    Judged, LineEnd, audit_fault_words, escape_words, hidden_words, line_end_words,
+    none_reached_words, unreached_words,
 };
 use page_ids::FrameId;
 use std::alloc::{AllocError, Global};
@@ -165,14 +165,15 @@ fn add_line_end(
     alloc: Global,
     table: &TableSpots<'_>,
     id: FrameId,
+    end: LineEnd,
     index: usize,
     findings: &mut Vec<Finding>,
 ) -> Result<(), AllocError>
     ensures { OnOk result (findings.new.items
-        ≡ findings.old.items ++ spec.look_in (seen table.now) id (LineEnd index)) }
+        ≡ findings.old.items ++ spec.look_in (seen table.now) id (EndsLine end index)) }
 {
-    if let Some(span) = line_end_at(table, index) {
-        findings.push(Finding::warning(span, line_end_words(alloc, id)?))?;
+    if let Some(span) = line_end_at(table, end, index) {
+        findings.push(Finding::warning(span, line_end_words(alloc, id, end)?))?;
     }
     Ok(())
 }
@@ -190,7 +191,7 @@ fn add_look(
     match look {
         Look::Hidden(row) => add_hidden(alloc, table, id, *row, findings),
         Look::Escape(row) => add_escape(alloc, table, id, *row, findings),
-        Look::LineEnd(index) => add_line_end(alloc, table, id, *index, findings),
+        Look::EndsLine(end, index) => add_line_end(alloc, table, id, *end, *index, findings),
     }
 }
 

@@ -6,6 +6,7 @@ ghost use Rattle.lint.specs.Looks as spec;
 
 use cell_looks::hides_text;
 use frame_records::Frame;
+use lint_words::LineEnd;
 use page_ids::FrameId;
 use std::alloc::{AllocError, Global};
 use terminal_codes::{Caret, Terminal};
@@ -20,8 +21,8 @@ pub enum Look {
     Hidden(usize),
     // A row, by its number, has an escape, which is none in single quotation marks.
     Escape(usize),
-    // The code of the body at this index is a line feed, after which text goes on in another column than the first.
-    LineEnd(usize),
+    // A line of the body ends so: the code at this index is the line feed, and text goes on after it.
+    EndsLine(LineEnd, usize),
 }
 
 // Whether codes begin with \u00.
@@ -133,43 +134,55 @@ fn add_rows_if(frame: &Frame, looks: &mut Vec<(FrameId, Look)>) -> Result<(), Al
     }
 }
 
-// The index of a byte that is a line feed in another column than the first.
-fn feed_at(caret: Caret, byte: u8, index: usize) -> Option<usize>
-    ensures { result ≡ spec.feed_at caret byte index }
+// Whether a byte leaves another column than the first by this code.
+fn leaves_by(code: u8, caret: Caret, byte: u8) -> bool
+    ensures { result ≡ spec.leaves_by code caret byte }
 {
-    if byte == b'\n' && caret.at % 40 != 0 {
-        Some(index)
-    } else {
-        None
-    }
+    byte == code && caret.at % 40 != 0
 }
 
-// The index of the first line feed of a body, as it is sent after a cleared screen, after which text goes on in the same
-// column, if that isn't the first.
-fn line_end_of(body: &[u8]) -> Option<usize>
-    ensures { result ≡ spec.line_end_of body.now }
+// The index of a byte that is a line feed, either in another column than the first or after a return from one.
+fn feed_at(end: LineEnd, caret: Caret, returned: bool, byte: u8, index: usize) -> Option<usize>
+    ensures { result ≡ spec.feed_at end caret returned byte index }
+{
+    let ends = match end {
+        LineEnd::Feed => leaves_by(b'\n', caret, byte),
+        LineEnd::Return => byte == b'\n' && returned,
+    };
+    if ends { Some(index) } else { None }
+}
+
+// The index of the first such line feed of a body, as it is sent after a cleared screen, that text follows.
+fn line_end_of(end: LineEnd, body: &[u8]) -> Option<usize>
+    ensures { result ≡ spec.line_end_of end body.now }
 {
     let mut caret = Caret {
         at: 40,
         pending: false,
     };
+    let mut returned = false;
     let mut feed = None;
     for (index, byte) in body.iter().enumerate() {
         if *byte >= 0x20 && feed.is_some() {
             return feed;
         }
-        feed = feed_at(caret, *byte, index);
+        feed = feed_at(end, caret, returned, *byte, index);
+        returned = leaves_by(b'\r', caret, *byte);
         caret = caret.step(*byte);
     }
     None
 }
 
-fn add_line_end(frame: &Frame, looks: &mut Vec<(FrameId, Look)>) -> Result<(), AllocError>
+fn add_line_end(
+    frame: &Frame,
+    end: LineEnd,
+    looks: &mut Vec<(FrameId, Look)>,
+) -> Result<(), AllocError>
     ensures { OnOk result (looks.new.items
-        ≡ looks.old.items ++ spec.line_end_if frame.now.id (spec.line_end_of frame.now.body)) }
+        ≡ looks.old.items ++ spec.line_end_if frame.now.id end (spec.line_end_of end frame.now.body)) }
 {
-    if let Some(index) = line_end_of(frame.body.as_slice()) {
-        looks.push((frame.id, Look::LineEnd(index)))?;
+    if let Some(index) = line_end_of(end, frame.body.as_slice()) {
+        looks.push((frame.id, Look::EndsLine(end, index)))?;
     }
     Ok(())
 }
@@ -178,7 +191,8 @@ fn add_looks(frame: &Frame, looks: &mut Vec<(FrameId, Look)>) -> Result<(), Allo
     ensures { OnOk result (looks.new.items ≡ looks.old.items ++ spec.frame_looks frame.now) }
 {
     add_rows_if(frame, looks)?;
-    add_line_end(frame, looks)
+    add_line_end(frame, LineEnd::Feed, looks)?;
+    add_line_end(frame, LineEnd::Return, looks)
 }
 
 // What may be wrong with what frames show, each after the frame.

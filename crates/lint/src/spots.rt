@@ -10,6 +10,7 @@ use abstract_paint::Start;
 use base_text::{Detail, Field, TableKind, WholeFault, digit_key};
 use fault_scripts::{Fault, FaultKind};
 use frame_records::MOST_LISTED;
+use lint_words::LineEnd;
 use page_ids::Key;
 use toml_places::{Span, char_span, key_span, pair_span, value_span};
 
@@ -359,11 +360,26 @@ fn feed_span(text: &str, span: Span) -> Option<Span>
     }
 }
 
-// The code of the body at an index, if the text writes it as a line feed.
-pub fn line_end_at(table: &TableSpots<'_>, index: usize) -> Option<Span>
-    ensures { result ≡ spec.line_end_at (seen table.now) index }
+// The span, if the text has a carriage return before it.
+fn returned_span(text: &str, span: Span) -> Option<Span>
+    ensures { result ≡ spec.returned_span text.now span }
 {
-    feed_span(table.text(), body_char(table, index)?)
+    if has_byte(text, span.begin.saturating_sub(1), b'\r') {
+        Some(span)
+    } else {
+        None
+    }
+}
+
+// The code of the body at an index, if the text writes a line's end there in this way.
+pub fn line_end_at(table: &TableSpots<'_>, end: LineEnd, index: usize) -> Option<Span>
+    ensures { result ≡ spec.line_end_at (seen table.now) end index }
+{
+    let feed = feed_span(table.text(), body_char(table, index)?)?;
+    match end {
+        LineEnd::Feed => Some(feed),
+        LineEnd::Return => returned_span(table.text(), feed),
+    }
 }
 
 // The span, if it begins with a single quotation mark.

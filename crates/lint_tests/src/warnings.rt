@@ -45,8 +45,8 @@ fn without_an_entry_frame_the_frames_are_counted(rt: HostRuntime) -> Result<(), 
     all_print(rt.alloc(), &rows)
 }
 
-// A line feed of the file that keeps the column. None is warned of if it is an escape, if the file has CR LF, if nothing follows
-// in its column, or if that is the first.
+// A line feed of the file that keeps the column. None is warned of if it is an escape, if nothing follows in its column, or if that
+// is the first.
 #[test]
 fn a_line_end_in_a_body_keeps_the_column(rt: HostRuntime) -> Result<(), Fail> {
     let alone =
@@ -71,11 +71,6 @@ fn a_line_end_in_a_body_keeps_the_column(rt: HostRuntime) -> Result<(), Fail> {
             (0, 1),
         ),
         (
-            "[[frame]]\nid = '1a'\nbody = \"\"\"\r\nHELLO\r\nWORLD\"\"\"\n",
-            "",
-            (0, 0),
-        ),
-        (
             "[[frame]]\nid = '1a'\nbody = \"\"\"\nHELLO\\u000D\nWORLD\n\"\"\"\n",
             "",
             (0, 0),
@@ -87,6 +82,36 @@ fn a_line_end_in_a_body_keeps_the_column(rt: HostRuntime) -> Result<(), Fail> {
         ),
         (
             "[[frame]]\nid = '1a'\nbody = \"\"\"\nHELLO\\\nWORLD\n\"\"\"\n",
+            "",
+            (0, 0),
+        ),
+    ];
+    all_print(rt.alloc(), &rows)
+}
+
+// CR LF of the file after text. None is warned of if one of the two is an escape, or if the return is in the first column.
+#[test]
+fn a_line_end_in_a_body_depends_on_the_file(rt: HostRuntime) -> Result<(), Fail> {
+    let saved =
+        "@5:7: warning: LINEEND: a line of the body of frame 1a ends with CR LF as the file does: saved with LF, the text goes on in the same column; write \\u000D\\u000A at the end of each line\n";
+    let rows = [
+        (
+            "[[frame]]\nid = '1a'\nbody = \"\"\"\r\n\\tTEXT\r\nWORLD\r\nAGAIN\"\"\"\n",
+            saved,
+            (0, 1),
+        ),
+        (
+            "[[frame]]\nid = '1a'\nbody = '''\r\n\r\n\r\nHELLO\r\n\r\n'''\n",
+            "",
+            (0, 0),
+        ),
+        (
+            "[[frame]]\nid = '1a'\nbody = \"\"\"\nHELLO\\r\nWORLD\"\"\"\n",
+            "",
+            (0, 0),
+        ),
+        (
+            "[[frame]]\nid = '1a'\nbody = \"HELLO\\r\\nWORLD\"\n",
             "",
             (0, 0),
         ),

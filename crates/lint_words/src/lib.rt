@@ -66,6 +66,6 @@ pub use fault_words::{Judged, audit_fault_words, none_reached_words, unreached_w
 pub use line::Line;
 pub use text_hints::Written;
 pub use text_words::{not_toml_words, text_fault_words, too_long_words};
-pub use warning_words::{escape_words, hidden_words, line_end_words};
+pub use warning_words::{LineEnd, escape_words, hidden_words, line_end_words};
 pub use whole_words::whole_fault_words;
 pub use words::Words;

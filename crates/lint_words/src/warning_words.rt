@@ -1,7 +1,7 @@
 //! The words of warnings about what a frame shows.
 
 ghost use Rattle.std.specs.Prelude.{◌≡◌, ◌++◌, IfOk, OnOk};
-ghost use Rattle.lint_words.specs.WarningWords.{hidden_message, line_end_message, escape_message, hidden_words, line_end_words, escape_words};
+ghost use Rattle.lint_words.specs.WarningWords.{hidden_message, line_end_text, line_end_message, escape_message, hidden_words, line_end_words, escape_words};
 
 use crate::about::About;
 use crate::code::Code;
@@ -27,15 +27,35 @@ fn push_hidden(out: &mut Vec<u8>, id: FrameId, row: usize) -> Result<(), AllocEr
     )
 }
 
-fn push_line_end(out: &mut Vec<u8>, id: FrameId) -> Result<(), AllocError>
-    ensures { OnOk result (out.new.items ≡ out.old.items ++ line_end_message id) }
+/// How a line of a body ends in the file.
+#[derive(Debug, Clone, Copy, PartialEq, Eq)]
+pub enum LineEnd {
+    /// With a line feed alone, after which the text goes on in the same column.
+    Feed,
+    /// With a carriage return and a line feed, if the file is saved so.
+    Return,
+}
+
+fn line_end_text(end: LineEnd) -> &'static str
+    ensures { result.now ≡ line_end_text end }
+{
+    match end {
+        LineEnd::Feed => { " ends with a line feed alone, so the text goes on in the same column" }
+        LineEnd::Return => {
+            " ends with CR LF as the file does: saved with LF, the text goes on in the same column"
+        }
+    }
+}
+
+fn push_line_end(out: &mut Vec<u8>, id: FrameId, end: LineEnd) -> Result<(), AllocError>
+    ensures { OnOk result (out.new.items ≡ out.old.items ++ line_end_message id end) }
 {
     push_pieces(
         out,
         &[
             Text("a line of the body of frame "),
             Id(id),
-            Text(" ends with a line feed alone, so the text goes on in the same column"),
+            Text(line_end_text(end)),
         ],
     )
 }
@@ -63,12 +83,12 @@ pub fn hidden_words(alloc: Global, id: FrameId, row: usize) -> Result<Words, All
     Ok(Words::new(Code::Hidden, about, Line::of(alloc, &message)?, hint))
 }
 
-/// The words of a body over several lines of the file, of which one ends with a line feed alone.
-pub fn line_end_words(alloc: Global, id: FrameId) -> Result<Words, AllocError>
-    ensures { IfOk result (λ words. words ≡ line_end_words id) }
+/// The words of a body over several lines of the file, of which one ends so.
+pub fn line_end_words(alloc: Global, id: FrameId, end: LineEnd) -> Result<Words, AllocError>
+    ensures { IfOk result (λ words. words ≡ line_end_words id end) }
 {
     let mut message = Vec::new(alloc);
-    push_line_end(&mut message, id)?;
+    push_line_end(&mut message, id, end)?;
     let hint = hint_of(
         alloc,
         &[Text("write \\u000D\\u000A at the end of each line")],
