@@ -1,5 +1,5 @@
 -- The pages of `outside`, one element at a time.
-use Rattle.std.proofs.Common.{◌≡◌, ◌∙◌, ◌<◌, ◌≤◌, ℕ, zero, suc, ◌+◌, ◌-◌, ap, cond, Bool, true, false, Option, None, Some, refl, subst, sym, arith}
+use Rattle.std.proofs.Common.{◌≡◌, ◌∙◌, ◌≤◌, ℕ, suc, ◌+◌, ◌-◌, ap, cond, Bool, true, false, Option, None, Some, refl, arith}
 use Rattle.std.specs.Option.{option_or}
 use Rattle.lint.specs.Tables.{TableView}
 use Rattle.lint.specs.Outside.{element_if, page_from}
@@ -13,13 +13,12 @@ unfolding page_from
 one_more t page n k = refl
 
 -- the element of an index comes before those after it
-pub one_before : (t : TableView) (page most k : ℕ) → 0 < k → k ≤ most
-    → page_from t page (most - (k - 1)) (k - 1) ≡ option_or (element_if t page (k - 1)) (page_from t page (most - k) k)
-one_before t page most (suc k) above below =
-    let left : most - k ≡ suc (most - suc k) = omega (arith, below) in
-    let next : k + 1 ≡ suc k = omega arith in
-    ap (λ n. page_from t page n k) left ∙ one_more t page (most - suc k) k
-    ∙ ap (λ j. option_or (element_if t page k) (page_from t page (most - suc k) j)) next
+pub one_before : (t : TableView) (page most j k : ℕ) → j + 1 ≡ k → k ≤ most
+    → page_from t page (most - j) j ≡ option_or (element_if t page j) (page_from t page (most - k) k)
+one_before t page most j k next below =
+    let left : most - j ≡ suc (most - k) = omega (arith, next, below) in
+    ap (λ n. page_from t page n j) left ∙ one_more t page (most - k) j
+    ∙ ap (λ i. option_or (element_if t page j) (page_from t page (most - k) i)) next
 
 pub noted : {X : Type 0} (b : Bool) (x : X) (old new : Option X) → new ≡ cond b (Some x) old → new ≡ option_or (cond b (Some x) None) old
 noted true x old new is = is

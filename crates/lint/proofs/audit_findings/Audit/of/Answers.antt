@@ -1,6 +1,6 @@
-use Rattle.std.proofs.Common.{◌≡◌, ◌∙◌, ap, rules}
+use Rattle.std.proofs.Common.{◌∙◌, ap, rules}
 use Rattle.lint.specs.Lookups.{Knows}
-use Rattle.lint.specs.Lint.{ranks_of, finds_none, unreached, ids_of}
+use Rattle.lint.specs.Lint.{ranks_of, unreached, ids_of}
 use Rattle.lint.proofs.audit_findings.Audit.of.Goals as goal
 
 pub returns : goal.returns
