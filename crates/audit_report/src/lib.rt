@@ -6,7 +6,7 @@
 //! ```
 //!
 //! - [`report`], [`verdict_text`], [`change_text`], [`walk_text`], [`entry_text`], [`fault_text`]: each printed text, byte for byte as it is
-//!   defined.
+//!   defined. [`push_fault`]: the line of one fault.
 //! - [`Status`]: whether what was judged is clear. [`RunFault`]: why a run ends without its work done.
 //!
 //! - [`list`], [`Listing`]: the text of `list`, a line for each frame: the frames that a caller can reach, in the order of their
@@ -35,7 +35,7 @@ pub use devices::{
 pub use fault_line::fault_text;
 pub use laws::lists_every_frame;
 pub use listing::{Listing, list};
-pub use report_lines::report;
+pub use report_lines::{push_fault, report};
 pub use run_fault::RunFault;
 pub use status::Status;
 pub use verdict_line::{change_text, verdict_text};

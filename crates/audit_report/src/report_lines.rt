@@ -91,8 +91,8 @@ fn push_no_return(out: &mut Vec<u8>, fault: &Fault) -> Result<(), AllocError>
     push_script(out, fault.script.as_slice())
 }
 
-// A fault by its kind.
-fn push_words(out: &mut Vec<u8>, fault: &Fault) -> Result<(), AllocError>
+/// Writes the line of a fault, without its newline.
+pub fn push_fault(out: &mut Vec<u8>, fault: &Fault) -> Result<(), AllocError>
     ensures { OnOk result (out.new.items ≡ out.old.items ++ words_as fault.now.kind fault.now) }
 {
     match fault.kind {
@@ -109,7 +109,7 @@ fn push_words(out: &mut Vec<u8>, fault: &Fault) -> Result<(), AllocError>
 fn push_line(out: &mut Vec<u8>, fault: &Fault) -> Result<(), AllocError>
     ensures { OnOk result (out.new.items ≡ out.old.items ++ line (words_as fault.now.kind fault.now)) }
 {
-    push_words(out, fault)?;
+    push_fault(out, fault)?;
     out.push(b'\n')?;
     Ok(())
 }

@@ -9,7 +9,7 @@
 //!
 //! - [`map_text`]: the text.
 //! - [`Part`]: the frames that it shows. [`from_page`], [`to_page`]: those near a page.
-//! - [`map_view`], [`View`]: the map of a part that is named by a page and a number of keys.
+//! - [`map_view`], [`View`]: the map of a part that is named by a page and a number of keys. [`part_of`]: that part.
 //! - [`edges_are_ways`]: what its edges are.
 //! - Definitions: the text (`Map`, `Nodes`, `Edges`), the frames near a page (`Windows`).
 #![tactic(auto)]
@@ -32,5 +32,5 @@ mod window;
 pub use laws::edges_are_ways;
 pub use map::map_text;
 pub use part::Part;
-pub use view::{View, map_view};
+pub use view::{View, map_view, part_of};
 pub use window::{from_page, to_page};

@@ -19,7 +19,8 @@ pub enum View {
     To(PageNo, Option<u16>),
 }
 
-fn part_of(
+/// The part of a view; `None` if the base lacks the frame `a` of its page.
+pub fn part_of(
     alloc: Global,
     base: &Base,
     groups: &Groups,

@@ -1,4 +1,4 @@
-//! Tests of `near_words`, `cell_looks`, `screen_texts` and `frame_screens`.
+//! Tests of `near_words`, `cell_looks`, `screen_texts`, `frame_screens` and `base_pages`.
 #![tactic(auto)]
 
 #[cfg(test)]
@@ -9,6 +9,8 @@ mod looks;
 mod names;
 #[cfg(test)]
 mod notation;
+#[cfg(test)]
+mod pages;
 #[cfg(test)]
 mod parts;
 #[cfg(test)]

@@ -51,9 +51,14 @@ pub group_end_bytes : markup group_end ≡ codes "</g>\n"
 unfolding group_end
 group_end_bytes = line_bytes (codes "/g")
 
-pub blocks_begin_bytes : codes "<g shape-rendering=\"crispEdges\">\n" ≡ markup blocks_begin
+pub blocks_begin_bytes : codes "<g shape-rendering=\"crispEdges\">\n<rect width=\"480\" height=\"480\" fill=\"#000\"/>\n" ≡ markup blocks_begin
 unfolding blocks_begin
-blocks_begin_bytes = sym (line_bytes (codes "g shape-rendering=\"crispEdges\""))
+blocks_begin_bytes =
+    let group = codes "g shape-rendering=\"crispEdges\"" in
+    let rect = codes "rect width=\"480\" height=\"480\" fill=\"#000\"/" in
+    sym (markup_append (piece group newline ∷ []) (piece rect newline ∷ [])
+    ∙ ap (λ (bs : List ℕ). bs ++ markup (piece rect newline ∷ [])) (line_bytes group)
+    ∙ ap (λ (bs : List ℕ). (codes "<" ++ group ++ codes ">\n") ++ bs) (line_bytes rect))
 
 pub texts_begin_bytes : codes "<g font-family=\"DejaVu Sans Mono, Liberation Mono, Consolas, Menlo, monospace\" font-size=\"20\">\n" ≡ markup texts_begin
 unfolding texts_begin

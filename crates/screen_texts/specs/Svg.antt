@@ -72,7 +72,9 @@ fill k = codes " fill=\"" ++ rgb k ++ codes "\""
 abbrev pub ink : Colour → Bool → Bool → Ink
 ink k flash tall = record { colour = k; flash = flash; tall = tall }
 
+-- a black background is that of the whole picture
 abbrev pub ground_ink : Colour → Option Ink
+ground_ink Black = None
 ground_ink k = Some (ink k false false)
 
 abbrev pub mosaic_ink : Look → Glyph → Option Ink
@@ -195,9 +197,12 @@ svg_begin = piece (codes "svg xmlns=\"http://www.w3.org/2000/svg\" viewBox=\"0 0
 unfoldable pub title : Id → List Piece
 title id = piece (codes "title") (frame_text id) ∷ piece (codes "/title") newline ∷ []
 
--- backgrounds, and mosaics over them, without soft edges between them
+-- a black picture, backgrounds over it, and mosaics over them, without soft edges between them
 unfoldable pub blocks_begin : List Piece
-blocks_begin = piece (codes "g shape-rendering=\"crispEdges\"") newline ∷ []
+blocks_begin =
+    piece (codes "g shape-rendering=\"crispEdges\"") newline
+    ∷ piece (codes "rect width=\"480\" height=\"480\" fill=\"#000\"/") newline
+    ∷ []
 
 abbrev pub blocks : List (List Look) → List Piece
 blocks rows = blocks_begin ++ layer_pieces Grounds 0 rows ++ layer_pieces Mosaics 0 rows ++ group_end

@@ -51,11 +51,14 @@ fn mosaic_ink(look: &Look) -> Option<Ink>
 fn ground_ink(colour: Colour) -> Option<Ink>
     ensures { result ≡ spec.ground_ink colour }
 {
-    Some(Ink {
-        colour,
-        flash: false,
-        tall: false,
-    })
+    match colour {
+        Colour::Black => None,
+        _ => Some(Ink {
+            colour,
+            flash: false,
+            tall: false,
+        }),
+    }
 }
 
 impl Layer {

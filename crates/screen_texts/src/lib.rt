@@ -9,7 +9,8 @@
 //!
 //! Each appends to a text, and fails only if memory is refused; what it wrote until then stays.
 //!
-//! - [`push_text`], [`push_ansi`], [`push_svg`]: the forms. [`Writing`]: characters, or references for markup.
+//! - [`push_text`], [`push_ansi`], [`push_svg`]: the forms. [`Writing`]: characters, or references for markup; [`push_char`]: one
+//!   of them.
 //! - [`lines_show`], [`text_is_its_lines`], [`characters_are_safe`], [`svg_reads_back`]: laws.
 //! - Definitions: characters (`Writing`), the text (`Text`), the colours of a terminal (`Ansi`), the picture (`Svg`, `Mosaics`),
 //!   the laws (`Laws`).
@@ -28,4 +29,4 @@ pub use ansi::push_ansi;
 pub use laws::{characters_are_safe, lines_show, svg_reads_back, text_is_its_lines};
 pub use svg::push_svg;
 pub use text::push_text;
-pub use writing::Writing;
+pub use writing::{Writing, push_char};

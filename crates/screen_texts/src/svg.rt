@@ -24,12 +24,12 @@ fn svg_begin() -> &'static [u8]
     b"<svg xmlns=\"http://www.w3.org/2000/svg\" viewBox=\"0 0 480 480\" width=\"600\" height=\"480\" preserveAspectRatio=\"none\">"
 }
 
-// The group of backgrounds and mosaics, without soft edges between them.
+// The group of backgrounds and mosaics, without soft edges between them, on black.
 #[tactic(auto, using(crate::proofs::Markups::blocks_begin_bytes))]
 fn blocks_begin() -> &'static [u8]
     ensures { result.now ≡ markup spec.blocks_begin }
 {
-    b"<g shape-rendering=\"crispEdges\">\n"
+    b"<g shape-rendering=\"crispEdges\">\n<rect width=\"480\" height=\"480\" fill=\"#000\"/>\n"
 }
 
 // The group of letters.

@@ -35,7 +35,7 @@ fn push_markup(out: &mut Vec<u8>, c: char) -> Result<(), AllocError>
     }
 }
 
-// Writes a character.
+/// Writes a character.
 pub fn push_char(out: &mut Vec<u8>, writing: Writing, c: char) -> Result<(), AllocError>
     ensures { OnOk result (out.new.items ≡ out.old.items ++ spec.char_bytes writing c) }
 {

@@ -1,0 +1,100 @@
+-- The numbers of a frame's faults, and the faults that they pick.
+use Rattle.std.proofs.Common.{◌≡◌, ◌∙◌, ◌<◌, ◌+◌, ℕ, zero, suc, sym, ap, cond, Bool, true, false, List, [], ◌∷◌, ◌++◌, Option, Some, None, append-nil, append_assoc, refl, drop, length, get_or, arith}
+use Rattle.std.specs.Prelude.{slice_get}
+use Rattle.std.specs.Option.{option_map_or}
+use Rattle.std.proofs.lemmas.Grind.{flat_map-append}
+use Rattle.std.proofs.lemmas.List.{drop_more}
+use Rattle.std.proofs.lemmas.Option.{slice_get_within, slice_get_read, get_or_from_slice_get}
+use Rattle.page_ids.specs.Ids.{Id, id_eq}
+use Rattle.page_ids.specs.IdLaws.{id_eq_same}
+use Rattle.fault_scripts.specs.declared.fault.Fault.{Fault}
+use Rattle.base_pages.specs.Faults.{is_entry_kind, faults_about, item, items, entry_faults, start_or, first_start}
+use Rattle.base_pages.specs.declared.index.Numbered.{Numbered}
+use Rattle.base_pages.specs.Loops.{number_by, numbers_of, numbered_one, numbered, option_list, picked, numbered_items, item_of, entry_items, first_numbered_start, start_of}
+
+pub chosen : {A : Type 0} (f : A → List ℕ) (b : Bool) (v : A) (o : Option A) → option_map_or f (cond b (Some v) o) [] ≡ cond b (f v) (option_map_or f o [])
+chosen f true v o = refl
+chosen f false v o = refl
+
+-- one number more: the numbers of its frame have one more, and those of the others stay
+pub one_more : (from id : Id) (n : ℕ) (b : Bool) → id_eq from id ≡ b → (old_from old_id mid more new : List ℕ) → new ≡ cond b more mid
+    → (id_eq from id ≡ false → mid ≡ old_id) → (from ≡ id → old_from ≡ old_id) → more ≡ old_from ++ n ∷ [] → new ≡ old_id ++ cond b (n ∷ []) []
+one_more from id n true e old_from old_id mid more new is other same last =
+    is ∙ (last ∙ ap (λ xs. xs ++ n ∷ []) (same (id_eq_same from id e)))
+one_more from id n false e old_from old_id mid more new is other same last = is ∙ (other e ∙ sym (append-nil old_id))
+
+cons_head : {A : Type 0} {x y : A} {xs ys : List A} → x ∷ xs ≡ y ∷ ys → x ≡ y
+cons_head e = cc
+
+cons_tail : {A : Type 0} {x y : A} {xs ys : List A} → x ∷ xs ≡ y ∷ ys → xs ≡ ys
+cons_tail e = cc
+
+-- the first of what is left of a list, and the rest
+split : {A : Type 0} (all : List A) (n : ℕ) (f : A) (fs : List A) → drop n all ≡ f ∷ fs → (slice_get all n ≡ Some f) × (drop (n + 1) all ≡ fs)
+split [] zero f fs e = absurd cc
+split [] (suc n) f fs e = absurd cc
+split (x ∷ xs) zero f fs e = (ap Some (cons_head e), cons_tail e)
+split (x ∷ xs) (suc n) f fs e =
+    let rest = split xs n f fs e in
+    let at : n < length xs = slice_get_within xs n f rest.0 in
+    let next : suc n + 1 ≡ suc (n + 1) = omega arith in
+    (slice_get_read (x ∷ xs) (length (x ∷ xs)) (suc n) f refl (omega (arith, at)) (sym (get_or_from_slice_get xs n f f rest.0)), ap (λ (k : ℕ). drop k (x ∷ xs)) next ∙ rest.1)
+
+module _ (all : List Fault) (id : Id) where
+  one : (n : ℕ) (f : Fault) (fs : List Fault) (entry here : Bool) → is_entry_kind f.kind ≡ entry → id_eq f.frame id ≡ here → slice_get all n ≡ Some f
+      → picked all (numbers_of (numbered_one n f) id) ++ faults_about fs id ≡ faults_about (f ∷ fs) id
+  one n f fs true here e h at = rw e refl
+  one n f fs false true e h at = rw (e, h, at) refl
+  one n f fs false false e h at = rw (e, h) refl
+
+  -- the numbers of a frame pick the faults about it
+  pub picks : (n : ℕ) (fs : List Fault) → drop n all ≡ fs → picked all (numbers_of (numbered n fs) id) ≡ faults_about fs id
+  picks n [] e = refl
+  picks n (f ∷ fs) e =
+      let first = numbered_one n f in
+      let later = numbered (n + 1) fs in
+      let parts = split all n f fs e in
+      ap (picked all) (flat_map-append (λ x. number_by x id) first later)
+      ∙ flat_map-append (λ k. option_list (slice_get all k)) (numbers_of first id) (numbers_of later id)
+      ∙ ap (λ xs. picked all (numbers_of first id) ++ xs) (picks (n + 1) fs parts.1)
+      ∙ one n f fs (is_entry_kind f.kind) (id_eq f.frame id) refl refl parts.0
+
+pub picks_all : (all : List Fault) (id : Id) → picked all (numbers_of (numbered 0 all) id) ≡ faults_about all id
+picks_all all id = picks all id 0 all refl
+
+-- The lines of picked faults, and the first start that they name.
+
+one_item : (o : Option Fault) → item_of o ≡ items (option_list o)
+one_item None = refl
+one_item (Some fault) = sym (append-nil (item fault))
+
+pub items_picked : (all : List Fault) (ns : List ℕ) → numbered_items all ns ≡ items (picked all ns)
+items_picked all [] = refl
+items_picked all (n ∷ ns) =
+    ap (λ xs. xs ++ numbered_items all ns) (one_item (slice_get all n))
+    ∙ ap (λ xs. items (option_list (slice_get all n)) ++ xs) (items_picked all ns)
+    ∙ sym (flat_map-append item (option_list (slice_get all n)) (picked all ns))
+
+pub entry_items_are : (fs : List Fault) → entry_items fs ≡ items (entry_faults fs)
+entry_items_are [] = refl
+entry_items_are (f ∷ fs) = by (is_entry_kind f.kind) (entry_items_are fs) where
+  by : (b : Bool) → entry_items fs ≡ items (entry_faults fs) → cond b (item f) [] ++ entry_items fs ≡ items (cond b (f ∷ entry_faults fs) (entry_faults fs))
+  by true later = ap (λ xs. item f ++ xs) later
+  by false later = later
+
+pub start_picked : (all : List Fault) (ns : List ℕ) → first_numbered_start all ns ≡ first_start (picked all ns)
+start_picked all [] = refl
+start_picked all (n ∷ ns) = by (slice_get all n) (start_picked all ns) where
+  by : (o : Option Fault) → first_numbered_start all ns ≡ first_start (picked all ns) → start_or (start_of o) (first_numbered_start all ns) ≡ first_start (option_list o ++ picked all ns)
+  by None later = later
+  by (Some f) later = ap (start_or f.start) later
+
+-- one more fault is numbered
+pub number_more : (all : List Fault) (n : ℕ) (f : Fault) (list now : List Numbered) → f ≡ get_or all n f → n < length all
+    → now ≡ list ++ numbered_one n f → list ++ numbered n (drop n all) ≡ numbered 0 all → now ++ numbered (n + 1) (drop (n + 1) all) ≡ numbered 0 all
+number_more all n f list now is lt added held =
+    let rest = drop (n + 1) all in
+    let more : drop n all ≡ f ∷ rest = drop_more all n f lt ∙ ap (λ x. x ∷ rest) (sym is) in
+    ap (λ xs. xs ++ numbered (n + 1) rest) added
+    ∙ append_assoc list (numbered_one n f) (numbered (n + 1) rest)
+    ∙ ap (λ xs. list ++ numbered n xs) (sym more) ∙ held

@@ -1,0 +1,120 @@
+-- Facts that hold between the turns of loops, and of what is prepared. No promise rests on them.
+use Rattle.std.specs.Prelude.{◌≡◌, ◌+◌, ℕ, List, [], ◌∷◌, ◌++◌, Option, Some, None, if◌then◌else◌, slice_get, nat_lt}
+use Rattle.std.specs.Option.{option_map_or}
+use Rattle.std.specs.List.{flat_map}
+use Rattle.indexmap.specs.IndexMap.{get}
+use Rattle.page_ids.specs.Ids.{Id, id_eq}
+use Rattle.frame_records.specs.Bases.{BaseView}
+use Rattle.finder.specs.Finds.{IsFinding}
+use Rattle.frame_screens.specs.Frames.{place_of}
+use Rattle.checker.specs.declared.policy.Policy.{Policy}
+use Rattle.fault_scripts.specs.declared.fault.Fault.{Fault}
+use Rattle.fault_scripts.specs.Outcomes.{IsOutcome}
+use Rattle.abstract_paint.specs.declared.start.Start.{Start}
+use Rattle.base_pages.specs.declared.index.FaultIndex.{FaultIndex}
+use Rattle.base_pages.specs.declared.index.Numbered.{Numbered}
+use Rattle.base_pages.specs.declared.places.Places.{Places}
+use Rattle.base_pages.specs.declared.book.Book.{Book}
+use Rattle.base_pages.specs.declared.pages.Prepared.{Prepared}
+use Rattle.base_pages.specs.declared.pages.Cover.{Cover}
+use Rattle.base_pages.specs.Faults.{is_entry_kind, item, start_or}
+use Rattle.base_pages.specs.Head.{faults_in}
+use Rattle.base_pages.specs.Sections.{BookView}
+use Rattle.base_pages.specs.Pages.{page}
+
+-- The numbers of faults, by frames.
+
+-- the number, if it is of a fault of the frame
+abbrev pub number_by : Numbered → Id → List ℕ
+number_by n id = if id_eq n.frame id then n.number ∷ [] else []
+
+-- the numbers of a frame's faults
+abbrev pub numbers_of : List Numbered → Id → List ℕ
+numbers_of ns id = flat_map (λ n. number_by n id) ns
+
+-- the numbers that are kept of a frame
+abbrev pub kept_of : FaultIndex → Id → List ℕ
+kept_of index id = option_map_or (λ numbers. numbers.items) (get id_eq index.map id) []
+
+-- a fault and its number, if it is a frame's own
+abbrev pub numbered_one : ℕ → Fault → List Numbered
+numbered_one n fault = if is_entry_kind fault.kind then [] else record { frame = fault.frame; number = n } ∷ []
+
+-- those of faults, numbered from one on
+abbrev pub numbered : ℕ → List Fault → List Numbered
+numbered n [] = []
+numbered n (fault ∷ faults) = numbered_one n fault ++ numbered (n + 1) faults
+
+-- the faults of numbers
+abbrev pub option_list : {A : Type 0} → Option A → List A
+option_list None = []
+option_list (Some x) = x ∷ []
+
+abbrev pub picked : List Fault → List ℕ → List Fault
+picked faults numbers = flat_map (λ n. option_list (slice_get faults n)) numbers
+
+-- their lines
+abbrev pub item_of : Option Fault → List ℕ
+item_of None = []
+item_of (Some fault) = item fault
+
+abbrev pub numbered_item : List Fault → ℕ → List ℕ
+numbered_item faults n = item_of (slice_get faults n)
+
+abbrev pub numbered_items : List Fault → List ℕ → List ℕ
+numbered_items faults numbers = flat_map (numbered_item faults) numbers
+
+abbrev pub entry_item : Fault → List ℕ
+entry_item fault = if is_entry_kind fault.kind then item fault else []
+
+abbrev pub entry_items : List Fault → List ℕ
+entry_items faults = flat_map entry_item faults
+
+-- and the first start that they name
+abbrev pub start_of : Option Fault → Option Start
+start_of None = None
+start_of (Some fault) = fault.start
+
+abbrev pub numbered_start : List Fault → ℕ → Option Start
+numbered_start faults n = start_of (slice_get faults n)
+
+abbrev pub first_numbered_start : List Fault → List ℕ → Option Start
+first_numbered_start faults [] = None
+first_numbered_start faults (n ∷ ns) = start_or (numbered_start faults n) (first_numbered_start faults ns)
+
+-- The places of frames.
+
+-- the place that is held of a frame
+abbrev pub place_held : Places → Id → Option ℕ
+place_held places id = get id_eq places.map id
+
+-- the place, if it is before another one
+abbrev pub if_before : ℕ → Option ℕ → Option ℕ
+if_before done None = None
+if_before done (Some place) = if nat_lt place done then Some place else None
+
+-- What is prepared for the sections.
+
+-- what contracts see of a book
+abbrev pub book_view : Book → BookView
+book_view b = record { base = b.base.now; caller = b.groups.now; found = b.painter.now.found; faults = b.faults.now; part = b.part.now }
+
+pub record IsReady (b : Book) : Type 0 where
+  pub of_base : b.painter.now.base ≡ b.base.now
+  pub of_groups : b.painter.now.groups ≡ b.groups.now
+  pub places : (id : Id) → place_held b.places.now id ≡ place_of b.painter.now.found id
+  pub index : (id : Id) → kept_of b.index.now id ≡ numbers_of (numbered 0 b.faults.now) id
+
+-- What is prepared for a file.
+
+pub record IsPrepared (base : BaseView) (policy : Policy) (p : Prepared) : Type 0 where
+  pub of_base : p.painter.base ≡ base
+  pub of_groups : p.painter.groups ≡ policy.groups
+  pub finding : IsFinding policy.groups base p.painter.found
+  pub audited : IsOutcome base policy p.outcome
+  pub places : (id : Id) → place_held p.places id ≡ place_of p.painter.found id
+  pub index : (id : Id) → kept_of p.index id ≡ numbers_of (numbered 0 (faults_in p.outcome)) id
+
+-- the file of a book and its cover
+abbrev pub page_of : Cover → Book → List ℕ
+page_of cover b = page cover.name.now cover.policy.now cover.outcome.now (book_view b)

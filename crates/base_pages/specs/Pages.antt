@@ -1,0 +1,76 @@
+-- The file of a base, and what was written of it.
+use Rattle.std.specs.Prelude.{◌≡◌, ℕ, List, [], ◌++◌, ◌⊎◌, Option, Some, None, Result, Ok, Err}
+use Rattle.page_ids.specs.Ids.{Id}
+use Rattle.frame_records.specs.Bases.{BaseView}
+use Rattle.finder.specs.declared.found.Discovered.{Discovered}
+use Rattle.finder.specs.Finds.{IsFinding}
+use Rattle.checker.specs.declared.policy.Policy.{Policy}
+use Rattle.fault_scripts.specs.declared.outcome.Outcome.{Outcome}
+use Rattle.fault_scripts.specs.Outcomes.{IsOutcome}
+use Rattle.devices.specs.Devices.{Seen, TookAll, WrotePart, WroteWhole}
+use Rattle.base_map.specs.declared.view.View.{View}
+use Rattle.base_map.specs.Windows.{IsViewPart}
+use Rattle.base_pages.specs.declared.pages.PagesStatus.{PagesStatus}
+use Rattle.base_pages.specs.declared.pages.PagesStatus.TheVariants.{Written, NoPage}
+use Rattle.base_pages.specs.declared.fault.PagesFault.{PagesFault}
+use Rattle.base_pages.specs.declared.fault.PagesFault.TheVariants.{Write, Memory}
+use Rattle.base_pages.specs.Sections.{BookView, sections}
+use Rattle.base_pages.specs.Head.{header, faults_in}
+use Rattle.base_pages.specs.Shell.{head, middle, foot}
+
+-- the fixed head with the style, the header, and the fixed views and keypad
+abbrev pub front : List ℕ → BaseView → Policy → Outcome → List ℕ
+front name base policy outcome = head ++ header name base policy outcome ++ middle
+
+-- the sections come after it, and then the fixed foot with the script
+abbrev pub page : List ℕ → Policy → Outcome → BookView → List ℕ
+page name policy outcome b = front name b.base policy outcome ++ sections b b.base.frames ++ foot
+
+-- what the sections of a base are written of
+abbrev pub book : BaseView → Policy → Option (List Id) → List Discovered → Outcome → BookView
+book base policy part found outcome =
+    record { base = base; caller = policy.groups; found = found; faults = faults_in outcome; part = part }
+
+-- the file of the part of a base, for the policy's caller, by the frames that this caller reaches and the outcome of the audit
+pub record IsPage (name : List ℕ) (base : BaseView) (policy : Policy) (part : Option (List Id)) (text : List ℕ) : Type 0 where
+  pub found : List Discovered
+  pub finding : IsFinding policy.groups base found
+  pub outcome : Outcome
+  pub audited : IsOutcome base policy outcome
+  pub is : text ≡ page name policy outcome (book base policy part found outcome)
+
+-- a sink took the front of a text, wasn't flushed and has not failed
+pub record StoppedWithin (old new : Seen) (text : List ℕ) : Type 0 where
+  pub front : List ℕ
+  pub rest : List ℕ
+  pub is : text ≡ front ++ rest
+  pub took : TookAll old new front
+
+-- why a text isn't written whole
+abbrev pub IsStopped : Seen → Seen → List ℕ → PagesFault → Type 0
+IsStopped old new text (Write wrote) = WrotePart old new text wrote
+IsStopped old new text Memory = StoppedWithin old new text
+
+-- A run that writes the file.
+
+-- memory was refused before the first byte was written, or after a front of the file; or the sink failed
+abbrev pub IsPagesFault : Seen → Seen → (List ℕ → Type 0) → PagesFault → Type 0
+IsPagesFault old new Is (Write wrote) = (text : List ℕ) × Is text × WrotePart old new text wrote
+IsPagesFault old new Is Memory = TookAll old new [] ⊎ ((text : List ℕ) × Is text × StoppedWithin old new text)
+
+-- the file of a part was written
+abbrev pub IsPartWritten : Seen → Seen → List ℕ → BaseView → Policy → Option (List Id) → Result PagesStatus PagesFault → Type 0
+IsPartWritten old new name base policy part (Ok Written) = (text : List ℕ) × IsPage name base policy part text × WroteWhole old new text
+IsPartWritten old new name base policy part (Ok NoPage) = ⊥
+IsPartWritten old new name base policy part (Err fault) = IsPagesFault old new (IsPage name base policy part) fault
+
+pub record IsViewWritten (old new : Seen) (name : List ℕ) (base : BaseView) (policy : Policy) (view : View) (result : Result PagesStatus PagesFault) : Type 0 where
+  pub part : Option (List Id)
+  pub is : IsViewPart policy.groups base view (Some part)
+  pub written : IsPartWritten old new name base policy part result
+
+-- that of a view's part, if there is one
+abbrev pub IsPagesRun : Seen → Seen → List ℕ → BaseView → Policy → View → Result PagesStatus PagesFault → Type 0
+IsPagesRun old new name base policy view (Ok NoPage) = IsViewPart policy.groups base view None × TookAll old new []
+IsPagesRun old new name base policy view (Err Memory) = TookAll old new [] ⊎ IsViewWritten old new name base policy view (Err Memory)
+IsPagesRun old new name base policy view result = IsViewWritten old new name base policy view result

@@ -1,0 +1,29 @@
+//! A whole base in one HTML file, to walk through in any browser, without a network.
+//!
+//! ```
+//! write_pages(alloc, &base, &policy, &View::Whole, "town.toml", &mut sink)? // Written; the sink took the file, and was flushed
+//! ```
+//!
+//! The file is a fixed head with a policy that forbids all loading, and the style; a header with a name, the verdict of the audit
+//! and the policy; the fixed views and keypad; a section for each frame in the order of ids, with its picture, its text, its
+//! price, its ways and its faults; and the fixed script. `page/` has the fixed parts, of which `tests/base-page` makes `shell.rt`.
+//! What a base contains gets into the file as ids, numbers and characters for markup alone.
+//!
+//! - [`write_pages`], [`PagesStatus`], [`PagesFault`]: the file of a view of a base.
+//! - Definitions: the file (`Pages`), its header (`Head`), a section (`Sections`) with its ways (`Ways`), faults (`Faults`) and
+//!   screen (`Screens`), the fixed parts (`Shell`).
+#![tactic(auto)]
+
+mod book;
+mod fault;
+mod faults;
+mod header;
+mod index;
+mod pages;
+mod places;
+mod sending;
+mod shell;
+mod ways;
+
+pub use fault::PagesFault;
+pub use pages::{PagesStatus, write_pages};
