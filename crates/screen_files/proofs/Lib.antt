@@ -1,0 +1,4 @@
+pub mod Trims
+pub mod Parts
+pub mod Lines
+pub mod Shown
