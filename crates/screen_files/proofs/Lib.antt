@@ -2,3 +2,4 @@ pub mod Trims
 pub mod Parts
 pub mod Lines
 pub mod Shown
+pub mod Saved

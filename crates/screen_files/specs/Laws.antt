@@ -1,12 +1,12 @@
 -- What a frame that is made of a screen shows.
-use Rattle.std.specs.Prelude.{◌≡◌, ℕ, List, drop, length, take}
+use Rattle.std.specs.Prelude.{◌≡◌, ◌<◌, ℕ, List, Some, drop, length, take}
 use Rattle.std.specs.List.{All}
 use Rattle.frame_records.specs.declared.frame.Lead.TheVariants.{Clear}
 use Rattle.terminal_codes.specs.Screen.{Screen, run}
 use Rattle.terminal_codes.specs.Writes.{IsCode}
 use Rattle.terminal_codes.specs.Bodies.{lead_codes}
 use Rattle.base_text.specs.Rows.{body_of_rows}
-use Rattle.screen_files.specs.Codes.{between_blank}
+use Rattle.screen_files.specs.Codes.{between_blank, saved_codes, sent_codes}
 use Rattle.screen_files.specs.Rows.{rows_of}
 
 -- 960 codes that cells can hold
@@ -22,3 +22,8 @@ rows_alone screen = between_blank (take 880 (drop 40 screen))
 abbrev pub FramesShowScreens : Type 0
 FramesShowScreens = (t : Screen) (screen : List ℕ) → IsSavedScreen screen
     → (run (run t (lead_codes Clear)) (body_of_rows (rows_of screen))).cells ≡ rows_alone screen
+
+-- what a file of bytes gives is such a screen
+pub record FilesAreScreens : Type 0 where
+  pub saved : (bytes screen : List ℕ) → All (λ b. b < 256) bytes → saved_codes bytes ≡ Some screen → IsSavedScreen screen
+  pub sent : (bytes screen : List ℕ) → sent_codes bytes ≡ Some screen → IsSavedScreen screen

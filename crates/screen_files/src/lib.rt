@@ -9,7 +9,7 @@
 //! - [`saved_codes`], [`sent_codes`]: the 960 codes of a file, by its size, and of the bytes that a centre sent.
 //! - [`screen_head`], [`Head`]: the id and the price that row 0 shows. [`name_id`]: the id in the name of a file.
 //! - [`ScreenFrame`], [`push_frame`], [`push_entry`]: the text of a base, frame by frame.
-//! - [`frames_show_screens`]: a law.
+//! - [`frames_show_screens`], [`files_are_screens`]: laws.
 #![tactic(auto)]
 
 mod codes;
@@ -23,5 +23,5 @@ mod texts;
 pub use codes::{saved_codes, sent_codes};
 pub use frame::ScreenFrame;
 pub use head::{Head, name_id, screen_head};
-pub use laws::frames_show_screens;
+pub use laws::{files_are_screens, frames_show_screens};
 pub use texts::{push_entry, push_frame};
