@@ -1,6 +1,8 @@
-//! Tests of `near_words`, `cell_looks`, `screen_texts` and `frame_screens`.
+//! Tests of `near_words`, `cell_looks`, `screen_texts`, `screen_files` and `frame_screens`.
 #![tactic(auto)]
 
+#[cfg(test)]
+mod files;
 #[cfg(test)]
 mod frames;
 #[cfg(test)]
