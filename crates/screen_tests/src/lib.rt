@@ -1,6 +1,8 @@
-//! Tests of `near_words`, `cell_looks`, `screen_texts`, `frame_screens` and `base_pages`.
+//! Tests of `near_words`, `cell_looks`, `screen_texts`, `screen_files`, `frame_screens` and `base_pages`.
 #![tactic(auto)]
 
+#[cfg(test)]
+mod files;
 #[cfg(test)]
 mod frames;
 #[cfg(test)]

@@ -1,0 +1,5 @@
+pub mod Trims
+pub mod Parts
+pub mod Lines
+pub mod Shown
+pub mod Saved

@@ -1,0 +1,11 @@
+use Rattle.std.proofs.Common.{◌≡◌, arith, get_or}
+use Rattle.std.proofs.lemmas.List.{get_or_default}
+use Rattle.std.proofs.lemmas.List.Edits.{map_over_more}
+use Rattle.screen_files.specs.Heads.{spaced}
+use Rattle.screen_files.proofs.head.space.Goals as goal
+
+pub loop-at-preserved : goal.loop-at-preserved
+loop-at-preserved c =
+    let old = get_or c.loop-at.codes c.loop-at.at 0 in
+    let new : c.spaced.result ≡ spaced old = c.spaced.ensures in
+    rw new (map_over_more spaced c.args.codes.now c.loop-at.codes c.loop-at.at old c.loop-at-test.true c.loop-at.invariant (get_or_default c.loop-at.codes c.loop-at.at 0 old (omega arith)))

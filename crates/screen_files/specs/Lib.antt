@@ -1,0 +1,6 @@
+pub mod Codes
+pub mod Heads
+pub mod Keys
+pub mod Rows
+pub mod Texts
+pub mod Laws

@@ -1,0 +1,234 @@
+//! The text of a base.
+
+ghost use Rattle.std.specs.Prelude.{◌≡◌, ◌++◌, ◌∷◌, [], ◌<◌, ◌/◌, ◌%◌, ◌*◌, OnOk, codes, drop, map, take};
+ghost use Rattle.std.specs.List.{flat_map};
+ghost use Rattle.screen_files.specs.Rows.{rows_of};
+ghost use Rattle.screen_files.specs.Texts as spec;
+
+use crate::frame::ScreenFrame;
+use crate::keys::shows_key;
+use crate::rows::{last_row, row_codes, row_of, trimmed};
+use arrayvec::ArrayVec;
+use cell_looks::{Looks, screen_looks};
+use frame_records::Pence;
+use page_ids::{FrameId, PageNo, push_id, push_number, push_page};
+use std::alloc::AllocError;
+
+fn hex(digit: u8) -> u8
+    requires { digit < 16 }
+    ensures { result ≡ spec.hex digit }
+{
+    if digit < 10 {
+        b'0' + digit
+    } else {
+        b'A' - 10 + digit
+    }
+}
+
+#[tactic(auto, using(std::proofs::Common::append_assoc))]
+fn push_escape(out: &mut Vec<u8>, code: u8) -> Result<(), AllocError>
+    ensures { OnOk result (out.new.items ≡ out.old.items ++ (codes "\\u00" ++ spec.hex (code / 16) ∷ spec.hex (code % 16) ∷ [])) }
+{
+    out.extend_from_slice(b"\\u00")?;
+    out.extend_from_slice(&[hex(code / 16), hex(code % 16)])
+}
+
+fn push_code(out: &mut Vec<u8>, code: u8) -> Result<(), AllocError>
+    ensures { OnOk result (out.new.items ≡ out.old.items ++ spec.code_text code) }
+{
+    match code {
+        b'"' => out.extend_from_slice(b"\\\""),
+        b'\\' => out.extend_from_slice(b"\\\\"),
+        0x00..=0x7e => out.extend_from_slice(&[code]),
+        0x7f..=0xff => push_escape(out, code),
+    }
+}
+
+fn push_codes(out: &mut Vec<u8>, row: &[u8]) -> Result<(), AllocError>
+    ensures { OnOk result (out.new.items ≡ out.old.items ++ flat_map spec.code_text row.now) }
+{
+    for code in row {
+        push_code(out, *code)?;
+    }
+    Ok(())
+}
+
+#[tactic(auto, using(std::proofs::Common::append_assoc))]
+fn push_row(out: &mut Vec<u8>, row: &[u8]) -> Result<(), AllocError>
+    ensures { OnOk result (out.new.items ≡ out.old.items ++ spec.row_line row.now) }
+{
+    out.extend_from_slice(b"    \"")?;
+    push_codes(out, row)?;
+    out.extend_from_slice(b"\",\n")
+}
+
+fn push_row_lines(out: &mut Vec<u8>, codes: &[u8; 960]) -> Result<(), AllocError>
+    ensures { OnOk result (out.new.items ≡ out.old.items ++ flat_map spec.row_line (rows_of codes.now)) }
+{
+    for above in 0..last_row(codes) {
+        push_row(out, row_of(codes, above + 1))?;
+    }
+    Ok(())
+}
+
+#[tactic(auto, using(std::proofs::Common::append_assoc))]
+fn push_rows(out: &mut Vec<u8>, codes: &[u8; 960]) -> Result<(), AllocError>
+    ensures { OnOk result (out.new.items ≡ out.old.items ++ spec.rows_text codes.now) }
+{
+    out.extend_from_slice(b"rows = [\n")?;
+    push_row_lines(out, codes)?;
+    out.extend_from_slice(b"]\n")
+}
+
+// The code of a comment: attributes and 7F are spaces.
+fn comment_code(code: u8) -> u8
+    ensures { result ≡ spec.comment_code code }
+{
+    if code < 0x7f { code } else { b' ' }
+}
+
+// A comment of a text, if it isn't empty.
+#[tactic(auto, using(std::proofs::Common::append_assoc))]
+fn push_comment(out: &mut Vec<u8>, text: &[u8]) -> Result<(), AllocError>
+    ensures { OnOk result (out.new.items ≡ out.old.items ++ spec.comment_by text.now) }
+{
+    if text.is_empty() {
+        return Ok(());
+    }
+    out.extend_from_slice(b"# ")?;
+    out.extend_from_slice(text)?;
+    out.extend_from_slice(b"\n")
+}
+
+fn make_comment(codes: &mut [u8])
+    ensures { codes.new ≡ map spec.comment_code codes.old }
+{
+    for at in 0..codes.len() {
+        codes[at] = comment_code(codes[at]);
+    }
+}
+
+// The text of a comment of a row.
+fn comment_text(codes: &[u8; 960], row: usize) -> [u8; 40]
+    requires { row < 24 }
+    ensures { result ≡ map spec.comment_code (take 40 (drop (40 * row) codes.now)) }
+{
+    let mut text = row_codes(codes, row);
+    make_comment(&mut text);
+    text
+}
+
+// A comment of what a row shows.
+fn push_row_comment(out: &mut Vec<u8>, codes: &[u8; 960], row: usize) -> Result<(), AllocError>
+    requires { row < 24 }
+    ensures { OnOk result (out.new.items ≡ out.old.items ++ spec.row_comment codes.now row) }
+{
+    let text = comment_text(codes, row);
+    push_comment(out, trimmed(&text))
+}
+
+// The digits that a screen shows as keys, ascending, each after a space.
+fn keys_text(looks: &Looks) -> ArrayVec<u8, 20>
+    ensures { result.items ≡ spec.keys_text looks.now }
+{
+    let mut text = ArrayVec::new();
+    for digit in 0..10 {
+        if shows_key(looks, digit) {
+            text.push(b' ');
+            text.push(b'0' + digit);
+        }
+    }
+    text
+}
+
+#[tactic(auto, unfolding(crate::specs::Texts::keys_label))]
+fn push_label(out: &mut Vec<u8>) -> Result<(), AllocError>
+    ensures { OnOk result (out.new.items ≡ out.old.items ++ spec.keys_label) }
+{
+    out.extend_from_slice(b" # keys shown:")
+}
+
+// A comment of the keys that are shown, if there are any.
+#[tactic(auto, using(std::proofs::Common::append_assoc))]
+fn push_keys(out: &mut Vec<u8>, keys: &[u8]) -> Result<(), AllocError>
+    ensures { OnOk result (out.new.items ≡ out.old.items ++ spec.keys_comment keys.now) }
+{
+    if keys.is_empty() {
+        return Ok(());
+    }
+    push_label(out)?;
+    out.extend_from_slice(keys)
+}
+
+#[tactic(auto, using(std::proofs::Common::append_assoc))]
+fn push_routes(out: &mut Vec<u8>, codes: &[u8; 960]) -> Result<(), AllocError>
+    ensures { OnOk result (out.new.items ≡ out.old.items ++ spec.routes_line codes.now) }
+{
+    out.extend_from_slice(b"routes = { }")?;
+    push_keys(out, keys_text(&screen_looks(codes)).as_slice())?;
+    out.extend_from_slice(b"\n")
+}
+
+#[tactic(auto, using(std::proofs::Common::append_assoc))]
+fn push_id_line(out: &mut Vec<u8>, id: FrameId) -> Result<(), AllocError>
+    ensures { OnOk result (out.new.items ≡ out.old.items ++ spec.id_line id) }
+{
+    out.extend_from_slice(b"id = \"")?;
+    push_id(out, id)?;
+    out.extend_from_slice(b"\"\n")
+}
+
+#[tactic(auto, using(std::proofs::Common::append_assoc))]
+fn push_price(out: &mut Vec<u8>, price: Option<Pence>) -> Result<(), AllocError>
+    ensures { OnOk result (out.new.items ≡ out.old.items ++ spec.price_line price) }
+{
+    let Some(price) = price else {
+        return Ok(());
+    };
+    out.extend_from_slice(b"price = ")?;
+    push_number(out, price.get() as u64)?;
+    out.extend_from_slice(b"\n")
+}
+
+fn push_next(out: &mut Vec<u8>, next: bool) -> Result<(), AllocError>
+    ensures { OnOk result (out.new.items ≡ out.old.items ++ spec.next_line next) }
+{
+    if next {
+        out.extend_from_slice(b"next = true\n")?;
+    }
+    Ok(())
+}
+
+#[tactic(auto, using(std::proofs::Common::append_assoc))]
+fn push_head(out: &mut Vec<u8>, frame: &ScreenFrame, next: bool) -> Result<(), AllocError>
+    ensures { OnOk result (out.new.items ≡ out.old.items ++ spec.head_lines frame.now next) }
+{
+    out.extend_from_slice(b"\n[[frame]]\n")?;
+    push_row_comment(out, &frame.codes, 0)?;
+    push_id_line(out, frame.id)?;
+    push_price(out, frame.price)?;
+    push_next(out, next)
+}
+
+/// Writes a frame, from `[[frame]]` on, after an empty line. Its rows are rows 1 to 22 of the screen up to the last that isn't blank,
+/// without the spaces at their ends, one a line. Rows 0 and 23, if they aren't blank, and the digits that begin words are
+/// comments. `next` says whether the key `#` leads on.
+#[tactic(auto, using(std::proofs::Common::append_assoc))]
+pub fn push_frame(out: &mut Vec<u8>, frame: &ScreenFrame, next: bool) -> Result<(), AllocError>
+    ensures { OnOk result (out.new.items ≡ out.old.items ++ spec.frame_lines frame.now next) }
+{
+    push_head(out, frame, next)?;
+    push_routes(out, &frame.codes)?;
+    push_rows(out, &frame.codes)?;
+    push_row_comment(out, &frame.codes, 23)
+}
+
+/// Writes the line of the entry page, which comes before all frames.
+#[tactic(auto, using(std::proofs::Common::append_assoc))]
+pub fn push_entry(out: &mut Vec<u8>, page: PageNo) -> Result<(), AllocError>
+    ensures { OnOk result (out.new.items ≡ out.old.items ++ spec.entry_line page) }
+{
+    out.extend_from_slice(b"entry = ")?;
+    push_page(out, page)?;
+    out.extend_from_slice(b"\n")
+}
