@@ -1,7 +1,7 @@
 /* The proved check of viewdata page bases, for C99 and C++. Link with -lpageaudit.
 
    Call the functions at the end of this file: pageaudit_check_base, pageaudit_check_change, pageaudit_audit_base,
-   pageaudit_lint_base and pageaudit_describe. Each does what the program `pageaudit` does, of texts in memory, and
+   pageaudit_lint_base, pageaudit_lint_base_json and pageaudit_describe. Each does what the program `pageaudit` does, of texts in memory, and
    answers the program's exit status.
 
    - No call keeps anything, reads a file, or ends the program, and nothing has to be freed. Several threads may call at
@@ -66,6 +66,8 @@ uint32_t pageaudit_change(const void *old_base, size_t old_base_length, const vo
 uint32_t pageaudit_audit(const void *base, size_t base_length, uint32_t ceiling, uint32_t keyings, const void *groups,
     size_t groups_length, void *report, size_t room, size_t *length);
 uint32_t pageaudit_lint(const void *name, size_t name_length, const void *base, size_t base_length, uint32_t ceiling,
+    uint32_t keyings, const void *groups, size_t groups_length, void *lines, size_t room, size_t *length);
+uint32_t pageaudit_lint_json(const void *name, size_t name_length, const void *base, size_t base_length, uint32_t ceiling,
     uint32_t keyings, const void *groups, size_t groups_length, void *lines, size_t room, size_t *length);
 size_t pageaudit_status_text(uint32_t status, void *text, size_t room);
 
@@ -161,6 +163,20 @@ static inline enum pageaudit_status pageaudit_lint_base(struct pageaudit_text na
     name = pageaudit_text_of(name.bytes, name.length);
     base = pageaudit_text_of(base.bytes, base.length);
     return (enum pageaudit_status)pageaudit_lint(name.bytes, name.length, base.bytes, base.length, policy->ceiling,
+        policy->keyings, groups.bytes, groups.length, room == 0 ? &none : lines, room, length == NULL ? &whole : length);
+}
+
+/* Finds the same, for programs: each finding is an object of JSON on a line of its own, as `pageaudit lint --format json`
+   prints it. `name` is its "file". A later version may add keys to the object. */
+static inline enum pageaudit_status pageaudit_lint_base_json(struct pageaudit_text name, struct pageaudit_text base,
+    const struct pageaudit_policy *policy, char *lines, size_t room, size_t *length)
+{
+    struct pageaudit_text groups = pageaudit_groups_of(policy);
+    char none;
+    size_t whole;
+    name = pageaudit_text_of(name.bytes, name.length);
+    base = pageaudit_text_of(base.bytes, base.length);
+    return (enum pageaudit_status)pageaudit_lint_json(name.bytes, name.length, base.bytes, base.length, policy->ceiling,
         policy->keyings, groups.bytes, groups.length, room == 0 ? &none : lines, room, length == NULL ? &whole : length);
 }
 

@@ -65,6 +65,13 @@ uint32_t pageaudit_lint(const void *name, size_t name_length, const void *base, 
     return answer(ceiling, keyings, groups, groups_length, lines, room, length);
 }
 
+uint32_t pageaudit_lint_json(const void *name, size_t name_length, const void *base, size_t base_length, uint32_t ceiling,
+    uint32_t keyings, const void *groups, size_t groups_length, void *lines, size_t room, size_t *length)
+{
+    printf("json of ");
+    return pageaudit_lint(name, name_length, base, base_length, ceiling, keyings, groups, groups_length, lines, room, length);
+}
+
 size_t pageaudit_status_text(uint32_t status, void *text, size_t room)
 {
     printf("describe %lu", (unsigned long)status);
@@ -86,6 +93,7 @@ static void call_each(struct pageaudit_text one, struct pageaudit_text two, cons
     show_answer(pageaudit_check_change(one, two, two, one, policy, buffer, room, asked), shown, asked);
     show_answer(pageaudit_audit_base(one, policy, buffer, room, asked), shown, asked);
     show_answer(pageaudit_lint_base(two, one, policy, buffer, room, asked), shown, asked);
+    show_answer(pageaudit_lint_base_json(two, one, policy, buffer, room, asked), shown, asked);
     length = pageaudit_describe(2, buffer, room);
     show_answer(0, shown, &length);
 }

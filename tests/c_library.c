@@ -10,7 +10,7 @@
                                                         answers, and the words for each
    c_library time BASE CERT                             the least processor time of a check, in microseconds
 
-   NAME is check, change, audit or lint. Each text ends where a page ends that can't be written, and the page after it can't
+   NAME is check, change, audit, lint or json, which is lint's other form. Each text ends where a page ends that can't be written, and the page after it can't
    be touched; so does each buffer, whose own page can be written. */
 #define _DEFAULT_SOURCE
 #include <pageaudit.h>
@@ -92,8 +92,10 @@ static struct answer make(const struct call *call, char *buffer, size_t room)
         answer.status = pageaudit_check_change(t[0], t[1], t[2], t[3], &call->policy, buffer, room, &answer.length);
     else if (strcmp(call->name, "audit") == 0)
         answer.status = pageaudit_audit_base(t[0], &call->policy, buffer, room, &answer.length);
-    else
+    else if (strcmp(call->name, "lint") == 0)
         answer.status = pageaudit_lint_base(pageaudit_text_of("x.toml", 6), t[0], &call->policy, buffer, room, &answer.length);
+    else
+        answer.status = pageaudit_lint_base_json(pageaudit_text_of("x.toml", 6), t[0], &call->policy, buffer, room, &answer.length);
     return answer;
 }
 

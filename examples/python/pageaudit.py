@@ -21,10 +21,11 @@ loaded, the import fails with ImportError. Calls keep nothing, and several threa
 from __future__ import annotations
 
 import ctypes
+import json
 import operator
 import os
 from collections.abc import Mapping, Sequence
-from dataclasses import dataclass
+from dataclasses import dataclass, fields
 from typing import Any, SupportsIndex
 
 __version__ = "1.0.0"
@@ -86,13 +87,25 @@ class Audit:
 
 @dataclass(frozen=True)
 class Finding:
-    """Something that lint found, at a line and a column of the base's text, both from 1."""
+    """Something that lint found: what `pageaudit lint --format json` prints of it. Lines and columns count from 1."""
 
-    line: int
-    column: int
+    code: str
+    """As `X6` or `MISSING`; `pageaudit explain` explains it."""
     level: str
     """`error` or `warning`."""
-    words: str
+    file: str
+    line: int
+    column: int
+    end_line: int
+    end_column: int
+    """The first column after it."""
+    frame: str | None
+    key: str | None
+    """The name of the key in the text, or the key that is pressed."""
+    keys: str | None
+    """The keys that lead there from the entry page."""
+    message: str
+    hint: str | None
 
 
 def check(base: bytes, cert: bytes, policy: Policy) -> Verdict:
@@ -125,23 +138,24 @@ def audit(base: bytes, policy: Policy) -> Audit:
     return Audit(None, tuple(text.decode("ascii").splitlines()[1:]))
 
 
-def lint(base: bytes, policy: Policy) -> list[Finding]:
+def lint(base: bytes, policy: Policy, file: str = "") -> list[Finding]:
     """Every fault of the text of a base, or else of its audit, and the frames that no key reaches, in the order of their places.
 
-    Raises PolicyError or MemoryError. A text that is no base is an error among the findings, and no TextError.
+    `file` is that of each finding. Raises PolicyError or MemoryError. A text that is no base is an error among the findings, and
+    no TextError.
     """
-    _, text = _call("pageaudit_lint", {"name": b"", "base": base}, policy, 1 << 16)
-    return [_finding(line) for line in text.decode("utf-8").split("\n")[:-1]]
+    _, text = _call("pageaudit_lint_json", {"name": os.fsencode(file), "base": base}, policy, 1 << 16)
+    return [_finding(line) for line in text.split(b"\n")[:-1]]
 
 
 def _verdict(answer: int, text: bytes) -> Verdict:
     return Verdict(answer == _CLEAR, text.decode("ascii").rstrip("\n"))
 
 
-def _finding(text: str) -> Finding:
-    """A finding of a line under the empty name."""
-    _, line, column, level, words = text.split(":", 4)
-    return Finding(int(line), int(column), level[1:], words[1:])
+def _finding(line: bytes) -> Finding:
+    """A finding of an object of JSON, which may have more keys in later versions of the library."""
+    found = json.loads(line)
+    return Finding(**{field.name: found[field.name] for field in fields(Finding)})
 
 
 _FILE = "libpageaudit.so.1"

@@ -132,8 +132,13 @@ class Lint(unittest.TestCase):
         self.assertEqual(pageaudit.lint(DEMO, POLICY), [])
 
     def test_finds_a_fault_at_its_place(self):
-        found = pageaudit.lint(b"entry = 1\n\n[[frame]]\nid = \"1a\"\nlead = \"keep\"\n", POLICY)
-        self.assertEqual([(it.line, it.column, it.level, it.words.split(":")[0]) for it in found], [(3, 1, "error", "X4 Absent")])
+        found = pageaudit.lint(b"entry = 1\n\n[[frame]]\nid = \"1a\"\nlead = \"keep\"\n", POLICY, file="own.toml")
+        self.assertEqual([(it.file, it.line, it.column, it.level, it.code) for it in found], [("own.toml", 3, 1, "error", "X4")])
+
+    def test_a_finding_has_what_json_has(self):
+        (missing,) = pageaudit.lint(CLOSED, Policy(9_999, 65_535, [7]))
+        message = "key 9 of frame 1231a leads to page 555, which has no frame a (keys 19)"
+        self.assertEqual(missing, Finding("MISSING", "error", "", 14, 21, 14, 28, "1231a", "9", "19", message, None))
 
     def test_a_text_that_is_no_base_is_a_finding(self):
         self.assertEqual([type(it) for it in pageaudit.lint(b"\xff", POLICY)], [Finding])

@@ -7,7 +7,8 @@
 //! pageaudit_check(alloc, base, cert, 50, 3, b"7,9", &mut line, &mut length)
 //! ```
 //!
-//! - [`pageaudit_check`], [`pageaudit_change`], [`pageaudit_audit`], [`pageaudit_lint`]: what the program does, of texts in memory.
+//! - [`pageaudit_check`], [`pageaudit_change`], [`pageaudit_audit`], [`pageaudit_lint`], [`pageaudit_lint_json`]: what the program
+//!   does, of texts in memory.
 //! - [`pageaudit_status_text`]: the words for what they return.
 //! - [`Status`]: what they return, by its number.
 //!
@@ -26,6 +27,6 @@ mod status;
 pub use auditing::pageaudit_audit;
 pub use changing::pageaudit_change;
 pub use checking::pageaudit_check;
-pub use linting::pageaudit_lint;
+pub use linting::{pageaudit_lint, pageaudit_lint_json};
 pub use naming::pageaudit_status_text;
 pub use status::Status;
