@@ -3,12 +3,15 @@
 The answers of the small inputs are worked by hand from the rules; those of the large ones are the second reading's.
 """
 
+import subprocess
 import sys
 from dataclasses import dataclass
+from functools import cache
 from pathlib import Path
+from tempfile import TemporaryDirectory
 
 sys.path.insert(0, str(Path(__file__).resolve().parent))
-from program import TOP
+from program import PROGRAM, TOP
 from second_reading import audit, base, screens, session
 from second_reading.map import draw
 
@@ -244,6 +247,17 @@ UNKNOWN = 'base.toml:2:1: error: X3 UnknownKey: "name" is not a key of a base; d
 # The entry frame's codes, and the text of frame 1231b, which is painted over 1231a.
 CELLS = f"{'123a':>35}{'0p':>5}{'WELCOME':<920}"
 SHOWN = f"{'1231b':>35}{'0p':>5}\nPART TWO" + "\n" * 23
+
+
+@cache
+def page(*words):
+    """The example's HTML file, as the program writes it: tests/html-sections judges it."""
+    with TemporaryDirectory() as folder:
+        Path(folder, "base.toml").write_text(DEMO, "ascii")
+        words = [PROGRAM, "show", "base.toml", "--as", "html", "--ceiling", "50", "--keyings", "3", *words]
+        return subprocess.run(words, cwd=folder, capture_output=True, text=True, timeout=60, check=False).stdout
+
+
 # The words of each run between its name and its output, its words after the output, its status and its text.
 RUNS = [
     ("run_lint demo {}", "50 3 -", 0, ""),
@@ -275,6 +289,8 @@ RUNS = [
     ("run_show demo {} - cells", "-", 0, CELLS),
     ("run_show demo {} 1231b text", "-", 0, SHOWN),
     ("run_show demo {} :1# text", "-", 0, SHOWN),
+    ("run_pages demo {} -", "50 3 -", 0, page()),
+    ("run_pages demo {} 1231", "50 3 -", 0, page("--page", "1231")),
     ("run_list demo {}", "-", 0, LIST),
     ("run_list closed {}", "-", 0, CLOSED_LIST),
     ("run_list entry_closed {}", "-", 1, "ENTRYCLOSED 123a\n"),
@@ -298,6 +314,7 @@ def run_cases():
         yield Case(f"run_list demo 7/{kept} whole -", unread)
         yield Case(f"run_map demo 7/{kept} - whole -", unread)
         yield Case(f"run_show demo 7/{kept} - text whole -", unread)
+        yield Case(f"run_pages demo 7/{kept} - whole 50 3 -", unread)
         yield Case(f"run_change demo 7/{kept} cert 7 demo 7 cert 7 whole 50 3 -", unread)
         new = ran(3, fault="new base: read failed")
         yield Case(f"run_change demo 7 cert 7 demo 7/{kept} cert 7 whole 50 3 -", new)
@@ -306,6 +323,7 @@ def run_cases():
         words = f"run_change demo 7 cert 7 demo 7 cert 7/{kept} whole 50 3 -"
         yield Case(words, ran(3, fault="new certificate: read failed"))
     yield Case("run_map demo 7 5 unflushed -", ran(2))
+    yield Case("run_pages demo 7 5 unflushed 50 3 -", ran(2))
     yield Case("run_show demo 7 1231c cells unflushed -", ran(2))
     yield Case("run_show demo 7 :0 text unflushed -", ran(1))
     yield Case("run_show no_entry 7 - text unflushed -", ran(1))

@@ -1,3 +1,4 @@
 pub mod Numbering
 pub mod Placed
 pub mod OnTheWay
+pub mod Tags

@@ -5,4 +5,5 @@ pub mod Sections
 pub mod Head
 pub mod Pages
 pub mod Shell
+pub mod Laws
 pub mod Loops

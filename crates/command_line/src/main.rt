@@ -8,13 +8,14 @@
 mod lint_files;
 mod named_files;
 mod out_file;
+mod pages_file;
 mod show_screen;
 
 use audit_report::{FromRead, IntoWrite, RunFault, fault_text, write_whole};
 use checker::Policy;
 use clap::error::ErrorKind;
 use clap::{ArgMatches, Error};
-use command_words::{Request, Show, WordsFault, asked_for, groups_of, matches, words};
+use command_words::{Pages, Request, Show, WordsFault, asked_for, groups_of, matches, words};
 use explain::{explanation, nearest, overview};
 use frame_records::Groups;
 use lint_files::lint;
@@ -24,6 +25,7 @@ use pageaudit::{
     MapStatus, Status, View, run_audit, run_audit_into, run_change, run_check, run_list, run_map,
     run_walk, status_of, status_of_map,
 };
+use pages_file::pages;
 use show_screen::show;
 use std::alloc::{AllocError, Global};
 use std::process::ExitCode;
@@ -148,6 +150,13 @@ fn dispatch<R: Files + Env + Input + Print + Eprint + AllocGlobal>(
                         out: Some(out),
                         ..
                     },
+                )
+                | Request::Pages(
+                    Pages {
+                        base,
+                        out: Some(out),
+                        ..
+                    },
                 ),
             ),
         ) if is_same_file(rt, base, out) => {
@@ -190,6 +199,11 @@ fn answer<R: Files + Env + Input + Print + Eprint + AllocGlobal>(
         Request::Lint(asked) => return lint(rt, asked),
         Request::Map { base, view, groups } => return map(rt, base, view, groups),
         Request::Show(asked) => return show(rt, errors, asked),
+        Request::Pages(asked) => return pages(rt, errors, asked),
+        Request::Misused { why } => {
+            let _ = eprintln!(rt; "error: {why}");
+            return 2;
+        }
         Request::NoFrame { word } => {
             let _ = eprintln!(rt; "error: '{word}' is no frame and no page");
             return 2;
@@ -238,7 +252,8 @@ fn map_file<R: Files + Print + AllocGlobal>(
     }
 }
 
-fn tell_no_page<R: Eprint>(rt: &R, view: &View) {
+/// Says that the base lacks the frame `a` of the page.
+pub fn tell_no_page<R: Eprint>(rt: &R, view: &View) {
     if let View::From(page, _) | View::To(page, _) = view {
         let text = page.text();
         let _ = eprintln!(rt; "error: the base has no frame {}a", text.as_str());

@@ -13,7 +13,7 @@ use std::rt::Env;
 use std::{env, io};
 
 // The words for the forms of a screen.
-const FORMS: &[&str] = &["text", "ansi", "svg", "cells"];
+const FORMS: &[&str] = &["text", "ansi", "svg", "cells", "html"];
 
 // The words for the forms of findings.
 const FORMATS: &[&str] = &["full", "line", "json", "github"];
@@ -185,7 +185,9 @@ fn form_option<'a>(alloc: Global) -> Arg<'a> {
         .value_name("FORM")
         .action(ArgAction::Set)
         .value_parser(FORMS)
-        .help("Write text, colours for a terminal, a picture, or the 960 codes")
+        .help(
+            "Write text, colours for a terminal, a picture, the 960 codes, or the whole base for a browser",
+        )
 }
 
 fn show_command<'a>(alloc: Global) -> Result<Command<'a>, AllocError> {
@@ -207,7 +209,34 @@ fn show_command<'a>(alloc: Global) -> Result<Command<'a>, AllocError> {
         alloc,
         "Write the screen to FILE, only if there is one",
     ))?;
-    with_groups(alloc, command)
+    with_groups(alloc, with_html_options(alloc, command)?)
+}
+
+// What goes with the form html alone.
+fn with_html_options<'a>(alloc: Global, command: Command<'a>) -> Result<Command<'a>, AllocError> {
+    let page = page_option(
+        alloc,
+        "page",
+        "With --as html: only the frames that keys lead to from frame a of PAGE",
+    );
+    let command = command
+        .arg(number(
+            alloc,
+            "ceiling",
+            'c',
+            MOST_PENCE,
+            "With --as html: report each frame that costs more than N pence",
+        )
+        .required(false))?
+        .arg(number(
+            alloc,
+            "keyings",
+            'k',
+            MOST_RANK,
+            "With --as html: report each frame more than N keys back to the entry page",
+        )
+        .required(false))?;
+    with_option(with_option(Ok(command), page), within_option(alloc))
 }
 
 fn list_command<'a>(alloc: Global) -> Result<Command<'a>, AllocError> {
@@ -352,6 +381,16 @@ pub struct Show<'a> {
     pub groups: Groups,
 }
 
+/// Which base is written for a browser, and how.
+#[derive(Drop)]
+pub struct Pages<'a> {
+    pub base: &'a str,
+    pub policy: Policy,
+    pub view: View,
+    /// The file that is written; without it standard output.
+    pub out: Option<&'a str>,
+}
+
 /// What the words ask for. Files are named by their paths.
 #[derive(Drop)]
 pub enum Request<'a> {
@@ -385,6 +424,12 @@ pub enum Request<'a> {
     },
     /// A screen.
     Show(Show<'a>),
+    /// A base as an HTML file.
+    Pages(Pages<'a>),
+    /// Words that don't go together: why.
+    Misused {
+        why: &'static str,
+    },
     /// A word in a frame's place that names none.
     NoFrame {
         word: &'a str,
@@ -491,8 +536,55 @@ fn lint_of<'a>(words: &'a ArgMatches, groups: Groups) -> Option<Request<'a>> {
     }))
 }
 
-// Which screen is shown, and how.
+// The policy of a file for a browser. Without a number, all is allowed.
+fn html_policy(words: &ArgMatches, groups: Groups) -> Option<Policy> {
+    Some(Policy {
+        ceiling: Pence::new(words.get_one::<u16>("ceiling").unwrap_or(MOST_PENCE))?,
+        keyings: words.get_one::<u16>("keyings").unwrap_or(MOST_RANK),
+        groups,
+    })
+}
+
+// Which base is written for a browser, and how.
+fn pages_of<'a>(words: &'a ArgMatches, groups: Groups) -> Option<Request<'a>> {
+    if words.get_str("FRAME").is_some() || words.get_str("keys").is_some() {
+        return Some(Request::Misused {
+            why: "--as html writes all frames, without FRAME or --keys",
+        });
+    }
+    Some(Request::Pages(Pages {
+        base: words.get_str("BASE")?,
+        policy: html_policy(words, groups)?,
+        view: match page_of(words, "page") {
+            Some(page) => View::From(page, words.get_one::<u16>("within")),
+            None => View::Whole,
+        },
+        out: words.get_str("out"),
+    }))
+}
+
+// Whether there is an option that goes with the form html alone.
+fn has_html_option(words: &ArgMatches) -> bool {
+    words.get_one::<u16>("ceiling").is_some()
+        || words.get_one::<u16>("keyings").is_some()
+        || words.get_one::<u32>("page").is_some()
+}
+
+// What is shown, and how.
 fn show_of<'a>(words: &'a ArgMatches, groups: Groups) -> Option<Request<'a>> {
+    if words.get_str("as") == Some("html") {
+        return pages_of(words, groups);
+    }
+    if has_html_option(words) {
+        return Some(Request::Misused {
+            why: "--ceiling, --keyings, --page and --within go with --as html",
+        });
+    }
+    screen_of(words, groups)
+}
+
+// Which screen is shown, and how.
+fn screen_of<'a>(words: &'a ArgMatches, groups: Groups) -> Option<Request<'a>> {
     let frame = match words.get_str("FRAME") {
         None => None,
         Some(word) => match frame_of(word) {

@@ -44,8 +44,11 @@ pub const SHOW: &str = concat!(
     "A frame is shown over those on the way to it that 'list' prints. Without --as the form is ansi\n",
     "if standard output is a terminal and NO_COLOR is unset or empty, else text. Mosaics are the\n",
     "characters U+1FB00 and on: a font that lacks them shows boxes.\n\n",
-    "Example: pageaudit show examples/town.toml --keys '1#'\n\n",
-    "Status: 0 a screen, 1 a session that can't be opened or leaves the base,\n",
+    "--as html writes one file for any browser, without a network: all frames with their ways and\n",
+    "faults, to walk through by keys. --page and --within take a part of the base, as for 'map'.\n\n",
+    "Examples: pageaudit show examples/town.toml --keys '1#'\n",
+    "          pageaudit show examples/town.toml --as html --out town.html\n\n",
+    "Status: 0 a screen or file, 1 a session that can't be opened or leaves the base,\n",
     "        2 bad command line or keys, or no frame FRAME,\n",
     "        3 a file that is refused or can't be read, or a write that fails, 4 out of memory",
 );

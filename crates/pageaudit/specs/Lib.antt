@@ -8,4 +8,5 @@ pub mod LintRun
 pub mod ListRun
 pub mod MapRun
 pub mod ShowRun
+pub mod PagesRun
 pub mod Files

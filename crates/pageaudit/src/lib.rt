@@ -18,6 +18,7 @@
 //! - [`run_walk`]: what a caller sees.
 //! - [`run_show`], [`Target`], [`Form`], [`ShowStatus`], [`status_of_show`]: the screen of a frame or after keys, and the exit
 //!   status for it; [`read_keys`] reads the keys.
+//! - [`run_pages`], [`PagesStatus`], [`status_of_pages`]: a base as an HTML file, and the exit status for it.
 //! - [`run_list`]: a line for each frame of a base.
 //! - [`run_lint`], [`Format`], [`status_of_lint`]: every finding in a base's file, in a form, and the exit status for them.
 //! - [`run_map`], [`View`], [`MapStatus`], [`status_of_map`]: the map of a base, and the exit status for it.
@@ -34,6 +35,7 @@ mod lint_run;
 mod list_run;
 mod map_run;
 mod output;
+mod pages_run;
 mod show_run;
 mod status;
 mod walk_run;
@@ -41,6 +43,7 @@ mod walk_run;
 pub use audit_report::Status;
 pub use audit_run::{run_audit, run_audit_into};
 pub use base_map::View;
+pub use base_pages::PagesStatus;
 pub use change_run::run_change;
 pub use check_run::run_check;
 pub use finding_forms::Format;
@@ -48,6 +51,7 @@ pub use lint::{Counts, Level, counted_text};
 pub use lint_run::{run_lint, status_of_lint};
 pub use list_run::run_list;
 pub use map_run::{MapStatus, run_map, status_of_map};
+pub use pages_run::{run_pages, status_of_pages};
 pub use show_run::{Form, ShowStatus, Target, run_show, status_of_show};
 pub use status::status_of;
 pub use walk_run::{read_keys, run_walk};

@@ -25,8 +25,9 @@ use finder::find;
 use frame_screens::{frames_after, nearest, way_to};
 use page_ids::keys_read;
 use pageaudit::{
-    Counts, Format, Level, run_audit, run_change, run_check, run_lint, run_list, run_map, run_show,
-    run_walk, status_of, status_of_lint, status_of_map, status_of_show,
+    Counts, Format, Level, run_audit, run_change, run_check, run_lint, run_list, run_map,
+    run_pages, run_show, run_walk, status_of, status_of_lint, status_of_map, status_of_pages,
+    status_of_show,
 };
 use std::env;
 use tried::{calls, ran};
@@ -86,6 +87,8 @@ fn run(rt: &HostRuntime, name: &str, words: &mut Words) -> Option<()> {
             ran!(alloc, out, status_of_map, run_map(alloc, &mut base.source(), &groups, &view, out));
         run_show(base: file, target: target, form: form, out: word, groups: groups) =>
             ran!(alloc, out, status_of_show, run_show(alloc, &mut base.source(), &groups, &target, form, out));
+        run_pages(base: file, view: view, out: word, policy: policy) =>
+            ran!(alloc, out, status_of_pages, run_pages(alloc, &mut base.source(), &policy, &view, "base.toml", out));
         run_lint(base: file, out: word, policy: policy) =>
             ran!(alloc, out, status_of_errors, run_lint(alloc, &mut base.source(), out, "base.toml", &policy, Format::Full));
         _ => None

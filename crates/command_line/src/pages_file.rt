@@ -1,0 +1,105 @@
+//! The form `html` of `show`: into which file it goes, and what is said if there is none.
+
+ghost use Rattle.std.specs.Prelude.{◌≡◌, false};
+
+use crate::named_files::{Unfinished, ended, open_base, report};
+use crate::out_file::{Out, open_out};
+use crate::tell_no_page;
+use audit_report::{FromRead, IntoWrite, RunFault};
+use command_words::Pages;
+use pageaudit::{PagesStatus, run_pages, status_of_pages};
+use std::io;
+use std::rt::{Files, Stderr};
+
+// The name of a path's file.
+fn name_of<'a>(path: &'a str) -> &'a str {
+    match path.rfind('/') {
+        Some(at) => &path[at + 1..],
+        None => path,
+    }
+}
+
+// Where the file goes.
+fn out_of<R: Files + AllocGlobal>(rt: &R, asked: &Pages) -> Result<Out<R::File>, Unfinished> {
+    let Some(path) = asked.out else {
+        return Ok(Out::Output);
+    };
+    match open_out(rt, path) {
+        Ok(out) => Ok(out),
+        Err(error) if error.kind() == io::ErrorKind::OutOfMemory => {
+            Err(Unfinished::Fault(RunFault::Memory))
+        }
+        Err(_) => Err(Unfinished::Fault(RunFault::Write(0))),
+    }
+}
+
+fn pages_file<R: Files + Print + AllocGlobal>(
+    rt: &R,
+    errors: Stderr,
+    asked: &Pages,
+) -> Result<PagesStatus, Unfinished> {
+    match open_base(rt, asked.base) {
+        Ok(base) => match out_of(rt, asked) {
+            Ok(out) => pages_to(rt, errors, base, asked, out),
+            Err(unfinished) => Err(unfinished),
+        },
+        Err(unfinished) => Err(unfinished),
+    }
+}
+
+fn write_to<R: Files + AllocGlobal, W: io::Write>(
+    rt: &R,
+    base: R::File,
+    asked: &Pages,
+    out: &mut IntoWrite<W>,
+) -> Result<PagesStatus, RunFault>
+    requires { out.old.failed ≡ false }
+{
+    let mut base = FromRead::new(base);
+    let name = name_of(asked.base);
+    run_pages(rt.alloc(), &mut base, &asked.policy, &asked.view, name, out)
+}
+
+fn pages_to<R: Files + Print + AllocGlobal>(
+    rt: &R,
+    errors: Stderr,
+    base: R::File,
+    asked: &Pages,
+    out: Out<R::File>,
+) -> Result<PagesStatus, Unfinished> {
+    match out {
+        Out::Output => {
+            let mut output = IntoWrite::new(io::writer(rt));
+            let run = write_to(rt, base, asked, &mut output);
+            ended(run, &output)
+        }
+        Out::Errors => {
+            let mut output = IntoWrite::new(io::writer(&errors));
+            let run = write_to(rt, base, asked, &mut output);
+            ended(run, &output)
+        }
+        Out::File(names, file) => {
+            let run = {
+                let mut output = IntoWrite::new(file);
+                write_to(rt, base, asked, &mut output)
+            };
+            match names.close(rt, run, &PagesStatus::Written) {
+                Ok(status) => Ok(status),
+                Err(fault) => Err(Unfinished::Fault(fault)),
+            }
+        }
+    }
+}
+
+/// Writes a base as an HTML file; a line on standard error if the base lacks the frame `a` of the page. The exit status.
+pub fn pages<R: Files + Print + Eprint + AllocGlobal>(rt: &R, errors: Stderr, asked: &Pages) -> u8 {
+    match pages_file(rt, errors, asked) {
+        Ok(status) => {
+            if let PagesStatus::NoPage = status {
+                tell_no_page(rt, &asked.view);
+            }
+            status_of_pages(&Ok(status))
+        }
+        Err(unfinished) => report(rt, asked.base, &unfinished),
+    }
+}
