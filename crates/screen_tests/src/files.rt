@@ -68,7 +68,7 @@ fn the_size_says_what_a_file_is(rt: HostRuntime) -> Result<(), Fail> {
             same_in(
                 size,
                 code_at(&codes, 919),
-                ((place + 879) % 89) as u8 + 0x21,
+                (place.saturating_add(879) % 89) as u8 + 0x21,
             )?;
             same_in(size, code_at(&codes, 0) == 0x20, size == 880)?;
             same_in(size, code_at(&codes, 959) == 0x20, size == 880)?;
