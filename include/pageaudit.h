@@ -1,7 +1,7 @@
 /* The proved check of viewdata page bases, for C99 and C++. Link with -lpageaudit.
 
    Call the functions at the end of this file: pageaudit_check_base, pageaudit_check_change, pageaudit_audit_base,
-   pageaudit_lint_base, pageaudit_lint_base_json and pageaudit_describe. Each does what the program `pageaudit` does, of texts in memory, and
+   pageaudit_lint_base, pageaudit_lint_base_json, pageaudit_show_frame and pageaudit_describe. Each does what the program `pageaudit` does, of texts in memory, and
    answers the program's exit status.
 
    - No call keeps anything, reads a file, or ends the program, and nothing has to be freed. Several threads may call at
@@ -57,6 +57,21 @@ struct pageaudit_policy {
     const char *groups;
 };
 
+/* How many cells a screen has: 24 rows of 40, from the top left. */
+#define PAGEAUDIT_CELLS 960
+
+/* How a cell looks. */
+struct pageaudit_look {
+    /* The code point of its character; of a mosaic, one from U+1FB00 to U+1FB3B, or a half or full block. */
+    uint32_t character;
+    /* The colour of the character and the one around it: 0 black, 1 red, 2 green, 3 yellow, 4 blue, 5 magenta, 6 cyan, 7 white. */
+    uint8_t foreground, background;
+    /* 1 if the character flashes; if it is concealed; if it is a mosaic whose blocks are apart. */
+    uint8_t flash, concealed, separated;
+    /* 0 a whole cell, 1 the upper half of one of double height, 2 its lower half. */
+    uint8_t height;
+};
+
 /* The library's own calls, which the functions below make. No pointer is null here, even if its length is 0. */
 uint32_t pageaudit_check(const void *base, size_t base_length, const void *cert, size_t cert_length, uint32_t ceiling,
     uint32_t keyings, const void *groups, size_t groups_length, void *line, size_t room, size_t *length);
@@ -69,6 +84,9 @@ uint32_t pageaudit_lint(const void *name, size_t name_length, const void *base, 
     uint32_t keyings, const void *groups, size_t groups_length, void *lines, size_t room, size_t *length);
 uint32_t pageaudit_lint_json(const void *name, size_t name_length, const void *base, size_t base_length, uint32_t ceiling,
     uint32_t keyings, const void *groups, size_t groups_length, void *lines, size_t room, size_t *length);
+uint32_t pageaudit_show(const void *base, size_t base_length, const void *frame, size_t frame_length, const void *groups,
+    size_t groups_length, void *codes, size_t codes_room, struct pageaudit_look *looks, size_t looks_room, void *line, size_t room,
+    size_t *length);
 size_t pageaudit_status_text(uint32_t status, void *text, size_t room);
 
 /* A text of bytes and a length. */
@@ -178,6 +196,30 @@ static inline enum pageaudit_status pageaudit_lint_base_json(struct pageaudit_te
     base = pageaudit_text_of(base.bytes, base.length);
     return (enum pageaudit_status)pageaudit_lint_json(name.bytes, name.length, base.bytes, base.length, policy->ceiling,
         policy->keyings, groups.bytes, groups.length, room == 0 ? &none : lines, room, length == NULL ? &whole : length);
+}
+
+/* Shows the screen of a frame, as `pageaudit show` does, for a caller in these groups, as "7,9".
+
+   PAGEAUDIT_CLEAR if it is shown; PAGEAUDIT_FAULTY if the base has no such frame; PAGEAUDIT_BAD_POLICY if the groups are no
+   list. Without a screen codes and looks stay as they are.
+
+   frame   its id, as "478a"; null or "" for the entry frame
+   codes   what the cells hold: 20 to 7F, and attributes from 80 to 9F; may be null
+   looks   how they look; may be null
+   line    the first fault of the base's text; may be null if room is 0
+   length  the line's whole length; may be null */
+static inline enum pageaudit_status pageaudit_show_frame(struct pageaudit_text base, const char *frame, const char *groups,
+    uint8_t codes[PAGEAUDIT_CELLS], struct pageaudit_look looks[PAGEAUDIT_CELLS], char *line, size_t room, size_t *length)
+{
+    struct pageaudit_text id = pageaudit_text_of(frame, frame == NULL ? 0 : strlen(frame));
+    struct pageaudit_text list = pageaudit_text_of(groups, groups == NULL ? 0 : strlen(groups));
+    struct pageaudit_look no_look;
+    char none;
+    size_t whole;
+    base = pageaudit_text_of(base.bytes, base.length);
+    return (enum pageaudit_status)pageaudit_show(base.bytes, base.length, id.bytes, id.length, list.bytes, list.length,
+        codes == NULL ? (void *)&none : (void *)codes, codes == NULL ? 0 : PAGEAUDIT_CELLS, looks == NULL ? &no_look : looks,
+        looks == NULL ? 0 : PAGEAUDIT_CELLS, room == 0 ? &none : line, room, length == NULL ? &whole : length);
 }
 
 /* The words for an answer, as "bad text", without a 0 at their end.

@@ -72,11 +72,25 @@ uint32_t pageaudit_lint_json(const void *name, size_t name_length, const void *b
     return pageaudit_lint(name, name_length, base, base_length, ceiling, keyings, groups, groups_length, lines, room, length);
 }
 
+uint32_t pageaudit_show(const void *base, size_t base_length, const void *frame, size_t frame_length, const void *groups,
+    size_t groups_length, void *codes, size_t codes_room, struct pageaudit_look *looks, size_t looks_room, void *line, size_t room,
+    size_t *length)
+{
+    printf("show");
+    show_text(base, base_length);
+    show_text(frame, frame_length);
+    printf("%s rooms %lu %lu", codes == NULL || looks == NULL ? " NULL" : "", (unsigned long)codes_room, (unsigned long)looks_room);
+    return answer(0, 0, groups, groups_length, line, room, length);
+}
+
 size_t pageaudit_status_text(uint32_t status, void *text, size_t room)
 {
     printf("describe %lu", (unsigned long)status);
     return answer(0, 0, "", 0, text, room, &room) + 4;
 }
+
+static uint8_t codes[PAGEAUDIT_CELLS];
+static struct pageaudit_look looks[PAGEAUDIT_CELLS];
 
 static void show_answer(unsigned long status, const char *buffer, const size_t *length)
 {
@@ -94,6 +108,8 @@ static void call_each(struct pageaudit_text one, struct pageaudit_text two, cons
     show_answer(pageaudit_audit_base(one, policy, buffer, room, asked), shown, asked);
     show_answer(pageaudit_lint_base(two, one, policy, buffer, room, asked), shown, asked);
     show_answer(pageaudit_lint_base_json(two, one, policy, buffer, room, asked), shown, asked);
+    show_answer(pageaudit_show_frame(one, room == 0 ? NULL : "478a", policy->groups, room == 0 ? NULL : codes,
+        room == 0 ? NULL : looks, buffer, room, asked), shown, asked);
     length = pageaudit_describe(2, buffer, room);
     show_answer(0, shown, &length);
 }

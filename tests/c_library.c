@@ -8,6 +8,8 @@
                                                         how much of it, the status, and how long the answer is, then the answer
    c_library odd                                        passes policies and texts that are wrong or unusual, and prints the
                                                         answers, and the words for each
+   c_library show BASE FRAME GROUPS                     prints the status, the codes, and the seven numbers of each look; or
+                                                        the line of a fault
    c_library time BASE CERT                             the least processor time of a check, in microseconds
 
    NAME is check, change, audit, lint or json, which is lint's other form. Each text ends where a page ends that can't be written, and the page after it can't
@@ -199,6 +201,22 @@ static void odd(void)
     }
 }
 
+static void show(struct pageaudit_text base, const char *frame, const char *groups)
+{
+    size_t size = PAGEAUDIT_CELLS * sizeof(struct pageaudit_look), length, i;
+    uint8_t *codes = (uint8_t *)guarded(NULL, PAGEAUDIT_CELLS, PROT_READ | PROT_WRITE);
+    struct pageaudit_look *looks = (struct pageaudit_look *)(void *)guarded(NULL, size, PROT_READ | PROT_WRITE);
+    char line[PAGEAUDIT_LINE_ROOM];
+    enum pageaudit_status status = pageaudit_show_frame(base, frame, groups, codes, looks, line, sizeof line, &length);
+    printf("%d\n%.*s", status, (int)length, line);
+    if (status != PAGEAUDIT_CLEAR)
+        return;
+    fwrite(codes, 1, PAGEAUDIT_CELLS, stdout);
+    for (i = 0; i < PAGEAUDIT_CELLS; i++)
+        printf("%lu %d %d %d %d %d %d\n", (unsigned long)looks[i].character, looks[i].foreground, looks[i].background, looks[i].flash,
+            looks[i].concealed, looks[i].separated, looks[i].height);
+}
+
 static void print_time(struct pageaudit_text base, struct pageaudit_text cert)
 {
     struct pageaudit_policy policy = {9999, 65535, NULL};
@@ -219,6 +237,8 @@ int main(int argc, char **argv)
     struct call call = {NULL, {{NULL, 0}, {NULL, 0}, {NULL, 0}, {NULL, 0}}, 0, {0, 0, NULL}};
     if (argc == 2 && strcmp(argv[1], "odd") == 0)
         return odd(), 0;
+    if (argc == 5 && strcmp(argv[1], "show") == 0)
+        return show(read_file(argv[2]), argv[3], argv[4]), 0;
     if (argc == 4 && strcmp(argv[1], "time") == 0)
         return print_time(read_file(argv[2]), read_file(argv[3])), 0;
     if (argc < 7 || argc > 6 + TEXTS)

@@ -30,12 +30,13 @@ from typing import Any, SupportsIndex
 
 __version__ = "1.0.0"
 __all__ = [
-    "Audit", "Finding", "Policy", "PolicyError", "TextError", "Verdict", "audit", "change", "check", "lint",
+    "Audit", "Finding", "Look", "Policy", "PolicyError", "Screen", "TextError", "Verdict", "audit", "change", "check", "lint", "show",
 ]  # fmt: skip
 
 # What the library answers.
 _CLEAR, _FAULTY, _BAD_POLICY, _BAD_TEXT = range(4)
 _LINE_ROOM = 128
+_CELLS = 960
 
 
 class PolicyError(ValueError):
@@ -108,6 +109,31 @@ class Finding:
     hint: str | None
 
 
+@dataclass(frozen=True)
+class Look:
+    """How a cell looks. Colours are 0 black, 1 red, 2 green, 3 yellow, 4 blue, 5 magenta, 6 cyan, 7 white."""
+
+    character: str
+    """Of a mosaic, one from U+1FB00 to U+1FB3B, or a half or full block."""
+    foreground: int
+    background: int
+    flash: bool
+    concealed: bool
+    separated: bool
+    """Whether it is a mosaic whose blocks are apart."""
+    height: int
+    """0 a whole cell, 1 the upper half of one of double height, 2 its lower half."""
+
+
+@dataclass(frozen=True)
+class Screen:
+    """A screen's 960 cells: 24 rows of 40, from the top left."""
+
+    codes: bytes
+    """What they hold: 20 to 7F, and attributes from 80 to 9F."""
+    looks: tuple[Look, ...]
+
+
 def check(base: bytes, cert: bytes, policy: Policy) -> Verdict:
     """Checks the text of a certificate against the text of a base.
 
@@ -146,6 +172,43 @@ def lint(base: bytes, policy: Policy, file: str = "") -> list[Finding]:
     """
     _, text = _call("pageaudit_lint_json", {"name": os.fsencode(file), "base": base}, policy, 1 << 16)
     return [_finding(line) for line in text.split(b"\n")[:-1]]
+
+
+def show(base: bytes, frame: str = "", groups: Sequence[int] = ()) -> Screen | None:
+    """The screen of a frame, by its id, or of the entry frame, as a caller in these groups sees it; None if the base lacks it.
+
+    It is the one that `pageaudit show` shows. Raises TextError for the first fault of the base's text, PolicyError or MemoryError.
+    """
+    if not isinstance(frame, str):
+        raise TypeError(f"frame has to be a str, not {_kind(frame)}")
+    words = [*_slice("base", base), *_slice("frame", frame.encode("utf-8")), *_slice("groups", _list(Policy(0, 0, groups)))]
+    codes, looks, line = ctypes.create_string_buffer(_CELLS), (_CellLook * _CELLS)(), ctypes.create_string_buffer(_LINE_ROOM)
+    arrays = [word for array, room in ((codes, _CELLS), (looks, _CELLS), (line, _LINE_ROOM)) for word in (array, ctypes.c_size_t(room))]
+    function, length = _LIBRARY["pageaudit_show"], ctypes.c_size_t()
+    function.restype = ctypes.c_uint32
+    answer = function(*words, *arrays, ctypes.byref(length))
+    _checked(answer, line.raw[: length.value])
+    return Screen(codes.raw, tuple(map(_look, looks))) if answer == _CLEAR else None
+
+
+class _CellLook(ctypes.Structure):
+    """struct pageaudit_look."""
+
+    character: int
+    foreground: int
+    background: int
+    flash: int
+    concealed: int
+    separated: int
+    height: int
+    _fields_ = [("character", ctypes.c_uint32)] + [
+        (name, ctypes.c_uint8) for name in ("foreground", "background", "flash", "concealed", "separated", "height")
+    ]
+
+
+def _look(it: _CellLook) -> Look:
+    flags = bool(it.flash), bool(it.concealed), bool(it.separated)
+    return Look(chr(it.character), it.foreground, it.background, *flags, it.height)
 
 
 def _verdict(answer: int, text: bytes) -> Verdict:
@@ -209,12 +272,16 @@ def _slice(name: str, text: bytes) -> tuple[ctypes.c_char_p, ctypes.c_size_t]:
     return ctypes.c_char_p(text), ctypes.c_size_t(len(text))
 
 
+def _list(policy: Policy) -> bytes:
+    """The groups of a policy as the library takes them."""
+    return ",".join(map(str, policy.groups)).encode("ascii")
+
+
 def _policy_words(policy: Policy) -> list[Any]:
     """A policy as the library takes it."""
     if not isinstance(policy, Policy):
         raise TypeError(f"policy has to be a Policy, not {_kind(policy)}")
-    groups = ",".join(map(str, policy.groups)).encode("ascii")
-    return [_number("ceiling", policy.ceiling), _number("keyings", policy.keyings), *_slice("groups", groups)]
+    return [_number("ceiling", policy.ceiling), _number("keyings", policy.keyings), *_slice("groups", _list(policy))]
 
 
 def _call(name: str, texts: Mapping[str, bytes], policy: Policy, room: int) -> tuple[int, bytes]:

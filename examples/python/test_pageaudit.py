@@ -5,7 +5,7 @@ from concurrent.futures import ThreadPoolExecutor
 from pathlib import Path
 
 import pageaudit
-from pageaudit import Finding, Policy, PolicyError, TextError, Verdict
+from pageaudit import Finding, Look, Policy, PolicyError, TextError, Verdict
 
 EXAMPLES = Path(__file__).resolve().parent.parent
 DEMO, DEMO_CERT, TOWN, TOWN_CERT, NEXT, NEXT_CERT, CLOSED, BROKEN = (
@@ -125,6 +125,31 @@ class Audit(unittest.TestCase):
         self.assertIsNotNone(certificate)
         self.assertGreater(len(certificate), 1 << 16)
         self.assertTrue(pageaudit.check(base, certificate, Policy(0, 65_535)).cleared)
+
+
+class Show(unittest.TestCase):
+    def test_shows_the_entry_frame(self):
+        screen = pageaudit.show(DEMO)
+        self.assertEqual((len(screen.codes), len(screen.looks)), (960, 960))
+        self.assertEqual(screen.codes[:40].decode().split(), ["123a", "0p"])
+        self.assertEqual("".join(look.character for look in screen.looks[40:47]), "WELCOME")
+
+    def test_says_how_a_cell_looks(self):
+        red_mosaics = b'entry = 1\n[[frame]]\nid = "1a"\nbody = "\\u001BQ!"\n'
+        looks = pageaudit.show(red_mosaics, "1a", [7]).looks
+        self.assertEqual(looks[41], Look("\U0001FB00", 1, 0, False, False, False, 0))
+
+    def test_has_no_screen_of_a_frame_that_the_base_lacks(self):
+        for frame in "124a", "123", "x", "123A", "\u00e4":
+            self.assertIsNone(pageaudit.show(DEMO, frame))
+
+    def test_refuses_what_the_others_refuse(self):
+        with self.assertRaisesRegex(TextError, "^base: X4 Absent entry$"):
+            pageaudit.show(b"")
+        with self.assertRaises(PolicyError):
+            pageaudit.show(DEMO, groups=[9, 7])
+        with self.assertRaisesRegex(TypeError, "^frame has to be a str, not NoneType$"):
+            pageaudit.show(DEMO, None)
 
 
 class Lint(unittest.TestCase):

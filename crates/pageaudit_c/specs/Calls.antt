@@ -81,7 +81,7 @@ abbrev pub buffer : List ℕ → List ℕ → ℕ → Buffer
 buffer before after stored = record { before = before; after = after; stored = stored }
 
 -- a text over the front of a buffer, as far as it fits; what is after it stays
-abbrev pub laid_over : List ℕ → List ℕ → List ℕ
+abbrev pub laid_over : {A : Type 0} → List A → List A → List A
 laid_over text before = take (length before) text ++ drop (length text) before
 
 -- the text was copied, and its whole length was stored

@@ -9,6 +9,7 @@
 //!
 //! - [`pageaudit_check`], [`pageaudit_change`], [`pageaudit_audit`], [`pageaudit_lint`], [`pageaudit_lint_json`]: what the program
 //!   does, of texts in memory.
+//! - [`pageaudit_show`], [`CellLook`]: the screen of a frame, as numbers.
 //! - [`pageaudit_status_text`]: the words for what they return.
 //! - [`Status`]: what they return, by its number.
 //!
@@ -22,6 +23,7 @@ mod checking;
 mod linting;
 mod naming;
 mod policy;
+mod showing;
 mod status;
 
 pub use auditing::pageaudit_audit;
@@ -29,4 +31,5 @@ pub use changing::pageaudit_change;
 pub use checking::pageaudit_check;
 pub use linting::{pageaudit_lint, pageaudit_lint_json};
 pub use naming::pageaudit_status_text;
+pub use showing::{CellLook, pageaudit_show};
 pub use status::Status;

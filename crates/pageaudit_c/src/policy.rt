@@ -5,7 +5,7 @@ use checker::Policy;
 use frame_records::{GroupFlaw, Groups, Pence};
 
 // The groups of a text; none of the empty text.
-fn groups_of(text: &[u8]) -> Result<Groups, GroupFlaw>
+pub fn groups_of(text: &[u8]) -> Result<Groups, GroupFlaw>
     ensures { result ≡ groups_of text.now }
 {
     match text {
