@@ -93,7 +93,7 @@ fn a_line_end_in_a_body_keeps_the_column(rt: HostRuntime) -> Result<(), Fail> {
 #[test]
 fn a_line_end_in_a_body_depends_on_the_file(rt: HostRuntime) -> Result<(), Fail> {
     let saved =
-        "@5:7: warning: LINEEND: a line of the body of frame 1a ends with CR LF as the file does: saved with LF, the text goes on in the same column; write \\u000D\\u000A at the end of each line\n";
+        "@5:8: warning: LINEEND: a line of the body of frame 1a ends with CR LF as the file does: saved with LF, the text goes on in the same column; write \\u000D\\u000A at the end of each line\n";
     let rows = [
         (
             "[[frame]]\nid = '1a'\nbody = \"\"\"\r\n\\tTEXT\r\nWORLD\r\nAGAIN\"\"\"\n",
