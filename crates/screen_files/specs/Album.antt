@@ -1,7 +1,6 @@
 -- The frames of some files, and the base that is made of them.
-use Rattle.std.specs.Prelude.{◌≡◌, ◌≤◌, ◌+◌, ◌++◌, ◌∷◌, [], ℕ, ◌&&◌, Bool, false, List, Option, Some, None, Result, Ok, Err, IsPermutation, length, nat_lt, if◌then◌else◌}
-use Rattle.std.specs.List.Sorted.{IsSortedByKey}
-use Rattle.page_ids.specs.Ids.{Id, id_cmp, id_eq, following}
+use Rattle.std.specs.Prelude.{◌≡◌, ◌≤◌, ◌+◌, ◌++◌, ◌∷◌, [], ℕ, ◌&&◌, Bool, false, List, Option, Some, None, Result, Ok, Err, length, nat_lt, if◌then◌else◌}
+use Rattle.page_ids.specs.Ids.{Id, id_eq, following}
 use Rattle.base_text.specs.declared.limits.TheConstants.{MOST_TEXT}
 use Rattle.screen_files.specs.declared.album.Filed.{Filed}
 use Rattle.screen_files.specs.declared.album.BaseTextFault.{BaseTextFault}
@@ -12,16 +11,17 @@ use Rattle.screen_files.specs.declared.frame.ScreenFrame.{ScreenFrame}
 use Rattle.frame_records.specs.declared.limits.TheConstants.{MOST_LISTED}
 use Rattle.screen_files.specs.Texts.{entry_line, frame_lines}
 
+-- the list after one more, or the list as it was if a growth was refused
+abbrev pub IsPushed : List Filed → List Filed → Filed → Result (Unit {0}) AddFault → Type 0
+IsPushed old new filed (Ok _) = new ≡ old ++ filed ∷ []
+IsPushed old new filed (Err add.Memory) = new ≡ old
+IsPushed old new filed (Err add.TooMany) = ⊥
+
 -- the list after the frame of a file, or the list as it was
 abbrev pub IsAdded : List Filed → List Filed → ℕ → ScreenFrame → Result (Unit {0}) AddFault → Type 0
 IsAdded old new file frame (Ok _) = new ≡ old ++ record { file = file; frame = frame } ∷ []
 IsAdded old new file frame (Err add.TooMany) = (new ≡ old) × (MOST_LISTED ≤ length old)
 IsAdded old new file frame (Err add.Memory) = new ≡ old
-
--- in the order of their ids
-pub record AreFiledInOrder (old new : List Filed) : Type 0 where
-  pub same : IsPermutation old new
-  pub ascend : IsSortedByKey (λ f. f.frame.id) id_cmp new
 
 -- The base.
 

@@ -1,6 +1,9 @@
 //! The frames of some files, and the text of the base that is made of them.
 
-ghost use Rattle.std.specs.Prelude.{◌≡◌, ◌++◌, [], None, OnOk, IfOk, IfErr, length};
+ghost use Rattle.std.specs.Prelude.{◌≡◌, ◌++◌, [], None, OnOk, IfOk, IfErr, IsPermutation, length, nat_le};
+ghost use Rattle.std.specs.List.Sorted.{IsSortedByKey};
+ghost use Rattle.page_ids.specs.Ids.{id_cmp};
+ghost use Rattle.frame_records.specs.declared.limits.TheConstants.{MOST_LISTED};
 ghost use Rattle.screen_files.specs.Album as spec;
 
 use crate::frame::ScreenFrame;
@@ -61,22 +64,40 @@ impl Album {
         }
     }
 
-    /// Adds the frame of a file. After a fault the album is as it was.
-    pub fn add(&mut self, file: usize, frame: ScreenFrame) -> Result<(), AddFault>
-        ensures { spec.IsAdded self.old self.new file frame result }
+    // Whether there are as many frames as a base may have.
+    fn is_full(&self) -> bool
+        ensures { result ≡ nat_le MOST_LISTED (length self.now) }
     {
-        if self.frames.len() >= MOST_LISTED {
-            return Err(AddFault::TooMany);
-        }
-        match self.frames.push(Filed { file, frame }) {
+        self.frames.len() >= MOST_LISTED
+    }
+
+    fn push(&mut self, filed: Filed) -> Result<(), AddFault>
+        ensures { spec.IsPushed self.old self.new filed result }
+    {
+        match self.frames.push(filed) {
             Ok(()) => Ok(()),
             Err(_) => Err(AddFault::Memory),
         }
     }
 
+    /// Adds the frame of a file. After a fault the album is as it was.
+    pub fn add(&mut self, file: usize, frame: &ScreenFrame) -> Result<(), AddFault>
+        ensures { spec.IsAdded self.old self.new file frame.now result }
+    {
+        if self.is_full() {
+            Err(AddFault::TooMany)
+        } else {
+            self.push(Filed {
+                file,
+                frame: *frame,
+            })
+        }
+    }
+
     /// Sorts the frames by their ids.
     pub fn sort(&mut self)
-        ensures { spec.AreFiledInOrder self.old self.new }
+        ensures same { IsPermutation self.old self.new }
+        ensures ascend { IsSortedByKey (λ f. f.frame.id) id_cmp self.new }
     {
         self.frames.sort_unstable_by_key(|filed| filed.frame.id);
     }
@@ -121,16 +142,14 @@ fn push_frames(out: &mut Vec<u8>, frames: &[Filed]) -> Result<(), BaseTextFault>
     ensures within { OnOk result (spec.first_over (length out.old.items) frames.now ≡ None) }
     ensures fault { IfErr result (spec.IsNoText (spec.first_over (length out.old.items) frames.now)) }
 {
-    let mut rest = frames;
-    while let Some((filed, more)) = rest.split_first() {
-        match push_filed(out, filed, more) {
+    for place in 0..frames.len() {
+        match push_filed(out, &frames[place], &frames[place + 1..]) {
             Ok(()) => {}
             Err(_) => return Err(BaseTextFault::Memory),
         }
         if out.len() > MOST_TEXT {
-            return Err(BaseTextFault::TooLong(filed.file));
+            return Err(BaseTextFault::TooLong(frames[place].file));
         }
-        rest = more;
     }
     Ok(())
 }
