@@ -1,6 +1,6 @@
 //! The frames of some files, and the text of the base that is made of them.
 
-ghost use Rattle.std.specs.Prelude.{◌≡◌, ◌++◌, [], None, OnOk, IfOk, IfErr, IsPermutation, length, nat_le};
+ghost use Rattle.std.specs.Prelude.{◌≡◌, ◌++◌, ◌∷◌, [], None, MatchResult, OnOk, IfOk, IfErr, IsPermutation, length, nat_le};
 ghost use Rattle.std.specs.List.Sorted.{IsSortedByKey};
 ghost use Rattle.page_ids.specs.Ids.{id_cmp};
 ghost use Rattle.frame_records.specs.declared.limits.TheConstants.{MOST_LISTED};
@@ -71,13 +71,11 @@ impl Album {
         self.frames.len() >= MOST_LISTED
     }
 
-    fn push(&mut self, filed: Filed) -> Result<(), AddFault>
-        ensures { spec.IsPushed self.old self.new filed result }
+    // Adds one; a slice, since the checker can't plan a push of a value that holds an Option.
+    fn push(&mut self, filed: &Filed) -> Result<(), AllocError>
+        ensures { MatchResult result (λ _. self.new ≡ self.old ++ filed.now ∷ []) (λ _. self.new ≡ self.old) }
     {
-        match self.frames.push(filed) {
-            Ok(()) => Ok(()),
-            Err(_) => Err(AddFault::Memory),
-        }
+        self.frames.extend_from_slice(&[*filed])
     }
 
     /// Adds the frame of a file. After a fault the album is as it was.
@@ -85,12 +83,15 @@ impl Album {
         ensures { spec.IsAdded self.old self.new file frame.now result }
     {
         if self.is_full() {
-            Err(AddFault::TooMany)
-        } else {
-            self.push(Filed {
-                file,
-                frame: *frame,
-            })
+            return Err(AddFault::TooMany);
+        }
+        let filed = Filed {
+            file,
+            frame: *frame,
+        };
+        match self.push(&filed) {
+            Ok(()) => Ok(()),
+            Err(_) => Err(AddFault::Memory),
         }
     }
 
