@@ -5,7 +5,7 @@ use Rattle.audit_report.specs.declared.status.Status.TheVariants as judged
 use Rattle.pageaudit_c.specs.declared.status.Status.{Status}
 use Rattle.pageaudit_c.specs.declared.status.Status.TheVariants.{Clear, Faulty, BadPolicy, BadText, OutOfMemory}
 
--- what a judgment comes to
+-- the status of a judgment
 abbrev pub of_judged : Judged → Status
 of_judged judged.Clear = Clear
 of_judged judged.Faulty = Faulty
