@@ -17,6 +17,7 @@ use Rattle.base_pages.specs.declared.fault.PagesFault.TheVariants.{Write, Memory
 use Rattle.base_pages.specs.Sections.{BookView, sections}
 use Rattle.base_pages.specs.Head.{header, faults_in}
 use Rattle.base_pages.specs.Shell.{head, middle, foot}
+use Rattle.base_pages.specs.Tags.{tag_list, page_tags}
 
 -- the fixed head with the style, the header, and the fixed views and keypad
 abbrev pub front : List ℕ → BaseView → Policy → Outcome → List ℕ
@@ -31,13 +32,15 @@ abbrev pub book : BaseView → Policy → Option (List Id) → List Discovered �
 book base policy part found outcome =
     record { base = base; caller = policy.groups; found = found; faults = faults_in outcome; part = part }
 
--- the file of the part of a base, for the policy's caller, by the frames that this caller reaches and the outcome of the audit
+-- the file of the part of a base, for the policy's caller, by the frames that this caller reaches and the outcome of the audit; read
+-- as markup, it has the tags of its form and no others
 pub record IsPage (name : List ℕ) (base : BaseView) (policy : Policy) (part : Option (List Id)) (text : List ℕ) : Type 0 where
   pub found : List Discovered
   pub finding : IsFinding policy.groups base found
   pub outcome : Outcome
   pub audited : IsOutcome base policy outcome
   pub is : text ≡ page name policy outcome (book base policy part found outcome)
+  pub tags : tag_list text ≡ page_tags outcome (book base policy part found outcome)
 
 -- a sink took the front of a text, wasn't flushed and has not failed
 pub record StoppedWithin (old new : Seen) (text : List ℕ) : Type 0 where
