@@ -124,7 +124,6 @@ pub fn audit(alloc: Global, base: &Base, policy: &Policy) -> Result<Outcome, All
     ensures outcome { IfOk result (IsOutcome base.now policy.now) }
     ensures safety { IfOk result (DecidesSafety base.now policy.now) }
     ensures shown { IfOk result (AreShown base.now policy.now) }
-    ensures valid { IsBase base.now }
 {
     outcome_of(alloc, base, policy)
 }
