@@ -10,7 +10,7 @@ use Rattle.frame_records.specs.declared.groups.GroupFlaw.TheVariants as group
 use Rattle.frame_records.specs.Groups.{groups_in}
 use Rattle.page_ids.specs.Parts.{parts_of}
 use Rattle.frame_records.specs.Steps.{◌>>=◌}
-use Rattle.cert_table.specs.Table.{is_behind}
+use Rattle.cert_table.specs.Table.{comes_after}
 use Rattle.cert_table.specs.declared.limits.TheConstants.{MOST_RANK}
 use Rattle.cert_table.specs.declared.row.Row.{Row}
 use Rattle.abstract_paint.specs.declared.cursor.AbsCursor.{AbsCursor}
@@ -105,7 +105,7 @@ row_of_parts (a ∷ b ∷ c ∷ d ∷ more) = Err Word
 
 -- the id is greater than that of the last row
 abbrev pub in_order : List Row → Row → Result Row LineCause
-in_order rows r = if is_behind (slice_get rows (length rows - 1)) r.id then Ok r else Err Order
+in_order rows r = if comes_after (slice_get rows (length rows - 1)) r.id then Ok r else Err Order
 
 -- a row's line, cut at its spaces (32), after these rows
 unfoldable pub row_in : List Row → List ℕ → Result Row LineCause

@@ -69,7 +69,7 @@ pub fn report<R: Eprint + AllocGlobal>(rt: &R, path: &str, unfinished: &Unfinish
         }
         Unfinished::Unwanted => 3,
         Unfinished::Fault(fault) => {
-            let status = refused(rt, fault);
+            let status = fail(rt, fault);
             if let RunFault::Base(_) = fault
                 && status == 3
             {

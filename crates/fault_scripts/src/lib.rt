@@ -23,8 +23,8 @@ mod frames;
 mod laws;
 mod outcome;
 mod replaying;
+mod reporter;
 mod table;
-mod teller;
 
 pub use auditing::{audit, faults, judge_base};
 pub use fault::{Fault, FaultKind, FaultList};

@@ -27,7 +27,8 @@ fn push_full_finding(
     finding: &Finding,
 ) -> Result<(), AllocError>
     requires { lines.now ≡ text.now }
-    ensures { OnOk result ((bytes : List ℕ) → path.now ≡ line_of bytes → AddsPrinted Full bytes text.now finding.now out.old.items out.new.items) }
+    ensures { OnOk result ((bytes : List ℕ) → path.now ≡ line_of bytes →
+        AddsPrinted Full bytes text.now finding.now out.old.items out.new.items) }
 {
     push_line_finding(out, path, lines, finding)?;
     push_lines_below(
@@ -96,7 +97,8 @@ pub fn findings_text(
     findings: &[Finding],
 ) -> Result<Vec<u8>, AllocError>
     ensures printed { IfOk result (λ out. ArePrinted format path.now text.now findings.now out.items) }
-    ensures whole { IfOk result (λ out. is_one_line format ≡ true → AreWholeLines format (length findings.now) out.items) }
+    ensures whole { IfOk result (λ out. is_one_line format ≡ true →
+        AreWholeLines format (length findings.now) out.items) }
 {
     findings_are_whole_lines();
     if findings.is_empty() {

@@ -125,7 +125,8 @@ impl Groups {
 
     // The group of a word is put after these.
     fn add(&mut self, word: &[u8]) -> Result<(), GroupFlaw>
-        ensures { MatchResult result (λ _. added self.old word.now ≡ Ok self.new) (λ e. added self.old word.now ≡ Err e) }
+        ensures { MatchResult result (λ _. added self.old word.now ≡ Ok self.new) (λ e. added self.old word.now ≡
+            Err e) }
     {
         let group = self.group_in(word)?;
         self.push(group);
