@@ -5,8 +5,8 @@ use Rattle.std.specs.Str.{bytes_eq}
 use Rattle.page_ids.specs.declared.number.NumberFault.{NumberFault}
 use Rattle.page_ids.specs.declared.number.NumberFault.TheVariants.{NotNumeral, AboveLimit}
 use Rattle.page_ids.specs.Texts.{number_in, id_in}
-use Rattle.frame_records.specs.declared.groups.GroupFlaw.{GroupFlaw}
-use Rattle.frame_records.specs.declared.groups.GroupFlaw.TheVariants as group
+use Rattle.frame_records.specs.declared.groups.GroupFault.{GroupFault}
+use Rattle.frame_records.specs.declared.groups.GroupFault.TheVariants as group
 use Rattle.frame_records.specs.Groups.{groups_in}
 use Rattle.page_ids.specs.Parts.{parts_of}
 use Rattle.frame_records.specs.Steps.{◌>>=◌}
@@ -40,14 +40,14 @@ number_after word most line =
     if bytes_eq (take (length word) line) word then line_number most (drop (length word) line) else Err Word
 
 -- why a list of groups is refused
-abbrev pub group_cause : GroupFlaw → LineCause
+abbrev pub group_cause : GroupFault → LineCause
 group_cause group.Number = Number
 group_cause group.Range = Range
 group_cause group.Order = Order
 
-abbrev pub groups_or_cause : Result (List ℕ) GroupFlaw → Result (List ℕ) LineCause
+abbrev pub groups_or_cause : Result (List ℕ) GroupFault → Result (List ℕ) LineCause
 groups_or_cause (Ok groups) = Ok groups
-groups_or_cause (Err flaw) = Err (group_cause flaw)
+groups_or_cause (Err fault) = Err (group_cause fault)
 
 -- the word of the groups with its space, and then numbers that are cut at each space (32)
 abbrev pub groups_after : List ℕ → List ℕ → Result (List ℕ) LineCause

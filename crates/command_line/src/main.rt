@@ -122,7 +122,7 @@ fn explain<R: Print + Eprint + AllocGlobal>(rt: &R, word: Option<&str>) -> u8 {
 }
 
 // Reports a fault of the run; its status, or 4 if there is no memory for its line.
-fn refused<R: Eprint + AllocGlobal>(rt: &R, fault: &RunFault) -> u8 {
+fn fail<R: Eprint + AllocGlobal>(rt: &R, fault: &RunFault) -> u8 {
     if print_fault(rt, fault) {
         status_of(&Err(*fault))
     } else {
@@ -163,14 +163,14 @@ fn run_matches<R: Files + Env + Input + Print + Eprint + AllocGlobal>(
             let _ = eprintln!(rt; "error: --out names the base itself");
             2
         }
-        Ok(Some(request)) => answer(rt, errors, &request),
+        Ok(Some(request)) => run_request(rt, errors, &request),
         Ok(None) => 2,
         Err(_) => fail(rt, &RunFault::Groups),
     }
 }
 
 // Runs what was asked for.
-fn answer<R: Files + Env + Input + Print + Eprint + AllocGlobal>(
+fn run_request<R: Files + Env + Input + Print + Eprint + AllocGlobal>(
     rt: &R,
     errors: Stderr,
     request: &Request,
@@ -261,7 +261,7 @@ pub fn tell_no_page<R: Eprint>(rt: &R, view: &View) {
 }
 
 // One line on standard error; false if there is no memory for it, and then nothing is printed.
-fn tell<R: Eprint + AllocGlobal>(rt: &R, fault: &RunFault) -> bool {
+fn print_fault<R: Eprint + AllocGlobal>(rt: &R, fault: &RunFault) -> bool {
     let Ok(text) = fault_text(rt.alloc(), fault) else {
         return false;
     };

@@ -1,6 +1,6 @@
 //! Bases that are opened by their names, and what is printed if a command ends without its work done.
 
-use crate::refused;
+use crate::fail;
 use audit_report::{IntoWrite, RunFault};
 use std::rt::Files;
 use std::{fs, io};

@@ -1,7 +1,7 @@
 //! Bases built by hand; those that are refused are in `tests/cases`.
 
 use frame_records::{
-    Base, Body, Destination, Frame, GroupFlaw, GroupNo, Groups, GroupsFault, Lead, Pence, Sought,
+    Base, Body, Destination, Frame, GroupFault, GroupNo, Groups, GroupsFault, Lead, Pence, Sought,
 };
 use page_ids::{FrameId, PageNo, Way, cut};
 use std::alloc::Global;
@@ -252,25 +252,25 @@ fn groups_are_read_from_their_texts() -> Result<(), Fail> {
 
 #[test]
 fn the_first_number_at_fault_is_told() -> Result<(), Fail> {
-    let rows: [(&str, Option<GroupFlaw>); 8] = [
+    let rows: [(&str, Option<GroupFault>); 8] = [
         ("7 9", None),
-        ("", Some(GroupFlaw::Number)),
-        ("7  9", Some(GroupFlaw::Number)),
-        ("07", Some(GroupFlaw::Number)),
-        ("0", Some(GroupFlaw::Range)),
-        ("9 7 0", Some(GroupFlaw::Order)),
+        ("", Some(GroupFault::Number)),
+        ("7  9", Some(GroupFault::Number)),
+        ("07", Some(GroupFault::Number)),
+        ("0", Some(GroupFault::Range)),
+        ("9 7 0", Some(GroupFault::Order)),
         (
             "1 2 3 4 5 6 7 8 9 10 11 12 13 14 15 16 17",
-            Some(GroupFlaw::Range),
+            Some(GroupFault::Range),
         ),
         (
             "1 2 3 4 5 6 7 8 9 10 11 12 13 14 15 16 x",
-            Some(GroupFlaw::Number),
+            Some(GroupFault::Number),
         ),
     ];
-    for (text, flaw) in rows {
+    for (text, fault) in rows {
         let got = Groups::read_split(text.as_bytes(), b' ').err();
-        same_in(text, got, flaw)?;
+        same_in(text, got, fault)?;
     }
     Ok(())
 }

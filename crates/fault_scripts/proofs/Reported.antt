@@ -17,17 +17,17 @@ use Rattle.finder.specs.declared.found.Discovered.{Discovered}
 use Rattle.finder.specs.Finds.{IsFinding, script}
 use Rattle.finder.specs.Survey.{IsFrameAt, SurveyView}
 use Rattle.fault_scripts.specs.declared.fault.Fault.{Fault}
-use Rattle.fault_scripts.specs.declared.flaw.Flaw.{Flaw}
-use Rattle.fault_scripts.specs.declared.flaw.Flaw.TheVariants.{Price, Touches, Missing, Closed, NoReturn}
+use Rattle.fault_scripts.specs.declared.frame_fault.FrameFault.{FrameFault}
+use Rattle.fault_scripts.specs.declared.frame_fault.FrameFault.TheVariants.{Price, Touches, Missing, Closed, NoReturn}
 use Rattle.fault_scripts.specs.declared.reporter.Reporter.{Reporter}
 use Rattle.fault_scripts.specs.Faults.{IsDue, IsOfPlace, StandsBefore, turn_of, turn_at, AreDue}
-use Rattle.fault_scripts.specs.Flaws.{fault_of, asked}
+use Rattle.fault_scripts.specs.FrameFaults.{fault_of, asked}
 use Rattle.fault_scripts.specs.Loops.{HasScript, IsDueBelow, IsReported, IsReporting}
 use Rattle.fault_scripts.proofs.Asked.{IsAnswer, asked_due, due_asked}
 use Rattle.fault_scripts.proofs.Discoveries.{listed_frame, listed_once}
 
 -- a fault names its frame
-frame_of : (id : Id) (keys : List Key) (flaw : Flaw) → (fault_of id keys flaw).frame ≡ id
+frame_of : (id : Id) (keys : List Key) (wrong : FrameFault) → (fault_of id keys wrong).frame ≡ id
 frame_of id keys (Price price) = refl
 frame_of id keys (Touches start) = refl
 frame_of id keys (Missing way to) = refl
@@ -47,7 +47,7 @@ module _ (base : BaseView) (policy : Policy) (found : List Discovered) (finding 
   pub own_place : (f : Fault) (due : IsDue base policy found f) → IsOfPlace found due.index f
   own_place f due =
       let a = answer_of f due in
-      (due.discovered, due.place.listed, ap (λ (x : Fault). x.frame) a.is ∙ frame_of due.discovered.id due.keys a.flaw)
+      (due.discovered, due.place.listed, ap (λ (x : Fault). x.frame) a.is ∙ frame_of due.discovered.id due.keys a.wrong)
 
   -- a due fault has one place
   pub place_is_one : (f : Fault) (due : IsDue base policy found f) (i : ℕ) → IsOfPlace found i f
@@ -67,15 +67,15 @@ module _ (base : BaseView) (policy : Policy) (found : List Discovered) (finding 
   -- at one place of one frame
   module _ (i : ℕ) (d : Discovered) (listed : slice_get found i ≡ std.Some d) (frame : Frame) (at : frame_at base d.id ≡ std.Some frame) (turn : ℕ) (small : turn < 14) where
     -- the answer is due there
-    due_there : (flaw : Flaw) → asked base policy frame d.rank turn ≡ std.Some flaw
-        → (due : IsDue base policy found (fault_of d.id (script found i) flaw)) × (turn_at due.index (fault_of d.id (script found i) flaw) ≡ i * 14 + turn)
-    due_there flaw e =
-        let a = asked_due base policy d.id frame at d.rank (listed_frame policy.groups base found finding i d listed).rank (script found i) turn small flaw e in
+    due_there : (wrong : FrameFault) → asked base policy frame d.rank turn ≡ std.Some wrong
+        → (due : IsDue base policy found (fault_of d.id (script found i) wrong)) × (turn_at due.index (fault_of d.id (script found i) wrong) ≡ i * 14 + turn)
+    due_there wrong e =
+        let a = asked_due base policy d.id frame at d.rank (listed_frame policy.groups base found finding i d listed).rank (script found i) turn small wrong e in
         (record { index = i; discovered = d; frame = frame; keys = script found i; place = record { listed = listed; of_frame = at; script = refl }; due = a.due }, ap (λ (t : ℕ). i * 14 + t) a.placed)
 
     -- what is due there is the answer
     there_is : (f : Fault) (due : IsDue base policy found f) → turn_at due.index f ≡ i * 14 + turn
-        → (flaw : Flaw) × (asked base policy frame d.rank turn ≡ std.Some flaw) × (f ≡ fault_of d.id (script found i) flaw)
+        → (wrong : FrameFault) × (asked base policy frame d.rank turn ≡ std.Some wrong) × (f ≡ fault_of d.id (script found i) wrong)
     there_is f due e =
         let a = answer_of f due in
         let parts = place_parts due.index i (turn_of f.kind f.key) turn a.in_turn small e in
@@ -86,7 +86,7 @@ module _ (base : BaseView) (policy : Policy) (found : List Discovered) (finding 
         ap (λ (x : Frame). asked base policy x due.discovered.rank (turn_of f.kind f.key)) record_is
         ∙ ap (λ (x : Discovered). asked base policy frame x.rank (turn_of f.kind f.key)) same
         ∙ ap (asked base policy frame d.rank) parts.1 in
-        (a.flaw, sym is ∙ a.answered, a.is ∙ ap (λ (x : Discovered). fault_of x.id due.keys a.flaw) same ∙ ap (λ (k : List Key). fault_of d.id k a.flaw) keys)
+        (a.wrong, sym is ∙ a.answered, a.is ∙ ap (λ (x : Discovered). fault_of x.id due.keys a.wrong) same ∙ ap (λ (k : List Key). fault_of d.id k a.wrong) keys)
 
 module _ (base : BaseView) (policy : Policy) (found : List Discovered) (finding : IsFinding policy.groups base found) where
   below_more : (p : ℕ) (f : Fault) → IsDueBelow base policy found p f → IsDueBelow base policy found (p + 1) f
@@ -96,8 +96,8 @@ module _ (base : BaseView) (policy : Policy) (found : List Discovered) (finding 
     abbrev p : ℕ
     p = i * 14 + turn
 
-    abbrev mine : Flaw → Fault
-    mine flaw = fault_of d.id (script found i) flaw
+    abbrev mine : FrameFault → Fault
+    mine wrong = fault_of d.id (script found i) wrong
 
     -- no answer: nothing more is due
     none_reported : (faults : List Fault) → asked base policy frame d.rank turn ≡ std.None
@@ -115,33 +115,33 @@ module _ (base : BaseView) (policy : Policy) (found : List Discovered) (finding 
     }
 
     -- an answer: its fault goes last
-    one_reported : (faults : List Fault) (flaw : Flaw) → asked base policy frame d.rank turn ≡ std.Some flaw
-        → IsReported base policy found p faults → IsReported base policy found (p + 1) (faults ++ mine flaw ∷ [])
-    one_reported faults flaw some reported =
-        let own = due_there base policy found finding i d listed frame at turn small flaw some in
+    one_reported : (faults : List Fault) (wrong : FrameFault) → asked base policy frame d.rank turn ≡ std.Some wrong
+        → IsReported base policy found p faults → IsReported base policy found (p + 1) (faults ++ mine wrong ∷ [])
+    one_reported faults wrong some reported =
+        let own = due_there base policy found finding i d listed frame at turn small wrong some in
         record {
-          just = All-push (IsDueBelow base policy found (p + 1)) faults (mine flaw) (All-weaker (IsDueBelow base policy found p) (IsDueBelow base policy found (p + 1)) (below_more p) faults reported.just) (record { due = own.0; below = omega (arith, own.1) });
+          just = All-push (IsDueBelow base policy found (p + 1)) faults (mine wrong) (All-weaker (IsDueBelow base policy found p) (IsDueBelow base policy found (p + 1)) (below_more p) faults reported.just) (record { due = own.0; below = omega (arith, own.1) });
           whole = λ f h. elim (cases_lt (turn_at h.due.index f) p) [
-            | inl below ↦ Contains-append_left faults (mine flaw ∷ []) f (reported.whole f (record { due = h.due; below = below }))
+            | inl below ↦ Contains-append_left faults (mine wrong ∷ []) f (reported.whole f (record { due = h.due; below = below }))
             | inr ge ↦
                 let w = there_is base policy found finding i d listed frame at turn small f h.due (omega (arith, ge, h.below)) in
-                let same : flaw ≡ w.0 = same_Some flaw w.0 (sym some ∙ w.1) in
-                let is : mine flaw ≡ f = ap mine same ∙ sym w.2 in
-                subst (λ (x : Fault). Contains (faults ++ mine flaw ∷ []) x) is (Contains-push faults (mine flaw))
+                let same : wrong ≡ w.0 = same_Some wrong w.0 (sym some ∙ w.1) in
+                let is : mine wrong ≡ f = ap mine same ∙ sym w.2 in
+                subst (λ (x : Fault). Contains (faults ++ mine wrong ∷ []) x) is (Contains-push faults (mine wrong))
           ];
-          in_order = all_pairs_push (StandsBefore found) faults (mine flaw) reported.in_order (λ k x lt.
+          in_order = all_pairs_push (StandsBefore found) faults (mine wrong) reported.in_order (λ k x lt.
               let before = All-get_or (IsDueBelow base policy found p) faults k x lt reported.just in
-              stands_before base policy found finding (get_or faults k x) (mine flaw) before.due own.0 (omega (arith, before.below, own.1)));
+              stands_before base policy found finding (get_or faults k x) (mine wrong) before.due own.0 (omega (arith, before.below, own.1)));
         }
 
-    reported_more : (faults : List Fault) (answer : Option Flaw) → asked base policy frame d.rank turn ≡ answer
+    reported_more : (faults : List Fault) (answer : Option FrameFault) → asked base policy frame d.rank turn ≡ answer
         → IsReported base policy found p faults
         → IsReported base policy found (p + 1) (faults ++ option_to_list (option_map mine answer))
     reported_more faults std.None e reported = subst (IsReported base policy found (p + 1)) (sym (append-nil faults)) (none_reported faults e reported)
-    reported_more faults (std.Some flaw) e reported = one_reported faults flaw e reported
+    reported_more faults (std.Some wrong) e reported = one_reported faults wrong e reported
 
     -- of the reporter
-    pub reporting_more : (old new : Reporter) (answer : Option Flaw) → asked base policy frame d.rank turn ≡ answer
+    pub reporting_more : (old new : Reporter) (answer : Option FrameFault) → asked base policy frame d.rank turn ≡ answer
         → IsReporting base policy found p old → HasScript found new.at new.keys.items
         → new.faults.items ≡ old.faults.items ++ option_to_list (option_map mine answer)
         → IsReporting base policy found (p + 1) new
@@ -163,7 +163,7 @@ module _ (base : BaseView) (policy : Policy) (found : List Discovered) (finding 
   }
 
 -- one answer more, of the frame at an index
-pub step : (survey : SurveyView) (policy : Policy) (i : ℕ) (d : Discovered) (listed : slice_get survey.found i ≡ std.Some d) (frame : Frame) (at : IsFrameAt survey i frame) (p q turn : ℕ) → turn < 14 → p ≡ i * 14 + turn → q ≡ p + 1 → (old new : Reporter) (answer : Option Flaw) → asked survey.base policy frame d.rank turn ≡ answer → IsReporting survey.base policy survey.found p old → HasScript survey.found new.at new.keys.items → new.faults.items ≡ old.faults.items ++ option_to_list (option_map (fault_of d.id (script survey.found i)) answer) → IsReporting survey.base policy survey.found q new
+pub step : (survey : SurveyView) (policy : Policy) (i : ℕ) (d : Discovered) (listed : slice_get survey.found i ≡ std.Some d) (frame : Frame) (at : IsFrameAt survey i frame) (p q turn : ℕ) → turn < 14 → p ≡ i * 14 + turn → q ≡ p + 1 → (old new : Reporter) (answer : Option FrameFault) → asked survey.base policy frame d.rank turn ≡ answer → IsReporting survey.base policy survey.found p old → HasScript survey.found new.at new.keys.items → new.faults.items ≡ old.faults.items ++ option_to_list (option_map (fault_of d.id (script survey.found i)) answer) → IsReporting survey.base policy survey.found q new
 step survey policy i d listed frame at p q turn small here next old new answer e reporting script more =
     let before = subst (λ (n : ℕ). IsReporting survey.base policy survey.found n old) here reporting in
     subst (λ (n : ℕ). IsReporting survey.base policy survey.found n new) (omega (arith, here, next)) (reporting_more survey.base policy survey.found reporting.finding i d listed frame (at d listed) turn small old new answer e before script more)

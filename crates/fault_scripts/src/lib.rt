@@ -18,7 +18,7 @@
 
 mod auditing;
 mod fault;
-mod flaw;
+mod frame_fault;
 mod frames;
 mod laws;
 mod outcome;

@@ -3,11 +3,11 @@ ghost use Rattle.std.specs.Option.{option_to_list};
 ghost use Rattle.abstract_paint.specs.Paint.{paint_of};
 ghost use Rattle.finder.specs.Finds.{ScriptsExtend, script};
 ghost use Rattle.finder.specs.Survey.{IsFrameAt};
-ghost use Rattle.fault_scripts.specs.Flaws.{fault_of};
+ghost use Rattle.fault_scripts.specs.FrameFaults.{fault_of};
 ghost use Rattle.fault_scripts.specs.Loops.{HasScript, CanLead, IsReporting};
 
 use crate::fault::Fault;
-use crate::flaw::{Flaw, price_flaw, return_flaw, touch_flaw, way_flaw};
+use crate::frame_fault::{FrameFault, over_price, return_fault, touch_start, way_fault};
 use abstract_paint::Painted;
 use checker::Policy;
 use finder::{Discovered, Found, Survey, script_to};
@@ -97,27 +97,27 @@ impl Reporter {
         Ok(())
     }
 
-    // Reports a flaw of the frame at an index, if there is one.
+    // Reports the fault of the frame at an index, if there is one.
     fn report(
         &mut self,
         alloc: Global,
         survey: &Survey,
         index: u32,
         id: FrameId,
-        flaw: Option<Flaw>,
+        wrong: Option<FrameFault>,
     ) -> Result<(), AllocError>
         requires within { index < length survey.now.found }
         requires extends { ScriptsExtend survey.now.found }
         requires script { HasScript survey.now.found self.old.at self.old.keys.items }
         ensures script { OnOk result (HasScript survey.now.found self.new.at self.new.keys.items) }
         ensures reported { OnOk result (self.new.faults.items ≡ self.old.faults.items ++
-            option_to_list (option_map (fault_of id (script survey.now.found index)) flaw)) }
+            option_to_list (option_map (fault_of id (script survey.now.found index)) wrong)) }
     {
-        let Some(flaw) = flaw else {
+        let Some(wrong) = wrong else {
             return Ok(());
         };
         self.seek_to(alloc, survey.found(), index)?;
-        let fault = flaw.fault(alloc, id, self.keys.as_slice())?;
+        let fault = wrong.fault(alloc, id, self.keys.as_slice())?;
         self.faults.push(fault)?;
         Ok(())
     }
@@ -146,20 +146,20 @@ impl Reporter {
             survey,
             index,
             id,
-            price_flaw(policy.ceiling, frame.price),
+            over_price(policy.ceiling, frame.price),
         )?;
-        self.report(alloc, survey, index, id, touch_flaw(frame, painted))?;
+        self.report(alloc, survey, index, id, touch_start(frame, painted))?;
         for place in 0..Way::COUNT {
             let way = Way::at(place);
-            let flaw = way_flaw(&way, survey.follow(index as usize, &way));
-            self.report(alloc, survey, index, id, flaw)?;
+            let wrong = way_fault(&way, survey.follow(index as usize, &way));
+            self.report(alloc, survey, index, id, wrong)?;
         }
         self.report(
             alloc,
             survey,
             index,
             id,
-            return_flaw(policy.keyings, discovered.rank),
+            return_fault(policy.keyings, discovered.rank),
         )?;
         Ok(())
     }
