@@ -107,8 +107,8 @@ fn push_both_lines(
     line: usize,
     excerpt: Excerpt,
 ) -> Result<(), AllocError>
-    requires { (excerpt.from ≤ excerpt.begin) × (excerpt.begin ≤ excerpt.end) × (excerpt.end ≤ excerpt.to) ×
-        (excerpt.to ≤ length text.now) }
+    requires { (excerpt.from ≤ excerpt.begin) × (excerpt.begin ≤ excerpt.end) × (excerpt.end ≤ excerpt.to)
+        × (excerpt.to ≤ length text.now) }
     ensures { OnOk result (out.new.items ≡ out.old.items ++ spec.both_lines text.now line excerpt) }
 {
     push_number_bar(out, line)?;

@@ -161,8 +161,8 @@ pub fn push_command(
     lines: &TextLines<'_>,
     finding: &Finding,
 ) -> Result<(), AllocError>
-    ensures { OnOk result ((bytes : List ℕ) → path.now ≡ line_of bytes →
-        spec.AddsCommand bytes lines.now finding.now out.old.items out.new.items) }
+    ensures { OnOk result ((bytes : List ℕ) → path.now ≡ line_of bytes
+        → spec.AddsCommand bytes lines.now finding.now out.old.items out.new.items) }
 {
     let extent = lines.extent(finding.span);
     let words = &finding.words;

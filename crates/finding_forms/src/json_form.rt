@@ -46,8 +46,8 @@ fn object(
     words: &Words,
     hint: Option<&Line>,
 ) -> Result<Value, AllocError>
-    ensures { IfOk result (λ value. view value ≡
-        spec.object_data file.now extent level words.now (option_copied hint.entry)) }
+    ensures { IfOk result (λ value. view value
+        ≡ spec.object_data file.now extent level words.now (option_copied hint.entry)) }
 {
     let about = words.about();
     let frame = frame_value(alloc, about.frame)?;
@@ -98,8 +98,8 @@ pub fn push_object(
     lines: &TextLines<'_>,
     finding: &Finding,
 ) -> Result<(), AllocError>
-    ensures { OnOk result ((bytes : List ℕ) → file.now ≡ utf8_lossy bytes →
-        spec.AddsObject bytes lines.now finding.now out.old.items out.new.items) }
+    ensures { OnOk result ((bytes : List ℕ) → file.now ≡ utf8_lossy bytes
+        → spec.AddsObject bytes lines.now finding.now out.old.items out.new.items) }
 {
     let extent = lines.extent(finding.span);
     let words = &finding.words;

@@ -125,8 +125,8 @@ pub fn push_line_finding(
     lines: &TextLines<'_>,
     finding: &Finding,
 ) -> Result<(), AllocError>
-    ensures { OnOk result ((bytes : List ℕ) → path.now ≡ line_of bytes →
-        AddsLine bytes lines.now finding.now out.old.items out.new.items) }
+    ensures { OnOk result ((bytes : List ℕ) → path.now ≡ line_of bytes
+        → AddsLine bytes lines.now finding.now out.old.items out.new.items) }
 {
     let place = begin_of(lines, finding.span);
     let words = &finding.words;

@@ -48,8 +48,8 @@ fn ranks_of(alloc: Global, found: &[Discovered]) -> Result<Vec<(FrameId, Option<
 }
 
 fn is_unreached(ranks: &Ranks, groups: &Groups, frame: &Frame) -> bool
-    ensures { (known : List (Id × Option ℕ)) → Knows known ranks.now → result ≡
-        spec.is_unreached groups.now known frame.now }
+    ensures { (known : List (Id × Option ℕ)) → Knows known ranks.now
+        → result ≡ spec.is_unreached groups.now known frame.now }
 {
     frame.is_open(groups) && ranks.get(frame.id).is_none()
 }
@@ -61,8 +61,8 @@ fn unreached(
     groups: &Groups,
     frames: &[Frame],
 ) -> Result<Vec<FrameId>, AllocError>
-    ensures { IfOk result (λ ids. (known : List (Id × Option ℕ)) → Knows known ranks.now → ids.items ≡
-        spec.ids_of (spec.unreached groups.now known frames.now)) }
+    ensures { IfOk result (λ ids. (known : List (Id × Option ℕ)) → Knows known ranks.now
+        → ids.items ≡ spec.ids_of (spec.unreached groups.now known frames.now)) }
 {
     let mut ids = Vec::new(alloc);
     for frame in frames {
@@ -224,13 +224,14 @@ impl<'a> Sources<'a> {
         ranks: &Ranks,
         fault: &Fault,
     ) -> Result<Finding, AllocError>
-        ensures finding { IfOk result (λ f. (ms : List Mark) (tables : List (Id × ℕ)) (known : List (Id × Option ℕ)) →
-            spec.AreKnown ms tables self.now → Knows known ranks.now
-            → IsTable self.now.text.now.text.now ms (seen table.old) → f ≡
-            spec.fault_finding self.now.text.now.text.now ms tables self.now.base.now self.now.policy.now known fault.now) }
+        ensures finding { IfOk result (λ f. (ms : List Mark) (tables : List (Id × ℕ)) (known : List (Id × Option ℕ))
+            → spec.AreKnown ms tables self.now → Knows known ranks.now
+            → IsTable self.now.text.now.text.now ms (seen table.old)
+            → f ≡ spec.fault_finding self.now.text.now.text.now ms tables self.now.base.now
+            self.now.policy.now known fault.now) }
         ensures table { OnOk result ((ms : List Mark) → KnowsTables ms self.now.text.now
-            → IsTable self.now.text.now.text.now ms (seen table.old) →
-            IsTable self.now.text.now.text.now ms (seen table.new)) }
+            → IsTable self.now.text.now.text.now ms (seen table.old)
+            → IsTable self.now.text.now.text.now ms (seen table.new)) }
     {
         let frame = kind_table(self.table_of(fault.frame), fault.kind);
         self.text.turn(alloc, table, frame)?;
@@ -245,10 +246,11 @@ impl<'a> Sources<'a> {
         audit: &Audit,
         findings: &mut Vec<Finding>,
     ) -> Result<(), AllocError>
-        ensures { OnOk result ((ms : List Mark) (tables : List (Id × ℕ)) (known : List (Id × Option ℕ)) →
-            spec.AreKnown ms tables self.now → Knows known audit.now.ranks
+        ensures { OnOk result ((ms : List Mark) (tables : List (Id × ℕ)) (known : List (Id × Option ℕ))
+            → spec.AreKnown ms tables self.now → Knows known audit.now.ranks
             → findings.new.items ≡ findings.old.items ++
-            map (spec.fault_finding self.now.text.now.text.now ms tables self.now.base.now self.now.policy.now known) audit.now.faults) }
+            map (spec.fault_finding self.now.text.now.text.now ms tables self.now.base.now
+            self.now.policy.now known) audit.now.faults) }
     {
         let mut table = self.text.table(alloc, None)?;
         for fault in audit.faults.as_slice() {
@@ -258,8 +260,8 @@ impl<'a> Sources<'a> {
     }
 
     fn warning(&self, alloc: Global, id: FrameId) -> Result<Finding, AllocError>
-        ensures { IfOk result (λ f. (ms : List Mark) (tables : List (Id × ℕ)) → spec.AreKnown ms tables self.now → f ≡
-            spec.warning self.now.text.now.text.now ms tables id) }
+        ensures { IfOk result (λ f. (ms : List Mark) (tables : List (Id × ℕ)) → spec.AreKnown ms tables self.now
+            → f ≡ spec.warning self.now.text.now.text.now ms tables id) }
     {
         let words = unreached_words(alloc, id)?;
         Ok(Finding::warning(self.text.frame_whole(self.table_of(id)), words))

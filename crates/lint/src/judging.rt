@@ -12,9 +12,6 @@ ghost use Rattle.lint.specs.Lint as spec;
 
 use crate::audit_findings::{Audit, Sources};
 use crate::finding::Finding;
-use crate::laws::{
-    lint_follows_base_read, lint_warns_of_unreached, no_error_is_safe, spans_lie_in_the_text,
-};
 use crate::lookup::Lookup;
 use crate::order::put_in_order;
 use crate::tables::TextTables;
@@ -83,8 +80,8 @@ fn faulty(
     faults: &[TextFault],
     whole: &[WholeFault],
 ) -> Result<Vec<Finding>, AllocError>
-    ensures { IfOk result (λ fs. (ms : Members) → parse_document text.now ≡ Some ms → fs.items ≡
-        map (spec.text_finding text.now (marks text.now)) faults.now ++
+    ensures { IfOk result (λ fs. (ms : Members) → parse_document text.now ≡ Some ms
+        → fs.items ≡ map (spec.text_finding text.now (marks text.now)) faults.now ++
         map (spec.whole_finding text.now (marks text.now)) whole.now) }
 {
     let places = Places::of(alloc, text)?;
@@ -105,8 +102,8 @@ fn audited(
     base: &Base,
     policy: &Policy,
 ) -> Result<Vec<Finding>, AllocError>
-    ensures { IfOk result (λ fs. (ms : Members) → parse_document text.now ≡ Some ms →
-        spec.AreAuditFindings text.now (marks text.now) tables.now base.now policy.now fs.items) }
+    ensures { IfOk result (λ fs. (ms : Members) → parse_document text.now ≡ Some ms
+        → spec.AreAuditFindings text.now (marks text.now) tables.now base.now policy.now fs.items) }
 {
     let audit = Audit::of(alloc, base, policy)?;
     if audit.is_clear() {
@@ -224,10 +221,6 @@ pub fn lint(alloc: Global, text: &[u8], policy: &Policy) -> Result<Vec<Finding>,
     ensures warnings { IfOk result (λ fs. WarnsOfUnreached text.now policy.now fs.items) }
     ensures spans { IfOk result (λ fs. SpansLieIn text.now fs.items) }
 {
-    lint_follows_base_read();
-    no_error_is_safe();
-    lint_warns_of_unreached();
-    spans_lie_in_the_text();
     let mut findings = judged(alloc, text, policy)?;
     put_in_order(&mut findings)?;
     Ok(findings)

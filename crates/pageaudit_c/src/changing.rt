@@ -72,8 +72,8 @@ fn judged(
     requires of_new { IsEditionOf (edition new_texts.base.now new_texts.cert.now) new.now.base new.now.cert }
     ensures answer { IsVerdictAnswer (edition old_texts.entry.base.now old_texts.entry.cert.now)
         (edition new_texts.entry.base.now new_texts.entry.cert.now) policy.now result.status result.text.items }
-    ensures safe { result.status ≡ Clear →
-        IsSafeChangeOf (edition old_texts.entry.base.now old_texts.entry.cert.now)
+    ensures safe { result.status ≡ Clear
+        → IsSafeChangeOf (edition old_texts.entry.base.now old_texts.entry.cert.now)
         (edition new_texts.entry.base.now new_texts.entry.cert.now) policy.now }
 {
     let verdict = check_change(&old.base, &old.cert, &new.base, &new.cert, policy);
@@ -84,8 +84,8 @@ fn judged(
 fn changed(alloc: Global, old_texts: Texts<'_>, new_texts: Texts<'_>, policy: &Policy) -> Answer
     ensures answer { IsChangeAnswer (edition old_texts.entry.base.now old_texts.entry.cert.now)
         (edition new_texts.entry.base.now new_texts.entry.cert.now) policy.now result.status result.text.items }
-    ensures safe { result.status ≡ Clear →
-        IsSafeChangeOf (edition old_texts.entry.base.now old_texts.entry.cert.now)
+    ensures safe { result.status ≡ Clear
+        → IsSafeChangeOf (edition old_texts.entry.base.now old_texts.entry.cert.now)
         (edition new_texts.entry.base.now new_texts.entry.cert.now) policy.now }
 {
     let old = match edition_of(alloc, old_texts) {
@@ -111,8 +111,8 @@ fn change_answer(
     ensures answer { IsAskedAnswer (IsChangeAnswer (edition old_texts.entry.base.now old_texts.entry.cert.now)
         (edition new_texts.entry.base.now new_texts.entry.cert.now))
         (asked ceiling keyings groups.now) result.status result.text.items }
-    ensures safe { result.status ≡ Clear →
-        HoldsForPolicy (IsSafeChangeOf (edition old_texts.entry.base.now old_texts.entry.cert.now)
+    ensures safe { result.status ≡ Clear
+        → HoldsForPolicy (IsSafeChangeOf (edition old_texts.entry.base.now old_texts.entry.cert.now)
         (edition new_texts.entry.base.now new_texts.entry.cert.now)) (asked ceiling keyings groups.now) }
 {
     match policy_of(ceiling, keyings, groups) {
@@ -142,8 +142,8 @@ pub extern "C" fn pageaudit_change(
         (asked ceiling keyings groups.now) (buffer line.old line.new full_length.new) result }
 
     // If the status is Clear, callers stay safe over the change.
-    ensures safe { result ≡ 0 →
-        HoldsForPolicy (IsSafeChangeOf (edition old_base.now old_cert.now) (edition new_base.now new_cert.now))
+    ensures safe { result ≡ 0
+        → HoldsForPolicy (IsSafeChangeOf (edition old_base.now old_cert.now) (edition new_base.now new_cert.now))
         (asked ceiling keyings groups.now) }
 {
     let old = Texts {

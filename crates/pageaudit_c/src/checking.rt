@@ -56,8 +56,8 @@ fn check_answer(
 ) -> Answer
     ensures answer { IsAskedAnswer (IsCheckAnswer base.now cert.now)
         (asked ceiling keyings groups.now) result.status result.text.items }
-    ensures headline { result.status ≡ Clear →
-        HoldsForPolicy (Headline base.now cert.now) (asked ceiling keyings groups.now) }
+    ensures headline { result.status ≡ Clear
+        → HoldsForPolicy (Headline base.now cert.now) (asked ceiling keyings groups.now) }
 {
     match policy_of(ceiling, keyings, groups) {
         Some(policy) => checked(alloc, base, cert, &policy),

@@ -1,10 +1,6 @@
 use Rattle.std.proofs.Common.{◌≡◌, ◌∙◌, ◌++◌, map, ap, subst}
 use Rattle.toml_places.specs.Places.{marks}
 use Rattle.base_text.specs.Drafts.{DraftView}
-use Rattle.base_text.proofs.DraftTables.{tables_of_frames}
-use Rattle.base_text.proofs.KeptDetails.{begin_alike}
-use Rattle.base_text.proofs.SoundFrames.{entry}
-use Rattle.base_text.proofs.WholeAgreements.{all_agree}
 use Rattle.lint.specs.Lint.{tables_of, text_finding, whole_finding, AreAuditFindings, IsListed, IsRefused}
 use Rattle.page_ids.proofs.Truths.{weaken}
 use Rattle.lint.proofs.Judged.{parsed, HasBase, HasNone, of_base, of_faults}
@@ -29,7 +25,7 @@ returns-in-Some c =
       listed = listed;
       audited = subst (λ t. AreAuditFindings text (marks text) t base policy fs.items) tables (audited c.requires.0 (parsed text c.requires.0 c.requires.2));
     } in
-    of_base all_agree tables_of_frames entry begin_alike text policy fs.items base draft c.requires has) c.audited.ensures
+    of_base text policy fs.items base draft c.requires has) c.audited.ensures
 
 pub returns : goal.returns
 returns c =
@@ -49,4 +45,4 @@ returns c =
           ∙ ap (λ faults. map (text_finding text (marks text)) faults ++ map (whole_finding text (marks text)) c.as_slice-in-None-2.result.now) faults
           ∙ ap (λ whole. map (text_finding text (marks text)) draft.faults ++ map (whole_finding text (marks text)) whole) c.as_slice-in-None-2.ensures.value;
     } in
-    of_faults all_agree tables_of_frames entry begin_alike text policy fs.items draft c.requires has) c.faulty.ensures
+    of_faults text policy fs.items draft c.requires has) c.faulty.ensures
