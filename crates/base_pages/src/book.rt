@@ -116,7 +116,8 @@ fn push_tail(
     faults: &[Fault],
     numbers: &[usize],
 ) -> Result<(), AllocError>
-    ensures { OnOk result (out.new.items ≡ out.old.items ++ spec.section_tail frame.now (picked faults.now numbers.now)) }
+    ensures { OnOk result (out.new.items ≡ out.old.items ++
+        spec.section_tail frame.now (picked faults.now numbers.now)) }
 {
     out.extend_from_slice(over(frame.lead))?;
     push_faults(alloc, out, faults, numbers)?;
@@ -133,7 +134,8 @@ fn codes(
 ) -> Result<[u8; 960], AllocError>
     requires same { painter.now.base ≡ base.now }
     requires within { IfSome place (λ p. p < length painter.now.found) }
-    ensures { IfOk result (λ codes. codes ≡ screen_codes base.now (way_by painter.now.groups base.now painter.now.found id place)) }
+    ensures { IfOk result (λ codes. codes ≡
+        screen_codes base.now (way_by painter.now.groups base.now painter.now.found id place)) }
 {
     match place {
         Some(place) => Ok(painter.screen(place)),
@@ -165,7 +167,8 @@ impl<'a> Book<'a> {
         numbers: &[usize],
     ) -> Result<(), AllocError>
         ensures { OnOk result (out.new.items ≡ out.old.items
-            ++ spec.section_end self.now.groups.now self.now.base.now self.now.part.now frame.now (picked self.now.faults.now numbers.now)) }
+            ++ spec.section_end self.now.groups.now self.now.base.now self.now.part.now frame.now
+            (picked self.now.faults.now numbers.now)) }
     {
         push_price(out, frame.price)?;
         self.push_ways(out, frame)?;
