@@ -17,7 +17,7 @@ use Rattle.frame_records.specs.declared.base.Sought as seeking
 use Rattle.frame_records.specs.declared.base.Sought.TheVariants as seek_result
 use Rattle.frame_records.specs.declared.ways.Destination.{Destination}
 use Rattle.frame_records.specs.declared.ways.Destination.TheVariants.{NotOffered, Found, Closed, Missing, Outside}
-use Rattle.frame_records.specs.Bases.{BaseView, IsBase, HaveLetters, lists_outside}
+use Rattle.frame_records.specs.Bases.{BaseView, lists_outside}
 use Rattle.frame_records.specs.Seek.{entry_of, route_of, seek}
 use Rattle.frame_records.specs.Ways.{destination_of, offered_by, sought, sought_by, missing_by}
 use Rattle.cert_text.specs.Grammar.{spaced}
@@ -42,7 +42,7 @@ use Rattle.base_pages.specs.Screens.{is_reached, screen_of}
 use Rattle.base_pages.specs.Sections.{BookView, class_of, opening, section_begin, screen_forms, price_line, over, ways_begin, ways_line, section_tail, section_end, section, sections}
 use Rattle.base_pages.specs.Head.{name_line, counted, ceiling_text, keyings_text, ceiling_asked, keyings_asked, certified_begin, certified, faulty, verdict_text, groups_text, policy_line, faults_in, header_begin, header_end, header}
 use Rattle.base_pages.specs.Shell.{head, middle, foot}
-use Rattle.base_pages.specs.Tags.{tag_list, class_tag, begin_tags, link_tags, marked_tags, way_tags, over_tags, item_tags, fault_tags, end_tags, picture_tags, section_tags, verdict_tags, header_tags, page_tags}
+use Rattle.base_pages.specs.Tags.{tag_list, class_tag, begin_tags, link_tags, marked_tags, way_tags, over_tags, item_tags, fault_tags, end_tags, picture_tags, section_tags, verdict_tags, header_tags, page_tags, HasLetter, HaveLetters}
 use Rattle.base_pages.specs.Pages.{page, front}
 
 -- The reader that knows only tags: from a text that begins outside of tags, or inside of one after these bytes.
@@ -185,29 +185,29 @@ begin_step id r is =
     (outside (frame_text id) (outer_id id is)))
     (λ rest. refl)
 
--- A base's ids end in letters, and so do those that ways lead to.
+-- If the id of a frame ends in a letter, so do those that its ways lead to.
 
-abbrev HasLetter : Destination → Type 0
-HasLetter NotOffered = Unit {0}
-HasLetter (Found to price) = IsLetter to.letter
-HasLetter (Closed to) = IsLetter to.letter
-HasLetter (Missing to) = IsLetter to.letter
-HasLetter (Outside page) = Unit {0}
+abbrev LeadsToLetter : Destination → Type 0
+LeadsToLetter NotOffered = Unit {0}
+LeadsToLetter (Found to price) = IsLetter to.letter
+LeadsToLetter (Closed to) = IsLetter to.letter
+LeadsToLetter (Missing to) = IsLetter to.letter
+LeadsToLetter (Outside page) = Unit {0}
 
 abbrev MayHaveLetter : Option Id → Type 0
 MayHaveLetter None = Unit {0}
 MayHaveLetter (Some id) = IsLetter id.letter
 
-missing_letter : (base : BaseView) (way : Way) (to : Id) → IsLetter to.letter → HasLetter (missing_by base way to)
-missing_letter base (Route digit) to is = choice HasLetter (lists_outside base to.page) (Outside to.page) (Missing to) (λ e. tt) (λ e. is)
+missing_letter : (base : BaseView) (way : Way) (to : Id) → IsLetter to.letter → LeadsToLetter (missing_by base way to)
+missing_letter base (Route digit) to is = choice LeadsToLetter (lists_outside base to.page) (Outside to.page) (Missing to) (λ e. tt) (λ e. is)
 missing_letter base Next to is = is
 
-sought_letter : (base : BaseView) (way : Way) (to : Id) (result : seeking.Sought) → IsLetter to.letter → HasLetter (sought_by base way to result)
+sought_letter : (base : BaseView) (way : Way) (to : Id) (result : seeking.Sought) → IsLetter to.letter → LeadsToLetter (sought_by base way to result)
 sought_letter base way to (seek_result.Found price) is = is
 sought_letter base way to seek_result.Closed is = is
 sought_letter base way to seek_result.Missing is = missing_letter base way to is
 
-offered_letter : (caller : List ℕ) (base : BaseView) (way : Way) (to : Option Id) → MayHaveLetter to → HasLetter (offered_by caller base way to)
+offered_letter : (caller : List ℕ) (base : BaseView) (way : Way) (to : Option Id) → MayHaveLetter to → LeadsToLetter (offered_by caller base way to)
 offered_letter caller base way None is = tt
 offered_letter caller base way (Some to) is = sought_letter base way to (seek caller base to) is
 
@@ -225,7 +225,7 @@ sought_id_letter : (f : Frame) → IsLetter f.id.letter → (way : Way) → MayH
 sought_id_letter f is (Route digit) = route_letter (route_of f digit)
 sought_id_letter f is Next = choice MayHaveLetter (f.next && nat_lt f.id.letter 122) _ _ (λ e. following_letter f.id.letter f.next is e) (λ e. tt)
 
-way_letter : (caller : List ℕ) (base : BaseView) (f : Frame) → IsLetter f.id.letter → (way : Way) → HasLetter (destination_of caller base f way)
+way_letter : (caller : List ℕ) (base : BaseView) (f : Frame) → IsLetter f.id.letter → (way : Way) → LeadsToLetter (destination_of caller base f way)
 way_letter caller base f is way = offered_letter caller base way (sought f way) (sought_id_letter f is way)
 
 -- Ways.
@@ -287,7 +287,7 @@ found_step : (part : Option (List Id)) (key : Key) (to : Id) (b : Bool) → IsLe
 found_step part key to true is k = link_step to key is k
 found_step part key to false is k = marked_step (codes "elsewhere") key (frame_text to) refl k (outer_id to is)
 
-way_step : (part : Option (List Id)) (key : Key) (leads : Destination) → HasLetter leads → Inner (key_word key) → Step false [] (way_text part key leads) (way_tags part key leads) false []
+way_step : (part : Option (List Id)) (key : Key) (leads : Destination) → LeadsToLetter leads → Inner (key_word key) → Step false [] (way_text part key leads) (way_tags part key leads) false []
 way_step part key NotOffered is k = λ rest. refl
 way_step part key (Found to price) is k = found_step part key to (shows part to) is k
 way_step part key (Closed to) is k = marked_step (codes "closed") key (frame_text to) refl k (outer_id to is)
@@ -444,13 +444,12 @@ section_step b f is =
 abbrev shown : BookView → List Frame → List Frame
 shown b fs = filter (λ f. shows b.part f.id) fs
 
-sections_step : (b : BookView) (fs : List Frame) → HaveLetters fs → Step false [] (sections b fs) (flat_map (section_tags b) (shown b fs)) false []
+sections_step : (b : BookView) (fs : List Frame) → HaveLetters b.part fs → Step false [] (sections b fs) (flat_map (section_tags b) (shown b fs)) false []
 sections_step b [] h = λ rest. refl
 sections_step b (f ∷ fs) h =
-    let is : IsLetter f.id.letter = All-head (λ (g : Frame). IsLetter g.id.letter) f fs h in
-    let later = sections_step b fs (All-tail (λ (g : Frame). IsLetter g.id.letter) f fs h) in
+    let later = sections_step b fs (All-tail (HasLetter b.part) f fs h) in
     choice (λ (gs : List Frame). Step false [] (flat_map (section b) gs) (flat_map (section_tags b) gs) false []) (shows b.part f.id) (f ∷ shown b fs) (shown b fs)
-    (λ e. after false false false [] [] [] (section b f) (sections b fs) (section_tags b f) (flat_map (section_tags b) (shown b fs)) (section_step b f is) later)
+    (λ e. after false false false [] [] [] (section b f) (sections b fs) (section_tags b f) (flat_map (section_tags b) (shown b fs)) (section_step b f (All-head (HasLetter b.part) f fs h e)) later)
     (λ e. later)
 
 -- The header.
@@ -615,8 +614,8 @@ middle_step rest = closed false [] middle middle_closed rest ∙ ap (λ (ts : Li
 
 -- The file.
 
-pub has_its_tags : (name : List ℕ) (policy : Policy) (outcome : Outcome) (b : BookView) → IsBase b.base → tag_list (page name policy outcome b) ≡ page_tags outcome b
-has_its_tags name policy outcome b is =
+pub has_its_tags : (name : List ℕ) (policy : Policy) (outcome : Outcome) (b : BookView) → HaveLetters b.part b.base.frames → tag_list (page name policy outcome b) ≡ page_tags outcome b
+has_its_tags name policy outcome b letters =
     let top = header name b.base policy outcome in
     let body = sections b b.base.frames in
     let begun = head ++ top ++ middle in
@@ -627,7 +626,7 @@ has_its_tags name policy outcome b is =
     (after false false false [] [] [] (head ++ top) middle (tag_list head ++ header_tags b.base outcome) (tag_list middle)
     (after false false false [] [] [] head top (tag_list head) (header_tags b.base outcome) head_step (header_step name b.base policy outcome))
     middle_step)
-    (sections_step b b.base.frames is.letters) in
+    (sections_step b b.base.frames letters) in
     let apart : begun ++ body ++ foot ≡ head ++ (top ++ (middle ++ (body ++ foot))) =
     append_assoc begun body foot ∙ append_assoc (head ++ top) middle (body ++ foot) ∙ append_assoc head top (middle ++ (body ++ foot)) in
     ap tag_list apart ∙ opened (head ++ (top ++ (middle ++ (body ++ foot)))) (starts_more head (top ++ (middle ++ (body ++ foot))) head_starts) ∙ ap (tags_from false []) (sym apart)

@@ -4,7 +4,7 @@ use Rattle.std.specs.Option.{option_map_or}
 use Rattle.std.specs.List.{flat_map}
 use Rattle.indexmap.specs.IndexMap.{get}
 use Rattle.page_ids.specs.Ids.{Id, id_eq}
-use Rattle.frame_records.specs.Bases.{BaseView, IsBase}
+use Rattle.frame_records.specs.Bases.{BaseView}
 use Rattle.finder.specs.Finds.{IsFinding}
 use Rattle.frame_screens.specs.Frames.{place_of}
 use Rattle.checker.specs.declared.policy.Policy.{Policy}
@@ -112,7 +112,6 @@ pub record IsPrepared (base : BaseView) (policy : Policy) (p : Prepared) : Type 
   pub of_groups : p.painter.groups ≡ policy.groups
   pub finding : IsFinding policy.groups base p.painter.found
   pub audited : IsOutcome base policy p.outcome
-  pub valid : IsBase base
   pub places : (id : Id) → place_held p.places id ≡ place_of p.painter.found id
   pub index : (id : Id) → kept_of p.index id ≡ numbers_of (numbered 0 (faults_in p.outcome)) id
 

@@ -32,15 +32,26 @@ abbrev pub book : BaseView → Policy → Option (List Id) → List Discovered �
 book base policy part found outcome =
     record { base = base; caller = policy.groups; found = found; faults = faults_in outcome; part = part }
 
--- the file of the part of a base, for the policy's caller, by the frames that this caller reaches and the outcome of the audit; read
--- as markup, it has the tags of its form and no others
+-- the file of the part of a base, for the policy's caller, by the frames that this caller reaches and the outcome of the audit
 pub record IsPage (name : List ℕ) (base : BaseView) (policy : Policy) (part : Option (List Id)) (text : List ℕ) : Type 0 where
   pub found : List Discovered
   pub finding : IsFinding policy.groups base found
   pub outcome : Outcome
   pub audited : IsOutcome base policy outcome
   pub is : text ≡ page name policy outcome (book base policy part found outcome)
-  pub tags : tag_list text ≡ page_tags outcome (book base policy part found outcome)
+
+-- read as markup, it has the tags of its form and no others
+abbrev pub HasItsTags : (name : List ℕ) (base : BaseView) (policy : Policy) (part : Option (List Id)) (text : List ℕ)
+    → IsPage name base policy part text → Type 0
+HasItsTags name base policy part text is =
+    tag_list text ≡ page_tags is.outcome (book base policy part is.found is.outcome)
+
+-- the file was written whole
+pub record IsFileWritten (old new : Seen) (name : List ℕ) (base : BaseView) (policy : Policy) (part : Option (List Id)) : Type 0 where
+  pub text : List ℕ
+  pub is : IsPage name base policy part text
+  pub tags : HasItsTags name base policy part text is
+  pub written : WroteWhole old new text
 
 -- a sink took the front of a text, wasn't flushed and has not failed
 pub record StoppedWithin (old new : Seen) (text : List ℕ) : Type 0 where
@@ -63,7 +74,7 @@ IsPagesFault old new Is Memory = TookAll old new [] ⊎ ((text : List ℕ) × Is
 
 -- the file of a part was written
 abbrev pub IsPartWritten : Seen → Seen → List ℕ → BaseView → Policy → Option (List Id) → Result PagesStatus PagesFault → Type 0
-IsPartWritten old new name base policy part (Ok Written) = (text : List ℕ) × IsPage name base policy part text × WroteWhole old new text
+IsPartWritten old new name base policy part (Ok Written) = IsFileWritten old new name base policy part
 IsPartWritten old new name base policy part (Ok NoPage) = ⊥
 IsPartWritten old new name base policy part (Err fault) = IsPagesFault old new (IsPage name base policy part) fault
 

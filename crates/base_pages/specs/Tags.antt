@@ -1,7 +1,7 @@
 -- The tags of the file, read as markup.
-use Rattle.std.specs.Prelude.{ℕ, Bool, true, false, List, [], ◌∷◌, ◌++◌, Option, codes, filter, length, map, ◌==◌, if◌then◌else◌}
+use Rattle.std.specs.Prelude.{◌≡◌, All, ℕ, Bool, true, false, List, [], ◌∷◌, ◌++◌, Option, codes, filter, length, map, ◌==◌, if◌then◌else◌}
 use Rattle.std.specs.List.{flat_map}
-use Rattle.page_ids.specs.Ids.{Id, frame_text}
+use Rattle.page_ids.specs.Ids.{Id, IsLetter, frame_text}
 use Rattle.page_ids.specs.Keys.{key_word}
 use Rattle.page_ids.specs.declared.key.Key.{Key}
 use Rattle.page_ids.specs.Ways.{way_key, ways}
@@ -75,6 +75,13 @@ picture_tags b f = map (λ p. p.tag) (svg_pieces f.id (screen_of b.caller b.base
 abbrev pub section_tags : BookView → Frame → List (List ℕ)
 section_tags b f =
     begin_tags f.id (is_reached b.found f.id) ++ picture_tags b f ++ (codes "pre" ∷ codes "/pre" ∷ []) ++ end_tags b f
+
+-- ids of those frames that are shown end in letters
+abbrev pub HasLetter : Option (List Id) → Frame → Type 0
+HasLetter part f = shows part f.id ≡ true → IsLetter f.id.letter
+
+abbrev pub HaveLetters : Option (List Id) → List Frame → Type 0
+HaveLetters part frames = All (HasLetter part) frames
 
 -- The tags of the header.
 

@@ -7,7 +7,6 @@ returns c = record {
   of_groups = search rules;
   finding = search rules;
   audited = c.in_ok-outcome.ensures.outcome;
-  valid = c.in_ok-outcome.ensures.valid;
   places = search rules;
   index = search rules;
 }
