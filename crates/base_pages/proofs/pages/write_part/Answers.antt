@@ -20,7 +20,7 @@ module _ (name : List ℕ) (base : BaseView) (policy : Policy) (part : Option (L
   abbrev written_of : List Fault → List ℕ
   written_of faults = page name policy p.outcome (book_of faults)
 
-  is_page : (faults : List Fault) → faults ≡ faults_in p.outcome → IsPage name base policy part (written_of faults)
+  abbrev is_page : (faults : List Fault) → faults ≡ faults_in p.outcome → IsPage name base policy part (written_of faults)
   is_page faults same =
       record { found = p.painter.found; finding = made.finding; outcome = p.outcome; audited = made.audited; is = ap written_of same }
 
