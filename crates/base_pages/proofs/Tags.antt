@@ -40,7 +40,7 @@ use Rattle.base_pages.specs.Faults.{item, items, list_begin, listed, fault_list,
 use Rattle.base_pages.specs.Ways.{link, marked, way_text}
 use Rattle.base_pages.specs.Screens.{is_reached, screen_of}
 use Rattle.base_pages.specs.Sections.{BookView, class_of, opening, section_begin, screen_forms, price_line, over, ways_begin, ways_line, section_tail, section_end, section, sections}
-use Rattle.base_pages.specs.Head.{name_line, counted, ceiling_text, keyings_text, ceiling_asked, keyings_asked, certified_begin, certified, faulty, verdict_text, groups_text, policy_line, faults_in, header_begin, header_end, header}
+use Rattle.base_pages.specs.Head.{name_line, counted, ceiling_text, keyings_text, ceiling_asked, keyings_asked, certified_begin, certified, faulty_begin, faulty, verdict_text, groups_text, policy_line, faults_in, header_begin, header_end, header}
 use Rattle.base_pages.specs.Shell.{head, middle, foot}
 use Rattle.base_pages.specs.Tags.{tag_list, class_tag, begin_tags, link_tags, marked_tags, way_tags, over_tags, item_tags, fault_tags, end_tags, picture_tags, section_tags, verdict_tags, header_tags, page_tags, HasLetter, HaveLetters}
 use Rattle.base_pages.specs.Pages.{page, front}
@@ -504,7 +504,7 @@ paragraph_step begin t ts a b c begins h k l =
     after false false false [] [] [] abc (codes "</p>\n") (t ∷ ts) (codes "/p" ∷ []) whole (λ rest. refl)
 
 verdict_step : (outcome : Outcome) → Step false [] (verdict_text outcome) (verdict_tags outcome) false []
-unfolding certified certified_begin faulty
+unfolding certified certified_begin faulty faulty_begin
 verdict_step (Certified cert) =
     paragraph_step certified_begin (codes "p class=\"verdict certified\"") (codes "/p" ∷ codes "p" ∷ []) (counted (length cert.rows) (codes "frame")) (ceiling_text cert.ceiling) (keyings_text cert.keyings)
     (λ rest. refl) (outer_counted (length cert.rows) (codes "frame") refl) (outer_ceiling cert.ceiling) (outer_keyings cert.keyings)

@@ -38,9 +38,12 @@ unfoldable pub certified : CertView → List ℕ
 certified cert =
     certified_begin ++ counted (length cert.rows) (codes "frame") ++ ceiling_text cert.ceiling ++ keyings_text cert.keyings ++ codes "</p>\n"
 
+unfoldable pub faulty_begin : List ℕ
+faulty_begin = codes "<p class=\"verdict faulty\">"
+
 -- how many faults there are
 unfoldable pub faulty : List Fault → List ℕ
-faulty faults = codes "<p class=\"verdict faulty\">" ++ counted (length faults) (codes "fault") ++ codes "</p>\n"
+faulty faults = faulty_begin ++ counted (length faults) (codes "fault") ++ codes "</p>\n"
 
 abbrev pub verdict_text : Outcome → List ℕ
 verdict_text (Certified cert) = certified cert

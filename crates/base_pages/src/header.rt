@@ -37,10 +37,10 @@ fn push_name(out: &mut Vec<u8>, name: &str) -> Result<(), AllocError>
 
 // How many there are of a thing.
 #[tactic(auto, using(std::proofs::Common::append_assoc), unfolding(crate::specs::Head::counted))]
-fn push_counted(out: &mut Vec<u8>, count: u64, thing: &[u8]) -> Result<(), AllocError>
+fn push_counted(out: &mut Vec<u8>, count: usize, thing: &[u8]) -> Result<(), AllocError>
     ensures { OnOk result (out.new.items ≡ out.old.items ++ spec.counted count thing.now) }
 {
-    push_number(out, count)?;
+    push_number(out, count as u64)?;
     out.extend_from_slice(b" ")?;
     out.extend_from_slice(thing)?;
     if count == 1 {
@@ -65,7 +65,7 @@ fn push_keyings(out: &mut Vec<u8>, keyings: u16) -> Result<(), AllocError>
     ensures { OnOk result (out.new.items ≡ out.old.items ++ spec.keyings_text keyings) }
 {
     out.extend_from_slice(b", at most ")?;
-    push_counted(out, u64::from(keyings), b"key")?;
+    push_counted(out, usize::from(keyings), b"key")?;
     out.extend_from_slice(b" back")
 }
 
@@ -77,10 +77,10 @@ fn certified_begin() -> &'static [u8]
 }
 
 // How many rows a certificate has.
-fn count_of<C: Cover + Drop>(cert: &Certificate<C>) -> u64
+fn count_of<C: Cover + Drop>(cert: &Certificate<C>) -> usize
     ensures { result ≡ length cert.now.rows }
 {
-    cert.cover().len() as u64
+    cert.cover().len()
 }
 
 #[tactic(auto, using(std::proofs::Common::append_assoc), unfolding(crate::specs::Head::certified))]
@@ -98,12 +98,19 @@ fn push_certified<C: Cover + Drop>(
 }
 
 // How many faults there are.
+#[tactic(auto, unfolding(crate::specs::Head::faulty_begin))]
+fn faulty_begin() -> &'static [u8]
+    ensures { result.now ≡ spec.faulty_begin }
+{
+    b"<p class=\"verdict faulty\">"
+}
+
 #[tactic(auto, using(std::proofs::Common::append_assoc), unfolding(crate::specs::Head::faulty))]
 fn push_faulty(out: &mut Vec<u8>, faults: &[Fault]) -> Result<(), AllocError>
     ensures { OnOk result (out.new.items ≡ out.old.items ++ spec.faulty faults.now) }
 {
-    out.extend_from_slice(b"<p class=\"verdict faulty\">")?;
-    push_counted(out, faults.len() as u64, b"fault")?;
+    out.extend_from_slice(faulty_begin())?;
+    push_counted(out, faults.len(), b"fault")?;
     out.extend_from_slice(b"</p>\n")
 }
 
