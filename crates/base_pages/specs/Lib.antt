@@ -7,3 +7,4 @@ pub mod Pages
 pub mod Shell
 pub mod Laws
 pub mod Loops
+pub mod Gallery

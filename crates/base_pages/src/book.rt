@@ -124,7 +124,7 @@ fn push_tail(
 }
 
 // The codes of a frame's screen, by its place among the frames that are reached.
-fn codes(
+pub fn codes(
     alloc: Global,
     base: &Base,
     painter: &Painter,

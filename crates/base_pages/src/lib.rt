@@ -10,6 +10,7 @@
 //! What a base contains gets into the file as ids, numbers and characters for markup alone.
 //!
 //! - [`write_pages`], [`PagesStatus`], [`PagesFault`]: the file of a view of a base.
+//! - [`Gallery`]: the screens of all frames of a base.
 //! - [`sections_have_their_tags`]: a law; names, texts and faults of a base add no tag.
 //! - Definitions: the file (`Pages`), its header (`Head`), a section (`Sections`) with its ways (`Ways`), faults (`Faults`) and
 //!   screen (`Screens`), the fixed parts (`Shell`).
@@ -18,6 +19,7 @@
 mod book;
 mod fault;
 mod faults;
+mod gallery;
 mod header;
 mod index;
 mod laws;
@@ -28,5 +30,6 @@ mod shell;
 mod ways;
 
 pub use fault::PagesFault;
+pub use gallery::Gallery;
 pub use laws::sections_have_their_tags;
 pub use pages::{PagesStatus, write_pages};

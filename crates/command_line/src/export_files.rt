@@ -1,0 +1,146 @@
+//! The command `export`: the screen of each frame of a base, in a file of its own.
+
+ghost use Rattle.std.specs.Prelude.{◌≡◌, false};
+
+use crate::named_files::{Unfinished, open_base, report};
+use crate::out_file::new_beside;
+use audit_report::{FromRead, RunFault};
+use command_words::Export;
+use frame_records::Base;
+use page_ids::FrameId;
+use pageaudit::{Gallery, read_exported};
+use std::alloc::AllocError;
+use std::io::Write;
+use std::rt::Files;
+use std::{fs, io};
+
+// Reads the base.
+fn read_file<R: Files + AllocGlobal>(rt: &R, path: &str) -> Result<Base, Unfinished> {
+    match open_base(rt, path) {
+        Ok(file) => match read_exported(rt.alloc(), &mut FromRead::new(file)) {
+            Ok(base) => Ok(base),
+            Err(RunFault::ReadBase) => Err(Unfinished::Unread("read failed")),
+            Err(fault) => Err(Unfinished::Fault(fault)),
+        },
+        Err(unfinished) => Err(unfinished),
+    }
+}
+
+// Writes a new file and closes it.
+fn write_file<F: Write + Drop>(file: F, codes: &[u8; 960]) -> io::Result<()> {
+    let mut file = file;
+    file.write_all(codes)?;
+    file.flush()
+}
+
+// Writes the codes under another name, which then becomes the file's. No half file is left.
+fn replace<R: Files + AllocGlobal>(rt: &R, path: &str, codes: &[u8; 960]) -> io::Result<()> {
+    let (name, file) = new_beside(rt, path)?;
+    let written = write_file(file, codes);
+    let named = match written {
+        Ok(()) => fs::rename(rt, name.as_str(), path),
+        Err(error) => Err(error),
+    };
+    if named.is_err() {
+        let _ = fs::remove_file(rt, name.as_str());
+    }
+    named
+}
+
+// Whether there is something under a path.
+fn is_there<R: Files>(rt: &R, path: &str) -> bool {
+    fs::symlink_metadata(rt, path).is_ok()
+}
+
+// Writes the file of a frame, if there is none or it may be replaced.
+fn write_screen<R: Files + AllocGlobal>(
+    rt: &R,
+    path: &str,
+    codes: &[u8; 960],
+    force: bool,
+) -> Result<(), Unfinished> {
+    if !force && is_there(rt, path) {
+        return Err(Unfinished::Unread("is there already; --force replaces it"));
+    }
+    match replace(rt, path, codes) {
+        Ok(()) => Ok(()),
+        Err(error) => Err(unwritten(&error)),
+    }
+}
+
+// Why a file isn't written.
+fn unwritten(error: &io::Error) -> Unfinished {
+    match error.kind() {
+        io::ErrorKind::OutOfMemory => Unfinished::Fault(RunFault::Memory),
+        io::ErrorKind::NotFound => Unfinished::Unread("no such folder"),
+        io::ErrorKind::PermissionDenied => Unfinished::Unread("permission denied"),
+        io::ErrorKind::NotADirectory => Unfinished::Unread("not a directory"),
+        io::ErrorKind::IsADirectory => Unfinished::Unread("is a directory"),
+        io::ErrorKind::StorageFull => Unfinished::Unread("no space left"),
+        _ => Unfinished::Unread("can't be written"),
+    }
+}
+
+// The path of a frame's file.
+fn path_of<R: AllocGlobal>(rt: &R, folder: &str, id: FrameId) -> Result<String, AllocError> {
+    let id = id.text();
+    format!(in rt.alloc(); "{folder}/{}.bin", id.as_str())
+}
+
+// Writes the screen of a frame; the exit status. A file that isn't written is named.
+fn export_frame<R: Files + Eprint + AllocGlobal>(
+    rt: &R,
+    asked: &Export,
+    gallery: &Gallery,
+    id: FrameId,
+) -> u8 {
+    let Ok(path) = path_of(rt, asked.out, id) else {
+        return report(rt, asked.base, &Unfinished::Fault(RunFault::Memory));
+    };
+    let Ok(codes) = gallery.screen(rt.alloc(), id) else {
+        return report(rt, asked.base, &Unfinished::Fault(RunFault::Memory));
+    };
+    match write_screen(rt, path.as_str(), &codes, asked.force) {
+        Ok(()) => 0,
+        Err(unfinished) => report(rt, path.as_str(), &unfinished),
+    }
+}
+
+// Writes all screens; the exit status, 3 if one isn't written. The others are, unless memory is refused.
+fn export_all<R: Files + Eprint + AllocGlobal>(rt: &R, asked: &Export, base: &Base) -> u8 {
+    let Ok(gallery) = Gallery::of(rt.alloc(), base, &asked.groups) else {
+        return report(rt, asked.base, &Unfinished::Fault(RunFault::Memory));
+    };
+    let mut status = 0;
+    for frame in base.frames() {
+        status = status.max(export_frame(rt, asked, &gallery, frame.id));
+        if status == 4 {
+            return status;
+        }
+    }
+    status
+}
+
+// Makes the folder, with what leads to it.
+fn make_folder<R: Files>(rt: &R, path: &str) -> Result<(), Unfinished> {
+    match fs::create_dir_all(rt, path) {
+        Ok(()) => Ok(()),
+        Err(error) if error.kind() == io::ErrorKind::AlreadyExists => {
+            Err(Unfinished::Unread("not a directory"))
+        }
+        Err(error) => Err(unwritten(&error)),
+    }
+}
+
+/// Writes the screen of each frame of a base as ID.bin into a folder, which is made after the base was read; the exit status. A file
+/// that is there is replaced only if that is asked for.
+pub fn export<R: Files + Eprint + AllocGlobal>(rt: &R, asked: &Export) -> u8 {
+    let base = match read_file(rt, asked.base) {
+        Ok(base) => base,
+        Err(unfinished) => return report(rt, asked.base, &unfinished),
+    };
+    match make_folder(rt, asked.out) {
+        Ok(()) => export_all(rt, asked, &base),
+        Err(unfinished) => report(rt, asked.out, &unfinished),
+    }
+}
