@@ -143,14 +143,16 @@ fn push_frames(out: &mut Vec<u8>, frames: &[Filed]) -> Result<(), BaseTextFault>
     ensures within { OnOk result (spec.first_over (length out.old.items) frames.now ≡ None) }
     ensures fault { IfErr result (spec.IsNoText (spec.first_over (length out.old.items) frames.now)) }
 {
-    for place in 0..frames.len() {
-        match push_filed(out, &frames[place], &frames[place + 1..]) {
+    let mut rest = frames;
+    while let Some((filed, more)) = rest.split_first() {
+        match push_filed(out, filed, more) {
             Ok(()) => {}
             Err(_) => return Err(BaseTextFault::Memory),
         }
         if out.len() > MOST_TEXT {
-            return Err(BaseTextFault::TooLong(frames[place].file));
+            return Err(BaseTextFault::TooLong(filed.file));
         }
+        rest = more;
     }
     Ok(())
 }
