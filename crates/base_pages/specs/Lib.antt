@@ -7,4 +7,3 @@ pub mod Pages
 pub mod Shell
 pub mod Laws
 pub mod Loops
-pub mod Gallery

@@ -10,7 +10,6 @@
 //! What a base contains gets into the file as ids, numbers and characters for markup alone.
 //!
 //! - [`write_pages`], [`PagesStatus`], [`PagesFault`]: the file of a view of a base.
-//! - [`Gallery`]: the screens of all frames of a base.
 //! - [`sections_have_their_tags`]: a law; names, texts and faults of a base add no tag.
 //! - Definitions: the file (`Pages`), its header (`Head`), a section (`Sections`) with its ways (`Ways`), faults (`Faults`) and
 //!   screen (`Screens`), the fixed parts (`Shell`).
@@ -19,17 +18,14 @@
 mod book;
 mod fault;
 mod faults;
-mod gallery;
 mod header;
 mod index;
 mod laws;
 mod pages;
-mod places;
 mod sending;
 mod shell;
 mod ways;
 
 pub use fault::PagesFault;
-pub use gallery::Gallery;
 pub use laws::sections_have_their_tags;
 pub use pages::{PagesStatus, write_pages};

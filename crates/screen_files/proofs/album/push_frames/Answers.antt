@@ -1,4 +1,4 @@
-use Rattle.std.proofs.Common.{◌≡◌, ◌∙◌, ◌∷◌, ◌++◌, ◌≤◌, ◌<◌, List, ap, sym, rules, length, arith, append-nil}
+use Rattle.std.proofs.Common.{◌≡◌, ◌∙◌, ◌∷◌, ◌++◌, ◌≤◌, ◌<◌, List, ap, sym, rules, length, append-nil}
 use Rattle.std.proofs.lemmas.List.{nil_from_length}
 use Rattle.screen_files.specs.declared.album.Filed.{Filed}
 use Rattle.base_text.specs.declared.limits.TheConstants.{MOST_TEXT}
