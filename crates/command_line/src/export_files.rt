@@ -1,16 +1,16 @@
-//! The command `export`: the screen of each frame of a base, in a file of its own.
+//! The command `export`: the screen of each frame of a base, in a file of its own. A screen is written beside it under another name,
+//! which then becomes its own, so that no half file is left.
 
 ghost use Rattle.std.specs.Prelude.{◌≡◌, false};
 
 use crate::named_files::{Unfinished, open_base, report};
 use crate::out_file::new_beside;
-use audit_report::{FromRead, RunFault};
+use audit_report::{FromRead, IntoWrite, RunFault};
 use command_words::Export;
 use frame_records::Base;
 use page_ids::FrameId;
-use pageaudit::{Gallery, read_exported};
+use pageaudit::{Gallery, read_exported, run_export};
 use std::alloc::AllocError;
-use std::io::Write;
 use std::rt::Files;
 use std::{fs, io};
 
@@ -26,48 +26,6 @@ fn read_file<R: Files + AllocGlobal>(rt: &R, path: &str) -> Result<Base, Unfinis
     }
 }
 
-// Writes a new file and closes it.
-fn write_file<F: Write + Drop>(file: F, codes: &[u8; 960]) -> io::Result<()> {
-    let mut file = file;
-    file.write_all(codes)?;
-    file.flush()
-}
-
-// Writes the codes under another name, which then becomes the file's. No half file is left.
-fn replace<R: Files + AllocGlobal>(rt: &R, path: &str, codes: &[u8; 960]) -> io::Result<()> {
-    let (name, file) = new_beside(rt, path)?;
-    let written = write_file(file, codes);
-    let named = match written {
-        Ok(()) => fs::rename(rt, name.as_str(), path),
-        Err(error) => Err(error),
-    };
-    if named.is_err() {
-        let _ = fs::remove_file(rt, name.as_str());
-    }
-    named
-}
-
-// Whether there is something under a path.
-fn is_there<R: Files>(rt: &R, path: &str) -> bool {
-    fs::symlink_metadata(rt, path).is_ok()
-}
-
-// Writes the file of a frame, if there is none or it may be replaced.
-fn write_screen<R: Files + AllocGlobal>(
-    rt: &R,
-    path: &str,
-    codes: &[u8; 960],
-    force: bool,
-) -> Result<(), Unfinished> {
-    if !force && is_there(rt, path) {
-        return Err(Unfinished::Unread("is there already; --force replaces it"));
-    }
-    match replace(rt, path, codes) {
-        Ok(()) => Ok(()),
-        Err(error) => Err(unwritten(&error)),
-    }
-}
-
 // Why a file isn't written.
 fn unwritten(error: &io::Error) -> Unfinished {
     match error.kind() {
@@ -79,6 +37,84 @@ fn unwritten(error: &io::Error) -> Unfinished {
         io::ErrorKind::StorageFull => Unfinished::Unread("no space left"),
         _ => Unfinished::Unread("can't be written"),
     }
+}
+
+const IS_THERE: Unfinished = Unfinished::Unread("is there already; --force replaces it");
+
+// Whether there is something under a path.
+fn is_there<R: Files>(rt: &R, path: &str) -> bool {
+    fs::symlink_metadata(rt, path).is_ok()
+}
+
+// Gives a new file a name that is free: a link is refused if it isn't. Some file systems have no links.
+fn give_free_name<R: Files>(rt: &R, new: &str, path: &str) -> Result<(), Unfinished> {
+    match fs::hard_link(rt, new, path) {
+        Ok(()) => {
+            let _ = fs::remove_file(rt, new);
+            Ok(())
+        }
+        Err(_) if is_there(rt, path) => Err(IS_THERE),
+        Err(_) => replace(rt, new, path),
+    }
+}
+
+// Gives a new file a name, which may be another file's.
+fn replace<R: Files>(rt: &R, new: &str, path: &str) -> Result<(), Unfinished> {
+    match fs::rename(rt, new, path) {
+        Ok(()) => Ok(()),
+        Err(error) => Err(unwritten(&error)),
+    }
+}
+
+// Writes the screen of a frame to a new file and closes it.
+fn write_file<R: AllocGlobal, W: io::Write + Drop>(
+    rt: &R,
+    gallery: &Gallery,
+    id: FrameId,
+    file: W,
+) -> Result<(), Unfinished> {
+    match run_export(rt.alloc(), gallery, id, &mut IntoWrite::new(file)) {
+        Ok(_) => Ok(()),
+        Err(RunFault::Memory) => Err(Unfinished::Fault(RunFault::Memory)),
+        Err(_) => Err(Unfinished::Unread("write failed")),
+    }
+}
+
+// Writes the screen of a frame to a file. Nothing of it is left after a fault.
+fn write_screen<R: Files + AllocGlobal>(
+    rt: &R,
+    asked: &Export,
+    gallery: &Gallery,
+    id: FrameId,
+    path: &str,
+) -> Result<(), Unfinished> {
+    let (new, file) = match new_beside(rt, path) {
+        Ok(beside) => beside,
+        Err(error) => return Err(unwritten(&error)),
+    };
+    let named = match write_file(rt, gallery, id, file) {
+        Ok(()) if asked.force => replace(rt, new.as_str(), path),
+        Ok(()) => give_free_name(rt, new.as_str(), path),
+        Err(unfinished) => Err(unfinished),
+    };
+    if named.is_err() {
+        let _ = fs::remove_file(rt, new.as_str());
+    }
+    named
+}
+
+// Writes the screen of a frame, if there is no such file or it may be replaced.
+fn export_screen<R: Files + AllocGlobal>(
+    rt: &R,
+    asked: &Export,
+    gallery: &Gallery,
+    id: FrameId,
+    path: &str,
+) -> Result<(), Unfinished> {
+    if !asked.force && is_there(rt, path) {
+        return Err(IS_THERE);
+    }
+    write_screen(rt, asked, gallery, id, path)
 }
 
 // The path of a frame's file.
@@ -97,10 +133,7 @@ fn export_frame<R: Files + Eprint + AllocGlobal>(
     let Ok(path) = path_of(rt, asked.out, id) else {
         return report(rt, asked.base, &Unfinished::Fault(RunFault::Memory));
     };
-    let Ok(codes) = gallery.screen(rt.alloc(), id) else {
-        return report(rt, asked.base, &Unfinished::Fault(RunFault::Memory));
-    };
-    match write_screen(rt, path.as_str(), &codes, asked.force) {
+    match export_screen(rt, asked, gallery, id, path.as_str()) {
         Ok(()) => 0,
         Err(unfinished) => report(rt, path.as_str(), &unfinished),
     }

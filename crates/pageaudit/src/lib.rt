@@ -21,7 +21,7 @@
 //! - [`run_pages`], [`PagesStatus`], [`status_of_pages`]: a base as an HTML file, and the exit status for it.
 //! - [`take_screen`], [`Album`], [`FileKind`], [`ImportFault`], [`run_import`], [`ImportStatus`], [`status_of_import`]: the frames of
 //!   saved screens, the base that is made of them, and the exit status for it.
-//! - [`read_exported`], [`Gallery`]: a base, and the screens of its frames.
+//! - [`read_exported`], [`Gallery`], [`run_export`]: a base, the screens of its frames, and one of them written.
 //! - [`run_list`]: a line for each frame of a base.
 //! - [`run_lint`], [`Format`], [`status_of_lint`]: every finding in a base's file, in a form, and the exit status for them.
 //! - [`run_map`], [`View`], [`MapStatus`], [`status_of_map`]: the map of a base, and the exit status for it.
@@ -48,11 +48,12 @@ mod walk_run;
 pub use audit_report::Status;
 pub use audit_run::{run_audit, run_audit_into};
 pub use base_map::View;
-pub use base_pages::{Gallery, PagesStatus};
+pub use base_pages::PagesStatus;
 pub use change_run::run_change;
 pub use check_run::run_check;
-pub use export_run::read_exported;
+pub use export_run::{read_exported, run_export};
 pub use finding_forms::Format;
+pub use frame_screens::Gallery;
 pub use import_run::{ImportFault, ImportStatus, run_import, status_of_import, take_screen};
 pub use lint::{Counts, Level, counted_text};
 pub use lint_run::{run_lint, status_of_lint};
