@@ -125,7 +125,8 @@ fn write_reached<S: Sink>(
 // Writes the line of a frame after a text if the frame isn't reached.
 fn push_other(out: &mut Vec<u8>, reached: &Reached, frame: &Frame)
     requires room { vec_len out.old + 256 ≤ vec_capacity out.old }
-    ensures items { (found : List Entry) → Knows found reached.now → out.new.items ≡ out.old.items ++ unreached_lines found (frame.now ∷ []) }
+    ensures items { (found : List Entry) → Knows found reached.now → out.new.items ≡ out.old.items ++
+        unreached_lines found (frame.now ∷ []) }
     ensures len { vec_len out.new ≤ vec_len out.old + 256 }
     ensures capacity { vec_capacity out.old ≤ vec_capacity out.new }
 {
@@ -151,10 +152,12 @@ fn write_others<S: Sink>(
     ensures count { IfOk result (λ n. n + vec_len kept.new ≤ 2 ^ 41) }
     ensures taken { (start : Seen) (before : List ℕ) (found : List Entry) → Knows found reached.now
         → IsOnItsWay start (S.seen sink.old) kept.old.items wrote before
-        → IfOk result (λ n. IsOnItsWay start (S.seen sink.new) kept.new.items n (before ++ unreached_lines found frames.now)) }
+        → IfOk result (λ n. IsOnItsWay start (S.seen sink.new) kept.new.items n (before ++
+        unreached_lines found frames.now)) }
     ensures part { (start : Seen) (before : List ℕ) (found : List Entry) → Knows found reached.now
         → IsOnItsWay start (S.seen sink.old) kept.old.items wrote before
-        → IfErr result (λ fault. WrotePart start (S.seen sink.new) (before ++ unreached_lines found frames.now) fault.wrote) }
+        → IfErr result (λ fault. WrotePart start (S.seen sink.new) (before ++
+        unreached_lines found frames.now) fault.wrote) }
 {
     let mut taken = wrote;
     for frame in frames {
@@ -185,7 +188,8 @@ fn write_rest<S: Sink>(
         → OnOk result (WroteWhole start (S.seen sink.new) (before ++ unreached_lines found frames.now)) }
     ensures part { (start : Seen) (before : List ℕ) (found : List Entry) → Knows found reached.now
         → IsOnItsWay start (S.seen sink.old) kept.old.items wrote before
-        → IfErr result (λ fault. WrotePart start (S.seen sink.new) (before ++ unreached_lines found frames.now) fault.wrote) }
+        → IfErr result (λ fault. WrotePart start (S.seen sink.new) (before ++
+        unreached_lines found frames.now) fault.wrote) }
 {
     match write_others(sink, kept, wrote, reached, frames) {
         Ok(wrote) => write_last(sink, kept.as_slice(), wrote),
@@ -214,8 +218,10 @@ impl<'a> FrameLines<'a> {
 
     fn write<S: Sink>(self, sink: &mut S) -> Result<(), WriteFault>
         requires { (S.seen sink.old).failed ≡ false }
-        ensures whole { OnOk result (WroteWhole (S.seen sink.old) (S.seen sink.new) (all_lines self.entry.base self.entry.found)) }
-        ensures part { IfErr result (λ fault. WrotePart (S.seen sink.old) (S.seen sink.new) (all_lines self.entry.base self.entry.found) fault.wrote) }
+        ensures whole { OnOk result (WroteWhole (S.seen sink.old) (S.seen sink.new)
+            (all_lines self.entry.base self.entry.found)) }
+        ensures part { IfErr result (λ fault.
+            WrotePart (S.seen sink.old) (S.seen sink.new) (all_lines self.entry.base self.entry.found) fault.wrote) }
     {
         let FrameLines {
             base,
@@ -256,7 +262,8 @@ impl<'a> Listing<'a> {
     pub fn write<S: Sink>(self, sink: &mut S) -> Result<(), WriteFault>
         requires { (S.seen sink.old).failed ≡ false }
         ensures whole { OnOk result (WroteWhole (S.seen sink.old) (S.seen sink.new) self.entry.text) }
-        ensures part { IfErr result (λ fault. WrotePart (S.seen sink.old) (S.seen sink.new) self.entry.text fault.wrote) }
+        ensures part { IfErr result (λ fault.
+            WrotePart (S.seen sink.old) (S.seen sink.new) self.entry.text fault.wrote) }
     {
         match self.lines {
             Lines::Entry(text) => write_whole(sink, text.as_slice()),

@@ -112,7 +112,8 @@ fn push_tail(
     faults: &[Fault],
     numbers: &[usize],
 ) -> Result<(), AllocError>
-    ensures { OnOk result (out.new.items ≡ out.old.items ++ spec.section_tail frame.now (picked faults.now numbers.now)) }
+    ensures { OnOk result (out.new.items ≡ out.old.items ++
+        spec.section_tail frame.now (picked faults.now numbers.now)) }
 {
     out.extend_from_slice(over(frame.lead))?;
     push_faults(alloc, out, faults, numbers)?;
@@ -140,7 +141,8 @@ impl<'a> Book<'a> {
         numbers: &[usize],
     ) -> Result<(), AllocError>
         ensures { OnOk result (out.new.items ≡ out.old.items
-            ++ spec.section_end self.now.groups.now self.now.base.now self.now.part.now frame.now (picked self.now.faults.now numbers.now)) }
+            ++ spec.section_end self.now.groups.now self.now.base.now self.now.part.now frame.now
+            (picked self.now.faults.now numbers.now)) }
     {
         push_price(out, frame.price)?;
         self.push_ways(out, frame)?;

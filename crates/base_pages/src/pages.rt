@@ -46,7 +46,8 @@ fn push_front(
     base: &Base,
     cover: &Cover,
 ) -> Result<(), AllocError>
-    ensures { OnOk result (out.new.items ≡ out.old.items ++ front cover.now.name.now base.now cover.now.policy.now cover.now.outcome.now) }
+    ensures { OnOk result (out.new.items ≡ out.old.items ++
+        front cover.now.name.now base.now cover.now.policy.now cover.now.outcome.now) }
 {
     out.extend_from_slice(head())?;
     push_header(alloc, out, cover.name, base, cover.policy, cover.outcome)?;
@@ -83,9 +84,12 @@ fn write_section<S: Sink>(
     requires open { (S.seen sink.old).failed ≡ false }
     ensures open { OnOk result ((S.seen sink.new).failed ≡ false) }
     ensures taken { (start : Seen) (before : List ℕ) → IsOnItsWay start (S.seen sink.old) kept.old.items wrote before
-        → IfOk result (λ n. IsOnItsWay start (S.seen sink.new) kept.new.items n (before ++ sections (book_view book.now) (frame.now ∷ []))) }
-    ensures part { (start : Seen) (before rest : List ℕ) → IsOnItsWay start (S.seen sink.old) kept.old.items wrote before
-        → IfErr result (λ fault. IsStopped start (S.seen sink.new) ((before ++ sections (book_view book.now) (frame.now ∷ [])) ++ rest) fault) }
+        → IfOk result (λ n. IsOnItsWay start (S.seen sink.new) kept.new.items n (before ++
+        sections (book_view book.now) (frame.now ∷ []))) }
+    ensures part { (start : Seen) (before rest : List ℕ) →
+        IsOnItsWay start (S.seen sink.old) kept.old.items wrote before
+        → IfErr result (λ fault. IsStopped start (S.seen sink.new) ((before ++
+        sections (book_view book.now) (frame.now ∷ [])) ++ rest) fault) }
 {
     match push_shown(alloc, kept, book, frame) {
         Ok(()) => send(sink, kept, wrote),
@@ -105,9 +109,11 @@ fn write_sections<S: Sink>(
     requires open { (S.seen sink.old).failed ≡ false }
     ensures open { OnOk result ((S.seen sink.new).failed ≡ false) }
     ensures taken { (start : Seen) (before : List ℕ) → IsOnItsWay start (S.seen sink.old) kept.old.items 0 before
-        → IfOk result (λ n. IsOnItsWay start (S.seen sink.new) kept.new.items n (before ++ sections (book_view book.now) frames.now)) }
+        → IfOk result (λ n. IsOnItsWay start (S.seen sink.new) kept.new.items n (before ++
+        sections (book_view book.now) frames.now)) }
     ensures part { (start : Seen) (before rest : List ℕ) → IsOnItsWay start (S.seen sink.old) kept.old.items 0 before
-        → IfErr result (λ fault. IsStopped start (S.seen sink.new) ((before ++ sections (book_view book.now) frames.now) ++ rest) fault) }
+        → IfErr result (λ fault. IsStopped start (S.seen sink.new) ((before ++
+        sections (book_view book.now) frames.now) ++ rest) fault) }
 {
     let mut wrote = 0;
     for frame in frames {
@@ -143,7 +149,8 @@ fn write_book<S: Sink>(
     requires ready { IsReady book.now }
     requires open { (S.seen sink.old).failed ≡ false }
     ensures whole { OnOk result (WroteWhole (S.seen sink.old) (S.seen sink.new) (page_of cover.now book.now)) }
-    ensures part { IfErr result (λ fault. IsStopped (S.seen sink.old) (S.seen sink.new) (page_of cover.now book.now) fault) }
+    ensures part { IfErr result (λ fault.
+        IsStopped (S.seen sink.old) (S.seen sink.new) (page_of cover.now book.now) fault) }
 {
     let mut kept = Vec::new(alloc);
     match push_front(alloc, &mut kept, book.base, cover) {

@@ -45,13 +45,13 @@ fn a_list_that_fails_asks_for_no_more(rt: HostRuntime) -> Result<(), Fail> {
         let mut base = source(base, ALL, kept);
         let mut out = sink(rt.alloc(), text, room);
         let answer = run_list(rt.alloc(), &mut base, &Groups::none(), &mut out);
-        let told = (
+        let got = (
             status_of(&answer),
             base.calls,
             out.flushes,
             taken(&out, text),
         );
-        same_in((kept, room), told, wanted)?;
+        same_in((kept, room), got, wanted)?;
     }
     Ok(())
 }

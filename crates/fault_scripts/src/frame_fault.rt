@@ -1,8 +1,8 @@
 ghost use Rattle.std.specs.Prelude.{◌≡◌, IfOk, option_map};
 ghost use Rattle.abstract_paint.specs.Paint.{paint_of};
 ghost use Rattle.abstract_paint.specs.Start.{start_of};
-ghost use Rattle.fault_scripts.specs.declared.flaw.Flaw.TheVariants as flaw;
-ghost use Rattle.fault_scripts.specs.Flaws.{fault_of, price_flaw, way_flaw, is_far, return_flaw};
+ghost use Rattle.fault_scripts.specs.declared.frame_fault.FrameFault.TheVariants as wrong;
+ghost use Rattle.fault_scripts.specs.FrameFaults.{fault_of, over_price, way_fault, is_far, return_fault};
 
 use crate::fault::{Fault, FaultKind};
 use abstract_paint::{Painted, Start, start_at};
@@ -12,7 +12,7 @@ use std::alloc::{AllocError, Global};
 
 // What is wrong at a frame.
 #[derive(Clone, Copy)]
-pub enum Flaw {
+pub enum FrameFault {
     // It costs this, which is above the ceiling.
     Price(Pence),
     // From this start, the least, it writes a service position.
@@ -25,56 +25,58 @@ pub enum Flaw {
     NoReturn,
 }
 
-impl Flaw {
+impl FrameFault {
     // The fault of a frame to which the keys lead.
     pub fn fault(&self, alloc: Global, frame: FrameId, keys: &[Key]) -> Result<Fault, AllocError>
         ensures { IfOk result (λ fault. fault ≡ fault_of frame keys.now self.now) }
     {
         match self {
-            Flaw::Price(price) => Fault::price(alloc, frame, keys, *price),
-            Flaw::Touches(start) => Fault::touches(alloc, frame, keys, *start),
-            Flaw::Missing(way, to) => {
+            FrameFault::Price(price) => Fault::price(alloc, frame, keys, *price),
+            FrameFault::Touches(start) => Fault::touches(alloc, frame, keys, *start),
+            FrameFault::Missing(way, to) => {
                 Fault::sought(alloc, FaultKind::Missing, frame, keys, way.key(), *to)
             }
-            Flaw::Closed(way, to) => {
+            FrameFault::Closed(way, to) => {
                 Fault::sought(alloc, FaultKind::Closed, frame, keys, way.key(), *to)
             }
-            Flaw::NoReturn => Fault::plain(alloc, FaultKind::NoReturn, frame, keys),
+            FrameFault::NoReturn => Fault::plain(alloc, FaultKind::NoReturn, frame, keys),
         }
     }
 }
 
 // A price above the ceiling.
-pub fn price_flaw(ceiling: Pence, price: Pence) -> Option<Flaw>
-    ensures { result ≡ price_flaw ceiling price }
+pub fn over_price(ceiling: Pence, price: Pence) -> Option<FrameFault>
+    ensures { result ≡ over_price ceiling price }
 {
     if price > ceiling {
-        Some(Flaw::Price(price))
+        Some(FrameFault::Price(price))
     } else {
         None
     }
 }
 
 // The least start that touches, of a frame that was painted.
-pub fn touch_flaw(frame: &Frame, painted: Painted) -> Option<Flaw>
+pub fn touch_start(frame: &Frame, painted: Painted) -> Option<FrameFault>
     requires { painted ≡ paint_of frame.now.lead frame.now.body }
-    ensures { result ≡ option_map flaw.Touches (start_of frame.now.lead frame.now.body painted) }
+    ensures { result ≡ option_map wrong.Touches (start_of frame.now.lead frame.now.body painted) }
 {
     match painted {
         Painted::Clean(_) => None,
         Painted::Touches(offset) => {
-            start_at(frame.lead, frame.body.as_slice(), offset).map(|start| Flaw::Touches(start))
+            start_at(frame.lead, frame.body.as_slice(), offset).map(|start| FrameFault::Touches(
+                start,
+            ))
         }
     }
 }
 
 // A way by its destination.
-pub fn way_flaw(way: &Way, destination: Destination) -> Option<Flaw>
-    ensures { result ≡ way_flaw way.now destination }
+pub fn way_fault(way: &Way, destination: Destination) -> Option<FrameFault>
+    ensures { result ≡ way_fault way.now destination }
 {
     match destination {
-        Destination::Closed(to) => Some(Flaw::Closed(*way, to)),
-        Destination::Missing(to) => Some(Flaw::Missing(*way, to)),
+        Destination::Closed(to) => Some(FrameFault::Closed(*way, to)),
+        Destination::Missing(to) => Some(FrameFault::Missing(*way, to)),
         Destination::NotOffered | Destination::Found(_, _) | Destination::Outside(_) => None,
     }
 }
@@ -90,11 +92,11 @@ fn is_far(keyings: u16, rank: Option<u16>) -> bool
 }
 
 // A way back that is too long.
-pub fn return_flaw(keyings: u16, rank: Option<u16>) -> Option<Flaw>
-    ensures { result ≡ return_flaw keyings rank }
+pub fn return_fault(keyings: u16, rank: Option<u16>) -> Option<FrameFault>
+    ensures { result ≡ return_fault keyings rank }
 {
     if is_far(keyings, rank) {
-        Some(Flaw::NoReturn)
+        Some(FrameFault::NoReturn)
     } else {
         None
     }

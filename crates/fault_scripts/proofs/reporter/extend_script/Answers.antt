@@ -1,7 +1,7 @@
 use Rattle.std.proofs.Common.{rules, ◌≡◌, ℕ, List, Option, Some, [], ◌∷◌, ◌++◌, sym, ◌∙◌, ap, subst}
 use Rattle.page_ids.specs.declared.key.Key.{Key}
 use Rattle.fault_scripts.specs.Loops.{HasScript}
-use Rattle.fault_scripts.proofs.teller.lead_on.Goals as goal
+use Rattle.fault_scripts.proofs.reporter.extend_script.Goals as goal
 
 -- the parent's script and the key that led from it are the script
 pub returns-in_ok-push-in-Some : goal.returns-in_ok-push-in-Some

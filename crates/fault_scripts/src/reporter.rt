@@ -3,11 +3,11 @@ ghost use Rattle.std.specs.Option.{option_to_list};
 ghost use Rattle.abstract_paint.specs.Paint.{paint_of};
 ghost use Rattle.finder.specs.Finds.{ScriptsExtend, script};
 ghost use Rattle.finder.specs.Survey.{IsFrameAt};
-ghost use Rattle.fault_scripts.specs.Flaws.{fault_of};
-ghost use Rattle.fault_scripts.specs.Loops.{HasScript, CanLead, IsTelling};
+ghost use Rattle.fault_scripts.specs.FrameFaults.{fault_of};
+ghost use Rattle.fault_scripts.specs.Loops.{HasScript, CanLead, IsReporting};
 
 use crate::fault::Fault;
-use crate::flaw::{Flaw, price_flaw, return_flaw, touch_flaw, way_flaw};
+use crate::frame_fault::{FrameFault, over_price, return_fault, touch_start, way_fault};
 use abstract_paint::Painted;
 use checker::Policy;
 use finder::{Discovered, Found, Survey, script_to};
@@ -18,7 +18,7 @@ use std::alloc::{AllocError, Global};
 // Reports the faults of the discovered frames, one frame after another. The keys that lead to a frame are looked for when its
 // first fault is reported, and go on from those of its parent if these are kept.
 #[derive(Drop)]
-pub struct Teller {
+pub struct Reporter {
     // The keys to the frame at this index.
     pub at: Option<u32>,
     pub keys: Vec<Key>,
@@ -34,7 +34,12 @@ pub fn discovered_at<'a>(survey: &'a Survey, index: u32) -> &'a Discovered
 }
 
 // The keys that lead to the frame at an index, looked for anew.
-fn restart(alloc: Global, found: &Found, index: u32, keys: &mut Vec<Key>) -> Result<(), AllocError>
+fn rebuild_script(
+    alloc: Global,
+    found: &Found,
+    index: u32,
+    keys: &mut Vec<Key>,
+) -> Result<(), AllocError>
     requires { index < length found.now }
     ensures { OnOk result (keys.new.items ≡ script found.now index) }
 {
@@ -45,7 +50,7 @@ fn restart(alloc: Global, found: &Found, index: u32, keys: &mut Vec<Key>) -> Res
 }
 
 // The keys that lead to the frame at an index, if the kept ones lead to another.
-fn lead_on(
+fn extend_script(
     alloc: Global,
     found: &Found,
     index: u32,
@@ -60,17 +65,17 @@ fn lead_on(
             keys.push(key)?;
             Ok(())
         }
-        _ => restart(alloc, found, index, keys),
+        _ => rebuild_script(alloc, found, index, keys),
     }
 }
 
-impl Teller {
+impl Reporter {
     // Nothing is reported yet.
-    pub fn new(alloc: Global) -> Teller
+    pub fn new(alloc: Global) -> Reporter
         ensures at { result.at ≡ None }
         ensures none { result.faults.items ≡ [] }
     {
-        Teller {
+        Reporter {
             at: None,
             keys: Vec::new(alloc),
             faults: Vec::new(alloc),
@@ -78,7 +83,7 @@ impl Teller {
     }
 
     // Makes the kept keys those that lead to the frame at an index.
-    fn go(&mut self, alloc: Global, found: &Found, index: u32) -> Result<(), AllocError>
+    fn seek_to(&mut self, alloc: Global, found: &Found, index: u32) -> Result<(), AllocError>
         requires { CanLead found.now index self.old.at self.old.keys.items }
         ensures at { OnOk result (self.new.at ≡ Some index) }
         ensures keys { OnOk result (self.new.keys.items ≡ script found.now index) }
@@ -87,32 +92,32 @@ impl Teller {
         if self.at == Some(index) {
             return Ok(());
         }
-        lead_on(alloc, found, index, self.at, &mut self.keys)?;
+        extend_script(alloc, found, index, self.at, &mut self.keys)?;
         self.at = Some(index);
         Ok(())
     }
 
-    // Reports a flaw of the frame at an index, if there is one.
-    fn tell(
+    // Reports the fault of the frame at an index, if there is one.
+    fn report(
         &mut self,
         alloc: Global,
         survey: &Survey,
         index: u32,
         id: FrameId,
-        flaw: Option<Flaw>,
+        wrong: Option<FrameFault>,
     ) -> Result<(), AllocError>
         requires within { index < length survey.now.found }
         requires extends { ScriptsExtend survey.now.found }
         requires script { HasScript survey.now.found self.old.at self.old.keys.items }
         ensures script { OnOk result (HasScript survey.now.found self.new.at self.new.keys.items) }
-        ensures told { OnOk result (self.new.faults.items ≡ self.old.faults.items ++
-            option_to_list (option_map (fault_of id (script survey.now.found index)) flaw)) }
+        ensures reported { OnOk result (self.new.faults.items ≡ self.old.faults.items ++
+            option_to_list (option_map (fault_of id (script survey.now.found index)) wrong)) }
     {
-        let Some(flaw) = flaw else {
+        let Some(wrong) = wrong else {
             return Ok(());
         };
-        self.go(alloc, survey.found(), index)?;
-        let fault = flaw.fault(alloc, id, self.keys.as_slice())?;
+        self.seek_to(alloc, survey.found(), index)?;
+        let fault = wrong.fault(alloc, id, self.keys.as_slice())?;
         self.faults.push(fault)?;
         Ok(())
     }
@@ -131,30 +136,30 @@ impl Teller {
         requires frame { IsFrameAt survey.now index frame.now }
         requires painted { painted ≡ paint_of frame.now.lead frame.now.body }
         requires groups { survey.now.groups ≡ policy.now.groups }
-        requires telling { IsTelling survey.now.base policy.now survey.now.found (index * 14) self.old }
-        ensures { OnOk result (IsTelling survey.now.base policy.now survey.now.found ((index + 1) * 14) self.new) }
+        requires reporting { IsReporting survey.now.base policy.now survey.now.found (index * 14) self.old }
+        ensures { OnOk result (IsReporting survey.now.base policy.now survey.now.found ((index + 1) * 14) self.new) }
     {
         let discovered = discovered_at(survey, index);
         let id = discovered.id;
-        self.tell(
+        self.report(
             alloc,
             survey,
             index,
             id,
-            price_flaw(policy.ceiling, frame.price),
+            over_price(policy.ceiling, frame.price),
         )?;
-        self.tell(alloc, survey, index, id, touch_flaw(frame, painted))?;
+        self.report(alloc, survey, index, id, touch_start(frame, painted))?;
         for place in 0..Way::COUNT {
             let way = Way::at(place);
-            let flaw = way_flaw(&way, survey.follow(index as usize, &way));
-            self.tell(alloc, survey, index, id, flaw)?;
+            let wrong = way_fault(&way, survey.follow(index as usize, &way));
+            self.report(alloc, survey, index, id, wrong)?;
         }
-        self.tell(
+        self.report(
             alloc,
             survey,
             index,
             id,
-            return_flaw(policy.keyings, discovered.rank),
+            return_fault(policy.keyings, discovered.rank),
         )?;
         Ok(())
     }

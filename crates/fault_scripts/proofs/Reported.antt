@@ -17,17 +17,17 @@ use Rattle.finder.specs.declared.found.Discovered.{Discovered}
 use Rattle.finder.specs.Finds.{IsFinding, script}
 use Rattle.finder.specs.Survey.{IsFrameAt, SurveyView}
 use Rattle.fault_scripts.specs.declared.fault.Fault.{Fault}
-use Rattle.fault_scripts.specs.declared.flaw.Flaw.{Flaw}
-use Rattle.fault_scripts.specs.declared.flaw.Flaw.TheVariants.{Price, Touches, Missing, Closed, NoReturn}
-use Rattle.fault_scripts.specs.declared.teller.Teller.{Teller}
+use Rattle.fault_scripts.specs.declared.frame_fault.FrameFault.{FrameFault}
+use Rattle.fault_scripts.specs.declared.frame_fault.FrameFault.TheVariants.{Price, Touches, Missing, Closed, NoReturn}
+use Rattle.fault_scripts.specs.declared.reporter.Reporter.{Reporter}
 use Rattle.fault_scripts.specs.Faults.{IsDue, IsOfPlace, StandsBefore, turn_of, turn_at, AreDue}
-use Rattle.fault_scripts.specs.Flaws.{fault_of, asked}
-use Rattle.fault_scripts.specs.Loops.{HasScript, IsDueBelow, IsTold, IsTelling}
+use Rattle.fault_scripts.specs.FrameFaults.{fault_of, asked}
+use Rattle.fault_scripts.specs.Loops.{HasScript, IsDueBelow, IsReported, IsReporting}
 use Rattle.fault_scripts.proofs.Asked.{IsAnswer, asked_due, due_asked}
 use Rattle.fault_scripts.proofs.Discoveries.{listed_frame, listed_once}
 
 -- a fault names its frame
-frame_of : (id : Id) (keys : List Key) (flaw : Flaw) → (fault_of id keys flaw).frame ≡ id
+frame_of : (id : Id) (keys : List Key) (wrong : FrameFault) → (fault_of id keys wrong).frame ≡ id
 frame_of id keys (Price price) = refl
 frame_of id keys (Touches start) = refl
 frame_of id keys (Missing way to) = refl
@@ -47,7 +47,7 @@ module _ (base : BaseView) (policy : Policy) (found : List Discovered) (finding 
   pub own_place : (f : Fault) (due : IsDue base policy found f) → IsOfPlace found due.index f
   own_place f due =
       let a = answer_of f due in
-      (due.discovered, due.place.listed, ap (λ (x : Fault). x.frame) a.is ∙ frame_of due.discovered.id due.keys a.flaw)
+      (due.discovered, due.place.listed, ap (λ (x : Fault). x.frame) a.is ∙ frame_of due.discovered.id due.keys a.wrong)
 
   -- a due fault has one place
   pub place_is_one : (f : Fault) (due : IsDue base policy found f) (i : ℕ) → IsOfPlace found i f
@@ -67,15 +67,15 @@ module _ (base : BaseView) (policy : Policy) (found : List Discovered) (finding 
   -- at one place of one frame
   module _ (i : ℕ) (d : Discovered) (listed : slice_get found i ≡ std.Some d) (frame : Frame) (at : frame_at base d.id ≡ std.Some frame) (turn : ℕ) (small : turn < 14) where
     -- the answer is due there
-    due_there : (flaw : Flaw) → asked base policy frame d.rank turn ≡ std.Some flaw
-        → (due : IsDue base policy found (fault_of d.id (script found i) flaw)) × (turn_at due.index (fault_of d.id (script found i) flaw) ≡ i * 14 + turn)
-    due_there flaw e =
-        let a = asked_due base policy d.id frame at d.rank (listed_frame policy.groups base found finding i d listed).rank (script found i) turn small flaw e in
+    due_there : (wrong : FrameFault) → asked base policy frame d.rank turn ≡ std.Some wrong
+        → (due : IsDue base policy found (fault_of d.id (script found i) wrong)) × (turn_at due.index (fault_of d.id (script found i) wrong) ≡ i * 14 + turn)
+    due_there wrong e =
+        let a = asked_due base policy d.id frame at d.rank (listed_frame policy.groups base found finding i d listed).rank (script found i) turn small wrong e in
         (record { index = i; discovered = d; frame = frame; keys = script found i; place = record { listed = listed; of_frame = at; script = refl }; due = a.due }, ap (λ (t : ℕ). i * 14 + t) a.placed)
 
     -- what is due there is the answer
     there_is : (f : Fault) (due : IsDue base policy found f) → turn_at due.index f ≡ i * 14 + turn
-        → (flaw : Flaw) × (asked base policy frame d.rank turn ≡ std.Some flaw) × (f ≡ fault_of d.id (script found i) flaw)
+        → (wrong : FrameFault) × (asked base policy frame d.rank turn ≡ std.Some wrong) × (f ≡ fault_of d.id (script found i) wrong)
     there_is f due e =
         let a = answer_of f due in
         let parts = place_parts due.index i (turn_of f.kind f.key) turn a.in_turn small e in
@@ -86,7 +86,7 @@ module _ (base : BaseView) (policy : Policy) (found : List Discovered) (finding 
         ap (λ (x : Frame). asked base policy x due.discovered.rank (turn_of f.kind f.key)) record_is
         ∙ ap (λ (x : Discovered). asked base policy frame x.rank (turn_of f.kind f.key)) same
         ∙ ap (asked base policy frame d.rank) parts.1 in
-        (a.flaw, sym is ∙ a.answered, a.is ∙ ap (λ (x : Discovered). fault_of x.id due.keys a.flaw) same ∙ ap (λ (k : List Key). fault_of d.id k a.flaw) keys)
+        (a.wrong, sym is ∙ a.answered, a.is ∙ ap (λ (x : Discovered). fault_of x.id due.keys a.wrong) same ∙ ap (λ (k : List Key). fault_of d.id k a.wrong) keys)
 
 module _ (base : BaseView) (policy : Policy) (found : List Discovered) (finding : IsFinding policy.groups base found) where
   below_more : (p : ℕ) (f : Fault) → IsDueBelow base policy found p f → IsDueBelow base policy found (p + 1) f
@@ -96,74 +96,74 @@ module _ (base : BaseView) (policy : Policy) (found : List Discovered) (finding 
     abbrev p : ℕ
     p = i * 14 + turn
 
-    abbrev mine : Flaw → Fault
-    mine flaw = fault_of d.id (script found i) flaw
+    abbrev mine : FrameFault → Fault
+    mine wrong = fault_of d.id (script found i) wrong
 
     -- no answer: nothing more is due
-    none_told : (faults : List Fault) → asked base policy frame d.rank turn ≡ std.None
-        → IsTold base policy found p faults → IsTold base policy found (p + 1) faults
-    none_told faults none told = record {
-      just = All-weaker (IsDueBelow base policy found p) (IsDueBelow base policy found (p + 1)) (below_more p) faults told.just;
+    none_reported : (faults : List Fault) → asked base policy frame d.rank turn ≡ std.None
+        → IsReported base policy found p faults → IsReported base policy found (p + 1) faults
+    none_reported faults none reported = record {
+      just = All-weaker (IsDueBelow base policy found p) (IsDueBelow base policy found (p + 1)) (below_more p) faults reported.just;
       whole = λ f h. elim (cases_lt (turn_at h.due.index f) p) [
-        | inl below ↦ told.whole f (record { due = h.due; below = below })
+        | inl below ↦ reported.whole f (record { due = h.due; below = below })
         | inr ge ↦
             let w = there_is base policy found finding i d listed frame at turn small f h.due (omega (arith, ge, h.below)) in
             let clash : std.None ≡ std.Some w.0 = sym none ∙ w.1 in
             absurd cc
       ];
-      in_order = told.in_order;
+      in_order = reported.in_order;
     }
 
     -- an answer: its fault goes last
-    one_told : (faults : List Fault) (flaw : Flaw) → asked base policy frame d.rank turn ≡ std.Some flaw
-        → IsTold base policy found p faults → IsTold base policy found (p + 1) (faults ++ mine flaw ∷ [])
-    one_told faults flaw some told =
-        let own = due_there base policy found finding i d listed frame at turn small flaw some in
+    one_reported : (faults : List Fault) (wrong : FrameFault) → asked base policy frame d.rank turn ≡ std.Some wrong
+        → IsReported base policy found p faults → IsReported base policy found (p + 1) (faults ++ mine wrong ∷ [])
+    one_reported faults wrong some reported =
+        let own = due_there base policy found finding i d listed frame at turn small wrong some in
         record {
-          just = All-push (IsDueBelow base policy found (p + 1)) faults (mine flaw) (All-weaker (IsDueBelow base policy found p) (IsDueBelow base policy found (p + 1)) (below_more p) faults told.just) (record { due = own.0; below = omega (arith, own.1) });
+          just = All-push (IsDueBelow base policy found (p + 1)) faults (mine wrong) (All-weaker (IsDueBelow base policy found p) (IsDueBelow base policy found (p + 1)) (below_more p) faults reported.just) (record { due = own.0; below = omega (arith, own.1) });
           whole = λ f h. elim (cases_lt (turn_at h.due.index f) p) [
-            | inl below ↦ Contains-append_left faults (mine flaw ∷ []) f (told.whole f (record { due = h.due; below = below }))
+            | inl below ↦ Contains-append_left faults (mine wrong ∷ []) f (reported.whole f (record { due = h.due; below = below }))
             | inr ge ↦
                 let w = there_is base policy found finding i d listed frame at turn small f h.due (omega (arith, ge, h.below)) in
-                let same : flaw ≡ w.0 = same_Some flaw w.0 (sym some ∙ w.1) in
-                let is : mine flaw ≡ f = ap mine same ∙ sym w.2 in
-                subst (λ (x : Fault). Contains (faults ++ mine flaw ∷ []) x) is (Contains-push faults (mine flaw))
+                let same : wrong ≡ w.0 = same_Some wrong w.0 (sym some ∙ w.1) in
+                let is : mine wrong ≡ f = ap mine same ∙ sym w.2 in
+                subst (λ (x : Fault). Contains (faults ++ mine wrong ∷ []) x) is (Contains-push faults (mine wrong))
           ];
-          in_order = all_pairs_push (StandsBefore found) faults (mine flaw) told.in_order (λ k x lt.
-              let before = All-get_or (IsDueBelow base policy found p) faults k x lt told.just in
-              stands_before base policy found finding (get_or faults k x) (mine flaw) before.due own.0 (omega (arith, before.below, own.1)));
+          in_order = all_pairs_push (StandsBefore found) faults (mine wrong) reported.in_order (λ k x lt.
+              let before = All-get_or (IsDueBelow base policy found p) faults k x lt reported.just in
+              stands_before base policy found finding (get_or faults k x) (mine wrong) before.due own.0 (omega (arith, before.below, own.1)));
         }
 
-    told_more : (faults : List Fault) (answer : Option Flaw) → asked base policy frame d.rank turn ≡ answer
-        → IsTold base policy found p faults
-        → IsTold base policy found (p + 1) (faults ++ option_to_list (option_map mine answer))
-    told_more faults std.None e told = subst (IsTold base policy found (p + 1)) (sym (append-nil faults)) (none_told faults e told)
-    told_more faults (std.Some flaw) e told = one_told faults flaw e told
+    reported_more : (faults : List Fault) (answer : Option FrameFault) → asked base policy frame d.rank turn ≡ answer
+        → IsReported base policy found p faults
+        → IsReported base policy found (p + 1) (faults ++ option_to_list (option_map mine answer))
+    reported_more faults std.None e reported = subst (IsReported base policy found (p + 1)) (sym (append-nil faults)) (none_reported faults e reported)
+    reported_more faults (std.Some wrong) e reported = one_reported faults wrong e reported
 
-    -- of the teller
-    pub telling_more : (old new : Teller) (answer : Option Flaw) → asked base policy frame d.rank turn ≡ answer
-        → IsTelling base policy found p old → HasScript found new.at new.keys.items
+    -- of the reporter
+    pub reporting_more : (old new : Reporter) (answer : Option FrameFault) → asked base policy frame d.rank turn ≡ answer
+        → IsReporting base policy found p old → HasScript found new.at new.keys.items
         → new.faults.items ≡ old.faults.items ++ option_to_list (option_map mine answer)
-        → IsTelling base policy found (p + 1) new
-    telling_more old new answer e telling script more = record {
+        → IsReporting base policy found (p + 1) new
+    reporting_more old new answer e reporting script more = record {
       finding = finding;
       script = script;
-      told = subst (IsTold base policy found (p + 1)) (sym more) (told_more old.faults.items answer e telling.told);
+      reported = subst (IsReported base policy found (p + 1)) (sym more) (reported_more old.faults.items answer e reporting.reported);
     }
 
   -- those of all places are those of the base
-  pub all_told : (faults : List Fault) → IsTold base policy found (length found * 14) faults
+  pub all_reported : (faults : List Fault) → IsReported base policy found (length found * 14) faults
       → AreDue base policy found faults
-  all_told faults told = record {
+  all_reported faults reported = record {
     just = λ f. (
-      (λ h. subst (λ (x : Fault). IsDue base policy found x) h.2 (told.just h.0 f h.1).due),
-      (λ due. told.whole f (record { due = due; below = before_end base policy found finding f due })),
+      (λ h. subst (λ (x : Fault). IsDue base policy found x) h.2 (reported.just h.0 f h.1).due),
+      (λ due. reported.whole f (record { due = due; below = before_end base policy found finding f due })),
     );
-    in_order = told.in_order;
+    in_order = reported.in_order;
   }
 
 -- one answer more, of the frame at an index
-pub step : (survey : SurveyView) (policy : Policy) (i : ℕ) (d : Discovered) (listed : slice_get survey.found i ≡ std.Some d) (frame : Frame) (at : IsFrameAt survey i frame) (p q turn : ℕ) → turn < 14 → p ≡ i * 14 + turn → q ≡ p + 1 → (old new : Teller) (answer : Option Flaw) → asked survey.base policy frame d.rank turn ≡ answer → IsTelling survey.base policy survey.found p old → HasScript survey.found new.at new.keys.items → new.faults.items ≡ old.faults.items ++ option_to_list (option_map (fault_of d.id (script survey.found i)) answer) → IsTelling survey.base policy survey.found q new
-step survey policy i d listed frame at p q turn small here next old new answer e telling script more =
-    let before = subst (λ (n : ℕ). IsTelling survey.base policy survey.found n old) here telling in
-    subst (λ (n : ℕ). IsTelling survey.base policy survey.found n new) (omega (arith, here, next)) (telling_more survey.base policy survey.found telling.finding i d listed frame (at d listed) turn small old new answer e before script more)
+pub step : (survey : SurveyView) (policy : Policy) (i : ℕ) (d : Discovered) (listed : slice_get survey.found i ≡ std.Some d) (frame : Frame) (at : IsFrameAt survey i frame) (p q turn : ℕ) → turn < 14 → p ≡ i * 14 + turn → q ≡ p + 1 → (old new : Reporter) (answer : Option FrameFault) → asked survey.base policy frame d.rank turn ≡ answer → IsReporting survey.base policy survey.found p old → HasScript survey.found new.at new.keys.items → new.faults.items ≡ old.faults.items ++ option_to_list (option_map (fault_of d.id (script survey.found i)) answer) → IsReporting survey.base policy survey.found q new
+step survey policy i d listed frame at p q turn small here next old new answer e reporting script more =
+    let before = subst (λ (n : ℕ). IsReporting survey.base policy survey.found n old) here reporting in
+    subst (λ (n : ℕ). IsReporting survey.base policy survey.found n new) (omega (arith, here, next)) (reporting_more survey.base policy survey.found reporting.finding i d listed frame (at d listed) turn small old new answer e before script more)
