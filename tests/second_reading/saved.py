@@ -148,6 +148,6 @@ def imported(files, stream=False, entry=None):
         else:
             frames[id] = path, price, cells
     for id in sorted(twins):
-        for first, second in zip(twins[id], twins[id][1:]):
-            lines.append(f"{second}: frame {id[0]}{id[1]} is in {first} too\n")
+        first, *others = twins[id]
+        lines += [f"{other}: frame {id[0]}{id[1]} is in {first} too\n" for other in others]
     return ("", "".join(lines), 3) if lines else base_lines(frames, entry)

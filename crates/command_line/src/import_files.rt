@@ -6,7 +6,7 @@ use crate::named_files::{Unfinished, ended, open_base, report};
 use audit_report::{FromRead, IntoWrite, RunFault};
 use command_words::Import;
 use pageaudit::{
-    Album, ImportFault, ImportStatus, ScreenFault, run_import, status_of_import, take_screen,
+    Album, Filed, ImportFault, ImportStatus, ScreenFault, run_import, status_of_import, take_screen,
 };
 use std::io;
 use std::rt::Files;
@@ -95,18 +95,54 @@ fn take_files<R: Files + Eprint + AllocGlobal>(rt: &R, asked: &Import, album: &m
     status
 }
 
-// Names the files that have one id; the exit status.
-fn report_twins<R: Eprint>(rt: &R, asked: &Import, album: &Album) -> u8 {
+// The path of a file by its number.
+fn path_of<'a>(asked: &'a Import, file: usize) -> &'a str {
+    match asked.screens.get(file) {
+        Some(path) => path,
+        None => "",
+    }
+}
+
+// The first of the files of some frames.
+fn first_file(frames: &[Filed]) -> usize {
+    let mut first = usize::MAX;
+    for filed in frames {
+        first = first.min(filed.file);
+    }
+    first
+}
+
+// Names the files of frames of one id, but the first; the exit status.
+fn report_same<R: Eprint>(rt: &R, asked: &Import, frames: &[Filed]) -> u8 {
+    let first = first_file(frames);
     let mut status = 0;
-    for pair in album.as_slice().windows(2) {
-        if pair[0].frame.id == pair[1].frame.id {
-            let first = pair[0].file.min(pair[1].file);
-            let second = pair[0].file.max(pair[1].file);
-            let id = pair[0].frame.id.text();
-            let (first, second) = (asked.screens[first], asked.screens[second]);
-            let _ = eprintln!(rt; "{second}: frame {} is in {first} too", id.as_str());
+    for filed in frames {
+        if filed.file != first {
+            let (path, other) = (path_of(asked, filed.file), path_of(asked, first));
+            let id = filed.frame.id.text();
+            let _ = eprintln!(rt; "{path}: frame {} is in {other} too", id.as_str());
             status = 3;
         }
+    }
+    status
+}
+
+// Names the files of the frames whose ids other files have; the exit status.
+fn report_twins<R: Eprint>(rt: &R, asked: &Import, album: &Album) -> u8 {
+    let mut rest = album.as_slice();
+    let mut status = 0;
+    // each turn takes the frames of one id
+    for _ in 0..rest.len() {
+        let Some(first) = rest.first() else {
+            break;
+        };
+        let id = first.frame.id;
+        let count = match rest.iter().position(|filed| filed.frame.id != id) {
+            Some(count) => count,
+            None => rest.len(),
+        };
+        status = status.max(report_same(rt, asked, &rest[..count]));
+        rest = &rest[count..];
     }
     status
 }
@@ -127,7 +163,7 @@ fn print_or_report<R: Print + Eprint + AllocGlobal>(rt: &R, asked: &Import, albu
     match print_base(rt, asked, album) {
         Ok(status) => {
             if let ImportStatus::TooLong(file) = status {
-                let path = asked.screens[file];
+                let path = path_of(asked, file);
                 let _ = eprintln!(rt;
                     "{path}: with this frame the base is longer than 16777216 bytes"
                 );
