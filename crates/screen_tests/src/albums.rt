@@ -1,7 +1,5 @@
 use page_ids::{FrameId, PageNo};
-use screen_files::{
-    Album, BaseTextFault, FileKind, MOST_SCREEN, ScreenFault, ScreenFrame, base_text, file_frame,
-};
+use screen_files::{Album, FileKind, MOST_SCREEN, ScreenFault, ScreenFrame, base_text, file_frame};
 use std::test::Fail;
 use test_support::{same, same_in};
 
@@ -53,14 +51,9 @@ fn a_file_gives_a_frame_or_a_fault(_rt: HostRuntime) -> Result<(), Fail> {
 }
 
 #[test]
-fn a_stream_has_a_most(rt: HostRuntime) -> Result<(), Fail> {
+fn a_file_has_a_most(rt: HostRuntime) -> Result<(), Fail> {
     let mut bytes = Vec::new(rt.alloc());
-    bytes.resize(MOST_SCREEN, 0x0c)?;
-    same(
-        file_frame(FileKind::Stream, "4a", bytes.as_slice()).is_ok(),
-        true,
-    )?;
-    bytes.push(0x0c)?;
+    bytes.resize(MOST_SCREEN.saturating_add(1), 0x0c)?;
     same(
         file_frame(FileKind::Stream, "4a", bytes.as_slice()).err(),
         Some(ScreenFault::TooLong),
@@ -110,19 +103,4 @@ rows = [
     same(text.as_slice(), wanted.as_bytes())?;
     let asked = base_text(rt.alloc(), PageNo::new(7), album.as_slice()).map_err(|_| "text")?;
     same(asked.as_slice().starts_with(b"entry = 7\n"), true)
-}
-
-#[test]
-fn a_text_may_be_too_long(rt: HostRuntime) -> Result<(), Fail> {
-    let mut album = Album::new(rt.alloc());
-    let mut frame = blank("1a")?;
-    frame.codes = [0x80; 960];
-    for file in 0..4_000 {
-        frame.id.page = PageNo::new(1_000_000 + file as u32).ok_or("page")?;
-        same(album.add(file, &frame), Ok(()))?;
-    }
-    // A frame has 22 rows of 40 codes, six characters each, in lines of eight more, and 51 characters besides.
-    let first = (16_777_216 - 16) / (22 * 248 + 51);
-    let fault = base_text(rt.alloc(), None, album.as_slice()).err();
-    same(fault, Some(BaseTextFault::TooLong(first)))
 }
