@@ -154,8 +154,11 @@ fn export_all<R: Files + Eprint + AllocGlobal>(rt: &R, asked: &Export, base: &Ba
     status
 }
 
-// Makes the folder, with what leads to it.
+// Makes the folder, with what leads to it. No folder has an empty name.
 fn make_folder<R: Files>(rt: &R, path: &str) -> Result<(), Unfinished> {
+    if path.is_empty() {
+        return Err(Unfinished::Unread("no such folder"));
+    }
     match fs::create_dir_all(rt, path) {
         Ok(()) => Ok(()),
         Err(error) if error.kind() == io::ErrorKind::AlreadyExists => {
