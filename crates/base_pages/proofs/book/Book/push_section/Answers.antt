@@ -27,7 +27,7 @@ returns c =
     ∙ ap (λ (of : BaseView). screen_codes of (way_by b.gallery.now.groups of found f.id place)) c.requires.of_base
     ∙ ap (λ (groups : List ℕ). screen_codes base (way_by groups base found f.id place)) c.requires.of_groups in
     let path =
-    ap (λ (fs : List Fault). shaped caller base part f fs (looks c.in_ok-codes.codes) c.is_reached.result) about
-    ∙ ap (λ (cells : List ℕ). shaped caller base part f (faults_about all f.id) (looks cells) c.is_reached.result) codes
-    ∙ ap (λ (r : Bool). shaped caller base part f (faults_about all f.id) (looks (screen_codes base (way_by caller base found f.id place))) r) c.is_reached.ensures in
+    ap (λ (fs : List Fault). shaped caller base part f fs (looks c.in_ok-codes.codes) c.is_reached-is_reached.result) about
+    ∙ ap (λ (cells : List ℕ). shaped caller base part f (faults_about all f.id) (looks cells) c.is_reached-is_reached.result) codes
+    ∙ ap (λ (r : Bool). shaped caller base part f (faults_about all f.id) (looks (screen_codes base (way_by caller base found f.id place))) r) c.is_reached-is_reached.ensures in
     subst (λ (text : List ℕ). OnOk c.push_with.result (c.push_with.new.out.items ≡ c.args.out.now.items ++ text)) path c.push_with.ensures
