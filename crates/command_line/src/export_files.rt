@@ -16,13 +16,14 @@ use std::{fs, io};
 
 // Reads the base.
 fn read_file<R: Files + AllocGlobal>(rt: &R, path: &str) -> Result<Base, Unfinished> {
-    match open_base(rt, path) {
-        Ok(file) => match read_exported(rt.alloc(), &mut FromRead::new(file)) {
-            Ok(base) => Ok(base),
-            Err(RunFault::ReadBase) => Err(Unfinished::Unread("read failed")),
-            Err(fault) => Err(Unfinished::Fault(fault)),
-        },
-        Err(unfinished) => Err(unfinished),
+    let mut file = match open_base(rt, path) {
+        Ok(file) => FromRead::new(file),
+        Err(unfinished) => return Err(unfinished),
+    };
+    match read_exported(rt.alloc(), &mut file) {
+        Ok(base) => Ok(base),
+        Err(RunFault::ReadBase) => Err(Unfinished::Unread("read failed")),
+        Err(fault) => Err(Unfinished::Fault(fault)),
     }
 }
 
@@ -39,7 +40,7 @@ fn unwritten(error: &io::Error) -> Unfinished {
     }
 }
 
-const IS_THERE: Unfinished = Unfinished::Unread("is there already; --force replaces it");
+const IS_THERE: &str = "is there already; --force replaces it";
 
 // Whether there is something under a path.
 fn is_there<R: Files>(rt: &R, path: &str) -> bool {
@@ -53,7 +54,7 @@ fn give_free_name<R: Files>(rt: &R, new: &str, path: &str) -> Result<(), Unfinis
             let _ = fs::remove_file(rt, new);
             Ok(())
         }
-        Err(_) if is_there(rt, path) => Err(IS_THERE),
+        Err(_) if is_there(rt, path) => Err(Unfinished::Unread(IS_THERE)),
         Err(_) => replace(rt, new, path),
     }
 }
@@ -73,7 +74,8 @@ fn write_file<R: AllocGlobal, W: io::Write + Drop>(
     id: FrameId,
     file: W,
 ) -> Result<(), Unfinished> {
-    match run_export(rt.alloc(), gallery, id, &mut IntoWrite::new(file)) {
+    let mut out = IntoWrite::new(file);
+    match run_export(rt.alloc(), gallery, id, &mut out) {
         Ok(_) => Ok(()),
         Err(RunFault::Memory) => Err(Unfinished::Fault(RunFault::Memory)),
         Err(_) => Err(Unfinished::Unread("write failed")),
@@ -112,7 +114,7 @@ fn export_screen<R: Files + AllocGlobal>(
     path: &str,
 ) -> Result<(), Unfinished> {
     if !asked.force && is_there(rt, path) {
-        return Err(IS_THERE);
+        return Err(Unfinished::Unread(IS_THERE));
     }
     write_screen(rt, asked, gallery, id, path)
 }

@@ -28,18 +28,11 @@ fn take_file<R: Files + AllocGlobal>(
     number: usize,
     album: &mut Album,
 ) -> Result<(), Refused> {
-    let file = match open_base(rt, path) {
-        Ok(file) => file,
+    let mut file = match open_base(rt, path) {
+        Ok(file) => FromRead::new(file),
         Err(unfinished) => return Err(Refused::Unfinished(unfinished)),
     };
-    match take_screen(
-        rt.alloc(),
-        &mut FromRead::new(file),
-        asked.kind,
-        path,
-        number,
-        album,
-    ) {
+    match take_screen(rt.alloc(), &mut file, asked.kind, path, number, album) {
         Ok(()) => Ok(()),
         Err(fault) => Err(Refused::Fault(fault)),
     }
