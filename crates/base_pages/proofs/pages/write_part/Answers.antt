@@ -13,7 +13,6 @@ write_book-requires-clause-ready g c =
     record {
       of_base = made.of_base;
       of_groups = made.of_groups;
-      places = made.places;
       index = λ (id : Id). made.index id ∙ ap (λ (fs : List Fault). numbers_of (numbered 0 fs) id) (sym c.faults_in.ensures);
     }
 
@@ -21,14 +20,14 @@ pub returns-in-Ok-write_book : goal.returns-in-Ok-write_book
 returns-in-Ok-write_book g c =
     let p = c.in-Ok.prepared in
     let made = c.in-Ok.ensures in
-    let b : BookView = record { base = c.args.base.now; caller = c.args.policy.now.groups; found = p.painter.found; faults = c.faults_in.result.now; part = c.args.part.now } in
+    let b : BookView = record { base = c.args.base.now; caller = c.args.policy.now.groups; found = p.gallery.found; faults = c.faults_in.result.now; part = c.args.part.now } in
     let text = page c.args.name.now c.args.policy.now p.outcome b in
     let is : IsPage c.args.name.now c.args.base.now c.args.policy.now c.args.part.now text = record {
-      found = p.painter.found;
+      found = p.gallery.found;
       finding = made.finding;
       outcome = p.outcome;
       audited = made.audited;
-      is = ap (λ (fs : List Fault). page c.args.name.now c.args.policy.now p.outcome (record { base = c.args.base.now; caller = c.args.policy.now.groups; found = p.painter.found; faults = fs; part = c.args.part.now })) c.faults_in.ensures;
+      is = ap (λ (fs : List Fault). page c.args.name.now c.args.policy.now p.outcome (record { base = c.args.base.now; caller = c.args.policy.now.groups; found = p.gallery.found; faults = fs; part = c.args.part.now })) c.faults_in.ensures;
     } in
     (text, is, c.in-Ok-write_book.ensures.whole)
 
@@ -36,13 +35,13 @@ pub returns : goal.returns
 returns g c =
     let p = c.in-Ok.prepared in
     let made = c.in-Ok.ensures in
-    let b : BookView = record { base = c.args.base.now; caller = c.args.policy.now.groups; found = p.painter.found; faults = c.faults_in.result.now; part = c.args.part.now } in
+    let b : BookView = record { base = c.args.base.now; caller = c.args.policy.now.groups; found = p.gallery.found; faults = c.faults_in.result.now; part = c.args.part.now } in
     let text = page c.args.name.now c.args.policy.now p.outcome b in
     let is : IsPage c.args.name.now c.args.base.now c.args.policy.now c.args.part.now text = record {
-      found = p.painter.found;
+      found = p.gallery.found;
       finding = made.finding;
       outcome = p.outcome;
       audited = made.audited;
-      is = ap (λ (fs : List Fault). page c.args.name.now c.args.policy.now p.outcome (record { base = c.args.base.now; caller = c.args.policy.now.groups; found = p.painter.found; faults = fs; part = c.args.part.now })) c.faults_in.ensures;
+      is = ap (λ (fs : List Fault). page c.args.name.now c.args.policy.now p.outcome (record { base = c.args.base.now; caller = c.args.policy.now.groups; found = p.gallery.found; faults = fs; part = c.args.part.now })) c.faults_in.ensures;
     } in
     fault_of (g.S.Sink.seen c.args.sink.now) (g.S.Sink.seen c.write_book.new.sink) (IsPage c.args.name.now c.args.base.now c.args.policy.now c.args.part.now) text is c.in-Err.fault c.in-Err.ensures.part

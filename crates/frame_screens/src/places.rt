@@ -4,7 +4,7 @@ ghost use Rattle.std.specs.Prelude.{◌≡◌, IfOk};
 ghost use Rattle.finder.specs.Finds.{FindsReached};
 ghost use Rattle.page_ids.specs.Ids.{Id};
 ghost use Rattle.frame_screens.specs.Frames.{place_of};
-ghost use Rattle.base_pages.specs.Loops.{place_held};
+ghost use Rattle.frame_screens.specs.Gallery.{place_held};
 
 use finder::Survey;
 use indexmap::IndexMap;

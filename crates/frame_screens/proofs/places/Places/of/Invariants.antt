@@ -2,8 +2,8 @@ use Rattle.std.proofs.Common.{◌≡◌}
 use Rattle.page_ids.specs.Ids.{Id, id_eq}
 use Rattle.indexmap.specs.IndexMap.{get}
 use Rattle.frame_screens.specs.Frames.{place_of}
-use Rattle.base_pages.specs.Loops.{if_before}
-use Rattle.base_pages.proofs.places.Places.of.Given as goal
+use Rattle.frame_screens.specs.Gallery.{if_before}
+use Rattle.frame_screens.proofs.places.Places.of.Given as goal
 
 -- the first places are held
 abbrev pub invariant-loop-place : goal.invariant-loop-place
