@@ -1,4 +1,3 @@
 mod Within
 mod Runs
 mod Changes
-mod Imports
