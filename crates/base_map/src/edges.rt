@@ -77,7 +77,8 @@ impl<'a> Drawing<'a> {
         out: &mut Vec<u8>,
         frames: &[Frame],
     ) -> Result<(), AllocError>
-        ensures { OnOk result (out.new.items ≡ out.old.items ++ flat_map (spec.edge_lines_of self.now) (shown self.now frames.now)) }
+        ensures { OnOk result (out.new.items ≡ out.old.items
+            ++ flat_map (spec.edge_lines_of self.now) (shown self.now frames.now)) }
     {
         for frame in frames {
             if self.part.shows(frame.id) {
