@@ -5,6 +5,7 @@ import re
 from .audit import discover
 from .base import BAD_GROUPS, Refused, base_of, caller_of, id_text
 from .certificate import KEYS, sought
+from .looks import CHARACTERS
 from .session import unopened
 
 ESCAPE = re.compile(rb"\x1b.?", re.DOTALL)
@@ -18,7 +19,9 @@ def title(body):
 
 
 def escaped(text):
-    return re.sub(r'(["\\])', r"\\\1", text)
+    """What callers see of these codes, as a label of DOT has it."""
+    seen = "".join(CHARACTERS.get(ord(code), code) for code in text)
+    return seen.replace("&", "&amp;").replace('"', '\\"')
 
 
 def leads(base, groups, frame):

@@ -1,6 +1,7 @@
 -- What the edges of a map are.
 use Rattle.std.proofs.Common.{◌≡◌, ◌∙◌, sym, ap, ℕ, true, List, [], Option, Some, None, Contains, refl, subst}
-use Rattle.std.specs.Prelude.{filter, option_eq}
+use Rattle.std.specs.Prelude.{filter}
+use Rattle.std.specs.Option.{option_eq}
 use Rattle.std.specs.List.{filter_map}
 use Rattle.std.proofs.lemmas.List.Folds.{Any-from_list_any, list_any-from_Any}
 use Rattle.page_ids.specs.Ids.{Id, id_eq}

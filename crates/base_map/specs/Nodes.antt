@@ -1,11 +1,13 @@
 -- A few words by which a frame can be recognised.
 use Rattle.std.specs.Prelude.{ℕ, ◌-◌, ◌==◌, ◌&&◌, ◌||◌, Bool, true, false, if◌then◌else◌, List, [], ◌∷◌, ◌++◌, length, take, drop, find, codes, nat_lt, nat_le, unwrap_or, decimal, Option, Some, None}
 use Rattle.std.specs.List.{list_any, slice_split, prefix_len, suffix_len}
-use Rattle.std.specs.Char.{is_ascii_alphabetic, is_ascii_whitespace}
+use Rattle.std.specs.Char.{encode_utf8, is_ascii_alphabetic, is_ascii_whitespace}
 use Rattle.page_ids.specs.Ids.{id_eq, frame_text, page_text}
 use Rattle.frame_records.specs.declared.frame.Frame.{Frame}
 use Rattle.frame_records.specs.Seek.{entry_of, is_open}
-use Rattle.base_map.specs.Edges.{MapView, has_id}
+use Rattle.finder.specs.Finds.{has_id}
+use Rattle.cell_looks.specs.Table.{character}
+use Rattle.base_map.specs.Edges.{MapView}
 
 -- a body without its escapes, after the first code of one or not: an escape is 1B and the byte after it
 abbrev pub without_escapes : Bool → List ℕ → List ℕ
@@ -43,9 +45,12 @@ title_run body = run_in (without_escapes false body)
 abbrev pub title : List ℕ → List ℕ
 title body = shortened (title_run body)
 
--- a backslash before a quote and before a backslash: 34 is `"`, 92 is `\`
+-- what a caller sees of a code, as a label of DOT has it: a quote after a backslash, `&` as its reference. A terminal shows no backslash
 abbrev pub escaped_code : ℕ → List ℕ
-escaped_code code = if code == 34 || code == 92 then 92 ∷ code ∷ [] else code ∷ []
+escaped_code code =
+    if code == 0x22 then codes "\\\""
+    else if code == 0x26 then codes "&amp;"
+    else encode_utf8 (character code)
 
 abbrev pub escaped : List ℕ → List ℕ
 escaped [] = []

@@ -18,12 +18,11 @@ fn push_keys_to(out: &mut Vec<u8>, frame: &Frame, to: FrameId) -> Result<(), All
 {
     let mut is_first = true;
     for place in 0..Way::COUNT {
-        let way = Way::at(place);
-        if frame.sought(way) == Some(to) {
+        if frame.sought(Way::at(place)) == Some(to) {
             if !is_first {
                 out.push(b' ')?;
             }
-            push_key(out, way.key())?;
+            push_key(out, Way::at(place).key())?;
             is_first = false;
         }
     }

@@ -5,6 +5,8 @@ ghost use Rattle.std.specs.List.{list_any};
 ghost use Rattle.std.specs.Char.{is_ascii_alphabetic};
 ghost use Rattle.base_map.specs.Nodes as spec;
 
+use cell_looks::character;
+use screen_texts::{Writing, push_char};
 use std::alloc::{AllocError, Global};
 
 // The code that begins an escape, with one more byte.
@@ -65,15 +67,15 @@ fn shortened(run: &[u8]) -> &[u8]
     &trimmed[..MOST_TITLE.min(trimmed.len())]
 }
 
-// A code of a label, as DOT writes it.
+// What a caller sees of a code, as a label of DOT has it: a bare `&` may begin a reference there.
 fn push_code(out: &mut Vec<u8>, code: u8) -> Result<(), AllocError>
     ensures { OnOk result (out.new.items ≡ out.old.items ++ spec.escaped_code code) }
 {
-    if code == b'"' || code == b'\\' {
-        out.push(b'\\')?;
+    match code {
+        b'"' => out.extend_from_slice(b"\\\""),
+        b'&' => out.extend_from_slice(b"&amp;"),
+        _ => push_char(out, Writing::Plain, character(code)),
     }
-    out.push(code)?;
-    Ok(())
 }
 
 fn push_escaped(out: &mut Vec<u8>, text: &[u8]) -> Result<(), AllocError>

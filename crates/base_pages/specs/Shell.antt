@@ -3,7 +3,7 @@ use Rattle.std.specs.Prelude.{ℕ, List, codes}
 
 -- all up to the header, with the style
 unfoldable pub head : List ℕ
-head = codes "<!DOCTYPE html>\n<html lang=\"en\">\n<head>\n<meta charset=\"utf-8\">\n<meta name=\"viewport\" content=\"width=device-width, initial-scale=1\">\n<meta http-equiv=\"Content-Security-Policy\" content=\"default-src 'none'; script-src 'sha256-eiE+matG332VAP0l4B80A9QenX0eURAGdGGb7VsBSAQ='; style-src 'sha256-gE6d6WooaCP2SmZji7DdRcINdZBetbeFRNUcqoX+fFo='; base-uri 'none'; form-action 'none'\">\n<title>A page base</title>\n<style>\n:root{color-scheme:light dark;--paper:#f4f2eb;--ink:#1e1d1b;--soft:#69655c;--line:#d9d4c7;--card:#fffefa;--edge:#cfc9ba;--good:#12703c;--bad:#c41230;--link:#0a569f;--case:#26231f;--glow:0 1.1rem 2.4rem #0003}\n@media (prefers-color-scheme:dark){:root{--paper:#131315;--ink:#edebe6;--soft:#a5a198;--line:#303036;--card:#1d1d21;--edge:#45454d;--good:#62d592;--bad:#ff7373;--link:#82c6ff;--case:#000;--glow:0 0 0 1px #34343b,0 1.1rem 2.4rem #000}}\n*{box-sizing:border-box}\nbody{margin:0 auto;padding:0 1rem 3rem;max-width:78rem;background:var(--paper);color:var(--ink);font:1rem/1.45 system-ui,\"Segoe UI\",Roboto,\"DejaVu Sans\",sans-serif}\nheader{display:flex;flex-wrap:wrap;align-items:baseline;gap:.1rem .9rem;padding:.9rem 0 .6rem}\nh1{margin:0;font-size:1.25rem;overflow-wrap:anywhere}\nheader p{margin:0;color:var(--soft);font-size:.875rem}\nheader .verdict{padding:.05rem .6rem;border:1px solid;border-radius:1rem;font-weight:600;letter-spacing:.02em}\n.certified{color:var(--good)!important}\n.faulty.verdict{color:var(--bad)!important}\n.views,.pad,.meter,.hint,#reply,.lines{display:none}\na{color:var(--link)}\na:focus-visible,button:focus-visible,section:focus-visible{outline:3px solid var(--link);outline-offset:2px}\nsection{margin:0 0 1.5rem;padding:1rem;border:1px solid var(--line);border-radius:.8rem;background:var(--card);content-visibility:auto;contain-intrinsic-size:auto 20rem}\nsection svg{display:block;width:100%;max-width:40rem;height:auto;aspect-ratio:5/4;background:#000;border-radius:.25rem}\nh2{margin:0 0 .5rem;font-size:1.125rem}\npre{position:absolute;width:1px;height:1px;margin:0;overflow:hidden;clip-path:inset(50%);white-space:pre}\n.price{margin:.5rem 0}\n.ways{display:flex;flex-wrap:wrap;gap:.4rem;margin:0}\n.ways>*{display:flex;align-items:center;gap:.5rem;min-height:2.75rem;padding:.15rem .8rem .15rem .2rem;border:1px solid var(--line);border-radius:.6rem;background:var(--card);color:inherit;text-decoration:none;font-variant-numeric:tabular-nums}\n.ways>*::before{content:attr(data-key);min-width:2.2rem;padding:.2rem 0;text-align:center;font-weight:700;border-right:1px solid var(--line);color:var(--link)}\n.ways a:hover{border-color:var(--link)}\n.ways .missing,.ways .closed,.ways .outside,.ways .elsewhere{color:var(--soft);border-style:dashed}\n.ways .missing{color:var(--bad);border-color:var(--bad)}\n.ways .missing::after{content:\"missing\"}\n.ways .closed::after{content:\"closed\"}\n.ways .outside::after{content:\"outside\"}\n.ways .elsewhere::after{content:\"not in this file\"}\n.ways span::after{font-size:.8125rem}\n.over{margin:.5rem 0;color:var(--soft);font-size:.875rem}\n.faults{margin:.6rem 0 0;padding:0;list-style:none;color:var(--bad);font:600 .875rem/1.5 ui-monospace,\"DejaVu Sans Mono\",monospace;overflow-wrap:anywhere}\n.faults li{padding:.15rem .6rem;border-left:3px solid}\n.unreached h2::after{content:\" no key leads here\";font-weight:400;font-size:.875rem;color:var(--soft)}\nhtml:not(.js) main:has(:target) section:not(:target){display:none}\n.js .views{display:flex;gap:.3rem;margin:0 0 1rem;border-bottom:1px solid var(--line)}\n.views button{min-height:2.75rem;padding:.3rem 1rem;border:0;border-bottom:3px solid transparent;background:none;color:var(--soft);font:inherit;cursor:pointer}\n.views button[aria-pressed=true]{border-color:var(--link);color:var(--ink);font-weight:600}\n.js body>.faults{margin:0 0 1rem}\n[data-view=caller] main{display:grid;grid-template-columns:minmax(0,1fr);gap:.8rem;max-width:40rem;margin:0 auto}\n[data-view=caller] section{display:none}\n[data-view=caller] section.at{display:contents}\n[data-view=caller] section.at>svg,[data-view=caller] #reply{grid-area:1/1}\n[data-view=caller] section.at>svg{max-width:none;border-radius:0;box-shadow:0 0 0 .4rem #000,0 0 0 .9rem var(--case),var(--glow);margin:.9rem 0}\n[data-view=caller] .pad{display:grid;grid-row:2}\n[data-view=caller] section.at>h2,[data-view=caller] section.at>.price{grid-row:3;grid-column:1;margin:0;align-self:baseline}\n[data-view=caller] section.at>.price{justify-self:end}\n[data-view=caller] .meter{display:grid;grid-row:4}\n[data-view=caller] .hint{display:block;grid-row:9;grid-column:1;margin:0;color:var(--soft);font-size:.9375rem}\n[data-view=caller] section.at>*{grid-column:1}\n[data-view=caller] section.at>pre{grid-area:1/1}\n#reply{align-self:end;z-index:1;margin:0 0 .9rem;padding:0 .4rem;min-height:4.1667%;font:600 clamp(.75rem,2.2vw,1.0625rem)/1.5 ui-monospace,\"DejaVu Sans Mono\",monospace;color:#bdf;-webkit-text-stroke:.35em #000;paint-order:stroke fill;pointer-events:none;overflow-wrap:anywhere}\n[data-view=caller] #reply{display:block}\n#reply.bad{color:#ff5c5c}\n#reply.no{color:#ffe45c}\n.pad{grid-template-columns:repeat(3,1fr);gap:.5rem;width:100%;max-width:24rem;margin:.4rem auto 0}\n.pad button{min-height:3.25rem;border:1px solid var(--edge);border-bottom-width:3px;border-radius:.7rem;background:var(--card);color:var(--ink);font-family:inherit;font-size:1.375rem;font-weight:600;line-height:1.1;cursor:pointer;touch-action:manipulation}\n.pad button:active{transform:translateY(1px);border-bottom-width:1px}\n.pad small{display:block;font-size:.75rem;font-weight:400;color:var(--soft)}\n.pad .again{display:none;grid-column:1/-1;border-color:var(--link)}\n.gone .pad .again{display:block}\n.meter{grid-template-columns:auto minmax(0,1fr);gap:.15rem .9rem;margin:0;padding:.6rem .8rem;border:1px solid var(--line);border-radius:.7rem;background:var(--card)}\n.meter dt{color:var(--soft)}\n.meter dd{margin:0;font-variant-numeric:tabular-nums;overflow-wrap:anywhere}\n#keys{font-family:ui-monospace,\"DejaVu Sans Mono\",monospace;user-select:all;-webkit-user-select:all;max-height:6rem;overflow:auto}\n#note{grid-column:1/-1;color:var(--soft);font-size:.875rem}\n#note:empty{display:none}\n@media (min-width:56rem){\n[data-view=caller] main{grid-template-columns:minmax(0,calc((100vh - 17.75rem)*1.25)) minmax(17rem,1fr);grid-template-rows:auto auto auto auto auto 1fr auto;column-gap:2.4rem;max-width:none;justify-content:center}\n[data-view=caller] section.at>svg,[data-view=caller] #reply,[data-view=caller] section.at>pre{grid-area:1/1/7/2}\n[data-view=caller] section.at>svg{align-self:start}\n[data-view=caller] #reply{align-self:start;aspect-ratio:5/4;display:flex;flex-direction:column;justify-content:flex-end;margin:.9rem 0 0}\n[data-view=caller] section.at>*{grid-column:2}\n[data-view=caller] section.at>h2,[data-view=caller] section.at>.price{grid-area:1/2;margin-top:.9rem}\n[data-view=caller] .meter{grid-area:2/2}\n[data-view=caller] section.at>.ways{grid-area:3/2}\n[data-view=caller] section.at>.over{grid-area:4/2}\n[data-view=caller] section.at>.faults{grid-area:5/2;max-height:14rem;overflow:auto}\n[data-view=caller] .hint{grid-area:7/2;align-self:center}\n[data-view=caller] .pad{grid-area:7/1;grid-template-columns:repeat(12,1fr);max-width:none;gap:.35rem;margin:.2rem 0 0}\n.pad button{min-height:2.75rem;font-size:1.125rem}\n.pad .word{grid-column:span 4}\n}\n[data-view=frames] main{display:grid;grid-template-columns:repeat(auto-fill,minmax(9.4rem,1fr));gap:.5rem}\n[data-view=frames] section{margin:0;padding:.35rem;border-radius:.5rem;cursor:pointer;contain-intrinsic-size:9.4rem 10rem}\n[data-view=frames] section:hover{border-color:var(--link)}\n[data-view=frames] section.opens{margin-left:0;border-left:4px solid var(--link)}\n[data-view=frames] section h2,[data-view=frames] section .price{display:inline-block;margin:.25rem .2rem 0;font-size:.8125rem}\n[data-view=frames] section .price{float:right;color:var(--soft)}\n[data-view=frames] section h2::after{content:none}\n[data-view=frames] section>svg{order:-1}\n[data-view=frames] pre,[data-view=frames] .ways,[data-view=frames] .over,[data-view=frames] section .faults{display:none}\n[data-view=frames] section.unreached{border-style:dashed;opacity:.75}\n[data-view=frames] section.faulty{border:2px solid var(--bad);background:color-mix(in srgb,var(--bad) 12%,var(--card))}\n[data-view=frames] section.faulty h2{color:var(--bad)}\n[data-view=frames] section.at{outline:3px solid var(--link)}\n[data-view=faults] main{display:none}\n[data-view=faults] .lines{display:block;margin:0;padding:0;list-style:none;font:.9375rem/1.5 ui-monospace,\"DejaVu Sans Mono\",monospace}\n.lines li{margin:0 0 .35rem;overflow-wrap:anywhere}\n.lines a,.lines span{display:block;padding:.5rem .8rem;border:1px solid var(--line);border-left:4px solid var(--bad);border-radius:.4rem;background:var(--card);color:var(--ink);text-decoration:none}\n.lines a:hover{border-color:var(--bad)}\n.lines a::after{content:\"press these keys\";float:right;padding-left:1rem;color:var(--link);font-family:system-ui,\"DejaVu Sans\",sans-serif;font-size:.875rem}\n.lines .none{border-left-color:var(--good);font-family:inherit}\n@media (prefers-reduced-motion:reduce){.flash{visibility:visible!important}.pad button:active{transform:none}}\n@media print{\n@page{margin:12mm}\n:root{color-scheme:light}\nbody{max-width:none;padding:0;background:#fff;color:#000;font-size:9pt}\n.views,.pad,.meter,.hint,#reply,.lines{display:none!important}\nmain{display:block!important;max-width:none!important}\nsection,section.at{display:grid!important;grid-template:auto auto auto auto 1fr/auto 1fr!important;column-gap:6mm;width:auto!important;height:88mm;margin:0 0 3mm!important;padding:2mm!important;break-inside:avoid;border:1px solid #999;background:#fff;opacity:1!important;content-visibility:visible;print-color-adjust:exact;-webkit-print-color-adjust:exact}\nsection>svg{grid-area:1/1/6/2!important;height:83mm;width:104mm;margin:0!important;box-shadow:none!important}\nsection>*{grid-column:2!important;grid-row:auto!important;display:block!important;margin:0 0 1mm!important}\nsection>.ways{display:flex!important}\nsection>pre{display:none!important}\n.ways>*{min-height:0;padding:0 1.5mm 0 0;gap:1mm;color:#000!important}\n.ways>*::before{min-width:5mm;padding:0}\nhtml main:has(:target) section:not(:target){display:grid!important}\n}\n</style>\n</head>\n<body>\n"
+head = codes "<!DOCTYPE html>\n<html lang=\"en\">\n<head>\n<meta charset=\"utf-8\">\n<meta name=\"viewport\" content=\"width=device-width, initial-scale=1\">\n<meta http-equiv=\"Content-Security-Policy\" content=\"default-src 'none'; script-src 'sha256-eiE+matG332VAP0l4B80A9QenX0eURAGdGGb7VsBSAQ='; style-src 'sha256-VFxtioqb9Q8auXAA/hgVa8t24dOHlju1F0KK9gSxIEA='; base-uri 'none'; form-action 'none'\">\n<title>A page base</title>\n<style>\n:root{color-scheme:light dark;--paper:#f4f2eb;--ink:#1e1d1b;--soft:#69655c;--line:#d9d4c7;--card:#fffefa;--edge:#cfc9ba;--good:#12703c;--bad:#c41230;--link:#0a569f;--case:#26231f;--glow:0 1.1rem 2.4rem #0003}\n@media (prefers-color-scheme:dark){:root{--paper:#131315;--ink:#edebe6;--soft:#a5a198;--line:#303036;--card:#1d1d21;--edge:#45454d;--good:#62d592;--bad:#ff7373;--link:#82c6ff;--case:#000;--glow:0 0 0 1px #34343b,0 1.1rem 2.4rem #000}}\n*{box-sizing:border-box}\nbody{margin:0 auto;padding:0 1rem 3rem;max-width:78rem;background:var(--paper);color:var(--ink);font:1rem/1.45 system-ui,\"Segoe UI\",Roboto,\"DejaVu Sans\",sans-serif}\nheader{display:flex;flex-wrap:wrap;align-items:baseline;gap:.1rem .9rem;padding:.9rem 0 .6rem}\nh1{margin:0;font-size:1.25rem;overflow-wrap:anywhere}\nheader p{margin:0;color:var(--soft);font-size:.875rem}\nheader .verdict{padding:.05rem .6rem;border:1px solid;border-radius:1rem;font-weight:600;letter-spacing:.02em}\n.certified{color:var(--good)!important}\n.faulty.verdict{color:var(--bad)!important}\n.views,.pad,.meter,.hint,#reply,.lines{display:none}\na{color:var(--link)}\na:focus-visible,button:focus-visible,section:focus-visible{outline:3px solid var(--link);outline-offset:2px}\nsection{margin:0 0 1.5rem;padding:1rem;border:1px solid var(--line);border-radius:.8rem;background:var(--card);content-visibility:auto;contain-intrinsic-size:auto 20rem}\nsection svg{display:block;width:100%;max-width:40rem;height:auto;aspect-ratio:5/4;background:#000;border-radius:.25rem}\nh2{margin:0 0 .5rem;font-size:1.125rem}\npre{position:absolute;width:1px;height:1px;margin:0;overflow:hidden;clip-path:inset(50%);white-space:pre}\n.price{margin:.5rem 0}\n.ways{display:flex;flex-wrap:wrap;gap:.4rem;margin:0}\n.ways>*{display:flex;align-items:center;gap:.5rem;min-height:2.75rem;padding:.15rem .8rem .15rem .2rem;border:1px solid var(--line);border-radius:.6rem;background:var(--card);color:inherit;text-decoration:none;font-variant-numeric:tabular-nums}\n.ways>*::before{content:attr(data-key);min-width:2.2rem;padding:.2rem 0;text-align:center;font-weight:700;border-right:1px solid var(--line);color:var(--link)}\n.ways a:hover{border-color:var(--link)}\n.ways .missing,.ways .closed,.ways .outside,.ways .elsewhere{color:var(--soft);border-style:dashed}\n.ways .missing{color:var(--bad);border-color:var(--bad)}\n.ways .missing::after{content:\"missing\"}\n.ways .closed::after{content:\"closed\"}\n.ways .outside::after{content:\"outside\"}\n.ways .elsewhere::after{content:\"not in this file\"}\n.ways span::after{font-size:.8125rem}\n.over{margin:.5rem 0;color:var(--soft);font-size:.875rem}\n.faults{margin:.6rem 0 0;padding:0;list-style:none;color:var(--bad);font:600 .875rem/1.5 ui-monospace,\"DejaVu Sans Mono\",monospace;overflow-wrap:anywhere}\n.faults li{padding:.15rem .6rem;border-left:3px solid}\n.unreached h2::after{content:\" no key leads here\";font-weight:400;font-size:.875rem;color:var(--soft)}\nhtml:not(.js) main:has(:target) section:not(:target){display:none}\n.js .views{display:flex;gap:.3rem;margin:0 0 1rem;border-bottom:1px solid var(--line)}\n.views button{min-height:2.75rem;padding:.3rem 1rem;border:0;border-bottom:3px solid transparent;background:none;color:var(--soft);font:inherit;cursor:pointer}\n.views button[aria-pressed=true]{border-color:var(--link);color:var(--ink);font-weight:600}\n.js body>.faults{margin:0 0 1rem}\n[data-view=caller] main{display:grid;grid-template-columns:minmax(0,1fr);gap:.8rem;max-width:40rem;margin:0 auto}\n[data-view=caller] section{display:none}\n[data-view=caller] section.at{display:contents}\n[data-view=caller] section.at>svg,[data-view=caller] #reply{grid-area:1/1}\n[data-view=caller] section.at>svg{max-width:none;border-radius:0;box-shadow:0 0 0 .4rem #000,0 0 0 .9rem var(--case),var(--glow);margin:.9rem 0}\n[data-view=caller] .pad{display:grid;grid-row:2}\n[data-view=caller] section.at>h2,[data-view=caller] section.at>.price{grid-row:3;grid-column:1;margin:0;align-self:baseline}\n[data-view=caller] section.at>.price{justify-self:end}\n[data-view=caller] .meter{display:grid;grid-row:4}\n[data-view=caller] .hint{display:block;grid-row:9;grid-column:1;margin:0;color:var(--soft);font-size:.9375rem}\n[data-view=caller] section.at>*{grid-column:1}\n[data-view=caller] section.at>pre{grid-area:1/1}\n#reply{align-self:end;z-index:1;margin:0 0 .9rem;padding:0 .4rem;min-height:4.1667%;font:600 clamp(.75rem,2.2vw,1.0625rem)/1.5 ui-monospace,\"DejaVu Sans Mono\",monospace;color:#bdf;-webkit-text-stroke:.35em #000;paint-order:stroke fill;pointer-events:none;overflow-wrap:anywhere}\n[data-view=caller] #reply{display:block}\n#reply.bad{color:#ff5c5c}\n#reply.no{color:#ffe45c}\n.pad{grid-template-columns:repeat(3,1fr);gap:.5rem;width:100%;max-width:24rem;margin:.4rem auto 0}\n.pad button{min-height:3.25rem;border:1px solid var(--edge);border-bottom-width:3px;border-radius:.7rem;background:var(--card);color:var(--ink);font-family:inherit;font-size:1.375rem;font-weight:600;line-height:1.1;cursor:pointer;touch-action:manipulation}\n.pad button:active{transform:translateY(1px);border-bottom-width:1px}\n.pad small{display:block;font-size:.75rem;font-weight:400;color:var(--soft)}\n.pad .again{display:none;grid-column:1/-1;border-color:var(--link)}\n.gone .pad .again{display:block}\n.meter{grid-template-columns:auto minmax(0,1fr);gap:.15rem .9rem;margin:0;padding:.6rem .8rem;border:1px solid var(--line);border-radius:.7rem;background:var(--card)}\n.meter dt{color:var(--soft)}\n.meter dd{margin:0;font-variant-numeric:tabular-nums;overflow-wrap:anywhere}\n#keys{font-family:ui-monospace,\"DejaVu Sans Mono\",monospace;user-select:all;-webkit-user-select:all;max-height:6rem;overflow:auto}\n#note{grid-column:1/-1;color:var(--soft);font-size:.875rem}\n#note:empty{display:none}\n@media (min-width:56rem){\n[data-view=caller] main{grid-template-columns:minmax(0,calc((100vh - 17.75rem)*1.25)) minmax(17rem,1fr);grid-template-rows:auto auto auto auto auto 1fr auto;column-gap:2.4rem;max-width:none;justify-content:center}\n[data-view=caller] section.at>svg,[data-view=caller] #reply,[data-view=caller] section.at>pre{grid-area:1/1/7/2}\n[data-view=caller] section.at>svg{align-self:start}\n[data-view=caller] #reply{align-self:start;aspect-ratio:5/4;display:flex;flex-direction:column;justify-content:flex-end;margin:.9rem 0 0}\n[data-view=caller] section.at>*{grid-column:2}\n[data-view=caller] section.at>h2,[data-view=caller] section.at>.price{grid-area:1/2;margin-top:.9rem}\n[data-view=caller] .meter{grid-area:2/2}\n[data-view=caller] section.at>.ways{grid-area:3/2}\n[data-view=caller] section.at>.over{grid-area:4/2}\n[data-view=caller] section.at>.faults{grid-area:5/2;max-height:14rem;overflow:auto}\n[data-view=caller] .hint{grid-area:7/2;align-self:center}\n[data-view=caller] .pad{grid-area:7/1;grid-template-columns:repeat(12,1fr);max-width:none;gap:.35rem;margin:.2rem 0 0}\n.pad button{min-height:2.75rem;font-size:1.125rem}\n.pad .word{grid-column:span 4}\n}\n[data-view=frames] main{display:grid;grid-template-columns:repeat(auto-fill,minmax(9.4rem,1fr));gap:.5rem}\n[data-view=frames] section{margin:0;padding:.35rem;border-radius:.5rem;cursor:pointer;contain-intrinsic-size:9.4rem 10rem}\n[data-view=frames] section:hover{border-color:var(--link)}\n[data-view=frames] section.opens{margin-left:0;border-left:4px solid var(--link)}\n[data-view=frames] section h2,[data-view=frames] section .price{display:inline-block;margin:.25rem .2rem 0;font-size:.8125rem}\n[data-view=frames] section .price{float:right;color:var(--soft)}\n[data-view=frames] section h2::after{content:none}\n[data-view=frames] section>svg{order:-1}\n[data-view=frames] pre,[data-view=frames] .ways,[data-view=frames] .over,[data-view=frames] section .faults{display:none}\n[data-view=frames] section.unreached{border-style:dashed;opacity:.75}\n[data-view=frames] section.faulty{border:2px solid var(--bad);background:color-mix(in srgb,var(--bad) 12%,var(--card))}\n[data-view=frames] section.faulty h2{color:var(--bad)}\n[data-view=frames] section.at{outline:3px solid var(--link)}\n[data-view=faults] main{display:none}\n[data-view=faults] .lines{display:block;margin:0;padding:0;list-style:none;font:.9375rem/1.5 ui-monospace,\"DejaVu Sans Mono\",monospace}\n.lines li{margin:0 0 .35rem;overflow-wrap:anywhere}\n.lines a,.lines span{display:block;padding:.5rem .8rem;border:1px solid var(--line);border-left:4px solid var(--bad);border-radius:.4rem;background:var(--card);color:var(--ink);text-decoration:none}\n.lines a:hover{border-color:var(--bad)}\n.lines a::after{content:\"press these keys\";float:right;padding-left:1rem;color:var(--link);font-family:system-ui,\"DejaVu Sans\",sans-serif;font-size:.875rem}\n.lines .none{border-left-color:var(--good);font-family:inherit}\n@media (prefers-reduced-motion:reduce){.flash{visibility:visible!important}.pad button:active{transform:none}}\n@media print{\n@page{margin:12mm}\n:root{color-scheme:light}\nbody{max-width:none;padding:0;background:#fff;color:#000;font-size:9pt}\nheader{padding:0 0 3mm}\nheader p{color:#444}\n.views,.pad,.meter,.hint,#reply,.lines{display:none!important}\nmain{display:block!important;max-width:none!important}\nsection,section.at{display:grid!important;grid-template:auto auto auto auto 1fr/auto 1fr!important;column-gap:6mm;width:auto!important;min-height:78mm;margin:0 0 2mm!important;padding:2mm!important;break-inside:avoid;border:1px solid #999;border-radius:2mm;background:#fff!important;opacity:1!important;outline:0!important;content-visibility:visible;print-color-adjust:exact;-webkit-print-color-adjust:exact}\nsection.faulty{border-color:#c41230!important}\nsection>svg{grid-area:1/1/6/2!important;height:73mm!important;width:91.25mm!important;margin:0!important;box-shadow:none!important}\nsection>*{grid-column:2!important;grid-row:auto!important;justify-self:start!important;display:block!important;float:none!important;max-height:none!important;margin:0 0 1mm!important}\nsection>.ways{display:flex!important}\nsection>pre{display:none!important}\n.ways>*{min-height:0;padding:0 1.5mm 0 0;gap:1mm;color:#000!important}\n.ways>*::before{min-width:5mm;padding:0}\nhtml main:has(:target) section:not(:target){display:grid!important}\n}\n</style>\n</head>\n<body>\n"
 
 -- the views and the keypad
 unfoldable pub middle : List ℕ

@@ -1,6 +1,7 @@
 //! The sections of frames.
 
 ghost use Rattle.std.specs.Prelude.{◌≡◌, ◌++◌, OnOk};
+ghost use Rattle.page_ids.specs.Ids.{IsLetter, frame_text};
 ghost use Rattle.cell_looks.specs.Looks.{looks};
 ghost use Rattle.base_pages.specs.Sections as spec;
 ghost use Rattle.base_pages.specs.Loops.{IsReady, book_view, picked};
@@ -13,7 +14,7 @@ use cell_looks::screen_looks;
 use fault_scripts::Fault;
 use frame_records::{Base, Frame, Groups, Lead, Pence};
 use frame_screens::Gallery;
-use page_ids::{FrameId, push_id, push_number};
+use page_ids::{FrameId, push_id, push_number, push_page};
 use screen_texts::{Writing, push_svg, push_text};
 use std::alloc::{AllocError, Global};
 
@@ -40,18 +41,30 @@ fn class_of(is_reached: bool) -> &'static [u8]
     }
 }
 
+// The id of a section, which ends in a letter.
+#[tactic(auto, using(std::proofs::Common::append_assoc))]
+fn push_own_id(out: &mut Vec<u8>, id: FrameId) -> Result<(), AllocError>
+    ensures text { OnOk result (out.new.items ≡ out.old.items ++ frame_text id) }
+    ensures letter { OnOk result (IsLetter id.letter) }
+{
+    push_page(out, id.page)?;
+    out.extend_from_slice(&[id.letter.get()])
+}
+
 #[tactic(auto, using(std::proofs::Common::append_assoc), unfolding(crate::specs::Sections::opening))]
 fn push_opening(out: &mut Vec<u8>, id: FrameId) -> Result<(), AllocError>
-    ensures { OnOk result (out.new.items ≡ out.old.items ++ spec.opening id) }
+    ensures text { OnOk result (out.new.items ≡ out.old.items ++ spec.opening id) }
+    ensures letter { OnOk result (IsLetter id.letter) }
 {
     out.extend_from_slice(b"<section id=\"")?;
-    push_id(out, id)?;
+    push_own_id(out, id)?;
     out.extend_from_slice(b"\"")
 }
 
 #[tactic(auto, using(std::proofs::Common::append_assoc), unfolding(crate::specs::Sections::section_begin))]
 fn push_begin(out: &mut Vec<u8>, id: FrameId, is_reached: bool) -> Result<(), AllocError>
-    ensures { OnOk result (out.new.items ≡ out.old.items ++ spec.section_begin id is_reached) }
+    ensures text { OnOk result (out.new.items ≡ out.old.items ++ spec.section_begin id is_reached) }
+    ensures letter { OnOk result (IsLetter id.letter) }
 {
     let again = id;
     push_opening(out, id)?;
@@ -160,9 +173,10 @@ impl<'a> Book<'a> {
         codes: &[u8; 960],
         is_reached: bool,
     ) -> Result<(), AllocError>
-        ensures { OnOk result (out.new.items ≡ out.old.items
+        ensures text { OnOk result (out.new.items ≡ out.old.items
             ++ spec.shaped self.now.groups.now self.now.base.now self.now.part.now frame.now
             (picked self.now.faults.now numbers.now) (looks codes.now) is_reached) }
+        ensures letter { OnOk result (IsLetter frame.now.id.letter) }
     {
         let cell = touched_cell(frame, self.faults, numbers);
         push_begin(out, frame.id, is_reached)?;
@@ -178,7 +192,8 @@ impl<'a> Book<'a> {
         frame: &Frame,
     ) -> Result<(), AllocError>
         requires { IsReady self.now }
-        ensures { OnOk result (out.new.items ≡ out.old.items ++ spec.section (book_view self.now) frame.now) }
+        ensures text { OnOk result (out.new.items ≡ out.old.items ++ spec.section (book_view self.now) frame.now) }
+        ensures letter { OnOk result (IsLetter frame.now.id.letter) }
     {
         let codes = self.gallery.screen(alloc, frame.id)?;
         let numbers = self.index.numbers(frame.id);

@@ -4,6 +4,7 @@ ghost use Rattle.std.specs.Prelude.{◌≡◌, ◌++◌, ◌∷◌, List, ℕ, [
 ghost use Rattle.devices.specs.Devices.{Seen, IsOnItsWay, WroteWhole};
 ghost use Rattle.base_pages.specs.Sections.{sections};
 ghost use Rattle.base_pages.specs.Shell as Shell;
+ghost use Rattle.base_pages.specs.Tags.{HasLetter, HaveLetters, tag_list, page_tags};
 ghost use Rattle.base_pages.specs.Loops.{IsReady, IsPrepared, book_view, page_of};
 ghost use Rattle.base_pages.specs.Pages.{IsStopped, IsPartWritten, IsPagesRun, front};
 
@@ -62,7 +63,8 @@ fn push_shown(
     frame: &Frame,
 ) -> Result<(), AllocError>
     requires { IsReady book.now }
-    ensures { OnOk result (out.new.items ≡ out.old.items ++ sections (book_view book.now) (frame.now ∷ [])) }
+    ensures text { OnOk result (out.new.items ≡ out.old.items ++ sections (book_view book.now) (frame.now ∷ [])) }
+    ensures letter { OnOk result (HasLetter book.now.part.now frame.now) }
 {
     if book.part.shows(frame.id) {
         book.push_section(alloc, out, frame)
@@ -83,6 +85,7 @@ fn write_section<S: Sink>(
     requires ready { IsReady book.now }
     requires open { (S.seen sink.old).failed ≡ false }
     ensures open { OnOk result ((S.seen sink.new).failed ≡ false) }
+    ensures letter { OnOk result (HasLetter book.now.part.now frame.now) }
     ensures taken { (start : Seen) (before : List ℕ) → IsOnItsWay start (S.seen sink.old) kept.old.items wrote before
         → IfOk result (λ n. IsOnItsWay start (S.seen sink.new) kept.new.items n (before ++
         sections (book_view book.now) (frame.now ∷ []))) }
@@ -108,6 +111,7 @@ fn write_sections<S: Sink>(
     requires ready { IsReady book.now }
     requires open { (S.seen sink.old).failed ≡ false }
     ensures open { OnOk result ((S.seen sink.new).failed ≡ false) }
+    ensures letters { OnOk result (HaveLetters book.now.part.now frames.now) }
     ensures taken { (start : Seen) (before : List ℕ) → IsOnItsWay start (S.seen sink.old) kept.old.items 0 before
         → IfOk result (λ n. IsOnItsWay start (S.seen sink.new) kept.new.items n (before ++
         sections (book_view book.now) frames.now)) }
@@ -149,6 +153,8 @@ fn write_book<S: Sink>(
     requires ready { IsReady book.now }
     requires open { (S.seen sink.old).failed ≡ false }
     ensures whole { OnOk result (WroteWhole (S.seen sink.old) (S.seen sink.new) (page_of cover.now book.now)) }
+    ensures tags { OnOk result (tag_list (page_of cover.now book.now) ≡
+        page_tags cover.now.outcome.now (book_view book.now)) }
     ensures part { IfErr result (λ fault.
         IsStopped (S.seen sink.old) (S.seen sink.new) (page_of cover.now book.now) fault) }
 {

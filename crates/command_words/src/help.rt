@@ -65,6 +65,8 @@ pub const LIST: &str = concat!(
 pub const MAP: &str = concat!(
     "A frame that is closed to the caller is red, one that no key reaches is dashed. What the base\n",
     "lacks is red, or an ellipse if its page is outside.\n\n",
+    "No key leads to a frame that is closed to the caller: --page shows none but its own page's, and\n",
+    "--to those whose keys lead to PAGE.\n\n",
     "Example: pageaudit map examples/town.toml | dot -Tsvg >town.svg\n\n",
     "Status: 0 a map, 2 bad command line, or no frame a of PAGE,\n",
     "        3 a file that is refused or can't be read, or a write that fails, 4 out of memory",

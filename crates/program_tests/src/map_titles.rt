@@ -31,7 +31,7 @@ const BEFORE: &str =
 const AFTER: &str = "PRICE 12\" peripheries=2]\n  }\n}\n";
 
 // Each body, and its title as DOT writes it, with what ends its line.
-const TITLES: [(&[u8], &str); 12] = [
+const TITLES: [(&[u8], &str); 14] = [
     (b"", ""),
     (b"AB\x0aCD", ""),
     (b"123\x0a---\x0aABC", "ABC\\n"),
@@ -40,10 +40,12 @@ const TITLES: [(&[u8], &str); 12] = [
     (b"\x1bAWEL\x1bBCOME", "WELCOME\\n"),
     (b"AT\x84\x9dTHE\x83SEA", "THE\\n"),
     (b"A \"QUOTE\"", "A \\\"QUOTE\\\"\\n"),
-    (b"A \\ SLASH", "A \\\\ SLASH\\n"),
+    (b"A \\ SLASH", "A ½ SLASH\\n"),
+    (b"#40 AND_UP", "£40 AND#UP\\n"),
+    (b"B&B &amp; C", "B&amp;B &amp;amp; C\\n"),
     (b"ABCDEFGHIJKLMNOPQRSTUVWXYZ", "ABCDEFGHIJKLMNOPQRSTUVWX\\n"),
     (b"end\x1b", "end\\n"),
-    (b"no~\x7fend", "no~\\n"),
+    (b"no~\x7fend", "no÷\\n"),
 ];
 
 #[test]

@@ -1,7 +1,9 @@
 use Rattle.std.proofs.Common.{rules, ◌≡◌, ◌∙◌, ◌+◌, ◌++◌, ◌∷◌, [], sym, ap, subst, drop, arith, append_assoc, refl}
 use Rattle.std.proofs.lemmas.List.{drop_more, drop_all, append-nil}
+use Rattle.std.proofs.lemmas.List.Elements.{All-more}
 use Rattle.devices.specs.Devices.{IsOnItsWay}
 use Rattle.base_pages.specs.Sections.{sections}
+use Rattle.base_pages.specs.Tags.{HasLetter}
 use Rattle.base_pages.specs.Loops.{book_view}
 use Rattle.base_pages.specs.Pages.{IsStopped}
 use Rattle.base_pages.proofs.OnTheWay.{first_section}
@@ -10,6 +12,7 @@ use Rattle.base_pages.proofs.pages.write_sections.Goals as goal
 pub loop-frame-init : goal.loop-frame-init
 loop-frame-init g c = record {
   unbroken = search rules;
+  letters = search rules;
   way = λ start before way. (before, way, refl);
 }
 
@@ -32,6 +35,10 @@ returns-in-Err-clause-part g c = λ start before rest way.
 pub loop-frame-preserved : goal.loop-frame-preserved
 loop-frame-preserved g c = record {
   unbroken = search rules;
+  letters =
+      let Has = HasLetter c.args.book.now.part.now in
+      let f = c.frame-item.result in
+      All-more Has c.args.frames.now c.loop-frame.frame-index f (omega arith) c.loop-frame.invariant.letters (subst Has c.frame-item.is c.in-Ok.ensures.letter);
   way = λ start before way.
       let frames = c.args.frames.now in
       let b = book_view c.args.book.now in

@@ -17,9 +17,10 @@ pub loop-filed-preserved : goal.loop-filed-preserved
 loop-filed-preserved c =
     let f = c.in-Some.filed.now in
     let is : c.loop-filed.rest.now ≡ f ∷ c.in-Some.more.now = search rules in
-    let within : length c.push_filed.new.out.items ≤ MOST_TEXT = search rules in
-    (text_more c.loop-filed.out.items c.push_filed.new.out.items f c.in-Some.more.now c.loop-filed.rest.now is c.in-Ok.ensures ∙ c.loop-filed.invariant.0
-    , over_later c.loop-filed.out.items c.push_filed.new.out.items f c.in-Some.more.now c.loop-filed.rest.now is c.in-Ok.ensures within ∙ c.loop-filed.invariant.1)
+    let within : length c.push_filed.new.out.items ≤ MOST_TEXT = search rules in (
+      text_more c.loop-filed.out.items c.push_filed.new.out.items f c.in-Some.more.now c.loop-filed.rest.now is c.in-Ok.ensures ∙ c.loop-filed.invariant.0,
+      over_later c.loop-filed.out.items c.push_filed.new.out.items f c.in-Some.more.now c.loop-filed.rest.now is c.in-Ok.ensures within ∙ c.loop-filed.invariant.1,
+    )
 
 pub returns-clause-text : goal.returns-clause-text
 unfolding frames_text

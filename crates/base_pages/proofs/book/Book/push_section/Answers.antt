@@ -11,8 +11,8 @@ use Rattle.base_pages.specs.Loops.{picked}
 use Rattle.base_pages.proofs.Numbering.{picks_all}
 use Rattle.base_pages.proofs.book.Book.push_section.Goals as goal
 
-pub returns : goal.returns
-returns c =
+pub returns-clause-text : goal.returns-clause-text
+returns-clause-text c =
     let b = c.args.self.now in
     let f = c.args.frame.now in
     let caller = b.groups.now in
@@ -30,4 +30,4 @@ returns c =
     ap (λ (fs : List Fault). shaped caller base part f fs (looks c.in_ok-codes.codes) c.is_reached-is_reached.result) about
     ∙ ap (λ (cells : List ℕ). shaped caller base part f (faults_about all f.id) (looks cells) c.is_reached-is_reached.result) codes
     ∙ ap (λ (r : Bool). shaped caller base part f (faults_about all f.id) (looks (screen_codes base (way_by caller base found f.id place))) r) c.is_reached-is_reached.ensures in
-    subst (λ (text : List ℕ). OnOk c.push_with.result (c.push_with.new.out.items ≡ c.args.out.now.items ++ text)) path c.push_with.ensures
+    subst (λ (text : List ℕ). OnOk c.push_with.result (c.push_with.new.out.items ≡ c.args.out.now.items ++ text)) path c.push_with.ensures.text

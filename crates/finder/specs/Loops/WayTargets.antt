@@ -6,13 +6,34 @@ use Rattle.page_ids.specs.Ways.{way_at}
 use Rattle.frame_records.specs.declared.frame.Frame.{Frame}
 use Rattle.frame_records.specs.Bases.{BaseView}
 use Rattle.frame_records.specs.Ways.{destination_of}
+use Rattle.frame_records.specs.declared.ways.Destination.{Destination}
 use Rattle.frame_records.specs.declared.ways.Destination.TheVariants as destination
-use Rattle.finder.specs.Survey.{aim_of}
 use Rattle.finder.specs.declared.aim.Aim.{Aim}
 use Rattle.finder.specs.declared.aim.Aim.TheVariants as aim
 use Rattle.finder.specs.declared.table.Targets.{Targets}
 use Rattle.finder.specs.declared.target.Target.{Target}
 use Rattle.finder.specs.declared.target.Target.TheVariants.{NotOffered, Found, Closed, Missing, Outside}
+
+-- a destination without its frame
+abbrev pub aim_of : Destination → Aim
+aim_of destination.NotOffered = aim.NotOffered
+aim_of (destination.Found to price) = aim.Found
+aim_of (destination.Closed to) = aim.Closed
+aim_of (destination.Missing to) = aim.Missing
+aim_of (destination.Outside page) = aim.Outside
+
+-- the destination of a way that seeks a frame and finds none, by its aim
+abbrev pub lost_by : Aim → Id → Destination
+lost_by aim.NotOffered to = destination.NotOffered
+lost_by aim.Found to = destination.NotOffered
+lost_by aim.Closed to = destination.Closed to
+lost_by aim.Missing to = destination.Missing to
+lost_by aim.Outside to = destination.Outside to.page
+
+-- of one that may seek a frame
+abbrev pub lost_to : Aim → Option Id → Destination
+lost_to aim None = destination.NotOffered
+lost_to aim (Some to) = lost_by aim to
 
 -- a target without its node
 abbrev pub aim_at : Target → Aim
