@@ -247,6 +247,23 @@ UNKNOWN = 'base.toml:2:1: error: X3 UnknownKey: "name" is not a key of a base; d
 # The entry frame's codes, and the text of frame 1231b, which is painted over 1231a.
 CELLS = f"{'123a':>35}{'0p':>5}{'WELCOME':<920}"
 SHOWN = f"{'1231b':>35}{'0p':>5}\nPART TWO" + "\n" * 23
+PART_TWO = f"{'1231b':>35}{'0p':>5}{'PART TWO':<920}"
+# A saved screen, what a centre sent, and the base of either.
+SCREEN = f"{'THE HERALD':<28}{'478a':>7}{'0p':>5}{'1 News':<920}"
+STREAM = "\x0c\x1e\x0a1 News"
+SCREEN_BASE = """\
+entry = 478
+
+[[frame]]
+# THE HERALD                     478a   0p
+id = "478a"
+price = 0
+routes = { } # keys shown: 1
+rows = [
+    "1 News",
+]
+"""
+STREAM_BASE = changed(SCREEN_BASE, ("entry = 478", "entry = 5"), (SCREEN_BASE.splitlines()[3] + "\n", ""), ("price = 0\n", ""))
 
 
 @cache
@@ -291,6 +308,12 @@ RUNS = [
     ("run_show demo {} :1# text", "-", 0, SHOWN),
     ("run_pages demo {} -", "50 3 -", 0, page()),
     ("run_pages demo {} 1231", "50 3 -", 0, page("--page", "1231")),
+    ("run_import screen {} cells dump -", "", 0, SCREEN_BASE),
+    ("run_import stream {} stream dumps/478a.line 5", "", 0, STREAM_BASE),
+    ("run_export demo {} 123a", "-", 0, CELLS),
+    ("run_export demo {} 1231b", "-", 0, PART_TWO),
+    ("run_export closed {} 1231b", "-", 0, PART_TWO),
+    ("run_export no_entry {} 5a", "-", 0, " " * 960),
     ("run_list demo {}", "-", 0, LIST),
     ("run_list closed {}", "-", 0, CLOSED_LIST),
     ("run_list entry_closed {}", "-", 1, "ENTRYCLOSED 123a\n"),
@@ -312,6 +335,8 @@ def run_cases():
         yield Case(f"run_check demo 7/{kept} cert 7 whole 5 1 -", unread)
         yield Case(f"run_walk demo 7/{kept} 1# whole -", unread)
         yield Case(f"run_list demo 7/{kept} whole -", unread)
+        yield Case(f"run_import screen 7/{kept} cells dump - whole", unread)
+        yield Case(f"run_export demo 7/{kept} 123a whole -", unread)
         yield Case(f"run_map demo 7/{kept} - whole -", unread)
         yield Case(f"run_show demo 7/{kept} - text whole -", unread)
         yield Case(f"run_pages demo 7/{kept} - whole 50 3 -", unread)
@@ -322,6 +347,7 @@ def run_cases():
         yield Case(f"run_check demo 7 cert 7/{kept} whole 5 1 -", ran(3, fault="certificate: read failed"))
         words = f"run_change demo 7 cert 7 demo 7 cert 7/{kept} whole 50 3 -"
         yield Case(words, ran(3, fault="new certificate: read failed"))
+    yield Case("run_import demo 7 cells 4a.bin - unflushed", ran(3, fault="base: read failed"))
     yield Case("run_map demo 7 5 unflushed -", ran(2))
     yield Case("run_pages demo 7 5 unflushed 50 3 -", ran(2))
     yield Case("run_show demo 7 1231c cells unflushed -", ran(2))
@@ -423,7 +449,7 @@ def large_cases(files):
 
 
 def small_files():
-    files = {**BASES, "cert": CERT, "grouped": GROUPED, "truncated": TRUNCATED}
+    files = {**BASES, "cert": CERT, "grouped": GROUPED, "truncated": TRUNCATED, "screen": SCREEN, "stream": STREAM}
     files.update(moved_cert=MOVED, shorter_cert=SHORTER)
     files.update((f"bad_base_{place}", text) for place, text in enumerate(BAD_BASES.values()))
     files.update((f"bad_cert_{place}", text) for place, text in enumerate(BAD_CERTS.values()))

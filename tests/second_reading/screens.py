@@ -8,15 +8,19 @@ from .session import Session, unopened
 BLANK = 0x20
 
 
+def cells_after_bytes(data):
+    """The cells of a new terminal after some bytes."""
+    state, cells = (0, False), [BLANK] * CELLS
+    for byte in data:
+        state, written = step(state, byte)
+        for at, code in written:
+            cells[at] = code
+    return bytes(cells)
+
+
 def cells_after(frames):
     """The cells of a new terminal after the lead and body of each frame."""
-    state, cells = (0, False), [BLANK] * CELLS
-    for frame in frames:
-        for byte in (b"" if frame.keep else CLEAR) + frame.body:
-            state, written = step(state, byte)
-            for at, code in written:
-                cells[at] = code
-    return bytes(cells)
+    return cells_after_bytes(b"".join((b"" if frame.keep else CLEAR) + frame.body for frame in frames))
 
 
 def codes(base, ids):

@@ -1,7 +1,7 @@
 //! The discovered frames of small bases.
 
 use crate::bases::{base_of, chain};
-use finder::{Found, Survey, find, script_to};
+use finder::{Direction, Found, Survey, find, script_to, within};
 use frame_records::{Base, Destination, Groups, Pence};
 use page_ids::{Digit, FrameId, Key, PageNo, Way, keys_text};
 use std::alloc::Global;
@@ -208,4 +208,40 @@ fn scripts_go_along_the_parents(rt: HostRuntime) -> Result<(), Fail> {
         same(script.as_slice(), text.as_bytes())?;
     }
     Ok(())
+}
+
+// A direction, the most keys, and how many frames of a chain of four are within them of the third.
+type Near = (Direction, Option<u16>, usize);
+
+const NEAR: [Near; 6] = [
+    (Direction::From, Some(0), 1),
+    (Direction::From, Some(1), 3),
+    (Direction::From, None, 4),
+    (Direction::To, Some(1), 2),
+    (Direction::To, Some(2), 3),
+    (Direction::To, None, 4),
+];
+
+// How many frames of a base are within a number of keys of a page's frame `a`.
+fn near(
+    alloc: Global,
+    base: &Base,
+    page: u32,
+    direction: Direction,
+    most: Option<u16>,
+) -> Result<Option<usize>, Fail> {
+    let id = FrameId::first(PageNo::new(page).ok_or("page")?);
+    match within(alloc, base, &Groups::none(), direction, id, most)? {
+        Some(ids) => Ok(Some(ids.len())),
+        None => Ok(None),
+    }
+}
+
+#[test]
+fn frames_within_a_number_of_keys_are_found(rt: HostRuntime) -> Result<(), Fail> {
+    let base = chain(rt.alloc(), 4, 1, None)?;
+    for (direction, most, count) in NEAR {
+        same(near(rt.alloc(), &base, 2, direction, most)?, Some(count))?;
+    }
+    same(near(rt.alloc(), &base, 9, Direction::From, None)?, None)
 }

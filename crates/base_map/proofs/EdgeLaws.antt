@@ -1,12 +1,12 @@
 -- What the edges of a map are.
 use Rattle.std.proofs.Common.{◌≡◌, ◌∙◌, sym, ap, ℕ, true, List, [], Option, Some, None, Contains, refl, subst}
-use Rattle.std.specs.Prelude.{filter, option_eq}
+use Rattle.std.specs.Prelude.{filter}
+use Rattle.std.specs.Option.{option_eq}
 use Rattle.std.specs.List.{filter_map}
 use Rattle.std.proofs.lemmas.List.Folds.{Any-from_list_any, list_any-from_Any}
 use Rattle.page_ids.specs.Ids.{Id, id_eq}
 use Rattle.page_ids.specs.IdLaws.{id_eq_same, id_eq_refl}
 use Rattle.page_ids.specs.WayLaws.{ways_length, ways_at}
-use Rattle.page_ids.specs.declared.key.Key.{Key}
 use Rattle.page_ids.specs.declared.way.Way.{Way}
 use Rattle.page_ids.specs.declared.way.Way.TheVariants.{Route, Next}
 use Rattle.page_ids.specs.Ways.{way_key, way_place, ways}

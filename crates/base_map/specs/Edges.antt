@@ -1,5 +1,6 @@
 -- The edges of a map, and the parts of a base that it shows.
-use Rattle.std.specs.Prelude.{ℕ, Bool, true, ◌||◌, List, Option, Some, None, filter, is_none, [], map, option_eq, if◌then◌else◌, ◌++◌, codes, false, ◌∷◌}
+use Rattle.std.specs.Prelude.{ℕ, Bool, true, ◌||◌, List, Option, Some, None, filter, is_none, [], map, if◌then◌else◌, ◌++◌, codes, false, ◌∷◌}
+use Rattle.std.specs.Option.{option_eq}
 use Rattle.std.specs.List.{filter_map, flat_map}
 use Rattle.page_ids.specs.Ids.{Id, id_eq, frame_text, page_text}
 use Rattle.frame_records.specs.declared.frame.Frame.{Frame}

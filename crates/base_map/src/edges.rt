@@ -18,12 +18,11 @@ fn push_keys_to(out: &mut Vec<u8>, frame: &Frame, to: FrameId) -> Result<(), All
 {
     let mut is_first = true;
     for place in 0..Way::COUNT {
-        let way = Way::at(place);
-        if frame.sought(way) == Some(to) {
+        if frame.sought(Way::at(place)) == Some(to) {
             if !is_first {
                 out.push(b' ')?;
             }
-            push_key(out, way.key())?;
+            push_key(out, Way::at(place).key())?;
             is_first = false;
         }
     }
@@ -78,7 +77,8 @@ impl<'a> Drawing<'a> {
         out: &mut Vec<u8>,
         frames: &[Frame],
     ) -> Result<(), AllocError>
-        ensures { OnOk result (out.new.items ≡ out.old.items ++ flat_map (spec.edge_lines_of self.now) (shown self.now frames.now)) }
+        ensures { OnOk result (out.new.items ≡ out.old.items
+            ++ flat_map (spec.edge_lines_of self.now) (shown self.now frames.now)) }
     {
         for frame in frames {
             if self.part.shows(frame.id) {

@@ -57,7 +57,8 @@ fn push_lost_nodes(out: &mut Vec<u8>, base: &Base, ids: &[FrameId]) -> Result<()
 
 impl<'a> Drawing<'a> {
     fn add_lost(&self, targets: &[FrameId], lost: &mut IndexSet<FrameId>) -> Result<(), AllocError>
-        ensures { OnOk result (lost.new.keys ≡ insert_all id_eq lost.old.keys (filter (is_lacked self.now.base) targets.now)) }
+        ensures { OnOk result
+            (lost.new.keys ≡ insert_all id_eq lost.old.keys (filter (is_lacked self.now.base) targets.now)) }
     {
         for to in targets {
             if self.lacks(*to) {

@@ -91,7 +91,8 @@ impl<'a> Drawing<'a> {
         out: &mut Vec<u8>,
         frames: &[Frame],
     ) -> Result<(), AllocError>
-        ensures { OnOk result (out.new.items ≡ out.old.items ++ spec.cluster_lines self.now None (shown self.now frames.now)) }
+        ensures { OnOk result (out.new.items ≡ out.old.items
+            ++ spec.cluster_lines self.now None (shown self.now frames.now)) }
     {
         let mut page = None;
         for frame in frames {

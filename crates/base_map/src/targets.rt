@@ -14,8 +14,11 @@ pub fn targets_of(alloc: Global, frame: &Frame) -> Result<IndexSet<FrameId>, All
 {
     let mut targets = IndexSet::new(alloc);
     for place in 0..Way::COUNT {
-        if let Some(to) = frame.sought(Way::at(place)) {
-            targets.insert(to)?;
+        match frame.sought(Way::at(place)) {
+            Some(to) => {
+                targets.insert(to)?;
+            }
+            None => {}
         }
     }
     Ok(targets)

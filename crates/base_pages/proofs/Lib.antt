@@ -1,4 +1,3 @@
 pub mod Numbering
-pub mod Placed
 pub mod OnTheWay
 pub mod Tags

@@ -1,19 +1,17 @@
 -- Facts that hold between the turns of loops, and of what is prepared. No promise rests on them.
-use Rattle.std.specs.Prelude.{◌≡◌, ◌+◌, ℕ, List, [], ◌∷◌, ◌++◌, Option, Some, None, if◌then◌else◌, slice_get, nat_lt}
+use Rattle.std.specs.Prelude.{◌≡◌, ◌+◌, ℕ, List, [], ◌∷◌, ◌++◌, Option, Some, None, if◌then◌else◌, slice_get}
 use Rattle.std.specs.Option.{option_map_or}
 use Rattle.std.specs.List.{flat_map}
 use Rattle.indexmap.specs.IndexMap.{get}
 use Rattle.page_ids.specs.Ids.{Id, id_eq}
 use Rattle.frame_records.specs.Bases.{BaseView}
 use Rattle.finder.specs.Finds.{IsFinding}
-use Rattle.frame_screens.specs.Frames.{place_of}
 use Rattle.checker.specs.declared.policy.Policy.{Policy}
 use Rattle.fault_scripts.specs.declared.fault.Fault.{Fault}
 use Rattle.fault_scripts.specs.Outcomes.{IsOutcome}
 use Rattle.abstract_paint.specs.declared.start.Start.{Start}
 use Rattle.base_pages.specs.declared.index.FaultIndex.{FaultIndex}
 use Rattle.base_pages.specs.declared.index.Numbered.{Numbered}
-use Rattle.base_pages.specs.declared.places.Places.{Places}
 use Rattle.base_pages.specs.declared.book.Book.{Book}
 use Rattle.base_pages.specs.declared.pages.Prepared.{Prepared}
 use Rattle.base_pages.specs.declared.pages.Cover.{Cover}
@@ -82,37 +80,24 @@ abbrev pub first_numbered_start : List Fault → List ℕ → Option Start
 first_numbered_start faults [] = None
 first_numbered_start faults (n ∷ ns) = start_or (numbered_start faults n) (first_numbered_start faults ns)
 
--- The places of frames.
-
--- the place that is held of a frame
-abbrev pub place_held : Places → Id → Option ℕ
-place_held places id = get id_eq places.map id
-
--- the place, if it is before another one
-abbrev pub if_before : ℕ → Option ℕ → Option ℕ
-if_before done None = None
-if_before done (Some place) = if nat_lt place done then Some place else None
-
 -- What is prepared for the sections.
 
 -- what contracts see of a book
 abbrev pub book_view : Book → BookView
-book_view b = record { base = b.base.now; caller = b.groups.now; found = b.painter.now.found; faults = b.faults.now; part = b.part.now }
+book_view b = record { base = b.base.now; caller = b.groups.now; found = b.gallery.now.found; faults = b.faults.now; part = b.part.now }
 
 pub record IsReady (b : Book) : Type 0 where
-  pub of_base : b.painter.now.base ≡ b.base.now
-  pub of_groups : b.painter.now.groups ≡ b.groups.now
-  pub places : (id : Id) → place_held b.places.now id ≡ place_of b.painter.now.found id
+  pub of_base : b.gallery.now.base ≡ b.base.now
+  pub of_groups : b.gallery.now.groups ≡ b.groups.now
   pub index : (id : Id) → kept_of b.index.now id ≡ numbers_of (numbered 0 b.faults.now) id
 
 -- What is prepared for a file.
 
 pub record IsPrepared (base : BaseView) (policy : Policy) (p : Prepared) : Type 0 where
-  pub of_base : p.painter.base ≡ base
-  pub of_groups : p.painter.groups ≡ policy.groups
-  pub finding : IsFinding policy.groups base p.painter.found
+  pub of_base : p.gallery.base ≡ base
+  pub of_groups : p.gallery.groups ≡ policy.groups
+  pub finding : IsFinding policy.groups base p.gallery.found
   pub audited : IsOutcome base policy p.outcome
-  pub places : (id : Id) → place_held p.places id ≡ place_of p.painter.found id
   pub index : (id : Id) → kept_of p.index id ≡ numbers_of (numbered 0 (faults_in p.outcome)) id
 
 -- the file of a book and its cover

@@ -1,22 +1,19 @@
 //! The sections of frames.
 
-ghost use Rattle.std.specs.Prelude.{◌≡◌, ◌<◌, ◌++◌, length, OnOk, IfOk, IfSome};
+ghost use Rattle.std.specs.Prelude.{◌≡◌, ◌++◌, OnOk};
 ghost use Rattle.page_ids.specs.Ids.{IsLetter, frame_text};
 ghost use Rattle.cell_looks.specs.Looks.{looks};
-ghost use Rattle.frame_screens.specs.Frames.{way_by};
-ghost use Rattle.frame_screens.specs.Screens.{screen_codes};
 ghost use Rattle.base_pages.specs.Sections as spec;
 ghost use Rattle.base_pages.specs.Loops.{IsReady, book_view, picked};
 
 use crate::faults::{push_faults, touched_cell};
 use crate::index::FaultIndex;
-use crate::places::Places;
 use crate::ways::push_ways;
 use base_map::Part;
 use cell_looks::screen_looks;
 use fault_scripts::Fault;
 use frame_records::{Base, Frame, Groups, Lead, Pence};
-use frame_screens::{FrameList, Painter, screen};
+use frame_screens::Gallery;
 use page_ids::{FrameId, push_id, push_number, push_page};
 use screen_texts::{Writing, push_svg, push_text};
 use std::alloc::{AllocError, Global};
@@ -28,9 +25,8 @@ pub struct Book<'a> {
     pub groups: &'a Groups,
     pub part: &'a Part,
     pub faults: &'a [Fault],
-    pub places: &'a Places,
     pub index: &'a FaultIndex,
-    pub painter: &'a Painter<'a>,
+    pub gallery: &'a Gallery<'a>,
 }
 
 // A frame that no key reaches is marked.
@@ -137,28 +133,6 @@ fn push_tail(
     out.extend_from_slice(b"</section>\n")
 }
 
-// The codes of a frame's screen, by its place among the frames that are reached.
-fn codes(
-    alloc: Global,
-    base: &Base,
-    painter: &Painter,
-    id: FrameId,
-    place: Option<usize>,
-) -> Result<[u8; 960], AllocError>
-    requires same { painter.now.base ≡ base.now }
-    requires within { IfSome place (λ p. p < length painter.now.found) }
-    ensures { IfOk result (λ codes. codes ≡
-        screen_codes base.now (way_by painter.now.groups base.now painter.now.found id place)) }
-{
-    match place {
-        Some(place) => Ok(painter.screen(place)),
-        None => {
-            let alone = FrameList::of(alloc, id)?;
-            Ok(screen(base, &alone))
-        }
-    }
-}
-
 impl<'a> Book<'a> {
     #[tactic(auto, using(std::proofs::Common::append_assoc), unfolding(crate::specs::Sections::ways_line))]
     fn push_ways(&self, out: &mut Vec<u8>, frame: &Frame) -> Result<(), AllocError>
@@ -221,9 +195,9 @@ impl<'a> Book<'a> {
         ensures text { OnOk result (out.new.items ≡ out.old.items ++ spec.section (book_view self.now) frame.now) }
         ensures letter { OnOk result (IsLetter frame.now.id.letter) }
     {
-        let place = self.places.place(frame.id);
-        let codes = codes(alloc, self.base, self.painter, frame.id, place)?;
+        let codes = self.gallery.screen(alloc, frame.id)?;
         let numbers = self.index.numbers(frame.id);
-        self.push_with(alloc, out, frame, numbers, &codes, place.is_some())
+        let is_reached = self.gallery.is_reached(frame.id);
+        self.push_with(alloc, out, frame, numbers, &codes, is_reached)
     }
 }

@@ -22,7 +22,6 @@ mod header;
 mod index;
 mod laws;
 mod pages;
-mod places;
 mod sending;
 mod shell;
 mod ways;

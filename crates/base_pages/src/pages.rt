@@ -12,16 +12,14 @@ use crate::book::Book;
 use crate::fault::PagesFault;
 use crate::header::{faults_in, push_header};
 use crate::index::FaultIndex;
-use crate::places::Places;
 use crate::sending::{send, send_last};
 use crate::shell::{foot, head, middle};
 use audit_report::Sink;
 use base_map::{Part, View, part_of};
 use checker::Policy;
 use fault_scripts::{Outcome, audit};
-use finder::Survey;
 use frame_records::{Base, Frame};
-use frame_screens::Painter;
+use frame_screens::Gallery;
 use std::alloc::{AllocError, Global};
 
 /// Whether a file was written.
@@ -176,8 +174,7 @@ fn write_book<S: Sink>(
 struct Prepared<'a> {
     outcome: Outcome,
     index: FaultIndex,
-    places: Places,
-    painter: Painter<'a>,
+    gallery: Gallery<'a>,
 }
 
 fn prepare<'a>(
@@ -189,14 +186,11 @@ fn prepare<'a>(
 {
     let outcome = audit(alloc, base, policy)?;
     let index = FaultIndex::of(alloc, faults_in(&outcome))?;
-    let survey = Survey::of(alloc, base, &policy.groups)?;
-    let places = Places::of(alloc, &survey)?;
-    let painter = Painter::of(alloc, survey)?;
+    let gallery = Gallery::of(alloc, base, &policy.groups)?;
     Ok(Prepared {
         outcome,
         index,
-        places,
-        painter,
+        gallery,
     })
 }
 
@@ -220,9 +214,8 @@ fn write_part<S: Sink>(
         groups: &policy.groups,
         part,
         faults: faults_in(&prepared.outcome),
-        places: &prepared.places,
         index: &prepared.index,
-        painter: &prepared.painter,
+        gallery: &prepared.gallery,
     };
     let cover = Cover {
         name,

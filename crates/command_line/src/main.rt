@@ -1,10 +1,12 @@
 //! The program: audits the page base of a viewdata information provider.
 //!
-//! `lint`, `audit`, `check`, `change`, `walk`, `show`, `list` and `map` open their files in the order of the words and pass them
+//! The commands open their files in the order of the words and pass them
 //! to the runs of the crate `pageaudit`, which are proved over any reader and writer. This crate only opens files, prints and
 //! picks the exit status.
 #![tactic(auto)]
 
+mod export_files;
+mod import_files;
 mod lint_files;
 mod named_files;
 mod out_file;
@@ -17,7 +19,9 @@ use clap::error::ErrorKind;
 use clap::{ArgMatches, Error};
 use command_words::{Pages, Request, Show, WordsFault, asked_for, groups_of, matches, words};
 use explain::{explanation, nearest, overview};
+use export_files::export;
 use frame_records::Groups;
+use import_files::import;
 use lint_files::lint;
 use named_files::{Unfinished, ended, open_base, report};
 use out_file::{Out, is_same_file, open_out};
@@ -200,6 +204,8 @@ fn run_request<R: Files + Env + Input + Print + Eprint + AllocGlobal>(
         Request::Map { base, view, groups } => return map(rt, base, view, groups),
         Request::Show(asked) => return show(rt, errors, asked),
         Request::Pages(asked) => return pages(rt, errors, asked),
+        Request::Import(asked) => return import(rt, asked),
+        Request::Export(asked) => return export(rt, asked),
         Request::Misused { why } => {
             let _ = eprintln!(rt; "error: {why}");
             return 2;

@@ -82,8 +82,8 @@ fn followed<R: Files + AllocGlobal>(rt: &R, path: &str) -> io::Result<PathBuf> {
     Err(io::Error::from(io::ErrorKind::FilesystemLoop))
 }
 
-// A new file beside a path: FILE.tmp0, or the next number if that is taken.
-fn new_beside<R: Files + AllocGlobal>(rt: &R, path: &str) -> io::Result<(String, R::File)> {
+/// A new file beside a path: FILE.tmp0, or the next number if that is taken.
+pub fn new_beside<R: Files + AllocGlobal>(rt: &R, path: &str) -> io::Result<(String, R::File)> {
     for number in 0..99u32 {
         let name = format!(in rt.alloc(); "{path}.tmp{number}")?;
         match File::create_new(rt, name.as_str()) {

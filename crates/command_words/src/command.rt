@@ -7,7 +7,7 @@ use checker::Policy;
 use clap::{Arg, ArgAction, ArgMatches, Command, Error, value_parser};
 use frame_records::{Groups, GroupsFault, MOST_PENCE, Pence};
 use page_ids::{FrameId, MOST_PAGE, PageNo};
-use pageaudit::{Form, Format, Level};
+use pageaudit::{FileKind, Form, Format, Level};
 use std::alloc::{AllocError, Global};
 use std::rt::Env;
 use std::{env, io};
@@ -298,6 +298,54 @@ fn map_command<'a>(alloc: Global) -> Result<Command<'a>, AllocError> {
     with_groups(alloc, with_option(command, within_option(alloc))?)
 }
 
+// The page of the entry frame.
+fn entry_option<'a>(alloc: Global) -> Arg<'a> {
+    Arg::new(alloc, "entry")
+        .long("entry")
+        .value_name("PAGE")
+        .action(ArgAction::Set)
+        .allow_negative_numbers(true)
+        .value_parser(value_parser!(u32).range(0..=i64::from(MOST_PAGE)))
+        .help("The base's entry page; without it the smallest page")
+}
+
+fn import_command<'a>(alloc: Global) -> Result<Command<'a>, AllocError> {
+    let screens = place(
+        alloc,
+        "SCREEN",
+        "Files of one screen each, named by a frame, e.g. 478a.bin, or with its id in row 0",
+    )
+    .num_args(1..)
+    .action(ArgAction::Append);
+    Command::new(alloc, "import")
+        .about("Make a base of saved screens")
+        .after_help(help::IMPORT)
+        .arg(screens)?
+        .arg(flag(
+            alloc,
+            "stream",
+            "The files are what a centre sent, not the cells of a screen",
+        ))?
+        .arg(entry_option(alloc))
+}
+
+fn export_command<'a>(alloc: Global) -> Result<Command<'a>, AllocError> {
+    let out = Arg::new(alloc, "out")
+        .short('o')
+        .long("out")
+        .value_name("FOLDER")
+        .required(true)
+        .action(ArgAction::Set)
+        .help("Write the files into FOLDER, which is made if it isn't there");
+    let command = Command::new(alloc, "export")
+        .about("Write the screen of each frame of a base to a file")
+        .after_help(help::EXPORT)
+        .arg(place(alloc, "BASE", "The base, a TOML file"))?
+        .arg(out)?
+        .arg(flag(alloc, "force", "Replace files that are there"))?;
+    with_groups(alloc, command)
+}
+
 fn explain_command<'a>(alloc: Global) -> Result<Command<'a>, AllocError> {
     let code = Arg::new(alloc, "CODE").action(ArgAction::Set).help(
         "A printed word, e.g. K7, MISSING or s80; without one all are listed",
@@ -330,6 +378,8 @@ fn whole_command<'a>(alloc: Global) -> Result<Command<'a>, AllocError> {
     let whole = with_part(whole, show_command(alloc));
     let whole = with_part(whole, list_command(alloc));
     let whole = with_part(whole, map_command(alloc));
+    let whole = with_part(whole, import_command(alloc));
+    let whole = with_part(whole, export_command(alloc));
     with_part(whole, explain_command(alloc))
 }
 
@@ -391,6 +441,27 @@ pub struct Pages<'a> {
     pub out: Option<&'a str>,
 }
 
+/// Which screens make a base, and how.
+#[derive(Drop)]
+pub struct Import<'a> {
+    /// The files, at least one.
+    pub screens: &'a [&'a str],
+    pub kind: FileKind,
+    /// The entry page; without it the smallest page.
+    pub entry: Option<PageNo>,
+}
+
+/// Which base's screens are written, and where.
+#[derive(Drop)]
+pub struct Export<'a> {
+    pub base: &'a str,
+    /// The folder.
+    pub out: &'a str,
+    /// Whether files that are there are replaced.
+    pub force: bool,
+    pub groups: Groups,
+}
+
 /// What the words ask for. Files are named by their paths.
 #[derive(Drop)]
 pub enum Request<'a> {
@@ -445,6 +516,10 @@ pub enum Request<'a> {
         view: View,
         groups: Groups,
     },
+    /// A base of saved screens.
+    Import(Import<'a>),
+    /// The screens of a base, each in a file.
+    Export(Export<'a>),
     /// What a printed word means, or all words.
     Explain {
         word: Option<&'a str>,
@@ -602,6 +677,29 @@ fn screen_of<'a>(words: &'a ArgMatches, groups: Groups) -> Option<Request<'a>> {
     }))
 }
 
+// Which screens make a base, and how.
+fn import_of<'a>(words: &'a ArgMatches) -> Option<Request<'a>> {
+    Some(Request::Import(Import {
+        screens: words.get_strs("SCREEN")?,
+        kind: if words.get_flag("stream") {
+            FileKind::Stream
+        } else {
+            FileKind::Cells
+        },
+        entry: page_of(words, "entry"),
+    }))
+}
+
+// Which base's screens are written, and where.
+fn export_of<'a>(words: &'a ArgMatches, groups: Groups) -> Option<Request<'a>> {
+    Some(Request::Export(Export {
+        base: words.get_str("BASE")?,
+        out: words.get_str("out")?,
+        force: words.get_flag("force"),
+        groups,
+    }))
+}
+
 /// What the words ask for, by a caller of these groups. There always is a request: clap has taken each word that a command
 /// requires.
 pub fn asked_for<'a>(matches: &'a ArgMatches, groups: Groups) -> Option<Request<'a>> {
@@ -639,6 +737,8 @@ pub fn asked_for<'a>(matches: &'a ArgMatches, groups: Groups) -> Option<Request<
             view: view_of(words),
             groups,
         }),
+        ("import", words) => import_of(words),
+        ("export", words) => export_of(words, groups),
         ("explain", words) => Some(Request::Explain {
             word: words.get_str("CODE"),
         }),

@@ -72,6 +72,25 @@ pub const MAP: &str = concat!(
     "        3 a file that is refused or can't be read, or a write that fails, 4 out of memory",
 );
 
+/// After the options of `import`.
+pub const IMPORT: &str = concat!(
+    "A file of 960 bytes is 24 rows of 40 codes; 1,000 and 1,024 bytes have more, which is dropped;\n",
+    "880 bytes are rows 1 to 22. The base has no routes: they are yet to be typed.\n\n",
+    "Example: pageaudit import examples/screens/*.bin >town.toml\n\n",
+    "Status: 0 a base, 2 bad command line,\n",
+    "        3 a file that is refused or can't be read, or a write that fails, 4 out of memory",
+);
+
+/// After the options of `export`.
+pub const EXPORT: &str = concat!(
+    "The files are named by the frames, as 478a.bin, and have the 960 codes that 'show --as cells'\n",
+    "writes.\n\n",
+    "Example: pageaudit export examples/town.toml --out screens\n\n",
+    "Status: 0 all screens, 2 bad command line,\n",
+    "        3 a file that is refused or can't be read, is there already, or can't be written,\n",
+    "        4 out of memory",
+);
+
 /// After the options of `explain`.
 pub const EXPLAIN: &str = concat!(
     "Example: pageaudit explain K7\n\n",

@@ -16,7 +16,7 @@ use Rattle.frame_records.specs.Ways.{sought, sought_by, missing_by, offered_by, 
 use Rattle.finder.specs.declared.aim.Aim.{Aim}
 use Rattle.finder.specs.declared.aim.Aim.TheVariants.{NotOffered, Found}
 use Rattle.finder.specs.declared.table.WayTable.{WayTable}
-use Rattle.finder.specs.Survey.{aim_of, lost_by, lost_to}
+use Rattle.finder.specs.Loops.WayTargets.{aim_of, lost_by, lost_to}
 
 missing_is : (base : BaseView) (way : Way) (to : Id) → lost_by (aim_of (missing_by base way to)) to ≡ missing_by base way to
 missing_is base Next to = refl

@@ -3,7 +3,7 @@ use Rattle.std.proofs.Common.{◌≡◌, ◌<◌, ◌+◌, ◌*◌, ℕ, List, S
 use Rattle.finder.proofs.Words.{Id, way_at, way_place, Way, Frame, BaseView, going, offered_place, Leads, destination_of, Graph, Goes}
 use Rattle.frame_records.specs.declared.ways.Destination.TheVariants as destination
 use Rattle.finder.specs.declared.aim.Aim.TheVariants.{NotOffered}
-use Rattle.finder.specs.Targets.{IsTold}
+use Rattle.finder.specs.Loops.WayTargets.{IsTold}
 use Rattle.finder.proofs.Lists.{at_within, mapped}
 
 -- a way that leads is one of the eleven

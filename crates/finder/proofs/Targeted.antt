@@ -6,7 +6,7 @@ use Rattle.frame_records.specs.declared.ways.Destination.TheVariants as destinat
 use Rattle.finder.specs.declared.aim.Aim.TheVariants as aim
 use Rattle.finder.specs.declared.table.Targets.{Targets}
 use Rattle.finder.specs.declared.target.Target.TheVariants.{Found}
-use Rattle.finder.specs.Targets.{IsFoundAt, IsTold, IsAdded}
+use Rattle.finder.specs.Loops.WayTargets.{IsFoundAt, IsTold, IsAdded}
 use Rattle.finder.proofs.Nodes.{frame_here, id_there}
 use Rattle.finder.proofs.Lists.{mapped}
 

@@ -1,9 +1,13 @@
 -- Facts that hold between the turns of loops. No promise rests on them.
+pub mod WayTargets
+pub mod Noted
+pub mod Walks
+pub mod Entries
 use Rattle.std.specs.Prelude.{◌≡◌, ◌<◌, ◌+◌, ◌*◌, ℕ, List, length, get_or, All, Contains, ◌≤◌, Option, Some, None, slice_get, AllPairs, count_by, is_some, ◌≢◌, Bool, true, false, Any, nat_le}
 use Rattle.smallvec.specs.SmallVec.{SmallVec}
 use Rattle.finder.specs.declared.graph.Graph.{Graph}
 use Rattle.finder.specs.declared.direction.Direction.TheVariants.{To}
-use Rattle.finder.specs.Graph.{Goes, IsStep, Comes, turned}
+use Rattle.finder.specs.Loops.Walks.{Goes, IsStep, Comes, turned}
 use Rattle.std.specs.List.{AllWithin}
 use Rattle.finder.specs.declared.ranks.Ranked.{Ranked}
 use Rattle.page_ids.specs.Ids.{Id}
@@ -14,7 +18,7 @@ use Rattle.frame_records.specs.Seek.{entry_of}
 use Rattle.finder.specs.declared.discover.Discovery.{Discovery}
 use Rattle.finder.specs.declared.found.Discovered.{Discovered}
 use Rattle.finder.specs.Finds.{Pair, HasPair, PairLeads, IsBefore, HasFirstPair, RanksAreLeast, Walk, IsRank, has_id}
-use Rattle.finder.specs.Targets.{id_at}
+use Rattle.finder.specs.Loops.WayTargets.{id_at}
 
 -- The neighbours of nodes in the direction of a search.
 

@@ -1,5 +1,5 @@
 ghost use Rattle.std.specs.Prelude.{◌≡◌};
-ghost use Rattle.finder.specs.Graph.{turned};
+ghost use Rattle.finder.specs.Loops.Walks.{turned};
 
 /// Which way the keys lead that are counted.
 #[derive(Debug, Clone, Copy, PartialEq, Eq)]

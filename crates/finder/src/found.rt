@@ -1,6 +1,6 @@
 ghost use Rattle.std.specs.Prelude.{◌≡◌, ◌++◌, ◌∷◌, [], OnOk, IfOk, option_map};
 ghost use Rattle.page_ids.specs.Ways.{way_at, way_key};
-ghost use Rattle.finder.specs.Entries.{discovered_of};
+ghost use Rattle.finder.specs.Loops.Entries.{discovered_of};
 
 use page_ids::{FrameId, Key, Way};
 use std::alloc::{AllocError, Global};

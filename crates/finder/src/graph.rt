@@ -1,7 +1,7 @@
 //! The frames of a base as a graph, with the ways that find open frames: a node is a frame's position in the base.
 
 ghost use Rattle.std.specs.Prelude.{◌≡◌, ◌<◌, ℕ, Some, IfSome, IfNone};
-ghost use Rattle.finder.specs.Targets.{id_at};
+ghost use Rattle.finder.specs.Loops.WayTargets.{id_at};
 
 use crate::direction::Direction;
 use crate::table::WayTable;
@@ -17,7 +17,7 @@ pub struct Graph<'a> {
 }
 
 impl Graph<'_> {
-    ghost use Rattle.finder.specs.Graph.{Goes};
+    ghost use Rattle.finder.specs.Loops.Walks.{Goes};
 
     // The node to which a way of a node leads.
     pub fn target(&self, from: u16, way: u8) -> Option<u16>

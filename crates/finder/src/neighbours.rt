@@ -1,6 +1,6 @@
 ghost use Rattle.std.specs.Prelude.{◌<◌, ◌+◌, ◌-◌, ◌*◌, IsTrue, OnOk, IfOk, length};
 ghost use Rattle.smallvec.specs.SmallVec.{SmallVec};
-ghost use Rattle.finder.specs.Graph.{Goes};
+ghost use Rattle.finder.specs.Loops.Walks.{Goes};
 ghost use Rattle.finder.specs.Loops.{AreNeighbours, IsListOf};
 
 use crate::graph::Graph;

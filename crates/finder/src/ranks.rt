@@ -1,5 +1,5 @@
 ghost use Rattle.std.specs.Prelude.{◌≡◌, ◌<◌, ◌≤◌, ◌+◌, ◌*◌, ◌⊎◌, ℕ, Some, None, is_some, OnOk, IfOk, IfSome, IfNone, slice_get, length, get_or};
-ghost use Rattle.finder.specs.Graph.{IsNodeRank, IsStep};
+ghost use Rattle.finder.specs.Loops.Walks.{IsNodeRank, IsStep};
 ghost use Rattle.finder.specs.Loops.{HasRank, IsSearch, AreNeighbours};
 
 use crate::graph::Graph;

@@ -1,7 +1,7 @@
 ghost use Rattle.std.specs.Prelude.{◌≡◌, ◌<◌, ◌≤◌, ◌↔◌, [], IfOk, Some, length, slice_get};
 ghost use Rattle.frame_records.specs.Ways.{destination};
 ghost use Rattle.finder.specs.declared.found.Discovered.{Discovered};
-ghost use Rattle.finder.specs.Entries.{IsEntryNode};
+ghost use Rattle.finder.specs.Loops.Entries.{IsEntryNode};
 ghost use Rattle.finder.specs.Finds.{IsFinding, FindsReached, RanksAreLeast, ScriptsLead, EntryIsFound};
 ghost use Rattle.finder.specs.Loops.{IsFromEntry};
 ghost use Rattle.finder.specs.Survey.{IsFrameAt};

@@ -5,8 +5,7 @@ ghost use Rattle.page_ids.specs.Ways.{way_at};
 ghost use Rattle.frame_records.specs.Bases.{IsBase};
 ghost use Rattle.frame_records.specs.Ways.{destination_of};
 ghost use Rattle.frame_records.specs.declared.frame.Frame.{Frame};
-ghost use Rattle.finder.specs.Survey.{lost_to};
-ghost use Rattle.finder.specs.Targets.{AreTargets, IsAdded};
+ghost use Rattle.finder.specs.Loops.WayTargets.{lost_to, AreTargets, IsAdded};
 
 use crate::aim::Aim;
 use crate::notes::Notes;

@@ -1,5 +1,5 @@
 ghost use Rattle.std.specs.Prelude.{◌≡◌};
-ghost use Rattle.finder.specs.Targets.{aim_at, node_of};
+ghost use Rattle.finder.specs.Loops.WayTargets.{aim_at, node_of};
 
 use crate::aim::Aim;
 

@@ -3,3 +3,4 @@ pub mod Ways
 pub mod Cells
 pub mod Painted
 pub mod Since
+pub mod Placed

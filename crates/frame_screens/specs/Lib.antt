@@ -2,3 +2,4 @@ pub mod Frames
 pub mod Screens
 pub mod Laws
 pub mod Painted
+pub mod Gallery

@@ -12,19 +12,23 @@
 //! - [`FrameList`]: frames in the order in which they are sent, at least one.
 //! - [`screen`]: what they leave on a new terminal, with the centre's rows. [`send`]: one frame sent to a terminal.
 //! - [`Painter`]: the screens of all frames that are reached, one after another, each from its parent's terminal.
+//! - [`Gallery`]: the screens of all frames, also of those that no key reaches.
 //! - [`nearest`]: the frame that was probably meant by an id that the base lacks.
 //! - [`headline_is_seen`]: rows 0 and 23 of a cleared base's screens; [`frames_decide`], [`ways_lead_there`]: laws.
 #![tactic(auto)]
 
+mod gallery;
 mod header;
 mod keyed;
 mod laws;
 mod list;
 mod near;
 mod painter;
+mod places;
 mod sending;
 mod way;
 
+pub use gallery::Gallery;
 pub use header::screen;
 pub use keyed::{NoScreen, frames_after};
 pub use laws::{frames_decide, headline_is_seen, ways_lead_there};

@@ -9,4 +9,6 @@ pub mod ListRun
 pub mod MapRun
 pub mod ShowRun
 pub mod PagesRun
+pub mod ImportRun
+pub mod ExportRun
 pub mod Files

@@ -19,6 +19,9 @@
 //! - [`run_show`], [`Target`], [`Form`], [`ShowStatus`], [`status_of_show`]: the screen of a frame or after keys, and the exit
 //!   status for it; [`read_keys`] reads the keys.
 //! - [`run_pages`], [`PagesStatus`], [`status_of_pages`]: a base as an HTML file, and the exit status for it.
+//! - [`take_screen`], [`Album`], [`FileKind`], [`ImportFault`], [`run_import`], [`ImportStatus`], [`status_of_import`]: the frames of
+//!   saved screens, the base that is made of them, and the exit status for it.
+//! - [`read_exported`], [`Gallery`], [`run_export`]: a base, the screens of its frames, and one of them written.
 //! - [`run_list`]: a line for each frame of a base.
 //! - [`run_lint`], [`Format`], [`status_of_lint`]: every finding in a base's file, in a form, and the exit status for them.
 //! - [`run_map`], [`View`], [`MapStatus`], [`status_of_map`]: the map of a base, and the exit status for it.
@@ -29,7 +32,9 @@ mod audit_run;
 mod change_run;
 mod check_run;
 mod edition;
+mod export_run;
 mod file_fault;
+mod import_run;
 mod input;
 mod lint_run;
 mod list_run;
@@ -46,12 +51,16 @@ pub use base_map::View;
 pub use base_pages::PagesStatus;
 pub use change_run::run_change;
 pub use check_run::run_check;
+pub use export_run::{read_exported, run_export};
 pub use finding_forms::Format;
+pub use frame_screens::Gallery;
+pub use import_run::{ImportFault, ImportStatus, run_import, status_of_import, take_screen};
 pub use lint::{Counts, Level, counted_text};
 pub use lint_run::{run_lint, status_of_lint};
 pub use list_run::run_list;
 pub use map_run::{MapStatus, run_map, status_of_map};
 pub use pages_run::{run_pages, status_of_pages};
+pub use screen_files::{Album, FileKind, Filed, ScreenFault};
 pub use show_run::{Form, ShowStatus, Target, run_show, status_of_show};
 pub use status::status_of;
 pub use walk_run::{read_keys, run_walk};

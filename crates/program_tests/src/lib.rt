@@ -13,7 +13,11 @@ mod expected;
 #[cfg(test)]
 mod explained_words;
 #[cfg(test)]
+mod export_runs;
+#[cfg(test)]
 mod from_read;
+#[cfg(test)]
+mod import_runs;
 #[cfg(test)]
 mod into_write;
 #[cfg(test)]

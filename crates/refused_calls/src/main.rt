@@ -9,6 +9,7 @@
 #![tactic(auto)]
 
 mod answers;
+mod screens;
 mod tried;
 mod words;
 
@@ -26,9 +27,10 @@ use frame_screens::{frames_after, nearest, way_to};
 use page_ids::keys_read;
 use pageaudit::{
     Counts, Format, Level, run_audit, run_change, run_check, run_lint, run_list, run_map,
-    run_pages, run_show, run_walk, status_of, status_of_lint, status_of_map, status_of_pages,
-    status_of_show,
+    run_pages, run_show, run_walk, status_of, status_of_import, status_of_lint, status_of_map,
+    status_of_pages, status_of_show,
 };
+use screens::{exported, imported};
 use std::env;
 use tried::{calls, ran};
 use words::Words;
@@ -89,6 +91,10 @@ fn run(rt: &HostRuntime, name: &str, words: &mut Words) -> Option<()> {
             ran!(alloc, out, status_of_show, run_show(alloc, &mut base.source(), &groups, &target, form, out));
         run_pages(base: file, view: view, out: word, policy: policy) =>
             ran!(alloc, out, status_of_pages, run_pages(alloc, &mut base.source(), &policy, &view, "base.toml", out));
+        run_import(screen: file, kind: kind, path: word, entry: entry, out: word) =>
+            ran!(alloc, out, status_of_import, imported(alloc, &mut screen.source(), kind, path, entry, out));
+        run_export(base: file, frame: frame, out: word, groups: groups) =>
+            ran!(alloc, out, status_of, exported(alloc, &mut base.source(), &groups, frame, out));
         run_lint(base: file, out: word, policy: policy) =>
             ran!(alloc, out, status_of_errors, run_lint(alloc, &mut base.source(), out, "base.toml", &policy, Format::Full));
         _ => None

@@ -7,7 +7,7 @@ use base_text::{MOST_TEXT, RowCells, base_read};
 use checker::Policy;
 use frame_records::{Base, Groups, Pence};
 use page_ids::{FrameId, KeyList, PageNo, keys_read};
-use pageaudit::{Form, Target, View};
+use pageaudit::{FileKind, Form, Target, View};
 use std::alloc::{AllocError, Global};
 use std::fs;
 use std::slice::Iter;
@@ -69,6 +69,23 @@ pub fn form(words: &mut Words, rt: &HostRuntime) -> Option<Form> {
         "svg" => Some(Form::Svg),
         "cells" => Some(Form::Cells),
         _ => None,
+    }
+}
+
+/// What the file of a screen holds.
+pub fn kind(words: &mut Words, rt: &HostRuntime) -> Option<FileKind> {
+    match word(words, rt)? {
+        "cells" => Some(FileKind::Cells),
+        "stream" => Some(FileKind::Stream),
+        _ => None,
+    }
+}
+
+/// An entry page; `-` for none.
+pub fn entry(words: &mut Words, rt: &HostRuntime) -> Option<Option<PageNo>> {
+    match word(words, rt)? {
+        "-" => Some(None),
+        page => Some(Some(PageNo::new(page.parse::<u32>().ok()?)?)),
     }
 }
 

@@ -3,3 +3,4 @@ pub mod Parts
 pub mod Lines
 pub mod Shown
 pub mod Saved
+pub mod Frames

@@ -3,4 +3,6 @@ pub mod Heads
 pub mod Keys
 pub mod Rows
 pub mod Texts
+pub mod Files
+pub mod Album
 pub mod Laws

@@ -2,6 +2,8 @@
 #![tactic(auto)]
 
 #[cfg(test)]
+mod albums;
+#[cfg(test)]
 mod files;
 #[cfg(test)]
 mod frames;

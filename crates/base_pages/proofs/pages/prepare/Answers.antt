@@ -7,6 +7,5 @@ returns c = record {
   of_groups = search rules;
   finding = search rules;
   audited = c.in_ok-outcome.ensures.outcome;
-  places = search rules;
   index = search rules;
 }

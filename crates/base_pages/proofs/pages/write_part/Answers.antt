@@ -15,14 +15,14 @@ use Rattle.base_pages.proofs.pages.write_part.Goals as goal
 -- the file that is written of what was prepared
 module _ (name : List ℕ) (base : BaseView) (policy : Policy) (part : Option (List Id)) (p : Prepared) (made : IsPrepared base policy p) where
   abbrev book_of : List Fault → BookView
-  book_of faults = record { base = base; caller = policy.groups; found = p.painter.found; faults = faults; part = part }
+  book_of faults = record { base = base; caller = policy.groups; found = p.gallery.found; faults = faults; part = part }
 
   abbrev written_of : List Fault → List ℕ
   written_of faults = page name policy p.outcome (book_of faults)
 
   abbrev is_page : (faults : List Fault) → faults ≡ faults_in p.outcome → IsPage name base policy part (written_of faults)
   is_page faults same =
-      record { found = p.painter.found; finding = made.finding; outcome = p.outcome; audited = made.audited; is = ap written_of same }
+      record { found = p.gallery.found; finding = made.finding; outcome = p.outcome; audited = made.audited; is = ap written_of same }
 
 pub write_book-requires-clause-ready : goal.write_book-requires-clause-ready
 write_book-requires-clause-ready g c =
@@ -30,7 +30,6 @@ write_book-requires-clause-ready g c =
     record {
       of_base = made.of_base;
       of_groups = made.of_groups;
-      places = made.places;
       index = λ (id : Id). made.index id ∙ ap (λ (fs : List Fault). numbers_of (numbered 0 fs) id) (sym c.faults_in.ensures);
     }
 

@@ -1,6 +1,3 @@
-use Rattle.std.proofs.Common.{List, ℕ}
-use Rattle.lint.specs.Findings.{FindingView}
-use Rattle.lint.specs.Lint.{IsLint}
 use Rattle.lint.proofs.Meanings.{follows, decided}
 use Rattle.lint.proofs.Warnings.{lint_warns}
 use Rattle.lint.proofs.SpansLie.{spans_lie}

@@ -1,8 +1,8 @@
-use Rattle.std.proofs.Common.{◌≡◌, ◌∙◌, sym, ap, drop, ◌+◌, ◌∷◌, Bool, true, false, cond, List, arith}
+use Rattle.std.proofs.Common.{◌≡◌, ◌∙◌, sym, ap, drop, ◌+◌, ◌∷◌, Bool, true, false, cond, arith}
 use Rattle.std.specs.Prelude.{filter}
 use Rattle.std.proofs.lemmas.List.{drop_more}
 use Rattle.indexmap.specs.IndexSet.{insert_all}
-use Rattle.page_ids.specs.Ids.{Id, id_eq}
+use Rattle.page_ids.specs.Ids.{id_eq}
 use Rattle.base_map.specs.Edges.{is_lacked}
 use Rattle.base_map.proofs.drawing.Drawing.add_lost.Goals as goal
 use Rattle.base_map.proofs.drawing.Drawing.add_lost.Goals.{then-lacks+in_ok-insert, else-lacks}

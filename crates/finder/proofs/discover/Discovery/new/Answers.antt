@@ -1,6 +1,6 @@
 use Rattle.std.proofs.Common.{◌≡◌, false, true, None, replicate, refl, sym, ◌∙◌, ap, subst, rules, ◌∷◌, ◌++◌, [], List, ℕ, set}
 use Rattle.finder.proofs.Words.{Discovered, IsRank}
-use Rattle.finder.specs.Entries.{discovered_of}
+use Rattle.finder.specs.Loops.Entries.{discovered_of}
 use Rattle.finder.proofs.Marked.{entry_listed}
 use Rattle.finder.proofs.discover.Discovery.new.Goals as goal
 

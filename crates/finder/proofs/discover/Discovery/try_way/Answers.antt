@@ -1,6 +1,6 @@
 use Rattle.std.proofs.Common.{Some, get_or, false, refl, sym, ◌∙◌, ap, subst}
 use Rattle.finder.proofs.Words.{IsRank}
-use Rattle.finder.specs.Entries.{discovered_of}
+use Rattle.finder.specs.Loops.Entries.{discovered_of}
 use Rattle.finder.proofs.Lists.{push_at}
 use Rattle.finder.proofs.Marked.{node_inside, not_listed, way_passed, way_led}
 use Rattle.finder.proofs.discover.Discovery.try_way.Goals as goal

@@ -1,5 +1,5 @@
 use Rattle.std.proofs.Common.{◌≡◌, map, take}
-use Rattle.finder.specs.Notes.{AreNotes}
+use Rattle.finder.specs.Loops.Noted.{AreNotes}
 use Rattle.finder.proofs.notes.Notes.of.Given as goal
 
 abbrev pub invariant-loop-node : goal.invariant-loop-node

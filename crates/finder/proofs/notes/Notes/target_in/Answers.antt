@@ -1,5 +1,5 @@
 use Rattle.std.proofs.Common.{get_or, length, sym, ◌∙◌, ap, subst, arith}
-use Rattle.finder.specs.Notes.{IsNote}
+use Rattle.finder.specs.Loops.Noted.{IsNote}
 use Rattle.finder.proofs.notes.Notes.target_in.Goals as goal
 
 pub returns-then-is_of : goal.returns-then-is_of

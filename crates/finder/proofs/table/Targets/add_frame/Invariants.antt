@@ -1,5 +1,5 @@
 use Rattle.std.proofs.Common.{◌+◌, ◌*◌}
-use Rattle.finder.specs.Targets.{AreTargets}
+use Rattle.finder.specs.Loops.WayTargets.{AreTargets}
 use Rattle.finder.proofs.table.Targets.add_frame.Given as goal
 
 abbrev pub invariant-loop-way : goal.invariant-loop-way

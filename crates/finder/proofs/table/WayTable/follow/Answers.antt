@@ -4,7 +4,7 @@ use Rattle.std.proofs.lemmas.Option.{get_or_from_slice_get, slice_get-get_or}
 use Rattle.frame_records.specs.declared.frame.Frame.{Frame}
 use Rattle.frame_records.specs.Ways.{sought, destination_of}
 use Rattle.finder.specs.declared.aim.Aim.TheVariants.{NotOffered}
-use Rattle.finder.specs.Survey.{lost_to}
+use Rattle.finder.specs.Loops.WayTargets.{lost_to}
 use Rattle.finder.proofs.Followed.{found_is, lost_is}
 use Rattle.finder.proofs.table.WayTable.follow.Goals as goal
 

@@ -1,5 +1,5 @@
 use Rattle.std.proofs.Common.{◌*◌}
-use Rattle.finder.specs.Targets.{AreTargets}
+use Rattle.finder.specs.Loops.WayTargets.{AreTargets}
 use Rattle.finder.proofs.table.WayTable.of.Given as goal
 
 abbrev pub invariant-loop-node : goal.invariant-loop-node

@@ -1,0 +1,184 @@
+//! The command `export`: the screen of each frame of a base, in a file of its own. A screen is written beside it under another name,
+//! which then becomes its own, so that no half file is left.
+
+ghost use Rattle.std.specs.Prelude.{◌≡◌, false};
+
+use crate::named_files::{Unfinished, open_base, report};
+use crate::out_file::new_beside;
+use audit_report::{FromRead, IntoWrite, RunFault};
+use command_words::Export;
+use frame_records::Base;
+use page_ids::FrameId;
+use pageaudit::{Gallery, read_exported, run_export};
+use std::alloc::AllocError;
+use std::rt::Files;
+use std::{fs, io};
+
+// Reads the base.
+fn read_file<R: Files + AllocGlobal>(rt: &R, path: &str) -> Result<Base, Unfinished> {
+    let mut file = match open_base(rt, path) {
+        Ok(file) => FromRead::new(file),
+        Err(unfinished) => return Err(unfinished),
+    };
+    match read_exported(rt.alloc(), &mut file) {
+        Ok(base) => Ok(base),
+        Err(RunFault::ReadBase) => Err(Unfinished::Unread("read failed")),
+        Err(fault) => Err(Unfinished::Fault(fault)),
+    }
+}
+
+// Why a file isn't written.
+fn unwritten(error: &io::Error) -> Unfinished {
+    match error.kind() {
+        io::ErrorKind::OutOfMemory => Unfinished::Fault(RunFault::Memory),
+        io::ErrorKind::NotFound => Unfinished::Unread("no such folder"),
+        io::ErrorKind::PermissionDenied => Unfinished::Unread("permission denied"),
+        io::ErrorKind::NotADirectory => Unfinished::Unread("not a directory"),
+        io::ErrorKind::IsADirectory => Unfinished::Unread("is a directory"),
+        io::ErrorKind::StorageFull => Unfinished::Unread("no space left"),
+        _ => Unfinished::Unread("can't be written"),
+    }
+}
+
+const IS_THERE: &str = "is there already; --force replaces it";
+
+// Whether there is something under a path.
+fn is_there<R: Files>(rt: &R, path: &str) -> bool {
+    fs::symlink_metadata(rt, path).is_ok()
+}
+
+// Gives a new file a name that is free: a link is refused if it isn't. Some file systems have no links.
+fn give_free_name<R: Files>(rt: &R, new: &str, path: &str) -> Result<(), Unfinished> {
+    match fs::hard_link(rt, new, path) {
+        Ok(()) => {
+            let _ = fs::remove_file(rt, new);
+            Ok(())
+        }
+        Err(_) if is_there(rt, path) => Err(Unfinished::Unread(IS_THERE)),
+        Err(_) => replace(rt, new, path),
+    }
+}
+
+// Gives a new file a name, which may be another file's.
+fn replace<R: Files>(rt: &R, new: &str, path: &str) -> Result<(), Unfinished> {
+    match fs::rename(rt, new, path) {
+        Ok(()) => Ok(()),
+        Err(error) => Err(unwritten(&error)),
+    }
+}
+
+// Writes the screen of a frame to a new file and closes it.
+fn write_file<R: AllocGlobal, W: io::Write + Drop>(
+    rt: &R,
+    gallery: &Gallery,
+    id: FrameId,
+    file: W,
+) -> Result<(), Unfinished> {
+    let mut out = IntoWrite::new(file);
+    match run_export(rt.alloc(), gallery, id, &mut out) {
+        Ok(_) => Ok(()),
+        Err(RunFault::Memory) => Err(Unfinished::Fault(RunFault::Memory)),
+        Err(_) => Err(Unfinished::Unread("write failed")),
+    }
+}
+
+// Writes the screen of a frame to a file. Nothing of it is left after a fault.
+fn write_screen<R: Files + AllocGlobal>(
+    rt: &R,
+    asked: &Export,
+    gallery: &Gallery,
+    id: FrameId,
+    path: &str,
+) -> Result<(), Unfinished> {
+    let (new, file) = match new_beside(rt, path) {
+        Ok(beside) => beside,
+        Err(error) => return Err(unwritten(&error)),
+    };
+    let named = match write_file(rt, gallery, id, file) {
+        Ok(()) if asked.force => replace(rt, new.as_str(), path),
+        Ok(()) => give_free_name(rt, new.as_str(), path),
+        Err(unfinished) => Err(unfinished),
+    };
+    if named.is_err() {
+        let _ = fs::remove_file(rt, new.as_str());
+    }
+    named
+}
+
+// Writes the screen of a frame, if there is no such file or it may be replaced.
+fn export_screen<R: Files + AllocGlobal>(
+    rt: &R,
+    asked: &Export,
+    gallery: &Gallery,
+    id: FrameId,
+    path: &str,
+) -> Result<(), Unfinished> {
+    if !asked.force && is_there(rt, path) {
+        return Err(Unfinished::Unread(IS_THERE));
+    }
+    write_screen(rt, asked, gallery, id, path)
+}
+
+// The path of a frame's file.
+fn path_of<R: AllocGlobal>(rt: &R, folder: &str, id: FrameId) -> Result<String, AllocError> {
+    let id = id.text();
+    format!(in rt.alloc(); "{folder}/{}.bin", id.as_str())
+}
+
+// Writes the screen of a frame; the exit status. A file that isn't written is named.
+fn export_frame<R: Files + Eprint + AllocGlobal>(
+    rt: &R,
+    asked: &Export,
+    gallery: &Gallery,
+    id: FrameId,
+) -> u8 {
+    let Ok(path) = path_of(rt, asked.out, id) else {
+        return report(rt, asked.base, &Unfinished::Fault(RunFault::Memory));
+    };
+    match export_screen(rt, asked, gallery, id, path.as_str()) {
+        Ok(()) => 0,
+        Err(unfinished) => report(rt, path.as_str(), &unfinished),
+    }
+}
+
+// Writes all screens; the exit status, 3 if one isn't written. The others are, unless memory is refused.
+fn export_all<R: Files + Eprint + AllocGlobal>(rt: &R, asked: &Export, base: &Base) -> u8 {
+    let Ok(gallery) = Gallery::of(rt.alloc(), base, &asked.groups) else {
+        return report(rt, asked.base, &Unfinished::Fault(RunFault::Memory));
+    };
+    let mut status = 0;
+    for frame in base.frames() {
+        status = status.max(export_frame(rt, asked, &gallery, frame.id));
+        if status == 4 {
+            return status;
+        }
+    }
+    status
+}
+
+// Makes the folder, with what leads to it. No folder has an empty name.
+fn make_folder<R: Files>(rt: &R, path: &str) -> Result<(), Unfinished> {
+    if path.is_empty() {
+        return Err(Unfinished::Unread("no such folder"));
+    }
+    match fs::create_dir_all(rt, path) {
+        Ok(()) => Ok(()),
+        Err(error) if error.kind() == io::ErrorKind::AlreadyExists => {
+            Err(Unfinished::Unread("not a directory"))
+        }
+        Err(error) => Err(unwritten(&error)),
+    }
+}
+
+/// Writes the screen of each frame of a base as ID.bin into a folder, which is made after the base was read; the exit status. A file
+/// that is there is replaced only if that is asked for.
+pub fn export<R: Files + Eprint + AllocGlobal>(rt: &R, asked: &Export) -> u8 {
+    let base = match read_file(rt, asked.base) {
+        Ok(base) => base,
+        Err(unfinished) => return report(rt, asked.base, &unfinished),
+    };
+    match make_folder(rt, asked.out) {
+        Ok(()) => export_all(rt, asked, &base),
+        Err(unfinished) => report(rt, asked.out, &unfinished),
+    }
+}

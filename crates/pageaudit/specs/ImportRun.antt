@@ -1,0 +1,91 @@
+-- What a run of import does.
+use Rattle.std.specs.Prelude.{◌≡◌, ◌<◌, ◌≤◌, ◌+◌, ◌++◌, ◌∷◌, [], ℕ, List, Option, Some, Result, Ok, Err, length}
+use Rattle.std.specs.Io.KnownBytes.{IsAtEnd}
+use Rattle.devices.specs.Devices.{BrokeWithin}
+use Rattle.frame_records.specs.declared.limits.TheConstants.{MOST_LISTED}
+use Rattle.audit_report.specs.declared.run_fault.RunFault.{RunFault}
+use Rattle.audit_report.specs.declared.run_fault.RunFault.TheVariants as run
+use Rattle.screen_files.specs.declared.album.Filed.{Filed}
+use Rattle.screen_files.specs.declared.file.FileKind.{FileKind}
+use Rattle.screen_files.specs.declared.file.ScreenFault.{ScreenFault}
+use Rattle.screen_files.specs.declared.file.TheConstants.{MOST_SCREEN}
+use Rattle.screen_files.specs.declared.frame.ScreenFrame.{ScreenFrame}
+use Rattle.screen_files.specs.Files.{file_frame}
+use Rattle.screen_files.specs.Album.{IsBaseText, over_most}
+use Rattle.pageaudit.specs.declared.import_run.ImportFault.{ImportFault}
+use Rattle.pageaudit.specs.declared.import_run.ImportFault.TheVariants.{Screen, TooMany, Broken, Memory}
+use Rattle.pageaudit.specs.declared.import_run.ImportStatus.{ImportStatus}
+use Rattle.pageaudit.specs.declared.import_run.ImportStatus.TheVariants.{Printed, TooLong}
+use Rattle.pageaudit.specs.Files.{Device, IsUntouched, IsTextWritten, IsReadWithin, WasReadSoFar}
+use Rattle.pageaudit.specs.Status.{fault_number}
+
+-- The frame of one file.
+
+-- one byte more than a file may have
+abbrev pub screen_limit : ℕ
+screen_limit = MOST_SCREEN + 1
+
+-- the bytes of a screen's file: all that it had, or more than it may have
+pub record IsScreenFile (d : Device) (bytes : List ℕ) : Type 0 where
+  pub read : WasReadSoFar screen_limit d bytes
+  pub whole : length bytes < screen_limit → IsAtEnd d.after.bytes
+
+-- a file whose bytes are judged so
+pub record IsJudged (d : Device) (kind : FileKind) (path : List ℕ) (answer : Result ScreenFrame ScreenFault) : Type 0 where
+  pub bytes : List ℕ
+  pub is : IsScreenFile d bytes
+  pub judged : file_frame kind path bytes ≡ answer
+
+-- the frame is the last one now, or the list is as it was
+abbrev pub IsFrameAdded : List Filed → List Filed → ℕ → ScreenFrame → Result (Unit {0}) ImportFault → Type 0
+IsFrameAdded old new file frame (Ok _) = new ≡ old ++ record { file = file; frame = frame } ∷ []
+IsFrameAdded old new file frame (Err TooMany) = (new ≡ old) × (MOST_LISTED ≤ length old)
+IsFrameAdded old new file frame (Err Memory) = new ≡ old
+IsFrameAdded old new file frame (Err _) = ⊥
+
+-- the frame of the file is the last one now
+pub record IsTaken (d : Device) (kind : FileKind) (path : List ℕ) (file : ℕ) (old new : List Filed) : Type 0 where
+  pub frame : ScreenFrame
+  pub is : IsJudged d kind path (Ok frame)
+  pub added : new ≡ old ++ record { file = file; frame = frame } ∷ []
+
+-- a file that gives a frame, for which there is no place
+pub record IsRefusedPlace (d : Device) (kind : FileKind) (path : List ℕ) (old : List Filed) : Type 0 where
+  pub frame : ScreenFrame
+  pub is : IsJudged d kind path (Ok frame)
+  pub full : MOST_LISTED ≤ length old
+
+-- why no frame was added
+abbrev pub IsNotTaken : Device → FileKind → List ℕ → List Filed → ImportFault → Type 0
+IsNotTaken d kind path old (Screen fault) = IsJudged d kind path (Err fault)
+IsNotTaken d kind path old TooMany = IsRefusedPlace d kind path old
+IsNotTaken d kind path old Broken = BrokeWithin screen_limit d.before d.after
+IsNotTaken d kind path old Memory = IsReadWithin screen_limit d
+
+-- the frame of a file was added, or nothing was
+abbrev pub IsScreenTaken : Device → FileKind → List ℕ → ℕ → List Filed → List Filed → Result (Unit {0}) ImportFault → Type 0
+IsScreenTaken d kind path file old new (Ok _) = IsTaken d kind path file old new
+IsScreenTaken d kind path file old new (Err fault) = (new ≡ old) × IsNotTaken d kind path old fault
+
+-- The base of the frames.
+
+-- the text of the base was written
+pub record IsBasePrinted (out : Device) (asked : Option ℕ) (frames : List Filed) (answer : Result ImportStatus RunFault) : Type 0 where
+  pub text : List ℕ
+  pub is : IsBaseText asked frames text
+  pub written : IsTextWritten out text Printed answer
+
+-- a run by its answer: nothing was written if the text is too long, `file` being the one of the first frame that ends too late, or
+-- if memory was refused
+abbrev pub IsImportRun : Device → Option ℕ → List Filed → Result ImportStatus RunFault → Type 0
+IsImportRun out asked frames (Ok Printed) = IsBasePrinted out asked frames (Ok Printed)
+IsImportRun out asked frames (Ok (TooLong file)) = (over_most asked frames ≡ Some file) × IsUntouched out
+IsImportRun out asked frames (Err (run.Write wrote)) = IsBasePrinted out asked frames (Err (run.Write wrote))
+IsImportRun out asked frames (Err run.Memory) = IsUntouched out
+IsImportRun out asked frames (Err _) = ⊥
+
+-- the exit status: 3 if a base can't be so long
+abbrev pub import_number : Result ImportStatus RunFault → ℕ
+import_number (Ok Printed) = 0
+import_number (Ok (TooLong file)) = 3
+import_number (Err fault) = fault_number fault

@@ -1,0 +1,116 @@
+//! Saved screens as a base.
+
+ghost use Rattle.std.specs.Prelude.{◌≡◌, false};
+
+use crate::expected::{ALL, sink, source, taken};
+use page_ids::PageNo;
+use pageaudit::{
+    Album, FileKind, ImportFault, ImportStatus, ScreenFault, run_import, status_of_import,
+    take_screen,
+};
+use std::alloc::Global;
+use std::test::Fail;
+use test_support::{same, same_in};
+
+// A file of rows 1 to 22 alone.
+fn rows(alloc: Global, first: &str) -> Result<String, Fail> {
+    Ok(format!(in alloc; "{first:<880}")?)
+}
+
+const BASE: &str =
+    "entry = 4\n\n[[frame]]\nid = \"4a\"\nnext = true\nroutes = { } # keys shown: 1\nrows = [\n    \"1 News\",\n]\n\n[[frame]]\nid = \"4b\"\nroutes = { }\nrows = [\n    \"MORE\",\n]\n";
+
+// Adds a file's frame: the result, how often the file is read, and how many frames there are then.
+fn take(
+    alloc: Global,
+    text: &str,
+    kept: usize,
+    path: &str,
+    album: &mut Album,
+) -> (Result<(), ImportFault>, u32, usize) {
+    let mut file = source(text, ALL, kept);
+    let taken = take_screen(alloc, &mut file, FileKind::Cells, path, 7, album);
+    (taken, file.calls, album.as_slice().len())
+}
+
+#[test]
+fn screens_make_a_base(rt: HostRuntime) -> Result<(), Fail> {
+    let alloc = rt.alloc();
+    let mut album = Album::new(alloc);
+    let (more, news) = (rows(alloc, "MORE")?, rows(alloc, "1 News")?);
+    same(
+        take(alloc, more.as_str(), ALL, "dumps/4b.bin", &mut album),
+        (Ok(()), 2, 1),
+    )?;
+    same(
+        take(alloc, news.as_str(), ALL, "4a", &mut album),
+        (Ok(()), 2, 2),
+    )?;
+    album.sort();
+    for (room, status, flushes, wrote) in [
+        (ALL, 0, 1, BASE.len()),
+        (0, 3, 0, 0),
+        (9, 3, 0, 9),
+        (BASE.len(), 3, 1, BASE.len()),
+    ] {
+        let mut out = sink(alloc, BASE, room);
+        let run = run_import(alloc, &album, None, &mut out);
+        same_in(room, run == Ok(ImportStatus::Printed), room == ALL)?;
+        same_in(room, status_of_import(&run), status)?;
+        same_in(room, (out.flushes, taken(&out, BASE)), (flushes, wrote))?;
+    }
+    Ok(())
+}
+
+#[test]
+fn the_entry_page_may_be_named(rt: HostRuntime) -> Result<(), Fail> {
+    let alloc = rt.alloc();
+    let mut album = Album::new(alloc);
+    let news = rows(alloc, "1 News")?;
+    same(
+        take(alloc, news.as_str(), ALL, "4a.m7", &mut album).0,
+        Ok(()),
+    )?;
+    let text =
+        "entry = 9\n\n[[frame]]\nid = \"4a\"\nroutes = { } # keys shown: 1\nrows = [\n    \"1 News\",\n]\n";
+    let mut out = sink(alloc, text, ALL);
+    same(
+        run_import(alloc, &album, PageNo::new(9), &mut out),
+        Ok(ImportStatus::Printed),
+    )?;
+    same(taken(&out, text), text.len())
+}
+
+// A file that gives no frame, and one that fails, leave the album as it was.
+#[test]
+fn a_file_may_give_no_frame(rt: HostRuntime) -> Result<(), Fail> {
+    let alloc = rt.alloc();
+    let mut album = Album::new(alloc);
+    let blank = rows(alloc, "")?;
+    let cases = [
+        ("", ALL, "4a", 1, ImportFault::Screen(ScreenFault::Empty)),
+        (
+            "1 News",
+            ALL,
+            "4a",
+            2,
+            ImportFault::Screen(ScreenFault::Size(6)),
+        ),
+        (
+            blank.as_str(),
+            ALL,
+            "A",
+            2,
+            ImportFault::Screen(ScreenFault::NoId),
+        ),
+        (blank.as_str(), 9, "4a", 2, ImportFault::Broken),
+    ];
+    for (text, kept, path, reads, fault) in cases {
+        same_in(
+            path,
+            take(alloc, text, kept, path, &mut album),
+            (Err(fault), reads, 0),
+        )?;
+    }
+    Ok(())
+}

@@ -1,0 +1,53 @@
+//! The runs of screens, each as one call.
+
+ghost use Rattle.std.specs.Prelude.{◌≡◌, false};
+
+use audit_report::{RunFault, Sink, Source, Status};
+use frame_records::Groups;
+use page_ids::{FrameId, PageNo};
+use pageaudit::{
+    Album, FileKind, Gallery, ImportFault, ImportStatus, read_exported, run_export, run_import,
+    take_screen,
+};
+use std::alloc::Global;
+
+/// The base of one screen. A file that gives no frame is as one that can't be read.
+pub fn imported<S: Source, O: Sink>(
+    alloc: Global,
+    screen: &mut S,
+    kind: FileKind,
+    path: &str,
+    entry: Option<PageNo>,
+    out: &mut O,
+) -> Result<ImportStatus, RunFault>
+    requires screen_open { (S.seen screen.old).failed ≡ false }
+    requires out_open { (O.seen out.old).failed ≡ false }
+{
+    let mut album = Album::new(alloc);
+    match take_screen(alloc, screen, kind, path, 0, &mut album) {
+        Ok(()) => run_import(alloc, &album, entry, out),
+        Err(ImportFault::Memory) => Err(RunFault::Memory),
+        Err(_) => Err(RunFault::ReadBase),
+    }
+}
+
+/// The screen of one frame of a base.
+pub fn exported<B: Source, O: Sink>(
+    alloc: Global,
+    base: &mut B,
+    groups: &Groups,
+    id: FrameId,
+    out: &mut O,
+) -> Result<Status, RunFault>
+    requires base_open { (B.seen base.old).failed ≡ false }
+    requires out_open { (O.seen out.old).failed ≡ false }
+{
+    let base = match read_exported(alloc, base) {
+        Ok(base) => base,
+        Err(fault) => return Err(fault),
+    };
+    match Gallery::of(alloc, &base, groups) {
+        Ok(gallery) => run_export(alloc, &gallery, id, out),
+        Err(_) => Err(RunFault::Memory),
+    }
+}

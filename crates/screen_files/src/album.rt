@@ -1,0 +1,182 @@
+//! The frames of some files, and the text of the base that is made of them.
+
+ghost use Rattle.std.specs.Prelude.{◌≡◌, ◌++◌, ◌∷◌, [], None, MatchResult, OnOk, IfOk, IfErr, IsPermutation, length, nat_le};
+ghost use Rattle.std.specs.List.Sorted.{IsSortedByKey};
+ghost use Rattle.page_ids.specs.Ids.{id_cmp};
+ghost use Rattle.frame_records.specs.declared.limits.TheConstants.{MOST_LISTED};
+ghost use Rattle.screen_files.specs.Album as spec;
+
+use crate::frame::ScreenFrame;
+use crate::texts::{push_entry, push_frame};
+use base_text::MOST_TEXT;
+use frame_records::MOST_LISTED;
+use page_ids::{FrameId, PageNo};
+use std::alloc::{AllocError, Global};
+use std::marker::Model;
+
+/// A frame, and the number of the file that it is from.
+#[derive(Debug, Clone, Copy, PartialEq, Eq)]
+pub struct Filed {
+    pub file: usize,
+    pub frame: ScreenFrame,
+}
+
+/// Why a frame isn't added.
+#[derive(Debug, Clone, Copy, PartialEq, Eq)]
+pub enum AddFault {
+    /// There are as many as a base may have.
+    TooMany,
+    /// A growth was refused.
+    Memory,
+}
+
+/// Why there is no text of a base.
+#[derive(Debug, Clone, Copy, PartialEq, Eq)]
+pub enum BaseTextFault {
+    /// It is longer than a base may be: the file of the first frame that ends too late.
+    TooLong(usize),
+    /// A growth was refused.
+    Memory,
+}
+
+/// The frames of some files. Contracts see the list.
+#[derive(Drop)]
+pub struct Album {
+    frames: Vec<Filed>,
+}
+
+impl Model for Album {
+    ghost use Rattle.std.specs.Prelude.{List};
+    ghost use Rattle.screen_files.specs.declared.album.Filed.{Filed};
+
+    ghost Value = { List Filed };
+
+    ghost view = { λ a. a.frames.items };
+}
+
+impl Album {
+    /// No frames.
+    pub fn new(alloc: Global) -> Album
+        ensures { result ≡ [] }
+    {
+        Album {
+            frames: Vec::new(alloc),
+        }
+    }
+
+    // Whether there are as many frames as a base may have.
+    fn is_full(&self) -> bool
+        ensures { result ≡ nat_le MOST_LISTED (length self.now) }
+    {
+        self.frames.len() >= MOST_LISTED
+    }
+
+    // Adds one; a slice, since the checker can't plan a push of a value that holds an Option.
+    fn push(&mut self, filed: &Filed) -> Result<(), AllocError>
+        ensures { MatchResult result (λ _. self.new ≡ self.old ++ filed.now ∷ []) (λ _. self.new ≡ self.old) }
+    {
+        self.frames.extend_from_slice(&[*filed])
+    }
+
+    /// Adds the frame of a file. After a fault the album is as it was.
+    pub fn add(&mut self, file: usize, frame: &ScreenFrame) -> Result<(), AddFault>
+        ensures { spec.IsAdded self.old self.new file frame.now result }
+    {
+        if self.is_full() {
+            return Err(AddFault::TooMany);
+        }
+        let filed = Filed {
+            file,
+            frame: *frame,
+        };
+        match self.push(&filed) {
+            Ok(()) => Ok(()),
+            Err(_) => Err(AddFault::Memory),
+        }
+    }
+
+    /// Sorts the frames by their ids.
+    pub fn sort(&mut self)
+        ensures same { IsPermutation self.old self.new }
+        ensures ascend { IsSortedByKey (λ f. f.frame.id) id_cmp self.new }
+    {
+        self.frames.sort_unstable_by_key(|filed| filed.frame.id);
+    }
+
+    /// The frames, in order.
+    pub fn as_slice(&self) -> &[Filed]
+        ensures { result.now ≡ self.now }
+    {
+        self.frames.as_slice()
+    }
+}
+
+fn is_first(id: FrameId, frames: &[Filed]) -> bool
+    ensures { result ≡ spec.is_first id frames.now }
+{
+    match frames.first() {
+        Some(filed) => filed.frame.id == id,
+        None => false,
+    }
+}
+
+// Whether the first of some frames has the letter after that of an id.
+fn leads_on(id: FrameId, rest: &[Filed]) -> bool
+    ensures { result ≡ spec.leads_on id rest.now }
+{
+    match id.following() {
+        Some(next) => is_first(next, rest),
+        None => false,
+    }
+}
+
+// Writes a frame that comes before these.
+fn push_filed(out: &mut Vec<u8>, filed: &Filed, rest: &[Filed]) -> Result<(), AllocError>
+    ensures { OnOk result (out.new.items ≡ out.old.items ++ spec.filed_lines filed.now rest.now) }
+{
+    push_frame(out, &filed.frame, leads_on(filed.frame.id, rest))
+}
+
+// Writes frames, up to the first that ends too late.
+fn push_frames(out: &mut Vec<u8>, frames: &[Filed]) -> Result<(), BaseTextFault>
+    ensures text { OnOk result (out.new.items ≡ out.old.items ++ spec.frames_text frames.now) }
+    ensures within { OnOk result (spec.first_over (length out.old.items) frames.now ≡ None) }
+    ensures fault { IfErr result (spec.IsNoText (spec.first_over (length out.old.items) frames.now)) }
+{
+    let mut rest = frames;
+    while let Some((filed, more)) = rest.split_first() {
+        match push_filed(out, filed, more) {
+            Ok(()) => {}
+            Err(_) => return Err(BaseTextFault::Memory),
+        }
+        if out.len() > MOST_TEXT {
+            return Err(BaseTextFault::TooLong(filed.file));
+        }
+        rest = more;
+    }
+    Ok(())
+}
+
+/// The text of the base of some frames, in their order: no frames make no text. The entry page is the one that is asked for, else
+/// that of the first frame. A frame has `next` if the one after it has the following letter.
+pub fn base_text(
+    alloc: Global,
+    asked: Option<PageNo>,
+    frames: &[Filed],
+) -> Result<Vec<u8>, BaseTextFault>
+    ensures text { IfOk result (λ text. spec.IsBaseText asked frames.now text.items) }
+    ensures fault { IfErr result (spec.IsNoText (spec.over_most asked frames.now)) }
+{
+    let mut out = Vec::new(alloc);
+    let Some(first) = frames.first() else {
+        return Ok(out);
+    };
+    match push_entry(&mut out, asked.unwrap_or(first.frame.id.page)) {
+        Ok(()) => {}
+        Err(_) => return Err(BaseTextFault::Memory),
+    }
+    match push_frames(&mut out, frames) {
+        Ok(()) => Ok(out),
+        Err(fault) => Err(fault),
+    }
+}
