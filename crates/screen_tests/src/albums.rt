@@ -54,10 +54,10 @@ fn a_file_gives_a_frame_or_a_fault(_rt: HostRuntime) -> Result<(), Fail> {
 fn a_file_has_a_most(rt: HostRuntime) -> Result<(), Fail> {
     let mut bytes = Vec::new(rt.alloc());
     bytes.resize(MOST_SCREEN.saturating_add(1), 0x0c)?;
-    same(
-        file_frame(FileKind::Stream, "4a", bytes.as_slice()).err(),
-        Some(ScreenFault::TooLong),
-    )
+    match file_frame(FileKind::Stream, "4a", bytes.as_slice()) {
+        Ok(_) => Err(Fail::from("a frame")),
+        Err(fault) => same(fault, ScreenFault::TooLong),
+    }
 }
 
 #[test]
