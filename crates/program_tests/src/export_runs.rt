@@ -4,9 +4,10 @@ ghost use Rattle.std.specs.Prelude.{◌≡◌, false};
 
 use crate::expected::{ALL, sink, source, taken};
 use audit_report::RunFault;
-use frame_records::Groups;
+use frame_records::{Base, Groups};
 use page_ids::FrameId;
 use pageaudit::{Gallery, Status, read_exported, run_export, status_of};
+use std::alloc::Global;
 use std::test::Fail;
 use test_support::{same, same_in};
 
@@ -38,34 +39,49 @@ const SCREENS: [(&str, bool, &str, &str, &str); 3] = [
     ),
 ];
 
-#[test]
-fn each_frame_has_its_screen(rt: HostRuntime) -> Result<(), Fail> {
-    let alloc = rt.alloc();
-    let base = read_exported(alloc, &mut source(TEXT, 7, ALL)).map_err(|_| "base")?;
-    let groups = Groups::none();
-    let gallery = Gallery::of(alloc, &base, &groups)?;
+// Writes a frame's screen to a device with this room: whether it is Clear, the status, the flushes, and how much of the text was taken.
+fn exported(
+    alloc: Global,
+    gallery: &Gallery<'_>,
+    id: FrameId,
+    text: &str,
+    room: usize,
+) -> (bool, u8, u32, usize) {
+    let mut out = sink(alloc, text, room);
+    let run = run_export(alloc, gallery, id, &mut out);
+    let is_clear = run == Ok(Status::Clear);
+    (is_clear, status_of(&run), out.flushes, taken(&out, text))
+}
+
+fn screens_are_right(alloc: Global, gallery: &Gallery<'_>) -> Result<(), Fail> {
     for (name, is_reached, top, first, second) in SCREENS {
         let id = FrameId::read(name)?;
         same_in(name, gallery.is_reached(id), is_reached)?;
         let text = format!(in alloc; "{top}{first:<40}{second:<880}")?;
-        for (room, status, flushes, wrote) in [
-            (ALL, 0, 1, 960),
-            (0, 3, 0, 0),
-            (9, 3, 0, 9),
-            (960, 3, 1, 960),
+        for (room, wanted) in [
+            (ALL, (true, 0, 1, 960)),
+            (0, (false, 3, 0, 0)),
+            (9, (false, 3, 0, 9)),
+            (960, (false, 3, 1, 960)),
         ] {
-            let mut out = sink(alloc, text.as_str(), room);
-            let run = run_export(alloc, &gallery, id, &mut out);
-            same_in((name, room), run == Ok(Status::Clear), room == ALL)?;
-            same_in((name, room), status_of(&run), status)?;
-            same_in(
-                (name, room),
-                (out.flushes, taken(&out, text.as_str())),
-                (flushes, wrote),
-            )?;
+            let got = exported(alloc, gallery, id, text.as_str(), room);
+            same_in((name, room), got, wanted)?;
         }
     }
     Ok(())
+}
+
+fn whole_base(alloc: Global) -> Option<Base> {
+    read_exported(alloc, &mut source(TEXT, 7, ALL)).ok()
+}
+
+#[test]
+fn each_frame_has_its_screen(rt: HostRuntime) -> Result<(), Fail> {
+    let alloc = rt.alloc();
+    let base = whole_base(alloc).ok_or("base")?;
+    let groups = Groups::none();
+    let gallery = Gallery::of(alloc, &base, &groups)?;
+    screens_are_right(alloc, &gallery)
 }
 
 #[test]

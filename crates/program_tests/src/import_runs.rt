@@ -68,16 +68,14 @@ fn the_entry_page_may_be_named(rt: HostRuntime) -> Result<(), Fail> {
     let mut album = Album::new(alloc);
     let news = rows(alloc, "1 News")?;
     same(
-        take(alloc, news.as_str(), ALL, "4a.m7", &mut album).0,
-        Ok(()),
+        take(alloc, news.as_str(), ALL, "4a.m7", &mut album),
+        (Ok(()), 2, 1),
     )?;
     let text =
         "entry = 9\n\n[[frame]]\nid = \"4a\"\nroutes = { } # keys shown: 1\nrows = [\n    \"1 News\",\n]\n";
     let mut out = sink(alloc, text, ALL);
-    same(
-        run_import(alloc, &album, PageNo::new(9), &mut out),
-        Ok(ImportStatus::Printed),
-    )?;
+    let run = run_import(alloc, &album, PageNo::new(9), &mut out);
+    same(run == Ok(ImportStatus::Printed), true)?;
     same(taken(&out, text), text.len())
 }
 
