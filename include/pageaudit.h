@@ -1,8 +1,8 @@
 /* The proved check of viewdata page bases, for C99 and C++. Link with -lpageaudit.
 
-   Call the functions at the end of this file: pageaudit_check_base, pageaudit_check_change, pageaudit_audit_base,
-   pageaudit_lint_base, pageaudit_lint_base_json, pageaudit_show_frame and pageaudit_describe. Each does what the program `pageaudit` does, of texts in memory, and
-   answers the program's exit status.
+   The calls: pageaudit_check, pageaudit_change, pageaudit_audit, pageaudit_lint, pageaudit_lint_json, pageaudit_show and
+   pageaudit_status_text. Each does what the program `pageaudit` does, of texts in memory, and answers the program's exit
+   status.
 
    - No call keeps anything, reads a file, or ends the program, and nothing has to be freed. Several threads may call at
      once, each with its own buffer.
@@ -10,7 +10,7 @@
    - A buffer may not overlap another argument. Two texts may be the same bytes.
    - A buffer gets what the program prints, as far as it fits, with its line feeds and without a 0 at its end; the bytes of
      the buffer after it stay as they were. *length is the whole length. If that is more than the room, nothing else is
-     wrong: call again with so much room. */
+     wrong: call again with that much room. */
 #ifndef PAGEAUDIT_H
 #define PAGEAUDIT_H
 
@@ -20,7 +20,7 @@
 
 #define PAGEAUDIT_VERSION "1.0.0"
 
-/* Room for each line that pageaudit_check_base and pageaudit_check_change print. */
+/* Room for each line that pageaudit_check and pageaudit_change print. */
 #define PAGEAUDIT_LINE_ROOM 128
 
 #ifdef __cplusplus
@@ -72,7 +72,8 @@ struct pageaudit_look {
     uint8_t height;
 };
 
-/* The library's own calls, which the functions below make. No pointer is null here, even if its length is 0. */
+/* The calls as the library has them, with each text as two arguments. Below, each gets a function that takes texts, a policy
+   and null pointers, and the call's name: a program calls that one. */
 uint32_t pageaudit_check(const void *base, size_t base_length, const void *cert, size_t cert_length, uint32_t ceiling,
     uint32_t keyings, const void *groups, size_t groups_length, void *line, size_t room, size_t *length);
 uint32_t pageaudit_change(const void *old_base, size_t old_base_length, const void *old_cert, size_t old_cert_length,
@@ -231,6 +232,15 @@ static inline size_t pageaudit_describe(uint32_t status, char *text, size_t room
     char none;
     return pageaudit_status_text(status, room == 0 ? &none : text, room);
 }
+
+/* The functions above under the names of their calls. Their own names are those of version 1.0.0. */
+#define pageaudit_check pageaudit_check_base
+#define pageaudit_change pageaudit_check_change
+#define pageaudit_audit pageaudit_audit_base
+#define pageaudit_lint pageaudit_lint_base
+#define pageaudit_lint_json pageaudit_lint_base_json
+#define pageaudit_show pageaudit_show_frame
+#define pageaudit_status_text pageaudit_describe
 
 #ifdef __cplusplus
 }

@@ -3,6 +3,15 @@
 #include <pageaudit.h>
 #include <stdio.h>
 
+/* Here the names of the calls are those of the stand-ins. */
+#undef pageaudit_check
+#undef pageaudit_change
+#undef pageaudit_audit
+#undef pageaudit_lint
+#undef pageaudit_lint_json
+#undef pageaudit_show
+#undef pageaudit_status_text
+
 static void show_text(const void *bytes, size_t length)
 {
     if (bytes == NULL)

@@ -89,15 +89,15 @@ static struct answer make(const struct call *call, char *buffer, size_t room)
     struct answer answer;
     answer.length = 12345;
     if (strcmp(call->name, "check") == 0)
-        answer.status = pageaudit_check_base(t[0], t[1], &call->policy, buffer, room, &answer.length);
+        answer.status = pageaudit_check(t[0], t[1], &call->policy, buffer, room, &answer.length);
     else if (strcmp(call->name, "change") == 0)
-        answer.status = pageaudit_check_change(t[0], t[1], t[2], t[3], &call->policy, buffer, room, &answer.length);
+        answer.status = pageaudit_change(t[0], t[1], t[2], t[3], &call->policy, buffer, room, &answer.length);
     else if (strcmp(call->name, "audit") == 0)
-        answer.status = pageaudit_audit_base(t[0], &call->policy, buffer, room, &answer.length);
+        answer.status = pageaudit_audit(t[0], &call->policy, buffer, room, &answer.length);
     else if (strcmp(call->name, "lint") == 0)
-        answer.status = pageaudit_lint_base(pageaudit_text_of("x.toml", 6), t[0], &call->policy, buffer, room, &answer.length);
+        answer.status = pageaudit_lint(pageaudit_text_of("x.toml", 6), t[0], &call->policy, buffer, room, &answer.length);
     else
-        answer.status = pageaudit_lint_base_json(pageaudit_text_of("x.toml", 6), t[0], &call->policy, buffer, room, &answer.length);
+        answer.status = pageaudit_lint_json(pageaudit_text_of("x.toml", 6), t[0], &call->policy, buffer, room, &answer.length);
     return answer;
 }
 
@@ -176,27 +176,27 @@ static void odd(void)
     char *most, words[16];
     for (i = 0; i < sizeof groups / sizeof *groups; i++) {
         policy.groups = groups[i];
-        printf("groups %d", pageaudit_check_base(none, none, &policy, NULL, 0, &length));
+        printf("groups %d", pageaudit_check(none, none, &policy, NULL, 0, &length));
         printf(" %lu\n", (unsigned long)length);
     }
     policy.groups = NULL;
     for (i = 0; i < sizeof ceilings / sizeof *ceilings; i++) {
         policy.ceiling = ceilings[i];
-        printf("ceiling %d", pageaudit_audit_base(none, &policy, NULL, 0, NULL));
+        printf("ceiling %d", pageaudit_audit(none, &policy, NULL, 0, NULL));
         policy.ceiling = 0;
         policy.keyings = ceilings[i];
-        printf(" %d\n", pageaudit_lint_base(none, none, &policy, NULL, 0, NULL));
+        printf(" %d\n", pageaudit_lint(none, none, &policy, NULL, 0, NULL));
         policy.keyings = 65535;
     }
     most = guarded(NULL, size + 1, PROT_READ | PROT_WRITE);
     memset(most, '\n', size + 1);
-    printf("%d", pageaudit_check_base(pageaudit_text_of(most + 1, size), none, &policy, words, sizeof words, &length));
+    printf("%d", pageaudit_check(pageaudit_text_of(most + 1, size), none, &policy, words, sizeof words, &length));
     printf(" %.16s\n", words);
-    printf("%d", pageaudit_check_base(pageaudit_text_of(most, size + 1), none, &policy, words, sizeof words, &length));
+    printf("%d", pageaudit_check(pageaudit_text_of(most, size + 1), none, &policy, words, sizeof words, &length));
     printf(" %.16s\n", words);
-    printf("%d\n", pageaudit_check_change(none, none, none, none, &policy, NULL, 0, NULL));
+    printf("%d\n", pageaudit_change(none, none, none, none, &policy, NULL, 0, NULL));
     for (i = 0; i < 6; i++) {
-        length = pageaudit_describe((uint32_t)i, words, sizeof words);
+        length = pageaudit_status_text((uint32_t)i, words, sizeof words);
         printf("%.*s.\n", (int)length, words);
     }
 }
@@ -207,7 +207,7 @@ static void show(struct pageaudit_text base, const char *frame, const char *grou
     uint8_t *codes = (uint8_t *)guarded(NULL, PAGEAUDIT_CELLS, PROT_READ | PROT_WRITE);
     struct pageaudit_look *looks = (struct pageaudit_look *)(void *)guarded(NULL, size, PROT_READ | PROT_WRITE);
     char line[PAGEAUDIT_LINE_ROOM];
-    enum pageaudit_status status = pageaudit_show_frame(base, frame, groups, codes, looks, line, sizeof line, &length);
+    enum pageaudit_status status = pageaudit_show(base, frame, groups, codes, looks, line, sizeof line, &length);
     printf("%d\n%.*s", status, (int)length, line);
     if (status != PAGEAUDIT_CLEAR)
         return;
@@ -224,7 +224,7 @@ static void print_time(struct pageaudit_text base, struct pageaudit_text cert)
     int i;
     for (i = 0; i < 9; i++) {
         clock_t begun = clock(), took;
-        if (pageaudit_check_base(base, cert, &policy, NULL, 0, NULL) != PAGEAUDIT_CLEAR)
+        if (pageaudit_check(base, cert, &policy, NULL, 0, NULL) != PAGEAUDIT_CLEAR)
             exit(1);
         took = clock() - begun;
         least = i == 0 || took < least ? took : least;

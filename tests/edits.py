@@ -1,5 +1,6 @@
 """The functions of the crates, and their edits: what tests/contracts and tests/plain-edits share."""
 
+import itertools
 import re
 from dataclasses import dataclass, field
 from pathlib import Path
@@ -8,7 +9,7 @@ CRATES = Path(__file__).resolve().parents[1] / "crates"
 
 OWNER = re.compile(r"(?:pub )?(?:impl(?:<.*?>)? (?:(?P<trait>\w+).* for )?|trait )(?P<type>\w+)")
 FUNCTION = re.compile(r'( *)(pub )?(?:pub\(crate\) )?(?:extern "C" )?fn (\w+)')
-CLAUSE = re.compile(r" *ensures (?:(\w+) )?\{ (.*?)(?: \})?$")
+CLAUSE = re.compile(r" *ensures (?:(\w+) )?\{ (.*)")
 
 
 @dataclass
@@ -23,6 +24,7 @@ class Function:
     begin: int
     end: int = 0
     clauses: list = field(default_factory=list)
+    doc: str = ""
 
     @property
     def title(self):
@@ -36,6 +38,22 @@ class Function:
         return self.name if self.module == "lib" else f"{self.module}::{self.name}"
 
 
+def doc_above(lines):
+    """The documentation that the lines end with, as one line."""
+    above = list(itertools.takewhile(lambda line: re.match(r" *(///|#)", line), reversed(lines)))
+    return " ".join(line.strip()[4:] for line in reversed(above) if line.strip().startswith("///"))
+
+
+def clause_text(lines):
+    """The text of the clause that begins in the first line, whose braces may end some lines below."""
+    text = ""
+    for line in lines:
+        text = f"{text} {line.strip()}".strip()
+        if text.count("{") <= text.count("}"):
+            break
+    return CLAUSE.match(text)[2].removesuffix("}").rstrip()
+
+
 def functions(path):
     """The functions of a file, in their order."""
     lines = path.read_text("utf-8").split("\n")
@@ -47,8 +65,9 @@ def functions(path):
             owner = "", ""
         if header := FUNCTION.match(line):
             found.append(Function(path.stem, *(owner if header[1] else ("", "")), header[3], bool(header[2]), number))
+            found[-1].doc = doc_above(lines[:number])
         elif found and (clause := CLAUSE.match(line)):
-            found[-1].clauses.append((clause[1], clause[2]))
+            found[-1].clauses.append((clause[1], clause_text(lines[number:])))
     for one, following in zip(found, found[1:] + [None]):
         one.end = following.begin if following else len(lines)
     return found

@@ -91,8 +91,9 @@ def sections(root):
 
 
 def before(root):
-    """The lines of the list before the sections, and the text of the verdict."""
+    """The lines of the list before the sections, the text of the verdict, and what was asked."""
     (body,) = children(root, "body")
     lines = [text_of(line) for list in children(body, "ul") if list.get("class") == "faults" for line in list if plain(line) == "li"]
     verdict = next(text_of(p) for p in root.iter() if plain(p) == "p" and (p.get("class") or "").startswith("verdict"))
-    return lines, verdict
+    (header,) = children(body, "header")
+    return lines, verdict, text_of(children(header, "p")[-1])

@@ -78,6 +78,21 @@ def sections(base, policy, page=None, most=None):
     return [section(base, policy, shown, scripts, ranks, base.frames[id]) for id in sorted(shown)]
 
 
+def counted(number, thing):
+    return f"{number} {thing}" if number == 1 else f"{number} {thing}s"
+
+
+def asked(policy):
+    """For which caller the base was audited, and the limits that aren't the widest."""
+    ceiling, keyings, groups = policy
+    words = [f"For a caller in {' '.join(['groups', *map(str, groups)]) if groups else 'no groups'}"]
+    if ceiling != 9999:
+        words.append(f"at most {ceiling}p a frame")
+    if keyings != 65535:
+        words.append(f"at most {counted(keyings, 'key')} back")
+    return ", ".join(words)
+
+
 def verdict(base, policy):
     """The faults that come before the sections, and how many faults there are in all; 0 of a base that is certified."""
     groups = policy[2]

@@ -13,7 +13,7 @@ use Rattle.terminal_codes.specs.Writes.{is_service}
 use Rattle.abstract_paint.specs.declared.painting.Painted.{Painted}
 use Rattle.abstract_paint.specs.declared.painting.Painted.TheVariants.{Clean, Touches}
 
--- Abstract cursors, and what they stand for.
+-- Abstract cursors, and what they represent.
 
 -- the place has the position
 abbrev pub PlaceStands : Place → ℕ → Type 0

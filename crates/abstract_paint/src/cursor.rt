@@ -17,11 +17,11 @@ pub enum Place {
 /// Whether an escape is pending when painting ends.
 #[derive(Debug, Clone, Copy, PartialEq, Eq)]
 pub enum Pend {
-    /// It isn't.
+    /// No escape is pending.
     No,
-    /// It is.
+    /// An escape is pending.
     Yes,
-    /// Both can be.
+    /// An escape may or may not be pending.
     Maybe,
 }
 

@@ -73,6 +73,6 @@ fault_words run.ReadNewCert = codes "new certificate: read failed"
 fault_words (run.Write wrote) = (codes "output: write failed after " ++ decimal wrote) ++ codes " bytes"
 fault_words run.Memory = codes "memory refused"
 
--- the one line that tells a fault
+-- the one line that reports a fault
 abbrev pub fault_text : RunFault → List ℕ
 fault_text fault = line (fault_words fault)

@@ -1,4 +1,4 @@
--- The printed lines. Each ends with a byte 10; ids and pages stand in their own text, numbers in decimal.
+-- The printed lines. Each ends with a byte 10; ids and pages are in their own text, numbers in decimal.
 use Rattle.std.specs.Prelude.{ℕ, Bool, true, false, List, [], ◌∷◌, ◌++◌, codes, decimal}
 use Rattle.page_ids.specs.Ids.{Id, page_text, frame_text}
 use Rattle.session_machine.specs.declared.reply.Reply.{Reply}

@@ -145,7 +145,7 @@ fn push_fault(out: &mut Vec<u8>, fault: &RunFault) -> Result<(), AllocError>
     }
 }
 
-/// The one line that tells a fault on standard error.
+/// The one line that reports a fault on standard error.
 pub fn fault_text(alloc: Global, fault: &RunFault) -> Result<Vec<u8>, AllocError>
     ensures { IfOk result (λ text. text.items ≡ fault_text fault.now) }
 {

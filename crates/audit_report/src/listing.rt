@@ -133,7 +133,8 @@ fn write_reached<S: Sink>(
 // Writes the line of a frame after a text if the frame isn't reached.
 fn push_other(out: &mut Vec<u8>, form: ListForm, reached: &Reached, frame: &Frame)
     requires room { vec_len out.old + 256 ≤ vec_capacity out.old }
-    ensures items { (found : List Entry) → Knows found reached.now → out.new.items ≡ out.old.items ++ unreached_lines form found (frame.now ∷ []) }
+    ensures items { (found : List Entry) → Knows found reached.now → out.new.items ≡ out.old.items ++
+        unreached_lines form found (frame.now ∷ []) }
     ensures len { vec_len out.new ≤ vec_len out.old + 256 }
     ensures capacity { vec_capacity out.old ≤ vec_capacity out.new }
 {
@@ -160,10 +161,12 @@ fn write_others<S: Sink>(
     ensures count { IfOk result (λ n. n + vec_len kept.new ≤ 2 ^ 41) }
     ensures taken { (start : Seen) (before : List ℕ) (found : List Entry) → Knows found reached.now
         → IsOnItsWay start (S.seen sink.old) kept.old.items wrote before
-        → IfOk result (λ n. IsOnItsWay start (S.seen sink.new) kept.new.items n (before ++ unreached_lines form found frames.now)) }
+        → IfOk result (λ n. IsOnItsWay start (S.seen sink.new) kept.new.items n (before ++
+        unreached_lines form found frames.now)) }
     ensures part { (start : Seen) (before : List ℕ) (found : List Entry) → Knows found reached.now
         → IsOnItsWay start (S.seen sink.old) kept.old.items wrote before
-        → IfErr result (λ fault. WrotePart start (S.seen sink.new) (before ++ unreached_lines form found frames.now) fault.wrote) }
+        → IfErr result (λ fault. WrotePart start (S.seen sink.new) (before ++
+        unreached_lines form found frames.now) fault.wrote) }
 {
     let mut taken = wrote;
     for frame in frames {
@@ -195,7 +198,8 @@ fn write_rest<S: Sink>(
         → OnOk result (WroteWhole start (S.seen sink.new) (before ++ unreached_lines form found frames.now)) }
     ensures part { (start : Seen) (before : List ℕ) (found : List Entry) → Knows found reached.now
         → IsOnItsWay start (S.seen sink.old) kept.old.items wrote before
-        → IfErr result (λ fault. WrotePart start (S.seen sink.new) (before ++ unreached_lines form found frames.now) fault.wrote) }
+        → IfErr result (λ fault. WrotePart start (S.seen sink.new) (before ++
+        unreached_lines form found frames.now) fault.wrote) }
 {
     match write_others(sink, kept, wrote, form, reached, frames) {
         Ok(wrote) => write_last(sink, kept.as_slice(), wrote),
@@ -211,7 +215,8 @@ impl<'a> FrameLines<'a> {
         base: &'a Base,
         groups: &'a Groups,
     ) -> Result<FrameLines<'a>, AllocError>
-        ensures { IfOk result (λ lines. AreAllLines groups.now form base.now (all_lines lines.form lines.base lines.found)) }
+        ensures { IfOk result (λ lines.
+            AreAllLines groups.now form base.now (all_lines lines.form lines.base lines.found)) }
     {
         let survey = Survey::of(alloc, base, groups)?;
         let reached = Reached::of(alloc, survey.found().as_slice())?;
@@ -230,8 +235,11 @@ impl<'a> FrameLines<'a> {
 
     fn write<S: Sink>(self, sink: &mut S) -> Result<(), WriteFault>
         requires { (S.seen sink.old).failed ≡ false }
-        ensures whole { OnOk result (WroteWhole (S.seen sink.old) (S.seen sink.new) (all_lines self.entry.form self.entry.base self.entry.found)) }
-        ensures part { IfErr result (λ fault. WrotePart (S.seen sink.old) (S.seen sink.new) (all_lines self.entry.form self.entry.base self.entry.found) fault.wrote) }
+        ensures whole { OnOk result (WroteWhole (S.seen sink.old) (S.seen sink.new)
+            (all_lines self.entry.form self.entry.base self.entry.found)) }
+        ensures part { IfErr result (λ fault.
+            WrotePart (S.seen sink.old) (S.seen sink.new)
+            (all_lines self.entry.form self.entry.base self.entry.found) fault.wrote) }
     {
         let FrameLines {
             form,
@@ -278,7 +286,8 @@ impl<'a> Listing<'a> {
     pub fn write<S: Sink>(self, sink: &mut S) -> Result<(), WriteFault>
         requires { (S.seen sink.old).failed ≡ false }
         ensures whole { OnOk result (WroteWhole (S.seen sink.old) (S.seen sink.new) self.entry.text) }
-        ensures part { IfErr result (λ fault. WrotePart (S.seen sink.old) (S.seen sink.new) self.entry.text fault.wrote) }
+        ensures part { IfErr result (λ fault.
+            WrotePart (S.seen sink.old) (S.seen sink.new) self.entry.text fault.wrote) }
     {
         match self.lines {
             Lines::Entry(text) => write_whole(sink, text.as_slice()),

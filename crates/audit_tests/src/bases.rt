@@ -10,7 +10,7 @@ pub fn base_of(alloc: Global, text: &str) -> Result<Base, Fail> {
     Ok(base_read(alloc, text.as_bytes())?)
 }
 
-// So many frames `a` on pages in steps from 0 on, of which each leads by route 1 to the following one, and by route 0 to page
+// This many frames `a` on pages in steps from 0 on, of which each leads by route 1 to the following one, and by route 0 to page
 // 0. Route 5 of the last leads to a page of its own.
 pub fn chain(alloc: Global, count: u32, step: u32, last: Option<PageNo>) -> Result<Base, Fail> {
     let entry = PageNo::new(0).ok_or("page")?;

@@ -65,7 +65,7 @@ const TAKEN: [Taken; 12] = [
         line: "REFUSED K4 EntryNotCovered\n",
         taken: (2, 0),
     },
-    // The entry frame, the first two rows, and 2 for the frame that isn't there.
+    // The entry frame, the first two rows, and 2 for the missing frame.
     Taken {
         base: ("1231b", "1232a"),
         cert: SAME,

@@ -70,13 +70,13 @@ fn lists_each_reached_frame_with_its_rank(rt: HostRuntime) -> Result<(), Fail> {
         ("1231a", Some(1), Some(0), one),
         ("1231b", None, Some(1), Some(Key::Next)),
     ];
-    let told = [
+    let got = [
         are_listed(rt.alloc(), false, back, &nobody, &listed)?,
         are_listed(rt.alloc(), false, away, &nobody, &cut_off)?,
         are_listed(rt.alloc(), true, back, &nobody, &listed[..2])?,
         are_listed(rt.alloc(), true, back, &member, &listed)?,
     ];
-    same(told, [true; 4])
+    same(got, [true; 4])
 }
 
 #[test]

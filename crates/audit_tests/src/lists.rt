@@ -1,4 +1,4 @@
-//! What is reported of audited bases; the texts that the program prints stand in `tests/cases`.
+//! What is reported of audited bases; the texts that the program prints are in `tests/cases`.
 
 use crate::bases::base_of;
 use crate::policies::policy;
@@ -21,8 +21,8 @@ fn the_faults_alone_are_those_of_the_audit(rt: HostRuntime) -> Result<(), Fail> 
     for (text, lines) in rows {
         let base = base_of(rt.alloc(), text)?;
         let outcome = Outcome::Faulty(faults(rt.alloc(), &base, &policy)?);
-        let told = report(rt.alloc(), &outcome)?;
-        same_in(lines, told.as_slice(), lines.as_bytes())?;
+        let got = report(rt.alloc(), &outcome)?;
+        same_in(lines, got.as_slice(), lines.as_bytes())?;
     }
     Ok(())
 }
@@ -61,10 +61,10 @@ fn a_certificate_is_reported_as_its_text(rt: HostRuntime) -> Result<(), Fail> {
     let largest = largest_cert(rt.alloc())?;
     for (text, bytes) in [(CERT, 81), (largest.as_str(), 1_114_143)] {
         let outcome = Outcome::Certified(cert_read(rt.alloc(), text.as_bytes())?);
-        let told = report(rt.alloc(), &outcome)?;
+        let got = report(rt.alloc(), &outcome)?;
         same_in(
             bytes,
-            (told.len(), told.as_slice() == text.as_bytes()),
+            (got.len(), got.as_slice() == text.as_bytes()),
             (bytes, true),
         )?;
     }

@@ -1,4 +1,4 @@
-//! Printed lines, beside the words that the program's formats give; most of them stand in `tests/cases`.
+//! Printed lines, beside the words that the program's formats give; most of them are in `tests/cases`.
 
 use audit_report::{RunFault, change_text, entry_text, fault_text, verdict_text, walk_text};
 use cert_text::ReadFault;

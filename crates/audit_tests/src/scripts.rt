@@ -69,8 +69,8 @@ fn replay_tells_the_last_reply_and_the_place(rt: HostRuntime) -> Result<(), Fail
     let text = DEMO.replacen(rt.alloc(), "lead", "group = 7\nlead", 1)?;
     let base = base_of(rt.alloc(), text.as_str())?;
     for (groups, keys, end) in rows {
-        let told = replayed(rt.alloc(), &base, groups, keys)?;
-        same_in(keys.len(), told, end)?;
+        let got = replayed(rt.alloc(), &base, groups, keys)?;
+        same_in(keys.len(), got, end)?;
     }
     Ok(())
 }

@@ -5,7 +5,7 @@ use Rattle.std.proofs.lemmas.Bool.{or_parts}
 use Rattle.std.proofs.lemmas.Bool.Decides.{nat_tests}
 use Rattle.indexmap.specs.IndexSet.{insert_key, insert_all}
 use Rattle.page_ids.specs.Ids.{Id, id_eq}
-use Rattle.base_map.specs.Edges.{has_id}
+use Rattle.finder.specs.Finds.{has_id}
 
 turned : (a b : Id) → id_eq a b ≡ false → id_eq b a ≡ false
 turned a b h = grind (arith, nat_tests)

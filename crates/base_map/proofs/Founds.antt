@@ -9,8 +9,8 @@ use Rattle.frame_records.specs.Bases.{BaseView}
 use Rattle.finder.specs.declared.found.Discovered.{Discovered}
 use Rattle.finder.specs.Finds.{FindsReached}
 use Rattle.base_map.specs.Map.{ids_of, AreReached}
-use Rattle.base_map.specs.Edges.{has_id}
-use Rattle.base_map.proofs.Inserts.{has_all}
+use Rattle.finder.specs.Finds.{has_id}
+use Rattle.finder.proofs.Inserts.{has_all}
 
 of_map : (found : List Discovered) (id : Id) → has_id (map (λ d. d.id) found) id ≡ list_any (λ (d : Discovered). id_eq id d.id) found
 of_map [] id = refl

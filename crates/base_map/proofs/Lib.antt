@@ -1,12 +1,6 @@
 pub mod Runs
-pub mod Inserts
 pub mod Founds
-pub mod ExitSteps
-pub mod LostSteps
+pub mod WaySteps
 pub mod Among
 pub mod Distinct
 pub mod EdgeLaws
-pub mod HasIds
-pub mod Spans
-pub mod Leading
-pub mod Neighbouring

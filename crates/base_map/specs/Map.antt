@@ -6,8 +6,8 @@ use Rattle.page_ids.specs.Ids.{Id, id_eq}
 use Rattle.frame_records.specs.declared.frame.Frame.{Frame}
 use Rattle.frame_records.specs.Bases.{BaseView, frame_at}
 use Rattle.finder.specs.declared.found.Discovered.{Discovered}
-use Rattle.finder.specs.Finds.{IsReached}
-use Rattle.base_map.specs.Edges.{edge_lines_of, lost_lines, MapView, has_id, shown, exits_of, targets_of, keys_to}
+use Rattle.finder.specs.Finds.{IsReached, has_id}
+use Rattle.base_map.specs.Edges.{edge_lines_of, lost_lines, MapView, shown, targets_of, keys_to}
 use Rattle.base_map.specs.Nodes.{cluster_lines}
 use Rattle.page_ids.specs.declared.way.Way.{Way}
 use Rattle.page_ids.specs.Ways.{way_key}
@@ -45,14 +45,14 @@ pub record IsMap (base : BaseView) (caller : List ℕ) (part : Option (List Id))
 
 -- a frame has one edge for each id that one of its ways seeks, with exactly the keys that seek it
 pub record AreEdges (f : Frame) : Type 0 where
-  pub once : IsDistinct id_eq (targets_of (exits_of f))
-  pub ends : (to : Id) → (has_id (targets_of (exits_of f)) to ≡ true) ↔ ((way : Way) × (sought f way ≡ Some to))
-  pub keys : (to : Id) (way : Way) → Contains (keys_to (exits_of f) to) (way_key way) ↔ (sought f way ≡ Some to)
+  pub once : IsDistinct id_eq (targets_of f)
+  pub ends : (to : Id) → (has_id (targets_of f) to ≡ true) ↔ ((way : Way) × (sought f way ≡ Some to))
+  pub keys : (to : Id) (way : Way) → Contains (keys_to f to) (way_key way) ↔ (sought f way ≡ Some to)
 
 -- to a frame that is found, these are the keys of the ways that lead there
 abbrev pub KeysLeadOn : Frame → Type 0
 KeysLeadOn f = (caller : List ℕ) (base : BaseView) (to : Id) (way : Way) (price : ℕ) → frame_at base f.id ≡ Some f
-    → seek caller base to ≡ found.Found price → Contains (keys_to (exits_of f) to) (way_key way) ↔ Leads caller base f.id way to
+    → seek caller base to ≡ found.Found price → Contains (keys_to f to) (way_key way) ↔ Leads caller base f.id way to
 
 abbrev pub EdgesAreWays : Type 0
 EdgesAreWays = (f : Frame) → AreEdges f × KeysLeadOn f

@@ -1,5 +1,6 @@
 ghost use Rattle.std.specs.Prelude.{◌≡◌};
-ghost use Rattle.base_map.specs.Edges.{has_id, is_lacked, has_node};
+ghost use Rattle.finder.specs.Finds.{has_id};
+ghost use Rattle.base_map.specs.Edges.{is_lacked, has_node};
 
 use crate::part::Part;
 use frame_records::{Base, Groups};

@@ -6,23 +6,24 @@ ghost use Rattle.base_map.specs.Edges.{shown};
 ghost use Rattle.base_map.specs.Edges as spec;
 
 use crate::drawing::Drawing;
-use crate::exits::{Exit, exits_of, targets_of};
 use crate::lost::push_name;
+use crate::targets::targets_of;
 use frame_records::Frame;
-use page_ids::{FrameId, push_id, push_key};
+use page_ids::{FrameId, Way, push_id, push_key};
 use std::alloc::{AllocError, Global};
 
-// The keys of the exits that seek an id, with a space between them.
-fn push_keys_to(out: &mut Vec<u8>, exits: &[Exit], to: FrameId) -> Result<(), AllocError>
-    ensures { OnOk result (out.new.items ≡ out.old.items ++ spec.keys_label true exits.now to) }
+// The keys of a frame's ways that seek an id, with a space between them.
+fn push_keys_to(out: &mut Vec<u8>, frame: &Frame, to: FrameId) -> Result<(), AllocError>
+    ensures { OnOk result (out.new.items ≡ out.old.items ++ spec.spaced true (spec.keys_to frame.now to)) }
 {
     let mut is_first = true;
-    for exit in exits {
-        if exit.to == to {
+    for place in 0..Way::COUNT {
+        let way = Way::at(place);
+        if frame.sought(way) == Some(to) {
             if !is_first {
                 out.push(b' ')?;
             }
-            push_key(out, exit.key)?;
+            push_key(out, way.key())?;
             is_first = false;
         }
     }
@@ -30,36 +31,29 @@ fn push_keys_to(out: &mut Vec<u8>, exits: &[Exit], to: FrameId) -> Result<(), Al
 }
 
 impl<'a> Drawing<'a> {
-    fn push_edge(
-        &self,
-        out: &mut Vec<u8>,
-        from: FrameId,
-        exits: &[Exit],
-        to: FrameId,
-    ) -> Result<(), AllocError>
-        ensures { OnOk result (out.new.items ≡ out.old.items ++ spec.edge_line self.now from exits.now to) }
+    fn push_edge(&self, out: &mut Vec<u8>, frame: &Frame, to: FrameId) -> Result<(), AllocError>
+        ensures { OnOk result (out.new.items ≡ out.old.items ++ spec.edge_line self.now frame.now to) }
     {
         out.extend_from_slice(b"  \"")?;
-        push_id(out, from)?;
+        push_id(out, frame.id)?;
         out.extend_from_slice(b"\" -> \"")?;
         push_name(out, self.base, to)?;
         out.extend_from_slice(b"\" [label=\"")?;
-        push_keys_to(out, exits, to)?;
+        push_keys_to(out, frame, to)?;
         out.extend_from_slice(b"\"]\n")
     }
 
     fn push_edges_to(
         &self,
         out: &mut Vec<u8>,
-        from: FrameId,
-        exits: &[Exit],
+        frame: &Frame,
         targets: &[FrameId],
     ) -> Result<(), AllocError>
-        ensures { OnOk result (out.new.items ≡ out.old.items ++ spec.lines_to self.now from exits.now targets.now) }
+        ensures { OnOk result (out.new.items ≡ out.old.items ++ spec.lines_to self.now frame.now targets.now) }
     {
         for to in targets {
             if self.has_node(*to) {
-                self.push_edge(out, from, exits, *to)?;
+                self.push_edge(out, frame, *to)?;
             }
         }
         Ok(())
@@ -73,9 +67,8 @@ impl<'a> Drawing<'a> {
     ) -> Result<(), AllocError>
         ensures { OnOk result (out.new.items ≡ out.old.items ++ spec.edge_lines_of self.now frame.now) }
     {
-        let exits = exits_of(alloc, frame)?;
-        let targets = targets_of(alloc, exits.as_slice())?;
-        self.push_edges_to(out, frame.id, exits.as_slice(), targets.as_slice())
+        let targets = targets_of(alloc, frame)?;
+        self.push_edges_to(out, frame, targets.as_slice())
     }
 
     // Writes the edges of the frames that are shown.

@@ -8,7 +8,7 @@
 //! ```
 //!
 //! - [`map_text`]: the text.
-//! - [`Part`]: the frames that it shows. [`from_page`], [`to_page`]: those near a page.
+//! - [`Part`]: the frames that it shows.
 //! - [`map_view`], [`View`]: the map of a part that is named by a page and a number of keys. [`part_of`]: that part.
 //! - [`edges_are_ways`]: what its edges are.
 //! - Definitions: the text (`Map`, `Nodes`, `Edges`), the frames near a page (`Windows`).
@@ -16,21 +16,16 @@
 
 mod drawing;
 mod edges;
-mod exits;
 mod laws;
-mod links;
 mod lost;
 mod map;
-mod neighbours;
 mod nodes;
 mod part;
-mod span;
+mod targets;
 mod title;
 mod view;
-mod window;
 
 pub use laws::edges_are_ways;
 pub use map::map_text;
 pub use part::Part;
 pub use view::{View, map_view, part_of};
-pub use window::{from_page, to_page};

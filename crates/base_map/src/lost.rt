@@ -1,14 +1,14 @@
 //! What ways seek and the base lacks.
 
-ghost use Rattle.std.specs.Prelude.{◌≡◌, ◌++◌, OnOk, IfOk};
+ghost use Rattle.std.specs.Prelude.{◌≡◌, ◌++◌, OnOk, IfOk, filter};
 ghost use Rattle.std.specs.List.{flat_map};
 ghost use Rattle.indexmap.specs.IndexSet.{insert_all};
 ghost use Rattle.page_ids.specs.Ids.{id_eq};
-ghost use Rattle.base_map.specs.Edges.{shown};
+ghost use Rattle.base_map.specs.Edges.{is_lacked, shown};
 ghost use Rattle.base_map.specs.Edges as spec;
 
 use crate::drawing::Drawing;
-use crate::exits::{Exit, exits_of};
+use crate::targets::targets_of;
 use frame_records::{Base, Frame};
 use indexmap::IndexSet;
 use page_ids::{FrameId, push_id, push_page};
@@ -56,12 +56,12 @@ fn push_lost_nodes(out: &mut Vec<u8>, base: &Base, ids: &[FrameId]) -> Result<()
 }
 
 impl<'a> Drawing<'a> {
-    fn add_lost(&self, exits: &[Exit], lost: &mut IndexSet<FrameId>) -> Result<(), AllocError>
-        ensures { OnOk result (lost.new.keys ≡ insert_all id_eq lost.old.keys (spec.lost_of self.now.base exits.now)) }
+    fn add_lost(&self, targets: &[FrameId], lost: &mut IndexSet<FrameId>) -> Result<(), AllocError>
+        ensures { OnOk result (lost.new.keys ≡ insert_all id_eq lost.old.keys (filter (is_lacked self.now.base) targets.now)) }
     {
-        for exit in exits {
-            if self.lacks(exit.to) {
-                lost.insert(exit.to)?;
+        for to in targets {
+            if self.lacks(*to) {
+                lost.insert(*to)?;
             }
         }
         Ok(())
@@ -75,7 +75,7 @@ impl<'a> Drawing<'a> {
         let mut lost = IndexSet::new(alloc);
         for frame in frames {
             if self.part.shows(frame.id) {
-                self.add_lost(exits_of(alloc, frame)?.as_slice(), &mut lost)?;
+                self.add_lost(targets_of(alloc, frame)?.as_slice(), &mut lost)?;
             }
         }
         Ok(lost)

@@ -1,11 +1,11 @@
 ghost use Rattle.std.specs.Prelude.{IfOk};
-ghost use Rattle.base_map.specs.Windows.{IsViewPart, IsViewed};
+ghost use Rattle.base_map.specs.Windows.{IsViewPart, IsViewed, IsWindow};
 
 use crate::map::map_text;
 use crate::part::Part;
-use crate::window::{from_page, to_page};
+use finder::{Direction, within};
 use frame_records::{Base, Groups};
-use page_ids::PageNo;
+use page_ids::{FrameId, PageNo};
 use std::alloc::{AllocError, Global};
 
 /// What a map shows of a base. Without a number of keys, any number will do.
@@ -19,6 +19,23 @@ pub enum View {
     To(PageNo, Option<u16>),
 }
 
+// The frames near a page's frame `a`; `None` if the base lacks that frame.
+fn near_page(
+    alloc: Global,
+    base: &Base,
+    groups: &Groups,
+    direction: Direction,
+    page: PageNo,
+    most: Option<u16>,
+) -> Result<Option<Part>, AllocError>
+    ensures { IfOk result (IsWindow groups.now base.now direction page most) }
+{
+    match within(alloc, base, groups, direction, FrameId::first(page), most)? {
+        Some(ids) => Ok(Some(Part::of(ids))),
+        None => Ok(None),
+    }
+}
+
 /// The part of a view; `None` if the base lacks the frame `a` of its page.
 pub fn part_of(
     alloc: Global,
@@ -30,8 +47,8 @@ pub fn part_of(
 {
     match view {
         View::Whole => Ok(Some(Part::whole())),
-        View::From(page, most) => from_page(alloc, base, groups, *page, *most),
-        View::To(page, most) => to_page(alloc, base, groups, *page, *most),
+        View::From(page, most) => { near_page(alloc, base, groups, Direction::From, *page, *most) }
+        View::To(page, most) => near_page(alloc, base, groups, Direction::To, *page, *most),
     }
 }
 

@@ -2,8 +2,10 @@
 use Rattle.std.specs.Prelude.{ℕ, List, [], ◌++◌, codes, decimal, length, ◌==◌, if◌then◌else◌}
 use Rattle.std.specs.Str.{chars}
 use Rattle.page_ids.specs.Ids.{Id, frame_text}
+use Rattle.frame_records.specs.declared.limits.TheConstants.{MOST_PENCE}
 use Rattle.frame_records.specs.Bases.{BaseView}
 use Rattle.frame_records.specs.Seek.{entry_of}
+use Rattle.cert_table.specs.declared.limits.TheConstants.{MOST_RANK}
 use Rattle.cert_table.specs.Table.{CertView}
 use Rattle.cert_text.specs.Grammar.{spaced}
 use Rattle.checker.specs.declared.policy.Policy.{Policy}
@@ -17,9 +19,16 @@ use Rattle.base_pages.specs.Faults.{entry_faults, fault_list}
 unfoldable pub name_line : List ℕ → List ℕ
 name_line name = codes "<h1>" ++ written Markup (chars name) ++ codes "</h1>\n"
 
--- a ceiling and keyings
-unfoldable pub limits_text : ℕ → ℕ → List ℕ
-limits_text ceiling keyings = codes "at most " ++ decimal ceiling ++ codes "p a frame, at most " ++ decimal keyings ++ codes " keys back"
+-- how many there are of a thing
+unfoldable pub counted : ℕ → List ℕ → List ℕ
+counted n thing = decimal n ++ codes " " ++ thing ++ (if n == 1 then [] else codes "s")
+
+-- a limit after others
+unfoldable pub ceiling_text : ℕ → List ℕ
+ceiling_text ceiling = codes ", at most " ++ decimal ceiling ++ codes "p a frame"
+
+unfoldable pub keyings_text : ℕ → List ℕ
+keyings_text keyings = codes ", at most " ++ counted keyings (codes "key") ++ codes " back"
 
 unfoldable pub certified_begin : List ℕ
 certified_begin = codes "<p class=\"verdict certified\">CERTIFIED</p>\n<p>"
@@ -27,15 +36,11 @@ certified_begin = codes "<p class=\"verdict certified\">CERTIFIED</p>\n<p>"
 -- how many frames the certificate has, and its ceiling and keyings
 unfoldable pub certified : CertView → List ℕ
 certified cert =
-    certified_begin ++ decimal (length cert.rows) ++ codes " frames, "
-    ++ limits_text cert.ceiling cert.keyings ++ codes "</p>\n"
+    certified_begin ++ counted (length cert.rows) (codes "frame") ++ ceiling_text cert.ceiling ++ keyings_text cert.keyings ++ codes "</p>\n"
 
 -- how many faults there are
-abbrev pub counted : ℕ → List ℕ
-counted n = decimal n ++ (if n == 1 then codes " fault" else codes " faults")
-
 unfoldable pub faulty : List Fault → List ℕ
-faulty faults = codes "<p class=\"verdict faulty\">" ++ counted (length faults) ++ codes "</p>\n"
+faulty faults = codes "<p class=\"verdict faulty\">" ++ counted (length faults) (codes "fault") ++ codes "</p>\n"
 
 abbrev pub verdict_text : Outcome → List ℕ
 verdict_text (Certified cert) = certified cert
@@ -45,12 +50,16 @@ verdict_text (Faulty faults) = faulty faults
 unfoldable pub groups_text : List ℕ → List ℕ
 groups_text groups = if length groups == 0 then codes "no groups" else codes "groups" ++ spaced groups
 
-unfoldable pub last_groups : List ℕ → List ℕ
-last_groups groups = codes ", " ++ groups_text groups
+-- the widest limit isn't named
+abbrev pub ceiling_asked : ℕ → List ℕ
+ceiling_asked ceiling = if ceiling == MOST_PENCE then [] else ceiling_text ceiling
+
+abbrev pub keyings_asked : ℕ → List ℕ
+keyings_asked keyings = if keyings == MOST_RANK then [] else keyings_text keyings
 
 unfoldable pub policy_line : Policy → List ℕ
 policy_line policy =
-    codes "<p>Policy: " ++ limits_text policy.ceiling policy.keyings ++ last_groups policy.groups ++ codes "</p>\n"
+    codes "<p>For a caller in " ++ groups_text policy.groups ++ ceiling_asked policy.ceiling ++ keyings_asked policy.keyings ++ codes "</p>\n"
 
 -- the faults of an outcome
 abbrev pub faults_in : Outcome → List Fault

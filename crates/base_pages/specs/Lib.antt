@@ -5,5 +5,6 @@ pub mod Sections
 pub mod Head
 pub mod Pages
 pub mod Shell
+pub mod Tags
 pub mod Laws
 pub mod Loops

@@ -17,6 +17,7 @@ use Rattle.base_pages.specs.declared.fault.PagesFault.TheVariants.{Write, Memory
 use Rattle.base_pages.specs.Sections.{BookView, sections}
 use Rattle.base_pages.specs.Head.{header, faults_in}
 use Rattle.base_pages.specs.Shell.{head, middle, foot}
+use Rattle.base_pages.specs.Tags.{tag_list, page_tags}
 
 -- the fixed head with the style, the header, and the fixed views and keypad
 abbrev pub front : List ℕ → BaseView → Policy → Outcome → List ℕ
@@ -39,6 +40,19 @@ pub record IsPage (name : List ℕ) (base : BaseView) (policy : Policy) (part : 
   pub audited : IsOutcome base policy outcome
   pub is : text ≡ page name policy outcome (book base policy part found outcome)
 
+-- read as markup, it has the tags of its form and no others
+abbrev pub HasItsTags : (name : List ℕ) (base : BaseView) (policy : Policy) (part : Option (List Id)) (text : List ℕ)
+    → IsPage name base policy part text → Type 0
+HasItsTags name base policy part text is =
+    tag_list text ≡ page_tags is.outcome (book base policy part is.found is.outcome)
+
+-- the file was written whole
+pub record IsFileWritten (old new : Seen) (name : List ℕ) (base : BaseView) (policy : Policy) (part : Option (List Id)) : Type 0 where
+  pub text : List ℕ
+  pub is : IsPage name base policy part text
+  pub tags : HasItsTags name base policy part text is
+  pub written : WroteWhole old new text
+
 -- a sink took the front of a text, wasn't flushed and has not failed
 pub record StoppedWithin (old new : Seen) (text : List ℕ) : Type 0 where
   pub front : List ℕ
@@ -60,7 +74,7 @@ IsPagesFault old new Is Memory = TookAll old new [] ⊎ ((text : List ℕ) × Is
 
 -- the file of a part was written
 abbrev pub IsPartWritten : Seen → Seen → List ℕ → BaseView → Policy → Option (List Id) → Result PagesStatus PagesFault → Type 0
-IsPartWritten old new name base policy part (Ok Written) = (text : List ℕ) × IsPage name base policy part text × WroteWhole old new text
+IsPartWritten old new name base policy part (Ok Written) = IsFileWritten old new name base policy part
 IsPartWritten old new name base policy part (Ok NoPage) = ⊥
 IsPartWritten old new name base policy part (Err fault) = IsPagesFault old new (IsPage name base policy part) fault
 

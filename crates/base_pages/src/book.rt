@@ -1,6 +1,7 @@
 //! The sections of frames.
 
 ghost use Rattle.std.specs.Prelude.{◌≡◌, ◌<◌, ◌++◌, length, OnOk, IfOk, IfSome};
+ghost use Rattle.page_ids.specs.Ids.{IsLetter, frame_text};
 ghost use Rattle.cell_looks.specs.Looks.{looks};
 ghost use Rattle.frame_screens.specs.Frames.{way_by};
 ghost use Rattle.frame_screens.specs.Screens.{screen_codes};
@@ -16,7 +17,7 @@ use cell_looks::screen_looks;
 use fault_scripts::Fault;
 use frame_records::{Base, Frame, Groups, Lead, Pence};
 use frame_screens::{FrameList, Painter, screen};
-use page_ids::{FrameId, push_id, push_number};
+use page_ids::{FrameId, push_id, push_number, push_page};
 use screen_texts::{Writing, push_svg, push_text};
 use std::alloc::{AllocError, Global};
 
@@ -44,18 +45,30 @@ fn class_of(is_reached: bool) -> &'static [u8]
     }
 }
 
+// The id of a section, which ends in a letter.
+#[tactic(auto, using(std::proofs::Common::append_assoc))]
+fn push_own_id(out: &mut Vec<u8>, id: FrameId) -> Result<(), AllocError>
+    ensures text { OnOk result (out.new.items ≡ out.old.items ++ frame_text id) }
+    ensures letter { OnOk result (IsLetter id.letter) }
+{
+    push_page(out, id.page)?;
+    out.extend_from_slice(&[id.letter.get()])
+}
+
 #[tactic(auto, using(std::proofs::Common::append_assoc), unfolding(crate::specs::Sections::opening))]
 fn push_opening(out: &mut Vec<u8>, id: FrameId) -> Result<(), AllocError>
-    ensures { OnOk result (out.new.items ≡ out.old.items ++ spec.opening id) }
+    ensures text { OnOk result (out.new.items ≡ out.old.items ++ spec.opening id) }
+    ensures letter { OnOk result (IsLetter id.letter) }
 {
     out.extend_from_slice(b"<section id=\"")?;
-    push_id(out, id)?;
+    push_own_id(out, id)?;
     out.extend_from_slice(b"\"")
 }
 
 #[tactic(auto, using(std::proofs::Common::append_assoc), unfolding(crate::specs::Sections::section_begin))]
 fn push_begin(out: &mut Vec<u8>, id: FrameId, is_reached: bool) -> Result<(), AllocError>
-    ensures { OnOk result (out.new.items ≡ out.old.items ++ spec.section_begin id is_reached) }
+    ensures text { OnOk result (out.new.items ≡ out.old.items ++ spec.section_begin id is_reached) }
+    ensures letter { OnOk result (IsLetter id.letter) }
 {
     let again = id;
     push_opening(out, id)?;
@@ -116,7 +129,8 @@ fn push_tail(
     faults: &[Fault],
     numbers: &[usize],
 ) -> Result<(), AllocError>
-    ensures { OnOk result (out.new.items ≡ out.old.items ++ spec.section_tail frame.now (picked faults.now numbers.now)) }
+    ensures { OnOk result (out.new.items ≡ out.old.items ++
+        spec.section_tail frame.now (picked faults.now numbers.now)) }
 {
     out.extend_from_slice(over(frame.lead))?;
     push_faults(alloc, out, faults, numbers)?;
@@ -133,7 +147,8 @@ fn codes(
 ) -> Result<[u8; 960], AllocError>
     requires same { painter.now.base ≡ base.now }
     requires within { IfSome place (λ p. p < length painter.now.found) }
-    ensures { IfOk result (λ codes. codes ≡ screen_codes base.now (way_by painter.now.groups base.now painter.now.found id place)) }
+    ensures { IfOk result (λ codes. codes ≡
+        screen_codes base.now (way_by painter.now.groups base.now painter.now.found id place)) }
 {
     match place {
         Some(place) => Ok(painter.screen(place)),
@@ -165,7 +180,8 @@ impl<'a> Book<'a> {
         numbers: &[usize],
     ) -> Result<(), AllocError>
         ensures { OnOk result (out.new.items ≡ out.old.items
-            ++ spec.section_end self.now.groups.now self.now.base.now self.now.part.now frame.now (picked self.now.faults.now numbers.now)) }
+            ++ spec.section_end self.now.groups.now self.now.base.now self.now.part.now frame.now
+            (picked self.now.faults.now numbers.now)) }
     {
         push_price(out, frame.price)?;
         self.push_ways(out, frame)?;
@@ -183,9 +199,10 @@ impl<'a> Book<'a> {
         codes: &[u8; 960],
         is_reached: bool,
     ) -> Result<(), AllocError>
-        ensures { OnOk result (out.new.items ≡ out.old.items
+        ensures text { OnOk result (out.new.items ≡ out.old.items
             ++ spec.shaped self.now.groups.now self.now.base.now self.now.part.now frame.now
             (picked self.now.faults.now numbers.now) (looks codes.now) is_reached) }
+        ensures letter { OnOk result (IsLetter frame.now.id.letter) }
     {
         let cell = touched_cell(frame, self.faults, numbers);
         push_begin(out, frame.id, is_reached)?;
@@ -201,7 +218,8 @@ impl<'a> Book<'a> {
         frame: &Frame,
     ) -> Result<(), AllocError>
         requires { IsReady self.now }
-        ensures { OnOk result (out.new.items ≡ out.old.items ++ spec.section (book_view self.now) frame.now) }
+        ensures text { OnOk result (out.new.items ≡ out.old.items ++ spec.section (book_view self.now) frame.now) }
+        ensures letter { OnOk result (IsLetter frame.now.id.letter) }
     {
         let place = self.places.place(frame.id);
         let codes = codes(alloc, self.base, self.painter, frame.id, place)?;

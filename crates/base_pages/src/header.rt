@@ -8,10 +8,10 @@ ghost use Rattle.cert_text.specs.Grammar.{spaced};
 ghost use Rattle.base_pages.specs.Head as spec;
 
 use crate::faults::push_entry_faults;
-use cert_table::{Certificate, Cover};
+use cert_table::{Certificate, Cover, MOST_RANK};
 use checker::Policy;
 use fault_scripts::{Fault, Outcome};
-use frame_records::{Base, Groups, Pence};
+use frame_records::{Base, Groups, MOST_PENCE, Pence};
 use page_ids::{FrameId, push_id, push_number};
 use screen_texts::{Writing, push_char};
 use std::alloc::{AllocError, Global};
@@ -35,16 +35,38 @@ fn push_name(out: &mut Vec<u8>, name: &str) -> Result<(), AllocError>
     out.extend_from_slice(b"</h1>\n")
 }
 
-// A ceiling and keyings.
-#[tactic(auto, using(std::proofs::Common::append_assoc), unfolding(crate::specs::Head::limits_text))]
-fn push_limits(out: &mut Vec<u8>, ceiling: Pence, keyings: u16) -> Result<(), AllocError>
-    ensures { OnOk result (out.new.items ≡ out.old.items ++ spec.limits_text ceiling keyings) }
+// How many there are of a thing.
+#[tactic(auto, using(std::proofs::Common::append_assoc), unfolding(crate::specs::Head::counted))]
+fn push_counted(out: &mut Vec<u8>, count: u64, thing: &[u8]) -> Result<(), AllocError>
+    ensures { OnOk result (out.new.items ≡ out.old.items ++ spec.counted count thing.now) }
 {
-    out.extend_from_slice(b"at most ")?;
+    push_number(out, count)?;
+    out.extend_from_slice(b" ")?;
+    out.extend_from_slice(thing)?;
+    if count == 1 {
+        Ok(())
+    } else {
+        out.extend_from_slice(b"s")
+    }
+}
+
+// A limit after others.
+#[tactic(auto, using(std::proofs::Common::append_assoc), unfolding(crate::specs::Head::ceiling_text))]
+fn push_ceiling(out: &mut Vec<u8>, ceiling: Pence) -> Result<(), AllocError>
+    ensures { OnOk result (out.new.items ≡ out.old.items ++ spec.ceiling_text ceiling) }
+{
+    out.extend_from_slice(b", at most ")?;
     push_number(out, u64::from(ceiling.get()))?;
-    out.extend_from_slice(b"p a frame, at most ")?;
-    push_number(out, u64::from(keyings))?;
-    out.extend_from_slice(b" keys back")
+    out.extend_from_slice(b"p a frame")
+}
+
+#[tactic(auto, using(std::proofs::Common::append_assoc), unfolding(crate::specs::Head::keyings_text))]
+fn push_keyings(out: &mut Vec<u8>, keyings: u16) -> Result<(), AllocError>
+    ensures { OnOk result (out.new.items ≡ out.old.items ++ spec.keyings_text keyings) }
+{
+    out.extend_from_slice(b", at most ")?;
+    push_counted(out, u64::from(keyings), b"key")?;
+    out.extend_from_slice(b" back")
 }
 
 #[tactic(auto, unfolding(crate::specs::Head::certified_begin))]
@@ -69,31 +91,19 @@ fn push_certified<C: Cover + Drop>(
     ensures { OnOk result (out.new.items ≡ out.old.items ++ spec.certified cert.now) }
 {
     out.extend_from_slice(certified_begin())?;
-    push_number(out, count_of(cert))?;
-    out.extend_from_slice(b" frames, ")?;
-    push_limits(out, cert.ceiling(), cert.keyings())?;
+    push_counted(out, count_of(cert), b"frame")?;
+    push_ceiling(out, cert.ceiling())?;
+    push_keyings(out, cert.keyings())?;
     out.extend_from_slice(b"</p>\n")
 }
 
 // How many faults there are.
-#[tactic(auto, using(std::proofs::Common::append_assoc))]
-fn push_counted(out: &mut Vec<u8>, count: usize) -> Result<(), AllocError>
-    ensures { OnOk result (out.new.items ≡ out.old.items ++ spec.counted count) }
-{
-    push_number(out, count as u64)?;
-    if count == 1 {
-        out.extend_from_slice(b" fault")
-    } else {
-        out.extend_from_slice(b" faults")
-    }
-}
-
 #[tactic(auto, using(std::proofs::Common::append_assoc), unfolding(crate::specs::Head::faulty))]
 fn push_faulty(out: &mut Vec<u8>, faults: &[Fault]) -> Result<(), AllocError>
     ensures { OnOk result (out.new.items ≡ out.old.items ++ spec.faulty faults.now) }
 {
     out.extend_from_slice(b"<p class=\"verdict faulty\">")?;
-    push_counted(out, faults.len())?;
+    push_counted(out, faults.len() as u64, b"fault")?;
     out.extend_from_slice(b"</p>\n")
 }
 
@@ -129,21 +139,35 @@ fn push_groups(out: &mut Vec<u8>, groups: &Groups) -> Result<(), AllocError>
     push_numbers(out, groups)
 }
 
-#[tactic(auto, using(std::proofs::Common::append_assoc), unfolding(crate::specs::Head::last_groups))]
-fn push_last_groups(out: &mut Vec<u8>, groups: &Groups) -> Result<(), AllocError>
-    ensures { OnOk result (out.new.items ≡ out.old.items ++ spec.last_groups groups.now) }
+// The widest limit isn't named.
+fn push_ceiling_asked(out: &mut Vec<u8>, ceiling: Pence) -> Result<(), AllocError>
+    ensures { OnOk result (out.new.items ≡ out.old.items ++ spec.ceiling_asked ceiling) }
 {
-    out.extend_from_slice(b", ")?;
-    push_groups(out, groups)
+    if ceiling.get() == MOST_PENCE {
+        Ok(())
+    } else {
+        push_ceiling(out, ceiling)
+    }
+}
+
+fn push_keyings_asked(out: &mut Vec<u8>, keyings: u16) -> Result<(), AllocError>
+    ensures { OnOk result (out.new.items ≡ out.old.items ++ spec.keyings_asked keyings) }
+{
+    if keyings == MOST_RANK {
+        Ok(())
+    } else {
+        push_keyings(out, keyings)
+    }
 }
 
 #[tactic(auto, using(std::proofs::Common::append_assoc), unfolding(crate::specs::Head::policy_line))]
 fn push_policy(out: &mut Vec<u8>, policy: &Policy) -> Result<(), AllocError>
     ensures { OnOk result (out.new.items ≡ out.old.items ++ spec.policy_line policy.now) }
 {
-    out.extend_from_slice(b"<p>Policy: ")?;
-    push_limits(out, policy.ceiling, policy.keyings)?;
-    push_last_groups(out, &policy.groups)?;
+    out.extend_from_slice(b"<p>For a caller in ")?;
+    push_groups(out, &policy.groups)?;
+    push_ceiling_asked(out, policy.ceiling)?;
+    push_keyings_asked(out, policy.keyings)?;
     out.extend_from_slice(b"</p>\n")
 }
 

@@ -83,7 +83,8 @@ impl FaultIndex {
     }
 
     fn add(&mut self, alloc: Global, fault: Numbered) -> Result<(), AllocError>
-        ensures { OnOk result ((id : Id) → spec.kept_of self.new id ≡ spec.kept_of self.old id ++ spec.number_by fault id) }
+        ensures { OnOk result ((id : Id) → spec.kept_of self.new id ≡ spec.kept_of self.old id ++
+            spec.number_by fault id) }
     {
         let mut numbers = self.taken(alloc, fault.frame);
         numbers.push(fault.number)?;
@@ -103,7 +104,8 @@ impl FaultIndex {
 
     // The index of faults.
     pub fn of(alloc: Global, faults: &[Fault]) -> Result<FaultIndex, AllocError>
-        ensures { IfOk result (λ index. (id : Id) → spec.kept_of index id ≡ spec.numbers_of (spec.numbered 0 faults.now) id) }
+        ensures { IfOk result (λ index. (id : Id) → spec.kept_of index id ≡
+            spec.numbers_of (spec.numbered 0 faults.now) id) }
     {
         let list = number_all(alloc, faults)?;
         FaultIndex::of_numbered(alloc, list.as_slice())

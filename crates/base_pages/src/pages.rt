@@ -4,6 +4,7 @@ ghost use Rattle.std.specs.Prelude.{◌≡◌, ◌++◌, ◌∷◌, List, ℕ, [
 ghost use Rattle.devices.specs.Devices.{Seen, IsOnItsWay, WroteWhole};
 ghost use Rattle.base_pages.specs.Sections.{sections};
 ghost use Rattle.base_pages.specs.Shell as Shell;
+ghost use Rattle.base_pages.specs.Tags.{HasLetter, HaveLetters, tag_list, page_tags};
 ghost use Rattle.base_pages.specs.Loops.{IsReady, IsPrepared, book_view, page_of};
 ghost use Rattle.base_pages.specs.Pages.{IsStopped, IsPartWritten, IsPagesRun, front};
 
@@ -48,7 +49,8 @@ fn push_front(
     base: &Base,
     cover: &Cover,
 ) -> Result<(), AllocError>
-    ensures { OnOk result (out.new.items ≡ out.old.items ++ front cover.now.name.now base.now cover.now.policy.now cover.now.outcome.now) }
+    ensures { OnOk result (out.new.items ≡ out.old.items ++
+        front cover.now.name.now base.now cover.now.policy.now cover.now.outcome.now) }
 {
     out.extend_from_slice(head())?;
     push_header(alloc, out, cover.name, base, cover.policy, cover.outcome)?;
@@ -63,7 +65,8 @@ fn push_shown(
     frame: &Frame,
 ) -> Result<(), AllocError>
     requires { IsReady book.now }
-    ensures { OnOk result (out.new.items ≡ out.old.items ++ sections (book_view book.now) (frame.now ∷ [])) }
+    ensures text { OnOk result (out.new.items ≡ out.old.items ++ sections (book_view book.now) (frame.now ∷ [])) }
+    ensures letter { OnOk result (HasLetter book.now.part.now frame.now) }
 {
     if book.part.shows(frame.id) {
         book.push_section(alloc, out, frame)
@@ -84,10 +87,14 @@ fn write_section<S: Sink>(
     requires ready { IsReady book.now }
     requires open { (S.seen sink.old).failed ≡ false }
     ensures open { OnOk result ((S.seen sink.new).failed ≡ false) }
+    ensures letter { OnOk result (HasLetter book.now.part.now frame.now) }
     ensures taken { (start : Seen) (before : List ℕ) → IsOnItsWay start (S.seen sink.old) kept.old.items wrote before
-        → IfOk result (λ n. IsOnItsWay start (S.seen sink.new) kept.new.items n (before ++ sections (book_view book.now) (frame.now ∷ []))) }
-    ensures part { (start : Seen) (before rest : List ℕ) → IsOnItsWay start (S.seen sink.old) kept.old.items wrote before
-        → IfErr result (λ fault. IsStopped start (S.seen sink.new) ((before ++ sections (book_view book.now) (frame.now ∷ [])) ++ rest) fault) }
+        → IfOk result (λ n. IsOnItsWay start (S.seen sink.new) kept.new.items n (before ++
+        sections (book_view book.now) (frame.now ∷ []))) }
+    ensures part { (start : Seen) (before rest : List ℕ) →
+        IsOnItsWay start (S.seen sink.old) kept.old.items wrote before
+        → IfErr result (λ fault. IsStopped start (S.seen sink.new) ((before ++
+        sections (book_view book.now) (frame.now ∷ [])) ++ rest) fault) }
 {
     match push_shown(alloc, kept, book, frame) {
         Ok(()) => send(sink, kept, wrote),
@@ -106,10 +113,13 @@ fn write_sections<S: Sink>(
     requires ready { IsReady book.now }
     requires open { (S.seen sink.old).failed ≡ false }
     ensures open { OnOk result ((S.seen sink.new).failed ≡ false) }
+    ensures letters { OnOk result (HaveLetters book.now.part.now frames.now) }
     ensures taken { (start : Seen) (before : List ℕ) → IsOnItsWay start (S.seen sink.old) kept.old.items 0 before
-        → IfOk result (λ n. IsOnItsWay start (S.seen sink.new) kept.new.items n (before ++ sections (book_view book.now) frames.now)) }
+        → IfOk result (λ n. IsOnItsWay start (S.seen sink.new) kept.new.items n (before ++
+        sections (book_view book.now) frames.now)) }
     ensures part { (start : Seen) (before rest : List ℕ) → IsOnItsWay start (S.seen sink.old) kept.old.items 0 before
-        → IfErr result (λ fault. IsStopped start (S.seen sink.new) ((before ++ sections (book_view book.now) frames.now) ++ rest) fault) }
+        → IfErr result (λ fault. IsStopped start (S.seen sink.new) ((before ++
+        sections (book_view book.now) frames.now) ++ rest) fault) }
 {
     let mut wrote = 0;
     for frame in frames {
@@ -145,7 +155,10 @@ fn write_book<S: Sink>(
     requires ready { IsReady book.now }
     requires open { (S.seen sink.old).failed ≡ false }
     ensures whole { OnOk result (WroteWhole (S.seen sink.old) (S.seen sink.new) (page_of cover.now book.now)) }
-    ensures part { IfErr result (λ fault. IsStopped (S.seen sink.old) (S.seen sink.new) (page_of cover.now book.now) fault) }
+    ensures tags { OnOk result (tag_list (page_of cover.now book.now) ≡
+        page_tags cover.now.outcome.now (book_view book.now)) }
+    ensures part { IfErr result (λ fault.
+        IsStopped (S.seen sink.old) (S.seen sink.new) (page_of cover.now book.now) fault) }
 {
     let mut kept = Vec::new(alloc);
     match push_front(alloc, &mut kept, book.base, cover) {

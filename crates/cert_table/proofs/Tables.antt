@@ -12,7 +12,7 @@ use Rattle.abstract_paint.specs.Paint.{OnScreen}
 use Rattle.cert_table.specs.declared.row.Row.{Row}
 use Rattle.cert_table.specs.declared.certificate.TableFault.{TableFault}
 use Rattle.cert_table.specs.declared.certificate.TableFault.TheVariants.{TooMany, Range, Order}
-use Rattle.cert_table.specs.Table.{AreRows, AreOnScreen, is_on_screen, is_behind, row_fault, or_later, rows_fault, table_fault}
+use Rattle.cert_table.specs.Table.{AreRows, AreOnScreen, is_on_screen, comes_after, row_fault, or_later, rows_fault, table_fault}
 use Rattle.page_ids.proofs.Truths.{less_is}
 
 screen_is : (place : Place) → is_on_screen place ≡ true → OnScreen place
@@ -37,7 +37,7 @@ fine_by i false b e = absurd cc
 -- rows after another: each on the screen, the first after it, and ids ascend
 pub record AreBehind (before : Option Row) (rows : List Row) : Type 0 where
   pub on_screen : AreOnScreen rows
-  pub first : (d : Row) → 0 < length rows → is_behind before (get_or rows 0 d).id ≡ true
+  pub first : (d : Row) → 0 < length rows → comes_after before (get_or rows 0 d).id ≡ true
   pub ascending : AllAdjacentBelow (λ r s. id_cmp r.id s.id ≡ Less) rows (length rows)
 
 screen_cons : (row : Row) (rows : List Row) → OnScreen row.cursor.place → AreOnScreen rows → AreOnScreen (row ∷ rows)
@@ -60,7 +60,7 @@ pub behind_of : (i : ℕ) (before : Option Row) (rows : List Row) → rows_fault
 behind_of i before [] e = record { on_screen = λ k d lt. absurd (omega arith); first = λ d lt. absurd (omega arith); ascending = λ k d lt. absurd (omega arith) }
 behind_of i before (row ∷ rows) e =
     let p = parts_of (row_fault i before row) (rows_fault (i + 1) (Some row) rows) e in
-    let fine = fine_by i (is_on_screen row.cursor.place) (is_behind before row.id) p.0 in
+    let fine = fine_by i (is_on_screen row.cursor.place) (comes_after before row.id) p.0 in
     let rest = behind_of (i + 1) (Some row) rows p.1 in
     record {
       on_screen = screen_cons row rows (screen_is row.cursor.place fine.0) rest.on_screen;

@@ -1,4 +1,4 @@
--- Rows, and the map that they stand for.
+-- Rows, and the map that they represent.
 use Rattle.std.specs.Prelude.{◌≡◌, ◌≤◌, ℕ, ◌+◌, List, Option, Some, None, find, position, map, length, All, ◌↔◌, Bool, true, [], ◌∷◌, nat_lt, if◌then◌else◌, Result, Ok, Err}
 use Rattle.std.specs.List.{AllAdjacentBelow}
 use Rattle.std.specs.declared.cmp.Ordering.TheVariants.{Less}
@@ -58,15 +58,15 @@ is_on_screen (Col c) = nat_lt c 40
 is_on_screen (Spot s) = nat_lt s 960
 
 -- the id is greater than that of the row before, if there is one
-abbrev pub is_behind : Option Row → Id → Bool
-is_behind None id = true
-is_behind (Some r) id = is_lt (id_cmp r.id id)
+abbrev pub comes_after : Option Row → Id → Bool
+comes_after None id = true
+comes_after (Some r) id = is_lt (id_cmp r.id id)
 
 -- what is wrong with the row at i, after another
 abbrev pub row_fault : ℕ → Option Row → Row → Option TableFault
 row_fault i before row =
     if is_on_screen row.cursor.place
-    then (if is_behind before row.id then None else Some (Order i))
+    then (if comes_after before row.id then None else Some (Order i))
     else Some (Range i)
 
 -- the first of two faults

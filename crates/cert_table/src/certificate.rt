@@ -1,6 +1,6 @@
 ghost use Rattle.std.specs.Prelude.{◌≡◌};
 ghost use Rattle.std.specs.Option.{option_copied};
-ghost use Rattle.cert_table.specs.Table.{AreRows, AreOnScreen, is_on_screen, is_behind, row_fault, table_fault, built, FaultsAreExact};
+ghost use Rattle.cert_table.specs.Table.{AreRows, AreOnScreen, is_on_screen, comes_after, row_fault, table_fault, built, FaultsAreExact};
 
 use crate::cover::Cover;
 use crate::limits::MOST_ROWS;
@@ -43,7 +43,14 @@ impl<C: Cover + Drop> Model for Certificate<C> {
 
     ghost use Rattle.cert_table.specs.Table.{AreRows, AreOnScreen};
 
-    ghost view = { λ c. record { entry = c.entry; ceiling = c.ceiling; keyings = c.keyings; groups = c.groups; rows = C.rows c.cover } };
+    ghost view = { λ c.
+        record {
+          entry = c.entry;
+          ceiling = c.ceiling;
+          keyings = c.keyings;
+          groups = c.groups;
+          rows = C.rows c.cover;
+        } };
 
     ghost invariant = { λ c. AreRows (C.rows c.cover) × AreOnScreen (C.rows c.cover) };
 }
@@ -58,8 +65,8 @@ fn is_on_screen(place: Place) -> bool
     }
 }
 
-fn is_behind(before: Option<&Row>, id: FrameId) -> bool
-    ensures { result ≡ is_behind (option_copied before.entry) id }
+fn comes_after(before: Option<&Row>, id: FrameId) -> bool
+    ensures { result ≡ comes_after (option_copied before.entry) id }
 {
     match before {
         Some(row) => row.id < id,
@@ -74,7 +81,7 @@ fn row_fault(i: usize, before: Option<&Row>, row: &Row) -> Option<TableFault>
     if !is_on_screen(row.cursor.place) {
         return Some(TableFault::Range(i));
     }
-    if !is_behind(before, row.id) {
+    if !comes_after(before, row.id) {
         return Some(TableFault::Order(i));
     }
     None

@@ -26,7 +26,7 @@ use Rattle.page_ids.specs.Parts.{parts_of}
 use Rattle.cert_text.specs.Lines.{number_or_cause, line_number, number_after, place_in, pend_in, without_pend, cursor_in, row_of, row_in}
 use Rattle.page_ids.proofs.Truths.{both}
 use Rattle.page_ids.proofs.Numbers.{number_again, decimal_digits}
-use Rattle.cert_table.specs.Table.{is_behind}
+use Rattle.cert_table.specs.Table.{comes_after}
 
 -- ---- numbers
 
@@ -177,7 +177,7 @@ unfolding row_of
 row_of_again r is =
     rw (id_again r.id is.id, line_number_again 65535 r.rank (omega arith) is.rank, cursor_again r.cursor is.place) refl
 
-pub row_again : (rows : List Row) (r : Row) → IsRow r → is_behind (slice_get rows (length rows - 1)) r.id ≡ true
+pub row_again : (rows : List Row) (r : Row) → IsRow r → comes_after (slice_get rows (length rows - 1)) r.id ≡ true
     → row_in rows (row_line r) ≡ Ok r
 unfolding row_in
 row_again rows r is after =

@@ -10,7 +10,7 @@ use Rattle.std.proofs.lemmas.Fmt.{length-decimal-le}
 use Rattle.std.proofs.lemmas.List.{append-nil, take-append-drop}
 use Rattle.std.proofs.lemmas.List.Elements.{recursion_from_All}
 use Rattle.std.proofs.Math.Seq.{take-append_seam, drop-append_seam}
-use Rattle.frame_records.specs.declared.groups.GroupFlaw.{GroupFlaw}
+use Rattle.frame_records.specs.declared.groups.GroupFault.{GroupFault}
 use Rattle.frame_records.specs.Bases.{IsGroup}
 use Rattle.frame_records.specs.Groups.{AreGroups, IsGroupsText, groups_in, groups_text}
 use Rattle.frame_records.proofs.GroupTexts.{texts_found, texts_only}
@@ -45,9 +45,9 @@ counted (g ∷ gs) = refl
 
 -- ---- it is read from just its own text
 
-groups_ok : (r : Result (List ℕ) GroupFlaw) (groups : List ℕ) → groups_or_cause r ≡ Ok groups → r ≡ Ok groups
+groups_ok : (r : Result (List ℕ) GroupFault) (groups : List ℕ) → groups_or_cause r ≡ Ok groups → r ≡ Ok groups
 groups_ok (Ok gs) groups e = let same : gs ≡ groups = ok_is gs groups e in ap Ok same
-groups_ok (Err flaw) groups e = absurd cc
+groups_ok (Err fault) groups e = absurd cc
 
 pub record IsGroupsLine (line groups : List ℕ) : Type 0 where
   pub valid : AreGroups groups

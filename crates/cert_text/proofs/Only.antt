@@ -20,7 +20,7 @@ use Rattle.abstract_paint.specs.declared.cursor.Place.TheVariants.{Any, Col, Spo
 use Rattle.abstract_paint.specs.declared.cursor.Pend.{Pend}
 use Rattle.abstract_paint.specs.declared.cursor.Pend.TheVariants.{No, Yes, Maybe}
 use Rattle.abstract_paint.specs.Paint.{OnScreen}
-use Rattle.cert_table.specs.Table.{CertView, is_behind}
+use Rattle.cert_table.specs.Table.{CertView, comes_after}
 use Rattle.cert_text.specs.declared.fault.LineCause.TheVariants as causes
 use Rattle.cert_text.specs.declared.fault.LineCause.{LineCause}
 use Rattle.cert_text.specs.declared.stage.Stage.{Stage}
@@ -201,7 +201,7 @@ abbrev Ascend : List Row → Type 0
 Ascend rows = AllAdjacentBelow (λ r t. id_cmp r.id t.id ≡ Less) rows (length rows)
 
 follows : (acc : List Row) (r : Row) (rows : List Row) → Ascend (acc ++ (r ∷ rows))
-    → is_behind (slice_get acc (length acc - 1)) r.id ≡ true
+    → comes_after (slice_get acc (length acc - 1)) r.id ≡ true
 follows [] r rows asc = refl
 follows (a ∷ acc) r rows asc =
     let k = length acc in
@@ -214,8 +214,8 @@ follows (a ∷ acc) r rows asc =
     let less2 : id_cmp (get_or (a ∷ acc) k r).id r.id ≡ Less =
     sym (ap (λ (x : Row). id_cmp x.id (get_or ((a ∷ acc) ++ (r ∷ rows)) (k + 1) r).id) left
     ∙ ap (λ (x : Row). id_cmp (get_or (a ∷ acc) k r).id x.id) right) ∙ less in
-    ap (λ (i : ℕ). is_behind (slice_get (a ∷ acc) i) r.id) (one_less acc a)
-    ∙ ap (λ (o : Option Row). is_behind o r.id) got ∙ ap is_lt less2 where
+    ap (λ (i : ℕ). comes_after (slice_get (a ∷ acc) i) r.id) (one_less acc a)
+    ∙ ap (λ (o : Option Row). comes_after o r.id) got ∙ ap is_lt less2 where
       one_less : (acc : List Row) (a : Row) → length (a ∷ acc) - 1 ≡ length acc
       one_less acc a = omega arith
 

@@ -10,7 +10,7 @@ use Rattle.page_ids.specs.Ids.{Id, id_cmp, IsPageNumber}
 use Rattle.frame_records.specs.Groups.{AreGroups}
 use Rattle.cert_table.specs.declared.row.Row.{Row}
 use Rattle.cert_text.specs.Grammar.{IsRow}
-use Rattle.cert_table.specs.Table.{is_behind}
+use Rattle.cert_table.specs.Table.{comes_after}
 use Rattle.cert_text.specs.Lines.{row_in}
 use Rattle.cert_text.specs.Reading.{Said, IsSound, most_of, put}
 use Rattle.cert_text.specs.declared.stage.Field.{Field}
@@ -29,15 +29,15 @@ get_is (x ∷ xs) zero d h = refl
 get_is (x ∷ xs) (suc i) d h = get_is xs i d (omega arith)
 
 pub last_before : (rows : List Row) (id : Id) (d : Row) → 0 < length rows
-    → is_behind (slice_get rows (length rows - 1)) id ≡ true → id_cmp (get_or rows (length rows - 1) d).id id ≡ Less
+    → comes_after (slice_get rows (length rows - 1)) id ≡ true → id_cmp (get_or rows (length rows - 1) d).id id ≡ Less
 last_before rows id d some h =
     let e : slice_get rows (length rows - 1) ≡ Some (get_or rows (length rows - 1) d) =
     get_is rows (length rows - 1) d (omega arith) in
-    less_is _ (sym (ap (λ (o : _). is_behind o id) e) ∙ h)
+    less_is _ (sym (ap (λ (o : _). comes_after o id) e) ∙ h)
 
 -- the rows so far, then one that is after them
 pub ascending_more : (rows : List Row) (r : Row) → AllAdjacentBelow (λ r t. id_cmp r.id t.id ≡ Less) rows (length rows)
-    → is_behind (slice_get rows (length rows - 1)) r.id ≡ true
+    → comes_after (slice_get rows (length rows - 1)) r.id ≡ true
     → AllAdjacentBelow (λ r t. id_cmp r.id t.id ≡ Less) (rows ++ r ∷ []) (length (rows ++ r ∷ []))
 ascending_more rows r asc after k d lt =
     let len : length (rows ++ r ∷ []) ≡ length rows + 1 = length-append rows (r ∷ []) in

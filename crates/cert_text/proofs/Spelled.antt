@@ -15,7 +15,7 @@ use Rattle.page_ids.specs.Ids.{Id, frame_text}
 use Rattle.page_ids.specs.declared.number.NumberFault.{NumberFault}
 use Rattle.page_ids.specs.Texts.{number_in, id_in}
 use Rattle.page_ids.proofs.Numbers.{number_found}
-use Rattle.cert_table.specs.Table.{is_behind}
+use Rattle.cert_table.specs.Table.{comes_after}
 use Rattle.cert_table.specs.declared.row.Row.{Row}
 use Rattle.abstract_paint.specs.declared.cursor.AbsCursor.{AbsCursor}
 use Rattle.abstract_paint.specs.declared.cursor.Place.{Place}
@@ -180,14 +180,14 @@ row_of_found a b c r e =
     (record { id = is_id.0; rank = is_rank.0; place = is_cursor.1 }, line)
 
 pub row_found : (rows : List Row) (line : List ℕ) (r : Row) → row_in rows line ≡ Ok r
-    → IsRow r × (line ≡ row_line r) × (is_behind (slice_get rows (length rows - 1)) r.id ≡ true)
+    → IsRow r × (line ≡ row_line r) × (comes_after (slice_get rows (length rows - 1)) r.id ≡ true)
 unfolding row_in
 row_found rows line r e =
     let p = bind_ok (row_of_parts (parts_of 32 line)) (in_order rows) r e in
-    let o = needs (is_behind (slice_get rows (length rows - 1)) p.0.id) Order (Ok p.0) r p.2 in
+    let o = needs (comes_after (slice_get rows (length rows - 1)) p.0.id) Order (Ok p.0) r p.2 in
     let q = parts_found (parts_of 32 line) p.0 p.1 in
     let f = row_of_found q.0 q.1 q.2 p.0 q.4 in
     let joined : line ≡ q.0 ++ (32 ∷ (q.1 ++ (32 ∷ q.2))) =
     sym (join_with_byte-slice_split 32 line) ∙ ap (join_with_byte 32) q.3 in
-    subst (λ (y : Row). IsRow y × (line ≡ row_line y) × (is_behind (slice_get rows (length rows - 1)) y.id ≡ true))
+    subst (λ (y : Row). IsRow y × (line ≡ row_line y) × (comes_after (slice_get rows (length rows - 1)) y.id ≡ true))
     (ok_is p.0 r o.1) (f.0, joined ∙ f.1, o.0)

@@ -5,12 +5,12 @@ use Rattle.std.specs.Str.{bytes_eq}
 use Rattle.page_ids.specs.declared.number.NumberFault.{NumberFault}
 use Rattle.page_ids.specs.declared.number.NumberFault.TheVariants.{NotNumeral, AboveLimit}
 use Rattle.page_ids.specs.Texts.{number_in, id_in}
-use Rattle.frame_records.specs.declared.groups.GroupFlaw.{GroupFlaw}
-use Rattle.frame_records.specs.declared.groups.GroupFlaw.TheVariants as group
+use Rattle.frame_records.specs.declared.groups.GroupFault.{GroupFault}
+use Rattle.frame_records.specs.declared.groups.GroupFault.TheVariants as group
 use Rattle.frame_records.specs.Groups.{groups_in}
 use Rattle.page_ids.specs.Parts.{parts_of}
 use Rattle.frame_records.specs.Steps.{◌>>=◌}
-use Rattle.cert_table.specs.Table.{is_behind}
+use Rattle.cert_table.specs.Table.{comes_after}
 use Rattle.cert_table.specs.declared.limits.TheConstants.{MOST_RANK}
 use Rattle.cert_table.specs.declared.row.Row.{Row}
 use Rattle.abstract_paint.specs.declared.cursor.AbsCursor.{AbsCursor}
@@ -40,14 +40,14 @@ number_after word most line =
     if bytes_eq (take (length word) line) word then line_number most (drop (length word) line) else Err Word
 
 -- why a list of groups is refused
-abbrev pub group_cause : GroupFlaw → LineCause
+abbrev pub group_cause : GroupFault → LineCause
 group_cause group.Number = Number
 group_cause group.Range = Range
 group_cause group.Order = Order
 
-abbrev pub groups_or_cause : Result (List ℕ) GroupFlaw → Result (List ℕ) LineCause
+abbrev pub groups_or_cause : Result (List ℕ) GroupFault → Result (List ℕ) LineCause
 groups_or_cause (Ok groups) = Ok groups
-groups_or_cause (Err flaw) = Err (group_cause flaw)
+groups_or_cause (Err fault) = Err (group_cause fault)
 
 -- the word of the groups with its space, and then numbers that are cut at each space (32)
 abbrev pub groups_after : List ℕ → List ℕ → Result (List ℕ) LineCause
@@ -105,7 +105,7 @@ row_of_parts (a ∷ b ∷ c ∷ d ∷ more) = Err Word
 
 -- the id is greater than that of the last row
 abbrev pub in_order : List Row → Row → Result Row LineCause
-in_order rows r = if is_behind (slice_get rows (length rows - 1)) r.id then Ok r else Err Order
+in_order rows r = if comes_after (slice_get rows (length rows - 1)) r.id then Ok r else Err Order
 
 -- a row's line, cut at its spaces (32), after these rows
 unfoldable pub row_in : List Row → List ℕ → Result Row LineCause

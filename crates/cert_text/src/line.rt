@@ -8,7 +8,7 @@ ghost use Rattle.cert_text.specs.Reading.{Lasts};
 use crate::cursor::cursor_in;
 use crate::fault::LineCause;
 use cert_table::{MOST_RANK, Row};
-use frame_records::{GroupFlaw, Groups};
+use frame_records::{GroupFault, Groups};
 use page_ids::{FrameId, NumberFault, cut, number_read};
 
 // The number of a part of a line, up to the limit.
@@ -37,14 +37,14 @@ pub fn number_after(word: &[u8], most: u32, line: &[u8]) -> Result<u32, LineCaus
 }
 
 // Why a list of groups is refused.
-fn group_cause(flaw: GroupFlaw) -> LineCause
-    ensures value { result ≡ group_cause flaw }
+fn group_cause(fault: GroupFault) -> LineCause
+    ensures value { result ≡ group_cause fault }
     ensures lasts { Lasts result }
 {
-    match flaw {
-        GroupFlaw::Number => LineCause::Number,
-        GroupFlaw::Range => LineCause::Range,
-        GroupFlaw::Order => LineCause::Order,
+    match fault {
+        GroupFault::Number => LineCause::Number,
+        GroupFault::Range => LineCause::Range,
+        GroupFault::Order => LineCause::Order,
     }
 }
 

@@ -48,7 +48,8 @@ impl CertReader {
         ensures failed { self.old.failed ≡ true → (result ≡ Err Failed) × (self.new.failed ≡ true) }
         ensures refused { OnErr result (self.new.failed ≡ true) }
         // It has read the stream so far, and this piece.
-        ensures stream { (stream : List ℕ) → HasRead self.old stream → OnOk result (HasRead self.new (stream ++ piece.now)) }
+        ensures stream { (stream : List ℕ) → HasRead self.old stream →
+            OnOk result (HasRead self.new (stream ++ piece.now)) }
         // A fault is the stream's, whatever follows, and is reported at once.
         ensures fault { (stream : List ℕ) → HasRead self.old stream →
             IfErr result (λ e. Answers e (lasting (cert_fault (stream ++ piece.now)))) }

@@ -30,9 +30,27 @@ impl Model for SoFar {
 
     ghost Value = { Said };
 
-    ghost view = { λ r. record { grouped = r.grouped; entry = r.entry; ceiling = r.ceiling; keyings = r.keyings; groups = r.groups; count = r.count; rows = r.rows.items } };
+    ghost view = { λ r.
+        record {
+          grouped = r.grouped;
+          entry = r.entry;
+          ceiling = r.ceiling;
+          keyings = r.keyings;
+          groups = r.groups;
+          count = r.count;
+          rows = r.rows.items;
+        } };
 
-    ghost invariant = { λ r. IsSound (record { grouped = r.grouped; entry = r.entry; ceiling = r.ceiling; keyings = r.keyings; groups = r.groups; count = r.count; rows = r.rows.items }) };
+    ghost invariant = { λ r.
+        IsSound (record {
+          grouped = r.grouped;
+          entry = r.entry;
+          ceiling = r.ceiling;
+          keyings = r.keyings;
+          groups = r.groups;
+          count = r.count;
+          rows = r.rows.items;
+        }) };
 }
 
 impl SoFar {

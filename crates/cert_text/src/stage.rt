@@ -20,7 +20,7 @@ pub enum Stage {
     After,
 }
 
-/// What a line of a word and a number tells.
+/// What a line of a word and a number says.
 #[derive(Clone, Copy)]
 pub enum Field {
     /// The entry page.

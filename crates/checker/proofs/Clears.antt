@@ -37,7 +37,7 @@ use Rattle.checker.specs.declared.verdict.Verdict.{Verdict}
 use Rattle.checker.specs.declared.verdict.Verdict.TheVariants.{Cleared, Refused}
 use Rattle.checker.specs.Conditions.{each}
 use Rattle.checker.specs.Good.{Good, IsGoodRow, LeadsDown, LeadsOn, WaysLeadOn, is_covered}
-use Rattle.checker.specs.Verdict.{same_place, same_pend, same_cursor, goes_on, offered_on, lost_cause, rank_below, offered_down, way_down, is_down, on_terms, on_head, on_frame, on_touches, touched, ends_at, on_painting, on_way, on_ways, on_found, if_found, on_row, on_rows, conditions, verdict_of, verdict}
+use Rattle.checker.specs.Verdict.{same_place, same_pend, same_cursor, goes_on, offered_on, lost_cause, rank_below, offered_down, way_down, is_down, on_terms, on_head, on_frame, on_touches, touched, ends_at, on_painting, on_way, on_ways, on_frame_of_row, if_found, on_row, on_rows, conditions, verdict_of, verdict}
 use Rattle.checker.proofs.Conditions.{Agrees, by_test, by_words, by_pass, by_limit, by_both_tests, in_turn, for_each, each_all, each_at, each_of}
 
 -- K1 to K3 and K15
@@ -180,7 +180,7 @@ module _ (caller : List ℕ) (base : BaseView) (cert : CertView) where
     λ g.
         let found = g.found in
         let same : g.frame ≡ f = cc in
-        subst (λ (x : Frame). (on_found caller base cert row x).Holds) same ((g.admitted, (g.price, g.most)), ((g.clean, g.ends), ((ways_lead base cert.rows row g.frame).1 g.ways, (g.zero, g.down)))),
+        subst (λ (x : Frame). (on_frame_of_row caller base cert row x).Holds) same ((g.admitted, (g.price, g.most)), ((g.clean, g.ends), ((ways_lead base cert.rows row g.frame).1 g.ways, (g.zero, g.down)))),
   )
 
 module _ (base : BaseView) (policy : Policy) (cert : CertView) where

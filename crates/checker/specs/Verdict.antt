@@ -141,8 +141,8 @@ on_ways base rows row f =
     then on_rank base row.id row.rank (is_down rows row.rank f) (LeadsDown rows f row.rank)
 
 -- K6 to K14
-abbrev pub on_found : List ℕ → BaseView → CertView → Row → Frame → Condition
-on_found caller base cert row f =
+abbrev pub on_frame_of_row : List ℕ → BaseView → CertView → Row → Frame → Condition
+on_frame_of_row caller base cert row f =
     on_frame caller cert row f
     then on_painting row f
     then on_ways base cert.rows row f
@@ -150,7 +150,7 @@ on_found caller base cert row f =
 -- K5, then the rest
 abbrev pub if_found : List ℕ → BaseView → CertView → Row → Option Frame → Condition
 if_found caller base cert row None = must false ⊥ (cause.NoFrame row.id)
-if_found caller base cert row (Some f) = on_found caller base cert row f
+if_found caller base cert row (Some f) = on_frame_of_row caller base cert row f
 
 abbrev pub on_row : List ℕ → BaseView → CertView → Row → Condition
 on_row caller base cert row = if_found caller base cert row (frame_at base row.id)

@@ -9,7 +9,7 @@ pub struct Count {
     pub steps: u64,
 }
 
-// Both together.
+// The sum of two counts.
 pub fn together(some: Count, more: Count) -> Count
     ensures probes { some.probes + more.probes ≤ 18446744073709551615 → result.probes ≡ some.probes + more.probes }
     ensures steps { some.steps + more.steps ≤ 18446744073709551615 → result.steps ≡ some.steps + more.steps }

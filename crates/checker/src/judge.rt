@@ -10,7 +10,7 @@ ghost use Rattle.session_machine.specs.Sessions.{opening};
 ghost use Rattle.session_machine.specs.Runs.{state_after};
 ghost use Rattle.checker.specs.Good.{Good};
 ghost use Rattle.checker.specs.Safe.{Safe, HasRows};
-ghost use Rattle.checker.specs.Verdict.{verdict, verdict_of, same_cursor, on_head, on_frame, on_painting, on_ways, on_found, on_row, on_rows};
+ghost use Rattle.checker.specs.Verdict.{verdict, verdict_of, same_cursor, on_head, on_frame, on_painting, on_ways, on_frame_of_row, on_row, on_rows};
 
 use crate::count::{Count, together};
 use crate::cover::seek_row;
@@ -74,8 +74,8 @@ fn judge_ways<C: Cover + Drop>(
     (cause, ways.asked)
 }
 
-// All conditions on a row whose frame is there, and what they took.
-fn judge_found<C: Cover + Drop>(
+// All conditions on a row that has its frame, and what they took.
+fn judge_frame_of_row<C: Cover + Drop>(
     base: &Base,
     cert: &Certificate<C>,
     row: &Row,
@@ -83,7 +83,7 @@ fn judge_found<C: Cover + Drop>(
 ) -> (Option<Cause>, Count)
     requires few { length cert.now.rows ≤ MOST_ROWS }
     requires valid { IsBase base.now }
-    ensures cause { result.0 ≡ (on_found cert.now.groups base.now cert.now row.now frame.now).first_cause }
+    ensures cause { result.0 ≡ (on_frame_of_row cert.now.groups base.now cert.now row.now frame.now).first_cause }
     ensures probes { result.1.probes ≡ counted_if (are_ways_sought cert.now.groups cert.now row.now frame.now)
         (ways_compared C.compared base.now cert.now.rows frame.now) }
     ensures steps { result.1.steps ≡ counted_if (is_painted cert.now.groups cert.now row.now frame.now)
@@ -128,7 +128,7 @@ fn judge_row<C: Cover + Drop>(
             },
         ),
         Some(frame) => {
-            let (cause, count) = judge_found(base, cert, row, frame);
+            let (cause, count) = judge_frame_of_row(base, cert, row, frame);
             (
                 cause,
                 Count {

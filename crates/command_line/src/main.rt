@@ -39,8 +39,8 @@ fn main(rt: HostRuntime) -> ExitCode {
 // Reads the words and does what they ask; the exit status.
 fn run<R: Files + Env + Input + Print + Eprint + AllocGlobal>(rt: &R, errors: Stderr) -> u8 {
     match words(rt, rt.alloc()) {
-        Ok(words) => obey(rt, errors, words.as_slice()),
-        Err(WordsFault::Memory) => refused(rt, &RunFault::Memory),
+        Ok(words) => run_words(rt, errors, words.as_slice()),
+        Err(WordsFault::Memory) => fail(rt, &RunFault::Memory),
         Err(WordsFault::NotUtf8) => {
             let _ = eprintln!(rt; "error: a word on the command line isn't valid UTF-8");
             2
@@ -48,13 +48,13 @@ fn run<R: Files + Env + Input + Print + Eprint + AllocGlobal>(rt: &R, errors: St
     }
 }
 
-fn obey<R: Files + Env + Input + Print + Eprint + AllocGlobal>(
+fn run_words<R: Files + Env + Input + Print + Eprint + AllocGlobal>(
     rt: &R,
     errors: Stderr,
     words: &[String],
 ) -> u8 {
     match matches(rt.alloc(), words) {
-        Ok(matches) => dispatch(rt, errors, &matches),
+        Ok(matches) => run_matches(rt, errors, &matches),
         Err(error) => print_error(rt, &error),
     }
 }
@@ -62,7 +62,7 @@ fn obey<R: Files + Env + Input + Print + Eprint + AllocGlobal>(
 // Prints what clap has to say: help on standard output, or what is wrong with the words on standard error.
 fn print_error<R: Print + Eprint + AllocGlobal>(rt: &R, error: &Error) -> u8 {
     if error.kind() == ErrorKind::OutOfMemory {
-        return refused(rt, &RunFault::Memory);
+        return fail(rt, &RunFault::Memory);
     }
     if error.use_stderr() {
         let _ = error.print(rt);
@@ -70,7 +70,7 @@ fn print_error<R: Print + Eprint + AllocGlobal>(rt: &R, error: &Error) -> u8 {
     }
     match format!(in rt.alloc(); "{error}") {
         Ok(help) => print_whole(rt, help.as_str()),
-        Err(_) => refused(rt, &RunFault::Memory),
+        Err(_) => fail(rt, &RunFault::Memory),
     }
 }
 
@@ -80,7 +80,7 @@ fn print_whole<R: Print + Eprint + AllocGlobal>(rt: &R, text: &str) -> u8 {
     match write_whole(&mut out, text.as_bytes()) {
         Ok(()) => 0,
         Err(_) if out.is_closed() => 3,
-        Err(fault) => refused(rt, &RunFault::Write(fault.wrote)),
+        Err(fault) => fail(rt, &RunFault::Write(fault.wrote)),
     }
 }
 
@@ -94,7 +94,7 @@ fn joined(alloc: Global, paragraphs: &[&str]) -> Result<String, AllocError> {
 fn print_paragraphs<R: Print + Eprint + AllocGlobal>(rt: &R, paragraphs: &[&str]) -> u8 {
     match joined(rt.alloc(), paragraphs) {
         Ok(text) => print_whole(rt, text.as_str()),
-        Err(_) => refused(rt, &RunFault::Memory),
+        Err(_) => fail(rt, &RunFault::Memory),
     }
 }
 
@@ -117,13 +117,13 @@ fn explain<R: Print + Eprint + AllocGlobal>(rt: &R, word: Option<&str>) -> u8 {
             );
             2
         }
-        Err(_) => refused(rt, &RunFault::Memory),
+        Err(_) => fail(rt, &RunFault::Memory),
     }
 }
 
 // Reports a fault of the run; its status, or 4 if there is no memory for its line.
-fn refused<R: Eprint + AllocGlobal>(rt: &R, fault: &RunFault) -> u8 {
-    if tell(rt, fault) {
+fn fail<R: Eprint + AllocGlobal>(rt: &R, fault: &RunFault) -> u8 {
+    if print_fault(rt, fault) {
         status_of(&Err(*fault))
     } else {
         4
@@ -131,7 +131,7 @@ fn refused<R: Eprint + AllocGlobal>(rt: &R, fault: &RunFault) -> u8 {
 }
 
 // Does what was asked for; the exit status. The groups are read first; files are opened in the order of the words.
-fn dispatch<R: Files + Env + Input + Print + Eprint + AllocGlobal>(
+fn run_matches<R: Files + Env + Input + Print + Eprint + AllocGlobal>(
     rt: &R,
     errors: Stderr,
     matches: &ArgMatches,
@@ -163,14 +163,14 @@ fn dispatch<R: Files + Env + Input + Print + Eprint + AllocGlobal>(
             let _ = eprintln!(rt; "error: --out names the base itself");
             2
         }
-        Ok(Some(request)) => answer(rt, errors, &request),
+        Ok(Some(request)) => run_request(rt, errors, &request),
         Ok(None) => 2,
-        Err(_) => refused(rt, &RunFault::Groups),
+        Err(_) => fail(rt, &RunFault::Groups),
     }
 }
 
 // Runs what was asked for.
-fn answer<R: Files + Env + Input + Print + Eprint + AllocGlobal>(
+fn run_request<R: Files + Env + Input + Print + Eprint + AllocGlobal>(
     rt: &R,
     errors: Stderr,
     request: &Request,
@@ -211,7 +211,7 @@ fn answer<R: Files + Env + Input + Print + Eprint + AllocGlobal>(
         Request::Explain { word } => return explain(rt, *word),
     };
     match &run {
-        Err(fault) => refused(rt, fault),
+        Err(fault) => fail(rt, fault),
         Ok(_) => status_of(&run),
     }
 }
@@ -261,7 +261,7 @@ pub fn tell_no_page<R: Eprint>(rt: &R, view: &View) {
 }
 
 // One line on standard error; false if there is no memory for it, and then nothing is printed.
-fn tell<R: Eprint + AllocGlobal>(rt: &R, fault: &RunFault) -> bool {
+fn print_fault<R: Eprint + AllocGlobal>(rt: &R, fault: &RunFault) -> bool {
     let Ok(text) = fault_text(rt.alloc(), fault) else {
         return false;
     };

@@ -1,6 +1,6 @@
 //! Bases that are opened by their names, and what is printed if a command ends without its work done.
 
-use crate::refused;
+use crate::fail;
 use audit_report::{IntoWrite, RunFault};
 use std::rt::Files;
 use std::{fs, io};
@@ -69,7 +69,7 @@ pub fn report<R: Eprint + AllocGlobal>(rt: &R, path: &str, unfinished: &Unfinish
         }
         Unfinished::Unwanted => 3,
         Unfinished::Fault(fault) => {
-            let status = refused(rt, fault);
+            let status = fail(rt, fault);
             if let RunFault::Base(_) = fault
                 && status == 3
             {

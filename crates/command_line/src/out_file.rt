@@ -42,7 +42,7 @@ fn leads_to(rt: &impl Files, path: &str, file: &Metadata) -> bool {
     }
 }
 
-/// Whether both paths lead to one file. A file that isn't there is no other's.
+/// Whether both paths lead to one file. A missing file is no other file.
 pub fn is_same_file(rt: &impl Files, one: &str, other: &str) -> bool {
     match fs::metadata(rt, one) {
         Ok(there) => leads_to(rt, other, &there),

@@ -1,7 +1,7 @@
-//! Bases built by hand; those that are refused stand in `tests/cases`.
+//! Bases built by hand; those that are refused are in `tests/cases`.
 
 use frame_records::{
-    Base, Body, Destination, Frame, GroupFlaw, GroupNo, Groups, GroupsFault, Lead, Pence, Sought,
+    Base, Body, Destination, Frame, GroupFault, GroupNo, Groups, GroupsFault, Lead, Pence, Sought,
 };
 use page_ids::{FrameId, PageNo, Way, cut};
 use std::alloc::Global;
@@ -71,7 +71,7 @@ fn a_frame_is_sought_for_the_callers_groups(rt: HostRuntime) -> Result<(), Fail>
     let other = Groups::read("6,8")?;
     let nobody = Groups::none();
     let base = base_of_ways(rt.alloc(), price)?;
-    let told = [
+    let got = [
         base.seek(entry, &nobody),
         base.seek(closed, &nobody),
         base.seek(missing, &nobody),
@@ -82,7 +82,7 @@ fn a_frame_is_sought_for_the_callers_groups(rt: HostRuntime) -> Result<(), Fail>
     ];
     let found = Sought::Found(price);
     same(
-        told,
+        got,
         [
             found,
             Sought::Closed,
@@ -104,7 +104,7 @@ fn a_way_comes_to_what_it_seeks(rt: HostRuntime) -> Result<(), Fail> {
     let nobody = Groups::none();
     let base = base_of_ways(rt.alloc(), price)?;
     let from = base.find(entry).ok_or("no frame")?;
-    let told = [
+    let got = [
         base.follow(from, Way::at(0), &nobody),
         base.follow(from, Way::at(1), &nobody),
         base.follow(from, Way::at(2), &nobody),
@@ -125,7 +125,7 @@ fn a_way_comes_to_what_it_seeks(rt: HostRuntime) -> Result<(), Fail> {
         Destination::NotOffered,
         Destination::Missing(next),
     ];
-    same((told, sought), (wanted, [Some(first), None, Some(next)]))
+    same((got, sought), (wanted, [Some(first), None, Some(next)]))
 }
 
 #[test]
@@ -252,25 +252,25 @@ fn groups_are_read_from_their_texts() -> Result<(), Fail> {
 
 #[test]
 fn the_first_number_at_fault_is_told() -> Result<(), Fail> {
-    let rows: [(&str, Option<GroupFlaw>); 8] = [
+    let rows: [(&str, Option<GroupFault>); 8] = [
         ("7 9", None),
-        ("", Some(GroupFlaw::Number)),
-        ("7  9", Some(GroupFlaw::Number)),
-        ("07", Some(GroupFlaw::Number)),
-        ("0", Some(GroupFlaw::Range)),
-        ("9 7 0", Some(GroupFlaw::Order)),
+        ("", Some(GroupFault::Number)),
+        ("7  9", Some(GroupFault::Number)),
+        ("07", Some(GroupFault::Number)),
+        ("0", Some(GroupFault::Range)),
+        ("9 7 0", Some(GroupFault::Order)),
         (
             "1 2 3 4 5 6 7 8 9 10 11 12 13 14 15 16 17",
-            Some(GroupFlaw::Range),
+            Some(GroupFault::Range),
         ),
         (
             "1 2 3 4 5 6 7 8 9 10 11 12 13 14 15 16 x",
-            Some(GroupFlaw::Number),
+            Some(GroupFault::Number),
         ),
     ];
-    for (text, flaw) in rows {
-        let told = Groups::read_split(text.as_bytes(), b' ').err();
-        same_in(text, told, flaw)?;
+    for (text, fault) in rows {
+        let got = Groups::read_split(text.as_bytes(), b' ').err();
+        same_in(text, got, fault)?;
     }
     Ok(())
 }

@@ -148,8 +148,8 @@ fn keys_are_read_and_written_back(rt: HostRuntime) -> Result<(), Fail> {
     ] {
         let keys = keys_read(rt.alloc(), text)?;
         let written = keys_text(rt.alloc(), &keys)?;
-        let told = (keys.as_slice().len(), written.as_slice());
-        same_in(text, told, (count, text.as_bytes()))?;
+        let got = (keys.as_slice().len(), written.as_slice());
+        same_in(text, got, (count, text.as_bytes()))?;
     }
     Ok(())
 }

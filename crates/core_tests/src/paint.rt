@@ -96,7 +96,7 @@ fn paints_double_height_up_to_row_21() -> Result<(), Fail> {
     Ok(())
 }
 
-// The start, where there is one, isn't pending; more of them stand in `tests/cases`.
+// The start, where there is one, isn't pending; more of them are in `tests/cases`.
 fn start(at: u16, offset: usize) -> Option<Start> {
     Some(Start {
         at,
@@ -181,9 +181,9 @@ fn stands_for_positions_of_the_screen() -> Result<(), Fail> {
         ];
         for (pend, not_pending, pending) in pends {
             let cursor = AbsCursor { place, pend };
-            let told = (cursor.stands(at, false), cursor.stands(at, true));
+            let got = (cursor.stands(at, false), cursor.stands(at, true));
             let wanted = (is_stood_for && not_pending, is_stood_for && pending);
-            same_in((cursor, at), told, wanted)?;
+            same_in((cursor, at), got, wanted)?;
         }
     }
     Ok(())

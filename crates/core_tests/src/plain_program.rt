@@ -7,7 +7,7 @@ use std::test::Fail;
 use terminal_codes::{Terminal, lead_bytes};
 use test_support::same_in;
 
-// A terminal that stands at a position, an escape pending or not.
+// A terminal at a position, an escape pending or not.
 fn terminal_at(at: u16, pending: bool) -> Terminal {
     let mut terminal = Terminal::new();
     for _ in 0..at / 40 {

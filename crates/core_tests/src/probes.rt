@@ -69,7 +69,7 @@ fn in_order(mut pages: Vec<PageNo>) -> Vec<PageNo>
     pages
 }
 
-// So many odd numbers, from 1.
+// This many odd numbers, from 1.
 fn odd_pages(alloc: Global, count: u32) -> Result<Vec<PageNo>, Fail>
     ensures few { IfOk result (λ pages. length pages.items ≤ 65535) }
     ensures ascending { IfOk result (λ pages. IsStrictlyIncreasing pages.items) }

@@ -1,4 +1,4 @@
-//! What a session keeps, and sessions that cross a change. Replies that the program prints stand in `tests/cases`.
+//! What a session keeps, and sessions that cross a change. Replies that the program prints are in `tests/cases`.
 
 use frame_records::{Base, Body, Frame, GroupNo, Groups, Lead, Pence};
 use page_ids::{Digit, FrameId, Key, PageNo, keys_read};
@@ -39,7 +39,7 @@ fn frame(
     }
 }
 
-// An entry page and a page of two frames, of which the first may offer the next, and the second costs so much or isn't there.
+// An entry page and a page of two frames, of which the first may offer the next, and the second has this price or is missing.
 // Page 0 is outside.
 fn demo(alloc: Global, next: bool, last: Option<Pence>) -> Result<Base, Fail> {
     let [entry, first, second] = ids()?;
@@ -56,7 +56,7 @@ fn demo(alloc: Global, next: bool, last: Option<Pence>) -> Result<Base, Fail> {
     Ok(Base::build(entry.page, vec![in alloc; away]?, frames)?)
 }
 
-// Presses the keys in turn, and tells the last three replies.
+// Presses the keys in turn; the last three replies.
 fn pressed(
     alloc: Global,
     session: &mut Session,

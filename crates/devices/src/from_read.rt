@@ -13,7 +13,8 @@ pub struct FromRead<R> {
 impl<R: Read> FromRead<R> {
     /// A source of the bytes that the reader still gives.
     pub fn new(inner: R) -> FromRead<R>
-        ensures { ⟦<FromRead<R> as Source>⟧.seen result ≡ record { bytes = R.remaining inner; failed = false; flushes = 0 } }
+        ensures { ⟦<FromRead<R> as Source>⟧.seen result ≡
+            record { bytes = R.remaining inner; failed = false; flushes = 0 } }
     {
         FromRead {
             inner,

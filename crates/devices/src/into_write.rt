@@ -15,7 +15,8 @@ pub struct IntoWrite<W> {
 impl<W: Write> IntoWrite<W> {
     /// A sink whose bytes go to the writer.
     pub fn new(inner: W) -> IntoWrite<W>
-        ensures { ⟦<IntoWrite<W> as Sink>⟧.seen result ≡ record { bytes = W.contents inner; failed = false; flushes = 0 } }
+        ensures { ⟦<IntoWrite<W> as Sink>⟧.seen result ≡
+            record { bytes = W.contents inner; failed = false; flushes = 0 } }
     {
         IntoWrite {
             inner,

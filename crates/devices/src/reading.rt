@@ -28,7 +28,8 @@ fn read_piece<S: Source>(
 ) -> Result<usize, SourceFault>
     requires open { (S.seen source.old).failed ≡ false }
     requires some { 0 < most }
-    ensures piece { IfOk result (IsPieceRead most (S.seen source.old) (S.seen source.new) bytes.old.items bytes.new.items) }
+    ensures piece { IfOk result (IsPieceRead most (S.seen source.old)
+        (S.seen source.new) bytes.old.items bytes.new.items) }
     ensures fault { IfErr result (IsSourceFault most (S.seen source.old) (S.seen source.new)) }
     ensures unbroken { OnOk result ((S.seen source.new).failed ≡ false) }
 {

@@ -25,10 +25,10 @@ use Rattle.finder.specs.Finds.{Walk, IsRank}
 use Rattle.fault_scripts.specs.declared.fault.Fault.{Fault}
 use Rattle.fault_scripts.specs.declared.fault.FaultKind.{FaultKind}
 use Rattle.fault_scripts.specs.declared.fault.FaultKind.TheVariants as kind
-use Rattle.fault_scripts.specs.declared.flaw.Flaw.{Flaw}
-use Rattle.fault_scripts.specs.declared.flaw.Flaw.TheVariants.{Price, Touches, Missing, Closed, NoReturn}
+use Rattle.fault_scripts.specs.declared.frame_fault.FrameFault.{FrameFault}
+use Rattle.fault_scripts.specs.declared.frame_fault.FrameFault.TheVariants.{Price, Touches, Missing, Closed, NoReturn}
 use Rattle.fault_scripts.specs.Faults.{KeyIsDue, IsDueAs, number_of, turn_of}
-use Rattle.fault_scripts.specs.Flaws.{fault_of, price_flaw, way_flaw, is_far, return_flaw, asked}
+use Rattle.fault_scripts.specs.FrameFaults.{fault_of, over_price, way_fault, is_far, return_fault, asked}
 
 -- the way at a place has the place's number, and so has a way's key
 number_at : (n : ℕ) → n < 11 → number_of (std.Some (way_key (way_at n))) ≡ n
@@ -43,7 +43,7 @@ number_is Next = refl
 
 -- the ways are asked from the third turn on
 pub asked_way : (base : BaseView) (policy : Policy) (frame : Frame) (rank : Option ℕ) (n : ℕ) → n < 11
-    → asked base policy frame rank (n + 2) ≡ way_flaw (way_at n) (destination_of policy.groups base frame (way_at n))
+    → asked base policy frame rank (n + 2) ≡ way_fault (way_at n) (destination_of policy.groups base frame (way_at n))
 asked_way base policy frame rank n lt =
     let a : (n + 2 == 0) ≡ false = grind (arith, nat_tests) in
     let b : (n + 2 == 1) ≡ false = grind (arith, nat_tests) in
@@ -52,39 +52,39 @@ asked_way base policy frame rank n lt =
     rw (a, b, c, back) refl
 
 module _ (base : BaseView) (policy : Policy) (id : Id) (frame : Frame) (at : frame_at base id ≡ std.Some frame) (rank : Option ℕ) (is_rank : IsRank policy.groups base id rank) (keys : List Key) where
-  abbrev answer : ℕ → Option Flaw
+  abbrev answer : ℕ → Option FrameFault
   answer turn = asked base policy frame rank turn
 
-  abbrev fault : Flaw → Fault
-  fault flaw = fault_of id keys flaw
+  abbrev fault : FrameFault → Fault
+  fault wrong = fault_of id keys wrong
 
-  -- the flaw is due, in this turn
-  pub record IsDueIn (turn : ℕ) (flaw : Flaw) : Type 0 where
-    pub due : IsDueAs (fault flaw).kind base policy id frame keys (fault flaw)
-    pub placed : turn_of (fault flaw).kind (fault flaw).key ≡ turn
+  -- the wrong is due, in this turn
+  pub record IsDueIn (turn : ℕ) (wrong : FrameFault) : Type 0 where
+    pub due : IsDueAs (fault wrong).kind base policy id frame keys (fault wrong)
+    pub placed : turn_of (fault wrong).kind (fault wrong).key ≡ turn
 
-  price_due : (flaw : Flaw) → price_flaw policy.ceiling frame.price ≡ std.Some flaw → IsDueIn 0 flaw
-  price_due flaw e =
-      let c = cond_some (nat_lt policy.ceiling frame.price) (Price frame.price) flaw e in
+  price_due : (wrong : FrameFault) → over_price policy.ceiling frame.price ≡ std.Some wrong → IsDueIn 0 wrong
+  price_due wrong e =
+      let c = cond_some (nat_lt policy.ceiling frame.price) (Price frame.price) wrong e in
       let above : policy.ceiling < frame.price = grind (arith, nat_tests, c.0) in
       subst (IsDueIn 0) c.1 (record { due = record { above = above; is = refl }; placed = refl })
 
-  touch_due : (flaw : Flaw) (s : Option Start) → IsStart frame.lead frame.body s → option_map Touches s ≡ std.Some flaw
-      → IsDueIn 1 flaw
-  touch_due flaw std.None is e = absurd cc
-  touch_due flaw (std.Some start) is e = subst (IsDueIn 1) (same_Some (Touches start) flaw e) (record { due = record { start = start; least = is; is = refl }; placed = refl })
+  touch_due : (wrong : FrameFault) (s : Option Start) → IsStart frame.lead frame.body s → option_map Touches s ≡ std.Some wrong
+      → IsDueIn 1 wrong
+  touch_due wrong std.None is e = absurd cc
+  touch_due wrong (std.Some start) is e = subst (IsDueIn 1) (same_Some (Touches start) wrong e) (record { due = record { start = start; least = is; is = refl }; placed = refl })
 
   comes : (w : Way) (d : Destination) → destination_of policy.groups base frame w ≡ d
       → destination policy.groups base id w ≡ d
   comes w d e = ap (destination_by policy.groups base w) at ∙ e
 
-  way_due : (flaw : Flaw) (n : ℕ) → n < 11 → (d : Destination) → destination_of policy.groups base frame (way_at n) ≡ d
-      → way_flaw (way_at n) d ≡ std.Some flaw → IsDueIn (n + 2) flaw
-  way_due flaw n lt way.NotOffered is e = absurd cc
-  way_due flaw n lt (way.Found to price) is e = absurd cc
-  way_due flaw n lt (way.Closed to) is e = subst (IsDueIn (n + 2)) (same_Some (Closed (way_at n) to) flaw e) (record { due = record { through = way_at n; to = to; comes_to = comes (way_at n) (way.Closed to) is; is = refl }; placed = ap (λ (m : ℕ). m + 2) (number_at n lt) })
-  way_due flaw n lt (way.Missing to) is e = subst (IsDueIn (n + 2)) (same_Some (Missing (way_at n) to) flaw e) (record { due = record { through = way_at n; to = to; comes_to = comes (way_at n) (way.Missing to) is; is = refl }; placed = ap (λ (m : ℕ). m + 2) (number_at n lt) })
-  way_due flaw n lt (way.Outside page) is e = absurd cc
+  way_due : (wrong : FrameFault) (n : ℕ) → n < 11 → (d : Destination) → destination_of policy.groups base frame (way_at n) ≡ d
+      → way_fault (way_at n) d ≡ std.Some wrong → IsDueIn (n + 2) wrong
+  way_due wrong n lt way.NotOffered is e = absurd cc
+  way_due wrong n lt (way.Found to price) is e = absurd cc
+  way_due wrong n lt (way.Closed to) is e = subst (IsDueIn (n + 2)) (same_Some (Closed (way_at n) to) wrong e) (record { due = record { through = way_at n; to = to; comes_to = comes (way_at n) (way.Closed to) is; is = refl }; placed = ap (λ (m : ℕ). m + 2) (number_at n lt) })
+  way_due wrong n lt (way.Missing to) is e = subst (IsDueIn (n + 2)) (same_Some (Missing (way_at n) to) wrong e) (record { due = record { through = way_at n; to = to; comes_to = comes (way_at n) (way.Missing to) is; is = refl }; placed = ap (λ (m : ℕ). m + 2) (number_at n lt) })
+  way_due wrong n lt (way.Outside page) is e = absurd cc
 
   abbrev Far : Type 0
   Far = (n : ℕ) → n ≤ policy.keyings → Walk policy.groups base id (entry_of base) n → ⊥
@@ -100,41 +100,41 @@ module _ (base : BaseView) (policy : Policy) (id : Id) (frame : Frame) (at : fra
     by true e = refl
     by false e = let within : r ≤ policy.keyings = grind (arith, nat_tests, e) in absurd (far r within distance.walk)
 
-  return_due : (flaw : Flaw) → return_flaw policy.keyings rank ≡ std.Some flaw → IsDueIn 13 flaw
-  return_due flaw e =
-      let c = cond_some (is_far policy.keyings rank) NoReturn flaw e in
+  return_due : (wrong : FrameFault) → return_fault policy.keyings rank ≡ std.Some wrong → IsDueIn 13 wrong
+  return_due wrong e =
+      let c = cond_some (is_far policy.keyings rank) NoReturn wrong e in
       subst (IsDueIn 13) c.1 (record { due = record { far = far_of rank is_rank c.0; is = refl }; placed = refl })
 
   -- an answer is due
-  pub asked_due : (turn : ℕ) → turn < 14 → (flaw : Flaw) → answer turn ≡ std.Some flaw → IsDueIn turn flaw
-  asked_due turn lt flaw e = first (turn == 0) refl e where
+  pub asked_due : (turn : ℕ) → turn < 14 → (wrong : FrameFault) → answer turn ≡ std.Some wrong → IsDueIn turn wrong
+  asked_due turn lt wrong e = first (turn == 0) refl e where
     last : (b : Bool) → (turn == 0) ≡ false → (turn == 1) ≡ false → (turn == 13) ≡ b
-        → cond b (return_flaw policy.keyings rank) (way_flaw (way_at (turn - 2)) (destination_of policy.groups base frame (way_at (turn - 2)))) ≡ std.Some flaw → IsDueIn turn flaw
-    last true zeroth other is h = subst (λ (t : ℕ). IsDueIn t flaw) (grind (arith, nat_tests, is)) (return_due flaw h)
+        → cond b (return_fault policy.keyings rank) (way_fault (way_at (turn - 2)) (destination_of policy.groups base frame (way_at (turn - 2)))) ≡ std.Some wrong → IsDueIn turn wrong
+    last true zeroth other is h = subst (λ (t : ℕ). IsDueIn t wrong) (grind (arith, nat_tests, is)) (return_due wrong h)
     last false zeroth other is h =
         let few : turn - 2 < 11 = grind (arith, nat_tests, lt, is) in
         let back : turn - 2 + 2 ≡ turn = grind (arith, nat_tests, zeroth, other) in
-        subst (λ (t : ℕ). IsDueIn t flaw) back (way_due flaw (turn - 2) few (destination_of policy.groups base frame (way_at (turn - 2))) refl h)
+        subst (λ (t : ℕ). IsDueIn t wrong) back (way_due wrong (turn - 2) few (destination_of policy.groups base frame (way_at (turn - 2))) refl h)
 
     second : (b : Bool) → (turn == 0) ≡ false → (turn == 1) ≡ b
-        → cond b (option_map Touches (start_of frame.lead frame.body (paint_of frame.lead frame.body))) (cond (turn == 13) (return_flaw policy.keyings rank) (way_flaw (way_at (turn - 2)) (destination_of policy.groups base frame (way_at (turn - 2))))) ≡ std.Some flaw → IsDueIn turn flaw
-    second true zeroth is h = subst (λ (t : ℕ). IsDueIn t flaw) (grind (arith, nat_tests, is)) (touch_due flaw (start_of frame.lead frame.body (paint_of frame.lead frame.body)) (is_start frame.lead frame.body) h)
+        → cond b (option_map Touches (start_of frame.lead frame.body (paint_of frame.lead frame.body))) (cond (turn == 13) (return_fault policy.keyings rank) (way_fault (way_at (turn - 2)) (destination_of policy.groups base frame (way_at (turn - 2))))) ≡ std.Some wrong → IsDueIn turn wrong
+    second true zeroth is h = subst (λ (t : ℕ). IsDueIn t wrong) (grind (arith, nat_tests, is)) (touch_due wrong (start_of frame.lead frame.body (paint_of frame.lead frame.body)) (is_start frame.lead frame.body) h)
     second false zeroth is h = last (turn == 13) zeroth is refl h
 
     first : (b : Bool) → (turn == 0) ≡ b
-        → cond b (price_flaw policy.ceiling frame.price) (cond (turn == 1) (option_map Touches (start_of frame.lead frame.body (paint_of frame.lead frame.body))) (cond (turn == 13) (return_flaw policy.keyings rank) (way_flaw (way_at (turn - 2)) (destination_of policy.groups base frame (way_at (turn - 2)))))) ≡ std.Some flaw → IsDueIn turn flaw
-    first true is h = subst (λ (t : ℕ). IsDueIn t flaw) (grind (arith, nat_tests, is)) (price_due flaw h)
+        → cond b (over_price policy.ceiling frame.price) (cond (turn == 1) (option_map Touches (start_of frame.lead frame.body (paint_of frame.lead frame.body))) (cond (turn == 13) (return_fault policy.keyings rank) (way_fault (way_at (turn - 2)) (destination_of policy.groups base frame (way_at (turn - 2)))))) ≡ std.Some wrong → IsDueIn turn wrong
+    first true is h = subst (λ (t : ℕ). IsDueIn t wrong) (grind (arith, nat_tests, is)) (price_due wrong h)
     first false is h = second (turn == 1) is refl h
 
   -- a fault that is due is the answer in its turn
   pub record IsAnswer (turn : ℕ) (f : Fault) : Type 0 where
-    pub flaw : Flaw
-    pub is : f ≡ fault flaw
-    pub answered : answer turn ≡ std.Some flaw
+    pub wrong : FrameFault
+    pub is : f ≡ fault wrong
+    pub answered : answer turn ≡ std.Some wrong
     pub in_turn : turn < 14
 
   -- the answer of a way
-  way_answer : (f : Fault) (k : FaultKind) (what : Id → Destination) (w : Flaw) (d : KeyIsDue policy.groups base id keys f k what) → (what d.to ≡ way.NotOffered → ⊥) → way_flaw d.through (what d.to) ≡ std.Some w → f ≡ fault w → IsAnswer (number_of f.key + 2) f
+  way_answer : (f : Fault) (k : FaultKind) (what : Id → Destination) (w : FrameFault) (d : KeyIsDue policy.groups base id keys f k what) → (what d.to ≡ way.NotOffered → ⊥) → way_fault d.through (what d.to) ≡ std.Some w → f ≡ fault w → IsAnswer (number_of f.key + 2) f
   way_answer f k what w d other yields is =
       let g = going policy.groups base id d.through (what d.to) d.comes_to other in
       let own : g.frame ≡ frame = same_Some g.frame frame (sym g.there ∙ at) in
@@ -144,19 +144,19 @@ module _ (base : BaseView) (policy : Policy) (id : Id) (frame : Frame) (at : fra
       let there : destination_of policy.groups base frame d.through ≡ what d.to = sym (ap (destination_by policy.groups base d.through) at) ∙ d.comes_to in
       let here : answer (n + 2) ≡ std.Some w =
       asked_way base policy frame rank n p.0
-      ∙ ap (λ (x : Way). way_flaw x (destination_of policy.groups base frame x)) p.1
-      ∙ ap (way_flaw d.through) there ∙ yields in
-      subst (λ (m : ℕ). IsAnswer (m + 2) f) (sym number) (record { flaw = w; is = is; answered = here; in_turn = omega (arith, p.0) })
+      ∙ ap (λ (x : Way). way_fault x (destination_of policy.groups base frame x)) p.1
+      ∙ ap (way_fault d.through) there ∙ yields in
+      subst (λ (m : ℕ). IsAnswer (m + 2) f) (sym number) (record { wrong = w; is = is; answered = here; in_turn = omega (arith, p.0) })
 
   pub due_asked : (k : FaultKind) (f : Fault) → IsDueAs k base policy id frame keys f → IsAnswer (turn_of k f.key) f
   due_asked kind.EntryMissing f d = absurd d
   due_asked kind.EntryClosed f d = absurd d
   due_asked kind.Price f d =
       let above : nat_lt policy.ceiling frame.price ≡ true = grind (arith, nat_tests, d.above) in
-      record { flaw = Price frame.price; is = d.is; answered = rw above refl; in_turn = omega arith }
+      record { wrong = Price frame.price; is = d.is; answered = rw above refl; in_turn = omega arith }
   due_asked kind.Touches f d =
       let same = starts_are_one frame.lead frame.body (start_of frame.lead frame.body (paint_of frame.lead frame.body)) (std.Some d.start) (is_start frame.lead frame.body) d.least in
-      record { flaw = Touches d.start; is = d.is; answered = ap (option_map Touches) same; in_turn = omega arith }
+      record { wrong = Touches d.start; is = d.is; answered = ap (option_map Touches) same; in_turn = omega arith }
   due_asked kind.Missing f d = way_answer f kind.Missing way.Missing (Missing d.through d.to) d (λ e. cc) refl d.is
   due_asked kind.Closed f d = way_answer f kind.Closed way.Closed (Closed d.through d.to) d (λ e. cc) refl d.is
-  due_asked kind.NoReturn f d = record { flaw = NoReturn; is = d.is; answered = rw (test_far rank is_rank d.far) refl; in_turn = omega arith }
+  due_asked kind.NoReturn f d = record { wrong = NoReturn; is = d.is; answered = rw (test_far rank is_rank d.far) refl; in_turn = omega arith }

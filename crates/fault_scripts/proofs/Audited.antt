@@ -22,41 +22,41 @@ use Rattle.fault_scripts.proofs.Limits.{frames_few}
 use Rattle.fault_scripts.proofs.NoneSafe.{none_due, none_safe}
 use Rattle.fault_scripts.proofs.Shown.{faults_shown}
 use Rattle.fault_scripts.proofs.Sound.{IsSound, sound}
-use Rattle.fault_scripts.proofs.Told.{all_told}
+use Rattle.fault_scripts.proofs.Reported.{all_reported}
 
 -- a list that is tested to be empty, or not to be
-pub none_told : {X : Type 0} (xs ys : List X) (b : Bool) → ys ≡ xs → b ≡ eqb (length ys) 0 → b ≡ true → xs ≡ []
-none_told xs ys b same test passes =
+pub none_reported : {X : Type 0} (xs ys : List X) (b : Bool) → ys ≡ xs → b ≡ eqb (length ys) 0 → b ≡ true → xs ≡ []
+none_reported xs ys b same test passes =
     let is : eqb (length ys) 0 ≡ true = sym test ∙ passes in
     sym same ∙ nil_from_length ys (grind (arith, nat_tests))
 
-pub some_told : {X : Type 0} (xs ys : List X) (b : Bool) → ys ≡ xs → b ≡ eqb (length ys) 0 → b ≡ false → xs ≢ []
-some_told xs ys b same test fails none =
+pub some_reported : {X : Type 0} (xs ys : List X) (b : Bool) → ys ≡ xs → b ≡ eqb (length ys) 0 → b ≡ false → xs ≢ []
+some_reported xs ys b same test fails none =
     let is : eqb (length ys) 0 ≡ false = sym test ∙ fails in
     let nothing : length ys ≡ 0 = ap length (same ∙ none) in
     absurd (grind (arith, nat_tests))
 
 module _ (base : BaseView) (policy : Policy) (j : Judge) (whole : IsWhole base policy j) where
   -- what was reported is all
-  pub told_along : AreFaultsAlong base policy j.teller.faults.items
-  told_along = record {
+  pub reported_along : AreFaultsAlong base policy j.reporter.faults.items
+  reported_along = record {
     found = whole.found;
-    finding = whole.judged.telling.finding;
-    due = all_told base policy whole.found whole.judged.telling.finding j.teller.faults.items whole.judged.telling.told;
+    finding = whole.judged.reporting.finding;
+    due = all_reported base policy whole.found whole.judged.reporting.finding j.reporter.faults.items whole.judged.reporting.reported;
   }
 
-  module _ (entry : EntryIsFound policy.groups base) (none : j.teller.faults.items ≡ []) where
+  module _ (entry : EntryIsFound policy.groups base) (none : j.reporter.faults.items ≡ []) where
     abbrev found : List Discovered
     found = whole.found
 
     abbrev finding : IsFinding policy.groups base found
-    finding = whole.judged.telling.finding
+    finding = whole.judged.reporting.finding
 
     abbrev none_along : AreFaultsAlong base policy []
     none_along = record {
       found = found;
       finding = finding;
-      due = subst (AreDue base policy found) none (all_told base policy found finding j.teller.faults.items whole.judged.telling.told);
+      due = subst (AreDue base policy found) none (all_reported base policy found finding j.reporter.faults.items whole.judged.reporting.reported);
     }
 
     sounds : (i : ℕ) (d : Discovered) → slice_get found i ≡ Some d → IsSound base policy d
@@ -90,7 +90,7 @@ module _ (base : BaseView) (policy : Policy) (valid : IsBase base) where
 
   shown : (o : Outcome) → IsOutcome base policy o → AreShown base policy o
   shown (Certified cert) is = tt
-  shown (Faulty faults) is = λ fault told. faults_shown base policy faults fault is.0 told
+  shown (Faulty faults) is = λ fault reported. faults_shown base policy faults fault is.0 reported
 
   pub if_decided : {E : Type 0} (r : Result Outcome E) → IfOk r (IsOutcome base policy)
       → IfOk r (DecidesSafety base policy)

@@ -9,7 +9,7 @@ use Rattle.checker.specs.declared.policy.Policy.{Policy}
 use Rattle.fault_scripts.specs.declared.fault.Fault.{Fault}
 use Rattle.fault_scripts.specs.Faults.{IsOfPlace, turn_at, AreFaultsAlong, AreFaultsBy, AreFaults}
 use Rattle.fault_scripts.specs.FaultLaws.{FaultsAreDue}
-use Rattle.fault_scripts.proofs.Told.{own_place}
+use Rattle.fault_scripts.proofs.Reported.{own_place}
 
 -- if the entry frame is found, they are those of the discovered frames, and the other way round
 pub along : (base : BaseView) (policy : Policy) (price : ℕ) (faults : List Fault)

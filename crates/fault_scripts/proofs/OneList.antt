@@ -13,7 +13,7 @@ use Rattle.fault_scripts.specs.declared.fault.Fault.{Fault}
 use Rattle.fault_scripts.specs.Faults.{IsDue, StandsBefore, AreDue, AreFaultsAlong, AreFaultsBy}
 use Rattle.fault_scripts.specs.FaultLaws.{FaultsAreOne}
 use Rattle.fault_scripts.proofs.Lists.{none_in}
-use Rattle.fault_scripts.proofs.Told.{own_place}
+use Rattle.fault_scripts.proofs.Reported.{own_place}
 
 -- lists in one order with the same elements are the same list
 module _ {X : Type 0} (R : X → X → Type 0) where

@@ -113,14 +113,14 @@ only_one x y at =
     ]
 
 pub faults_shown : FaultsAreShown
-faults_shown base policy faults fault are told = by (seek_entry policy.groups base) refl are where
+faults_shown base policy faults fault are reported = by (seek_entry policy.groups base) refl are where
   -- if the entry frame isn't found that is shown by no keys
   entry : (plain : Fault) → Shows base policy plain → faults ≡ plain ∷ [] → Shows base policy fault
-  entry plain shown is = subst (Shows base policy) (only_one plain fault (subst (λ (l : List Fault). Contains l fault) is told)) shown
+  entry plain shown is = subst (Shows base policy) (only_one plain fault (subst (λ (l : List Fault). Contains l fault) is reported)) shown
 
   by : (s : Sought) → seek_entry policy.groups base ≡ s → AreFaultsBy s base policy faults → Shows base policy fault
   by (sought.Found price) e along =
-      let due = (along.due.just fault).0 told in
+      let due = (along.due.just fault).0 reported in
       let lead = subst (λ (keys : List Key). KeysLead policy.groups base (entry_of base) keys due.discovered.id) (sym due.place.script) (along.finding.scripts.leads due.index due.discovered due.place.listed) in
       shows_as base policy price due.discovered.id due.frame due.keys e lead due.place.of_frame fault.kind fault due.due
   by sought.Closed e is = entry (plain_fault kind.EntryClosed (entry_of base) []) (record { frame = refl; script = refl; sought = e }) is

@@ -1,4 +1,4 @@
-pub mod Flaws
+pub mod FrameFaults
 pub mod FaultLaws
 pub mod Outcomes
 pub mod Loops

@@ -15,7 +15,7 @@ use Rattle.checker.specs.declared.policy.Policy.{Policy}
 use Rattle.finder.specs.Finds.{IsFinding, ScriptsExtend, script}
 use Rattle.fault_scripts.specs.declared.fault.Fault.{Fault}
 use Rattle.fault_scripts.specs.declared.frames.Judge.{Judge}
-use Rattle.fault_scripts.specs.declared.teller.Teller.{Teller}
+use Rattle.fault_scripts.specs.declared.reporter.Reporter.{Reporter}
 use Rattle.fault_scripts.specs.Faults.{IsDue, StandsBefore, turn_at}
 use Rattle.std.specs.List.Sorted.{IsSortedByKey}
 use Rattle.cert_table.specs.Table.{CertView, table_fault}
@@ -74,20 +74,20 @@ pub record IsDueBelow (base : BaseView) (policy : Policy) (found : List Discover
   pub below : turn_at due.index fault < place
 
 -- exactly those have been reported, in order
-pub record IsTold (base : BaseView) (policy : Policy) (found : List Discovered) (place : ℕ) (faults : List Fault) : Type 0 where
+pub record IsReported (base : BaseView) (policy : Policy) (found : List Discovered) (place : ℕ) (faults : List Fault) : Type 0 where
   pub just : All (IsDueBelow base policy found place) faults
   pub whole : (fault : Fault) → IsDueBelow base policy found place fault → Contains faults fault
   pub in_order : AllPairs (StandsBefore found) faults
 
--- a teller that has reported them
-pub record IsTelling (base : BaseView) (policy : Policy) (found : List Discovered) (place : ℕ) (t : Teller) : Type 0 where
+-- a reporter that has reported them
+pub record IsReporting (base : BaseView) (policy : Policy) (found : List Discovered) (place : ℕ) (t : Reporter) : Type 0 where
   pub finding : IsFinding policy.groups base found
   pub script : HasScript found t.at t.keys.items
-  pub told : IsTold base policy found place t.faults.items
+  pub reported : IsReported base policy found place t.faults.items
 
 -- of the first frames the faults have been reported, and the rows gathered
 pub record IsJudged (base : BaseView) (policy : Policy) (found : List Discovered) (done : ℕ) (j : Judge) : Type 0 where
-  pub telling : IsTelling base policy found (done * 14) j.teller
+  pub reporting : IsReporting base policy found (done * 14) j.reporter
   pub gathered : IsGathered base (take done found) j.table
 
 -- all frames of a base have been judged

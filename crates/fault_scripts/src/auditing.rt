@@ -17,7 +17,8 @@ use std::alloc::{AllocError, Global};
 
 // The one fault of a base whose entry frame isn't found; `None` if it is found.
 fn entry_fault(alloc: Global, base: &Base, policy: &Policy) -> Result<Option<FaultList>, AllocError>
-    ensures fault { IfOk result (λ list. MatchOption list (EntryIsFound policy.now.groups base.now) (AreAllFaults base.now policy.now)) }
+    ensures fault { IfOk result (λ list.
+        MatchOption list (EntryIsFound policy.now.groups base.now) (AreAllFaults base.now policy.now)) }
     ensures valid { IsBase base.now }
 {
     let entry = base.entry_frame();
@@ -69,10 +70,10 @@ fn audit_found(alloc: Global, base: &Base, policy: &Policy) -> Result<Outcome, A
 {
     let survey = Survey::of(alloc, base, &policy.groups)?;
     let judge = judged(alloc, &survey, policy)?;
-    if judge.teller.faults.as_slice().is_empty() {
+    if judge.reporter.faults.as_slice().is_empty() {
         Ok(Outcome::Certified(certificate_of(base, &policy.groups, judge.table)))
     } else {
-        Ok(Outcome::Faulty(FaultList::of(judge.teller.faults)))
+        Ok(Outcome::Faulty(FaultList::of(judge.reporter.faults)))
     }
 }
 
@@ -99,7 +100,7 @@ pub fn judge_base(alloc: Global, base: &Base, policy: &Policy) -> Result<Judgeme
     let survey = Survey::of(alloc, base, &policy.groups)?;
     let faults = match entry_fault(alloc, base, policy)? {
         Some(faults) => faults,
-        None => FaultList::of(judged(alloc, &survey, policy)?.teller.faults),
+        None => FaultList::of(judged(alloc, &survey, policy)?.reporter.faults),
     };
     Ok(Judgement {
         faults,

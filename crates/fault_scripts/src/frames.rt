@@ -2,8 +2,8 @@ ghost use Rattle.std.specs.Prelude.{◌≡◌, ◌<◌, ◌≤◌, ◌+◌, IfOk
 ghost use Rattle.finder.specs.Finds.{IsFinding};
 ghost use Rattle.fault_scripts.specs.Loops.{IsJudged};
 
+use crate::reporter::{Reporter, discovered_at};
 use crate::table::GatheredRows;
-use crate::teller::{Teller, discovered_at};
 use abstract_paint::paint;
 use checker::Policy;
 use finder::Survey;
@@ -12,7 +12,7 @@ use std::alloc::{AllocError, Global};
 // Judges the discovered frames: reports their faults, and gathers the rows of a certificate.
 #[derive(Drop)]
 pub struct Judge {
-    pub teller: Teller,
+    pub reporter: Reporter,
     pub table: GatheredRows,
 }
 
@@ -33,7 +33,7 @@ impl Judge {
         let discovered = discovered_at(survey, index);
         let frame = survey.frame(index as usize);
         let painted = paint(frame.lead, frame.body.as_slice());
-        self.teller
+        self.reporter
             .judge(alloc, survey, policy, index, frame, painted)?;
         self.table
             .add(discovered.id, discovered.rank, frame.price, painted)?;
@@ -50,7 +50,7 @@ pub fn judge_all(alloc: Global, survey: &Survey, policy: &Policy) -> Result<Judg
 {
     let count = survey.found().as_slice().len() as u32;
     let mut judge = Judge {
-        teller: Teller::new(alloc),
+        reporter: Reporter::new(alloc),
         table: GatheredRows::new(alloc),
     };
     for index in 0..count {

@@ -18,13 +18,13 @@
 
 mod auditing;
 mod fault;
-mod flaw;
+mod frame_fault;
 mod frames;
 mod laws;
 mod outcome;
 mod replaying;
+mod reporter;
 mod table;
-mod teller;
 
 pub use auditing::{audit, faults, judge_base};
 pub use fault::{Fault, FaultKind, FaultList};

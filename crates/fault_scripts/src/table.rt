@@ -52,7 +52,7 @@ fn push_row(
 }
 
 impl GatheredRows {
-    // No frame yet.
+    // An empty table.
     pub fn new(alloc: Global) -> GatheredRows
         ensures rows { result.rows.items ≡ [] }
         ensures ceiling { result.ceiling ≡ 0 }

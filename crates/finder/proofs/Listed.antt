@@ -3,7 +3,7 @@ use Rattle.std.proofs.Common.{◌≡◌, ◌<◌, ◌+◌, ◌*◌, inl, inr, �
 use Rattle.finder.proofs.Words.{cases_lt, cases_order, All-nil, All-push, all_pairs_push, Any-push, slice_get_within, same_Some, slice_get-get_or, Id, place_at, way_at, way_place, way_key, Way, BaseView, entry_of, Leads, Discovered, number, IsDiscovery, Pair, HasPair, PairLeads, IsBefore, HasFirstPair, FindsReached, Walk, IsRank, EntryIsFound}
 use Rattle.page_ids.specs.declared.way.Way.TheVariants.{Route, Next}
 use Rattle.frame_records.specs.declared.ways.Destination.TheVariants.{Found}
-use Rattle.finder.proofs.Within.{known_way}
+use Rattle.finder.proofs.Leading.{known_way}
 use Rattle.finder.proofs.Lists.{at_push, push_at, all_at, any_at, any_of, any_grown}
 
 -- the order of pairs is that of their numbers

@@ -1,11 +1,11 @@
 -- Which nodes are marked, and what a way of a listed frame's node does.
 use Rattle.std.proofs.Common.{◌≡◌, ◌<◌, ◌≤◌, ◌+◌, ◌*◌, ◌⊎◌, ℕ, Bool, true, false, cond, List, [], ◌∷◌, ◌++◌, Some, None, slice_get, length, get_or, set, refl, sym, ◌∙◌, ap, subst, ⊎_elim, length-append, replicate, arith, Any, Contains}
-use Rattle.finder.proofs.Words.{cases_eq, common_steps, get_or-set_at, slice_get_within, get_or-set_other, get_or-replicate, length-replicate, All-nil, All-push, All-contains, Contains-push, Contains-append_left, sum_by-set, count_by-le-length, same_Some, Id, entry_of, Frame, IsAscending, Discovered, Discovery, Graph, Goes, AreMarked, AreNamed, IsListed, FindsReached, EntryIsFound, IsNodeRank, way_at, way_key, id_at}
+use Rattle.finder.proofs.Words.{cases_eq, common_steps, get_or-set_at, slice_get_within, get_or-set_other, get_or-replicate, length-replicate, All-nil, All-push, All-contains, Contains-push, Contains-append_left, sum_by-set, count_by-le-length, same_Some, Id, entry_of, Frame, IsAscending, Discovered, Discovery, Graph, Goes, AreMarked, AreNamed, IsListed, FindsReached, EntryIsFound, IsFromEntry, IsRank, way_at, way_key, id_at}
 use Rattle.std.proofs.lemmas.List.Folds.{sum_by-replicate}
 use Rattle.finder.proofs.Listed.{listed, finds_reached, passed, pushed, started}
 use Rattle.finder.proofs.Lists.{at_push, at_within, any_at, any_of, at_contains, contains_at, full_at, set_kept, true_within}
 use Rattle.finder.proofs.Nodes.{id_there}
-use Rattle.finder.proofs.Steps.{one_node, leads_id, leads_to, rank_ids, walk_nodes}
+use Rattle.finder.proofs.Steps.{one_node, leads_id, leads_to, walk_nodes}
 
 module _ (graph : Graph) (nodes : List ℕ) (listed : List Bool) (are : AreMarked graph nodes listed) where
   pub few : length nodes ≤ graph.table.count
@@ -62,16 +62,16 @@ marked_none graph = record {
 
 module _ (graph : Graph) (d : Discovery) (frame : Discovered) where
   -- the entry node alone
-  pub entry_listed : d.order.keys ≡ graph.entry ∷ [] → d.found ≡ frame ∷ []
-      → d.listed.items ≡ set (replicate graph.table.count false) graph.entry true
-      → id_at graph.table.base.now.frames graph.entry ≡ Some frame.id → frame.parent ≡ None → frame.key ≡ None
-      → IsNodeRank graph graph.entry frame.rank → IsListed graph 0 d
-  entry_listed order found listed at parent key ranked =
-      let same : frame.id ≡ entry_of graph.table.base.now = same_Some frame.id (entry_of graph.table.base.now) (sym at ∙ graph.entry_is) in
+  pub entry_listed : d.order.keys ≡ graph.start ∷ [] → d.found ≡ frame ∷ []
+      → d.listed.items ≡ set (replicate graph.table.count false) graph.start true
+      → id_at graph.table.base.now.frames graph.start ≡ Some frame.id → frame.parent ≡ None → frame.key ≡ None
+      → IsRank graph.table.groups.now graph.table.base.now frame.id frame.rank → IsFromEntry graph → IsListed graph 0 d
+  entry_listed order found listed at parent key ranked entry =
+      let same : frame.id ≡ entry_of graph.table.base.now = same_Some frame.id (entry_of graph.table.base.now) (sym at ∙ entry.entry_is) in
       record {
-        named = rw (order, found) (named_more graph.table.base.now.frames [] [] (record { each = λ i n e at there. absurd cc; as_many = refl }) graph.entry frame at);
-        marked = rw (order, listed) (marked_more graph [] (replicate graph.table.count false) (marked_none graph) graph.entry (get_or-replicate graph.table.count graph.entry false false graph.entered) graph.entered);
-        found = rw found (started graph.table.groups.now graph.table.base.now frame same parent key (rank_ids graph graph.entry frame.id frame.rank at ranked));
+        named = rw (order, found) (named_more graph.table.base.now.frames [] [] (record { each = λ i n e at there. absurd cc; as_many = refl }) graph.start frame at);
+        marked = rw (order, listed) (marked_more graph [] (replicate graph.table.count false) (marked_none graph) graph.start (get_or-replicate graph.table.count graph.start false false graph.started) graph.started);
+        found = rw found (started graph.table.groups.now graph.table.base.now frame same parent key ranked);
       }
 
 module _ (graph : Graph) (index way from : ℕ) (d : Discovery) (small : way < 11) (placed : slice_get d.order.keys index ≡ Some from) (is : IsListed graph (index * 11 + way) d) where
@@ -93,22 +93,22 @@ module _ (graph : Graph) (index way from : ℕ) (d : Discovery) (small : way < 1
   -- it leads to a node that isn't marked
   pub way_led : (node : ℕ) (frame : Discovered) (new : Discovery) → Goes graph from way node
       → id_at graph.table.base.now.frames node ≡ Some frame.id → get_or d.listed.items node false ≡ false
-      → IsNodeRank graph node frame.rank → frame.parent ≡ Some index → frame.key ≡ Some (way_key (way_at way))
+      → IsRank graph.table.groups.now graph.table.base.now frame.id frame.rank → frame.parent ≡ Some index → frame.key ≡ Some (way_key (way_at way))
       → new.order.keys ≡ d.order.keys ++ node ∷ [] → new.found ≡ d.found ++ frame ∷ []
       → new.listed.items ≡ set d.listed.items node true → IsListed graph (index * 11 + way + 1) new
   way_led node frame new goes named blank ranked parent key order found listed = record {
     named = rw (order, found) (named_more graph.table.base.now.frames d.order.keys d.found is.named node frame named);
     marked = rw (order, listed) (marked_more graph d.order.keys d.listed.items is.marked node blank goes.to);
-    found = rw found (pushed graph.table.groups.now graph.table.base.now index way e.0 d.found small e.1 is.found frame parent key (leads_id graph from way node e.0.id frame.id goes e.2 named) (λ some. not_listed graph d.order.keys d.listed.items is.marked node blank (node_of graph.table.base.now.frames d.order.keys d.found is.named node frame.id graph.table.valid.ascending named some)) (rank_ids graph node frame.id frame.rank named ranked));
+    found = rw found (pushed graph.table.groups.now graph.table.base.now index way e.0 d.found small e.1 is.found frame parent key (leads_id graph from way node e.0.id frame.id goes e.2 named) (λ some. not_listed graph d.order.keys d.listed.items is.marked node blank (node_of graph.table.base.now.frames d.order.keys d.found is.named node frame.id graph.table.valid.ascending named some)) ranked);
   }
 
 -- all frames are listed that are reached
-module _ (graph : Graph) (index : ℕ) (d : Discovery) (is : IsListed graph (index * 11) d) where
+module _ (graph : Graph) (index : ℕ) (d : Discovery) (is : IsListed graph (index * 11) d) (entry : IsFromEntry graph) where
   pub discovered : (length d.order.keys ≤ index) ⊎ (graph.table.count ≤ length d.order.keys)
       → EntryIsFound graph.table.groups.now graph.table.base.now
       → FindsReached graph.table.groups.now graph.table.base.now d.found
   discovered end = finds_reached graph.table.groups.now graph.table.base.now index d.found is.found (⊎_elim (λ past. listed graph.table.groups.now graph.table.base.now index d.found is.found (omega (arith, past, is.named.as_many))) (λ full n g walk.
-      let to = walk_nodes graph n graph.entry (entry_of graph.table.base.now) g graph.entry_is walk in
+      let to = walk_nodes graph n graph.start (entry_of graph.table.base.now) g entry.entry_is walk in
       let there = id_there graph.table.base.now.frames to.0 g to.1 in
       let inside = slice_get_within graph.table.base.now.frames to.0 there.0 there.1 in
       listed_of graph.table.base.now.frames d.order.keys d.found is.named to.0 g to.1 (is.marked.marked to.0 (full_at (λ b. b) d.listed.items to.0 true false refl (omega (arith, full, is.marked.count, is.marked.room)) (omega (arith, inside, graph.table.nodes, is.marked.room))))) end)

@@ -1,9 +1,9 @@
 -- Ids of nodes, and the ways between them.
-use Rattle.std.proofs.Common.{◌≡◌, ℕ, List, Option, Some, None, option_map, length, slice_get, refl, sym, ◌∙◌, ap, ⊎_elim, ◌<◌, zero, suc, subst, arith}
-use Rattle.finder.proofs.Words.{cases_lt, same_Some, slice_get_within, Id, Way, place_at, way_at, way_place, Frame, IsAscending, BaseView, entry_of, destination_of, destination_by, destination, aim_of, Leads, id_at, Graph, Goes, NodeWalk, IsNodeRank, Walk, IsRank}
+use Rattle.std.proofs.Common.{◌≡◌, ℕ, List, Option, Some, None, option_map, length, slice_get, refl, sym, ◌∙◌, ap, ⊎_elim, ◌<◌, zero, suc, subst, arith, get_or}
+use Rattle.finder.proofs.Words.{cases_lt, same_Some, slice_get_within, slice_get_read, Id, id_eq, Way, place_at, way_at, way_place, Frame, IsAscending, BaseView, entry_of, destination_of, destination_by, destination, aim_of, Leads, going, frame_id, first_found, id_at, Direction, From, To, Graph, Goes, NodeWalk, Comes, turned, IsNodeRank, AreRanks, IsFromEntry, Walk, WalkIn, IsRank}
 use Rattle.frame_records.specs.declared.ways.Destination.TheVariants as destination_is
 use Rattle.finder.proofs.Nodes.{same_node, frame_here, id_there}
-use Rattle.finder.proofs.Within.{node_to, told, leads_on, known_way}
+use Rattle.finder.proofs.Leading.{node_to, told, leads_on, known_way}
 use Rattle.finder.proofs.Lists.{mapped}
 
 -- an id has one node
@@ -56,6 +56,13 @@ module _ (graph : Graph) where
       → (node : ℕ) × IsOf node g × Goes graph f way node
   leads_to f way a g small at l = let to = leads_node f (way_at way) a g at l in (to.0, to.1, subst (λ w. Goes graph f w to.0) (place_at way small) to.2)
 
+  -- a frame from which a way leads has a node
+  first_node : (a : Id) (way : Way) (b : Id) → Leads caller base a way b → (f : ℕ) × IsOf f a
+  first_node a way b l =
+      let is = going caller base a way (destination_is.Found b l.price) l.found (λ same. absurd cc) in
+      let at = first_found (λ f. id_eq f.id a) base.frames is.frame is.there in
+      (at.0, ap (option_map (λ (f : Frame). f.id)) (slice_get_read base.frames (length base.frames) at.0 is.frame refl at.1.within (sym (at.1.at is.frame))) ∙ ap Some (frame_id base.frames a is.frame is.there))
+
   walk_ids : (n f g : ℕ) (a b : Id) → IsOf f a → IsOf g b → NodeWalk graph f g n → Walk caller base a b n
   walk_ids zero f g a b at there same = same_Some a b (sym at ∙ ap (id_at base.frames) same ∙ there)
   walk_ids (suc n) f g a b at there walk =
@@ -70,13 +77,48 @@ module _ (graph : Graph) where
       let to = leads_node before.0 walk.1 walk.0 b before.1 walk.3 in
       (to.0, to.1, (before.0, way_place walk.1, before.2, to.2))
 
-  -- a walk to the entry frame
-  to_entry : (f m : ℕ) (a : Id) → IsOf f a → Walk caller base a (entry_of base) m → NodeWalk graph f graph.entry m
-  to_entry f m a at walk =
-      let to = walk_nodes m f a (entry_of base) at walk in
-      let same : to.0 ≡ graph.entry = one_node base.frames to.0 graph.entry (entry_of base) graph.table.valid.ascending to.1 graph.entry_is in
-      subst (λ g. NodeWalk graph f g m) same to.2
+  -- a walk between two frames is one between their nodes
+  between : (n f g : ℕ) (a b : Id) → IsOf f a → IsOf g b → Walk caller base a b n → NodeWalk graph f g n
+  between n f g a b at there walk =
+      let to = walk_nodes n f a b at walk in
+      subst (λ h. NodeWalk graph f h n) (one_node base.frames to.0 g b graph.table.valid.ascending to.1 there) to.2
 
-  pub rank_ids : (f : ℕ) (a : Id) (rank : Option ℕ) → IsOf f a → IsNodeRank graph f rank → IsRank caller base a rank
-  rank_ids f a None at none = λ m walk. none m (to_entry f m a at walk)
-  rank_ids f a (Some n) at is = record { walk = walk_ids n f graph.entry a (entry_of base) at graph.entry_is is.walk; least = λ m walk. is.least m (to_entry f m a at walk) }
+  -- a frame from which a walk leads to one of the base has a node
+  walker : (n g : ℕ) (a b : Id) → IsOf g b → Walk caller base a b n → (f : ℕ) × IsOf f a
+  walker zero g a b there same = (g, there ∙ ap Some (sym same))
+  walker (suc zero) g a b there walk = first_node a walk.1 b (subst (λ h. Leads caller base h walk.1 b) (sym walk.2) walk.3)
+  walker (suc (suc n)) g a b there walk =
+      let h = first_node walk.0 walk.1 b walk.3 in
+      walker (suc n) h.0 a walk.0 h.1 walk.2
+
+  module _ (s : Id) (starts : IsOf graph.start s) where
+    -- what the search comes to, walks lead to
+    pub comes_out : (f n : ℕ) (a : Id) → IsOf f a → Comes graph f n → WalkIn graph.direction caller base s a n
+    comes_out f n a at = by graph.direction where
+      by : (d : Direction) → NodeWalk graph (turned d graph.start f).0 (turned d graph.start f).1 n → WalkIn d caller base s a n
+      by From walk = walk_ids n graph.start f s a starts at walk
+      by To walk = walk_ids n f graph.start a s at starts walk
+
+    pub comes : (f n : ℕ) (a : Id) → IsOf f a → WalkIn graph.direction caller base s a n → Comes graph f n
+    comes f n a at = by graph.direction where
+      by : (d : Direction) → WalkIn d caller base s a n → NodeWalk graph (turned d graph.start f).0 (turned d graph.start f).1 n
+      by From walk = between n graph.start f s a starts at walk
+      by To walk = between n f graph.start a s at starts walk
+
+    -- what walks lead to has a node
+    pub walked_node : (n : ℕ) (a : Id) → WalkIn graph.direction caller base s a n → (f : ℕ) × IsOf f a
+    walked_node n a = by graph.direction where
+      by : (d : Direction) → WalkIn d caller base s a n → (f : ℕ) × IsOf f a
+      by From walk = let to = walk_nodes n graph.start s a starts walk in (to.0, to.1)
+      by To walk = walker n graph.start a s starts walk
+
+  module _ (entry : IsFromEntry graph) where
+    rank_id : (f : ℕ) (a : Id) (rank : Option ℕ) → IsOf f a → IsNodeRank graph f rank → IsRank caller base a rank
+    rank_id f a None at none = λ m walk. none m (comes (entry_of base) entry.entry_is f m a at (subst (λ d. WalkIn d caller base (entry_of base) a m) (sym entry.back) walk))
+    rank_id f a (Some n) at is = record {
+      walk = subst (λ d. WalkIn d caller base (entry_of base) a n) entry.back (comes_out (entry_of base) entry.entry_is f n a at is.walk);
+      least = λ m walk. is.least m (comes (entry_of base) entry.entry_is f m a at (subst (λ d. WalkIn d caller base (entry_of base) a m) (sym entry.back) walk));
+    }
+
+    pub rank_ids : (ranks : List (Option ℕ)) → ((f : ℕ) → IsNodeRank graph f (get_or ranks f None)) → AreRanks graph ranks
+    rank_ids ranks are f a at = rank_id f a (get_or ranks f None) at (are f)

@@ -14,7 +14,7 @@ pub use Rattle.page_ids.specs.WayLaws.{place_at}
 pub use Rattle.page_ids.specs.Ways.{way_at, way_key, way_place}
 pub use Rattle.page_ids.specs.declared.key.Key.{Key}
 pub use Rattle.page_ids.specs.declared.way.Way.{Way}
-pub use Rattle.frame_records.proofs.Finds.{find_first, find_none}
+pub use Rattle.frame_records.proofs.Finds.{find_first, find_none, first_found}
 pub use Rattle.frame_records.proofs.SortedFrames.{apart_at, ascending_sorted, found_at}
 pub use Rattle.frame_records.specs.Bases.{BaseView, IsAscending, frame_among, frame_at}
 pub use Rattle.frame_records.specs.Seek.{entry_of, is_open, seek, seek_entry, sought_of}
@@ -22,15 +22,17 @@ pub use Rattle.frame_records.specs.WayLaws.{found_sought, frame_id, going, offer
 pub use Rattle.frame_records.specs.Ways.{Leads, destination, destination_by, destination_of, missing_by, offered_by, sought, sought_by}
 pub use Rattle.frame_records.specs.declared.frame.Frame.{Frame}
 pub use Rattle.smallvec.specs.SmallVec.{SmallVec}
-pub use Rattle.finder.specs.Loops.{AreMarked, AreNamed, IsDiscovery, IsListed, number, HasRank, IsClosed, IsSearch, AreTurned, HasSource, IsSourceList, LeadsTo}
+pub use Rattle.finder.specs.Loops.{AreMarked, AreNamed, IsDiscovery, IsListed, number, HasRank, IsClosed, IsSearch, AreNeighbours, HasNeighbour, AreJoined, IsListOf, AreRanks, IsFromEntry, AreNear, is_near}
 pub use Rattle.finder.specs.Entries.{IsEntryNode}
-pub use Rattle.finder.specs.Finds.{FindsReached, HasFirstPair, HasPair, IsBefore, IsFinding, Pair, PairLeads, RanksAreLeast, ScriptsLead, keys_along, keys_back, parent_by, parent_of, script, EntryIsFound, IsRank, IsReached, KeysLead, Walk}
-pub use Rattle.finder.specs.Graph.{Goes, IsNodeRank, NodeWalk}
+pub use Rattle.finder.specs.Finds.{FindsReached, HasFirstPair, HasPair, IsBefore, IsFinding, Pair, PairLeads, RanksAreLeast, ScriptsLead, keys_along, keys_back, parent_by, parent_of, script, EntryIsFound, IsRank, IsReached, KeysLead, Walk, WalkIn, IsWithin, AreWithin, IsNear, has_id}
+pub use Rattle.finder.specs.Graph.{Goes, IsNodeRank, NodeWalk, LeadsTo, IsStep, Comes, turned}
 pub use Rattle.finder.specs.Notes.{AreNotes, IsNote, IsSeen, IsSought, target_at}
 pub use Rattle.finder.specs.Survey.{SurveyView, aim_of}
 pub use Rattle.finder.specs.Targets.{AreTargets, IsTarget, aim_at, id_at, node_of}
 pub use Rattle.finder.specs.declared.discover.Discovery.{Discovery}
 pub use Rattle.finder.specs.declared.found.Discovered.{Discovered}
+pub use Rattle.finder.specs.declared.direction.Direction.{Direction}
+pub use Rattle.finder.specs.declared.direction.Direction.TheVariants.{From, To}
 pub use Rattle.finder.specs.declared.graph.Graph.{Graph}
 pub use Rattle.finder.specs.declared.target.Target.{Target}
 pub use Rattle.finder.specs.declared.target.Target.TheVariants.{Closed, Missing, NotOffered, Outside}

@@ -1,14 +1,17 @@
 -- Walks, what is found, and the scripts that lead there.
-use Rattle.std.specs.Prelude.{◌≡◌, ◌≤◌, ℕ, zero, suc, List, [], ◌∷◌, Option, Some, None, ◌<◌, ◌++◌, length, reverse, slice_get, ◌≢◌, ◌+◌, ◌↔◌, ◌⊎◌, All, AllPairs, Any}
-use Rattle.page_ids.specs.Ids.{Id}
+use Rattle.std.specs.Prelude.{◌≡◌, ◌≤◌, ℕ, zero, suc, List, [], ◌∷◌, Option, Some, None, ◌<◌, ◌++◌, length, reverse, slice_get, ◌≢◌, ◌+◌, ◌↔◌, ◌⊎◌, All, AllPairs, Any, Bool, true, false, is_none}
+use Rattle.std.specs.List.{list_any}
+use Rattle.page_ids.specs.Ids.{Id, id_eq}
 use Rattle.page_ids.specs.declared.key.Key.{Key}
 use Rattle.page_ids.specs.declared.way.Way.{Way}
 use Rattle.page_ids.specs.Ways.{way_key, way_place}
 use Rattle.frame_records.specs.declared.base.Sought.TheVariants as sought
-use Rattle.frame_records.specs.Bases.{BaseView}
+use Rattle.frame_records.specs.Bases.{BaseView, frame_at}
 use Rattle.frame_records.specs.Seek.{entry_of, seek_entry}
 use Rattle.frame_records.specs.Ways.{Leads}
 use Rattle.finder.specs.declared.found.Discovered.{Discovered}
+use Rattle.finder.specs.declared.direction.Direction.{Direction}
+use Rattle.finder.specs.declared.direction.Direction.TheVariants.{From, To}
 
 -- Which frames the ways lead to. The caller is the list of the groups to which the caller belongs.
 
@@ -26,6 +29,34 @@ pub record IsDistance (caller : List ℕ) (base : BaseView) (f : Id) (n : ℕ) :
 abbrev pub IsRank : List ℕ → BaseView → Id → Option ℕ → Type 0
 IsRank caller base f (Some n) = IsDistance caller base f n
 IsRank caller base f None = (n : ℕ) → Walk caller base f (entry_of base) n → ⊥
+
+-- The frames near a frame.
+
+-- n ways lead from f to g, or from g to f
+abbrev pub WalkIn : Direction → List ℕ → BaseView → Id → Id → ℕ → Type 0
+WalkIn From caller base f g n = Walk caller base f g n
+WalkIn To caller base f g n = Walk caller base g f n
+
+-- at most this many, if a number is given
+abbrev pub IsWithin : Option ℕ → ℕ → Type 0
+IsWithin None n = Unit {0}
+IsWithin (Some most) n = n ≤ most
+
+-- an id is among ids
+abbrev pub has_id : List Id → Id → Bool
+has_id ids id = list_any (id_eq id) ids
+
+-- exactly the frames that at most this many ways lead to from f, or from which they lead to f
+pub record AreWithin (direction : Direction) (caller : List ℕ) (base : BaseView) (f : Id) (most : Option ℕ) (ids : List Id) : Type 0 where
+  pub sound : (id : Id) → has_id ids id ≡ true → (n : ℕ) × IsWithin most n × WalkIn direction caller base f id n
+  pub whole : (id : Id) (n : ℕ) → IsWithin most n → WalkIn direction caller base f id n → has_id ids id ≡ true
+
+-- those, or none if the base lacks the frame f
+abbrev pub IsNear : List ℕ → BaseView → Direction → Id → Option ℕ → Option (List Id) → Type 0
+IsNear caller base direction f most None = is_none (frame_at base f) ≡ true
+IsNear caller base direction f most (Some ids) = (is_none (frame_at base f) ≡ false) × AreWithin direction caller base f most ids
+
+-- The frames that are reached.
 
 -- the entry frame is neither missing nor closed
 abbrev pub EntryIsFound : List ℕ → BaseView → Type 0

@@ -1,8 +1,9 @@
 -- Facts that hold between the turns of loops. No promise rests on them.
-use Rattle.std.specs.Prelude.{◌≡◌, ◌<◌, ◌+◌, ◌*◌, ℕ, List, length, get_or, All, Contains, ◌≤◌, Option, Some, None, slice_get, AllPairs, count_by, is_some, ◌≢◌, Bool, true, false, Any}
+use Rattle.std.specs.Prelude.{◌≡◌, ◌<◌, ◌+◌, ◌*◌, ℕ, List, length, get_or, All, Contains, ◌≤◌, Option, Some, None, slice_get, AllPairs, count_by, is_some, ◌≢◌, Bool, true, false, Any, nat_le}
 use Rattle.smallvec.specs.SmallVec.{SmallVec}
 use Rattle.finder.specs.declared.graph.Graph.{Graph}
-use Rattle.finder.specs.Graph.{Goes, NodeWalk}
+use Rattle.finder.specs.declared.direction.Direction.TheVariants.{To}
+use Rattle.finder.specs.Graph.{Goes, IsStep, Comes, turned}
 use Rattle.std.specs.List.{AllWithin}
 use Rattle.finder.specs.declared.ranks.Ranked.{Ranked}
 use Rattle.page_ids.specs.Ids.{Id}
@@ -12,47 +13,47 @@ use Rattle.frame_records.specs.Bases.{BaseView}
 use Rattle.frame_records.specs.Seek.{entry_of}
 use Rattle.finder.specs.declared.discover.Discovery.{Discovery}
 use Rattle.finder.specs.declared.found.Discovered.{Discovered}
-use Rattle.finder.specs.Finds.{Pair, HasPair, PairLeads, IsBefore, HasFirstPair, RanksAreLeast, Walk}
+use Rattle.finder.specs.Finds.{Pair, HasPair, PairLeads, IsBefore, HasFirstPair, RanksAreLeast, Walk, IsRank, has_id}
 use Rattle.finder.specs.Targets.{id_at}
 
--- The ways turned round.
+-- The neighbours of nodes in the direction of a search.
 
--- some way leads from f to g
-abbrev pub LeadsTo : Graph → ℕ → ℕ → Type 0
-LeadsTo graph f g = (way : ℕ) × Goes graph f way g
+-- the neighbours of a node
+abbrev pub IsListOf : List (SmallVec ℕ) → ℕ → List ℕ → Type 0
+IsListOf lists f gs = (d : SmallVec ℕ) → (get_or lists f d).items ≡ gs
 
--- the sources of a node
-abbrev pub IsSourceList : List (SmallVec ℕ) → ℕ → List ℕ → Type 0
-IsSourceList sources g fs = (d : SmallVec ℕ) → (get_or sources g d).items ≡ fs
+-- a node has another as its neighbour
+abbrev pub HasNeighbour : List (SmallVec ℕ) → ℕ → ℕ → Type 0
+HasNeighbour lists f g = (d : SmallVec ℕ) → Contains (get_or lists f d).items g
 
--- a node has a source
-abbrev pub HasSource : List (SmallVec ℕ) → ℕ → ℕ → Type 0
-HasSource sources g f = (d : SmallVec ℕ) → Contains (get_or sources g d).items f
+-- the ends of a way are neighbours
+abbrev pub AreJoined : Graph → List (SmallVec ℕ) → ℕ → ℕ → Type 0
+AreJoined graph lists f g = HasNeighbour lists (turned graph.direction f g).0 (turned graph.direction f g).1
 
--- the first `done` ways are turned round
-pub record AreTurned (graph : Graph) (done : ℕ) (sources : List (SmallVec ℕ)) : Type 0 where
-  pub nodes : length sources ≡ graph.table.count
-  pub lead : (g : ℕ) (d : SmallVec ℕ) → g < graph.table.count → All (λ f. LeadsTo graph f g) (get_or sources g d).items
-  pub whole : (f way g : ℕ) → f * 11 + way < done → Goes graph f way g → HasSource sources g f
+-- what the first `done` ways lead to is added
+pub record AreNeighbours (graph : Graph) (done : ℕ) (lists : List (SmallVec ℕ)) : Type 0 where
+  pub nodes : length lists ≡ graph.table.count
+  pub lead : (f : ℕ) (d : SmallVec ℕ) → f < graph.table.count → All (IsStep graph f) (get_or lists f d).items
+  pub whole : (f way g : ℕ) → f * 11 + way < done → Goes graph f way g → AreJoined graph lists f g
 
--- The search back from the entry node.
+-- The search from a node.
 
 -- the node has a rank, at most m
 abbrev pub HasRank : List (Option ℕ) → ℕ → ℕ → Type 0
 HasRank ranks f m = (n : ℕ) × (get_or ranks f None ≡ Some n) × (n ≤ m)
 
--- each node that leads to a ranked one has a rank, at most one more
+-- each neighbour of a ranked node has a rank, at most one more
 abbrev pub IsClosed : Graph → List (Option ℕ) → Ranked → Type 0
-IsClosed graph ranks e = (f : ℕ) → LeadsTo graph f e.node → HasRank ranks f (e.rank + 1)
+IsClosed graph ranks e = (f : ℕ) → IsStep graph e.node f → HasRank ranks f (e.rank + 1)
 
 -- the nodes that have a rank are in a queue in the order of their ranks
 pub record AreRanked (graph : Graph) (queue : List Ranked) (ranks : List (Option ℕ)) : Type 0 where
   pub nodes : length ranks ≡ graph.table.count
-  pub entry_is : get_or ranks graph.entry None ≡ Some 0
+  pub starts : get_or ranks graph.start None ≡ Some 0
   pub queued : (f n : ℕ) → get_or ranks f None ≡ Some n → Contains queue (record { node = f; rank = n })
   pub count : count_by is_some ranks ≡ length queue
   pub inside : All (λ e. e.node < graph.table.count) queue
-  pub walks : All (λ e. NodeWalk graph e.node graph.entry e.rank) queue
+  pub walks : All (λ e. Comes graph e.node e.rank) queue
   pub ascend : AllPairs (λ d e. d.rank ≤ e.rank) queue
   pub low : (i : ℕ) (e : Ranked) → slice_get queue i ≡ Some e → e.rank ≤ i
 
@@ -61,6 +62,28 @@ pub record IsSearch (graph : Graph) (done : ℕ) (queue : List Ranked) (ranks : 
   pub ranked : AreRanked graph queue ranks
   pub near : (e : Ranked) → slice_get queue done ≡ Some e → All (λ d. d.rank ≤ e.rank + 1) queue
   pub closed : AllWithin (IsClosed graph ranks) queue 0 done
+
+-- each node's rank is that of its frame
+abbrev pub AreRanks : Graph → List (Option ℕ) → Type 0
+AreRanks graph ranks = (f : ℕ) (id : Id) → id_at graph.table.base.now.frames f ≡ Some id → IsRank graph.table.groups.now graph.table.base.now id (get_or ranks f None)
+
+-- the search goes back from the entry frame
+pub record IsFromEntry (graph : Graph) : Type 0 where
+  pub entry_is : id_at graph.table.base.now.frames graph.start ≡ Some (entry_of graph.table.base.now)
+  pub back : graph.direction ≡ To
+
+-- a rank is at most a number, if one is given
+abbrev pub is_near : Option ℕ → Option ℕ → Bool
+is_near None most = false
+is_near (Some n) None = true
+is_near (Some n) (Some most) = nat_le n most
+
+-- the ids of the nodes before `done` that are near
+pub record AreNear (graph : Graph) (ranks : List (Option ℕ)) (most : Option ℕ) (done : ℕ) (ids : List Id) : Type 0 where
+  pub sound : (id : Id) → has_id ids id ≡ true
+      → (f : ℕ) × (f < done) × (id_at graph.table.base.now.frames f ≡ Some id) × (is_near (get_or ranks f None) most ≡ true)
+  pub whole : (f : ℕ) (id : Id) → f < done → id_at graph.table.base.now.frames f ≡ Some id → is_near (get_or ranks f None) most ≡ true
+      → has_id ids id ≡ true
 
 -- The frames that are discovered while the ways are tried one after another.
 

@@ -1,8 +1,7 @@
 ghost use Rattle.std.specs.Prelude.{◌≡◌, ◌<◌, ◌≤◌, ◌+◌, ◌*◌, ◌⊎◌, ◌++◌, ◌∷◌, [], ℕ, Some, None, true, false, Contains, OnOk, IfOk, IfSome, IfNone, slice_get, set, length, get_or};
-ghost use Rattle.finder.specs.Loops.{AreNamed, IsListed};
+ghost use Rattle.finder.specs.Loops.{AreNamed, AreRanks, IsFromEntry, IsListed};
 ghost use Rattle.finder.specs.Entries.{discovered_of};
 ghost use Rattle.finder.specs.Finds.{FindsReached, RanksAreLeast, EntryIsFound};
-ghost use Rattle.finder.specs.Graph.{IsNodeRank};
 
 use crate::found::Found;
 use crate::graph::Graph;
@@ -86,7 +85,7 @@ impl Discovery {
         requires is_way { way < 11 }
         requires placed { slice_get self.old.order.keys index ≡ Some from }
         requires len { length ranks.now ≡ graph.now.table.count }
-        requires ranks { (f : ℕ) → IsNodeRank graph.now f (get_or ranks.now f None) }
+        requires ranks { AreRanks graph.now ranks.now }
         requires listed { IsListed graph.now (index * 11 + way) self.old }
         ensures placed { OnOk result (slice_get self.new.order.keys index ≡ Some from) }
         ensures listed { OnOk result (IsListed graph.now (index * 11 + way + 1) self.new) }
@@ -116,7 +115,7 @@ impl Discovery {
     ) -> Result<(), AllocError>
         requires placed { slice_get self.old.order.keys index ≡ Some from }
         requires len { length ranks.now ≡ graph.now.table.count }
-        requires ranks { (f : ℕ) → IsNodeRank graph.now f (get_or ranks.now f None) }
+        requires ranks { AreRanks graph.now ranks.now }
         requires listed { IsListed graph.now (index * 11) self.old }
         ensures { OnOk result (IsListed graph.now ((index + 1) * 11) self.new) }
     {
@@ -128,8 +127,9 @@ impl Discovery {
 
     // The entry node alone.
     fn new(alloc: Global, graph: &Graph<'_>, ranks: &[Option<u16>]) -> Result<Discovery, AllocError>
+        requires entry { IsFromEntry graph.now }
         requires len { length ranks.now ≡ graph.now.table.count }
-        requires ranks { (f : ℕ) → IsNodeRank graph.now f (get_or ranks.now f None) }
+        requires ranks { AreRanks graph.now ranks.now }
         ensures { IfOk result (IsListed graph.now 0) }
     {
         let count = graph.table.count as usize;
@@ -139,9 +139,9 @@ impl Discovery {
             listed: vec![in alloc; false; count]?,
         };
         discovery.list(
-            graph.entry,
-            graph.id(graph.entry),
-            rank_at(ranks, graph.entry),
+            graph.start,
+            graph.id(graph.start),
+            rank_at(ranks, graph.start),
             None,
         )?;
         Ok(discovery)
@@ -151,7 +151,8 @@ impl Discovery {
 // The frames that are reached from the entry frame, in the order of discovery: the entry frame first; then for each listed
 // frame in turn its ways are tried in order, and each frame found that isn't yet listed goes last.
 pub fn discover(alloc: Global, graph: &Graph<'_>) -> Result<Discovery, AllocError>
-    requires { EntryIsFound graph.now.table.groups.now graph.now.table.base.now }
+    requires found { EntryIsFound graph.now.table.groups.now graph.now.table.base.now }
+    requires entry { IsFromEntry graph.now }
     ensures reached { IfOk result (λ d. FindsReached graph.now.table.groups.now graph.now.table.base.now d.found) }
     ensures ranks { IfOk result (λ d. RanksAreLeast graph.now.table.groups.now graph.now.table.base.now d.found) }
     ensures named { IfOk result (λ d. AreNamed graph.now.table.base.now.frames d.order.keys d.found) }

@@ -1,19 +1,19 @@
 //! The frames of a base as a graph, with the ways that find open frames: a node is a frame's position in the base.
 
 ghost use Rattle.std.specs.Prelude.{◌≡◌, ◌<◌, ℕ, Some, IfSome, IfNone};
-ghost use Rattle.frame_records.specs.Seek.{entry_of};
 ghost use Rattle.finder.specs.Targets.{id_at};
 
+use crate::direction::Direction;
 use crate::table::WayTable;
 use page_ids::FrameId;
 
-// A table of a base whose entry frame is found, and its node.
+// The table of a base, the node at which a search starts, and its direction.
 #[derive(Drop)]
 pub struct Graph<'a> {
     pub table: WayTable<'a>,
-    pub entry: u16,
-    pub ghost entered: { entry < table.count },
-    pub ghost entry_is: { id_at table.base.now.frames entry ≡ Some (entry_of table.base.now) },
+    pub start: u16,
+    pub direction: Direction,
+    pub ghost started: { start < table.count },
 }
 
 impl Graph<'_> {

@@ -13,6 +13,7 @@
 //! - [`Survey`]: the list of a base, with the record of each listed frame and the destination of each of its ways. Each way is
 //!   looked up once, and nothing is sought again.
 //! - [`find`], [`Found`], [`Discovered`]: the list alone.
+//! - [`within`], [`Direction`]: the frames within a number of keys of a frame, whether or not a caller reaches it.
 //! - [`script_to`]: the keys that lead to a listed frame.
 //! - [`found_is_one`]: the list's clauses hold of one list alone; [`scripts_lead`]: its scripts lead.
 //!
@@ -21,19 +22,23 @@
 #![tactic(auto)]
 
 mod aim;
+mod direction;
 mod discover;
 mod found;
 mod graph;
 mod laws;
+mod neighbours;
 mod notes;
 mod ranks;
 mod script;
 mod survey;
 mod table;
 mod target;
-mod turned;
+mod window;
 
+pub use direction::Direction;
 pub use found::{Discovered, Found};
 pub use laws::{found_is_one, scripts_lead};
 pub use script::script_to;
 pub use survey::{Survey, find};
+pub use window::within;

@@ -1,13 +1,13 @@
 //! The result of seeking a frame. A frame is noted near the slot of its id, if there is a blank; the others are found by
 //! binary search. A look-up relies on each note being true, not on its slot.
 
-ghost use Rattle.std.specs.Prelude.{◌≡◌, ◌<◌, None, Some, IsTrue, IfSome, IfOk, map, length};
-ghost use Rattle.frame_records.specs.Bases.{IsBase};
+ghost use Rattle.std.specs.Prelude.{◌≡◌, ◌<◌, None, Some, IsTrue, IfSome, IfNone, IfOk, map, length};
+ghost use Rattle.frame_records.specs.Bases.{IsBase, frame_among};
 ghost use Rattle.frame_records.specs.Seek.{is_open};
 ghost use Rattle.frame_records.specs.Ways.{missing_by};
 ghost use Rattle.finder.specs.Notes.{target_at, IsOf, AreNotes, IsSought};
 ghost use Rattle.finder.specs.Survey.{aim_of};
-ghost use Rattle.finder.specs.Targets.{aim_at, node_of, IsTarget};
+ghost use Rattle.finder.specs.Targets.{aim_at, id_at, node_of, IsTarget};
 
 use crate::target::Target;
 use frame_records::{Base, Frame, Groups};
@@ -162,16 +162,29 @@ impl<'a> Notes<'a> {
         None
     }
 
+    // The node of the frame of an id, by binary search.
+    pub fn node_by_id(&self, id: &FrameId) -> Option<u16>
+        ensures some { IfSome result (λ node. id_at self.now.base.now.frames node ≡ Some id.now) }
+        ensures none { IfNone result (frame_among self.now.base.now.frames id.now ≡ None) }
+    {
+        match self
+            .base
+            .frames()
+            .binary_search_by_key(id, |frame| frame.id)
+        {
+            Ok(node) => Some(node as u16),
+            Err(_) => None,
+        }
+    }
+
     // The target of an id, by binary search.
     #[cold]
     fn searched_target(&self, id: &FrameId) -> Option<Target>
         ensures { IsSought self.now.groups.now self.now.base.now.frames id.now result }
     {
-        let frames = self.base.frames();
-        match frames.binary_search_by_key(id, |frame| frame.id) {
-            Ok(node) => Some(Note::of(&frames[node], node as u16, self.groups).target()),
-            Err(_) => None,
-        }
+        let node = self.node_by_id(id)?;
+        let frame = &self.base.frames()[node as usize];
+        Some(Note::of(frame, node, self.groups).target())
     }
 
     // The target of an id that isn't noted in its own slot.

@@ -1,12 +1,12 @@
 ghost use Rattle.std.specs.Prelude.{◌≡◌, ◌<◌, ◌≤◌, ◌+◌, ◌*◌, ◌⊎◌, ℕ, Some, None, is_some, OnOk, IfOk, IfSome, IfNone, slice_get, length, get_or};
-ghost use Rattle.finder.specs.Graph.{IsNodeRank};
-ghost use Rattle.finder.specs.Loops.{HasRank, IsSearch, AreTurned, LeadsTo};
+ghost use Rattle.finder.specs.Graph.{IsNodeRank, IsStep};
+ghost use Rattle.finder.specs.Loops.{HasRank, IsSearch, AreNeighbours};
 
 use crate::graph::Graph;
-use crate::turned::Turned;
+use crate::neighbours::Neighbours;
 use std::alloc::{AllocError, Global};
 
-// A node and its rank: the least number of ways that lead back to the entry node.
+// A node and its rank: the least number of ways by which a search gets there.
 #[derive(Clone, Copy)]
 pub struct Ranked {
     pub node: u16,
@@ -41,7 +41,7 @@ impl Search {
         self.queue.get(index as usize).copied()
     }
 
-    // Ranks a node from which a way leads to the node at an index of the queue.
+    // Ranks a neighbour of the node at an index of the queue.
     fn mark(
         &mut self,
         graph: &Graph<'_>,
@@ -51,7 +51,7 @@ impl Search {
     ) -> Result<(), AllocError>
         requires search { IsSearch graph.now done self.old.queue.items self.old.ranks.items }
         requires waits { slice_get self.old.queue.items done ≡ Some to }
-        requires leads { LeadsTo graph.now node to.node }
+        requires leads { IsStep graph.now to.node node }
         ensures search { OnOk result (IsSearch graph.now done self.new.queue.items self.new.ranks.items) }
         ensures waits { OnOk result (slice_get self.new.queue.items done ≡ Some to) }
         ensures marked { OnOk result (HasRank self.new.ranks.items node (to.rank + 1)) }
@@ -66,35 +66,35 @@ impl Search {
         Ok(())
     }
 
-    // Ranks each node from which a way leads to the one at an index of the queue.
+    // Ranks each neighbour of the node at an index of the queue.
     fn mark_all(
         &mut self,
         graph: &Graph<'_>,
-        turned: &Turned,
+        neighbours: &Neighbours,
         done: u16,
         to: Ranked,
     ) -> Result<(), AllocError>
         requires search { IsSearch graph.now done self.old.queue.items self.old.ranks.items }
         requires waits { slice_get self.old.queue.items done ≡ Some to }
-        requires turned { AreTurned graph.now (graph.now.table.count * 11) turned.now.sources.items }
+        requires neighbours { AreNeighbours graph.now (graph.now.table.count * 11) neighbours.now.lists.items }
         ensures { OnOk result (IsSearch graph.now (done + 1) self.new.queue.items self.new.ranks.items) }
     {
-        let sources = turned.sources_of(to.node);
-        for source in sources {
-            self.mark(graph, done, to, *source)?;
+        let nodes = neighbours.from(to.node);
+        for node in nodes {
+            self.mark(graph, done, to, *node)?;
         }
         Ok(())
     }
 
-    // The entry node alone.
+    // The node alone at which the search starts.
     fn new(alloc: Global, graph: &Graph<'_>) -> Result<Search, AllocError>
         ensures { IfOk result (λ s. IsSearch graph.now 0 s.queue.items s.ranks.items) }
     {
         let mut ranks = vec![in alloc; None; graph.table.count as usize]?;
         let mut queue = Vec::with_capacity(alloc, graph.table.count as usize)?;
-        ranks[graph.entry as usize] = Some(0);
+        ranks[graph.start as usize] = Some(0);
         queue.push(Ranked {
-            node: graph.entry,
+            node: graph.start,
             rank: 0,
         })?;
         Ok(Search { queue, ranks })
@@ -114,13 +114,13 @@ pub fn ranks_of(alloc: Global, graph: &Graph<'_>) -> Result<Vec<Option<u16>>, Al
     ensures len { IfOk result (λ ranks. length ranks.items ≡ graph.now.table.count) }
     ensures ranks { IfOk result (λ ranks. (f : ℕ) → IsNodeRank graph.now f (get_or ranks.items f None)) }
 {
-    let turned = Turned::of(alloc, graph)?;
+    let neighbours = Neighbours::of(alloc, graph)?;
     let mut search = Search::new(alloc, graph)?;
     for done in 0..graph.table.count {
         let Some(to) = search.waiting(graph, done) else {
             return Ok(search.ranks);
         };
-        search.mark_all(graph, &turned, done, to)?;
+        search.mark_all(graph, &neighbours, done, to)?;
     }
     Ok(search.ranks)
 }

@@ -3,8 +3,10 @@ ghost use Rattle.frame_records.specs.Ways.{destination};
 ghost use Rattle.finder.specs.declared.found.Discovered.{Discovered};
 ghost use Rattle.finder.specs.Entries.{IsEntryNode};
 ghost use Rattle.finder.specs.Finds.{IsFinding, FindsReached, RanksAreLeast, ScriptsLead, EntryIsFound};
+ghost use Rattle.finder.specs.Loops.{IsFromEntry};
 ghost use Rattle.finder.specs.Survey.{IsFrameAt};
 
+use crate::direction::Direction;
 use crate::discover::{Discovery, discover};
 use crate::found::Found;
 use crate::graph::Graph;
@@ -62,7 +64,8 @@ impl<'a> Survey<'a> {
 
     // The frames that are reached from an entry frame that is found.
     fn of_graph(alloc: Global, graph: Graph<'a>) -> Result<Survey<'a>, AllocError>
-        requires { EntryIsFound graph.table.groups.now graph.table.base.now }
+        requires found { EntryIsFound graph.table.groups.now graph.table.base.now }
+        requires entry { IsFromEntry graph }
         ensures base { IfOk result (λ s. s.base ≡ graph.entry.table.base.now) }
         ensures groups { IfOk result (λ s. s.groups ≡ graph.entry.table.groups.now) }
         ensures found { IfOk result (λ s. IsFinding graph.entry.table.groups.now graph.entry.table.base.now s.found) }
@@ -89,7 +92,12 @@ impl<'a> Survey<'a> {
         let Some(entry) = entry else {
             return Ok(Survey::empty(alloc, table));
         };
-        Survey::of_graph(alloc, Graph { table, entry })
+        let graph = Graph {
+            table,
+            start: entry,
+            direction: Direction::To,
+        };
+        Survey::of_graph(alloc, graph)
     }
 
     /// The list alone.

@@ -146,8 +146,10 @@ fn goes_before(text: &[u8], at: usize) -> bool
 
 fn excerpt_at(text: &[u8], at: usize, end: usize, before: usize, ahead: usize) -> Excerpt
     requires { at ≤ length text.now }
-    ensures value { result ≡ spec.excerpt_with text.now at end (spec.begin_before text.now before at) (spec.end_ahead text.now ahead at) }
-    ensures within { (result.from ≤ result.begin) × (result.begin ≤ result.end) × (result.end ≤ result.to) × (result.to ≤ length text.now) }
+    ensures value { result
+        ≡ spec.excerpt_with text.now at end (spec.begin_before text.now before at) (spec.end_ahead text.now ahead at) }
+    ensures within { (result.from ≤ result.begin) × (result.begin ≤ result.end) × (result.end ≤ result.to)
+        × (result.to ≤ length text.now) }
 {
     let from = begin_before(text, before, at);
     let to = end_ahead(text, ahead, at);
@@ -164,7 +166,8 @@ fn excerpt_at(text: &[u8], at: usize, end: usize, before: usize, ahead: usize) -
 // The line on which a span begins: all of it, or of a long line up to 37 characters before the span and 77 from its first on.
 pub fn excerpt_of(text: &[u8], span: Span) -> Excerpt
     ensures value { result ≡ spec.excerpt_of text.now span }
-    ensures within { (result.from ≤ result.begin) × (result.begin ≤ result.end) × (result.end ≤ result.to) × (result.to ≤ length text.now) }
+    ensures within { (result.from ≤ result.begin) × (result.begin ≤ result.end) × (result.end ≤ result.to)
+        × (result.to ≤ length text.now) }
 {
     let at = begin_in(text, span.begin.min(text.len()));
     if is_long(text, at) {

@@ -11,7 +11,6 @@ use crate::format::Format;
 use crate::full_form::push_lines_below;
 use crate::github_form::push_command;
 use crate::json_form::push_object;
-use crate::laws::findings_are_whole_lines;
 use crate::line_form::push_line_finding;
 use lint::Finding;
 use lint_words::Line;
@@ -27,7 +26,8 @@ fn push_full_finding(
     finding: &Finding,
 ) -> Result<(), AllocError>
     requires { lines.now ≡ text.now }
-    ensures { OnOk result ((bytes : List ℕ) → path.now ≡ line_of bytes → AddsPrinted Full bytes text.now finding.now out.old.items out.new.items) }
+    ensures { OnOk result ((bytes : List ℕ) → path.now ≡ line_of bytes
+        → AddsPrinted Full bytes text.now finding.now out.old.items out.new.items) }
 {
     push_line_finding(out, path, lines, finding)?;
     push_lines_below(
@@ -88,6 +88,7 @@ fn printed(
 /// place of what isn't UTF-8. Lines and columns are from 1; a column counts characters. In [`Format::Full`] a line of more than
 /// 120 characters is cut: up to 37 are left before the span and 77 from its first on. The carets end with the span or the line,
 /// and there is one at least.
+#[tactic(auto, using(crate::proofs::Printed::whole))]
 pub fn findings_text(
     alloc: Global,
     format: Format,
@@ -96,9 +97,9 @@ pub fn findings_text(
     findings: &[Finding],
 ) -> Result<Vec<u8>, AllocError>
     ensures printed { IfOk result (λ out. ArePrinted format path.now text.now findings.now out.items) }
-    ensures whole { IfOk result (λ out. is_one_line format ≡ true → AreWholeLines format (length findings.now) out.items) }
+    ensures whole { IfOk result (λ out. is_one_line format ≡ true
+        → AreWholeLines format (length findings.now) out.items) }
 {
-    findings_are_whole_lines();
     if findings.is_empty() {
         return Ok(Vec::new(alloc));
     }

@@ -107,7 +107,8 @@ fn push_both_lines(
     line: usize,
     excerpt: Excerpt,
 ) -> Result<(), AllocError>
-    requires { (excerpt.from ≤ excerpt.begin) × (excerpt.begin ≤ excerpt.end) × (excerpt.end ≤ excerpt.to) × (excerpt.to ≤ length text.now) }
+    requires { (excerpt.from ≤ excerpt.begin) × (excerpt.begin ≤ excerpt.end) × (excerpt.end ≤ excerpt.to)
+        × (excerpt.to ≤ length text.now) }
     ensures { OnOk result (out.new.items ≡ out.old.items ++ spec.both_lines text.now line excerpt) }
 {
     push_number_bar(out, line)?;
@@ -124,7 +125,8 @@ pub fn push_lines_below(
     span: Span,
     line: usize,
 ) -> Result<(), AllocError>
-    ensures { OnOk result (out.new.items ≡ out.old.items ++ spec.lines_below text.now (mark_length text.now) span line) }
+    ensures { OnOk result (out.new.items ≡ out.old.items ++
+        spec.lines_below text.now (mark_length text.now) span line) }
 {
     let mark = mark_length(text);
     let text = &text[mark..];

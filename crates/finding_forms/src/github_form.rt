@@ -92,7 +92,8 @@ fn push_hint(out: &mut Vec<u8>, hint: Option<&Line>) -> Result<(), AllocError>
 }
 
 fn push_message(out: &mut Vec<u8>, words: &Words, hint: Option<&Line>) -> Result<(), AllocError>
-    ensures message { OnOk result (out.new.items ≡ out.old.items ++ spec.message_text words.now (option_copied hint.entry)) }
+    ensures message { OnOk result (out.new.items ≡ out.old.items ++
+        spec.message_text words.now (option_copied hint.entry)) }
     ensures is_line { OnOk result (IsLine words.now.message × IfSome (option_copied hint.entry) IsLine) }
 {
     push_escaped(out, Slot::Message, words.message())?;
@@ -124,8 +125,10 @@ fn push_command_text(
     words: &Words,
     hint: Option<&Line>,
 ) -> Result<(), AllocError>
-    ensures line { OnOk result (out.new.items ≡ out.old.items ++ spec.command_text path.now extent level words.now (option_copied hint.entry)) }
-    ensures is_line { OnOk result (IsLine (spec.command_text path.now extent level words.now (option_copied hint.entry))) }
+    ensures line { OnOk result (out.new.items ≡ out.old.items ++
+        spec.command_text path.now extent level words.now (option_copied hint.entry)) }
+    ensures is_line { OnOk result (IsLine (spec.command_text path.now extent level words.now
+        (option_copied hint.entry))) }
 {
     out.extend_from_slice(b"::")?;
     out.extend_from_slice(level_text(level).as_bytes())?;
@@ -142,8 +145,10 @@ fn push_command_line(
     words: &Words,
     hint: Option<&Line>,
 ) -> Result<(), AllocError>
-    ensures line { OnOk result (out.new.items ≡ out.old.items ++ (spec.command_text path.now extent level words.now (option_copied hint.entry) ++ codes "\n")) }
-    ensures is_line { OnOk result (IsLine (spec.command_text path.now extent level words.now (option_copied hint.entry))) }
+    ensures line { OnOk result (out.new.items ≡ out.old.items ++
+        (spec.command_text path.now extent level words.now (option_copied hint.entry) ++ codes "\n")) }
+    ensures is_line { OnOk result (IsLine (spec.command_text path.now extent level words.now
+        (option_copied hint.entry))) }
 {
     push_command_text(out, path, extent, level, words, hint)?;
     out.extend_from_slice(b"\n")
@@ -156,7 +161,8 @@ pub fn push_command(
     lines: &TextLines<'_>,
     finding: &Finding,
 ) -> Result<(), AllocError>
-    ensures { OnOk result ((bytes : List ℕ) → path.now ≡ line_of bytes → spec.AddsCommand bytes lines.now finding.now out.old.items out.new.items) }
+    ensures { OnOk result ((bytes : List ℕ) → path.now ≡ line_of bytes
+        → spec.AddsCommand bytes lines.now finding.now out.old.items out.new.items) }
 {
     let extent = lines.extent(finding.span);
     let words = &finding.words;

@@ -46,7 +46,8 @@ fn object(
     words: &Words,
     hint: Option<&Line>,
 ) -> Result<Value, AllocError>
-    ensures { IfOk result (λ value. view value ≡ spec.object_data file.now extent level words.now (option_copied hint.entry)) }
+    ensures { IfOk result (λ value. view value
+        ≡ spec.object_data file.now extent level words.now (option_copied hint.entry)) }
 {
     let about = words.about();
     let frame = frame_value(alloc, about.frame)?;
@@ -78,8 +79,11 @@ fn push_object_line(
     words: &Words,
     hint: Option<&Line>,
 ) -> Result<(), AllocError>
-    ensures line { OnOk result (out.new.items ≡ out.old.items ++ (compact_text (spec.object_data file.now extent level words.now (option_copied hint.entry)) ++ codes "\n")) }
-    ensures no_feed { OnOk result (count_by (λ byte. byte == 10) (compact_text (spec.object_data file.now extent level words.now (option_copied hint.entry))) ≡ 0) }
+    ensures line { OnOk result (out.new.items ≡ out.old.items ++
+        (compact_text (spec.object_data file.now extent level words.now (option_copied hint.entry)) ++ codes "\n")) }
+    ensures no_feed { OnOk result (count_by (λ byte.
+        byte == 10) (compact_text (spec.object_data file.now extent level words.now
+        (option_copied hint.entry))) ≡ 0) }
 {
     let text = object(alloc, file, extent, level, words, hint)?.to_string(alloc)?;
     out.extend_from_slice(text.as_bytes())?;
@@ -94,7 +98,8 @@ pub fn push_object(
     lines: &TextLines<'_>,
     finding: &Finding,
 ) -> Result<(), AllocError>
-    ensures { OnOk result ((bytes : List ℕ) → file.now ≡ utf8_lossy bytes → spec.AddsObject bytes lines.now finding.now out.old.items out.new.items) }
+    ensures { OnOk result ((bytes : List ℕ) → file.now ≡ utf8_lossy bytes
+        → spec.AddsObject bytes lines.now finding.now out.old.items out.new.items) }
 {
     let extent = lines.extent(finding.span);
     let words = &finding.words;

@@ -91,7 +91,8 @@ fn push_line_text(
     words: &Words,
     hint: Option<&Line>,
 ) -> Result<(), AllocError>
-    ensures line { OnOk result (out.new.items ≡ out.old.items ++ line_text path.now place level words.now (option_copied hint.entry)) }
+    ensures line { OnOk result (out.new.items ≡ out.old.items ++
+        line_text path.now place level words.now (option_copied hint.entry)) }
     ensures is_line { OnOk result (IsLine (line_text path.now place level words.now (option_copied hint.entry))) }
 {
     push_place(out, path, place.0, place.1)?;
@@ -109,7 +110,8 @@ fn push_line(
     words: &Words,
     hint: Option<&Line>,
 ) -> Result<(), AllocError>
-    ensures line { OnOk result (out.new.items ≡ out.old.items ++ (line_text path.now place level words.now (option_copied hint.entry) ++ codes "\n")) }
+    ensures line { OnOk result (out.new.items ≡ out.old.items ++
+        (line_text path.now place level words.now (option_copied hint.entry) ++ codes "\n")) }
     ensures is_line { OnOk result (IsLine (line_text path.now place level words.now (option_copied hint.entry))) }
 {
     push_line_text(out, path, place, level, words, hint)?;
@@ -123,7 +125,8 @@ pub fn push_line_finding(
     lines: &TextLines<'_>,
     finding: &Finding,
 ) -> Result<(), AllocError>
-    ensures { OnOk result ((bytes : List ℕ) → path.now ≡ line_of bytes → AddsLine bytes lines.now finding.now out.old.items out.new.items) }
+    ensures { OnOk result ((bytes : List ℕ) → path.now ≡ line_of bytes
+        → AddsLine bytes lines.now finding.now out.old.items out.new.items) }
 {
     let place = begin_of(lines, finding.span);
     let words = &finding.words;

@@ -12,7 +12,7 @@ use Rattle.page_ids.specs.Ids.{Id, id_cmp}
 use Rattle.frame_records.specs.declared.frame.Frame.{Frame}
 use Rattle.frame_records.specs.declared.build.BuildFault.{BuildFault}
 use Rattle.frame_records.specs.declared.build.BuildFault.TheVariants.{TooMany, BodyTooLong, NextAfterZ, Duplicate, OutsideInside}
-use Rattle.frame_records.specs.Bases.{IsBase, HaveLetters, are_too_many, is_body_long, is_next_after_z, NoFrame, has_page, IsLeastId, frames_with, NoneTwice, IsLeastTwice, NoneInside, IsLeastInside, IsBuildFault, IsUnrefused, IsBaseOf, AreSorted}
+use Rattle.frame_records.specs.Bases.{IsBase, are_too_many, is_body_long, is_next_after_z, NoFrame, has_page, IsLeastId, frames_with, NoneTwice, IsLeastTwice, NoneInside, IsLeastInside, IsBuildFault, IsUnrefused, IsBaseOf, AreSorted}
 use Rattle.frame_records.specs.WayLaws.{apart_from_none}
 use Rattle.frame_records.proofs.SortedFrames.{none_twice}
 
@@ -63,19 +63,18 @@ module _ (outside pages : List ℕ) (frames sorted : List Frame) (s : AreSorted 
   fault_back (Duplicate id) h = (s.few, none_back is_body_long h.1, none_back is_next_after_z h.2, twice_back id h.3)
   fault_back (OutsideInside page) h = (s.few, none_back is_body_long h.1, none_back is_next_after_z h.2, once_back h.3, inside_back page h.4)
 
-  pub base_valid : (entry : ℕ) → HaveLetters sorted → IsUnrefused pages sorted → IsBase (record { entry = entry; outside = pages; frames = sorted })
-  base_valid entry letters h = record {
+  pub base_valid : (entry : ℕ) → IsUnrefused pages sorted → IsBase (record { entry = entry; outside = pages; frames = sorted })
+  base_valid entry h = record {
     few = s.still_few;
     short = h.short;
     no_next_after_z = h.no_next_after_z;
     ascending = h.ascending;
     pages_ascend = s.pages_ascend;
     apart = apart_from_none (record { entry = entry; outside = pages; frames = sorted }) h.none_inside;
-    letters = letters;
   }
 
-  pub base_back : (entry : ℕ) → HaveLetters sorted → IsUnrefused pages sorted → IsBaseOf entry outside frames (record { entry = entry; outside = pages; frames = sorted })
-  base_back entry letters h = record {
+  pub base_back : (entry : ℕ) → IsUnrefused pages sorted → IsBaseOf entry outside frames (record { entry = entry; outside = pages; frames = sorted })
+  base_back entry h = record {
     few = s.few;
     short = none_back is_body_long h.short;
     no_next_after_z = none_back is_next_after_z h.no_next_after_z;
@@ -84,7 +83,7 @@ module _ (outside pages : List ℕ) (frames sorted : List Frame) (s : AreSorted 
     same_entry = refl;
     same_pages = s.same_pages;
     same_frames = s.same_frames;
-    valid = base_valid entry letters h;
+    valid = base_valid entry h;
   }
 
 few_parts : (a b : ℕ) → (ltb 65535 a || ltb 65535 b) ≡ false → (a ≤ 65535) × (b ≤ 65535)

@@ -15,8 +15,8 @@ use Rattle.page_ids.specs.declared.number.NumberFault.{NumberFault}
 use Rattle.page_ids.specs.declared.number.NumberFault.TheVariants.{NotNumeral, AboveLimit}
 use Rattle.page_ids.specs.Texts.{number_in}
 use Rattle.page_ids.proofs.Numbers.{number_found, number_again, decimal_digits}
-use Rattle.frame_records.specs.declared.groups.GroupFlaw.{GroupFlaw}
-use Rattle.frame_records.specs.declared.groups.GroupFlaw.TheVariants.{Range, Order}
+use Rattle.frame_records.specs.declared.groups.GroupFault.{GroupFault}
+use Rattle.frame_records.specs.declared.groups.GroupFault.TheVariants.{Range, Order}
 use Rattle.frame_records.specs.Bases.{IsGroup}
 use Rattle.frame_records.specs.Steps.{◌>>=◌}
 use Rattle.page_ids.specs.Parts.{parts_of}
@@ -28,14 +28,14 @@ record Fits (groups : List ℕ) (n : ℕ) : Type 0 where
   room : length groups < 16
   below : are_below groups n ≡ true
 
-abbrev good : ℕ → Result ℕ GroupFlaw
+abbrev good : ℕ → Result ℕ GroupFault
 good n = Ok n
 
 by_order : (b : Bool) (m n : ℕ) → cond b (good m) (Err Order) ≡ Ok n → (b ≡ true) × (m ≡ n)
 by_order true m n e = let same : m ≡ n = cc in (refl, same)
 by_order false m n e = absurd cc
 
-by_range : (b : Bool) (r : Result ℕ GroupFlaw) (n : ℕ) → cond b r (Err Range) ≡ Ok n → (b ≡ true) × (r ≡ Ok n)
+by_range : (b : Bool) (r : Result ℕ GroupFault) (n : ℕ) → cond b r (Err Range) ≡ Ok n → (b ≡ true) × (r ≡ Ok n)
 by_range true r n e = (refl, e)
 by_range false r n e = cc
 
@@ -70,10 +70,10 @@ record Adds (groups : List ℕ) (words : List (List ℕ)) (all : List ℕ) : Typ
   whole : all ≡ groups ++ more
   spelled : words ≡ map decimal more
 
-bound : (groups : List ℕ) (r : Result ℕ GroupFlaw) (words : List (List ℕ)) (all : List ℕ) → (r >>= (λ g. Ok (groups ++ g ∷ [])) >>= λ more. words_in more words) ≡ Ok all
+bound : (groups : List ℕ) (r : Result ℕ GroupFault) (words : List (List ℕ)) (all : List ℕ) → (r >>= (λ g. Ok (groups ++ g ∷ [])) >>= λ more. words_in more words) ≡ Ok all
     → (n : ℕ) × (r ≡ Ok n) × (words_in (groups ++ n ∷ []) words ≡ Ok all)
 bound groups (Ok n) words all e = (n, refl, e)
-bound groups (Err flaw) words all e = cc
+bound groups (Err fault) words all e = cc
 
 words_found : (groups : List ℕ) (words : List (List ℕ)) (all : List ℕ) → AreGroups groups → words_in groups words ≡ Ok all → Adds groups words all
 words_found groups [] all are e =

@@ -6,7 +6,7 @@ use Rattle.std.specs.declared.cmp.Ordering.TheVariants.{Less, Equal, Greater}
 use Rattle.std.specs.Ordering.{nat_cmp, is_lt}
 use Rattle.std.specs.List.{AllAdjacentBelow, list_any}
 use Rattle.std.specs.List.Sorted.{IsStrictlyIncreasing, IsSortedByKey}
-use Rattle.page_ids.specs.Ids.{Id, IsLetter, id_cmp, id_eq}
+use Rattle.page_ids.specs.Ids.{Id, id_cmp, id_eq}
 use Rattle.frame_records.specs.declared.frame.Frame.{Frame}
 use Rattle.frame_records.specs.declared.build.BuildFault.{BuildFault}
 use Rattle.frame_records.specs.declared.build.BuildFault.TheVariants.{TooMany, BodyTooLong, NextAfterZ, Duplicate, OutsideInside}
@@ -121,10 +121,6 @@ is_next_after_z f = f.next && f.id.letter == 122
 abbrev pub NoFrame : (Frame → Bool) → List Frame → Type 0
 NoFrame test frames = All (λ f. test f ≡ false) frames
 
--- ids end in letters
-abbrev pub HaveLetters : List Frame → Type 0
-HaveLetters frames = All (λ f. IsLetter f.id.letter) frames
-
 -- what every base keeps
 pub record IsBase (base : BaseView) : Type 0 where
   pub few : are_too_many base.outside base.frames ≡ false
@@ -133,7 +129,6 @@ pub record IsBase (base : BaseView) : Type 0 where
   pub ascending : IsAscending base.frames
   pub pages_ascend : IsStrictlyIncreasing base.outside
   pub apart : AreApart base
-  pub letters : HaveLetters base.frames
 
 -- Which base two lists make, or the first refusal. Each refusal but the first names the smallest id or page.
 

@@ -6,8 +6,8 @@ use Rattle.page_ids.specs.declared.number.NumberFault.{NumberFault}
 use Rattle.page_ids.specs.declared.number.NumberFault.TheVariants.{NotNumeral, AboveLimit}
 use Rattle.page_ids.specs.Texts.{number_in}
 use Rattle.frame_records.specs.declared.limits.TheConstants.{MOST_GROUP, MOST_GROUPS}
-use Rattle.frame_records.specs.declared.groups.GroupFlaw.{GroupFlaw}
-use Rattle.frame_records.specs.declared.groups.GroupFlaw.TheVariants.{Number, Range, Order}
+use Rattle.frame_records.specs.declared.groups.GroupFault.{GroupFault}
+use Rattle.frame_records.specs.declared.groups.GroupFault.TheVariants.{Number, Range, Order}
 use Rattle.frame_records.specs.Bases.{IsGroup}
 use Rattle.frame_records.specs.Steps.{◌>>=◌}
 use Rattle.page_ids.specs.Parts.{parts_of}
@@ -31,32 +31,32 @@ abbrev pub pushed : List ℕ → ℕ → List ℕ
 pushed groups group = if has_room groups group then groups ++ group ∷ [] else groups
 
 -- a number after these groups: no group's number, or a 17th; then one that isn't greater
-abbrev pub numbered : List ℕ → ℕ → Result ℕ GroupFlaw
+abbrev pub numbered : List ℕ → ℕ → Result ℕ GroupFault
 numbered groups n =
     if nat_lt 0 n && nat_lt (length groups) MOST_GROUPS
     then (if are_below groups n then Ok n else Err Order)
     else Err Range
 
-abbrev pub group_of : List ℕ → Result ℕ NumberFault → Result ℕ GroupFlaw
+abbrev pub group_of : List ℕ → Result ℕ NumberFault → Result ℕ GroupFault
 group_of groups (Ok n) = numbered groups n
 group_of groups (Err NotNumeral) = Err Number
 group_of groups (Err AboveLimit) = Err Range
 
 -- the group of a word after these groups
-abbrev pub group_in : List ℕ → List ℕ → Result ℕ GroupFlaw
+abbrev pub group_in : List ℕ → List ℕ → Result ℕ GroupFault
 group_in groups word = group_of groups (number_in MOST_GROUP word)
 
 -- the groups with that of a word after them
-abbrev pub added : List ℕ → List ℕ → Result (List ℕ) GroupFlaw
+abbrev pub added : List ℕ → List ℕ → Result (List ℕ) GroupFault
 added groups word = group_in groups word >>= λ group. Ok (groups ++ group ∷ [])
 
 -- words in turn, after these groups
-abbrev pub words_in : List ℕ → List (List ℕ) → Result (List ℕ) GroupFlaw
+abbrev pub words_in : List ℕ → List (List ℕ) → Result (List ℕ) GroupFault
 words_in groups [] = Ok groups
 words_in groups (word ∷ words) = added groups word >>= λ more. words_in more words
 
 -- a text that is cut at each separator
-abbrev pub groups_in : ℕ → List ℕ → Result (List ℕ) GroupFlaw
+abbrev pub groups_in : ℕ → List ℕ → Result (List ℕ) GroupFault
 groups_in separator text = words_in [] (parts_of separator text)
 
 -- decimal numbers with a separator between them

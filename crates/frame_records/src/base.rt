@@ -3,7 +3,7 @@ ghost use Rattle.std.specs.Option.{option_copied};
 ghost use Rattle.frame_records.specs.Bases.{IsBase, frame_at, frames_compared, lists_outside, pages_compared, IsBuilt, BasesAreOne};
 ghost use Rattle.frame_records.specs.Seek.{seek, entry_of};
 
-use crate::build::{BuildFault, are_too_many, first_fault, have_letters, sort};
+use crate::build::{BuildFault, are_too_many, first_fault, sort};
 use crate::frame::Frame;
 use crate::groups::Groups;
 use crate::numbers::Pence;
@@ -55,7 +55,6 @@ impl Base {
             return Err(BuildFault::TooMany);
         }
         sort(&mut outside, &mut frames);
-        have_letters(frames.as_slice());
         match first_fault(outside.as_slice(), frames.as_slice()) {
             Some(fault) => Err(fault),
             None => Ok(Base {

@@ -1,7 +1,7 @@
 ghost use Rattle.std.specs.Prelude.{◌≡◌, false, IfSome, IfNone, MatchOption, find, option_map};
 ghost use Rattle.std.specs.List.Sorted.{IsSortedByKey, IsStrictlyIncreasing};
-ghost use Rattle.page_ids.specs.Ids.{IsLetter, id_cmp};
-ghost use Rattle.frame_records.specs.Bases.{HaveLetters, IsAscending, has_page, are_too_many, is_body_long, is_next_after_z, IsLeastTwice, IsBuildFault, IsUnrefused, AreSorted};
+ghost use Rattle.page_ids.specs.Ids.{id_cmp};
+ghost use Rattle.frame_records.specs.Bases.{IsAscending, has_page, are_too_many, is_body_long, is_next_after_z, IsLeastTwice, IsBuildFault, IsUnrefused, AreSorted};
 
 use crate::frame::Frame;
 use crate::limits::{MOST_BODY, MOST_LISTED};
@@ -98,22 +98,6 @@ fn outside_inside(outside: &[PageNo], frames: &[Frame]) -> Option<PageNo>
         .iter()
         .copied()
         .find(|page| page_has_frame(frames, *page))
-}
-
-// What a frame's type says of its id.
-fn has_letter(frame: &Frame)
-    ensures { IsLetter frame.now.id.letter }
-{
-    frame.id.letter.get();
-}
-
-// The same of each frame: nothing is computed, so that the compiler leaves the loop out.
-pub fn have_letters(frames: &[Frame])
-    ensures { HaveLetters frames.now }
-{
-    for frame in frames {
-        has_letter(frame);
-    }
 }
 
 // Sorts both lists in place, and keeps each page once.

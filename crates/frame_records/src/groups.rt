@@ -16,7 +16,7 @@ use thiserror::Error;
 
 /// Why a number is no further group of a list, in the order in which this is judged.
 #[derive(Debug, Clone, Copy, PartialEq, Eq, Error)]
-pub enum GroupFlaw {
+pub enum GroupFault {
     /// It isn't written as decimal digits without a leading zero.
     #[error("not a decimal number without leading zeros")]
     Number,
@@ -77,7 +77,7 @@ impl Groups {
     }
 
     /// The groups of a text that is cut at each separator, or what is wrong with the first number that is refused.
-    pub fn read_split(text: &[u8], separator: u8) -> Result<Groups, GroupFlaw>
+    pub fn read_split(text: &[u8], separator: u8) -> Result<Groups, GroupFault>
         ensures { result ≡ groups_in separator text.now }
     {
         let mut groups = Groups::none();
@@ -98,34 +98,35 @@ impl Groups {
     }
 
     // The group of a number, after these.
-    fn numbered(&self, number: u16) -> Result<GroupNo, GroupFlaw>
+    fn numbered(&self, number: u16) -> Result<GroupNo, GroupFault>
         ensures { result ≡ numbered self.now number }
     {
         if self.numbers.len() >= MOST_GROUPS {
-            return Err(GroupFlaw::Range);
+            return Err(GroupFault::Range);
         }
-        let group = GroupNo::new(number).ok_or(GroupFlaw::Range)?;
+        let group = GroupNo::new(number).ok_or(GroupFault::Range)?;
         if self.are_below(group) {
             Ok(group)
         } else {
-            Err(GroupFlaw::Order)
+            Err(GroupFault::Order)
         }
     }
 
     // The group of a word, after these.
-    fn group_in(&self, word: &[u8]) -> Result<GroupNo, GroupFlaw>
+    fn group_in(&self, word: &[u8]) -> Result<GroupNo, GroupFault>
         ensures { result ≡ group_in self.now word.now }
     {
         match number_read(word, MOST_GROUP as u32) {
             Ok(number) => self.numbered(number as u16),
-            Err(NumberFault::NotNumeral) => Err(GroupFlaw::Number),
-            Err(NumberFault::AboveLimit) => Err(GroupFlaw::Range),
+            Err(NumberFault::NotNumeral) => Err(GroupFault::Number),
+            Err(NumberFault::AboveLimit) => Err(GroupFault::Range),
         }
     }
 
     // The group of a word is put after these.
-    fn add(&mut self, word: &[u8]) -> Result<(), GroupFlaw>
-        ensures { MatchResult result (λ _. added self.old word.now ≡ Ok self.new) (λ e. added self.old word.now ≡ Err e) }
+    fn add(&mut self, word: &[u8]) -> Result<(), GroupFault>
+        ensures { MatchResult result (λ _. added self.old word.now ≡ Ok self.new) (λ e. added self.old word.now ≡
+            Err e) }
     {
         let group = self.group_in(word)?;
         self.push(group);

@@ -10,7 +10,7 @@
 //! ```
 //!
 //! - [`Pence`], [`GroupNo`]: numbers within their limits.
-//! - [`Groups`], [`GroupsFault`], [`GroupFlaw`]: the closed user groups of a caller, and why a text lists none.
+//! - [`Groups`], [`GroupsFault`], [`GroupFault`]: the closed user groups of a caller, and why a text lists none.
 //! - [`Frame`], [`Lead`], [`Body`]: a frame's record.
 //! - [`Base`], [`BuildFault`], [`Sought`]: the base, why two lists make none, and the result of seeking an id.
 //! - [`Frame::sought`], [`Base::follow`], [`Destination`]: what the ways of a frame seek, and where they lead.
@@ -31,7 +31,7 @@ mod ways;
 pub use base::{Base, Sought, bases_are_one};
 pub use build::BuildFault;
 pub use frame::{Body, Frame, Lead};
-pub use groups::{GroupFlaw, Groups, GroupsFault, groups_are_texts};
+pub use groups::{GroupFault, Groups, GroupsFault, groups_are_texts};
 pub use limits::{MOST_BODY, MOST_GROUP, MOST_GROUPS, MOST_LISTED, MOST_PENCE};
 pub use numbers::{GroupNo, Pence};
 pub use probe::{Probe, search};

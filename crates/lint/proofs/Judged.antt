@@ -9,12 +9,13 @@ use Rattle.checker.specs.declared.policy.Policy.{Policy}
 use Rattle.base_text.specs.declared.limits.TheConstants.{MOST_TEXT}
 use Rattle.base_text.specs.declared.detail.TextFault.{TextFault}
 use Rattle.base_text.specs.declared.whole_fault.WholeFault.{WholeFault}
-use Rattle.base_text.specs.Drafts.{DraftView, draft_of, text_faults, SoundDraftsHaveEntries, BeginAlike, DraftsBeginAlike}
+use Rattle.base_text.specs.Drafts.{DraftView, draft_of, text_faults, BeginAlike}
 use Rattle.base_text.specs.Whole.{PartsView, tree_of, parts_of}
-use Rattle.base_text.specs.WholeFaults.{AreWholeFaults, WholeFaultsAgree, DraftsHaveTables}
+use Rattle.base_text.specs.WholeFaults.{AreWholeFaults}
 use Rattle.frame_records.specs.Bases.{BaseView}
 use Rattle.toml_places.specs.Places.{marks}
 use Rattle.lint.specs.Findings.{FindingView}
+use Rattle.base_text.proofs.KeptDetails.{begin_alike}
 use Rattle.lint.specs.Lint.{Subject, Length, Toml, IsNotToml, finding_of, faulty, text_finding, whole_finding, tables_of, tree_tables, AreSubjects, AreSubjectsIf, AreTreeSubjects, AreAuditFindings, IsDraftOf, IsListed, IsRefused, IsJudgedBy, IsJudged}
 use Rattle.lint.proofs.Readings.{nothing, something}
 
@@ -62,10 +63,10 @@ pub record HasNone (text : List ℕ) (findings : List FindingView) (d : DraftVie
   pub refused : IsRefused d.faults d.entry d.outside d.frames
   pub are_findings : findings ≡ map (text_finding text (marks text)) d.faults ++ map (whole_finding text (marks text)) whole
 
-module _ (agree : WholeFaultsAgree) (tables : DraftsHaveTables) (entries : SoundDraftsHaveEntries) (begins : DraftsBeginAlike) (text : List ℕ) (policy : Policy) (findings : List FindingView) where
+module _ (text : List ℕ) (policy : Policy) (findings : List FindingView) where
   parts : (ms : Members) (e : ℕ) → nat_lt MOST_TEXT (length text) ≡ false → tree_of text ≡ Some ms → (draft_of ms).faults ≡ [] → (draft_of ms).entry ≡ Some e
       → parts_of text ≡ Ok (record { entry = e; outside = (draft_of ms).outside; frames = (draft_of ms).frames })
-  parts ms e short tree sound entry = rw (short, tree, none (draft_of ms).faults (text_faults ms) (begins ms) sound, entry) refl where
+  parts ms e short tree sound entry = rw (short, tree, none (draft_of ms).faults (text_faults ms) (begin_alike ms) sound, entry) refl where
     none : (listed all : List TextFault) → BeginAlike listed all → listed ≡ [] → all ≡ []
     none [] [] alike e = refl
     none [] (u ∷ us) alike e = absurd alike
@@ -76,7 +77,7 @@ module _ (agree : WholeFaultsAgree) (tables : DraftsHaveTables) (entries : Sound
       let ms = is.0 in
       let h = subst (HasBase text policy findings base) is.3 has in
       let l = h.listed in
-      let none = nothing agree tables entries begins ms h.whole h.are l.0 l.1 base l.3 in
+      let none = nothing ms h.whole h.are l.0 l.1 base l.3 in
       let p : PartsView = record { entry = l.1; outside = (draft_of ms).outside; frames = (draft_of ms).frames } in
       let tables = subst (λ t. AreAuditFindings text (marks text) (tree_tables t) base policy findings) (sym is.2) h.audited in
       ([], in_tree text (Some ms) [] is.1 is.2 (h.whole, h.are, sym none), (base, (p, parts ms l.1 is.1 is.2 l.0 l.2, l.3), tables))
@@ -86,7 +87,7 @@ module _ (agree : WholeFaultsAgree) (tables : DraftsHaveTables) (entries : Sound
       let ms = is.0 in
       let h = subst (HasNone text findings) is.3 has in
       let subjects = faulty (draft_of ms).faults h.whole in
-      (subjects, in_tree text (Some ms) subjects is.1 is.2 (h.whole, h.are, refl), of_some text policy findings subjects (something agree tables entries begins ms h.whole h.are h.refused) (h.are_findings ∙ each_subject text (draft_of ms).faults h.whole))
+      (subjects, in_tree text (Some ms) subjects is.1 is.2 (h.whole, h.are, refl), of_some text policy findings subjects (something ms h.whole h.are h.refused) (h.are_findings ∙ each_subject text (draft_of ms).faults h.whole))
 
 pub parsed : (bs : List ℕ) (ms : Members) → tree_of bs ≡ Some ms → parse_document bs ≡ Some ms
 parsed bs ms e = on_test (is_utf8 bs) refl where

@@ -11,10 +11,14 @@ use Rattle.base_text.specs.declared.fault.Cause.{Cause}
 use Rattle.base_text.specs.declared.fault.Cause.TheVariants as cause
 use Rattle.base_text.specs.declared.detail.TextFault.{TextFault}
 use Rattle.base_text.specs.declared.whole_fault.WholeFault.{WholeFault}
-use Rattle.base_text.specs.Drafts.{DraftView, draft_of, text_faults, SoundDraftsHaveEntries, BeginAlike, DraftsBeginAlike, base_fault}
+use Rattle.base_text.specs.Drafts.{DraftView, draft_of, text_faults, BeginAlike, base_fault}
 use Rattle.base_text.specs.Frames.{top_fault}
 use Rattle.base_text.specs.Whole.{PartsView, parts_or, parts_of, table_parts, tree_parts, tree_of, build_cause, IsWholeCause, IsFaultOf}
-use Rattle.base_text.specs.WholeFaults.{AreWholeFaults, WholeFaultsAgree, DraftsHaveTables, Agrees, build_fault, whole_cause}
+use Rattle.base_text.specs.WholeFaults.{AreWholeFaults, Agrees, build_fault, whole_cause}
+use Rattle.base_text.proofs.DraftTables.{tables_of_frames}
+use Rattle.base_text.proofs.KeptDetails.{begin_alike}
+use Rattle.base_text.proofs.SoundFrames as lemmas
+use Rattle.base_text.proofs.WholeAgreements.{all_agree}
 use Rattle.lint.specs.Lint.{Subject, Length, Toml, Text, Whole, faulty, AreTreeSubjects, AreSubjects, IsRefused}
 use Rattle.lint.specs.Laws.{IsAnswer, answer_of}
 
@@ -58,14 +62,14 @@ of_itself first s ss (Ok base) e a = absurd (clash a.1) where
   clash e = cc
 of_itself first s ss (Err fault) e a = e ∙ sym a
 
-module _ (agree : WholeFaultsAgree) (tables : DraftsHaveTables) (entries : SoundDraftsHaveEntries) (begins : DraftsBeginAlike) (ms : Members) (whole : List WholeFault) where
+module _ (ms : Members) (whole : List WholeFault) where
   abbrev d : DraftView
   d = draft_of ms
 
   module _ (are : AreWholeFaults d.outside d.frames d.tables whole) where
     -- what Base::build answers for what the draft lists
     built : (entry : ℕ) (r : Result BaseView BuildFault) → IsBuilt entry d.outside d.frames r → Agrees build_fault r whole
-    built entry r is = agree entry d.outside d.frames d.tables whole r (tables ms) are is
+    built entry r is = all_agree entry d.outside d.frames d.tables whole r (tables_of_frames ms) are is
 
     first_of_whole : (fault : BaseFault) (b : BuildFault) (ws : List WholeFault) → build_cause b ≡ fault.cause → fault.frame ≡ None
         → Agrees {A = BaseView} build_fault (Err b) ws → Agrees {A = BaseView} answer_of (Err fault) (map Whole ws)
@@ -89,14 +93,14 @@ module _ (agree : WholeFaultsAgree) (tables : DraftsHaveTables) (entries : Sound
         first_of_whole fault r.fault whole r.same a.0 (built entry (Err r.fault) r.is)
 
     of_draft : (answer : Result BaseView BaseFault) → IsAnswerTo (table_parts ms) answer → Agrees answer_of answer (faulty d.faults whole)
-    of_draft answer a = on d.faults (text_faults ms) refl (begins ms) a where
+    of_draft answer a = on d.faults (text_faults ms) refl (begin_alike ms) a where
       entered : (entry : Option ℕ) → d.entry ≡ entry → (e : ℕ) × (d.entry ≡ Some e) → IsAnswerTo (parts_or [] entry d) answer → Agrees answer_of answer (map Whole whole)
       entered (Some e) is has b = of_listed e answer b
       entered None is has b = absurd cc
 
       on : (listed all : List TextFault) → d.faults ≡ listed → BeginAlike listed all → IsAnswerTo (parts_or all d.entry d) answer
           → Agrees answer_of answer (faulty listed whole)
-      on [] [] e alike b = entered d.entry refl (entries ms e) b
+      on [] [] e alike b = entered d.entry refl (lemmas.entry ms e) b
       on [] (u ∷ us) e alike b = absurd alike
       on (t ∷ ts) [] e alike b = absurd alike
       on (t ∷ ts) (u ∷ us) e alike b = of_itself (base_fault u) (Text t) _ answer alike b
@@ -106,7 +110,7 @@ module _ (agree : WholeFaultsAgree) (tables : DraftsHaveTables) (entries : Sound
     nothing sound entry base is = rw (sound, built entry (Ok base) is) refl
 
     pub something : IsRefused d.faults d.entry d.outside d.frames → faulty d.faults whole ≡ [] → ⊥
-    something refused none = on d.faults refl (entries ms) where
+    something refused none = on d.faults refl (lemmas.entry ms) where
       some : (ws : List WholeFault) (b : BuildFault) → Agrees {A = BaseView} build_fault (Err b) ws → map Whole ws ≡ [] → ⊥
       some [] b h e = h
       some (w ∷ ws) b h e = cc
@@ -120,20 +124,19 @@ module _ (agree : WholeFaultsAgree) (tables : DraftsHaveTables) (entries : Sound
         clash : {s : Subject} {ss : List Subject} → s ∷ ss ≡ [] → ⊥
         clash e = cc
 
-module _ (agree : WholeFaultsAgree) (tables : DraftsHaveTables) (entries : SoundDraftsHaveEntries) (begins : DraftsBeginAlike) where
-  of_tree : (text : List ℕ) (tree : Option Members) (subjects : List Subject) (answer : Result BaseView BaseFault) → AreTreeSubjects text tree subjects
-      → IsAnswerTo (tree_parts tree) answer → Agrees answer_of answer subjects
-  of_tree text None subjects answer are a = subst (Agrees answer_of answer) (sym are.3) (of_itself (top_fault cause.NotToml) (Toml are.0 are.1) [] answer refl a)
-  of_tree text (Some ms) subjects answer are a = subst (Agrees answer_of answer) (sym are.2) (of_draft agree tables entries begins ms are.0 are.1 answer a)
+of_tree : (text : List ℕ) (tree : Option Members) (subjects : List Subject) (answer : Result BaseView BaseFault) → AreTreeSubjects text tree subjects
+    → IsAnswerTo (tree_parts tree) answer → Agrees answer_of answer subjects
+of_tree text None subjects answer are a = subst (Agrees answer_of answer) (sym are.3) (of_itself (top_fault cause.NotToml) (Toml are.0 are.1) [] answer refl a)
+of_tree text (Some ms) subjects answer are a = subst (Agrees answer_of answer) (sym are.2) (of_draft ms are.0 are.1 answer a)
 
-  -- nothing is wrong with a text if base_read answers a base; else the first is what it answers
-  pub agreed : (text : List ℕ) (subjects : List Subject) (answer : Result BaseView BaseFault) → AreSubjects text subjects → IsAnswer text answer
-      → Agrees answer_of answer subjects
-  agreed text subjects answer are a = on (nat_lt MOST_TEXT (length text)) refl (as_parts answer a) where
-    as_parts : (r : Result BaseView BaseFault) → IsAnswer text r → IsAnswerTo (parts_of text) r
-    as_parts (Ok base) b = b
-    as_parts (Err fault) b = b
+-- nothing is wrong with a text if base_read answers a base; else the first is what it answers
+pub agreed : (text : List ℕ) (subjects : List Subject) (answer : Result BaseView BaseFault) → AreSubjects text subjects → IsAnswer text answer
+    → Agrees answer_of answer subjects
+agreed text subjects answer are a = on (nat_lt MOST_TEXT (length text)) refl (as_parts answer a) where
+  as_parts : (r : Result BaseView BaseFault) → IsAnswer text r → IsAnswerTo (parts_of text) r
+  as_parts (Ok base) b = b
+  as_parts (Err fault) b = b
 
-    on : (long : Bool) → nat_lt MOST_TEXT (length text) ≡ long → IsAnswerTo (parts_of text) answer → Agrees answer_of answer subjects
-    on true e b = subst (Agrees answer_of answer) (sym (rw e at are)) (of_itself (top_fault cause.TooLong) Length [] answer refl (rw e at b))
-    on false e b = of_tree text (tree_of text) subjects answer (rw e at are) (rw e at b)
+  on : (long : Bool) → nat_lt MOST_TEXT (length text) ≡ long → IsAnswerTo (parts_of text) answer → Agrees answer_of answer subjects
+  on true e b = subst (Agrees answer_of answer) (sym (rw e at are)) (of_itself (top_fault cause.TooLong) Length [] answer refl (rw e at b))
+  on false e b = of_tree text (tree_of text) subjects answer (rw e at are) (rw e at b)

@@ -1,5 +1,5 @@
 -- The frames that are warned of.
-use Rattle.std.proofs.Common.{◌≡◌, ◌∙◌, ◌≢◌, ◌||◌, ℕ, Bool, true, false, cond, not, List, [], ◌∷◌, ◌++◌, map, get_or, Option, Some, None, is_none, refl, sym, ap, subst, Contains, inl, inr, suc, length, append-nil, append_assoc, arith}
+use Rattle.std.proofs.Common.{◌≡◌, ◌∙◌, ◌≢◌, ◌||◌, ℕ, Bool, true, false, cond, not, List, [], ◌∷◌, ◌++◌, map, get_or, Option, Some, None, Ok, is_none, refl, sym, ap, subst, Contains, inl, inr, suc, length, append-nil, append_assoc, arith}
 use Rattle.std.specs.Option.{option_or}
 use Rattle.std.specs.Prelude.{filter, AllPairs, ◌⊎◌, ◌↔◌}
 use Rattle.std.specs.List.{list_any}
@@ -23,7 +23,8 @@ use Rattle.lint.specs.Findings.{FindingView, AreInOrder}
 use Rattle.lint.specs.Lookups.{value_of}
 use Rattle.lint.specs.Looks.{looks_of}
 use Rattle.lint.specs.Lint.{ranks_of, finds_none, is_unreached, unreached, ids_of, warning, none_reached, unreached_findings, look_findings, fault_finding, text_tables}
-use Rattle.lint.specs.Laws.{IsCutOff, AreOfAudit, WarnsOfCutOff}
+use Rattle.lint.specs.Laws.{IsCutOff, AreOfAudit, WarnsOfCutOff, LintWarnsOfUnreached}
+use Rattle.lint.proofs.Meanings.{follows}
 use Rattle.page_ids.proofs.Truths.{both, not_so, not_true}
 
 -- what passes a test is kept
@@ -171,3 +172,6 @@ warns text policy findings base is a =
       in_order = subst (λ fs. AreInOrder fs findings)
           (a.1.all ∙ ap (λ fs. faults ++ fs ++ looks) (parts text policy.groups base tables found) ∙ ap (λ fs. fs ++ looks) (sym (append_assoc faults each_frame rest))) a.2;
     }
+
+pub lint_warns : LintWarnsOfUnreached
+lint_warns text policy findings lint base is = warns text policy findings base is (follows text policy findings lint (Ok base) is)

@@ -48,7 +48,8 @@ fn ranks_of(alloc: Global, found: &[Discovered]) -> Result<Vec<(FrameId, Option<
 }
 
 fn is_unreached(ranks: &Ranks, groups: &Groups, frame: &Frame) -> bool
-    ensures { (known : List (Id × Option ℕ)) → Knows known ranks.now → result ≡ spec.is_unreached groups.now known frame.now }
+    ensures { (known : List (Id × Option ℕ)) → Knows known ranks.now
+        → result ≡ spec.is_unreached groups.now known frame.now }
 {
     frame.is_open(groups) && ranks.get(frame.id).is_none()
 }
@@ -60,7 +61,8 @@ fn unreached(
     groups: &Groups,
     frames: &[Frame],
 ) -> Result<Vec<FrameId>, AllocError>
-    ensures { IfOk result (λ ids. (known : List (Id × Option ℕ)) → Knows known ranks.now → ids.items ≡ spec.ids_of (spec.unreached groups.now known frames.now)) }
+    ensures { IfOk result (λ ids. (known : List (Id × Option ℕ)) → Knows known ranks.now
+        → ids.items ≡ spec.ids_of (spec.unreached groups.now known frames.now)) }
 {
     let mut ids = Vec::new(alloc);
     for frame in frames {
@@ -222,10 +224,14 @@ impl<'a> Sources<'a> {
         ranks: &Ranks,
         fault: &Fault,
     ) -> Result<Finding, AllocError>
-        ensures finding { IfOk result (λ f. (ms : List Mark) (tables : List (Id × ℕ)) (known : List (Id × Option ℕ)) → spec.AreKnown ms tables self.now → Knows known ranks.now
-            → IsTable self.now.text.now.text.now ms (seen table.old) → f ≡ spec.fault_finding self.now.text.now.text.now ms tables self.now.base.now self.now.policy.now known fault.now) }
+        ensures finding { IfOk result (λ f. (ms : List Mark) (tables : List (Id × ℕ)) (known : List (Id × Option ℕ))
+            → spec.AreKnown ms tables self.now → Knows known ranks.now
+            → IsTable self.now.text.now.text.now ms (seen table.old)
+            → f ≡ spec.fault_finding self.now.text.now.text.now ms tables self.now.base.now
+            self.now.policy.now known fault.now) }
         ensures table { OnOk result ((ms : List Mark) → KnowsTables ms self.now.text.now
-            → IsTable self.now.text.now.text.now ms (seen table.old) → IsTable self.now.text.now.text.now ms (seen table.new)) }
+            → IsTable self.now.text.now.text.now ms (seen table.old)
+            → IsTable self.now.text.now.text.now ms (seen table.new)) }
     {
         let frame = kind_table(self.table_of(fault.frame), fault.kind);
         self.text.turn(alloc, table, frame)?;
@@ -240,8 +246,11 @@ impl<'a> Sources<'a> {
         audit: &Audit,
         findings: &mut Vec<Finding>,
     ) -> Result<(), AllocError>
-        ensures { OnOk result ((ms : List Mark) (tables : List (Id × ℕ)) (known : List (Id × Option ℕ)) → spec.AreKnown ms tables self.now → Knows known audit.now.ranks
-            → findings.new.items ≡ findings.old.items ++ map (spec.fault_finding self.now.text.now.text.now ms tables self.now.base.now self.now.policy.now known) audit.now.faults) }
+        ensures { OnOk result ((ms : List Mark) (tables : List (Id × ℕ)) (known : List (Id × Option ℕ))
+            → spec.AreKnown ms tables self.now → Knows known audit.now.ranks
+            → findings.new.items ≡ findings.old.items ++
+            map (spec.fault_finding self.now.text.now.text.now ms tables self.now.base.now
+            self.now.policy.now known) audit.now.faults) }
     {
         let mut table = self.text.table(alloc, None)?;
         for fault in audit.faults.as_slice() {
@@ -251,7 +260,8 @@ impl<'a> Sources<'a> {
     }
 
     fn warning(&self, alloc: Global, id: FrameId) -> Result<Finding, AllocError>
-        ensures { IfOk result (λ f. (ms : List Mark) (tables : List (Id × ℕ)) → spec.AreKnown ms tables self.now → f ≡ spec.warning self.now.text.now.text.now ms tables id) }
+        ensures { IfOk result (λ f. (ms : List Mark) (tables : List (Id × ℕ)) → spec.AreKnown ms tables self.now
+            → f ≡ spec.warning self.now.text.now.text.now ms tables id) }
     {
         let words = unreached_words(alloc, id)?;
         Ok(Finding::warning(self.text.frame_whole(self.table_of(id)), words))
@@ -264,7 +274,8 @@ impl<'a> Sources<'a> {
         findings: &mut Vec<Finding>,
     ) -> Result<(), AllocError>
         ensures { OnOk result ((ms : List Mark) (tables : List (Id × ℕ)) → spec.AreKnown ms tables self.now
-            → findings.new.items ≡ findings.old.items ++ map (spec.warning self.now.text.now.text.now ms tables) ids.now) }
+            → findings.new.items ≡ findings.old.items ++
+            map (spec.warning self.now.text.now.text.now ms tables) ids.now) }
     {
         for id in ids {
             findings.push(self.warning(alloc, *id)?)?;
@@ -298,7 +309,8 @@ impl<'a> Sources<'a> {
         findings: &mut Vec<Finding>,
     ) -> Result<(), AllocError>
         ensures { OnOk result ((ms : List Mark) (tables : List (Id × ℕ)) → spec.AreKnown ms tables self.now
-            → findings.new.items ≡ findings.old.items ++ spec.unreached_findings self.now.text.now.text.now ms tables finds_none ids.now) }
+            → findings.new.items ≡ findings.old.items ++
+            spec.unreached_findings self.now.text.now.text.now ms tables finds_none ids.now) }
     {
         if finds_none {
             self.add_none_reached(alloc, ids.len(), findings)
@@ -314,7 +326,8 @@ impl<'a> Sources<'a> {
         findings: &mut Vec<Finding>,
     ) -> Result<(), AllocError>
         ensures { OnOk result ((ms : List Mark) (tables : List (Id × ℕ)) → spec.AreKnown ms tables self.now
-            → findings.new.items ≡ findings.old.items ++ spec.look_findings self.now.text.now.text.now ms tables looks.now) }
+            → findings.new.items ≡ findings.old.items ++
+            spec.look_findings self.now.text.now.text.now ms tables looks.now) }
     {
         let mut table = self.text.table(alloc, None)?;
         for look in looks {
@@ -329,7 +342,8 @@ impl<'a> Sources<'a> {
     pub fn findings(&self, alloc: Global, audit: &Audit) -> Result<Vec<Finding>, AllocError>
         requires { spec.IsAudit self.now.base.now self.now.policy.now audit.now }
         ensures { IfOk result (λ fs. (ms : List Mark) (tables : List (Id × ℕ)) → spec.AreKnown ms tables self.now
-            → spec.AreAuditFindings self.now.text.now.text.now ms tables self.now.base.now self.now.policy.now fs.items) }
+            → spec.AreAuditFindings self.now.text.now.text.now ms tables self.now.base.now
+            self.now.policy.now fs.items) }
     {
         let mut findings = Vec::new(alloc);
         self.add_faults(alloc, audit, &mut findings)?;

@@ -12,17 +12,11 @@ ghost use Rattle.lint.specs.Lint as spec;
 
 use crate::audit_findings::{Audit, Sources};
 use crate::finding::Finding;
-use crate::laws::{
-    lint_follows_base_read, lint_warns_of_unreached, no_error_is_safe, spans_lie_in_the_text,
-};
 use crate::lookup::Lookup;
 use crate::order::put_in_order;
 use crate::tables::TextTables;
 use crate::text_findings::{add_text_findings, add_whole_findings};
-use base_text::{
-    Draft, MOST_TEXT, TextFault, WholeFault, draft_of, drafts_are_sound, faults_are_listed,
-    whole_faults, whole_faults_agree,
-};
+use base_text::{Draft, MOST_TEXT, TextFault, WholeFault, draft_of, whole_faults};
 use checker::Policy;
 use frame_records::{Base, Frame};
 use lint_words::{Words, not_toml_words, too_long_words};
@@ -86,7 +80,9 @@ fn faulty(
     faults: &[TextFault],
     whole: &[WholeFault],
 ) -> Result<Vec<Finding>, AllocError>
-    ensures { IfOk result (λ fs. (ms : Members) → parse_document text.now ≡ Some ms → fs.items ≡ map (spec.text_finding text.now (marks text.now)) faults.now ++ map (spec.whole_finding text.now (marks text.now)) whole.now) }
+    ensures { IfOk result (λ fs. (ms : Members) → parse_document text.now ≡ Some ms
+        → fs.items ≡ map (spec.text_finding text.now (marks text.now)) faults.now ++
+        map (spec.whole_finding text.now (marks text.now)) whole.now) }
 {
     let places = Places::of(alloc, text)?;
     let tables = TextTables::of(alloc, text, &places)?;
@@ -106,7 +102,8 @@ fn audited(
     base: &Base,
     policy: &Policy,
 ) -> Result<Vec<Finding>, AllocError>
-    ensures { IfOk result (λ fs. (ms : Members) → parse_document text.now ≡ Some ms → spec.AreAuditFindings text.now (marks text.now) tables.now base.now policy.now fs.items) }
+    ensures { IfOk result (λ fs. (ms : Members) → parse_document text.now ≡ Some ms
+        → spec.AreAuditFindings text.now (marks text.now) tables.now base.now policy.now fs.items) }
 {
     let audit = Audit::of(alloc, base, policy)?;
     if audit.is_clear() {
@@ -145,7 +142,8 @@ fn base_of(
     outside: Vec<PageNo>,
     frames: Vec<Frame>,
 ) -> Option<Base>
-    ensures { MatchOption result (spec.IsRefused faults.now entry outside.items frames.items) (spec.IsListed faults.now entry outside.items frames.items) }
+    ensures { MatchOption result (spec.IsRefused faults.now entry outside.items frames.items)
+        (spec.IsListed faults.now entry outside.items frames.items) }
 {
     match (faults, entry) {
         ([], Some(entry)) => Base::build(entry, outside, frames).ok(),
@@ -162,9 +160,6 @@ fn judged_draft(
     requires { spec.IsDraftOf text.now draft }
     ensures { IfOk result (λ fs. spec.IsJudged text.now policy.now fs.items) }
 {
-    drafts_are_sound();
-    faults_are_listed();
-    whole_faults_agree();
     let whole = whole_faults(alloc, &draft)?;
     let tables = tables_of(alloc, draft.frames.as_slice(), draft.tables.as_slice())?;
     let Draft {
@@ -226,10 +221,6 @@ pub fn lint(alloc: Global, text: &[u8], policy: &Policy) -> Result<Vec<Finding>,
     ensures warnings { IfOk result (λ fs. WarnsOfUnreached text.now policy.now fs.items) }
     ensures spans { IfOk result (λ fs. SpansLieIn text.now fs.items) }
 {
-    lint_follows_base_read();
-    no_error_is_safe();
-    lint_warns_of_unreached();
-    spans_lie_in_the_text();
     let mut findings = judged(alloc, text, policy)?;
     put_in_order(&mut findings)?;
     Ok(findings)

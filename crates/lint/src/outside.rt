@@ -41,7 +41,8 @@ impl OutsidePages {
         table: &TableSpots<'_>,
         index: usize,
     ) -> Result<(), AllocError>
-        ensures { OnOk result ((page : ℕ) → listed self.new page ≡ option_or (spec.element_if (seen table.now) page index) (listed self.old page)) }
+        ensures { OnOk result ((page : ℕ) → listed self.new page
+            ≡ option_or (spec.element_if (seen table.now) page index) (listed self.old page)) }
     {
         if let Some(element) = table.item(index) {
             if let Some(page) = page_in(alloc, table.text(), element)? {

@@ -254,7 +254,8 @@ impl<'a> TextTables<'a> {
     }
 
     fn keys(&self, alloc: Global, frame: Option<usize>) -> Result<TableKeys<'a>, AllocError>
-        ensures { IfOk result (λ keys. (ms : List Mark) → KnowsTables ms self.now → seen_keys keys ≡ spec.keys_of self.now.text.now ms frame) }
+        ensures { IfOk result (λ keys. (ms : List Mark) → KnowsTables ms self.now → seen_keys keys
+            ≡ spec.keys_of self.now.text.now ms frame) }
     {
         Ok(TableKeys {
             places: self.places,
@@ -265,7 +266,8 @@ impl<'a> TextTables<'a> {
 
     // The top, or the table of a frame.
     pub fn table(&self, alloc: Global, frame: Option<usize>) -> Result<TableSpots<'a>, AllocError>
-        ensures { IfOk result (λ table. (ms : List Mark) → KnowsTables ms self.now → seen table ≡ spec.table_at self.now.text.now ms frame) }
+        ensures { IfOk result (λ table. (ms : List Mark) → KnowsTables ms self.now → seen table
+            ≡ spec.table_at self.now.text.now ms frame) }
     {
         let keys = self.keys(alloc, frame)?;
         let routes = inline_table(alloc, self.text, value_at(self.text, keys.key("routes")))?;
@@ -286,7 +288,8 @@ impl<'a> TextTables<'a> {
         table: &mut TableSpots<'a>,
         frame: Option<usize>,
     ) -> Result<(), AllocError>
-        ensures turned { OnOk result ((ms : List Mark) → KnowsTables ms self.now → IsTable self.now.text.now ms (seen table.old)
+        ensures turned { OnOk result ((ms : List Mark) → KnowsTables ms self.now
+            → IsTable self.now.text.now ms (seen table.old)
             → seen table.new ≡ spec.table_at self.now.text.now ms frame) }
     {
         if table.frame() != frame {

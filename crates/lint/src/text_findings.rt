@@ -20,9 +20,11 @@ fn text_finding<'a>(
     first_frame: usize,
     fault: &TextFault,
 ) -> Result<Finding, AllocError>
-    ensures finding { IfOk result (λ f. (ms : List Mark) → KnowsTables ms tables.now → IsTable tables.now.text.now ms (seen table.old)
+    ensures finding { IfOk result (λ f. (ms : List Mark) → KnowsTables ms tables.now
+        → IsTable tables.now.text.now ms (seen table.old)
         → f ≡ spec.text_finding tables.now.text.now ms fault.now) }
-    ensures table { OnOk result ((ms : List Mark) → KnowsTables ms tables.now → IsTable tables.now.text.now ms (seen table.old) → IsTable tables.now.text.now ms (seen table.new)) }
+    ensures table { OnOk result ((ms : List Mark) → KnowsTables ms tables.now
+        → IsTable tables.now.text.now ms (seen table.old) → IsTable tables.now.text.now ms (seen table.new)) }
 {
     tables.turn(alloc, table, fault.frame)?;
     let written = Written {
@@ -70,9 +72,11 @@ fn whole_finding<'a>(
     pages: &OutsidePages,
     fault: &WholeFault,
 ) -> Result<Finding, AllocError>
-    ensures finding { IfOk result (λ f. (ms : List Mark) → KnowsTables ms tables.now → lines.now ≡ tables.now.text.now → Lists (table_at tables.now.text.now ms None) pages.now
+    ensures finding { IfOk result (λ f. (ms : List Mark) → KnowsTables ms tables.now
+        → lines.now ≡ tables.now.text.now → Lists (table_at tables.now.text.now ms None) pages.now
         → IsTable tables.now.text.now ms (seen table.old) → f ≡ spec.whole_finding tables.now.text.now ms fault.now) }
-    ensures table { OnOk result ((ms : List Mark) → KnowsTables ms tables.now → IsTable tables.now.text.now ms (seen table.old) → IsTable tables.now.text.now ms (seen table.new)) }
+    ensures table { OnOk result ((ms : List Mark) → KnowsTables ms tables.now
+        → IsTable tables.now.text.now ms (seen table.old) → IsTable tables.now.text.now ms (seen table.new)) }
 {
     tables.turn(alloc, table, whole_table(fault))?;
     let words = whole_fault_words(alloc, fault, first_line(tables, lines, fault))?;

@@ -51,7 +51,7 @@ missing_page_words page fault =
     codes "" ++ (pressed_text fault.key ++ (codes " of frame " ++ (frame_text fault.frame ++
     (codes " leads to page " ++ (page_text page ++ (codes ", which has no frame a" ++ shown_by fault.script))))))
 
--- a key leads to a further frame that isn't there
+-- a key leads to a further frame that is missing
 abbrev pub missing_frame_words : Fault → List ℕ
 missing_frame_words fault =
     codes "" ++ (pressed_text fault.key ++ (codes " of frame " ++ (frame_text fault.frame ++

@@ -157,7 +157,7 @@ fn push_missing_page(out: &mut Vec<u8>, page: PageNo, fault: &Fault) -> Result<(
     )
 }
 
-// A key that leads to a further frame that isn't there.
+// A key that leads to a missing further frame.
 fn push_missing_frame(out: &mut Vec<u8>, fault: &Fault) -> Result<(), AllocError>
     ensures { OnOk result (out.new.items ≡ out.old.items ++ missing_frame_words fault.now) }
 {

@@ -70,7 +70,7 @@ fn push_unknown(out: &mut Vec<u8>, table: TableKind, key: &str) -> Result<(), Al
     push_pieces(out, &[Quoted(key), Text(unknown_text(table))])
 }
 
-// A key that isn't there.
+// A missing key.
 fn push_absent(out: &mut Vec<u8>, field: Field, id: Option<FrameId>) -> Result<(), AllocError>
     ensures { OnOk result (out.new.items ≡ out.old.items ++ absent_words field id) }
 {
@@ -372,7 +372,8 @@ fn push_wrong_value(
 }
 
 fn push_detail(out: &mut Vec<u8>, fault: &TextFault) -> Result<(), AllocError>
-    ensures { OnOk result (out.new.items ≡ out.old.items ++ detail_words fault.now.frame fault.now.id fault.now.detail) }
+    ensures { OnOk result (out.new.items ≡ out.old.items ++
+        detail_words fault.now.frame fault.now.id fault.now.detail) }
 {
     let id = fault.id;
     match &fault.detail {
@@ -396,7 +397,8 @@ fn push_detail(out: &mut Vec<u8>, fault: &TextFault) -> Result<(), AllocError>
 
 // How many faults of a frame or of the top aren't listed.
 fn push_unlisted(out: &mut Vec<u8>, fault: &TextFault) -> Result<(), AllocError>
-    ensures { OnOk result (out.new.items ≡ out.old.items ++ unlisted_words fault.now.frame fault.now.id fault.now.unlisted) }
+    ensures { OnOk result (out.new.items ≡ out.old.items ++
+        unlisted_words fault.now.frame fault.now.id fault.now.unlisted) }
 {
     let count = Count(fault.unlisted, "more fault", "more faults");
     match fault.frame {

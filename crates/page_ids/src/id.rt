@@ -88,7 +88,8 @@ impl FrameId {
 
 /// Writes an id after a text. If a growth is refused, nothing was written.
 pub fn push_id(text: &mut Vec<u8>, id: FrameId) -> Result<(), AllocError>
-    ensures text { MatchResult result (λ _. text.new.items ≡ text.old.items ++ frame_text id) (λ _. text.new.items ≡ text.old.items) }
+    ensures text { MatchResult result (λ _. text.new.items ≡ text.old.items ++ frame_text id) (λ _. text.new.items ≡
+        text.old.items) }
     ensures in_range { IsFrameId id }
 {
     text.extend_from_slice(id.text().as_bytes())

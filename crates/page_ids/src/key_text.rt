@@ -56,7 +56,8 @@ pub fn keys_read(alloc: Global, text: &str) -> Result<KeyList, IdFault>
 
 /// Writes a key's word after a text. If a growth is refused, nothing was written.
 pub fn push_key(text: &mut Vec<u8>, key: Key) -> Result<(), AllocError>
-    ensures { MatchResult result (λ _. text.new.items ≡ text.old.items ++ key_word key) (λ _. text.new.items ≡ text.old.items) }
+    ensures { MatchResult result (λ _. text.new.items ≡ text.old.items ++ key_word key) (λ _. text.new.items ≡
+        text.old.items) }
 {
     match key {
         Key::Route(digit) => text.push(b'0' + digit.get())?,
@@ -70,7 +71,8 @@ pub fn push_key(text: &mut Vec<u8>, key: Key) -> Result<(), AllocError>
 
 /// Writes the words of the keys after a text, one after the other. If a growth is refused, the text is left as it was.
 pub fn push_keys(text: &mut Vec<u8>, keys: &[Key]) -> Result<(), AllocError>
-    ensures { MatchResult result (λ _. text.new.items ≡ text.old.items ++ keys_text keys.now) (λ _. text.new.items ≡ text.old.items) }
+    ensures { MatchResult result (λ _. text.new.items ≡ text.old.items ++ keys_text keys.now) (λ _. text.new.items ≡
+        text.old.items) }
 {
     let kept = text.len();
     for key in keys {

@@ -35,7 +35,8 @@ fn is_numeral(bytes: &[u8]) -> bool
 
 // The value of the digits, as far as it fits 32 bits.
 fn value_of(digits: &[u8]) -> Option<u32>
-    ensures { SomeIff result (AllDigits 10 digits.now × (digits_value 10 digits.now ≤ 4294967295)) (digits_value 10 digits.now) }
+    ensures { SomeIff result (AllDigits 10 digits.now × (digits_value 10 digits.now ≤
+        4294967295)) (digits_value 10 digits.now) }
 {
     let mut number: u32 = 0;
     for digit in digits {
@@ -73,7 +74,8 @@ pub fn number_read(bytes: &[u8], most: u32) -> Result<u32, NumberFault>
 
 /// Writes a number after a text, in decimal. If a growth is refused, nothing was written.
 pub fn push_number(text: &mut Vec<u8>, number: u64) -> Result<(), AllocError>
-    ensures { MatchResult result (λ _. text.new.items ≡ text.old.items ++ decimal number) (λ _. text.new.items ≡ text.old.items) }
+    ensures { MatchResult result (λ _. text.new.items ≡ text.old.items ++ decimal number) (λ _. text.new.items ≡
+        text.old.items) }
 {
     let mut buffer = Buffer::new();
     let digits = buffer.format(number);

@@ -79,7 +79,8 @@ impl PageNo {
 
 /// Writes a page number after a text. If a growth is refused, nothing was written.
 pub fn push_page(text: &mut Vec<u8>, page: PageNo) -> Result<(), AllocError>
-    ensures { MatchResult result (λ _. text.new.items ≡ text.old.items ++ page_text page) (λ _. text.new.items ≡ text.old.items) }
+    ensures { MatchResult result (λ _. text.new.items ≡ text.old.items ++ page_text page) (λ _. text.new.items ≡
+        text.old.items) }
 {
     text.extend_from_slice(page.text().as_bytes())
 }

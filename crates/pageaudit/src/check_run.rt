@@ -46,8 +46,8 @@ pub fn run_check<B: Source, C: Source, O: Sink>(
         (device O.seen out.old out.new) policy.now result }
 
     // If the status is Clear, the headline holds of the bytes that were read.
-    ensures headline { result ≡ Ok Status.Clear →
-        HoldsOfFiles (device B.seen base.old base.new) (device C.seen cert.old cert.new) policy.now }
+    ensures headline { result ≡ Ok Status.Clear
+        → HoldsOfFiles (device B.seen base.old base.new) (device C.seen cert.old cert.new) policy.now }
 {
     let base = match read_base(alloc, base) {
         Ok(base) => base,

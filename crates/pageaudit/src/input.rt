@@ -55,8 +55,8 @@ fn take_piece<S: Source>(
 ) -> Result<usize, FileFault<ReadFault>>
     requires open { (S.seen source.old).failed ≡ false }
     requires some { 0 < most }
-    ensures { (stream : List ℕ) → HasRead reader.old stream →
-        IsPieceTaken most (device S.seen source.old source.new) stream reader.new result }
+    ensures { (stream : List ℕ) → HasRead reader.old stream
+        → IsPieceTaken most (device S.seen source.old source.new) stream reader.new result }
 {
     let mut piece = [0; PIECE];
     let room = most.min(PIECE);

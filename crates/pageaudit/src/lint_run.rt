@@ -36,7 +36,8 @@ pub fn run_lint<B: Source, O: Sink>(
 ) -> Result<Counts, RunFault>
     requires base_open { (B.seen base.old).failed ≡ false }
     requires out_open { (O.seen out.old).failed ≡ false }
-    ensures { IsLintRun (device B.seen base.old base.new) (device O.seen out.old out.new) path.now policy.now format result }
+    ensures { IsLintRun (device B.seen base.old base.new)
+        (device O.seen out.old out.new) path.now policy.now format result }
 {
     let text = match read_whole(alloc, base, MOST_TEXT + 1) {
         Ok(text) => text,

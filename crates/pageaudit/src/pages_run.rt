@@ -41,7 +41,8 @@ pub fn run_pages<B: Source, O: Sink>(
 
     // A status: the base's file was read to its end, no device failed, and the file is that of what was read. A fault: the
     // first one, of the base's file or of the output.
-    ensures { IsPagesFileRun (device B.seen base.old base.new) (device O.seen out.old out.new) name.now policy.now view.now result }
+    ensures { IsPagesFileRun (device B.seen base.old base.new)
+        (device O.seen out.old out.new) name.now policy.now view.now result }
 {
     let base = match read_base(alloc, base) {
         Ok(base) => base,

@@ -32,8 +32,8 @@ fn replies(
     opening: Reply,
     keys: &KeyList,
 ) -> Result<Vec<Reply>, AllocError>
-    ensures { IfOk result (λ replies. replies.items ≡
-        opening ∷ replies_to session.groups base.now session.state keys.now) }
+    ensures { IfOk result (λ replies. replies.items
+        ≡ opening ∷ replies_to session.groups base.now session.state keys.now) }
 {
     let mut replies = Vec::new(alloc);
     replies.push(opening)?;

@@ -6,7 +6,7 @@ use Rattle.audit_report.specs.declared.run_fault.RunFault.TheVariants as run
 use Rattle.audit_report.specs.FaultLines.{fault_text}
 use Rattle.pageaudit_c.specs.declared.status.Status.{Status}
 use Rattle.pageaudit_c.specs.declared.status.Status.TheVariants.{BadText, OutOfMemory, BadPolicy}
-use Rattle.frame_records.specs.declared.groups.GroupFlaw.{GroupFlaw}
+use Rattle.frame_records.specs.declared.groups.GroupFault.{GroupFault}
 use Rattle.frame_records.specs.Bases.{IsPrice}
 use Rattle.frame_records.specs.Groups.{groups_in}
 use Rattle.checker.specs.declared.policy.Policy.{Policy}
@@ -46,7 +46,7 @@ abbrev pub asked : ℕ → ℕ → List ℕ → Asked
 asked ceiling keyings groups = record { ceiling = ceiling; keyings = keyings; groups = groups }
 
 -- the groups of a text with commas between them; none of the empty text
-abbrev pub groups_of : List ℕ → Result (List ℕ) GroupFlaw
+abbrev pub groups_of : List ℕ → Result (List ℕ) GroupFault
 groups_of [] = Ok []
 groups_of (byte ∷ bytes) = groups_in 44 (byte ∷ bytes)
 

@@ -4,7 +4,7 @@ use Rattle.std.specs.List.{flat_map}
 use Rattle.page_ids.specs.Ids.{Id}
 use Rattle.page_ids.specs.Texts.{id_in}
 use Rattle.frame_records.specs.declared.frame.Frame.{Frame}
-use Rattle.frame_records.specs.declared.groups.GroupFlaw.{GroupFlaw}
+use Rattle.frame_records.specs.declared.groups.GroupFault.{GroupFault}
 use Rattle.frame_records.specs.Bases.{BaseView, frame_at}
 use Rattle.frame_records.specs.Seek.{entry_of}
 use Rattle.base_text.specs.Whole.{IsTextBase}
@@ -106,9 +106,9 @@ abbrev pub IsShowAnswer : List ℕ → List ℕ → List ℕ → Shown → Type 
 IsShowAnswer base_text word caller s = IsBaseShown base_text caller word s ⊎ (IsFaultShown base_text s ⊎ IsNoScreen OutOfMemory s)
 
 -- for the groups that are passed, if they are a list
-abbrev pub IsAskedShow : List ℕ → List ℕ → Result (List ℕ) GroupFlaw → Shown → Type 0
+abbrev pub IsAskedShow : List ℕ → List ℕ → Result (List ℕ) GroupFault → Shown → Type 0
 IsAskedShow base_text word (Ok caller) s = IsShowAnswer base_text word caller s
-IsAskedShow base_text word (Err flaw) s = IsNoScreen BadPolicy s
+IsAskedShow base_text word (Err fault) s = IsNoScreen BadPolicy s
 
 -- a caller's two arrays before and after a call
 pub record Arrays : Type 0 where
@@ -118,7 +118,7 @@ pub record Arrays : Type 0 where
   pub looks_after : List CellLook
 
 -- a call: what is shown was copied, and the number of its status is returned
-pub record IsShowCall (base_text word : List ℕ) (caller : Result (List ℕ) GroupFlaw) (a : Arrays) (line : Buffer) (number : ℕ) : Type 0 where
+pub record IsShowCall (base_text word : List ℕ) (caller : Result (List ℕ) GroupFault) (a : Arrays) (line : Buffer) (number : ℕ) : Type 0 where
   pub s : Shown
   pub is : IsAskedShow base_text word caller s
   pub codes_are : a.codes_after ≡ laid_over s.codes.items a.codes

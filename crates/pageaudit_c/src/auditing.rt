@@ -16,7 +16,8 @@ use std::alloc::Global;
 // The report of the base of a text.
 fn reported(alloc: Global, base: &Base, policy: &Policy, text: &[u8]) -> Answer
     requires { IsTextBase text.now base.now }
-    ensures { IsReported text.now policy.now result.status result.text.items ⊎ IsOutOfMemory result.status result.text.items }
+    ensures { IsReported text.now policy.now result.status result.text.items ⊎
+        IsOutOfMemory result.status result.text.items }
 {
     let outcome = match audit(alloc, base, policy) {
         Ok(outcome) => outcome,
@@ -43,7 +44,8 @@ fn audited(alloc: Global, text: &[u8], policy: &Policy) -> Answer
 
 // The answer for the policy that is passed.
 fn audit_answer(alloc: Global, base: &[u8], ceiling: u32, keyings: u32, groups: &[u8]) -> Answer
-    ensures { IsAskedAnswer (IsAuditAnswer base.now) (asked ceiling keyings groups.now) result.status result.text.items }
+    ensures { IsAskedAnswer (IsAuditAnswer base.now)
+        (asked ceiling keyings groups.now) result.status result.text.items }
 {
     match policy_of(ceiling, keyings, groups) {
         Some(policy) => audited(alloc, base, &policy),
@@ -65,7 +67,8 @@ pub extern "C" fn pageaudit_audit(
     report: &mut [u8],
     full_length: &mut usize,
 ) -> u32
-    ensures { IsCall (IsAuditAnswer base.now) (asked ceiling keyings groups.now) (buffer report.old report.new full_length.new) result }
+    ensures { IsCall (IsAuditAnswer base.now) (asked ceiling keyings groups.now)
+        (buffer report.old report.new full_length.new) result }
 {
     let answer = audit_answer(alloc, base, ceiling, keyings, groups);
     *full_length = lay_over(answer.text.as_slice(), report);

@@ -46,7 +46,8 @@ fn edition_of(alloc: Global, texts: Texts<'_>) -> Result<Edition, InputFault>
 
 // The line of a verdict.
 fn verdict_answer(alloc: Global, verdict: &ChangeVerdict) -> Answer
-    ensures answer { IsAnswer (of_judged (status_of_change verdict.now)) (change_text verdict.now) result.status result.text.items }
+    ensures answer { IsAnswer (of_judged (status_of_change verdict.now))
+        (change_text verdict.now) result.status result.text.items }
     ensures clear { result.status ≡ Clear → verdict.now ≡ ChangeVerdict.Cleared }
 {
     match change_text(alloc, verdict) {
@@ -69,8 +70,11 @@ fn judged(
 ) -> Answer
     requires of_old { IsEditionOf (edition old_texts.base.now old_texts.cert.now) old.now.base old.now.cert }
     requires of_new { IsEditionOf (edition new_texts.base.now new_texts.cert.now) new.now.base new.now.cert }
-    ensures answer { IsVerdictAnswer (edition old_texts.entry.base.now old_texts.entry.cert.now) (edition new_texts.entry.base.now new_texts.entry.cert.now) policy.now result.status result.text.items }
-    ensures safe { result.status ≡ Clear → IsSafeChangeOf (edition old_texts.entry.base.now old_texts.entry.cert.now) (edition new_texts.entry.base.now new_texts.entry.cert.now) policy.now }
+    ensures answer { IsVerdictAnswer (edition old_texts.entry.base.now old_texts.entry.cert.now)
+        (edition new_texts.entry.base.now new_texts.entry.cert.now) policy.now result.status result.text.items }
+    ensures safe { result.status ≡ Clear
+        → IsSafeChangeOf (edition old_texts.entry.base.now old_texts.entry.cert.now)
+        (edition new_texts.entry.base.now new_texts.entry.cert.now) policy.now }
 {
     let verdict = check_change(&old.base, &old.cert, &new.base, &new.cert, policy);
     verdict_answer(alloc, &verdict)
@@ -78,8 +82,11 @@ fn judged(
 
 // Checks the change between two editions' texts for a policy.
 fn changed(alloc: Global, old_texts: Texts<'_>, new_texts: Texts<'_>, policy: &Policy) -> Answer
-    ensures answer { IsChangeAnswer (edition old_texts.entry.base.now old_texts.entry.cert.now) (edition new_texts.entry.base.now new_texts.entry.cert.now) policy.now result.status result.text.items }
-    ensures safe { result.status ≡ Clear → IsSafeChangeOf (edition old_texts.entry.base.now old_texts.entry.cert.now) (edition new_texts.entry.base.now new_texts.entry.cert.now) policy.now }
+    ensures answer { IsChangeAnswer (edition old_texts.entry.base.now old_texts.entry.cert.now)
+        (edition new_texts.entry.base.now new_texts.entry.cert.now) policy.now result.status result.text.items }
+    ensures safe { result.status ≡ Clear
+        → IsSafeChangeOf (edition old_texts.entry.base.now old_texts.entry.cert.now)
+        (edition new_texts.entry.base.now new_texts.entry.cert.now) policy.now }
 {
     let old = match edition_of(alloc, old_texts) {
         Ok(edition) => edition,
@@ -101,8 +108,12 @@ fn change_answer(
     keyings: u32,
     groups: &[u8],
 ) -> Answer
-    ensures answer { IsAskedAnswer (IsChangeAnswer (edition old_texts.entry.base.now old_texts.entry.cert.now) (edition new_texts.entry.base.now new_texts.entry.cert.now)) (asked ceiling keyings groups.now) result.status result.text.items }
-    ensures safe { result.status ≡ Clear → HoldsForPolicy (IsSafeChangeOf (edition old_texts.entry.base.now old_texts.entry.cert.now) (edition new_texts.entry.base.now new_texts.entry.cert.now)) (asked ceiling keyings groups.now) }
+    ensures answer { IsAskedAnswer (IsChangeAnswer (edition old_texts.entry.base.now old_texts.entry.cert.now)
+        (edition new_texts.entry.base.now new_texts.entry.cert.now))
+        (asked ceiling keyings groups.now) result.status result.text.items }
+    ensures safe { result.status ≡ Clear
+        → HoldsForPolicy (IsSafeChangeOf (edition old_texts.entry.base.now old_texts.entry.cert.now)
+        (edition new_texts.entry.base.now new_texts.entry.cert.now)) (asked ceiling keyings groups.now) }
 {
     match policy_of(ceiling, keyings, groups) {
         Some(policy) => changed(alloc, old_texts, new_texts, &policy),
@@ -127,10 +138,13 @@ pub extern "C" fn pageaudit_change(
     line: &mut [u8],
     full_length: &mut usize,
 ) -> u32
-    ensures call { IsCall (IsChangeAnswer (edition old_base.now old_cert.now) (edition new_base.now new_cert.now)) (asked ceiling keyings groups.now) (buffer line.old line.new full_length.new) result }
+    ensures call { IsCall (IsChangeAnswer (edition old_base.now old_cert.now) (edition new_base.now new_cert.now))
+        (asked ceiling keyings groups.now) (buffer line.old line.new full_length.new) result }
 
     // If the status is Clear, callers stay safe over the change.
-    ensures safe { result ≡ 0 → HoldsForPolicy (IsSafeChangeOf (edition old_base.now old_cert.now) (edition new_base.now new_cert.now)) (asked ceiling keyings groups.now) }
+    ensures safe { result ≡ 0
+        → HoldsForPolicy (IsSafeChangeOf (edition old_base.now old_cert.now) (edition new_base.now new_cert.now))
+        (asked ceiling keyings groups.now) }
 {
     let old = Texts {
         base: old_base,

@@ -16,7 +16,8 @@ use std::alloc::Global;
 
 // The line of a verdict.
 fn verdict_answer(alloc: Global, verdict: &Verdict) -> Answer
-    ensures { IsAnswer (of_judged (status_of_verdict verdict.now)) (verdict_text verdict.now) result.status result.text.items }
+    ensures { IsAnswer (of_judged (status_of_verdict verdict.now))
+        (verdict_text verdict.now) result.status result.text.items }
 {
     match verdict_text(alloc, verdict) {
         Ok(text) => Answer {
@@ -53,8 +54,10 @@ fn check_answer(
     keyings: u32,
     groups: &[u8],
 ) -> Answer
-    ensures answer { IsAskedAnswer (IsCheckAnswer base.now cert.now) (asked ceiling keyings groups.now) result.status result.text.items }
-    ensures headline { result.status ≡ Clear → HoldsForPolicy (Headline base.now cert.now) (asked ceiling keyings groups.now) }
+    ensures answer { IsAskedAnswer (IsCheckAnswer base.now cert.now)
+        (asked ceiling keyings groups.now) result.status result.text.items }
+    ensures headline { result.status ≡ Clear
+        → HoldsForPolicy (Headline base.now cert.now) (asked ceiling keyings groups.now) }
 {
     match policy_of(ceiling, keyings, groups) {
         Some(policy) => checked(alloc, base, cert, &policy),
@@ -78,7 +81,8 @@ pub extern "C" fn pageaudit_check(
     line: &mut [u8],
     full_length: &mut usize,
 ) -> u32
-    ensures call { IsCall (IsCheckAnswer base.now cert.now) (asked ceiling keyings groups.now) (buffer line.old line.new full_length.new) result }
+    ensures call { IsCall (IsCheckAnswer base.now cert.now) (asked ceiling keyings groups.now)
+        (buffer line.old line.new full_length.new) result }
 
     // If the status is Clear, the headline holds of the two texts.
     ensures headline { result ≡ 0 → HoldsForPolicy (Headline base.now cert.now) (asked ceiling keyings groups.now) }

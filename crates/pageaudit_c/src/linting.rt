@@ -49,7 +49,8 @@ fn lint_answer(
     keyings: u32,
     groups: &[u8],
 ) -> Answer
-    ensures { IsAskedAnswer (IsLintAnswer format name.now base.now) (asked ceiling keyings groups.now) result.status result.text.items }
+    ensures { IsAskedAnswer (IsLintAnswer format name.now base.now)
+        (asked ceiling keyings groups.now) result.status result.text.items }
 {
     match policy_of(ceiling, keyings, groups) {
         Some(policy) => linted(alloc, format, name, base, &policy),
@@ -72,7 +73,8 @@ pub extern "C" fn pageaudit_lint(
     lines: &mut [u8],
     full_length: &mut usize,
 ) -> u32
-    ensures { IsCall (IsLintAnswer Line name.now base.now) (asked ceiling keyings groups.now) (buffer lines.old lines.new full_length.new) result }
+    ensures { IsCall (IsLintAnswer Line name.now base.now) (asked ceiling keyings groups.now)
+        (buffer lines.old lines.new full_length.new) result }
 {
     let answer = lint_answer(alloc, Format::Line, name, base, ceiling, keyings, groups);
     *full_length = lay_over(answer.text.as_slice(), lines);
@@ -93,7 +95,8 @@ pub extern "C" fn pageaudit_lint_json(
     lines: &mut [u8],
     full_length: &mut usize,
 ) -> u32
-    ensures { IsCall (IsLintAnswer Json name.now base.now) (asked ceiling keyings groups.now) (buffer lines.old lines.new full_length.new) result }
+    ensures { IsCall (IsLintAnswer Json name.now base.now) (asked ceiling keyings groups.now)
+        (buffer lines.old lines.new full_length.new) result }
 {
     let answer = lint_answer(alloc, Format::Json, name, base, ceiling, keyings, groups);
     *full_length = lay_over(answer.text.as_slice(), lines);

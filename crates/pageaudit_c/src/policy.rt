@@ -2,10 +2,10 @@ ghost use Rattle.std.specs.Prelude.{◌≡◌};
 ghost use Rattle.pageaudit_c.specs.Calls.{groups_of, IsPolicyRead, asked};
 
 use checker::Policy;
-use frame_records::{GroupFlaw, Groups, Pence};
+use frame_records::{GroupFault, Groups, Pence};
 
 // The groups of a text; none of the empty text.
-pub fn groups_of(text: &[u8]) -> Result<Groups, GroupFlaw>
+pub fn groups_of(text: &[u8]) -> Result<Groups, GroupFault>
     ensures { result ≡ groups_of text.now }
 {
     match text {

@@ -248,7 +248,8 @@ pub extern "C" fn pageaudit_show(
     line: &mut [u8],
     full_length: &mut usize,
 ) -> u32
-    ensures { spec.IsShowCall base.now frame.now (groups_of groups.now) (record { codes = codes.old; codes_after = codes.new; looks = looks.old; looks_after = looks.new })
+    ensures { spec.IsShowCall base.now frame.now (groups_of groups.now)
+        (record { codes = codes.old; codes_after = codes.new; looks = looks.old; looks_after = looks.new })
         (buffer line.old line.new full_length.new) result }
 {
     let answer = show_answer(alloc, base, frame, groups);

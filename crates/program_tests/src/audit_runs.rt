@@ -31,9 +31,9 @@ fn audited(alloc: Global, base: &str, kept: usize, room: usize, policy: &Policy)
 fn a_report_is_flushed_once_where_all_of_it_was_taken(rt: HostRuntime) -> Result<(), Fail> {
     let policy = policy(50, 3)?;
     for room in 0..82usize {
-        let told = audited(rt.alloc(), DEMO, ALL, room, &policy);
+        let got = audited(rt.alloc(), DEMO, ALL, room, &policy);
         let fault = RunFault::Write(room as u64);
-        same_in(room, told, (Err(fault), 2, u32::from(room == 81), room))?;
+        same_in(room, got, (Err(fault), 2, u32::from(room == 81), room))?;
     }
     Ok(())
 }
@@ -44,8 +44,8 @@ fn an_audit_that_fails_asks_for_no_more(rt: HostRuntime) -> Result<(), Fail> {
     let policy = policy(50, 3)?;
     for (base, kept, calls) in [("", ALL, 1), (DEMO, 0, 1), (DEMO, 100, 2)] {
         let (answer, reads, flushes, taken) = audited(rt.alloc(), base, kept, ALL, &policy);
-        let told = (status_of(&answer), reads, flushes, taken);
-        same_in(kept, told, (3, calls, 0, 0))?;
+        let got = (status_of(&answer), reads, flushes, taken);
+        same_in(kept, got, (3, calls, 0, 0))?;
     }
     Ok(())
 }

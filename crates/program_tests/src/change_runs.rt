@@ -66,8 +66,8 @@ fn policy_16() -> Result<Policy, Fail> {
 #[test]
 fn a_change_that_keeps_all_is_cleared(rt: HostRuntime) -> Result<(), Fail> {
     let policy = policy_16()?;
-    let told = changed(rt.alloc(), files(0, (DEMO, ALL)), 7, ALL, &policy);
-    same(told, (0, [40, 20, 40, 20, 1], 8, 0))
+    let got = changed(rt.alloc(), files(0, (DEMO, ALL)), 7, ALL, &policy);
+    same(got, (0, [40, 20, 40, 20, 1], 8, 0))
 }
 
 // Nothing is asked for after a file at fault, a read, write or flush that fails, and an end. A certificate is read in pieces
@@ -90,8 +90,8 @@ fn a_change_asks_for_no_more_than_it_needs(rt: HostRuntime) -> Result<(), Fail> 
         (3, CERT_16, ALL, 8, (3, [2, 2, 2, 2, 1], 8, 0)),
     ];
     for (at, text, kept, room, wanted) in rows {
-        let told = changed(rt.alloc(), files(at, (text, kept)), ALL, room, &policy);
-        same_in((at, kept, room), told, wanted)?;
+        let got = changed(rt.alloc(), files(at, (text, kept)), ALL, room, &policy);
+        same_in((at, kept, room), got, wanted)?;
     }
     Ok(())
 }

@@ -35,8 +35,8 @@ fn a_verdict_is_written(rt: HostRuntime) -> Result<(), Fail> {
     let policy = policy(5, 1)?;
     let files = [(DEMO, ALL), (CERT, ALL)];
     let (answer, calls, taken, left) = checked(rt.alloc(), files, 7, ALL, &policy);
-    let told = (status_of(&answer), calls, taken, left);
-    same(told, (0, [40, 13, 1], 8, 0))
+    let got = (status_of(&answer), calls, taken, left);
+    same(got, (0, [40, 13, 1], 8, 0))
 }
 
 // Nothing is asked for after a bad base, a refused line, a read, write or flush that fails, and both ends. A certificate is
@@ -61,8 +61,8 @@ fn a_check_asks_for_no_more_than_it_needs(rt: HostRuntime) -> Result<(), Fail> {
     ];
     for (base, cert, room, wanted) in rows {
         let (answer, calls, taken, left) = checked(rt.alloc(), [base, cert], ALL, room, &policy);
-        let told = (status_of(&answer), calls, taken, left);
-        same_in((base.1, cert.1, room), told, wanted)?;
+        let got = (status_of(&answer), calls, taken, left);
+        same_in((base.1, cert.1, room), got, wanted)?;
     }
     Ok(())
 }
@@ -71,9 +71,9 @@ fn a_check_asks_for_no_more_than_it_needs(rt: HostRuntime) -> Result<(), Fail> {
 #[test]
 fn a_refused_line_comes_before_a_read_that_fails(rt: HostRuntime) -> Result<(), Fail> {
     let policy = policy(5, 1)?;
-    let told = checked(rt.alloc(), [(DEMO, ALL), ("PBC3\n", 5)], ALL, ALL, &policy);
+    let got = checked(rt.alloc(), [(DEMO, ALL), ("PBC3\n", 5)], ALL, ALL, &policy);
     let fault = RunFault::Cert(ReadFault::Line(1, LineCause::Magic));
-    same(told, (Err(fault), [2, 1, 0], 0, 0))
+    same(got, (Err(fault), [2, 1, 0], 0, 0))
 }
 
 // The first bytes of a text.

@@ -30,8 +30,8 @@ fn findings_are_written_under_the_path(rt: HostRuntime) -> Result<(), Fail> {
         errors: 1,
         warnings: 0,
     };
-    let told = linted(rt.alloc(), ALL, ALL, &policy(50, 3)?);
-    same_in("all", told, (Ok(counts), 1, 2, 1, LINE.len()))
+    let got = linted(rt.alloc(), ALL, ALL, &policy(50, 3)?);
+    same_in("all", got, (Ok(counts), 1, 2, 1, LINE.len()))
 }
 
 // Nothing is asked for after a read that fails, a write that fails and a flush that fails.
@@ -50,8 +50,8 @@ fn a_lint_that_fails_asks_for_no_more(rt: HostRuntime) -> Result<(), Fail> {
         ),
     ];
     for (kept, room, wanted) in rows {
-        let told = linted(rt.alloc(), kept, room, &policy);
-        same_in((kept, room), told, wanted)?;
+        let got = linted(rt.alloc(), kept, room, &policy);
+        same_in((kept, room), got, wanted)?;
     }
     Ok(())
 }
@@ -70,12 +70,12 @@ fn a_text_at_fault_is_read_once(rt: HostRuntime) -> Result<(), Fail> {
         &policy(50, 3)?,
         Format::Line,
     );
-    let told = (
+    let got = (
         status_of_lint(&answer, Level::Error),
         base.calls,
         out.flushes,
     );
-    same_in("no entry", told, (1, 1, 1))
+    same_in("no entry", got, (1, 1, 1))
 }
 
 // How many errors and warnings there are, which level is denied, and the status.

@@ -63,13 +63,13 @@ fn a_list_that_fails_asks_for_no_more(rt: HostRuntime) -> Result<(), Fail> {
             &Groups::none(),
             &mut out,
         );
-        let told = (
+        let got = (
             status_of(&answer),
             base.calls,
             out.flushes,
             taken(&out, text),
         );
-        same_in((kept, room), told, wanted)?;
+        same_in((kept, room), got, wanted)?;
     }
     Ok(())
 }

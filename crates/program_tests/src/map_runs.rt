@@ -37,11 +37,11 @@ fn mapped(alloc: Global, text: &str, kept: usize, room: usize, view: &View) -> M
 
 #[test]
 fn a_map_is_written_if_there_is_such_a_page(rt: HostRuntime) -> Result<(), Fail> {
-    let told = mapped(rt.alloc(), TEXT, ALL, ALL, &View::Whole);
-    same_in("whole", told, (Ok(MapStatus::Drawn), 0, 2, 1, MAP.len()))?;
+    let got = mapped(rt.alloc(), TEXT, ALL, ALL, &View::Whole);
+    same_in("whole", got, (Ok(MapStatus::Drawn), 0, 2, 1, MAP.len()))?;
     let page = PageNo::new(4).ok_or("page")?;
-    let told = mapped(rt.alloc(), TEXT, ALL, ALL, &View::To(page, Some(1)));
-    same_in("no page", told, (Ok(MapStatus::NoPage), 2, 2, 0, 0))
+    let got = mapped(rt.alloc(), TEXT, ALL, ALL, &View::To(page, Some(1)));
+    same_in("no page", got, (Ok(MapStatus::NoPage), 2, 2, 0, 0))
 }
 
 // Nothing is asked for after a bad base, a read that fails, a write that fails and a flush that fails: the status, how often the

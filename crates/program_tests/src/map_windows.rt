@@ -1,6 +1,6 @@
 //! The frames near a page.
 
-use base_map::{Part, View, from_page, map_view, to_page};
+use base_map::{Part, View, map_view, part_of};
 use base_text::base_read;
 use frame_records::{Base, Groups};
 use page_ids::PageNo;
@@ -64,13 +64,10 @@ fn is_window(alloc: Global, base: &Base, window: Window) -> Result<(), Fail> {
     let (groups, page, most, from, to) = window;
     let groups = Groups::read(groups)?;
     let page = PageNo::new(page).ok_or("page")?;
-    has_pages(
-        alloc,
-        base,
-        from_page(alloc, base, &groups, page, most)?,
-        from,
-    )?;
-    has_pages(alloc, base, to_page(alloc, base, &groups, page, most)?, to)
+    let led = part_of(alloc, base, &groups, &View::From(page, most))?;
+    has_pages(alloc, base, led, from)?;
+    let leading = part_of(alloc, base, &groups, &View::To(page, most))?;
+    has_pages(alloc, base, leading, to)
 }
 
 #[test]

@@ -34,13 +34,13 @@ fn a_walk_that_fails_asks_for_no_more(rt: HostRuntime) -> Result<(), Fail> {
         let mut base = source(base, ALL, kept);
         let mut out = sink(rt.alloc(), line, room);
         let answer = run_walk(rt.alloc(), &mut base, keys, &groups, &mut out);
-        let told = (
+        let got = (
             status_of(&answer),
             base.calls,
             out.flushes,
             taken(&out, line),
         );
-        same_in((kept, room), told, wanted)?;
+        same_in((kept, room), got, wanted)?;
     }
     Ok(())
 }

@@ -4,7 +4,7 @@ use test_support::{FakeSink, same, same_in};
 
 const TEXT: &[u8] = b"CLEARED\n";
 
-// So many bytes a call, and the calls that the eight bytes take.
+// How many bytes a call writes, and the calls that the eight bytes take.
 const STEPS: [(usize, u32); 5] = [(1, 8), (3, 3), (7, 2), (8, 1), (100, 1)];
 
 #[test]

@@ -1,7 +1,7 @@
 //! Reading, auditing and finding every fault against `toml` alone, and the faults of a long chain.
 
 use crate::edition::{audited, policy, whole_base};
-use crate::figure::{Figure, tell};
+use crate::figure::{Figure, report};
 use crate::memory::{forget_peak, peak};
 use crate::shape::{LONG_ROWS, Mark, Shape};
 use crate::size::Size;
@@ -52,7 +52,7 @@ fn measure_text(rt: &HostRuntime, shape: Shape, text: &[u8], policy: &Policy) ->
         Figure::percent("audit", audit_peak, tree_peak, of_memory),
         Figure::share("lint", lint, audit, OF_AUDIT),
     ];
-    tell(rt, shape.name(), &figures)
+    report(rt, shape.name(), &figures)
 }
 
 // What a list and a map take beside an audit.
@@ -75,7 +75,7 @@ fn measure_views(rt: &HostRuntime, shape: Shape, text: &[u8], policy: &Policy) -
         Figure::share("map", map, audit, OF_AUDIT),
         Figure::percent("map", map_peak, audit_peak, of_memory),
     ];
-    tell(rt, shape.name(), &figures)
+    report(rt, shape.name(), &figures)
 }
 
 fn measure_shape(rt: &HostRuntime, shape: Shape, size: Size) -> Result<()> {
@@ -108,7 +108,7 @@ fn measure_long_rows(rt: &HostRuntime, size: Size) -> Result<()> {
         Figure::of("long rows", u128::from(rows), "rows"),
         Figure::share("lint", lint, audit, OF_AUDIT),
     ];
-    tell(rt, "long rows in a tree", &figures)
+    report(rt, "long rows in a tree", &figures)
 }
 
 // A chain of frames, each with a price.
@@ -145,7 +145,7 @@ fn measure_faults(rt: &HostRuntime, base: &Base) -> Result<()> {
         Figure::millis("audit", time),
         Figure::percent("memory", memory, length, "percent of the text"),
     ];
-    tell(rt, "chain of faults", &figures)
+    report(rt, "chain of faults", &figures)
 }
 
 /// Measures each shape, and the faults of a chain.

@@ -1,7 +1,7 @@
 //! Walks, checks and changes against `toml` alone, a check's time for each row, and what groups cost.
 
 use crate::edition::Edition;
-use crate::figure::{Figure, tell};
+use crate::figure::{Figure, report};
 use crate::shape::{Mark, Shape};
 use crate::size::Size;
 use crate::work::{Work, least_times};
@@ -50,7 +50,7 @@ fn measure_edition(rt: &HostRuntime, shape: Shape, edition: &Edition) -> Result<
             "percent of two checks",
         ),
     ];
-    tell(rt, shape.name(), &figures)
+    report(rt, shape.name(), &figures)
 }
 
 fn measure_shape(rt: &HostRuntime, shape: Shape, size: Size) -> Result<()> {
@@ -77,7 +77,7 @@ fn measure_growth(rt: &HostRuntime, shape: Shape, size: Size) -> Result<()> {
         Figure::of("a row of all", many, "ns"),
         Figure::percent("a row of all", many, few, "percent of a row of an eighth"),
     ];
-    tell(rt, shape.name(), &figures)
+    report(rt, shape.name(), &figures)
 }
 
 // The check and the audit for a caller of 16 groups, against those for a caller outside every group.
@@ -94,7 +94,7 @@ fn compare(rt: &HostRuntime, shape: Shape, plain: &Edition, grouped: &Edition) -
         Figure::share("check for 16 groups", group_check, check, of_plain),
         Figure::share("audit for 16 groups", group_audit, audit, of_plain),
     ];
-    tell(rt, shape.name(), &figures)
+    report(rt, shape.name(), &figures)
 }
 
 fn marked(rt: &HostRuntime, shape: Shape, size: Size, mark: Mark) -> Result<Edition> {

@@ -44,7 +44,7 @@ impl Figure {
 }
 
 /// Prints figures of one thing to standard error, a line for each.
-pub fn tell(rt: &HostRuntime, of: &str, figures: &[Figure]) -> Result<()> {
+pub fn report(rt: &HostRuntime, of: &str, figures: &[Figure]) -> Result<()> {
     for figure in figures {
         eprintln!(rt; "{of}: {} {} {}", figure.what, figure.number, figure.unit)?;
     }

@@ -1,4 +1,4 @@
-//! The greatest memory of the process, as Linux tells it.
+//! The greatest memory of the process, as Linux reports it.
 
 use anyhow::{Result, bail};
 use std::fs;
@@ -14,7 +14,7 @@ pub fn peak(rt: &HostRuntime) -> Result<u64> {
     let status = fs::read_to_string(rt, "/proc/self/status")?;
     match kilobytes(status.as_str()) {
         Some(number) => Ok(number),
-        None => bail!("no peak of memory is told"),
+        None => bail!("no peak memory is reported"),
     }
 }
 

@@ -73,7 +73,7 @@ fn byte_at(kind: Kind, place: usize) -> u8 {
     }
 }
 
-// So many bodies.
+// This many bodies.
 fn bodies(rt: &HostRuntime, kind: Kind, count: u32) -> Result<Vec<u8>> {
     let page = page_length(kind).max(1);
     let mut bytes = Vec::new(rt.alloc());

@@ -1,7 +1,7 @@
 //! `show` of one frame against a walk of no keys, and how the time of a frame's screen grows with the base.
 
 use crate::edition::{read_base, whole_base};
-use crate::figure::{Figure, tell};
+use crate::figure::{Figure, report};
 use crate::shape::{Mark, Shape};
 use crate::size::Size;
 use crate::work::{Work, least_times};
@@ -50,7 +50,7 @@ fn measure_one(rt: &HostRuntime, shape: Shape, size: Size) -> Result<()> {
         Figure::millis("show", show),
         Figure::share("show", show, walk, "percent of a walk"),
     ];
-    tell(rt, shape.name(), &figures)
+    report(rt, shape.name(), &figures)
 }
 
 // The nanoseconds of a screen, of a base with this many frames.
@@ -77,7 +77,7 @@ fn measure_growth(rt: &HostRuntime, shape: Shape, mark: Mark, size: Size) -> Res
             "percent of a screen of a tenth",
         ),
     ];
-    tell(rt, shape.name(), &figures)
+    report(rt, shape.name(), &figures)
 }
 
 /// Measures one screen and all of them.

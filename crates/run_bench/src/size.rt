@@ -10,7 +10,7 @@ pub enum Size {
 }
 
 impl Size {
-    /// So much of a number.
+    /// This fraction of a number.
     pub fn of(self, number: u32) -> u32 {
         match self {
             Size::Part => number / 16,

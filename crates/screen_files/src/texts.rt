@@ -27,7 +27,8 @@ fn hex(digit: u8) -> u8
 
 #[tactic(auto, using(std::proofs::Common::append_assoc))]
 fn push_escape(out: &mut Vec<u8>, code: u8) -> Result<(), AllocError>
-    ensures { OnOk result (out.new.items ≡ out.old.items ++ (codes "\\u00" ++ spec.hex (code / 16) ∷ spec.hex (code % 16) ∷ [])) }
+    ensures { OnOk result (out.new.items ≡ out.old.items ++ (codes "\\u00" ++ spec.hex (code / 16) ∷
+        spec.hex (code % 16) ∷ [])) }
 {
     out.extend_from_slice(b"\\u00")?;
     out.extend_from_slice(&[hex(code / 16), hex(code % 16)])

@@ -109,7 +109,7 @@ fn the_header_has_name_verdict_and_policy(rt: HostRuntime) -> Result<(), Fail> {
     same(
         between(&text, "<header", "</header>")?,
         "<header data-entry=\"7a\">\n<h1>&lt;a&gt;&quot;&amp;&#39;é.toml</h1>\n<p class=\"verdict faulty\">4 faults</p>\n\
-<p>Policy: at most 4p a frame, at most 9 keys back, no groups</p>\n</header>",
+<p>For a caller in no groups, at most 4p a frame, at most 9 keys back</p>\n</header>",
     )
 }
 

@@ -28,10 +28,10 @@ use Rattle.screen_texts.proofs.Safe.{choice, all_append, harmless}
 
 -- Tags have no `<` and no `>`.
 
-abbrev is_inner : ℕ → Bool
+abbrev pub is_inner : ℕ → Bool
 is_inner b = not (b == 0x3C || b == 0x3E)
 
-abbrev Inner : List ℕ → Type 0
+abbrev pub Inner : List ℕ → Type 0
 Inner bs = list_all is_inner bs ≡ true
 
 joined : (xs ys : List ℕ) → Inner xs → Inner ys → Inner (xs ++ ys)
@@ -126,10 +126,10 @@ inner_spacing n = joined (attribute (codes "textLength") (12 * n)) (codes " leng
 
 -- All tags of a picture.
 
-abbrev has_inner : Piece → Bool
+abbrev pub has_inner : Piece → Bool
 has_inner p = list_all is_inner p.tag
 
-abbrev Tags : List Piece → Type 0
+abbrev pub Tags : List Piece → Type 0
 Tags ps = list_all has_inner ps ≡ true
 
 both : (ps qs : List Piece) → Tags ps → Tags qs → Tags (ps ++ qs)
@@ -225,25 +225,25 @@ touched_tags None = refl
 touched_tags (Some p) =
     alone (codes "rect class=\"touched\"" ++ corner (12 * (p % 40)) (20 * (p / 40)) ++ codes " width=\"12\" height=\"20\" fill=\"none\" stroke=\"#f00\" stroke-width=\"2\"/") newline (joined (codes "rect class=\"touched\"" ++ corner (12 * (p % 40)) (20 * (p / 40))) (codes " width=\"12\" height=\"20\" fill=\"none\" stroke=\"#f00\" stroke-width=\"2\"/") (joined (codes "rect class=\"touched\"") (corner (12 * (p % 40)) (20 * (p / 40))) refl (inner_corner (12 * (p % 40)) (20 * (p / 40)))) refl)
 
-svg_tags : (id : Id) (rows : List (List Look)) (cell : Option ℕ) → Tags (svg_pieces id rows cell)
+pub svg_tags : (id : Id) (rows : List (List Look)) (cell : Option ℕ) → Tags (svg_pieces id rows cell)
 svg_tags id rows cell =
     both (svg_begin ++ title id ++ blocks rows ++ texts rows ++ touched cell) foot (both (svg_begin ++ title id ++ blocks rows ++ texts rows) (touched cell) (both (svg_begin ++ title id ++ blocks rows) (texts rows) (both (svg_begin ++ title id) (blocks rows) (both svg_begin (title id) svg_begin_tags (title_tags id)) (blocks_tags rows)) (texts_tags rows)) (touched_tags cell)) foot_tags
 
 -- The reader.
 
-first_of : (a b : Bool) → (not a && b) ≡ true → a ≡ false
+pub first_of : (a b : Bool) → (not a && b) ≡ true → a ≡ false
 first_of true b h = cc
 first_of false b h = refl
 
-rest_of : (a b : Bool) → (not a && b) ≡ true → b ≡ true
+pub rest_of : (a b : Bool) → (not a && b) ≡ true → b ≡ true
 rest_of true b h = cc
 rest_of false b h = h
 
-first_false : (a b : Bool) → (a || b) ≡ false → a ≡ false
+pub first_false : (a b : Bool) → (a || b) ≡ false → a ≡ false
 first_false true b h = cc
 first_false false b h = refl
 
-second_false : (a b : Bool) → (a || b) ≡ false → b ≡ false
+pub second_false : (a b : Bool) → (a || b) ≡ false → b ≡ false
 second_false true b h = cc
 second_false false b h = h
 
@@ -254,7 +254,7 @@ in_tag tag since (b ∷ bs) rest h =
     let later : Inner bs = rest_of (b == 0x3C || b == 0x3E) (list_all is_inner bs) h in
     rw here (in_tag (tag ++ b ∷ []) since bs rest later ∙ ap (λ (t : List ℕ). reading false t [] rest) (append_assoc tag (b ∷ []) bs))
 
-abbrev Outer : List ℕ → Type 0
+abbrev pub Outer : List ℕ → Type 0
 Outer bs = list_all is_harmless bs ≡ true
 
 not_open : (b : ℕ) (bs : List ℕ) → Outer (b ∷ bs) → (b == 0x3C) ≡ false
@@ -281,11 +281,11 @@ begins : (p : Piece) (rest : List ℕ) → Inner p.tag → tags_of (piece_bytes 
 begins p rest h =
     ap (reading true [] []) (regroup p.tag (written Markup p.chars) rest) ∙ in_tag [] [] p.tag (written Markup p.chars ++ rest) h
 
-first_inner : (a b : Bool) → (a && b) ≡ true → a ≡ true
+pub first_inner : (a b : Bool) → (a && b) ≡ true → a ≡ true
 first_inner true b h = refl
 first_inner false b h = cc
 
-other_inner : (a b : Bool) → (a && b) ≡ true → b ≡ true
+pub other_inner : (a b : Bool) → (a && b) ≡ true → b ≡ true
 other_inner true b h = h
 other_inner false b h = cc
 

@@ -244,7 +244,8 @@ fn push_flashing(
 ) -> Result<(), AllocError>
     requires row { row < 24 }
     requires columns { column + length cells.now ≤ 40 }
-    ensures { OnOk result (out.new.items ≡ out.old.items ++ markup (spec.flash_begin ++ spec.drawn layer row column cells.now ink ++ spec.group_end)) }
+    ensures { OnOk result (out.new.items ≡ out.old.items ++ markup (spec.flash_begin ++
+        spec.drawn layer row column cells.now ink ++ spec.group_end)) }
 {
     out.extend_from_slice(flash_begin())?;
     push_drawn(out, layer, row, column, cells, ink)?;

@@ -25,7 +25,7 @@ pub fn same_in<T: PartialEq + Debug + Drop>(
     }
 }
 
-/// How many of this many entries a binary search compares with a place: as many as stand above it, with its own, in the tree
+/// How many of this many entries a binary search compares with a place: as many as are above it, with its own, in the tree
 /// whose root is the middle entry. The entries have the odd places from 1 on; the even ones are before, between and after them.
 pub fn depth(entries: u32, place: u32) -> u32 {
     let (mut size, mut place) = (entries, place);

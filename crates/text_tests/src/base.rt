@@ -1,4 +1,4 @@
-//! Texts that are read; those that are refused stand in `tests/cases`.
+//! Texts that are read; those that are refused are in `tests/cases`.
 
 use base_text::base_read;
 use frame_records::{Base, Frame, Lead};
@@ -156,12 +156,12 @@ fn what_the_crate_of_toml_takes_is_read(rt: HostRuntime) -> Result<(), Fail> {
     for (parts, top, bytes) in rows {
         let base = base_of(rt.alloc(), parts)?;
         let read = bodies(rt.alloc(), &base)?;
-        let told = (
+        let got = (
             base.entry().get(),
             base.frames().len(),
             base.is_outside(five),
         );
-        same((told, read.as_slice()), (top, bytes))?;
+        same((got, read.as_slice()), (top, bytes))?;
     }
     Ok(())
 }

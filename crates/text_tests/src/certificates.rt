@@ -1,4 +1,4 @@
-//! The certificate of a base of three frames, read whole and in pieces; texts that are refused stand in `tests/cases` too.
+//! The certificate of a base of three frames, read whole and in pieces; texts that are refused are in `tests/cases` too.
 
 ghost use Rattle.std.specs.Prelude.{◌<◌};
 

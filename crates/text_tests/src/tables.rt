@@ -119,7 +119,7 @@ fn rows_that_make_no_table_are_named(rt: HostRuntime) -> Result<(), Fail> {
     Ok(())
 }
 
-// So many rows of one id.
+// This many rows of one id.
 fn many(alloc: Global, count: u32) -> Result<Vec<Row>, AllocError> {
     let mut rows = Vec::new(alloc);
     for number in 0..count {
@@ -140,7 +140,7 @@ fn a_table_has_at_most_65_535_rows(rt: HostRuntime) -> Result<(), Fail> {
     )
 }
 
-// So many rows, of every third page from 1.
+// This many rows, of every third page from 1.
 fn every_third(alloc: Global, count: u32) -> Result<Vec<Row>, AllocError> {
     let mut rows = Vec::new(alloc);
     for i in 0..count {

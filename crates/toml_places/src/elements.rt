@@ -11,7 +11,8 @@ use toml_parser::text::{first, skip_blank};
 #[tactic(auto, unfolding(crate::specs::Values::next_element))]
 pub fn next_element(text: &str) -> Option<(&str, &str, &str)>
     ensures value { option_map (λ e. ((e.0.now, e.1.now), e.2.now)) result ≡ spec.next_element text.now }
-    ensures within { IfSome result (λ e. (length e.0.now ≤ length text.now) × (length e.1.now ≤ length e.0.now) × (length e.2.now < length text.now)) }
+    ensures within { IfSome result (λ e. (length e.0.now ≤ length text.now) × (length e.1.now ≤ length e.0.now) ×
+        (length e.2.now < length text.now)) }
 {
     let start = skip_blank(text, true);
     if first(start) == b']' {

@@ -68,7 +68,8 @@ impl Places {
 
     // The section of a header with these parts.
     fn section_at(&self, parts: Vec<String>) -> Section
-        ensures { section_view (frame_count self.now) result ≡ spec.section_at (frame_count self.now) (path_view parts.items) }
+        ensures { section_view (frame_count self.now) result ≡
+            spec.section_at (frame_count self.now) (path_view parts.items) }
     {
         let mut path = parts;
         let in_frame = !self.frames.is_empty() && is_frame_key(path.first());
@@ -86,8 +87,10 @@ impl Places {
         parts: Vec<String>,
     ) -> Result<Section, AllocError>
         ensures keeps { OnOk result ((ms : List spec.Mark) → Keeps self.old ms → Keeps self.new ms) }
-        ensures frames { OnOk result (frame_count self.new ≡ frames_after sort (path_view parts.items) (frame_count self.old)) }
-        ensures section { IfOk result (λ s. section_view (frame_count self.new) s ≡ spec.section_at (frame_count self.new) (path_view parts.items)) }
+        ensures frames { OnOk result (frame_count self.new ≡
+            frames_after sort (path_view parts.items) (frame_count self.old)) }
+        ensures section { IfOk result (λ s. section_view (frame_count self.new) s ≡
+            spec.section_at (frame_count self.new) (path_view parts.items)) }
     {
         if matches!(sort, Sort::ArrayTable) && is_frame(&parts) {
             self.frames.push(TablePlaces::new(alloc))?;
@@ -105,7 +108,9 @@ impl Places {
     ) -> Result<(), AllocError>
         requires { IsOpen (section_view (frame_count self.old) section.now) }
         ensures keeps { OnOk result ((ms : List spec.Mark) → Keeps self.old ms
-            → Keeps self.new (ms ++ spec.mark_in (section_view (frame_count self.old) section.now) (path_view own.now) (written.at, written.parts) ∷ [])) }
+            → Keeps self.new (ms ++
+            spec.mark_in (section_view (frame_count self.old) section.now) (path_view own.now)
+            (written.at, written.parts) ∷ [])) }
         ensures frames { OnOk result (frame_count self.new ≡ frame_count self.old) }
     {
         let one = part(&section.path, own, 0);
@@ -131,7 +136,9 @@ impl Places {
     ) -> Result<(), AllocError>
         requires { IsOpen (section_view (frame_count self.old) section.old) }
         ensures keeps { OnOk result ((ms : List spec.Mark) → Keeps self.old ms
-            → Keeps self.new (ms ++ spec.mark_in (section_view (frame_count self.new) section.new) (spec.own_parts (key_view line.key) line.sort) (at, length (spec.parts (key_view line.key))) ∷ [])) }
+            → Keeps self.new (ms ++
+            spec.mark_in (section_view (frame_count self.new) section.new)
+            (spec.own_parts (key_view line.key) line.sort) (at, length (spec.parts (key_view line.key))) ∷ [])) }
         ensures section { OnOk result (section_view (frame_count self.new) section.new
             ≡ spec.section_after (section_view (frame_count self.old) section.old) (key_view line.key) line.sort) }
     {
@@ -213,7 +220,8 @@ impl Places {
 
     /// Where a key below `routes` of a frame is first written as a dotted key or a header.
     pub fn route(&self, frame: usize, sub: &str) -> Option<Spot>
-        ensures spot { (ms : List spec.Mark) → Keeps self.now ms → result ≡ first_spot ms (Some frame) (routes_key ∷ sub.now ∷ []) }
+        ensures spot { (ms : List spec.Mark) → Keeps self.now ms → result ≡
+            first_spot ms (Some frame) (routes_key ∷ sub.now ∷ []) }
         ensures kept { result ≡ kept_route self.now frame sub.now }
     {
         match self.frames.get(frame) {
@@ -231,7 +239,8 @@ impl Places {
 
     // The same of a key below `routes` of a frame.
     fn first_route(&self, frame: usize, sub: &str) -> Option<usize>
-        ensures { (ms : List spec.Mark) → Keeps self.now ms → result ≡ first_at ms (Some frame) (routes_key ∷ sub.now ∷ []) }
+        ensures { (ms : List spec.Mark) → Keeps self.now ms → result ≡
+            first_at ms (Some frame) (routes_key ∷ sub.now ∷ []) }
     {
         offset_of(self.route(frame, sub))
     }

@@ -211,7 +211,8 @@ pub fn frame_span(text: &str, at: usize) -> Option<Span>
 // The spans of the elements from here on.
 fn spans_from(alloc: Global, text: &str, elements: &str) -> Result<Vec<Span>, AllocError>
     requires { length elements.now ≤ length text.now }
-    ensures { IfOk result (λ spans. (k : ℕ) → slice_get spans.items k ≡ option_map (spec.span_in text.now) (element_from k elements.now)) }
+    ensures { IfOk result (λ spans. (k : ℕ) → slice_get spans.items k ≡
+        option_map (spec.span_in text.now) (element_from k elements.now)) }
 {
     let mut spans = Vec::new(alloc);
     let mut rest = elements;

@@ -187,7 +187,8 @@ fn after_content(text: &str, delim: u8, multi: bool) -> Option<&str>
 fn content_char(text: &str, delim: u8, multi: bool, index: usize) -> Option<(&str, &str)>
     requires some { 0 < delim }
     requires ascii { delim < 128 }
-    ensures value { (n : ℕ) → length text.now < n → option_map (λ p. (p.0.now, p.1.now)) result ≡ spec.content_char delim multi n index text.now }
+    ensures value { (n : ℕ) → length text.now < n → option_map (λ p. (p.0.now, p.1.now)) result ≡
+        spec.content_char delim multi n index text.now }
     ensures within { IfSome result (λ p. (length p.0.now ≤ length text.now) × (length p.1.now < length p.0.now)) }
 {
     let mut rest = text;
@@ -264,7 +265,8 @@ pub fn string_char(text: &str, index: usize) -> Option<(&str, &str)>
 // The text after a string on one line.
 pub fn after_line_string(text: &str) -> Option<&str>
     requires { toml.starts_string text.now ≡ true }
-    ensures value { option_copied result ≡ spec.after_content (slice_index text.now 0) false (length text.now) (drop 1 text.now) }
+    ensures value { option_copied result ≡
+        spec.after_content (slice_index text.now 0) false (length text.now) (drop 1 text.now) }
     ensures shorter { IfSome result (λ rest. length rest.now < length text.now) }
 {
     after_content(skip(text, 1), first(text), false)

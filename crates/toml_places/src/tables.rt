@@ -48,7 +48,8 @@ impl Written {
 
 // Notes a spot at a key that has none.
 pub fn note(alloc: Global, spots: &mut Spots, key: &str, spot: Spot) -> Result<(), AllocError>
-    ensures { OnOk result ((q : List ℕ) → get_by_text spots.new q ≡ option_or (get_by_text spots.old q) (at_if (bytes_eq q key.now) spot)) }
+    ensures { OnOk result ((q : List ℕ) → get_by_text spots.new q ≡
+        option_or (get_by_text spots.old q) (at_if (bytes_eq q key.now) spot)) }
 {
     if !spots.contains_key(key) {
         spots.insert(String::from_str(alloc, key)?, spot)?;
@@ -101,7 +102,8 @@ fn pair_after(text: &str) -> Option<&str>
 fn pair_at<'a>(key: Key, start: &'a str, value: &'a str) -> Result<Option<Pair<'a>>, AllocError>
     requires { length value.now < length start.now }
     ensures value { IfOk result (λ p. option_map pair_view p ≡ values.pair_at (key_view key) start.now value.now) }
-    ensures within { IfOk result (λ p. IfSome p (λ x. (x.start.now ≡ start.now) × (length x.next.now < length start.now))) }
+    ensures within { IfOk result (λ p. IfSome p (λ x. (x.start.now ≡ start.now) ×
+        (length x.next.now < length start.now))) }
 {
     match pair_after(value) {
         Some(next) => {
@@ -115,7 +117,8 @@ fn pair_at<'a>(key: Key, start: &'a str, value: &'a str) -> Result<Option<Pair<'
 #[tactic(auto, unfolding(crate::specs::Values::next_pair))]
 fn next_pair(alloc: Global, text: &str) -> Result<Option<Pair<'_>>, AllocError>
     ensures value { IfOk result (λ p. option_map pair_view p ≡ values.next_pair text.now) }
-    ensures within { IfOk result (λ p. IfSome p (λ x. (length x.start.now ≤ length text.now) × (length x.next.now < length text.now))) }
+    ensures within { IfOk result (λ p. IfSome p (λ x. (length x.start.now ≤ length text.now) ×
+        (length x.next.now < length text.now))) }
 {
     let start = skip_blank(text, true);
     if first(start) == b'}' {
@@ -150,7 +153,8 @@ impl TablePlaces {
         len: usize,
         written: Written,
     ) -> Result<(), AllocError>
-        ensures { OnOk result (NotesTable self.old self.new (option_copied one.entry) (option_copied two.entry) written.at
+        ensures { OnOk result (NotesTable self.old self.new (option_copied one.entry)
+            (option_copied two.entry) written.at
             (spot_at written.at written.parts len 0) (spot_at written.at written.parts len 1)) }
     {
         self.header = self.header.or(Some(written.at));
@@ -168,7 +172,8 @@ impl TablePlaces {
 
     // Notes a pair of an inline table.
     fn note_pair(&mut self, alloc: Global, path: &[String], at: usize) -> Result<(), AllocError>
-        ensures { OnOk result ((ms : List spec.Mark) → TableKeeps self.old ms → TableKeeps self.new (ms ++ spec.inline_mark at (path_view path.now) ∷ [])) }
+        ensures { OnOk result ((ms : List spec.Mark) → TableKeeps self.old ms →
+            TableKeeps self.new (ms ++ spec.inline_mark at (path_view path.now) ∷ [])) }
     {
         let one = part(&[], path, 0);
         let two = part(&[], path, 1);
@@ -196,7 +201,8 @@ impl TablePlaces {
     #[tactic(auto, unfolding(crate::specs::Values::pairs))]
     fn note_table(&mut self, alloc: Global, table: &str, size: usize) -> Result<(), AllocError>
         requires { length table.now ≤ size }
-        ensures { OnOk result ((ms : List spec.Mark) → TableKeeps self.old ms → TableKeeps self.new (ms ++ map (spec.pair_mark size) (values.pairs table.now))) }
+        ensures { OnOk result ((ms : List spec.Mark) → TableKeeps self.old ms →
+            TableKeeps self.new (ms ++ map (spec.pair_mark size) (values.pairs table.now))) }
     {
         if first(table) == b'{' {
             self.note_pairs(alloc, skip(table, 1), size)
@@ -237,7 +243,8 @@ impl TablePlaces {
     /// Where a key below `routes` is first written as a dotted key or a header: the pairs of `routes = { .. }` have a table of
     /// their own.
     pub fn route(&self, key: &str) -> Option<Spot>
-        ensures spot { (ms : List spec.Mark) → TableKeeps self.now ms → result ≡ first_spot ms None (routes_key ∷ key.now ∷ []) }
+        ensures spot { (ms : List spec.Mark) → TableKeeps self.now ms → result ≡
+            first_spot ms None (routes_key ∷ key.now ∷ []) }
         ensures kept { result ≡ get_by_text self.now.routes key.now }
     {
         self.routes.get(key).copied()

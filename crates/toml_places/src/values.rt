@@ -89,7 +89,8 @@ pub fn after_value(text: &str, depth: usize) -> Option<&str>
 fn after_members(text: &str, depth: usize, closing: u8) -> Option<&str>
     requires some { 0 < closing }
     requires ascii { closing < 128 }
-    ensures value { (n : ℕ) → length text.now < n → option_copied result ≡ spec.after_members (spec.after_value depth) closing n text.now }
+    ensures value { (n : ℕ) → length text.now < n → option_copied result ≡
+        spec.after_members (spec.after_value depth) closing n text.now }
     ensures within { IfSome result (λ rest. length rest.now ≤ length text.now) }
 {
     let mut rest = text;

@@ -1,6 +1,10 @@
-use Rattle.std.proofs.Common.{◌≡◌, ◌++◌, true, drop}
-use Rattle.base_map.specs.Edges.{keys_label}
+use Rattle.std.proofs.Common.{◌≡◌, ◌++◌, true, map}
+use Rattle.std.specs.Prelude.{filter}
+use Rattle.page_ids.specs.Ways.{way_key}
+use Rattle.base_map.specs.Edges.{keys_to, seeks, spaced}
+use Rattle.base_map.proofs.WaySteps.{ways_from}
 use Rattle.base_map.proofs.edges.push_keys_to.Given as goal
 
-abbrev pub invariant-loop-exit : goal.invariant-loop-exit
-invariant-loop-exit l = l.out.items ++ keys_label l.is_first (drop l.exit-index l.exits) l.to ≡ l.fn.out.items ++ keys_label true l.exits l.to
+abbrev pub invariant-loop-place : goal.invariant-loop-place
+invariant-loop-place l =
+    l.out.items ++ spaced l.is_first (map way_key (filter (seeks l.frame l.to) (ways_from l.place))) ≡ l.fn.out.items ++ spaced true (keys_to l.frame l.to)

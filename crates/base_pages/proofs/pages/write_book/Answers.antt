@@ -1,4 +1,4 @@
-use Rattle.std.proofs.Common.{◌++◌, List, subst}
+use Rattle.std.proofs.Common.{◌++◌, List, Result, Ok, Err, subst}
 use Rattle.frame_records.specs.declared.frame.Frame.{Frame}
 use Rattle.base_pages.specs.Sections.{sections}
 use Rattle.base_pages.specs.Shell.{foot}
@@ -7,7 +7,21 @@ use Rattle.base_pages.specs.Loops.{book_view}
 use Rattle.std.specs.Prelude.{OnOk, IfErr}
 use Rattle.devices.specs.Devices.{WroteWhole}
 use Rattle.base_pages.proofs.OnTheWay.{begins}
+use Rattle.base_pages.specs.Tags.{HaveLetters}
+use Rattle.base_pages.proofs.Tags.{has_its_tags}
 use Rattle.base_pages.proofs.pages.write_book.Goals as goal
+
+-- what holds anyway holds of what was written
+anyway : {A B : Type 0} (r : Result A B) (P : Type 0) → P → OnOk r P
+anyway (Ok a) P h = h
+anyway (Err e) P h = tt
+
+pub returns-in-Ok-write_sections-clause-tags : goal.returns-in-Ok-write_sections-clause-tags
+returns-in-Ok-write_sections-clause-tags g c =
+    let b = book_view c.args.book.now in
+    let cover = c.args.cover.now in
+    let letters = subst (HaveLetters b.part) c.frames.ensures.all c.in-Ok-write_sections.ensures.letters in
+    anyway c.write_foot.result _ (has_its_tags cover.name.now cover.policy.now cover.outcome.now b letters)
 
 pub returns-in-Ok-write_sections-clause-whole : goal.returns-in-Ok-write_sections-clause-whole
 returns-in-Ok-write_sections-clause-whole g c =

@@ -1,11 +1,28 @@
-use Rattle.std.proofs.Common.{◌∙◌, List, ap, sym}
+use Rattle.std.proofs.Common.{◌≡◌, ◌∙◌, ℕ, List, Option, ap, sym}
 use Rattle.page_ids.specs.Ids.{Id}
+use Rattle.frame_records.specs.Bases.{BaseView}
+use Rattle.checker.specs.declared.policy.Policy.{Policy}
 use Rattle.fault_scripts.specs.declared.fault.Fault.{Fault}
+use Rattle.base_pages.specs.declared.pages.Prepared.{Prepared}
 use Rattle.base_pages.specs.Sections.{BookView}
+use Rattle.base_pages.specs.Head.{faults_in}
+use Rattle.base_pages.specs.Tags.{page_tags}
 use Rattle.base_pages.specs.Pages.{page, IsPage}
-use Rattle.base_pages.specs.Loops.{numbers_of, numbered}
+use Rattle.base_pages.specs.Loops.{IsPrepared, numbers_of, numbered}
 use Rattle.base_pages.proofs.OnTheWay.{fault_of}
 use Rattle.base_pages.proofs.pages.write_part.Goals as goal
+
+-- the file that is written of what was prepared
+module _ (name : List ℕ) (base : BaseView) (policy : Policy) (part : Option (List Id)) (p : Prepared) (made : IsPrepared base policy p) where
+  abbrev book_of : List Fault → BookView
+  book_of faults = record { base = base; caller = policy.groups; found = p.painter.found; faults = faults; part = part }
+
+  abbrev written_of : List Fault → List ℕ
+  written_of faults = page name policy p.outcome (book_of faults)
+
+  is_page : (faults : List Fault) → faults ≡ faults_in p.outcome → IsPage name base policy part (written_of faults)
+  is_page faults same =
+      record { found = p.painter.found; finding = made.finding; outcome = p.outcome; audited = made.audited; is = ap written_of same }
 
 pub write_book-requires-clause-ready : goal.write_book-requires-clause-ready
 write_book-requires-clause-ready g c =
@@ -20,29 +37,19 @@ write_book-requires-clause-ready g c =
 pub returns-in-Ok-write_book : goal.returns-in-Ok-write_book
 returns-in-Ok-write_book g c =
     let p = c.in-Ok.prepared in
-    let made = c.in-Ok.ensures in
-    let b : BookView = record { base = c.args.base.now; caller = c.args.policy.now.groups; found = p.painter.found; faults = c.faults_in.result.now; part = c.args.part.now } in
-    let text = page c.args.name.now c.args.policy.now p.outcome b in
-    let is : IsPage c.args.name.now c.args.base.now c.args.policy.now c.args.part.now text = record {
-      found = p.painter.found;
-      finding = made.finding;
-      outcome = p.outcome;
-      audited = made.audited;
-      is = ap (λ (fs : List Fault). page c.args.name.now c.args.policy.now p.outcome (record { base = c.args.base.now; caller = c.args.policy.now.groups; found = p.painter.found; faults = fs; part = c.args.part.now })) c.faults_in.ensures;
-    } in
-    (text, is, c.in-Ok-write_book.ensures.whole)
+    let faults = c.faults_in.result.now in
+    let tags = λ (fs : List Fault). page_tags p.outcome (book_of c.args.name.now c.args.base.now c.args.policy.now c.args.part.now p c.in-Ok.ensures fs) in
+    record {
+      text = written_of c.args.name.now c.args.base.now c.args.policy.now c.args.part.now p c.in-Ok.ensures faults;
+      is = is_page c.args.name.now c.args.base.now c.args.policy.now c.args.part.now p c.in-Ok.ensures faults c.faults_in.ensures;
+      tags = c.in-Ok-write_book.ensures.tags ∙ ap tags c.faults_in.ensures;
+      written = c.in-Ok-write_book.ensures.whole;
+    }
 
 pub returns : goal.returns
 returns g c =
     let p = c.in-Ok.prepared in
-    let made = c.in-Ok.ensures in
-    let b : BookView = record { base = c.args.base.now; caller = c.args.policy.now.groups; found = p.painter.found; faults = c.faults_in.result.now; part = c.args.part.now } in
-    let text = page c.args.name.now c.args.policy.now p.outcome b in
-    let is : IsPage c.args.name.now c.args.base.now c.args.policy.now c.args.part.now text = record {
-      found = p.painter.found;
-      finding = made.finding;
-      outcome = p.outcome;
-      audited = made.audited;
-      is = ap (λ (fs : List Fault). page c.args.name.now c.args.policy.now p.outcome (record { base = c.args.base.now; caller = c.args.policy.now.groups; found = p.painter.found; faults = fs; part = c.args.part.now })) c.faults_in.ensures;
-    } in
+    let faults = c.faults_in.result.now in
+    let text = written_of c.args.name.now c.args.base.now c.args.policy.now c.args.part.now p c.in-Ok.ensures faults in
+    let is = is_page c.args.name.now c.args.base.now c.args.policy.now c.args.part.now p c.in-Ok.ensures faults c.faults_in.ensures in
     fault_of (g.S.Sink.seen c.args.sink.now) (g.S.Sink.seen c.write_book.new.sink) (IsPage c.args.name.now c.args.base.now c.args.policy.now c.args.part.now) text is c.in-Err.fault c.in-Err.ensures.part

@@ -10,6 +10,7 @@ use Rattle.base_pages.proofs.pages.write_sections.Goals as goal
 pub loop-frame-init : goal.loop-frame-init
 loop-frame-init g c = record {
   unbroken = search rules;
+  letters = search rules;
   way = λ start before way. (before, way, refl);
 }
 
@@ -32,6 +33,7 @@ returns-in-Err-clause-part g c = λ start before rest way.
 pub loop-frame-preserved : goal.loop-frame-preserved
 loop-frame-preserved g c = record {
   unbroken = search rules;
+  letters = search rules;
   way = λ start before way.
       let frames = c.args.frames.now in
       let b = book_view c.args.book.now in

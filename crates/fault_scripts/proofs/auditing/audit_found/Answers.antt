@@ -2,19 +2,19 @@ use Rattle.std.proofs.Common.{List, [], ◌≢◌, sym, subst}
 use Rattle.fault_scripts.specs.declared.fault.Fault.{Fault}
 use Rattle.fault_scripts.specs.Faults.{AreFaultsAlong}
 use Rattle.fault_scripts.specs.Loops.{IsWhole}
-use Rattle.fault_scripts.proofs.Audited.{none_told, some_told, told_along, in_order_table, certified_by}
+use Rattle.fault_scripts.proofs.Audited.{none_reported, some_reported, reported_along, in_order_table, certified_by}
 use Rattle.fault_scripts.proofs.FaultsDue.{from_along}
 use Rattle.fault_scripts.proofs.auditing.audit_found.Goals as goal
 
 pub certificate_of-requires : goal.certificate_of-requires
 certificate_of-requires c =
     let whole = subst (λ b. IsWhole b c.args.policy.now c.in_ok-judge.judge) c.in_ok-survey.ensures.base c.in_ok-judge.ensures in
-    in_order_table c.args.base.now c.args.policy.now c.in_ok-judge.judge whole c.requires.found (none_told c.in_ok-judge.judge.teller.faults.items c.as_slice.result.now c.is_empty.result c.as_slice.ensures.value c.is_empty.ensures c.if-is_empty.true)
+    in_order_table c.args.base.now c.args.policy.now c.in_ok-judge.judge whole c.requires.found (none_reported c.in_ok-judge.judge.reporter.faults.items c.as_slice.result.now c.is_empty.result c.as_slice.ensures.value c.is_empty.ensures c.if-is_empty.true)
 
 pub returns-then-is_empty : goal.returns-then-is_empty
 returns-then-is_empty c =
     let whole = subst (λ b. IsWhole b c.args.policy.now c.in_ok-judge.judge) c.in_ok-survey.ensures.base c.in_ok-judge.ensures in
-    certified_by c.args.base.now c.args.policy.now c.in_ok-judge.judge whole c.requires.found (none_told c.in_ok-judge.judge.teller.faults.items c.as_slice.result.now c.is_empty.result c.as_slice.ensures.value c.is_empty.ensures c.if-is_empty.true) c.certificate_of.result c.certificate_of.ensures
+    certified_by c.args.base.now c.args.policy.now c.in_ok-judge.judge whole c.requires.found (none_reported c.in_ok-judge.judge.reporter.faults.items c.as_slice.result.now c.is_empty.result c.as_slice.ensures.value c.is_empty.ensures c.if-is_empty.true) c.certificate_of.result c.certificate_of.ensures
 
 pub returns : goal.returns
 returns c =
@@ -22,6 +22,6 @@ returns c =
     let policy = c.args.policy.now in
     let whole = subst (λ b. IsWhole b policy c.in_ok-judge.judge) c.in_ok-survey.ensures.base c.in_ok-judge.ensures in
     let same = sym c.of-else-is_empty.ensures in
-    let along = subst (AreFaultsAlong base policy) same (told_along base policy c.in_ok-judge.judge whole) in
-    let some = some_told c.in_ok-judge.judge.teller.faults.items c.as_slice.result.now c.is_empty.result c.as_slice.ensures.value c.is_empty.ensures c.if-is_empty.false in
+    let along = subst (AreFaultsAlong base policy) same (reported_along base policy c.in_ok-judge.judge whole) in
+    let some = some_reported c.in_ok-judge.judge.reporter.faults.items c.as_slice.result.now c.is_empty.result c.as_slice.ensures.value c.is_empty.ensures c.if-is_empty.false in
     (from_along base policy c.requires.found.0 c.of-else-is_empty.result c.requires.found.1 along, subst (λ (f : List Fault). f ≢ []) same some)

@@ -4,7 +4,7 @@ use Rattle.finder.specs.Finds.{EntryIsFound}
 use Rattle.fault_scripts.specs.Faults.{AreFaults, AreFaultsAlong}
 use Rattle.fault_scripts.specs.Loops.{IsWhole}
 use Rattle.fault_scripts.specs.Outcomes.{AreAllFaults}
-use Rattle.fault_scripts.proofs.Audited.{told_along}
+use Rattle.fault_scripts.proofs.Audited.{reported_along}
 use Rattle.fault_scripts.proofs.FaultsDue.{from_along}
 use Rattle.fault_scripts.proofs.auditing.judge_base.Goals as goal
 use Rattle.fault_scripts.proofs.auditing.judge_base.Goals.{in-Some, in-None+in_ok-judged-in-None}
@@ -22,5 +22,5 @@ returns-clause-faults c =
           let found = subst (λ o. MatchOption o (EntryIsFound policy.groups base) (AreAllFaults base policy)) w.in-None.is entry in
           let judge = w.in_ok-judged-in-None.field-0 in
           let whole = subst (λ b. IsWhole b policy judge) c.in_ok-survey.ensures.base w.in_ok-judged-in-None.ensures in
-          from_along base policy found.0 c.match-branch-3.faults found.1 (subst (AreFaultsAlong base policy) (sym (w.faults-is ∙ w.of-faults.ensures)) (told_along base policy judge whole))
+          from_along base policy found.0 c.match-branch-3.faults found.1 (subst (AreFaultsAlong base policy) (sym (w.faults-is ∙ w.of-faults.ensures)) (reported_along base policy judge whole))
     ]

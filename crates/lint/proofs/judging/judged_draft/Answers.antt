@@ -25,7 +25,7 @@ returns-in-Some c =
       listed = listed;
       audited = subst (λ t. AreAuditFindings text (marks text) t base policy fs.items) tables (audited c.requires.0 (parsed text c.requires.0 c.requires.2));
     } in
-    of_base c.whole_faults_agree.ensures.agree c.whole_faults_agree.ensures.tables c.drafts_are_sound.ensures.entry c.faults_are_listed.ensures.first text policy fs.items base draft c.requires has) c.audited.ensures
+    of_base text policy fs.items base draft c.requires has) c.audited.ensures
 
 pub returns : goal.returns
 returns c =
@@ -45,4 +45,4 @@ returns c =
           ∙ ap (λ faults. map (text_finding text (marks text)) faults ++ map (whole_finding text (marks text)) c.as_slice-in-None-2.result.now) faults
           ∙ ap (λ whole. map (text_finding text (marks text)) draft.faults ++ map (whole_finding text (marks text)) whole) c.as_slice-in-None-2.ensures.value;
     } in
-    of_faults c.whole_faults_agree.ensures.agree c.whole_faults_agree.ensures.tables c.drafts_are_sound.ensures.entry c.faults_are_listed.ensures.first text policy fs.items draft c.requires has) c.faulty.ensures
+    of_faults text policy fs.items draft c.requires has) c.faulty.ensures

@@ -2,11 +2,11 @@ use Rattle.std.proofs.Common.{◌≡◌, drop}
 use Rattle.std.specs.List.{flat_map}
 use Rattle.indexmap.specs.IndexSet.{insert_all}
 use Rattle.page_ids.specs.Ids.{id_eq}
-use Rattle.base_map.specs.Edges.{exits_of, shown}
+use Rattle.base_map.specs.Edges.{shown}
 use Rattle.base_map.specs.Edges as spec
 use Rattle.base_map.proofs.drawing.Drawing.lost.Given as goal
 
 abbrev pub invariant-loop-frame : goal.invariant-loop-frame
 invariant-loop-frame l =
-    insert_all id_eq l.lost.keys (flat_map (λ f. spec.lost_of l.self.base (exits_of f)) (shown l.self (drop l.frame-index l.frames)))
+    insert_all id_eq l.lost.keys (flat_map (spec.lost_of l.self.base) (shown l.self (drop l.frame-index l.frames)))
     ≡ spec.lost l.self (shown l.self l.frames)

@@ -17,8 +17,8 @@ codes-requires-clause-within c =
     let id = c.args.frame.now.id in
     place_within b.painter.now.found id c.place-place.result (c.place-place.ensures ∙ c.requires.places id)
 
-pub returns : goal.returns
-returns c =
+pub returns-clause-text : goal.returns-clause-text
+returns-clause-text c =
     let b = c.args.self.now in
     let f = c.args.frame.now in
     let caller = b.groups.now in
@@ -37,4 +37,4 @@ returns c =
     ap (λ (fs : List Fault). shaped caller base part f fs (looks c.in_ok-codes.codes) c.is_some.result) about
     ∙ ap (λ (cells : List ℕ). shaped caller base part f (faults_about all f.id) (looks cells) c.is_some.result) codes
     ∙ ap (λ (r : Bool). shaped caller base part f (faults_about all f.id) (looks (screen_codes base (way_by caller base found f.id (place_of found f.id)))) r) reached in
-    subst (λ (text : List ℕ). OnOk c.push_with.result (c.push_with.new.out.items ≡ c.args.out.now.items ++ text)) path c.push_with.ensures
+    subst (λ (text : List ℕ). OnOk c.push_with.result (c.push_with.new.out.items ≡ c.args.out.now.items ++ text)) path c.push_with.ensures.text

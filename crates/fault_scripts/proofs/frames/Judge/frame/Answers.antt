@@ -20,6 +20,6 @@ returns c =
     let more : take (i + 1) found ≡ take i found ++ d ∷ [] = take_more found i d c.requires.within ∙ ap (λ (x : Discovered). take i found ++ x ∷ []) (get_or_from_slice_get found i d d listed) in
     let painted : c.paint-painted.result ≡ paint_of frame.lead frame.body = c.paint-painted.ensures.computed ∙ ap (paint_of frame.lead) c.as_slice.ensures in
     record {
-      telling = c.in_ok-judge.ensures;
+      reporting = c.in_ok-judge.ensures;
       gathered = subst (λ (f : List Discovered). IsGathered base f c.add.new.self) (sym more) (gathered_more base (take i found) d frame c.args.self.now.table c.add.new.self at c.requires.judged.gathered (c.in_ok-add.ensures.rows ∙ ap (λ (p : Painted). c.args.self.now.table.rows.items ++ row_of d.id d.rank p) painted) c.in_ok-add.ensures.ceiling c.in_ok-add.ensures.keyings);
     }

@@ -1,5 +1,5 @@
 use Rattle.std.proofs.Common.{Some, get_or, false, refl, sym, ◌∙◌, ap, subst}
-use Rattle.finder.proofs.Words.{IsNodeRank}
+use Rattle.finder.proofs.Words.{IsRank}
 use Rattle.finder.specs.Entries.{discovered_of}
 use Rattle.finder.proofs.Lists.{push_at}
 use Rattle.finder.proofs.Marked.{node_inside, not_listed, way_passed, way_led}
@@ -21,4 +21,4 @@ pub returns-clause-placed : goal.returns-clause-placed
 returns-clause-placed c = rw c.in_ok-list.ensures.order (push_at c.args.self.now.order.keys _ c.args.index c.args.from c.requires.placed)
 
 pub returns-clause-listed : goal.returns-clause-listed
-returns-clause-listed c = way_led _ _ _ _ _ c.requires.is_way c.requires.placed c.requires.listed c.in-Some.node (discovered_of c.id.result c.rank_at.result (Some (c.args.index, c.args.way))) _ c.in-Some.ensures.leads c.id.ensures (sym c.if-is_listed.ensures) (subst (IsNodeRank c.args.graph.now c.in-Some.node) (sym c.rank_at.ensures) (c.requires.ranks c.in-Some.node)) refl refl c.in_ok-list.ensures.order c.in_ok-list.ensures.found c.in_ok-list.ensures.listed
+returns-clause-listed c = way_led _ _ _ _ _ c.requires.is_way c.requires.placed c.requires.listed c.in-Some.node (discovered_of c.id.result c.rank_at.result (Some (c.args.index, c.args.way))) _ c.in-Some.ensures.leads c.id.ensures (sym c.if-is_listed.ensures) (subst (IsRank c.args.graph.now.table.groups.now c.args.graph.now.table.base.now c.id.result) (sym c.rank_at.ensures) (c.requires.ranks c.in-Some.node c.id.result c.id.ensures)) refl refl c.in_ok-list.ensures.order c.in_ok-list.ensures.found c.in_ok-list.ensures.listed

@@ -1,6 +1,0 @@
-use Rattle.std.proofs.Common.{◌+◌, ◌*◌}
-use Rattle.fault_scripts.specs.Loops.{IsTelling}
-use Rattle.fault_scripts.proofs.teller.Teller.judge.Given as goal
-
-abbrev pub invariant-loop-place : goal.invariant-loop-place
-invariant-loop-place l = IsTelling l.survey.base l.policy l.survey.found (l.index * 14 + (l.place + 2)) l.self

@@ -1,8 +1,0 @@
-use Rattle.std.proofs.Common.{List, sym, subst}
-use Rattle.finder.specs.declared.found.Discovered.{Discovered}
-use Rattle.fault_scripts.specs.Loops.{CanLead}
-use Rattle.fault_scripts.proofs.teller.Teller.tell.Goals as goal
-
-pub go-requires : goal.go-requires
-go-requires c =
-    subst (λ (f : List Discovered). CanLead f c.args.index c.args.self.now.at c.args.self.now.keys.items) (sym c.found.ensures) (record { within = c.requires.within; extends = c.requires.extends; script = c.requires.script })
