@@ -6,7 +6,8 @@ use Rattle.page_ids.specs.Ids.{id_eq, frame_text, page_text}
 use Rattle.frame_records.specs.declared.frame.Frame.{Frame}
 use Rattle.frame_records.specs.Seek.{entry_of, is_open}
 use Rattle.cell_looks.specs.Table.{character}
-use Rattle.base_map.specs.Edges.{MapView, has_id}
+use Rattle.finder.specs.Finds.{has_id}
+use Rattle.base_map.specs.Edges.{MapView}
 
 -- a body without its escapes, after the first code of one or not: an escape is 1B and the byte after it
 abbrev pub without_escapes : Bool → List ℕ → List ℕ
