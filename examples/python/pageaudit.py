@@ -28,7 +28,7 @@ from collections.abc import Mapping, Sequence
 from dataclasses import dataclass, fields
 from typing import Any, SupportsIndex
 
-__version__ = "1.0.0"
+__version__ = "1.1.0"
 __all__ = [
     "Audit", "Finding", "Look", "Policy", "PolicyError", "Screen", "TextError", "Verdict", "audit", "change", "check", "lint", "show",
 ]  # fmt: skip

@@ -171,7 +171,7 @@ fn change_command<'a>(alloc: Global) -> Result<Command<'a>, AllocError> {
 
 fn walk_command<'a>(alloc: Global) -> Result<Command<'a>, AllocError> {
     let command = Command::new(alloc, "walk")
-        .about("Show what a caller sees who presses keys from the entry page")
+        .about("Print the replies to keys from the entry page")
         .after_help(help::WALK)
         .arg(place(alloc, "BASE", "The base, a TOML file"))?
         .arg(place(alloc, "KEYS", "Keys without spaces, e.g. '1#*#*00*09'"))?;

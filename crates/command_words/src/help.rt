@@ -1,7 +1,7 @@
 //! What follows the options in each command's help: an example, and the exit statuses.
 
 /// The program's version, which the list of changes names too.
-pub const VERSION: &str = "1.0.0";
+pub const VERSION: &str = "1.1.0";
 
 /// After the options of `lint`.
 pub const LINT: &str = concat!(
@@ -33,10 +33,10 @@ pub const CHANGE: &str = concat!(
 
 /// After the options of `walk`.
 pub const WALK: &str = concat!(
+    "'show --keys' shows the screen after keys.\n\n",
     "Example: pageaudit walk examples/demo.toml '1#*#*00'\n\n",
     "Status: 0 a walk, 1 no session, 2 bad command line or keys,\n",
-    "        3 a file that is refused or can't be read, or a write that fails, 4 out of memory\n\n",
-    "`show --keys` shows the screens",
+    "        3 a file that is refused or can't be read, or a write that fails, 4 out of memory",
 );
 
 /// After the options of `show`.
