@@ -27,7 +27,7 @@ def saved(byte):
 def cells_of(data, stream):
     """The 960 codes of a file."""
     if len(data) > MOST_BYTES:
-        raise NoScreen("more than 16777216 bytes")
+        raise NoScreen("more than 16,777,216 bytes")
     if not data:
         raise NoScreen("empty")
     if stream:
@@ -37,7 +37,7 @@ def cells_of(data, stream):
         return BLANK + codes + BLANK
     if len(data) in (960, 1000, 1024):
         return codes[:960]
-    raise NoScreen(f"size {len(data)}; a screen has 960, 1000, 1024 or 880 bytes")
+    raise NoScreen(f"size {len(data)}; a screen has 960, 1000, 1024 or 880 bytes; --stream reads what a line carried")
 
 
 def id_of(word):
@@ -126,7 +126,7 @@ def base_lines(frames, entry):
         path, price, cells = frames[id]
         text += frame_text(id, price, cells, (id[0], chr(ord(id[1]) + 1)) in frames)
         if len(text) > MOST_BYTES:
-            return "", f"{path}: with this frame the base is longer than 16777216 bytes\n", 3
+            return "", f"{path}: with this frame the base is longer than 16,777,216 bytes\n", 3
     return text, "", 0
 
 

@@ -42,9 +42,11 @@ fn take_file<R: Files + AllocGlobal>(
 fn report_screen<R: Eprint>(rt: &R, path: &str, fault: ScreenFault) {
     let _ = match fault {
         ScreenFault::Empty => eprintln!(rt; "{path}: empty"),
-        ScreenFault::TooLong => eprintln!(rt; "{path}: more than 16777216 bytes"),
+        ScreenFault::TooLong => eprintln!(rt; "{path}: more than 16,777,216 bytes"),
         ScreenFault::Size(size) => {
-            eprintln!(rt; "{path}: size {size}; a screen has 960, 1000, 1024 or 880 bytes")
+            eprintln!(rt;
+                "{path}: size {size}; a screen has 960, 1000, 1024 or 880 bytes; --stream reads what a line carried"
+            )
         }
         ScreenFault::NoId => {
             eprintln!(rt; "{path}: no frame id in the name, and row 0 shows none")
@@ -158,7 +160,7 @@ fn print_or_report<R: Print + Eprint + AllocGlobal>(rt: &R, asked: &Import, albu
             if let ImportStatus::TooLong(file) = status {
                 let path = path_of(asked, file);
                 let _ = eprintln!(rt;
-                    "{path}: with this frame the base is longer than 16777216 bytes"
+                    "{path}: with this frame the base is longer than 16,777,216 bytes"
                 );
             }
             status_of_import(&Ok(status))
