@@ -21,9 +21,8 @@ use Rattle.fault_scripts.specs.declared.frame_fault.FrameFault.{FrameFault}
 use Rattle.fault_scripts.specs.declared.frame_fault.FrameFault.TheVariants.{Price, Touches, Missing, Closed, NoReturn}
 use Rattle.fault_scripts.specs.declared.reporter.Reporter.{Reporter}
 use Rattle.fault_scripts.specs.Faults.{IsDue, IsOfPlace, StandsBefore, turn_of, turn_at, AreDue}
-use Rattle.fault_scripts.specs.FrameFaults.{fault_of, asked}
-use Rattle.fault_scripts.specs.Loops.{HasScript, IsDueBelow, IsReported, IsReporting}
-use Rattle.fault_scripts.proofs.Asked.{IsAnswer, asked_due, due_asked}
+use Rattle.fault_scripts.specs.Loops.{fault_of, HasScript, IsDueBelow, IsReported, IsReporting}
+use Rattle.fault_scripts.proofs.Asked.{asked, IsAnswer, asked_due, due_asked}
 use Rattle.fault_scripts.proofs.Discoveries.{listed_frame, listed_once}
 
 -- a fault names its frame
