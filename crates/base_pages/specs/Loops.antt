@@ -1,4 +1,4 @@
--- Facts that hold between the turns of loops, and of what is prepared. No promise rests on them.
+-- Facts that hold between the turns of loops, and what functions that aren't exported say. No promise rests on them.
 use Rattle.std.specs.Prelude.{◌≡◌, ◌+◌, ℕ, List, [], ◌∷◌, ◌++◌, Option, Some, None, if◌then◌else◌, slice_get}
 use Rattle.std.specs.Option.{option_map_or}
 use Rattle.std.specs.List.{flat_map}

@@ -1,4 +1,4 @@
--- Facts that hold between the turns of loops. No promise rests on them.
+-- Facts that hold between the turns of loops, and what functions that aren't exported say. No promise rests on them.
 pub mod WayTargets
 pub mod Noted
 pub mod Walks
