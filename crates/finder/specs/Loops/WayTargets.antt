@@ -51,10 +51,6 @@ node_of Closed = None
 node_of Missing = None
 node_of Outside = None
 
--- the id of the frame of a node
-abbrev pub id_at : List Frame → ℕ → Option Id
-id_at frames node = option_map (λ f. f.id) (slice_get frames node)
-
 -- a way finds the frame of a node
 abbrev pub IsFoundAt : List ℕ → BaseView → Frame → Way → ℕ → Type 0
 IsFoundAt caller base f way node = option_map (λ to. destination.Found to.id to.price) (slice_get base.frames node) ≡ Some (destination_of caller base f way)
