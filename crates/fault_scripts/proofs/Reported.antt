@@ -139,7 +139,7 @@ module _ (base : BaseView) (policy : Policy) (found : List Discovered) (finding 
     reported_more faults std.None e reported = subst (IsReported base policy found (p + 1)) (sym (append-nil faults)) (none_reported faults e reported)
     reported_more faults (std.Some wrong) e reported = one_reported faults wrong e reported
 
-    -- of the reporter
+    -- a reporter that adds the answer has reported those below the next place
     pub reporting_more : (old new : Reporter) (answer : Option FrameFault) → asked base policy frame d.rank turn ≡ answer
         → IsReporting base policy found p old → HasScript found new.at new.keys.items
         → new.faults.items ≡ old.faults.items ++ option_to_list (option_map mine answer)

@@ -56,7 +56,7 @@ pub record IsMost (values : List ℕ) (most : ℕ) : Type 0 where
   pub at_most : All (λ v. v ≤ most) values
   pub some : Contains values most ⊎ (most ≡ 0)
 
--- of these discovered frames
+-- what is gathered from these discovered frames
 pub record IsGathered (base : BaseView) (frames : List Discovered) (t : GatheredRows) : Type 0 where
   pub rows : t.rows.items ≡ flat_map (row_at base) frames
   pub ceiling : IsMost (map (price_at base) frames) t.ceiling
@@ -92,7 +92,7 @@ pub record IsReporting (base : BaseView) (policy : Policy) (found : List Discove
   pub script : HasScript found t.at t.keys.items
   pub reported : IsReported base policy found place t.faults.items
 
--- of the first frames the faults have been reported, and the rows gathered
+-- the faults of the first frames have been reported, and their rows gathered
 pub record IsJudged (base : BaseView) (policy : Policy) (found : List Discovered) (done : ℕ) (j : Judge) : Type 0 where
   pub reporting : IsReporting base policy found (done * 14) j.reporter
   pub gathered : IsGathered base (take done found) j.table

@@ -30,7 +30,7 @@ lost_by aim.Closed to = destination.Closed to
 lost_by aim.Missing to = destination.Missing to
 lost_by aim.Outside to = destination.Outside to.page
 
--- of one that may seek a frame
+-- the same of a way that may seek a frame
 abbrev pub lost_to : Aim → Option Id → Destination
 lost_to aim None = destination.NotOffered
 lost_to aim (Some to) = lost_by aim to
