@@ -17,7 +17,7 @@ use Rattle.frame_records.specs.Seek.{entry_of}
 use Rattle.finder.specs.declared.discover.Discovery.{Discovery}
 use Rattle.finder.specs.declared.found.Discovered.{Discovered}
 use Rattle.finder.specs.Finds.{Pair, HasPair, PairLeads, IsBefore, HasFirstPair, RanksAreLeast, Walk, IsRank, has_id}
-use Rattle.finder.specs.Survey.{id_at}
+use Rattle.finder.specs.Survey.{AreNamed, id_at}
 
 -- The neighbours of nodes in the direction of a search.
 
