@@ -8,7 +8,8 @@ use Rattle.std.proofs.lemmas.Bool.{eq-eqb, ne_eqb}
 use Rattle.std.specs.List.{prefix_len}
 use lib.Lanes.{chunk, mask_l}
 use lib.Count.{count_trailing_zeros}
-use Rattle.abstract_paint.specs.Plain.{is_plain, is_other, plain_len}
+use Rattle.abstract_paint.specs.Plain.{is_plain, plain_len}
+use Rattle.abstract_paint.specs.Loops.{is_other}
 
 not-not : (b : Bool) → b ≡ not (not b)
 not-not true = refl

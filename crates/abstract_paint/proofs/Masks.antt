@@ -8,7 +8,8 @@ use Rattle.std.proofs.lemmas.List.{length-map, get_or-map}
 use Rattle.std.proofs.Math.Nat.{pow-succ'}
 use lib.Bits.{bit_and}
 use lib.Lanes.{zip2, mask_l, top}
-use Rattle.abstract_paint.specs.Plain.{is_plain, is_other}
+use Rattle.abstract_paint.specs.Plain.{is_plain}
+use Rattle.abstract_paint.specs.Loops.{is_other}
 
 abbrev below : ℕ → ℕ → ℕ
 below a b = cond (ltb a b) 255 0

@@ -6,7 +6,7 @@ use Rattle.abstract_paint.specs.declared.advance.Advance.TheVariants.{Touches, G
 use Rattle.abstract_paint.specs.declared.cursor.Place.TheVariants.{Spot}
 use Rattle.abstract_paint.specs.Paint.{calm}
 use Rattle.abstract_paint.specs.Plain.{is_plain, plain_len, room}
-use Rattle.abstract_paint.specs.Advance.{IsAdvance}
+use Rattle.abstract_paint.specs.Loops.{IsAdvance}
 use Rattle.abstract_paint.proofs.PlainRuns.{plain_goes_on, plain_reaches}
 
 room_on_screen : (p n : ℕ) → p < 960 → n ≤ room p → p + n < 960

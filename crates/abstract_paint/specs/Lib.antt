@@ -1,4 +1,4 @@
-pub mod Advance
 pub mod Paint
 pub mod Plain
 pub mod Start
+pub mod Loops

@@ -1,5 +1,5 @@
 -- Plain bytes, and runs of them.
-use Rattle.std.specs.Prelude.{ℕ, ◌&&◌, not, Bool, List, nat_lt, nat_le, ◌≡◌, ◌+◌, ◌-◌, ◌<◌, ◌≤◌, drop, if◌then◌else◌}
+use Rattle.std.specs.Prelude.{ℕ, ◌&&◌, Bool, List, nat_lt, nat_le, ◌≡◌, ◌+◌, ◌-◌, ◌<◌, ◌≤◌, drop, if◌then◌else◌}
 use Rattle.std.specs.List.{prefix_len}
 use Rattle.abstract_paint.specs.declared.cursor.Place.TheVariants.{Spot}
 use Rattle.abstract_paint.specs.declared.painting.Painted.TheVariants.{Touches}
@@ -10,10 +10,6 @@ use Rattle.abstract_paint.specs.Paint.{calm, paint_from}
 -- the bytes 20 to 7F
 abbrev pub is_plain : ℕ → Bool
 is_plain b = nat_le 32 b && nat_lt b 128
-
--- the others
-abbrev pub is_other : ℕ → Bool
-is_other b = not (is_plain b)
 
 -- how many plain bytes the list begins with
 abbrev pub plain_len : List ℕ → ℕ

@@ -4,7 +4,7 @@ ghost use Rattle.std.specs.Prelude.{◌≡◌, ◌<◌, ◌≤◌, length, IfSom
 ghost use Rattle.abstract_paint.specs.declared.cursor.Place.TheVariants.{Spot};
 ghost use Rattle.abstract_paint.specs.Paint.{OnScreen, calm};
 ghost use Rattle.abstract_paint.specs.Plain.{room, plain_len};
-ghost use Rattle.abstract_paint.specs.Advance.{IsAdvance};
+ghost use Rattle.abstract_paint.specs.Loops.{IsAdvance};
 
 use crate::cursor::{AbsCursor, Pend, Place};
 use crate::plain::{front_run, is_plain};

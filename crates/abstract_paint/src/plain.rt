@@ -2,7 +2,8 @@
 
 ghost use Rattle.std.specs.Prelude.{◌≡◌, ◌↔◌, map, slice_index, EachIndex, IsTrue, IsBitSet};
 ghost use Rattle.std.specs.Simd.Lanes.{mask_l};
-ghost use Rattle.abstract_paint.specs.Plain.{is_plain, is_other, plain_len};
+ghost use Rattle.abstract_paint.specs.Plain.{is_plain, plain_len};
+ghost use Rattle.abstract_paint.specs.Loops.{is_other};
 
 use std::simd::prelude::*;
 

@@ -7,9 +7,9 @@ use Rattle.page_ids.specs.Ids.{Id, id_eq}
 use Rattle.page_ids.specs.IdLaws.{id_eq_same, id_eq_refl}
 use Rattle.frame_records.specs.Bases.{BaseView}
 use Rattle.finder.specs.declared.found.Discovered.{Discovered}
-use Rattle.finder.specs.Finds.{FindsReached}
-use Rattle.base_map.specs.Map.{ids_of, AreReached}
-use Rattle.finder.specs.Finds.{has_id}
+use Rattle.finder.specs.Finds.{FindsReached, has_id}
+use Rattle.base_map.specs.Map.{AreReached}
+use Rattle.base_map.specs.Loops.{ids_of}
 use Rattle.finder.proofs.Inserts.{has_all}
 
 of_map : (found : List Discovered) (id : Id) → has_id (map (λ d. d.id) found) id ≡ list_any (λ (d : Discovered). id_eq id d.id) found

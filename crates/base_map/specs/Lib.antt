@@ -2,3 +2,4 @@ pub mod Nodes
 pub mod Edges
 pub mod Map
 pub mod Windows
+pub mod Loops

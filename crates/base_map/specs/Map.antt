@@ -1,11 +1,9 @@
 -- The text of a map.
-use Rattle.std.specs.Prelude.{◌≡◌, ◌↔◌, ℕ, List, [], ◌++◌, codes, Option, None, true, map, Some, Contains}
+use Rattle.std.specs.Prelude.{◌≡◌, ◌↔◌, ℕ, List, ◌++◌, codes, Option, None, true, Some, Contains}
 use Rattle.std.specs.List.{flat_map, IsDistinct}
-use Rattle.indexmap.specs.IndexSet.{insert_all}
 use Rattle.page_ids.specs.Ids.{Id, id_eq}
 use Rattle.frame_records.specs.declared.frame.Frame.{Frame}
 use Rattle.frame_records.specs.Bases.{BaseView, frame_at}
-use Rattle.finder.specs.declared.found.Discovered.{Discovered}
 use Rattle.finder.specs.Finds.{IsReached, has_id}
 use Rattle.base_map.specs.Edges.{edge_lines_of, lost_lines, MapView, shown, targets_of, keys_to}
 use Rattle.base_map.specs.Nodes.{cluster_lines}
@@ -14,10 +12,6 @@ use Rattle.page_ids.specs.Ways.{way_key}
 use Rattle.frame_records.specs.declared.base.Sought.TheVariants as found
 use Rattle.frame_records.specs.Seek.{seek}
 use Rattle.frame_records.specs.Ways.{sought, Leads}
-
--- the ids of discovered frames
-abbrev pub ids_of : List Discovered → List Id
-ids_of found = insert_all id_eq [] (map (λ d. d.id) found)
 
 -- exactly the frames that a caller reaches
 pub record AreReached (caller : List ℕ) (base : BaseView) (ids : List Id) : Type 0 where

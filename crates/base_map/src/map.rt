@@ -1,5 +1,6 @@
 ghost use Rattle.std.specs.Prelude.{◌≡◌, ◌++◌, IfOk, OnOk};
 ghost use Rattle.base_map.specs.Map as spec;
+ghost use Rattle.base_map.specs.Loops as loops;
 ghost use Rattle.base_map.specs.Edges.{shown};
 
 use crate::drawing::Drawing;
@@ -12,7 +13,7 @@ use std::alloc::{AllocError, Global};
 
 // The ids of discovered frames.
 fn ids_of(alloc: Global, found: &[Discovered]) -> Result<IndexSet<FrameId>, AllocError>
-    ensures { IfOk result (λ ids. ids.keys ≡ spec.ids_of found.now) }
+    ensures { IfOk result (λ ids. ids.keys ≡ loops.ids_of found.now) }
 {
     let mut ids = IndexSet::with_capacity(alloc, found.len())?;
     for frame in found {

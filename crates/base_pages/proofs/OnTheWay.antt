@@ -1,6 +1,6 @@
 -- A text on its way to a sink, section by section.
 use Rattle.std.proofs.Common.{rules, ◌≡◌, ◌∙◌, ℕ, Bool, true, false, cond, List, [], ◌∷◌, ◌++◌, sym, ap, refl, append_assoc, append-nil, Option, None, Some, inr}
-use Rattle.std.specs.Prelude.{filter}
+use Rattle.std.specs.Prelude.{filter, Result, Ok, Err}
 use Rattle.std.specs.List.{flat_map}
 use Rattle.std.specs.Io.KnownBytes.{Appends}
 use Rattle.devices.specs.Devices.{Seen, IsOnItsWay}
@@ -15,8 +15,8 @@ use Rattle.base_pages.specs.declared.fault.PagesFault.{PagesFault}
 use Rattle.base_pages.specs.declared.fault.PagesFault.TheVariants.{Write, Memory}
 use Rattle.base_pages.specs.declared.pages.PagesStatus.{PagesStatus}
 use Rattle.base_pages.specs.declared.pages.PagesStatus.TheVariants.{Written, NoPage}
-use Rattle.std.specs.Prelude.{Result, Ok, Err}
-use Rattle.base_pages.specs.Pages.{StoppedWithin, IsStopped, IsPagesFault, IsPartWritten, IsPagesRun}
+use Rattle.base_pages.specs.Pages.{StoppedWithin, IsPagesFault, IsPartWritten, IsPagesRun}
+use Rattle.base_pages.specs.Loops.{IsStopped}
 use Rattle.base_pages.specs.Sections.{BookView, section, sections}
 
 -- more of the text is kept

@@ -1,4 +1,4 @@
--- Facts that hold between the turns of loops, and of what is prepared. No promise rests on them.
+-- Facts that hold between the turns of loops, and what functions that aren't exported say. No promise rests on them.
 use Rattle.std.specs.Prelude.{◌≡◌, ◌+◌, ℕ, List, [], ◌∷◌, ◌++◌, Option, Some, None, if◌then◌else◌, slice_get}
 use Rattle.std.specs.Option.{option_map_or}
 use Rattle.std.specs.List.{flat_map}
@@ -18,7 +18,10 @@ use Rattle.base_pages.specs.declared.pages.Cover.{Cover}
 use Rattle.base_pages.specs.Faults.{is_entry_kind, item, start_or}
 use Rattle.base_pages.specs.Head.{faults_in}
 use Rattle.base_pages.specs.Sections.{BookView}
-use Rattle.base_pages.specs.Pages.{page}
+use Rattle.base_pages.specs.Pages.{page, StoppedWithin}
+use Rattle.devices.specs.Devices.{Seen, WrotePart}
+use Rattle.base_pages.specs.declared.fault.PagesFault.{PagesFault}
+use Rattle.base_pages.specs.declared.fault.PagesFault.TheVariants.{Write, Memory}
 
 -- The numbers of faults, by frames.
 
@@ -103,3 +106,10 @@ pub record IsPrepared (base : BaseView) (policy : Policy) (p : Prepared) : Type 
 -- the file of a book and its cover
 abbrev pub page_of : Cover → Book → List ℕ
 page_of cover b = page cover.name.now cover.policy.now cover.outcome.now (book_view b)
+
+-- Why a text isn't written whole.
+
+-- the sink failed, or memory was refused after a front of the text
+abbrev pub IsStopped : Seen → Seen → List ℕ → PagesFault → Type 0
+IsStopped old new text (Write wrote) = WrotePart old new text wrote
+IsStopped old new text Memory = StoppedWithin old new text

@@ -60,11 +60,6 @@ pub record StoppedWithin (old new : Seen) (text : List ℕ) : Type 0 where
   pub is : text ≡ front ++ rest
   pub took : TookAll old new front
 
--- why a text isn't written whole
-abbrev pub IsStopped : Seen → Seen → List ℕ → PagesFault → Type 0
-IsStopped old new text (Write wrote) = WrotePart old new text wrote
-IsStopped old new text Memory = StoppedWithin old new text
-
 -- A run that writes the file.
 
 -- memory was refused before the first byte was written, or after a front of the file; or the sink failed

@@ -68,7 +68,7 @@ end_tags b f =
     ++ (codes "p class=\"ways\"" ∷ flat_map (λ way. way_tags b.part (way_key way) (destination_of b.caller b.base f way)) ways ++ codes "/p" ∷ [])
     ++ (over_tags f.lead ++ fault_tags (faults_about b.faults f.id) ++ codes "/section" ∷ [])
 
--- of the picture of its screen, whose characters stand between tags
+-- the tags of the picture of a frame's screen; its characters stand between them
 abbrev pub picture_tags : BookView → Frame → List (List ℕ)
 picture_tags b f = map (λ p. p.tag) (svg_pieces f.id (screen_of b.caller b.base b.found f.id) (touched_cell f (faults_about b.faults f.id)))
 

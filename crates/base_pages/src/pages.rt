@@ -5,8 +5,8 @@ ghost use Rattle.devices.specs.Devices.{Seen, IsOnItsWay, WroteWhole};
 ghost use Rattle.base_pages.specs.Sections.{sections};
 ghost use Rattle.base_pages.specs.Shell as Shell;
 ghost use Rattle.base_pages.specs.Tags.{HasLetter, HaveLetters, tag_list, page_tags};
-ghost use Rattle.base_pages.specs.Loops.{IsReady, IsPrepared, book_view, page_of};
-ghost use Rattle.base_pages.specs.Pages.{IsStopped, IsPartWritten, IsPagesRun, front};
+ghost use Rattle.base_pages.specs.Loops.{IsReady, IsPrepared, book_view, page_of, IsStopped};
+ghost use Rattle.base_pages.specs.Pages.{IsPartWritten, IsPagesRun, front};
 
 use crate::book::Book;
 use crate::fault::PagesFault;

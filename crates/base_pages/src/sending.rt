@@ -2,7 +2,7 @@
 
 ghost use Rattle.std.specs.Prelude.{◌≡◌, ◌<◌, ◌+◌, ◌^◌, ◌++◌, List, ℕ, false, true, OnOk, IfOk, IfErr};
 ghost use Rattle.devices.specs.Devices.{Seen, WroteWhole, IsOnItsWay};
-ghost use Rattle.base_pages.specs.Pages.{IsStopped};
+ghost use Rattle.base_pages.specs.Loops.{IsStopped};
 
 use crate::fault::PagesFault;
 use audit_report::Sink;

@@ -10,8 +10,9 @@ use Rattle.base_text.specs.Details.{KeptView, nothing, with_one, with_all, kept}
 use Rattle.base_text.specs.declared.limits.TheConstants.{MOST_FAULTS}
 use Rattle.base_text.specs.declared.detail.TextFault.{TextFault}
 use Rattle.base_text.specs.declared.fault.BaseFault.{BaseFault}
-use Rattle.base_text.specs.Frames.{frame_index, first_fault, frame_if, element_of}
-use Rattle.base_text.specs.Whole.{PartsView, IsFirst, parts_or, table_parts}
+use Rattle.base_text.specs.Frames.{frame_index, frame_if, element_of}
+use Rattle.base_text.specs.Loops.{first_fault, IsFirst}
+use Rattle.base_text.specs.Whole.{PartsView, parts_or, table_parts}
 use Rattle.base_text.specs.Drafts.{BeginAlike, fault_at, listed_from, listed_faults, elements, elements_listed, elements_faults, top_of, text_faults, draft_of}
 
 pub with_both : (k : KeptView) (ds es : List Detail) → with_all k (ds ++ es) ≡ with_all (with_all k ds) es

@@ -2,7 +2,7 @@ ghost use Rattle.std.specs.Prelude.{◌≡◌, ◌++◌, IfOk, OnOk};
 ghost use Rattle.std.specs.Result.{result_ok};
 ghost use Rattle.base_text.specs.Details.{faults_of, nothing, with_one, with_all};
 ghost use Rattle.base_text.specs.Drafts.{listed_faults};
-ghost use Rattle.base_text.specs.Frames.{first_fault};
+ghost use Rattle.base_text.specs.Loops.{first_fault};
 
 use crate::detail::{Detail, TextFault};
 use crate::fault::{BaseFault, fault_in};

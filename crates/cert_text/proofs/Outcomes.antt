@@ -7,7 +7,8 @@ use Rattle.cert_text.specs.declared.fault.ReadFault.{ReadFault}
 use Rattle.cert_text.specs.declared.fault.ReadFault.TheVariants as read
 use Rattle.cert_text.specs.Grammar.{IsCertificateText}
 use Rattle.frame_records.specs.Steps.{◌>>=◌}
-use Rattle.cert_text.specs.Reading.{Reading, Fault, start, number_of, is_over, run, ended, certificate_of, reading, fault_in, cert_fault, Reads, Gives, Refuses, Answers, ReaderView, HasRead, lasting}
+use Rattle.cert_text.specs.Reading.{Reading, Fault, start, number_of, is_over, run, ended, certificate_of, reading, fault_in, cert_fault, Gives, Refuses, Answers, ReaderView, HasRead, lasting}
+use Rattle.cert_text.specs.Loops.{Reads}
 use Rattle.cert_text.proofs.Found.{found}
 use Rattle.cert_text.proofs.Only.{only, run_append}
 

@@ -1,3 +1,4 @@
 pub mod Grammar
 pub mod Lines
 pub mod Reading
+pub mod Loops

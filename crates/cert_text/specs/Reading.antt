@@ -19,8 +19,6 @@ use Rattle.cert_text.specs.declared.stage.Field.{Field}
 use Rattle.cert_text.specs.declared.stage.Field.TheVariants.{Entry, Ceiling, Keyings, Count}
 use Rattle.frame_records.specs.Steps.{◌>>=◌}
 use Rattle.cert_text.specs.Lines.{number_after, groups_after, row_in}
-use Rattle.cert_text.specs.declared.fault.LineFault.{LineFault}
-use Rattle.cert_text.specs.declared.fault.LineFault.TheVariants as line
 use Rattle.cert_text.specs.declared.fault.ReadFault.{ReadFault}
 use Rattle.cert_text.specs.declared.fault.ReadFault.TheVariants as read
 use Rattle.cert_text.specs.declared.fault.LineCause.TheVariants.{Word, Tail, Truncated}
@@ -198,22 +196,6 @@ abbrev pub lasting : Option Fault → Option Fault
 lasting None = None
 lasting (Some f) = lasting_cause f.0 f.1
 
--- the cause of such a fault
-abbrev pub Lasts : LineCause → Type 0
-Lasts cause = (n : ℕ) → lasting_cause n cause ≡ Some (n, cause)
-
--- a whole line that leads to the next stage
-abbrev pub Says : Result Stage LineFault → Said → Result Reading LineCause → Type 0
-Says (Ok stage) new outcome = outcome ≡ Ok (begins stage new)
-Says (Err line.Memory) new outcome = Unit {0}
-Says (Err (line.Says cause)) new outcome = (outcome ≡ Err cause) × Lasts cause
-
--- a call that changes a reading into the new one
-abbrev pub Turns : Result (Unit {0}) LineFault → Reading → Result Reading LineCause → Type 0
-Turns (Ok _) new outcome = outcome ≡ Ok new
-Turns (Err line.Memory) new outcome = Unit {0}
-Turns (Err (line.Says cause)) new outcome = (outcome ≡ Err cause) × Lasts cause
-
 -- a reading with its fault
 abbrev pub Refuses : {A : Type 0} → ReadFault → Result A Fault → Type 0
 Refuses read.Memory outcome = Unit {0}
@@ -225,11 +207,6 @@ abbrev pub Answers : ReadFault → Option Fault → Type 0
 Answers read.Memory fault = Unit {0}
 Answers read.Failed fault = ⊥
 Answers (read.Line number cause) fault = fault ≡ Some (number, cause)
-
--- and its fault lasts
-abbrev pub Reads : Result (Unit {0}) ReadFault → Reading → Result Reading Fault → Type 0
-Reads (Ok _) new outcome = outcome ≡ Ok new
-Reads (Err e) new outcome = Refuses e outcome × Answers e (lasting (fault_in outcome))
 
 -- a certificate, or the fault
 abbrev pub Gives : {C : Type 0} → (C → CertView) → Result C ReadFault → Result CertView Fault → Type 0

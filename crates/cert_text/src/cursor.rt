@@ -2,7 +2,7 @@
 
 ghost use Rattle.std.specs.Prelude.{◌≡◌, IfErr};
 ghost use Rattle.cert_text.specs.Lines.{place_in, pend_in, without_pend, cursor_in};
-ghost use Rattle.cert_text.specs.Reading.{Lasts};
+ghost use Rattle.cert_text.specs.Loops.{Lasts};
 
 use crate::fault::LineCause;
 use abstract_paint::{AbsCursor, Pend, Place};

@@ -3,7 +3,7 @@
 ghost use Rattle.std.specs.Prelude.{◌≡◌, ◌≤◌, IfOk, IfErr};
 ghost use Rattle.page_ids.specs.Parts.{parts_of};
 ghost use Rattle.cert_text.specs.Lines.{line_number, number_after, group_cause, groups_after, row_of, row_of_parts, row_in};
-ghost use Rattle.cert_text.specs.Reading.{Lasts};
+ghost use Rattle.cert_text.specs.Loops.{Lasts};
 
 use crate::cursor::cursor_in;
 use crate::fault::LineCause;

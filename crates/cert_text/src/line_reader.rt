@@ -2,7 +2,8 @@
 
 ghost use Rattle.std.specs.Prelude.{◌≡◌, IfErr};
 ghost use Rattle.cert_text.specs.declared.fault.ReadFault.TheVariants.{Memory};
-ghost use Rattle.cert_text.specs.Reading.{start, judge, lengthen, is_over, take_byte, step, run, ended, Turns, Reads, Gives};
+ghost use Rattle.cert_text.specs.Reading.{start, judge, lengthen, is_over, take_byte, step, run, ended, Gives};
+ghost use Rattle.cert_text.specs.Loops.{Turns, Reads};
 
 use crate::fault::{LineCause, LineFault, ReadFault};
 use crate::so_far::SoFar;

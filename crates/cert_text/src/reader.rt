@@ -4,7 +4,8 @@ ghost use Rattle.std.specs.Prelude.{◌≡◌, ◌++◌, ℕ, true, false, List,
 ghost use Rattle.cert_table.specs.Table.{CertView};
 ghost use Rattle.cert_text.specs.declared.fault.ReadFault.TheVariants.{Failed, Memory};
 ghost use Rattle.cert_text.specs.Grammar.{IsCertificateText};
-ghost use Rattle.cert_text.specs.Reading.{run, ended, reading, cert_fault, Reads, Gives, Answers, lasting, HasRead};
+ghost use Rattle.cert_text.specs.Reading.{run, ended, reading, cert_fault, Gives, Answers, lasting, HasRead};
+ghost use Rattle.cert_text.specs.Loops.{Reads};
 
 use crate::fault::ReadFault;
 use crate::line_reader::LineReader;

@@ -2,7 +2,8 @@
 
 ghost use Rattle.std.specs.Prelude.{◌≡◌, ◌≤◌, ◌+◌, length};
 ghost use Rattle.cert_text.specs.declared.stage.Stage.TheVariants.{Head, Rows};
-ghost use Rattle.cert_text.specs.Reading.{nothing, number_of, most_of, put, judge_at, judge_magic, judge_groups, judge_row, certificate_of, Says};
+ghost use Rattle.cert_text.specs.Reading.{nothing, number_of, most_of, put, judge_at, judge_magic, judge_groups, judge_row, certificate_of};
+ghost use Rattle.cert_text.specs.Loops.{Says};
 
 use crate::fault::{LineCause, LineFault};
 use crate::line::{groups_after, number_after, row_in};

@@ -1,4 +1,4 @@
--- Facts that hold between the turns of loops. No promise rests on them.
+-- Facts that hold between the turns of loops, and what functions that aren't exported say. No promise rests on them.
 use Rattle.std.specs.Prelude.{◌≡◌, ◌<◌, ℕ, false, List, length, get_or, ◌+◌, Bool, not, find, map}
 use Rattle.std.specs.Ordering.{is_lt}
 use Rattle.std.specs.declared.cmp.Ordering.TheVariants.{Less}

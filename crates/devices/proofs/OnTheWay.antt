@@ -5,7 +5,8 @@ use Rattle.std.proofs.lemmas.List.{take-append-le, append-nil}
 use Rattle.std.proofs.lemmas.Bool.Decides.{nat_tests}
 use Rattle.std.proofs.KnownBytes.{Appends-trans}
 use Rattle.std.specs.Io.KnownBytes.{Appends}
-use Rattle.devices.specs.Devices.{Seen, TookAll, TookPart, WroteWhole, WrotePart, IsOnItsWay, one_more}
+use Rattle.devices.specs.Devices.{Seen, TookAll, WroteWhole, WrotePart, IsOnItsWay, one_more}
+use Rattle.devices.specs.Loops.{TookPart}
 
 module _ (a b c : Seen) (xs ys : List ℕ) (first : TookAll a b xs) where
   more : TookAll b c ys → TookAll a c (xs ++ ys)

@@ -23,11 +23,6 @@ Flags old new r = MatchResult r (λ _. new.failed ≡ old.failed) (λ _. new.fai
 abbrev pub WritesSome : {E : Type 0} → Result ℕ E → List ℕ → Type 0
 WritesSome r bytes = IfOk r (λ n. (n ≤ length bytes) × (0 < length bytes → 0 < n))
 
--- n bytes, no more than asked for, were taken from the source and appended; none is the end
-abbrev pub IsPieceRead : ℕ → Seen → Seen → List ℕ → List ℕ → ℕ → Type 0
-IsPieceRead most old new before after n =
-    (piece : List ℕ) × (length piece ≡ n) × (n ≤ most) × (after ≡ before ++ piece) × Consumes old.bytes new.bytes piece × (n ≡ 0 → IsAtEnd new.bytes)
-
 -- bytes that the source gave, at most the limit; fewer are all that it had
 pub record IsWholeRead (limit : ℕ) (old new : Seen) (bytes : List ℕ) : Type 0 where
   pub within : length bytes ≤ limit
@@ -57,13 +52,6 @@ IsSourceFault limit old new Memory = TookWithin limit old new
 pub record TookAll (old new : Seen) (bytes : List ℕ) : Type 0 where
   pub taken : Appends old.bytes new.bytes bytes
   pub unbroken : new.failed ≡ false
-  pub unflushed : new.flushes ≡ old.flushes
-
--- the sink took the first n of the bytes, but not all, was not flushed and failed
-pub record TookPart (old new : Seen) (bytes : List ℕ) (n : ℕ) : Type 0 where
-  pub short : n < length bytes
-  pub taken : Appends old.bytes new.bytes (take n bytes)
-  pub broken : new.failed ≡ true
   pub unflushed : new.flushes ≡ old.flushes
 
 -- the first bytes of a text: the sink took `wrote` of them, and the others are kept

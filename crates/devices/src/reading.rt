@@ -1,5 +1,6 @@
 ghost use Rattle.std.specs.Prelude.{◌≡◌, ◌<◌, false, IfOk, OnOk, IfErr, IfSome, take};
-ghost use Rattle.devices.specs.Devices.{IsPieceRead, IsWholeRead, IsSourceFault};
+ghost use Rattle.devices.specs.Devices.{IsWholeRead, IsSourceFault};
+ghost use Rattle.devices.specs.Loops.{IsPieceRead};
 
 use crate::device::Source;
 use std::alloc::Global;

@@ -1,5 +1,6 @@
 ghost use Rattle.std.specs.Prelude.{◌≡◌, false, OnOk, IfErr};
-ghost use Rattle.devices.specs.Devices.{TookAll, TookPart, WroteWhole, WrotePart};
+ghost use Rattle.devices.specs.Devices.{TookAll, WroteWhole, WrotePart};
+ghost use Rattle.devices.specs.Loops.{TookPart};
 
 use crate::device::Sink;
 use thiserror::Error;

@@ -4,7 +4,8 @@ use Rattle.std.proofs.lemmas.Bool.{false≢true}
 use Rattle.std.proofs.lemmas.Bool.Decides.{nat_tests}
 use Rattle.std.specs.Borrow.{Bor}
 use Rattle.std.proofs.lemmas.List.{get_or-map}
-use Rattle.explain.specs.Words.{texts_of, IsSame, IsAmong}
+use Rattle.explain.specs.Words.{IsSame, IsAmong}
+use Rattle.explain.specs.Loops.{texts_of}
 use Rattle.explain.specs.declared.line.Sought.{Sought}
 use Rattle.explain.specs.declared.line.Sought.TheVariants.{Code, Capital, Any}
 use Rattle.explain.specs.Lines.{is_code, is_capital, is_word_at, is_word, HasWord}

@@ -1,13 +1,8 @@
 -- The words of a list, in any case of letters.
 use Rattle.std.specs.Prelude.{◌≡◌, ℕ, ◌<◌, List, [], length, map, get_or, ◌==◌, ◌&&◌, ◌||◌, Bool, true, false, ◌∷◌, if◌then◌else◌}
-use Rattle.std.specs.Borrow.{Bor}
 use Rattle.std.specs.Char.{to_ascii_lowercase, is_ascii_digit}
 use Rattle.explain.specs.Listed.{listed}
 use Rattle.std.specs.List.{flat_map, slice_split}
-
--- the bytes of each text
-abbrev pub texts_of : List (Bor (List ℕ)) → List (List ℕ)
-texts_of texts = map (λ text. text.now) texts
 
 -- the letters of a text as small ones
 abbrev pub lower : List ℕ → List ℕ

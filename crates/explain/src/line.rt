@@ -1,7 +1,7 @@
 //! The words in a line.
 
 ghost use Rattle.std.specs.Prelude.{◌≡◌, ◌↔◌, ◌≤◌, length, IsSome};
-ghost use Rattle.explain.specs.Words.{texts_of};
+ghost use Rattle.explain.specs.Loops.{texts_of};
 ghost use Rattle.explain.specs.Lines.{is_word_byte, is_edge, is_start, is_word_at, is_code, is_capital, is_long, is_sought, is_word, HasWordAt, HasWord};
 
 // Which words are sought, of two bytes at least.

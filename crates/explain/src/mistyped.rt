@@ -4,7 +4,8 @@ ghost use Rattle.std.specs.Prelude.{◌≡◌, IfOk, option_map};
 ghost use Rattle.std.specs.String.{string_bytes};
 ghost use Rattle.near_words.specs.Near.{nearest, IsNearest};
 ghost use Rattle.explain.specs.Listed.{listed};
-ghost use Rattle.explain.specs.Words.{lower, texts_of};
+ghost use Rattle.explain.specs.Words.{lower};
+ghost use Rattle.explain.specs.Loops.{texts_of};
 
 use crate::word::words;
 use near_words::Search;

@@ -4,7 +4,8 @@ ghost use Rattle.std.specs.Prelude.{◌≡◌, ◌↔◌, ◌⊎◌, true, IsSom
 ghost use Rattle.explain.specs.declared.line.Sought.TheVariants.{Any};
 ghost use Rattle.explain.specs.Lines.{HasWord};
 ghost use Rattle.explain.specs.Listed.{listed};
-ghost use Rattle.explain.specs.Words.{is_cursor, names_in_lines, texts_of, IsAmong, IsListed};
+ghost use Rattle.explain.specs.Words.{is_cursor, names_in_lines, IsAmong, IsListed};
+ghost use Rattle.explain.specs.Loops.{texts_of};
 
 use crate::cursor::is_cursor;
 use crate::line::{Sought, first_word};

@@ -1,5 +1,5 @@
 -- What is asked of a frame in each turn has an answer if and only if a fault is due that is there.
-use Rattle.std.proofs.Common.{◌≡◌, ◌<◌, ◌≤◌, ◌+◌, ◌-◌, ◌==◌, ℕ, nat_lt, List, Bool, true, false, cond, Option, option_map, refl, sym, ◌∙◌, ap, subst, arith}
+use Rattle.std.proofs.Common.{◌≡◌, ◌<◌, ◌≤◌, ◌+◌, ◌-◌, ◌==◌, ℕ, nat_lt, List, Bool, true, false, cond, Option, option_map, if◌then◌else◌, refl, sym, ◌∙◌, ap, subst, arith}
 use Rattle.std.proofs.Common as std
 use Rattle.std.proofs.lemmas.Bool.Decides.{nat_tests}
 use Rattle.std.proofs.lemmas.Option.{cond_some, same_Some}
@@ -28,7 +28,15 @@ use Rattle.fault_scripts.specs.declared.fault.FaultKind.TheVariants as kind
 use Rattle.fault_scripts.specs.declared.frame_fault.FrameFault.{FrameFault}
 use Rattle.fault_scripts.specs.declared.frame_fault.FrameFault.TheVariants.{Price, Touches, Missing, Closed, NoReturn}
 use Rattle.fault_scripts.specs.Faults.{KeyIsDue, IsDueAs, number_of, turn_of}
-use Rattle.fault_scripts.specs.FrameFaults.{fault_of, over_price, way_fault, is_far, return_fault, asked}
+use Rattle.fault_scripts.specs.Loops.{fault_of, over_price, way_fault, is_far, return_fault}
+
+-- what is asked in each of 14 turns: the price, the painting, the ways in their order, the way back
+abbrev pub asked : BaseView → Policy → Frame → Option ℕ → ℕ → Option FrameFault
+asked base policy frame rank turn =
+    if turn == 0 then over_price policy.ceiling frame.price
+    else if turn == 1 then option_map Touches (start_of frame.lead frame.body (paint_of frame.lead frame.body))
+    else if turn == 13 then return_fault policy.keyings rank
+    else way_fault (way_at (turn - 2)) (destination_of policy.groups base frame (way_at (turn - 2)))
 
 -- the way at a place has the place's number, and so has a way's key
 number_at : (n : ℕ) → n < 11 → number_of (std.Some (way_key (way_at n))) ≡ n

@@ -21,9 +21,8 @@ use Rattle.fault_scripts.specs.declared.frame_fault.FrameFault.{FrameFault}
 use Rattle.fault_scripts.specs.declared.frame_fault.FrameFault.TheVariants.{Price, Touches, Missing, Closed, NoReturn}
 use Rattle.fault_scripts.specs.declared.reporter.Reporter.{Reporter}
 use Rattle.fault_scripts.specs.Faults.{IsDue, IsOfPlace, StandsBefore, turn_of, turn_at, AreDue}
-use Rattle.fault_scripts.specs.FrameFaults.{fault_of, asked}
-use Rattle.fault_scripts.specs.Loops.{HasScript, IsDueBelow, IsReported, IsReporting}
-use Rattle.fault_scripts.proofs.Asked.{IsAnswer, asked_due, due_asked}
+use Rattle.fault_scripts.specs.Loops.{fault_of, HasScript, IsDueBelow, IsReported, IsReporting}
+use Rattle.fault_scripts.proofs.Asked.{asked, IsAnswer, asked_due, due_asked}
 use Rattle.fault_scripts.proofs.Discoveries.{listed_frame, listed_once}
 
 -- a fault names its frame
@@ -140,7 +139,7 @@ module _ (base : BaseView) (policy : Policy) (found : List Discovered) (finding 
     reported_more faults std.None e reported = subst (IsReported base policy found (p + 1)) (sym (append-nil faults)) (none_reported faults e reported)
     reported_more faults (std.Some wrong) e reported = one_reported faults wrong e reported
 
-    -- of the reporter
+    -- a reporter that adds the answer has reported those below the next place
     pub reporting_more : (old new : Reporter) (answer : Option FrameFault) → asked base policy frame d.rank turn ≡ answer
         → IsReporting base policy found p old → HasScript found new.at new.keys.items
         → new.faults.items ≡ old.faults.items ++ option_to_list (option_map mine answer)

@@ -1,4 +1,3 @@
-pub mod FrameFaults
 pub mod FaultLaws
 pub mod Outcomes
 pub mod Loops

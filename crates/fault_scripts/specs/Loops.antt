@@ -1,5 +1,5 @@
--- Facts that hold between the turns of loops. No promise rests on them.
-use Rattle.std.specs.Prelude.{◌≡◌, ◌≤◌, ◌⊎◌, ℕ, List, [], ◌∷◌, Option, Some, None, map, All, Contains, option_map, unwrap_or, ◌<◌, ◌*◌, length, take, AllPairs, IsPermutation}
+-- Facts that hold between the turns of loops, and what functions that aren't exported say. No promise rests on them.
+use Rattle.std.specs.Prelude.{◌≡◌, ◌≤◌, ◌⊎◌, ℕ, List, [], ◌∷◌, Option, Some, None, map, All, Contains, option_map, unwrap_or, ◌<◌, ◌*◌, length, take, AllPairs, IsPermutation, nat_lt, if◌then◌else◌, Bool, true}
 use Rattle.std.specs.List.{flat_map}
 use Rattle.page_ids.specs.Ids.{Id, id_cmp}
 use Rattle.frame_records.specs.declared.frame.Frame.{Frame}
@@ -16,10 +16,17 @@ use Rattle.finder.specs.Finds.{IsFinding, ScriptsExtend, script}
 use Rattle.fault_scripts.specs.declared.fault.Fault.{Fault}
 use Rattle.fault_scripts.specs.declared.frames.Judge.{Judge}
 use Rattle.fault_scripts.specs.declared.reporter.Reporter.{Reporter}
-use Rattle.fault_scripts.specs.Faults.{IsDue, StandsBefore, turn_at}
+use Rattle.fault_scripts.specs.Faults.{IsDue, StandsBefore, turn_at, plain_fault, price_fault, touch_fault, key_fault}
 use Rattle.std.specs.List.Sorted.{IsSortedByKey}
 use Rattle.cert_table.specs.Table.{CertView, table_fault}
 use Rattle.fault_scripts.specs.declared.table.GatheredRows as held
+use Rattle.page_ids.specs.Ways.{way_key}
+use Rattle.frame_records.specs.declared.ways.Destination.TheVariants as way
+use Rattle.fault_scripts.specs.declared.fault.FaultKind.TheVariants as kind
+use Rattle.fault_scripts.specs.declared.frame_fault.FrameFault.{FrameFault}
+use Rattle.fault_scripts.specs.declared.frame_fault.FrameFault.TheVariants as wrong
+use Rattle.page_ids.specs.declared.way.Way.{Way}
+use Rattle.frame_records.specs.declared.ways.Destination.{Destination}
 
 -- The rows of a certificate, gathered from discovered frames, with the greatest price and the greatest rank.
 
@@ -49,7 +56,7 @@ pub record IsMost (values : List ℕ) (most : ℕ) : Type 0 where
   pub at_most : All (λ v. v ≤ most) values
   pub some : Contains values most ⊎ (most ≡ 0)
 
--- of these discovered frames
+-- what is gathered from these discovered frames
 pub record IsGathered (base : BaseView) (frames : List Discovered) (t : GatheredRows) : Type 0 where
   pub rows : t.rows.items ≡ flat_map (row_at base) frames
   pub ceiling : IsMost (map (price_at base) frames) t.ceiling
@@ -85,7 +92,7 @@ pub record IsReporting (base : BaseView) (policy : Policy) (found : List Discove
   pub script : HasScript found t.at t.keys.items
   pub reported : IsReported base policy found place t.faults.items
 
--- of the first frames the faults have been reported, and the rows gathered
+-- the faults of the first frames have been reported, and their rows gathered
 pub record IsJudged (base : BaseView) (policy : Policy) (found : List Discovered) (done : ℕ) (j : Judge) : Type 0 where
   pub reporting : IsReporting base policy found (done * 14) j.reporter
   pub gathered : IsGathered base (take done found) j.table
@@ -114,3 +121,34 @@ pub record IsSortedTable (base : BaseView) (caller : List ℕ) (t : held.Gathere
   pub keyings : cert.keyings ≡ t.keyings
   pub groups : cert.groups ≡ caller
   pub rows : AreSortedRows t.rows.items cert.rows
+
+-- What is asked of a discovered frame, and what each answer is, for a caller of exactly the policy's groups.
+
+-- the fault of a frame to which the keys lead
+abbrev pub fault_of : Id → List Key → FrameFault → Fault
+fault_of id keys (wrong.Price price) = price_fault id keys price
+fault_of id keys (wrong.Touches start) = touch_fault id keys start
+fault_of id keys (wrong.Missing way to) = key_fault kind.Missing id keys (way_key way) to
+fault_of id keys (wrong.Closed way to) = key_fault kind.Closed id keys (way_key way) to
+fault_of id keys wrong.NoReturn = plain_fault kind.NoReturn id keys
+
+-- a price above the ceiling
+abbrev pub over_price : ℕ → ℕ → Option FrameFault
+over_price ceiling price = if nat_lt ceiling price then Some (wrong.Price price) else None
+
+-- a way, by its destination
+abbrev pub way_fault : Way → Destination → Option FrameFault
+way_fault w way.NotOffered = None
+way_fault w (way.Found to price) = None
+way_fault w (way.Closed to) = Some (wrong.Closed w to)
+way_fault w (way.Missing to) = Some (wrong.Missing w to)
+way_fault w (way.Outside page) = None
+
+-- the rank is above the keyings, or there is none
+abbrev pub is_far : ℕ → Option ℕ → Bool
+is_far keyings None = true
+is_far keyings (Some rank) = nat_lt keyings rank
+
+-- the way back
+abbrev pub return_fault : ℕ → Option ℕ → Option FrameFault
+return_fault keyings rank = if is_far keyings rank then Some wrong.NoReturn else None

@@ -2,7 +2,7 @@ ghost use Rattle.std.specs.Prelude.{◌≡◌, IfOk, option_map};
 ghost use Rattle.abstract_paint.specs.Paint.{paint_of};
 ghost use Rattle.abstract_paint.specs.Start.{start_of};
 ghost use Rattle.fault_scripts.specs.declared.frame_fault.FrameFault.TheVariants as wrong;
-ghost use Rattle.fault_scripts.specs.FrameFaults.{fault_of, over_price, way_fault, is_far, return_fault};
+ghost use Rattle.fault_scripts.specs.Loops.{fault_of, over_price, way_fault, is_far, return_fault};
 
 use crate::fault::{Fault, FaultKind};
 use abstract_paint::{Painted, Start, start_at};

@@ -3,8 +3,7 @@ ghost use Rattle.std.specs.Option.{option_to_list};
 ghost use Rattle.abstract_paint.specs.Paint.{paint_of};
 ghost use Rattle.finder.specs.Finds.{ScriptsExtend, script};
 ghost use Rattle.finder.specs.Survey.{IsFrameAt};
-ghost use Rattle.fault_scripts.specs.FrameFaults.{fault_of};
-ghost use Rattle.fault_scripts.specs.Loops.{HasScript, CanLead, IsReporting};
+ghost use Rattle.fault_scripts.specs.Loops.{fault_of, HasScript, CanLead, IsReporting};
 
 use crate::fault::Fault;
 use crate::frame_fault::{FrameFault, over_price, return_fault, touch_start, way_fault};

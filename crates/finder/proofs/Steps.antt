@@ -92,7 +92,7 @@ module _ (graph : Graph) where
       walker (suc n) h.0 a walk.0 h.1 walk.2
 
   module _ (s : Id) (starts : IsOf graph.start s) where
-    -- what the search comes to, walks lead to
+    -- if the search gets to a node, a walk leads to its frame
     pub comes_out : (f n : ℕ) (a : Id) → IsOf f a → Comes graph f n → WalkIn graph.direction caller base s a n
     comes_out f n a at = by graph.direction where
       by : (d : Direction) → NodeWalk graph (turned d graph.start f).0 (turned d graph.start f).1 n → WalkIn d caller base s a n

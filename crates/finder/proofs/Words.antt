@@ -22,13 +22,13 @@ pub use Rattle.frame_records.specs.WayLaws.{found_sought, frame_id, going, offer
 pub use Rattle.frame_records.specs.Ways.{Leads, destination, destination_by, destination_of, missing_by, offered_by, sought, sought_by}
 pub use Rattle.frame_records.specs.declared.frame.Frame.{Frame}
 pub use Rattle.smallvec.specs.SmallVec.{SmallVec}
-pub use Rattle.finder.specs.Loops.{AreMarked, AreNamed, IsDiscovery, IsListed, number, HasRank, IsClosed, IsSearch, AreNeighbours, HasNeighbour, AreJoined, IsListOf, AreRanks, IsFromEntry, AreNear, is_near}
+pub use Rattle.finder.specs.Loops.{AreMarked, IsDiscovery, IsListed, number, HasRank, IsClosed, IsSearch, AreNeighbours, HasNeighbour, AreJoined, IsListOf, AreRanks, IsFromEntry, AreNear, is_near}
+pub use Rattle.finder.specs.Survey.{AreNamed, SurveyView, id_at}
 pub use Rattle.finder.specs.Loops.Entries.{IsEntryNode}
 pub use Rattle.finder.specs.Finds.{FindsReached, HasFirstPair, HasPair, IsBefore, IsFinding, Pair, PairLeads, RanksAreLeast, ScriptsLead, keys_along, keys_back, parent_by, parent_of, script, EntryIsFound, IsRank, IsReached, KeysLead, Walk, WalkIn, IsWithin, AreWithin, IsNear, has_id}
 pub use Rattle.finder.specs.Loops.Walks.{Goes, IsNodeRank, NodeWalk, LeadsTo, IsStep, Comes, turned}
 pub use Rattle.finder.specs.Loops.Noted.{AreNotes, IsNote, IsSeen, IsSought, target_at}
-pub use Rattle.finder.specs.Survey.{SurveyView}
-pub use Rattle.finder.specs.Loops.WayTargets.{aim_of, AreTargets, IsTarget, aim_at, id_at, node_of}
+pub use Rattle.finder.specs.Loops.WayTargets.{aim_of, AreTargets, IsTarget, aim_at, node_of}
 pub use Rattle.finder.specs.declared.discover.Discovery.{Discovery}
 pub use Rattle.finder.specs.declared.found.Discovered.{Discovered}
 pub use Rattle.finder.specs.declared.direction.Direction.{Direction}

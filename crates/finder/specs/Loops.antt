@@ -1,4 +1,4 @@
--- Facts that hold between the turns of loops. No promise rests on them.
+-- Facts that hold between the turns of loops, and what functions that aren't exported say. No promise rests on them.
 pub mod WayTargets
 pub mod Noted
 pub mod Walks
@@ -12,13 +12,12 @@ use Rattle.std.specs.List.{AllWithin}
 use Rattle.finder.specs.declared.ranks.Ranked.{Ranked}
 use Rattle.page_ids.specs.Ids.{Id}
 use Rattle.page_ids.specs.Ways.{way_place}
-use Rattle.frame_records.specs.declared.frame.Frame.{Frame}
 use Rattle.frame_records.specs.Bases.{BaseView}
 use Rattle.frame_records.specs.Seek.{entry_of}
 use Rattle.finder.specs.declared.discover.Discovery.{Discovery}
 use Rattle.finder.specs.declared.found.Discovered.{Discovered}
 use Rattle.finder.specs.Finds.{Pair, HasPair, PairLeads, IsBefore, HasFirstPair, RanksAreLeast, Walk, IsRank, has_id}
-use Rattle.finder.specs.Loops.WayTargets.{id_at}
+use Rattle.finder.specs.Survey.{AreNamed, id_at}
 
 -- The neighbours of nodes in the direction of a search.
 
@@ -111,12 +110,6 @@ pub record IsDiscovery (caller : List ℕ) (base : BaseView) (done : ℕ) (found
   pub listing : IsListing caller base found
   pub before : All (λ d. (p : Pair) → HasPair d p → number p < done) found
   pub closed : (p : Pair) (id : Id) → PairLeads caller base found p id → number p < done → Any (λ d. d.id ≡ id) found
-
--- each listed frame is that of its node
-pub record AreNamed (frames : List Frame) (nodes : List ℕ) (found : List Discovered) : Type 0 where
-  pub each : (i node : ℕ) (d : Discovered) → slice_get nodes i ≡ Some node → slice_get found i ≡ Some d
-      → id_at frames node ≡ Some d.id
-  pub as_many : length found ≡ length nodes
 
 -- exactly the listed nodes are marked
 pub record AreMarked (graph : Graph) (nodes : List ℕ) (listed : List Bool) : Type 0 where

@@ -1,5 +1,6 @@
 ghost use Rattle.std.specs.Prelude.{◌≡◌, ◌<◌, ◌≤◌, ◌+◌, ◌*◌, ◌⊎◌, ◌++◌, ◌∷◌, [], ℕ, Some, None, true, false, Contains, OnOk, IfOk, IfSome, IfNone, slice_get, set, length, get_or};
-ghost use Rattle.finder.specs.Loops.{AreNamed, AreRanks, IsFromEntry, IsListed};
+ghost use Rattle.finder.specs.Loops.{AreRanks, IsFromEntry, IsListed};
+ghost use Rattle.finder.specs.Survey.{AreNamed};
 ghost use Rattle.finder.specs.Loops.Entries.{discovered_of};
 ghost use Rattle.finder.specs.Finds.{FindsReached, RanksAreLeast, EntryIsFound};
 

@@ -1,7 +1,7 @@
 //! The frames of a base as a graph, with the ways that find open frames: a node is a frame's position in the base.
 
 ghost use Rattle.std.specs.Prelude.{◌≡◌, ◌<◌, ℕ, Some, IfSome, IfNone};
-ghost use Rattle.finder.specs.Loops.WayTargets.{id_at};
+ghost use Rattle.finder.specs.Survey.{id_at};
 
 use crate::direction::Direction;
 use crate::table::WayTable;

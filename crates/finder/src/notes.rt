@@ -6,7 +6,8 @@ ghost use Rattle.frame_records.specs.Bases.{IsBase, frame_among};
 ghost use Rattle.frame_records.specs.Seek.{is_open};
 ghost use Rattle.frame_records.specs.Ways.{missing_by};
 ghost use Rattle.finder.specs.Loops.Noted.{target_at, IsOf, AreNotes, IsSought};
-ghost use Rattle.finder.specs.Loops.WayTargets.{aim_of, aim_at, id_at, node_of, IsTarget};
+ghost use Rattle.finder.specs.Loops.WayTargets.{aim_of, aim_at, node_of, IsTarget};
+ghost use Rattle.finder.specs.Survey.{id_at};
 
 use crate::target::Target;
 use frame_records::{Base, Frame, Groups};

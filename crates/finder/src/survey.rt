@@ -28,8 +28,7 @@ pub struct Survey<'a> {
 }
 
 impl<'a> Model for Survey<'a> {
-    ghost use Rattle.finder.specs.Loops.{AreNamed};
-    ghost use Rattle.finder.specs.Survey.{SurveyView};
+    ghost use Rattle.finder.specs.Survey.{AreNamed, SurveyView};
 
     ghost Value = { SurveyView };
 

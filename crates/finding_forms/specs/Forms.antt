@@ -21,10 +21,6 @@ ArePrinted format path text [] out = out ≡ []
 ArePrinted format path text (f ∷ fs) out =
     (one : List ℕ) × (rest : List ℕ) × IsPrinted format path text f one × ArePrinted format path text fs rest × (out ≡ one ++ rest)
 
--- what is appended of a finding
-abbrev pub AddsPrinted : Format → List ℕ → List ℕ → FindingView → List ℕ → List ℕ → Type 0
-AddsPrinted format path text f old new = (one : List ℕ) × IsPrinted format path text f one × (new ≡ old ++ one)
-
 -- each form but `full` writes one line for a finding
 abbrev pub is_one_line : Format → Bool
 is_one_line Full = false

@@ -52,8 +52,3 @@ pub record IsCommand (path text : List ℕ) (f : FindingView) (line : List ℕ) 
   pub hint : Option (List ℕ)
   pub is : line ≡ command_text (line_of path) (extent text f.span) f.level f.words hint
   pub is_line : IsLine line
-
--- what is appended of a finding
-abbrev pub AddsCommand : List ℕ → List ℕ → FindingView → List ℕ → List ℕ → Type 0
-AddsCommand path text f old new =
-    (line : List ℕ) × IsCommand path text f line × (new ≡ old ++ (line ++ codes "\n"))

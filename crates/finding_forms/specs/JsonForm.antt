@@ -1,5 +1,5 @@
 -- The form `json`.
-use Rattle.std.specs.Prelude.{◌≡◌, ℕ, List, ◌++◌, codes, count_by, ◌==◌, Option, Some, None}
+use Rattle.std.specs.Prelude.{◌≡◌, ℕ, List, codes, count_by, ◌==◌, Option, Some, None}
 use Rattle.std.specs.Str.Lossy.{utf8_lossy}
 use Rattle.serde_json.specs.Data.{Data, null, string, number, unsigned, object, member, no_members}
 use Rattle.serde_json.specs.Written.{compact_text}
@@ -46,8 +46,3 @@ pub record IsObject (path text : List ℕ) (f : FindingView) (line : List ℕ) :
   pub hint : Option (List ℕ)
   pub is : line ≡ compact_text (object_data (utf8_lossy path) (extent text f.span) f.level f.words hint)
   pub no_feed : count_by (λ byte. byte == 10) line ≡ 0
-
--- what is appended of a finding
-abbrev pub AddsObject : List ℕ → List ℕ → FindingView → List ℕ → List ℕ → Type 0
-AddsObject path text f old new =
-    (line : List ℕ) × IsObject path text f line × (new ≡ old ++ (line ++ codes "\n"))

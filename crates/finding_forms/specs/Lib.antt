@@ -5,3 +5,4 @@ pub mod GithubForm
 pub mod JsonForm
 pub mod Forms
 pub mod Laws
+pub mod Loops

@@ -49,8 +49,3 @@ pub record IsFindingLine (path text : List ℕ) (f : FindingView) (line : List �
   pub hint : Option (List ℕ)
   pub is : line ≡ line_text (line_of path) (begin_of text f.span) f.level f.words hint
   pub is_line : IsLine line
-
--- what is appended of a finding
-abbrev pub AddsLine : List ℕ → List ℕ → FindingView → List ℕ → List ℕ → Type 0
-AddsLine path text f old new =
-    (line : List ℕ) × IsFindingLine path text f line × (new ≡ old ++ (line ++ codes "\n"))

@@ -3,7 +3,8 @@
 ghost use Rattle.std.specs.Prelude.{◌≡◌, ℕ, List, IfOk, OnOk, length, true};
 ghost use Rattle.std.specs.Str.Lossy.{utf8_lossy};
 ghost use Rattle.lint_words.specs.Lines.{line_of};
-ghost use Rattle.finding_forms.specs.Forms.{AddsPrinted, ArePrinted, is_one_line};
+ghost use Rattle.finding_forms.specs.Forms.{ArePrinted, is_one_line};
+ghost use Rattle.finding_forms.specs.Loops.{AddsPrinted};
 ghost use Rattle.finding_forms.specs.declared.format.Format.TheVariants.{Full};
 ghost use Rattle.finding_forms.specs.Laws.{AreWholeLines};
 

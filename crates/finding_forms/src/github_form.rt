@@ -3,6 +3,7 @@
 ghost use Rattle.std.specs.Prelude.{◌≡◌, ◌++◌, ℕ, List, codes, decimal, option_copied, OnOk, IfSome};
 ghost use Rattle.lint_words.specs.Lines.{IsLine, line_of};
 ghost use Rattle.finding_forms.specs.GithubForm as spec;
+ghost use Rattle.finding_forms.specs.Loops as loops;
 
 use crate::line_form::{level_text, push_code};
 use lint::{Finding, Level};
@@ -162,7 +163,7 @@ pub fn push_command(
     finding: &Finding,
 ) -> Result<(), AllocError>
     ensures { OnOk result ((bytes : List ℕ) → path.now ≡ line_of bytes
-        → spec.AddsCommand bytes lines.now finding.now out.old.items out.new.items) }
+        → loops.AddsCommand bytes lines.now finding.now out.old.items out.new.items) }
 {
     let extent = lines.extent(finding.span);
     let words = &finding.words;

@@ -5,6 +5,7 @@ ghost use Rattle.std.specs.Str.Lossy.{utf8_lossy};
 ghost use Rattle.serde_json.specs.View.{view};
 ghost use Rattle.serde_json.specs.Written.{compact_text};
 ghost use Rattle.finding_forms.specs.JsonForm as spec;
+ghost use Rattle.finding_forms.specs.Loops as loops;
 
 use crate::line_form::level_text;
 use lint::{Finding, Level};
@@ -99,7 +100,7 @@ pub fn push_object(
     finding: &Finding,
 ) -> Result<(), AllocError>
     ensures { OnOk result ((bytes : List ℕ) → file.now ≡ utf8_lossy bytes
-        → spec.AddsObject bytes lines.now finding.now out.old.items out.new.items) }
+        → loops.AddsObject bytes lines.now finding.now out.old.items out.new.items) }
 {
     let extent = lines.extent(finding.span);
     let words = &finding.words;

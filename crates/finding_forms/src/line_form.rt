@@ -2,7 +2,8 @@
 
 ghost use Rattle.std.specs.Prelude.{◌≡◌, ◌++◌, ◌∷◌, [], ℕ, List, length, IfOk, OnOk, IfSome, option_copied, codes, decimal};
 ghost use Rattle.lint_words.specs.Lines.{IsLine, line_of};
-ghost use Rattle.finding_forms.specs.LineForm.{level_text, begin_of, place_text, code_text, hint_text, words_text, line_text, AddsLine};
+ghost use Rattle.finding_forms.specs.LineForm.{level_text, begin_of, place_text, code_text, hint_text, words_text, line_text};
+ghost use Rattle.finding_forms.specs.Loops.{AddsLine};
 
 use lint::{Finding, Level};
 use lint_words::{Code, Line, Words};

@@ -12,7 +12,8 @@ use Rattle.page_ids.specs.Ids.{Id, id_cmp}
 use Rattle.frame_records.specs.declared.frame.Frame.{Frame}
 use Rattle.frame_records.specs.declared.build.BuildFault.{BuildFault}
 use Rattle.frame_records.specs.declared.build.BuildFault.TheVariants.{TooMany, BodyTooLong, NextAfterZ, Duplicate, OutsideInside}
-use Rattle.frame_records.specs.Bases.{IsBase, are_too_many, is_body_long, is_next_after_z, NoFrame, has_page, IsLeastId, frames_with, NoneTwice, IsLeastTwice, NoneInside, IsLeastInside, IsBuildFault, IsUnrefused, IsBaseOf, AreSorted}
+use Rattle.frame_records.specs.Bases.{IsBase, are_too_many, is_body_long, is_next_after_z, NoFrame, has_page, IsLeastId, frames_with, NoneTwice, IsLeastTwice, NoneInside, IsLeastInside, IsBuildFault, IsBaseOf}
+use Rattle.frame_records.specs.Loops.{IsUnrefused, AreSorted}
 use Rattle.frame_records.specs.WayLaws.{apart_from_none}
 use Rattle.frame_records.proofs.SortedFrames.{none_twice}
 

@@ -5,7 +5,7 @@ use Rattle.std.specs.declared.cmp.Ordering.{Ordering}
 use Rattle.std.specs.declared.cmp.Ordering.TheVariants.{Less, Equal, Greater}
 use Rattle.std.specs.Ordering.{nat_cmp, is_lt}
 use Rattle.std.specs.List.{AllAdjacentBelow, list_any}
-use Rattle.std.specs.List.Sorted.{IsStrictlyIncreasing, IsSortedByKey}
+use Rattle.std.specs.List.Sorted.{IsStrictlyIncreasing}
 use Rattle.page_ids.specs.Ids.{Id, id_cmp, id_eq}
 use Rattle.frame_records.specs.declared.frame.Frame.{Frame}
 use Rattle.frame_records.specs.declared.build.BuildFault.{BuildFault}
@@ -167,22 +167,6 @@ IsBuildFault outside frames (BodyTooLong id) = (are_too_many outside frames ≡ 
 IsBuildFault outside frames (NextAfterZ id) = (are_too_many outside frames ≡ false) × NoFrame is_body_long frames × IsLeastId is_next_after_z frames id
 IsBuildFault outside frames (Duplicate id) = (are_too_many outside frames ≡ false) × NoFrame is_body_long frames × NoFrame is_next_after_z frames × IsLeastTwice frames id
 IsBuildFault outside frames (OutsideInside page) = (are_too_many outside frames ≡ false) × NoFrame is_body_long frames × NoFrame is_next_after_z frames × NoneTwice frames × IsLeastInside outside frames page
-
--- the lists sorted in place: the same frames, and the same pages, each once
-pub record AreSorted (outside pages : List ℕ) (frames sorted : List Frame) : Type 0 where
-  pub same_pages : (page : ℕ) → Contains pages page ↔ Contains outside page
-  pub pages_ascend : IsStrictlyIncreasing pages
-  pub same_frames : IsPermutation frames sorted
-  pub frames_sorted : IsSortedByKey (λ f. f.id) id_cmp sorted
-  pub few : are_too_many outside frames ≡ false
-  pub still_few : are_too_many pages sorted ≡ false
-
--- frames in order, and none of the refusals but the first
-pub record IsUnrefused (outside : List ℕ) (frames : List Frame) : Type 0 where
-  pub short : NoFrame is_body_long frames
-  pub no_next_after_z : NoFrame is_next_after_z frames
-  pub ascending : IsAscending frames
-  pub none_inside : NoneInside outside frames
 
 -- no refusal applies, and the base has the entry and just these frames and pages, in order
 pub record IsBaseOf (entry : ℕ) (outside : List ℕ) (frames : List Frame) (base : BaseView) : Type 0 where

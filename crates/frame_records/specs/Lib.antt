@@ -4,3 +4,4 @@ pub mod Ways
 pub mod Bases
 pub mod WayLaws
 pub mod Steps
+pub mod Loops

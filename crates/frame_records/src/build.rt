@@ -1,7 +1,8 @@
 ghost use Rattle.std.specs.Prelude.{◌≡◌, false, IfSome, IfNone, MatchOption, find, option_map};
 ghost use Rattle.std.specs.List.Sorted.{IsSortedByKey, IsStrictlyIncreasing};
 ghost use Rattle.page_ids.specs.Ids.{id_cmp};
-ghost use Rattle.frame_records.specs.Bases.{IsAscending, has_page, are_too_many, is_body_long, is_next_after_z, IsLeastTwice, IsBuildFault, IsUnrefused, AreSorted};
+ghost use Rattle.frame_records.specs.Bases.{IsAscending, has_page, are_too_many, is_body_long, is_next_after_z, IsLeastTwice, IsBuildFault};
+ghost use Rattle.frame_records.specs.Loops.{IsUnrefused, AreSorted};
 
 use crate::frame::Frame;
 use crate::limits::{MOST_BODY, MOST_LISTED};

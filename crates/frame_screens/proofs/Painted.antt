@@ -15,7 +15,8 @@ use Rattle.finder.specs.Survey.{SurveyView, IsFrameAt}
 use Rattle.finder.proofs.Lists.{at_push, at_within}
 use Rattle.frame_screens.specs.Screens.{new_terminal, with_frame, with_frames, and_record, records, last_record}
 use Rattle.frame_screens.specs.Laws.{LooksSame}
-use Rattle.frame_screens.specs.Painted.{frames_to, before_by, IsAfter, IsBefore, IsKept, AreKept}
+use Rattle.frame_screens.specs.Painted.{frames_to, IsAfter, IsKept, AreKept}
+use Rattle.frame_screens.specs.Loops.{before_by, IsBefore}
 use Rattle.frame_screens.proofs.Rows.{cleared, frames_alike, in_turn, new_is_screen}
 use Rattle.frame_screens.proofs.Ways.{earlier_by, last_sent, way_begins}
 

@@ -13,7 +13,7 @@ use Rattle.finder.specs.declared.found.Discovered.{Discovered}
 use Rattle.finder.specs.Finds.{FindsReached}
 use Rattle.finder.proofs.Lists.{pairs_at}
 use Rattle.frame_screens.specs.Frames.{place_of}
-use Rattle.frame_screens.specs.Gallery.{if_before}
+use Rattle.frame_screens.specs.Loops.{if_before}
 
 -- below a number and below the next one
 nat_lt_more : (k i : ℕ) → k ≢ i → nat_lt k i ≡ nat_lt k (i + 1)

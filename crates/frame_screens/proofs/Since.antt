@@ -11,7 +11,8 @@ use Rattle.frame_records.specs.declared.frame.Lead.{Lead}
 use Rattle.frame_records.specs.declared.frame.Lead.TheVariants.{Clear, Keep}
 use Rattle.frame_records.specs.Bases.{BaseView, frame_at}
 use Rattle.terminal_codes.specs.Screen.{Screen}
-use Rattle.frame_screens.specs.Screens.{new_terminal, with_frame, with_frames, and_record, records, is_clearing, clears_by, clears, since_clear}
+use Rattle.frame_screens.specs.Screens.{new_terminal, with_frame, with_frames, and_record, records, is_clearing}
+use Rattle.frame_screens.specs.Loops.{clears_by, clears, since_clear}
 use Rattle.frame_screens.specs.Laws.{LooksSame}
 use Rattle.frame_screens.proofs.Rows.{cleared}
 

@@ -1,5 +1,5 @@
 -- The screens of all frames of a base.
-use Rattle.std.specs.Prelude.{◌≡◌, ℕ, List, Option, Some, None, nat_lt, if◌then◌else◌}
+use Rattle.std.specs.Prelude.{◌≡◌, ℕ, List, Option}
 use Rattle.indexmap.specs.IndexMap.{get}
 use Rattle.page_ids.specs.Ids.{Id, id_eq}
 use Rattle.frame_records.specs.Bases.{BaseView}
@@ -13,11 +13,6 @@ use Rattle.frame_screens.specs.declared.places.Places.{Places}
 -- the place that is held of a frame
 abbrev pub place_held : Places → Id → Option ℕ
 place_held places id = get id_eq places.map id
-
--- the place, if it is before another one
-abbrev pub if_before : ℕ → Option ℕ → Option ℕ
-if_before done None = None
-if_before done (Some place) = if nat_lt place done then Some place else None
 
 -- The screens.
 

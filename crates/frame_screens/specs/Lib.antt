@@ -3,3 +3,4 @@ pub mod Screens
 pub mod Laws
 pub mod Painted
 pub mod Gallery
+pub mod Loops

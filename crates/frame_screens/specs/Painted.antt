@@ -1,11 +1,10 @@
 -- Terminals after frames that are reached, each made from its parent's.
-use Rattle.std.specs.Prelude.{◌≡◌, ℕ, List, Option, Some, None, Box, [], length, slice_get}
+use Rattle.std.specs.Prelude.{◌≡◌, ℕ, List, Option, Some, None, Box, length, slice_get}
 use Rattle.std.specs.declared.alloc.Global.{Global}
 use Rattle.page_ids.specs.Ids.{Id}
 use Rattle.frame_records.specs.declared.frame.Frame.{Frame}
 use Rattle.frame_records.specs.declared.frame.Lead.TheVariants.{Clear}
 use Rattle.terminal_codes.specs.Screen.{Screen, IsScreen}
-use Rattle.finder.specs.declared.found.Discovered.{Discovered}
 use Rattle.finder.specs.Finds.{FindsReached, script}
 use Rattle.finder.specs.Survey.{SurveyView, IsFrameAt}
 use Rattle.frame_screens.specs.Frames.{frames_sent}
@@ -20,15 +19,6 @@ frames_to s place = frames_sent s.groups s.base (script s.found place)
 pub record IsAfter (s : SurveyView) (place : ℕ) (t : Screen) : Type 0 where
   pub screen : IsScreen t
   pub same : LooksSame t (with_frames new_terminal (records s.base (frames_to s place)))
-
--- a terminal that looks the same as the one on which the frame at a place is sent
-abbrev pub before_by : SurveyView → Option ℕ → List Id
-before_by s None = []
-before_by s (Some parent) = frames_to s parent
-
-pub record IsBefore (s : SurveyView) (place : ℕ) (t : Screen) : Type 0 where
-  pub screen : IsScreen t
-  pub same : (d : Discovered) → slice_get s.found place ≡ Some d → LooksSame t (with_frames new_terminal (records s.base (before_by s d.parent)))
 
 -- the terminal after the frame at a place; none is kept if the frame clears
 abbrev pub IsKept : SurveyView → ℕ → Option (Box Screen Global) → Type 0

@@ -1,6 +1,5 @@
 -- The screen after frames, and the centre's rows.
-use Rattle.std.specs.Prelude.{ℕ, ◌-◌, List, [], ◌∷◌, ◌++◌, Option, Some, None, Bool, true, false, codes, decimal, drop, length, replicate, take, option_and_then, if◌then◌else◌}
-use Rattle.std.specs.List.{list_any}
+use Rattle.std.specs.Prelude.{ℕ, ◌-◌, List, [], ◌∷◌, ◌++◌, Option, Some, None, Bool, true, false, codes, decimal, drop, length, replicate, take, option_and_then}
 use Rattle.page_ids.specs.Ids.{Id, frame_text}
 use Rattle.frame_records.specs.declared.frame.Frame.{Frame}
 use Rattle.frame_records.specs.declared.frame.Lead.{Lead}
@@ -38,19 +37,6 @@ records base (id ∷ ids) = and_record (records base ids) (frame_at base id)
 abbrev pub is_clearing : Lead → Bool
 is_clearing Clear = true
 is_clearing Keep = false
-
--- a frame that the base lacks clears nothing
-abbrev pub clears_by : Option Frame → Bool
-clears_by None = false
-clears_by (Some f) = is_clearing f.lead
-
-abbrev pub clears : BaseView → Id → Bool
-clears base id = clears_by (frame_at base id)
-
--- the frames from the last that clears on; all if none does
-abbrev pub since_clear : BaseView → List Id → List Id
-since_clear base [] = []
-since_clear base (id ∷ ids) = if list_any (clears base) ids then since_clear base ids else id ∷ ids
 
 -- What the centre paints: row 0 with the frame's id and price, and an empty row 23.
 

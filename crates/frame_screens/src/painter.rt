@@ -3,7 +3,8 @@
 ghost use Rattle.std.specs.Prelude.{◌≡◌, ◌<◌, ◌≤◌, IfOk, Some, length, slice_get};
 ghost use Rattle.finder.specs.Finds.{FindsReached};
 ghost use Rattle.frame_screens.specs.Screens.{screen_codes};
-ghost use Rattle.frame_screens.specs.Painted.{frames_to, IsAfter, IsBefore, IsKept, AreKept};
+ghost use Rattle.frame_screens.specs.Painted.{frames_to, IsAfter, IsKept, AreKept};
+ghost use Rattle.frame_screens.specs.Loops.{IsBefore};
 
 use crate::header::screen_with;
 use crate::sending::send;

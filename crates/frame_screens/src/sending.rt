@@ -1,6 +1,7 @@
 ghost use Rattle.std.specs.Prelude.{◌≡◌};
 ghost use Rattle.frame_screens.specs.Laws.{LooksSame};
-ghost use Rattle.frame_screens.specs.Screens.{new_terminal, with_frame, with_frames, records, clears, since_clear};
+ghost use Rattle.frame_screens.specs.Screens.{new_terminal, with_frame, with_frames, records};
+ghost use Rattle.frame_screens.specs.Loops.{clears, since_clear};
 
 use crate::list::FrameList;
 use frame_records::{Base, Frame, Lead};

@@ -16,7 +16,8 @@ use Rattle.frame_records.specs.Bases.{BaseView}
 use Rattle.toml_places.specs.Places.{marks}
 use Rattle.lint.specs.Findings.{FindingView}
 use Rattle.base_text.proofs.KeptDetails.{begin_alike}
-use Rattle.lint.specs.Lint.{Subject, Length, Toml, IsNotToml, finding_of, faulty, text_finding, whole_finding, tables_of, tree_tables, AreSubjects, AreSubjectsIf, AreTreeSubjects, AreAuditFindings, IsDraftOf, IsListed, IsRefused, IsJudgedBy, IsJudged}
+use Rattle.lint.specs.Lint.{Subject, Length, Toml, finding_of, faulty, text_finding, whole_finding, tables_of, tree_tables, AreSubjects, AreSubjectsIf, AreTreeSubjects, AreAuditFindings, IsJudgedBy, IsJudged}
+use Rattle.lint.specs.Loops.{IsNotToml, IsDraftOf, IsListed, IsRefused}
 use Rattle.lint.proofs.Readings.{nothing, something}
 
 -- what is wrong with a text that isn't too long is what is wrong with its tree

@@ -19,7 +19,8 @@ use Rattle.base_text.proofs.DraftTables.{tables_of_frames}
 use Rattle.base_text.proofs.KeptDetails.{begin_alike}
 use Rattle.base_text.proofs.SoundFrames as lemmas
 use Rattle.base_text.proofs.WholeAgreements.{all_agree}
-use Rattle.lint.specs.Lint.{Subject, Length, Toml, Text, Whole, faulty, AreTreeSubjects, AreSubjects, IsRefused}
+use Rattle.lint.specs.Lint.{Subject, Length, Toml, Text, Whole, faulty, AreTreeSubjects, AreSubjects}
+use Rattle.lint.specs.Loops.{IsRefused}
 use Rattle.lint.specs.Laws.{IsAnswer, answer_of}
 
 -- the refusal of a whole that has the cause

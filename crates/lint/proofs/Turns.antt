@@ -4,7 +4,8 @@ use Rattle.std.specs.Prelude.{Option, flat_map}
 use Rattle.std.proofs.lemmas.List.{drop_more}
 use Rattle.toml_places.specs.Places.{Mark}
 use Rattle.lint.specs.Findings.{FindingView}
-use Rattle.lint.specs.Tables.{TableView, IsTable, table_at}
+use Rattle.lint.specs.Tables.{TableView, table_at}
+use Rattle.lint.specs.Loops.{IsTable}
 
 module _ {X : Type 0} (xs : List X) (i : ℕ) (x : X) (below : i < length xs) (is : x ≡ get_or xs i x) where
   left : drop i xs ≡ x ∷ drop (i + 1) xs

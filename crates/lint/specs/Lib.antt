@@ -6,3 +6,4 @@ pub mod Spots
 pub mod Lint
 pub mod Findings
 pub mod Laws
+pub mod Loops

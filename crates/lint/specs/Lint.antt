@@ -2,8 +2,7 @@
 use Rattle.std.specs.Prelude.{◌≡◌, ◌≤◌, ℕ, ◌==◌, Bool, true, false, ◌&&◌, List, [], ◌∷◌, ◌++◌, map, flat_map, if◌then◌else◌, Option, Some, None, unwrap_or, is_none, option_and_then, nat_lt, length, zip, filter}
 use Rattle.page_ids.specs.Ids.{Id}
 use Rattle.frame_records.specs.declared.frame.Frame.{Frame}
-use Rattle.frame_records.specs.declared.build.BuildFault.{BuildFault}
-use Rattle.frame_records.specs.Bases.{BaseView, frame_at, IsBaseOf, IsBuildFault}
+use Rattle.frame_records.specs.Bases.{BaseView, frame_at}
 use Rattle.frame_records.specs.Seek.{is_open}
 use Rattle.checker.specs.declared.policy.Policy.{Policy}
 use Rattle.finder.specs.declared.found.Discovered.{Discovered}
@@ -16,11 +15,9 @@ use Rattle.lint_words.specs.declared.fault_words.Judged.{Judged}
 use Rattle.lint_words.specs.FaultWords.{fault_words, unreached_words, none_reached_words}
 use Rattle.lint_words.specs.WarningWords.{hidden_words, line_end_words, escape_words}
 use Rattle.lint_words.specs.WordsOf.{WordsView}
-use Rattle.lint.specs.declared.audit_findings.Audit.{Audit}
-use Rattle.lint.specs.declared.audit_findings.Sources.{Sources}
 use Rattle.lint.specs.Findings.{FindingView, error_at, warning_at, AreInOrder}
-use Rattle.lint.specs.Lookups.{value_of, Knows}
-use Rattle.lint.specs.Tables.{TableView, KnowsTables, empty_at, frame_whole, table_at, id_place}
+use Rattle.lint.specs.Lookups.{value_of}
+use Rattle.lint.specs.Tables.{TableView, empty_at, frame_whole, table_at, id_place}
 use Rattle.lint.specs.declared.looks.Look.{Look}
 use Rattle.lint.specs.declared.looks.Look.TheVariants.{Hidden, Escape, EndsLine}
 use Rattle.lint.specs.Looks.{looks_of}
@@ -58,21 +55,6 @@ finds_none (d ∷ ds) = false
 
 abbrev pub ids_of : List Frame → List Id
 ids_of frames = map (λ f. f.id) frames
-
--- the faults of a base, and what is reached of it
-pub record IsAudit (base : BaseView) (policy : Policy) (audit : Audit) : Type 0 where
-  pub found : List Discovered
-  pub faults : AreFaults base policy audit.faults
-  pub reached : FindsReached policy.groups base found
-  pub least : RanksAreLeast policy.groups base found
-  pub known : Knows (ranks_of found) audit.ranks
-  pub finds_none : audit.finds_none ≡ finds_none found
-  pub unreached : audit.unreached.items ≡ ids_of (unreached policy.groups (ranks_of found) base.frames)
-  pub looks : audit.looks.items ≡ looks_of base.frames
-
-abbrev pub is_clear : List Fault → List Id → List (Id × Look) → Bool
-is_clear [] [] [] = true
-is_clear faults ids looks = false
 
 abbrev pub table_of : List (Id × ℕ) → Id → ℕ
 table_of tables id = unwrap_or (value_of tables id) 0
@@ -128,11 +110,6 @@ look_finding text ms tables p = look_in (table_at text ms (Some (table_of tables
 
 abbrev pub look_findings : List ℕ → List Mark → List (Id × ℕ) → List (Id × Look) → List FindingView
 look_findings text ms tables looks = flat_map (look_finding text ms tables) looks
-
--- what the sources know
-pub record AreKnown (ms : List Mark) (tables : List (Id × ℕ)) (sources : Sources) : Type 0 where
-  pub places : KnowsTables ms sources.text.now
-  pub knows : Knows tables sources.tables
 
 -- each fault of a base, then each frame that no key reaches or their number, and then what is wrong with what frames show
 pub record AreAuditFindings (text : List ℕ) (ms : List Mark) (tables : List (Id × ℕ)) (base : BaseView) (policy : Policy) (findings : List FindingView) : Type 0 where
@@ -230,21 +207,3 @@ IsJudged text policy findings = (subjects : List Subject) × AreSubjects text su
 -- the findings in the order of where they begin
 abbrev pub IsLint : List ℕ → Policy → List FindingView → Type 0
 IsLint text policy findings = (judged : List FindingView) × IsJudged text policy judged × AreInOrder judged findings
-
--- What the steps of lint say.
-
-abbrev pub IsNotToml : List ℕ → List FindingView → Type 0
-IsNotToml text findings =
-    (span : Span) × (message : List ℕ) × IsWithin text span × (findings ≡ map (finding_of text) (Toml span message ∷ []))
-
--- the base of what a draft without a fault lists
-abbrev pub IsListed : List TextFault → Option ℕ → List ℕ → List Frame → BaseView → Type 0
-IsListed faults entry outside frames base = (faults ≡ []) × (e : ℕ) × (entry ≡ Some e) × IsBaseOf e outside frames base
-
--- if a draft has no fault, what it lists is refused as a whole
-abbrev pub IsRefused : List TextFault → Option ℕ → List ℕ → List Frame → Type 0
-IsRefused faults entry outside frames = faults ≡ [] → (e : ℕ) → entry ≡ Some e → (fault : BuildFault) × IsBuildFault outside frames fault
-
--- the draft of the TOML of a text that isn't too long
-abbrev pub IsDraftOf : List ℕ → DraftView → Type 0
-IsDraftOf text draft = (ms : Members) × (nat_lt MOST_TEXT (length text) ≡ false) × (tree_of text ≡ Some ms) × (draft ≡ draft_of ms)

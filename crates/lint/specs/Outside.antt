@@ -1,7 +1,6 @@
 -- Which element of `outside` a page is.
-use Rattle.std.specs.Prelude.{ℕ, zero, suc, ◌+◌, ℤ, pos, Bool, false, ◌==◌, nat_le, nat_eq, if◌then◌else◌, List, Option, Some, None, option_and_then, ◌≡◌}
+use Rattle.std.specs.Prelude.{ℕ, zero, suc, ◌+◌, ℤ, pos, Bool, false, ◌==◌, nat_le, if◌then◌else◌, List, Option, Some, None, option_and_then}
 use Rattle.std.specs.Option.{option_or}
-use Rattle.indexmap.specs.IndexMap.{get}
 use Rattle.page_ids.specs.declared.limits.TheConstants.{MOST_PAGE}
 use Rattle.frame_records.specs.declared.limits.TheConstants.{MOST_LISTED}
 use Rattle.base_text.specs.declared.whole_fault.WholeFault.{WholeFault}
@@ -9,7 +8,6 @@ use Rattle.base_text.specs.declared.whole_fault.WholeFault.TheVariants.{OutsideI
 use Rattle.toml_places.specs.declared.spans.Span.{Span}
 use Rattle.toml_places.specs.Spans.{integer_at}
 use Rattle.lint.specs.Tables.{TableView}
-use Rattle.lint.specs.declared.outside.OutsidePages.{OutsidePages}
 
 infixl 10 ◌>>=◌
 abbrev ◌>>=◌ : {A B : Type 0} → Option A → (A → Option B) → Option B
@@ -44,11 +42,3 @@ page_at t page = page_from t page MOST_LISTED 0
 abbrev pub element_of : (ℕ → Option Span) → WholeFault → Option Span
 element_of pages (OutsideInside page) = pages page
 element_of pages _ = None
-
--- What the code knows of them.
-
-abbrev pub listed : OutsidePages → ℕ → Option Span
-listed pages page = get nat_eq pages.spans page
-
-abbrev pub Lists : TableView → OutsidePages → Type 0
-Lists t pages = (page : ℕ) → listed pages page ≡ page_at t page

@@ -1,10 +1,10 @@
 ghost use Rattle.std.specs.Prelude.{◌≡◌, ◌++◌, ℕ, List, Option, map, IfOk, OnOk};
 ghost use Rattle.page_ids.specs.Ids.{Id};
 ghost use Rattle.toml_places.specs.Places.{Mark};
-ghost use Rattle.lint.specs.Tables.{KnowsTables, IsTable, seen};
-ghost use Rattle.lint.specs.Lookups.{Knows};
+ghost use Rattle.lint.specs.Loops.{KnowsTables, IsTable, seen, Knows};
 ghost use Rattle.lint.specs.declared.looks.Look.TheVariants.{Hidden, Escape, EndsLine};
 ghost use Rattle.lint.specs.Lint as spec;
+ghost use Rattle.lint.specs.Loops as loops;
 
 use crate::finding::Finding;
 use crate::looks::{Look, looks_of};
@@ -84,7 +84,7 @@ fn finds_none(found: &[Discovered]) -> bool
 
 impl Audit {
     pub fn of(alloc: Global, base: &Base, policy: &Policy) -> Result<Audit, AllocError>
-        ensures { IfOk result (spec.IsAudit base.now policy.now) }
+        ensures { IfOk result (loops.IsAudit base.now policy.now) }
     {
         let Judgement { faults, found } = judge_base(alloc, base, policy)?;
         let ranks = Lookup::of(alloc, ranks_of(alloc, found.as_slice())?.as_slice())?;
@@ -102,7 +102,7 @@ impl Audit {
 
     // Whether it found nothing.
     pub fn is_clear(&self) -> bool
-        ensures { result ≡ spec.is_clear self.now.faults self.now.unreached.items self.now.looks.items }
+        ensures { result ≡ loops.is_clear self.now.faults self.now.unreached.items self.now.looks.items }
     {
         self.faults.as_slice().is_empty() && self.unreached.is_empty() && self.looks.is_empty()
     }
@@ -225,7 +225,7 @@ impl<'a> Sources<'a> {
         fault: &Fault,
     ) -> Result<Finding, AllocError>
         ensures finding { IfOk result (λ f. (ms : List Mark) (tables : List (Id × ℕ)) (known : List (Id × Option ℕ))
-            → spec.AreKnown ms tables self.now → Knows known ranks.now
+            → loops.AreKnown ms tables self.now → Knows known ranks.now
             → IsTable self.now.text.now.text.now ms (seen table.old)
             → f ≡ spec.fault_finding self.now.text.now.text.now ms tables self.now.base.now
             self.now.policy.now known fault.now) }
@@ -247,7 +247,7 @@ impl<'a> Sources<'a> {
         findings: &mut Vec<Finding>,
     ) -> Result<(), AllocError>
         ensures { OnOk result ((ms : List Mark) (tables : List (Id × ℕ)) (known : List (Id × Option ℕ))
-            → spec.AreKnown ms tables self.now → Knows known audit.now.ranks
+            → loops.AreKnown ms tables self.now → Knows known audit.now.ranks
             → findings.new.items ≡ findings.old.items ++
             map (spec.fault_finding self.now.text.now.text.now ms tables self.now.base.now
             self.now.policy.now known) audit.now.faults) }
@@ -260,7 +260,7 @@ impl<'a> Sources<'a> {
     }
 
     fn warning(&self, alloc: Global, id: FrameId) -> Result<Finding, AllocError>
-        ensures { IfOk result (λ f. (ms : List Mark) (tables : List (Id × ℕ)) → spec.AreKnown ms tables self.now
+        ensures { IfOk result (λ f. (ms : List Mark) (tables : List (Id × ℕ)) → loops.AreKnown ms tables self.now
             → f ≡ spec.warning self.now.text.now.text.now ms tables id) }
     {
         let words = unreached_words(alloc, id)?;
@@ -273,7 +273,7 @@ impl<'a> Sources<'a> {
         ids: &[FrameId],
         findings: &mut Vec<Finding>,
     ) -> Result<(), AllocError>
-        ensures { OnOk result ((ms : List Mark) (tables : List (Id × ℕ)) → spec.AreKnown ms tables self.now
+        ensures { OnOk result ((ms : List Mark) (tables : List (Id × ℕ)) → loops.AreKnown ms tables self.now
             → findings.new.items ≡ findings.old.items ++
             map (spec.warning self.now.text.now.text.now ms tables) ids.now) }
     {
@@ -290,7 +290,7 @@ impl<'a> Sources<'a> {
         frames: usize,
         findings: &mut Vec<Finding>,
     ) -> Result<(), AllocError>
-        ensures { OnOk result ((ms : List Mark) (tables : List (Id × ℕ)) → spec.AreKnown ms tables self.now
+        ensures { OnOk result ((ms : List Mark) (tables : List (Id × ℕ)) → loops.AreKnown ms tables self.now
             → findings.new.items ≡ findings.old.items ++ spec.none_reached self.now.text.now.text.now ms frames) }
     {
         if frames > 0 {
@@ -308,7 +308,7 @@ impl<'a> Sources<'a> {
         ids: &[FrameId],
         findings: &mut Vec<Finding>,
     ) -> Result<(), AllocError>
-        ensures { OnOk result ((ms : List Mark) (tables : List (Id × ℕ)) → spec.AreKnown ms tables self.now
+        ensures { OnOk result ((ms : List Mark) (tables : List (Id × ℕ)) → loops.AreKnown ms tables self.now
             → findings.new.items ≡ findings.old.items ++
             spec.unreached_findings self.now.text.now.text.now ms tables finds_none ids.now) }
     {
@@ -325,7 +325,7 @@ impl<'a> Sources<'a> {
         looks: &[(FrameId, Look)],
         findings: &mut Vec<Finding>,
     ) -> Result<(), AllocError>
-        ensures { OnOk result ((ms : List Mark) (tables : List (Id × ℕ)) → spec.AreKnown ms tables self.now
+        ensures { OnOk result ((ms : List Mark) (tables : List (Id × ℕ)) → loops.AreKnown ms tables self.now
             → findings.new.items ≡ findings.old.items ++
             spec.look_findings self.now.text.now.text.now ms tables looks.now) }
     {
@@ -340,8 +340,8 @@ impl<'a> Sources<'a> {
 
     // The findings of an audit.
     pub fn findings(&self, alloc: Global, audit: &Audit) -> Result<Vec<Finding>, AllocError>
-        requires { spec.IsAudit self.now.base.now self.now.policy.now audit.now }
-        ensures { IfOk result (λ fs. (ms : List Mark) (tables : List (Id × ℕ)) → spec.AreKnown ms tables self.now
+        requires { loops.IsAudit self.now.base.now self.now.policy.now audit.now }
+        ensures { IfOk result (λ fs. (ms : List Mark) (tables : List (Id × ℕ)) → loops.AreKnown ms tables self.now
             → spec.AreAuditFindings self.now.text.now.text.now ms tables self.now.base.now
             self.now.policy.now fs.items) }
     {

@@ -9,6 +9,7 @@ ghost use Rattle.toml_places.specs.Places.{marks};
 ghost use Rattle.lint.specs.Findings.{error_at};
 ghost use Rattle.lint.specs.Laws.{FollowsBaseRead, DecidesSafety, WarnsOfUnreached, SpansLieIn};
 ghost use Rattle.lint.specs.Lint as spec;
+ghost use Rattle.lint.specs.Loops as loops;
 
 use crate::audit_findings::{Audit, Sources};
 use crate::finding::Finding;
@@ -59,7 +60,7 @@ fn not_toml(
 
 fn refused(alloc: Global, text: &[u8], error: &Error) -> Result<Vec<Finding>, AllocError>
     requires { IsWithinText text.now error.now }
-    ensures { IfOk result (λ fs. spec.IsNotToml text.now fs.items) }
+    ensures { IfOk result (λ fs. loops.IsNotToml text.now fs.items) }
 {
     match error.span() {
         None => Err(AllocError),
@@ -142,8 +143,8 @@ fn base_of(
     outside: Vec<PageNo>,
     frames: Vec<Frame>,
 ) -> Option<Base>
-    ensures { MatchOption result (spec.IsRefused faults.now entry outside.items frames.items)
-        (spec.IsListed faults.now entry outside.items frames.items) }
+    ensures { MatchOption result (loops.IsRefused faults.now entry outside.items frames.items)
+        (loops.IsListed faults.now entry outside.items frames.items) }
 {
     match (faults, entry) {
         ([], Some(entry)) => Base::build(entry, outside, frames).ok(),
@@ -157,7 +158,7 @@ fn judged_draft(
     draft: Draft,
     policy: &Policy,
 ) -> Result<Vec<Finding>, AllocError>
-    requires { spec.IsDraftOf text.now draft }
+    requires { loops.IsDraftOf text.now draft }
     ensures { IfOk result (λ fs. spec.IsJudged text.now policy.now fs.items) }
 {
     let whole = whole_faults(alloc, &draft)?;

@@ -1,6 +1,7 @@
 ghost use Rattle.std.specs.Prelude.{◌≡◌, List, IfOk};
 ghost use Rattle.page_ids.specs.Ids.{Id};
-ghost use Rattle.lint.specs.Lookups.{value_of, Knows};
+ghost use Rattle.lint.specs.Lookups.{value_of};
+ghost use Rattle.lint.specs.Loops.{Knows};
 
 use indexmap::IndexMap;
 use page_ids::FrameId;

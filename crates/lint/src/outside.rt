@@ -2,9 +2,8 @@
 
 ghost use Rattle.std.specs.Prelude.{◌≡◌, ℕ, IfOk, OnOk};
 ghost use Rattle.std.specs.Option.{option_or};
-ghost use Rattle.lint.specs.Tables.{seen};
+ghost use Rattle.lint.specs.Loops.{seen, Lists, listed};
 ghost use Rattle.lint.specs.Outside as spec;
-ghost use Rattle.lint.specs.Outside.{Lists, listed};
 
 use crate::tables::TableSpots;
 use base_text::WholeFault;

@@ -2,7 +2,7 @@
 
 ghost use Rattle.std.specs.Prelude.{◌≡◌, slice_get};
 ghost use Rattle.std.specs.Option.{option_or};
-ghost use Rattle.lint.specs.Tables.{seen};
+ghost use Rattle.lint.specs.Loops.{seen};
 ghost use Rattle.lint.specs.Spots as spec;
 
 use crate::tables::TableSpots;

@@ -4,7 +4,8 @@ ghost use Rattle.std.specs.Prelude.{◌≡◌, ℕ, List, slice_get, IfOk, OnOk}
 ghost use Rattle.std.specs.List.{prefix_len};
 ghost use Rattle.toml_places.specs.Places.{Mark, Keeps, key_in, route_in};
 ghost use Rattle.lint.specs.Tables as spec;
-ghost use Rattle.lint.specs.Tables.{InlineKeeps, KnowsTables, IsTable, seen_keys, seen};
+ghost use Rattle.lint.specs.Loops as loops;
+ghost use Rattle.lint.specs.Loops.{InlineKeeps, KnowsTables, IsTable, seen_keys, seen};
 
 use std::alloc::{AllocError, Global};
 use toml_places::{Places, Span, Spot, TablePlaces, element_spans, frame_span, value_span};
@@ -109,7 +110,7 @@ fn route_in(table: &Option<TablePlaces>, key: &str) -> Option<Spot>
 }
 
 fn route_kept(places: &Places, frame: Option<usize>, key: &str) -> Option<Spot>
-    ensures { result ≡ spec.route_kept places.now frame key.now }
+    ensures { result ≡ loops.route_kept places.now frame key.now }
 {
     match frame {
         Some(frame) => places.route(frame, key),
@@ -255,7 +256,7 @@ impl<'a> TextTables<'a> {
 
     fn keys(&self, alloc: Global, frame: Option<usize>) -> Result<TableKeys<'a>, AllocError>
         ensures { IfOk result (λ keys. (ms : List Mark) → KnowsTables ms self.now → seen_keys keys
-            ≡ spec.keys_of self.now.text.now ms frame) }
+            ≡ loops.keys_of self.now.text.now ms frame) }
     {
         Ok(TableKeys {
             places: self.places,

@@ -1,7 +1,7 @@
 ghost use Rattle.std.specs.Prelude.{◌≡◌, ◌++◌, List, map, IfOk, OnOk, None};
 ghost use Rattle.toml_places.specs.Places.{Mark};
-ghost use Rattle.lint.specs.Tables.{KnowsTables, IsTable, table_at, seen};
-ghost use Rattle.lint.specs.Outside.{Lists};
+ghost use Rattle.lint.specs.Tables.{table_at};
+ghost use Rattle.lint.specs.Loops.{KnowsTables, IsTable, seen, Lists};
 ghost use Rattle.lint.specs.Lint as spec;
 
 use crate::finding::Finding;

@@ -3,9 +3,9 @@ pub mod Lines
 pub mod AboutOf
 pub mod WordsOf
 pub mod KeyPieces
-pub mod Words
 pub mod FaultWords
 pub mod TextWords
 pub mod WarningWords
 pub mod WholeWords
 pub mod Pieces
+pub mod Loops

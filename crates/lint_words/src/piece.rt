@@ -1,6 +1,6 @@
 ghost use Rattle.std.specs.Prelude.{◌≡◌, ◌++◌, OnOk};
 ghost use Rattle.lint_words.specs.Pieces.{number_of, shown_by, pressed_text, group_text};
-ghost use Rattle.lint_words.specs.Words.{piece_text, pieces_text};
+ghost use Rattle.lint_words.specs.Loops.{piece_text, pieces_text};
 
 use crate::key_pieces::{push_item, push_key_name, push_out_of_range, push_subject};
 use crate::pieces::{

@@ -7,7 +7,8 @@ use Rattle.page_ids.specs.declared.fault.IdFault.{IdFault}
 use Rattle.page_ids.specs.declared.fault.IdFault.TheVariants.{BadPage, BadFrame, BadKey, Memory}
 use Rattle.page_ids.specs.declared.key.Key.{Key}
 use Rattle.page_ids.specs.declared.key.Key.TheVariants.{Route, Next, Prev, Reprint, Update}
-use Rattle.page_ids.specs.Keys.{key_word, keys_text, key_at, key_behind_star, key_behind_zero, IsKey, AreKeys, IsUnreadableAt, IsRead}
+use Rattle.page_ids.specs.Keys.{key_word, keys_text, IsKey, AreKeys, IsUnreadableAt, IsRead}
+use Rattle.page_ids.specs.Loops.{key_at, key_behind_star, key_behind_zero}
 
 digit_word : (d : ℕ) (rest : List ℕ) → d < 10 → key_at ((48 + d) ∷ rest) ≡ Some (Route d)
 digit_word d rest small =

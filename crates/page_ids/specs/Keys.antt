@@ -1,5 +1,5 @@
 -- The words of keys, and what a text of keys is read as.
-use Rattle.std.specs.Prelude.{◌≡◌, ℕ, ◌+◌, ◌-◌, ◌<◌, ◌≤◌, ◌==◌, ◌&&◌, List, [], ◌∷◌, ◌++◌, length, take, Option, Some, None, Result, Ok, Err, if◌then◌else◌, nat_lt, ◌⊎◌}
+use Rattle.std.specs.Prelude.{◌≡◌, ℕ, ◌+◌, ◌<◌, ◌≤◌, List, [], ◌∷◌, ◌++◌, length, take, Result, Ok, Err, ◌⊎◌}
 use Rattle.std.specs.List.{AllByRecursion}
 use Rattle.page_ids.specs.declared.fault.IdFault.{IdFault}
 use Rattle.page_ids.specs.declared.fault.IdFault.TheVariants.{BadPage, BadFrame, BadKey, Memory}
@@ -29,22 +29,6 @@ IsKey Update = Unit {0}
 
 abbrev pub AreKeys : List Key → Type 0
 AreKeys keys = AllByRecursion IsKey keys
-
--- the key of the bytes after `*0`, of those after `*`, and of any
-abbrev pub key_behind_zero : List ℕ → Option Key
-key_behind_zero [] = None
-key_behind_zero (c ∷ cs) = if c == 48 then Some Reprint else if c == 57 then Some Update else None
-
-abbrev pub key_behind_star : List ℕ → Option Key
-key_behind_star [] = None
-key_behind_star (b ∷ bs) = if b == 35 then Some Prev else if b == 48 then key_behind_zero bs else None
-
-abbrev pub key_at : List ℕ → Option Key
-key_at [] = None
-key_at (a ∷ more) =
-    if a == 35 then Some Next
-    else if a == 42 then key_behind_star more
-    else if nat_lt 47 a && nat_lt a 58 then Some (Route (a - 48)) else None
 
 -- the beginning of n bytes is made of words
 abbrev pub IsReadable : List ℕ → ℕ → Type 0

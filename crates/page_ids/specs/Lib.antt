@@ -5,3 +5,4 @@ pub mod Ids
 pub mod Keys
 pub mod Texts
 pub mod Parts
+pub mod Loops

@@ -1,6 +1,7 @@
 ghost use Rattle.std.specs.Prelude.{◌≡◌, ◌+◌, ◌++◌, IfOk, MatchResult, length};
 ghost use Rattle.page_ids.specs.declared.key.Key.{Key};
-ghost use Rattle.page_ids.specs.Keys.{key_word, key_at, keys_text, IsRead, KeysAreTexts};
+ghost use Rattle.page_ids.specs.Keys.{key_word, keys_text, IsRead, KeysAreTexts};
+ghost use Rattle.page_ids.specs.Loops.{key_at};
 
 use crate::fault::IdFault;
 use crate::key::{Digit, Key, KeyList};

@@ -18,8 +18,8 @@ use Rattle.pageaudit.specs.declared.edition.EditionFault.TheVariants as edition
 use Rattle.pageaudit.specs.Files.{Device, device, IsUntouched, base_limit, cert_limit}
 use Rattle.pageaudit.proofs.Within.{untouched_within, base_within, cert_within}
 use Rattle.pageaudit.proofs.Runs.{by_answer}
-use Rattle.pageaudit.specs.FileFaults.{old_fault, new_fault}
-use Rattle.pageaudit.specs.ChangeRun.{EditionFiles, IsEditionOf, IsEditionFault, AreUntouched, AreReadWithin, IsOfEditions, IsVerdictWritten, IsChangeRun, HoldsOfChange}
+use Rattle.pageaudit.specs.Loops.{old_fault, new_fault, IsEditionFault}
+use Rattle.pageaudit.specs.ChangeRun.{EditionFiles, IsEditionOf, AreUntouched, AreReadWithin, IsOfEditions, IsVerdictWritten, IsChangeRun, HoldsOfChange}
 
 -- a device that was not called
 pub untouched : {D : Type 0} (seen : D → Seen) (d : D) → (seen d).failed ≡ false → IsUntouched (device seen d d)

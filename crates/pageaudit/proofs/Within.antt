@@ -8,7 +8,8 @@ use Rattle.cert_text.specs.declared.fault.ReadFault.{ReadFault}
 use Rattle.cert_text.specs.Reading.{ReaderView, HasRead}
 use Rattle.pageaudit.specs.declared.file_fault.FileFault.{FileFault}
 use Rattle.pageaudit.specs.declared.file_fault.FileFault.TheVariants as file
-use Rattle.pageaudit.specs.Files.{Device, device, IsUntouched, base_limit, cert_limit, IsTextOfFile, IsBaseOfFile, IsCertOfFile, IsReadWithin, IsCertFileFault, IsPieceTaken, IsBeingFed}
+use Rattle.pageaudit.specs.Files.{Device, device, IsUntouched, base_limit, cert_limit, IsTextOfFile, IsBaseOfFile, IsCertOfFile, IsReadWithin}
+use Rattle.pageaudit.specs.Loops.{IsCertFileFault, IsPieceTaken, IsBeingFed}
 
 pub untouched_within : (limit : ℕ) (d : Device) → IsUntouched d → IsReadWithin limit d
 untouched_within limit d h = record { bytes = []; within = omega (arith); given = Consumes-kept d.before.bytes d.before.bytes d.after.bytes [] (Consumes-nil d.before.bytes) h.kept; unbroken = h.unbroken }

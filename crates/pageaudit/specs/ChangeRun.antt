@@ -1,20 +1,16 @@
 -- What a run of the check of a change does.
-use Rattle.std.specs.Prelude.{Result, MatchResult, Ok, Err}
+use Rattle.std.specs.Prelude.{Result, Ok, Err}
 use Rattle.frame_records.specs.Bases.{BaseView}
 use Rattle.cert_table.specs.Table.{CertView}
 use Rattle.checker.specs.declared.policy.Policy.{Policy}
 use Rattle.checker.specs.declared.change.ChangeVerdict.{ChangeVerdict}
-use Rattle.checker.specs.declared.change.ChangeVerdict.TheVariants as change
 use Rattle.checker.specs.Change.{change_verdict, IsSafeChange}
 use Rattle.audit_report.specs.declared.run_fault.RunFault.{RunFault}
 use Rattle.audit_report.specs.declared.run_fault.RunFault.TheVariants as run
 use Rattle.audit_report.specs.Lines.{change_text}
 use Rattle.audit_report.specs.Statuses.{status_of_change}
 use Rattle.audit_report.specs.declared.status.Status.{Status}
-use Rattle.audit_report.specs.declared.status.Status.TheVariants.{Clear, Faulty}
-use Rattle.pageaudit.specs.declared.edition.EditionFault.{EditionFault}
-use Rattle.pageaudit.specs.declared.edition.EditionFault.TheVariants as part
-use Rattle.pageaudit.specs.Files.{Device, IsUntouched, IsTextWritten, base_limit, cert_limit, IsBaseOfFile, IsCertOfFile, IsBaseTextFault, IsCertTextFault, IsBaseBroken, IsCertBroken, IsReadWithin, IsBaseFileFault, IsCertFileFault}
+use Rattle.pageaudit.specs.Files.{Device, IsUntouched, IsTextWritten, base_limit, cert_limit, IsBaseOfFile, IsCertOfFile, IsBaseTextFault, IsCertTextFault, IsBaseBroken, IsCertBroken, IsReadWithin}
 use Rattle.pageaudit.specs.CheckRun.{IsAfterBase}
 
 -- the files of an edition: its base's and its certificate's
@@ -29,15 +25,6 @@ edition base cert = record { base = base; cert = cert }
 pub record IsEditionOf (files : EditionFiles) (base : BaseView) (cert : CertView) : Type 0 where
   pub base_read : IsBaseOfFile files.base base
   pub cert_read : IsCertOfFile files.cert cert
-
--- why they give no edition: a fault of the base's file, with nothing read of the certificate's; or, after a whole base, a fault
--- of the certificate's file
-abbrev pub IsEditionFault : EditionFiles → EditionFault → Type 0
-IsEditionFault files (part.Base fault) = IsBaseFileFault files.base fault × IsUntouched files.cert
-IsEditionFault files (part.Cert fault) = (base : BaseView) × IsBaseOfFile files.base base × IsCertFileFault files.cert fault
-
-abbrev pub IsEditionRead : EditionFiles → Result (BaseView × CertView) EditionFault → Type 0
-IsEditionRead files answer = MatchResult answer (λ edition. IsEditionOf files edition.0 edition.1) (IsEditionFault files)
 
 -- no read of either file failed, and at most the limit was read of each
 abbrev pub AreReadWithin : EditionFiles → Type 0

@@ -1,5 +1,5 @@
 -- Devices, and the files that they gave.
-use Rattle.std.specs.Prelude.{◌≡◌, ℕ, false, List, Result, MatchResult, Ok, Err, ◌≤◌, ◌<◌, ◌++◌, ◌+◌, true, length, None}
+use Rattle.std.specs.Prelude.{◌≡◌, ℕ, false, List, Result, Ok, Err, ◌≤◌, ◌<◌, ◌+◌, length, None}
 use Rattle.std.specs.Io.KnownBytes.{Keeps, Consumes, IsAtEnd}
 use Rattle.devices.specs.Devices.{Seen, WroteWhole, WrotePart, BrokeWithin, TookWithin}
 use Rattle.audit_report.specs.declared.run_fault.RunFault.{RunFault}
@@ -12,12 +12,10 @@ use Rattle.cert_text.specs.declared.fault.LineCause.TheVariants.{Truncated}
 use Rattle.cert_text.specs.declared.fault.ReadFault.{ReadFault}
 use Rattle.cert_text.specs.declared.fault.ReadFault.TheVariants as read
 use Rattle.cert_text.specs.Grammar.{IsCertificateText}
-use Rattle.cert_text.specs.Reading.{cert_fault, ReaderView, HasRead, lasting}
+use Rattle.cert_text.specs.Reading.{cert_fault, lasting}
 use Rattle.checker.specs.Headline.{IsBaseRefused, IsCertRefused}
 use Rattle.base_text.specs.declared.limits.TheConstants.{MOST_TEXT}
 use Rattle.pageaudit.specs.declared.input.TheConstants.{MOST_CERT}
-use Rattle.pageaudit.specs.declared.file_fault.FileFault.{FileFault}
-use Rattle.pageaudit.specs.declared.file_fault.FileFault.TheVariants as file
 
 -- What a run did with one of its devices.
 
@@ -112,24 +110,6 @@ pub record IsCertBroken (d : Device) : Type 0 where
 abbrev pub IsReadWithin : ℕ → Device → Type 0
 IsReadWithin limit d = TookWithin limit d.before d.after
 
--- why a file gives no base: its text is refused, a read failed, or memory was refused
-abbrev pub IsBaseFileFault : Device → FileFault BaseFault → Type 0
-IsBaseFileFault d (file.Text fault) = IsBaseTextFault d fault
-IsBaseFileFault d file.Broken = IsBaseBroken d
-IsBaseFileFault d file.Memory = IsReadWithin base_limit d
-
--- why a file gives no certificate
-abbrev pub IsCertFileFault : Device → FileFault ReadFault → Type 0
-IsCertFileFault d (file.Text fault) = IsCertTextFault d fault
-IsCertFileFault d file.Broken = IsCertBroken d
-IsCertFileFault d file.Memory = IsReadWithin cert_limit d
-
-abbrev pub IsBaseRead : Device → Result BaseView (FileFault BaseFault) → Type 0
-IsBaseRead d answer = MatchResult answer (IsBaseOfFile d) (IsBaseFileFault d)
-
-abbrev pub IsCertRead : Device → Result CertView (FileFault ReadFault) → Type 0
-IsCertRead d answer = MatchResult answer (IsCertOfFile d) (IsCertFileFault d)
-
 -- the base's file was read to its end and is right; `Written` holds of the base and the answer
 pub record IsReadAndWritten {A : Type 0} (base_file : Device) (Written : BaseView → Result A RunFault → Type 0) (answer : Result A RunFault) : Type 0 where
   pub base : BaseView
@@ -145,53 +125,3 @@ IsBaseRun base_file Nothing Written (Err (run.Base fault)) = IsBaseTextFault bas
 IsBaseRun base_file Nothing Written (Err run.ReadBase) = IsBaseBroken base_file × Nothing
 IsBaseRun base_file Nothing Written (Err run.Memory) = IsReadWithin base_limit base_file × Nothing
 IsBaseRun base_file Nothing Written (Err _) = ⊥
-
--- the answer for a text alone
-abbrev pub IsBaseAnswer : List ℕ → Result BaseView (FileFault BaseFault) → Type 0
-IsBaseAnswer text (Ok base) = IsTextBase text base
-IsBaseAnswer text (Err (file.Text fault)) = IsBaseRefused text fault
-IsBaseAnswer text (Err file.Broken) = ⊥
-IsBaseAnswer text (Err file.Memory) = Unit {0}
-
--- one read of a certificate's file, whose bytes its reader took: `count` of them, and none only at the end
-pub record IsPieceRead (most : ℕ) (d : Device) (stream : List ℕ) (reader : ReaderView) (count : ℕ) : Type 0 where
-  pub piece : List ℕ
-  pub counted : length piece ≡ count
-  pub within : count ≤ most
-  pub given : Consumes d.before.bytes d.after.bytes piece
-  pub whole : count ≡ 0 → IsAtEnd d.after.bytes
-  pub taken : HasRead reader (stream ++ piece)
-  pub right : lasting (cert_fault (stream ++ piece)) ≡ None
-  pub unbroken : d.after.failed ≡ false
-
--- the bytes so far have a bad line, whatever follows
-pub record IsPieceRefused (most : ℕ) (d : Device) (stream : List ℕ) (fault : ReadFault) : Type 0 where
-  pub piece : List ℕ
-  pub within : length piece ≤ most
-  pub given : Consumes d.before.bytes d.after.bytes piece
-  pub first : IsCertRefused (stream ++ piece) fault
-  pub lasting : IsTruncated fault → ⊥
-  pub unbroken : d.after.failed ≡ false
-
-abbrev pub IsPieceTaken : ℕ → Device → List ℕ → ReaderView → Result ℕ (FileFault ReadFault) → Type 0
-IsPieceTaken most d stream reader (Ok count) = IsPieceRead most d stream reader count
-IsPieceTaken most d stream reader (Err (file.Text fault)) = IsPieceRefused most d stream fault
-IsPieceTaken most d stream reader (Err file.Broken) = Keeps d.before.bytes d.after.bytes × (d.after.failed ≡ true)
-IsPieceTaken most d stream reader (Err file.Memory) = IsReadWithin most d
-
--- the first bytes of a certificate's file were taken by its reader, and `room` more may be
-pub record IsBeingFed (d : Device) (reader : ReaderView) (room : ℕ) : Type 0 where
-  pub text : List ℕ
-  pub read : WasReadSoFar cert_limit d text
-  pub counted : length text + room ≡ cert_limit
-  pub taken : HasRead reader text
-  pub right : lasting (cert_fault text) ≡ None
-
--- all the bytes of a certificate's file were taken by its reader
-pub record WasFed (d : Device) (reader : ReaderView) : Type 0 where
-  pub text : List ℕ
-  pub read : WasRead cert_limit d text
-  pub taken : HasRead reader text
-
-abbrev pub IsFed : Device → ReaderView → Result (Unit {0}) (FileFault ReadFault) → Type 0
-IsFed d reader answer = MatchResult answer (λ _. WasFed d reader) (IsCertFileFault d)

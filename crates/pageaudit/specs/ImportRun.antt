@@ -36,13 +36,6 @@ pub record IsJudged (d : Device) (kind : FileKind) (path : List ℕ) (answer : R
   pub is : IsScreenFile d bytes
   pub judged : file_frame kind path bytes ≡ answer
 
--- the frame is the last one now, or the list is as it was
-abbrev pub IsFrameAdded : List Filed → List Filed → ℕ → ScreenFrame → Result (Unit {0}) ImportFault → Type 0
-IsFrameAdded old new file frame (Ok _) = new ≡ old ++ record { file = file; frame = frame } ∷ []
-IsFrameAdded old new file frame (Err TooMany) = (new ≡ old) × (MOST_LISTED ≤ length old)
-IsFrameAdded old new file frame (Err Memory) = new ≡ old
-IsFrameAdded old new file frame (Err _) = ⊥
-
 -- the frame of the file is the last one now
 pub record IsTaken (d : Device) (kind : FileKind) (path : List ℕ) (file : ℕ) (old new : List Filed) : Type 0 where
   pub frame : ScreenFrame

@@ -1,5 +1,4 @@
 pub mod Status
-pub mod FileFaults
 pub mod CheckRun
 pub mod ChangeRun
 pub mod WalkRun
@@ -12,3 +11,4 @@ pub mod PagesRun
 pub mod ImportRun
 pub mod ExportRun
 pub mod Files
+pub mod Loops

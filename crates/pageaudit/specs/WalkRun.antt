@@ -1,6 +1,5 @@
 -- What a walk does.
-use Rattle.std.specs.Prelude.{◌≡◌, ℕ, true, false, List, [], Result, Ok, Err, Vec}
-use Rattle.std.specs.declared.alloc.Global.{Global}
+use Rattle.std.specs.Prelude.{◌≡◌, ℕ, true, false, List, [], Result, Ok, Err}
 use Rattle.page_ids.specs.declared.key.Key.{Key}
 use Rattle.page_ids.specs.Keys.{keys_text, AreKeys, IsUnreadableAt}
 use Rattle.frame_records.specs.Bases.{BaseView}
@@ -27,10 +26,6 @@ session_text base (Err Memory) = []
 abbrev pub session_status : Result (List Reply) OpenFault → Status
 session_status (Ok replies) = Clear
 session_status (Err fault) = Faulty
-
--- the text and the status of a caller's session of these keys
-abbrev pub IsSessionAnswer : List ℕ → BaseView → List Key → Vec ℕ Global × Status → Type 0
-IsSessionAnswer caller base keys (text, status) = (text.items ≡ session_text base (session_of caller base keys)) × (status ≡ session_status (session_of caller base keys))
 
 -- words that are the text of keys
 pub record AreKeysOf (words : List ℕ) (keys : List Key) : Type 0 where

@@ -2,8 +2,8 @@
 
 ghost use Rattle.std.specs.Prelude.{◌≡◌, false, Ok, Err};
 ghost use Rattle.pageaudit.specs.Files.{device};
-ghost use Rattle.pageaudit.specs.ChangeRun.{IsEditionRead, edition};
-ghost use Rattle.pageaudit.specs.FileFaults.{old_fault, new_fault};
+ghost use Rattle.pageaudit.specs.ChangeRun.{edition};
+ghost use Rattle.pageaudit.specs.Loops.{IsEditionRead, old_fault, new_fault};
 
 use crate::file_fault::{FileFault, base_fault, cert_fault};
 use crate::input::{read_base, read_cert};

@@ -1,5 +1,5 @@
 ghost use Rattle.std.specs.Prelude.{◌≡◌};
-ghost use Rattle.pageaudit.specs.FileFaults.{base_fault, cert_fault};
+ghost use Rattle.pageaudit.specs.Loops.{base_fault, cert_fault};
 
 use audit_report::RunFault;
 use base_text::BaseFault;

@@ -1,7 +1,8 @@
 ghost use Rattle.std.specs.Prelude.{◌≡◌, false};
 ghost use Rattle.pageaudit.specs.Files.{device, IsTextWritten};
 ghost use Rattle.pageaudit.specs.declared.import_run.ImportStatus.TheVariants.{Printed};
-ghost use Rattle.pageaudit.specs.ImportRun.{IsFrameAdded, IsScreenTaken, IsImportRun, import_number};
+ghost use Rattle.pageaudit.specs.ImportRun.{IsScreenTaken, IsImportRun, import_number};
+ghost use Rattle.pageaudit.specs.Loops.{IsFrameAdded};
 
 use crate::status::status_of;
 use audit_report::{RunFault, Sink, Source, SourceFault, read_whole, write_whole};

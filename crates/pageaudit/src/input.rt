@@ -2,7 +2,8 @@
 
 ghost use Rattle.std.specs.Prelude.{◌≡◌, ◌<◌, false, Ok, Err, List, [], ℕ};
 ghost use Rattle.cert_text.specs.Reading.{HasRead};
-ghost use Rattle.pageaudit.specs.Files.{device, IsBaseRead, IsCertRead, IsBaseAnswer, IsPieceTaken, IsFed};
+ghost use Rattle.pageaudit.specs.Files.{device};
+ghost use Rattle.pageaudit.specs.Loops.{IsBaseRead, IsCertRead, IsBaseAnswer, IsPieceTaken, IsFed};
 
 use crate::file_fault::FileFault;
 use audit_report::{Source, SourceFault, read_whole};

@@ -1,7 +1,8 @@
 ghost use Rattle.std.specs.Prelude.{◌≡◌, ◌∷◌, IfOk, false};
 ghost use Rattle.session_machine.specs.Runs.{replies_to, session_of};
 ghost use Rattle.pageaudit.specs.Files.{device, IsTextWritten};
-ghost use Rattle.pageaudit.specs.WalkRun.{IsWalkRun, IsKeysAnswer, IsSessionAnswer, session_text, session_status};
+ghost use Rattle.pageaudit.specs.WalkRun.{IsWalkRun, IsKeysAnswer, session_text, session_status};
+ghost use Rattle.pageaudit.specs.Loops.{IsSessionAnswer};
 
 use crate::file_fault::base_fault;
 use crate::input::read_base;

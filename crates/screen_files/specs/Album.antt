@@ -11,12 +11,6 @@ use Rattle.screen_files.specs.declared.frame.ScreenFrame.{ScreenFrame}
 use Rattle.frame_records.specs.declared.limits.TheConstants.{MOST_LISTED}
 use Rattle.screen_files.specs.Texts.{entry_line, frame_lines}
 
--- the list after one more, or the list as it was if a growth was refused
-abbrev pub IsPushed : List Filed → List Filed → Filed → Result (Unit {0}) AddFault → Type 0
-IsPushed old new filed (Ok _) = new ≡ old ++ filed ∷ []
-IsPushed old new filed (Err add.Memory) = new ≡ old
-IsPushed old new filed (Err add.TooMany) = ⊥
-
 -- the list after the frame of a file, or the list as it was
 abbrev pub IsAdded : List Filed → List Filed → ℕ → ScreenFrame → Result (Unit {0}) AddFault → Type 0
 IsAdded old new file frame (Ok _) = new ≡ old ++ record { file = file; frame = frame } ∷ []

@@ -3,8 +3,13 @@ use Rattle.std.proofs.Common.{◌≡◌, ℕ, inl, inr, arith, refl, ap, sym, �
 use Rattle.std.proofs.lemmas.Bool.{cases_eq}
 use Rattle.std.proofs.lemmas.Bool.Decides.{nat_tests}
 use Rattle.terminal_codes.specs.Screen.{Screen, high_code_of, control_step, with_code, byte_step, run}
-use Rattle.terminal_codes.specs.Writes.{caret_of, control_at, past, byte_writes, caret_step, caret_run, caret_writes, writes, blanks, has_service, touches, RunsAlike}
+use Rattle.terminal_codes.specs.Writes.{caret_of, control_at, past, byte_writes, caret_step, caret_run, writes, blanks, has_service, touches, RunsAlike}
 use Rattle.terminal_codes.specs.declared.caret.Caret.{Caret}
+
+-- what the bytes write, from a position and a flag
+abbrev pub caret_writes : Caret → List ℕ → List (ℕ × ℕ)
+caret_writes c [] = []
+caret_writes c (b ∷ bs) = byte_writes c b ++ caret_writes (caret_step c b) bs
 
 caret_of_control : (t : Screen) (b : ℕ) → caret_of (control_step t b) ≡ record { at = control_at t.at b; pending = b == 27 }
 caret_of_control t b =

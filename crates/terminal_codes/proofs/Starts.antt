@@ -1,13 +1,17 @@
 -- A statement over all terminals is one over the starts.
-use Rattle.std.proofs.Common.{◌≡◌, ℕ, ◌<◌, ap, sym, ◌∙◌, Bool, List, [], ◌∷◌, ◌++◌, slice_index, subst}
+use Rattle.std.proofs.Common.{◌≡◌, ℕ, ◌<◌, ap, sym, ◌∙◌, Bool, true, List, [], ◌∷◌, ◌++◌, slice_index, replicate, subst}
 use Rattle.std.proofs.lemmas.List.{append-nil, length-replicate}
 use Rattle.terminal_codes.specs.declared.caret.Caret.{Caret}
 use Rattle.frame_records.specs.declared.frame.Lead.{Lead}
 use Rattle.terminal_codes.specs.Screen.{Screen, IsScreen, run}
 use Rattle.terminal_codes.specs.Writes.{caret_of, byte_writes, writes, has_service, touches, caret_run}
-use Rattle.terminal_codes.specs.Bodies.{lead_codes, sent, TouchesAt, EndsAt, StartTouches, StartEnds, screen_at, StartsAreEnough}
+use Rattle.terminal_codes.specs.Bodies.{lead_codes, sent, TouchesAt, EndsAt, StartTouches, StartEnds, StartsAreEnough}
 use Rattle.terminal_codes.proofs.Runs.{caret_of_run}
 use Rattle.terminal_codes.proofs.Stores.{screen_of_run}
+
+-- a blank terminal (20 is a space) at a start
+abbrev pub screen_at : Caret → Screen
+screen_at c = record { cells = replicate 960 32; at = c.at; pending = c.pending; visible = true }
 
 -- what a terminal does at its caret
 pub has_service_at_caret : (t : Screen) (xs : List ℕ) (b : ℕ) → has_service (writes (run t xs) (b ∷ [])) ≡ touches (caret_run (caret_of t) xs) b

@@ -1,5 +1,5 @@
 -- What a body does, sent after its lead.
-use Rattle.std.specs.Prelude.{ℕ, List, [], ◌∷◌, ◌≡◌, Bool, ◌++◌, ◌<◌, true, length, take, slice_index, ◌↔◌, replicate}
+use Rattle.std.specs.Prelude.{ℕ, List, [], ◌∷◌, ◌≡◌, Bool, ◌++◌, ◌<◌, true, length, take, slice_index, ◌↔◌}
 use Rattle.frame_records.specs.declared.frame.Lead.{Lead}
 use Rattle.frame_records.specs.declared.frame.Lead.TheVariants.{Clear, Keep}
 use Rattle.terminal_codes.specs.Screen.{Screen, IsScreen, run}
@@ -51,10 +51,6 @@ StartTouches lead body i c = (i < length body) × (touches (caret_run c (sent le
 -- from this start the body ends at position p with the pending flag q
 abbrev pub StartEnds : Lead → List ℕ → ℕ → Bool → Caret → Type 0
 StartEnds lead body p q c = caret_run c (lead_codes lead ++ body) ≡ record { at = p; pending = q }
-
--- a blank terminal (20 is a space) at a start
-abbrev pub screen_at : Caret → Screen
-screen_at c = record { cells = replicate 960 32; at = c.at; pending = c.pending; visible = true }
 
 -- it is enough to try the 1,920 starts
 pub record StartsAreEnough (lead : Lead) (body : List ℕ) : Type 0 where

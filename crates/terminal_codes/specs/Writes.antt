@@ -42,11 +42,6 @@ abbrev pub caret_run : Caret → List ℕ → Caret
 caret_run c [] = c
 caret_run c (b ∷ bs) = caret_run (caret_step c b) bs
 
--- what the bytes write, from a position and a flag
-abbrev pub caret_writes : Caret → List ℕ → List (ℕ × ℕ)
-caret_writes c [] = []
-caret_writes c (b ∷ bs) = byte_writes c b ++ caret_writes (caret_step c b) bs
-
 -- what the bytes write on a terminal
 abbrev pub writes : Screen → List ℕ → List (ℕ × ℕ)
 writes t [] = []

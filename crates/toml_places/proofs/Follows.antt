@@ -19,7 +19,12 @@ use Rattle.toml_places.specs.Strings.{Piece, after_part, next_part, part_from, a
 use Rattle.toml_places.specs.Values.{after_word, after_atom, after_member, after_members, after_value}
 use Rattle.toml_places.specs.Places.{parts}
 use Rattle.toml_places.specs.Spans.{value_or_key}
-use Rattle.toml_places.specs.Skips.{array_header, pair, opening, whole_line, Line, line_of}
+use Rattle.toml_places.specs.Skips.{sort_of}
+use Rattle.toml_places.specs.Loops.{array_header, pair, opening, whole_line, Line}
+
+-- an expression of toml's, by its key and its kind
+abbrev pub line_of : Expression → Line
+line_of e = (e.0, sort_of e.1)
 
 part_follows : (text rest part : List ℕ) → simple_key text ≡ Some (part, rest) → after_part text ≡ Some rest
 unfolding simple_key one_line after_part

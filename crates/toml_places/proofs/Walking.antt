@@ -14,10 +14,10 @@ use Rattle.toml.specs.Parse.{line, lines, skip_bom, parse_document}
 use Rattle.toml_places.specs.declared.lines.Sort.{Sort}
 use Rattle.toml_places.specs.declared.lines.Sort.TheVariants.{Pair, Table, ArrayTable}
 use Rattle.toml_places.specs.declared.places.Places.{Places}
-use Rattle.toml_places.specs.Skips.{sort_of, line_of, whole_line, Line}
+use Rattle.toml_places.specs.Skips.{sort_of}
+use Rattle.toml_places.proofs.Follows.{line_of, line_follows}
+use Rattle.toml_places.specs.Loops.{whole_line, Line, IsOpen, Walks}
 use Rattle.toml_places.specs.Places.{Mark, Section, frame_key, top, parts, is_frame, section_at, section_after, own_parts, mark_in, mark_of, next_section, marks_from, marks, Keeps}
-use Rattle.toml_places.specs.Walk.{IsOpen, Walks}
-use Rattle.toml_places.proofs.Follows.{line_follows}
 
 -- what is left of a text that is TOML: the marks so far, and those that the rest gives
 pub record Walked (text : List ℕ) (places : Places) (s : Section) (rest : List ℕ) : Type 0 where

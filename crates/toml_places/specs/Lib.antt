@@ -1,5 +1,3 @@
-pub mod Lines
-pub mod Walk
 pub mod Places
 pub mod Strings
 pub mod Values
@@ -8,4 +6,4 @@ pub mod Reads
 pub mod Spans
 pub mod Extents
 pub mod SpanReads
-pub mod Tables
+pub mod Loops

@@ -3,8 +3,8 @@
 ghost use Rattle.std.specs.Prelude.{◌≡◌, ◌≤◌, length};
 ghost use Rattle.toml_parser.specs.Reading.{Reads, Shortens, key_view};
 ghost use Rattle.toml.specs.Parse as toml;
-ghost use Rattle.toml_places.specs.Skips as spec;
-ghost use Rattle.toml_places.specs.Lines.{line_view};
+ghost use Rattle.toml_places.specs.Loops as loops;
+ghost use Rattle.toml_places.specs.Loops.{line_view};
 
 use crate::values::{after_value, key_equals};
 use std::alloc::Global;
@@ -42,7 +42,7 @@ pub fn skip_bom(text: &str) -> &str
 // An expression that has its line to itself.
 #[tactic(auto, unfolding(crate::specs::Skips::whole_line))]
 pub fn read_line(alloc: Global, text: &str) -> Result<(Line, &str), ParseError>
-    ensures value { Reads line_view result (spec.whole_line text.now) }
+    ensures value { Reads line_view result (loops.whole_line text.now) }
     ensures shorter { Shortens text.now result }
 {
     let (line, rest) = opening(alloc, text)?;
@@ -56,7 +56,7 @@ pub fn read_line(alloc: Global, text: &str) -> Result<(Line, &str), ParseError>
 
 #[tactic(auto, unfolding(crate::specs::Skips::opening))]
 fn opening(alloc: Global, text: &str) -> Result<(Line, &str), ParseError>
-    ensures value { Reads line_view result (spec.opening text.now) }
+    ensures value { Reads line_view result (loops.opening text.now) }
     ensures shorter { Shortens text.now result }
 {
     if first(text) != b'[' {
@@ -72,7 +72,7 @@ fn opening(alloc: Global, text: &str) -> Result<(Line, &str), ParseError>
 
 #[tactic(auto, unfolding(crate::specs::Skips::pair))]
 fn pair(alloc: Global, text: &str) -> Result<(Line, &str), ParseError>
-    ensures value { Reads line_view result (spec.pair text.now) }
+    ensures value { Reads line_view result (loops.pair text.now) }
     ensures shorter { Shortens text.now result }
 {
     let (key, at_value) = key_equals(alloc, text)?;
@@ -88,7 +88,7 @@ fn pair(alloc: Global, text: &str) -> Result<(Line, &str), ParseError>
 // A header in double brackets, after its opening brackets.
 #[tactic(auto, unfolding(crate::specs::Skips::array_header))]
 fn array_header(alloc: Global, text: &str) -> Result<(Line, &str), ParseError>
-    ensures value { Reads line_view result (spec.array_header text.now) }
+    ensures value { Reads line_view result (loops.array_header text.now) }
     ensures shorter { Shortens text.now result }
 {
     let (key, rest) = header_key(alloc, text)?;

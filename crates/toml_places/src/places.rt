@@ -6,7 +6,7 @@ ghost use Rattle.toml_parser.specs.Reading.{key_view, path_view};
 ghost use Rattle.toml.specs.Parse.{parse_document};
 ghost use Rattle.toml_places.specs.Places as spec;
 ghost use Rattle.toml_places.specs.Places.{Keeps, is_key, routes_key, first_at, first_spot, header_place, key_place, route_place, kept_key, kept_route};
-ghost use Rattle.toml_places.specs.Walk.{frame_count, section_view, frames_after, IsOpen, Walks};
+ghost use Rattle.toml_places.specs.Loops.{frame_count, section_view, frames_after, IsOpen, Walks};
 
 use crate::lines::{Line, Sort, read_line, skip_bom};
 use crate::spans::Spot;

@@ -8,7 +8,7 @@ ghost use Rattle.toml_parser.specs.Reading.{key_view, path_view};
 ghost use Rattle.toml_places.specs.Values as values;
 ghost use Rattle.toml_places.specs.Places as spec;
 ghost use Rattle.toml_places.specs.Places.{NotesTable, TableKeeps, at_if, routes_key, first_spot, spot_at};
-ghost use Rattle.toml_places.specs.Tables.{pair_view};
+ghost use Rattle.toml_places.specs.Loops.{pair_view};
 
 use crate::spans::{Spot, from_offset};
 use crate::values::{after_element, after_value, key_equals};

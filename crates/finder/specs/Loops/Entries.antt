@@ -5,7 +5,7 @@ use Rattle.page_ids.specs.Ways.{way_at, way_key}
 use Rattle.frame_records.specs.Bases.{BaseView}
 use Rattle.frame_records.specs.Seek.{entry_of}
 use Rattle.finder.specs.declared.found.Discovered.{Discovered}
-use Rattle.finder.specs.Loops.WayTargets.{id_at}
+use Rattle.finder.specs.Survey.{id_at}
 use Rattle.finder.specs.Finds.{EntryIsFound}
 
 -- a listed frame, with its rank, and with its parent and the key that led from it

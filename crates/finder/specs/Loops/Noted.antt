@@ -6,7 +6,7 @@ use Rattle.frame_records.specs.Bases.{frame_among}
 use Rattle.frame_records.specs.Seek.{is_open}
 use Rattle.finder.specs.declared.notes.Note.{Note}
 use Rattle.finder.specs.declared.target.Target.{Target}
-use Rattle.finder.specs.Loops.WayTargets.{id_at}
+use Rattle.finder.specs.Survey.{id_at}
 use Rattle.finder.specs.declared.target.Target.TheVariants.{Found, Closed}
 
 -- a node has the frame of an id, which is open to the caller or isn't

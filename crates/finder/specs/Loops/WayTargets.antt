@@ -30,7 +30,7 @@ lost_by aim.Closed to = destination.Closed to
 lost_by aim.Missing to = destination.Missing to
 lost_by aim.Outside to = destination.Outside to.page
 
--- of one that may seek a frame
+-- the same of a way that may seek a frame
 abbrev pub lost_to : Aim → Option Id → Destination
 lost_to aim None = destination.NotOffered
 lost_to aim (Some to) = lost_by aim to
@@ -50,10 +50,6 @@ node_of (Found node) = Some node
 node_of Closed = None
 node_of Missing = None
 node_of Outside = None
-
--- the id of the frame of a node
-abbrev pub id_at : List Frame → ℕ → Option Id
-id_at frames node = option_map (λ f. f.id) (slice_get frames node)
 
 -- a way finds the frame of a node
 abbrev pub IsFoundAt : List ℕ → BaseView → Frame → Way → ℕ → Type 0

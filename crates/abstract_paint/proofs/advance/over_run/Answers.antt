@@ -5,7 +5,7 @@ use Rattle.abstract_paint.specs.declared.advance.Advance.TheVariants.{Touches, G
 use Rattle.abstract_paint.specs.declared.cursor.Place.TheVariants.{Spot}
 use Rattle.abstract_paint.specs.Paint.{calm}
 use Rattle.abstract_paint.specs.Plain.{is_plain, plain_len, room}
-use Rattle.abstract_paint.specs.Advance.{IsAdvance}
+use Rattle.abstract_paint.specs.Loops.{IsAdvance}
 use Rattle.abstract_paint.proofs.OverRuns.{goes_over, stops_at, front_run, front_begins}
 use Rattle.abstract_paint.proofs.advance.over_run.Goals as goal
 

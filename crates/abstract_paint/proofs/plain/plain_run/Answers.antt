@@ -4,7 +4,8 @@ use Rattle.std.proofs.lemmas.List.Sums.{prefix_len-le-length}
 use Rattle.std.specs.Array.{IsFirstChunk}
 use lib.Count.{count_trailing_zeros}
 use lib.Lanes.{mask_l}
-use Rattle.abstract_paint.specs.Plain.{is_plain, is_other}
+use Rattle.abstract_paint.specs.Plain.{is_plain}
+use Rattle.abstract_paint.specs.Loops.{is_other}
 use Rattle.abstract_paint.proofs.ChunkRuns.{tail_is, run_through, run_stops}
 use Rattle.abstract_paint.proofs.plain.plain_run.Goals as goal
 

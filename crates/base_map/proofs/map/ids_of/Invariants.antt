@@ -2,7 +2,7 @@ use Rattle.std.proofs.Common.{◌≡◌, drop}
 use Rattle.std.specs.Prelude.{map}
 use Rattle.indexmap.specs.IndexSet.{insert_all}
 use Rattle.page_ids.specs.Ids.{id_eq}
-use Rattle.base_map.specs.Map.{ids_of}
+use Rattle.base_map.specs.Loops.{ids_of}
 use Rattle.base_map.proofs.map.ids_of.Given as goal
 
 abbrev pub invariant-loop-frame : goal.invariant-loop-frame

@@ -1,5 +1,6 @@
 use Rattle.std.proofs.Common.{◌∙◌, sym, ap, subst}
-use Rattle.base_map.specs.Map.{ids_of, AreReached}
+use Rattle.base_map.specs.Map.{AreReached}
+use Rattle.base_map.specs.Loops.{ids_of}
 use Rattle.page_ids.proofs.Truths.{weaken}
 use Rattle.base_map.proofs.Founds.{are_reached}
 use Rattle.base_map.proofs.map.reached.Goals as goal

@@ -2,8 +2,8 @@ use Rattle.std.proofs.Common.{◌++◌, List, Result, Ok, Err, subst}
 use Rattle.frame_records.specs.declared.frame.Frame.{Frame}
 use Rattle.base_pages.specs.Sections.{sections}
 use Rattle.base_pages.specs.Shell.{foot}
-use Rattle.base_pages.specs.Pages.{front, IsStopped}
-use Rattle.base_pages.specs.Loops.{book_view}
+use Rattle.base_pages.specs.Pages.{front}
+use Rattle.base_pages.specs.Loops.{IsStopped, book_view}
 use Rattle.std.specs.Prelude.{OnOk, IfErr}
 use Rattle.devices.specs.Devices.{WroteWhole}
 use Rattle.base_pages.proofs.OnTheWay.{begins}

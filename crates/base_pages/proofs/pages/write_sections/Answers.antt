@@ -4,8 +4,7 @@ use Rattle.std.proofs.lemmas.List.Elements.{All-more}
 use Rattle.devices.specs.Devices.{IsOnItsWay}
 use Rattle.base_pages.specs.Sections.{sections}
 use Rattle.base_pages.specs.Tags.{HasLetter}
-use Rattle.base_pages.specs.Loops.{book_view}
-use Rattle.base_pages.specs.Pages.{IsStopped}
+use Rattle.base_pages.specs.Loops.{book_view, IsStopped}
 use Rattle.base_pages.proofs.OnTheWay.{first_section}
 use Rattle.base_pages.proofs.pages.write_sections.Goals as goal
 

@@ -1,5 +1,6 @@
 use Rattle.std.proofs.Common.{◌∙◌, ◌+◌, sym, ap, subst, length}
-use Rattle.devices.specs.Devices.{IsOnItsWay, TookAll, TookPart}
+use Rattle.devices.specs.Devices.{IsOnItsWay, TookAll}
+use Rattle.devices.specs.Loops.{TookPart}
 use Rattle.devices.proofs.OnTheWay.{taken_on, broke_on}
 use Rattle.devices.proofs.pieces.write_piece.Goals as goal
 

@@ -1,6 +1,6 @@
 use Rattle.std.proofs.Common.{◌<◌, arith, rules}
 use Rattle.std.proofs.lemmas.Bool.{false≢true}
-use Rattle.explain.specs.Words.{texts_of}
+use Rattle.explain.specs.Loops.{texts_of}
 use Rattle.explain.specs.Lines.{HasWordAt}
 use Rattle.explain.proofs.Places.{none_yet}
 use Rattle.explain.proofs.line.first_word.Goals as goal

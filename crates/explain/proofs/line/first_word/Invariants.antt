@@ -1,5 +1,5 @@
 use Rattle.std.proofs.Common.{ℕ, ◌<◌}
-use Rattle.explain.specs.Words.{texts_of}
+use Rattle.explain.specs.Loops.{texts_of}
 use Rattle.explain.specs.Lines.{HasWordAt}
 use Rattle.explain.proofs.line.first_word.Given as goal
 

@@ -1,5 +1,5 @@
 use Rattle.std.proofs.Common.{◌≡◌, ◌∙◌, [], ap, sym, get_or, true}
-use Rattle.explain.specs.Words.{texts_of}
+use Rattle.explain.specs.Loops.{texts_of}
 use Rattle.explain.specs.Lines.{is_word}
 use Rattle.explain.proofs.Places.{none_yet, not_word}
 use Rattle.explain.proofs.line.word_at.Goals as goal

@@ -1,5 +1,5 @@
 use Rattle.std.proofs.Common.{◌≡◌, ℕ, ◌<◌, [], get_or, true}
-use Rattle.explain.specs.Words.{texts_of}
+use Rattle.explain.specs.Loops.{texts_of}
 use Rattle.explain.specs.Lines.{is_word}
 use Rattle.explain.proofs.line.word_at.Given as goal
 

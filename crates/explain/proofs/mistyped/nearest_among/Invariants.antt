@@ -1,7 +1,8 @@
 use Rattle.std.proofs.Common.{◌≡◌, drop}
 use Rattle.std.specs.Prelude.{option_map}
 use Rattle.near_words.specs.Near.{found_after, nearest}
-use Rattle.explain.specs.Words.{lower, texts_of}
+use Rattle.explain.specs.Words.{lower}
+use Rattle.explain.specs.Loops.{texts_of}
 use Rattle.explain.proofs.mistyped.nearest_among.Given as goal
 
 -- what is found, and the names that are left, lead to the nearest of all

@@ -1,6 +1,6 @@
 use Rattle.std.proofs.Common.{refl, inl}
 use Rattle.explain.proofs.Places.{is_among_same}
-use Rattle.explain.specs.Words.{texts_of}
+use Rattle.explain.specs.Loops.{texts_of}
 use Rattle.explain.specs.Listed.{listed}
 use Rattle.explain.proofs.word.explanation.Goals as goal
 

@@ -1,5 +1,5 @@
 use Rattle.explain.proofs.Places.{none_more, not_at}
-use Rattle.explain.specs.Words.{texts_of}
+use Rattle.explain.specs.Loops.{texts_of}
 use Rattle.explain.proofs.word.place_among.Goals as goal
 
 pub loop-place-preserved : goal.loop-place-preserved

@@ -1,5 +1,6 @@
 use Rattle.std.proofs.Common.{ℕ, ◌<◌, [], get_or}
-use Rattle.explain.specs.Words.{texts_of, IsSame}
+use Rattle.explain.specs.Words.{IsSame}
+use Rattle.explain.specs.Loops.{texts_of}
 use Rattle.explain.proofs.word.place_among.Given as goal
 
 -- none so far is the word

@@ -1,7 +1,7 @@
 use Rattle.std.proofs.Common.{refl, sym}
 use Rattle.explain.specs.declared.line.Sought.TheVariants.{Code, Capital, Any}
 use Rattle.explain.specs.Listed.{listed}
-use Rattle.explain.specs.Words.{texts_of}
+use Rattle.explain.specs.Loops.{texts_of}
 use Rattle.explain.proofs.Places.{has_word}
 use Rattle.explain.proofs.word.place_in_line.Goals as goal
 

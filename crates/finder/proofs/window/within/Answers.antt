@@ -1,5 +1,5 @@
 use Rattle.std.proofs.Common.{◌≡◌, sym, ◌∙◌, subst, Some}
-use Rattle.finder.specs.Loops.WayTargets.{id_at}
+use Rattle.finder.specs.Survey.{id_at}
 use Rattle.frame_records.specs.Bases.{BaseView}
 use Rattle.finder.proofs.Near.{is_near_to}
 use Rattle.finder.proofs.window.within.Goals as goal

@@ -1,8 +1,7 @@
 use Rattle.std.proofs.Common.{List, ℕ, ◌++◌, codes, sym, subst, refl}
 use Rattle.finding_forms.specs.declared.format.Format.{Format}
 use Rattle.finding_forms.specs.declared.format.Format.TheVariants.{Json}
-use Rattle.finding_forms.specs.JsonForm.{AddsObject}
-use Rattle.finding_forms.specs.Forms.{AddsPrinted}
+use Rattle.finding_forms.specs.Loops.{AddsObject, AddsPrinted}
 use Rattle.finding_forms.proofs.Printed.{on}
 use Rattle.finding_forms.proofs.forms.push_finding.Goals as goal
 

@@ -4,9 +4,8 @@ use Rattle.toml_places.specs.declared.text_lines.Extent.{Extent}
 use Rattle.toml_places.specs.Extents.{extent}
 use Rattle.finding_forms.specs.Excerpts.{mark_length}
 use Rattle.finding_forms.specs.declared.format.Format.TheVariants.{Full}
-use Rattle.finding_forms.specs.LineForm.{AddsLine}
+use Rattle.finding_forms.specs.Loops.{AddsLine, AddsPrinted}
 use Rattle.finding_forms.specs.FullForm.{lines_below, source_text}
-use Rattle.finding_forms.specs.Forms.{AddsPrinted}
 use Rattle.finding_forms.proofs.Printed.{on}
 use Rattle.finding_forms.proofs.forms.push_full_finding.Goals as goal
 

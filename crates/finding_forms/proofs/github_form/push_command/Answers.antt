@@ -1,7 +1,8 @@
 use Rattle.std.proofs.Common.{◌∙◌, ap, subst, option_copied}
 use Rattle.lint_words.specs.Lines.{line_of}
 use Rattle.lint.specs.Findings.{FindingView}
-use Rattle.finding_forms.specs.GithubForm.{command_text, AddsCommand}
+use Rattle.finding_forms.specs.GithubForm.{command_text}
+use Rattle.finding_forms.specs.Loops.{AddsCommand}
 use Rattle.finding_forms.proofs.Printed.{both_on}
 use Rattle.finding_forms.proofs.github_form.push_command.Goals as goal
 

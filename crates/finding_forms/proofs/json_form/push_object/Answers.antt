@@ -3,7 +3,8 @@ use Rattle.std.specs.Str.Lossy.{utf8_lossy}
 use Rattle.serde_json.specs.Written.{compact_text}
 use Rattle.toml_places.specs.declared.text_lines.Extent.{Extent}
 use Rattle.lint.specs.Findings.{FindingView}
-use Rattle.finding_forms.specs.JsonForm.{object_data, AddsObject}
+use Rattle.finding_forms.specs.JsonForm.{object_data}
+use Rattle.finding_forms.specs.Loops.{AddsObject}
 use Rattle.finding_forms.proofs.Printed.{both_on}
 use Rattle.finding_forms.proofs.json_form.push_object.Goals as goal
 

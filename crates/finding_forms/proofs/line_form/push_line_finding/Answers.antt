@@ -1,7 +1,8 @@
 use Rattle.std.proofs.Common.{◌∙◌, ap, subst, option_copied}
 use Rattle.lint_words.specs.Lines.{line_of}
 use Rattle.lint.specs.Findings.{FindingView}
-use Rattle.finding_forms.specs.LineForm.{line_text, AddsLine}
+use Rattle.finding_forms.specs.LineForm.{line_text}
+use Rattle.finding_forms.specs.Loops.{AddsLine}
 use Rattle.finding_forms.proofs.Printed.{both_on}
 use Rattle.finding_forms.proofs.line_form.push_line_finding.Goals as goal
 

@@ -1,5 +1,5 @@
 use Rattle.std.proofs.Common.{arith, subst, sym}
-use Rattle.frame_screens.specs.Painted.{IsBefore}
+use Rattle.frame_screens.specs.Loops.{IsBefore}
 use Rattle.frame_screens.proofs.Painted.{new_is_before, is_before}
 use Rattle.frame_screens.proofs.Ways.{parent_before, parent_is_listed}
 use Rattle.frame_screens.proofs.painter.terminal_before.Goals as goal

@@ -1,7 +1,8 @@
 use Rattle.std.proofs.Common.{◌≡◌, arith, subst, sym}
 use Rattle.std.proofs.lemmas.Grind.{common_steps}
 use Rattle.terminal_codes.specs.Screen.{Screen}
-use Rattle.frame_screens.specs.Screens.{new_terminal, with_frames, records, since_clear}
+use Rattle.frame_screens.specs.Screens.{new_terminal, with_frames, records}
+use Rattle.frame_screens.specs.Loops.{since_clear}
 use Rattle.frame_screens.specs.Laws.{LooksSame}
 use Rattle.frame_screens.proofs.Since.{looks_since}
 use Rattle.frame_screens.proofs.sending.terminal_after.Goals as goal

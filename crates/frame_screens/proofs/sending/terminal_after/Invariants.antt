@@ -1,5 +1,6 @@
 use Rattle.std.proofs.Common.{◌≡◌, drop}
-use Rattle.frame_screens.specs.Screens.{new_terminal, with_frames, records, since_clear}
+use Rattle.frame_screens.specs.Screens.{new_terminal, with_frames, records}
+use Rattle.frame_screens.specs.Loops.{since_clear}
 use Rattle.frame_screens.proofs.sending.terminal_after.Given as goal
 
 -- the frames that are left make of the terminal what those since the last that clears make of a new one

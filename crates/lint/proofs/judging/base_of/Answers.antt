@@ -6,7 +6,7 @@ use Rattle.frame_records.specs.declared.frame.Frame.{Frame}
 use Rattle.frame_records.specs.declared.build.BuildFault.{BuildFault}
 use Rattle.frame_records.specs.Bases.{BaseView, IsBuilt}
 use Rattle.base_text.specs.declared.detail.TextFault.{TextFault}
-use Rattle.lint.specs.Lint.{IsListed, IsRefused}
+use Rattle.lint.specs.Loops.{IsListed, IsRefused}
 use Rattle.lint.proofs.judging.base_of.Goals as goal
 
 by_build : (faults : List TextFault) (entry : Option ℕ) (outside : List ℕ) (frames : List Frame) (e : ℕ) (r : Result BaseView BuildFault)

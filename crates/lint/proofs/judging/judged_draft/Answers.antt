@@ -1,7 +1,8 @@
 use Rattle.std.proofs.Common.{◌≡◌, ◌∙◌, ◌++◌, map, ap, subst}
 use Rattle.toml_places.specs.Places.{marks}
 use Rattle.base_text.specs.Drafts.{DraftView}
-use Rattle.lint.specs.Lint.{tables_of, text_finding, whole_finding, AreAuditFindings, IsListed, IsRefused}
+use Rattle.lint.specs.Lint.{tables_of, text_finding, whole_finding, AreAuditFindings}
+use Rattle.lint.specs.Loops.{IsListed, IsRefused}
 use Rattle.page_ids.proofs.Truths.{weaken}
 use Rattle.lint.proofs.Judged.{parsed, HasBase, HasNone, of_base, of_faults}
 use Rattle.lint.proofs.judging.judged_draft.Goals as goal

@@ -1,7 +1,7 @@
 use Rattle.std.proofs.Common.{◌≡◌, ◌++◌, List, drop}
 use Rattle.std.specs.Prelude.{map}
 use Rattle.toml_places.specs.Places.{Mark}
-use Rattle.lint.specs.Tables.{KnowsTables, IsTable, seen}
+use Rattle.lint.specs.Loops.{KnowsTables, IsTable, seen}
 use Rattle.lint.specs.Lint.{text_finding}
 use Rattle.lint.proofs.text_findings.add_text_findings.Given as goal
 

@@ -1,6 +1,6 @@
 use Rattle.std.proofs.Common.{◌≡◌, ◌∙◌, ◌++◌, [], map, drop, ap, sym, subst, append-nil, arith}
 use Rattle.std.proofs.lemmas.List.{drop_all}
-use Rattle.lint.specs.Outside.{Lists}
+use Rattle.lint.specs.Loops.{Lists}
 use Rattle.lint.specs.Lint.{whole_finding}
 use Rattle.lint.proofs.Turns.{one_more}
 use Rattle.lint.proofs.text_findings.add_whole_findings.Goals as goal

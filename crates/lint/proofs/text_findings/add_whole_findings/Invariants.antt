@@ -1,8 +1,8 @@
 use Rattle.std.proofs.Common.{◌≡◌, ◌++◌, List, drop, None}
 use Rattle.std.specs.Prelude.{map}
 use Rattle.toml_places.specs.Places.{Mark}
-use Rattle.lint.specs.Tables.{KnowsTables, IsTable, table_at, seen}
-use Rattle.lint.specs.Outside.{Lists}
+use Rattle.lint.specs.Tables.{table_at}
+use Rattle.lint.specs.Loops.{KnowsTables, IsTable, seen, Lists}
 use Rattle.lint.specs.Lint.{whole_finding}
 use Rattle.lint.proofs.text_findings.add_whole_findings.Given as goal
 

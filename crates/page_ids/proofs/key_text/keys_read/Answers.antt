@@ -2,7 +2,8 @@ use Rattle.std.proofs.Common.{◌≡◌, ◌-◌, ◌+◌, ◌++◌, List, [], �
 use Rattle.std.proofs.lemmas.List.{take_all}
 use Rattle.std.proofs.lemmas.Grind.{common_steps}
 use Rattle.page_ids.specs.declared.key.Key.{Key}
-use Rattle.page_ids.specs.Keys.{key_word, key_at, IsUnreadableAt}
+use Rattle.page_ids.specs.Keys.{key_word, IsUnreadableAt}
+use Rattle.page_ids.specs.Loops.{key_at}
 use Rattle.page_ids.proofs.KeyTexts.{HasRead, unreadable, next_word}
 use Rattle.page_ids.proofs.key_text.keys_read.Goals as goal
 

@@ -1,4 +1,5 @@
-use Rattle.pageaudit.specs.Files.{device, IsBeingFed}
+use Rattle.pageaudit.specs.Files.{device}
+use Rattle.pageaudit.specs.Loops.{IsBeingFed}
 use Rattle.pageaudit.proofs.input.feed_whole.Given as goal
 
 -- what was read so far was taken by the reader

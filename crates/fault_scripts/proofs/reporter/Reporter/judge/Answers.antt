@@ -4,7 +4,7 @@ use Rattle.fault_scripts.specs.declared.frame_fault.FrameFault.TheVariants.{Touc
 use Rattle.page_ids.specs.declared.way.Way.{Way}
 use Rattle.page_ids.specs.Ways.{way_at}
 use Rattle.frame_records.specs.Ways.{destination_by, destination_of}
-use Rattle.fault_scripts.specs.FrameFaults.{way_fault}
+use Rattle.fault_scripts.specs.Loops.{way_fault}
 use Rattle.fault_scripts.proofs.Asked.{asked_way}
 use Rattle.fault_scripts.proofs.Reported.{step}
 use Rattle.fault_scripts.proofs.reporter.Reporter.judge.Goals as goal

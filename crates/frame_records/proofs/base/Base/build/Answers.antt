@@ -1,6 +1,7 @@
 use Rattle.std.proofs.Common.{ℕ, List, subst}
 use Rattle.frame_records.specs.declared.frame.Frame.{Frame}
-use Rattle.frame_records.specs.Bases.{IsUnrefused, IsBuildFault}
+use Rattle.frame_records.specs.Bases.{IsBuildFault}
+use Rattle.frame_records.specs.Loops.{IsUnrefused}
 use Rattle.frame_records.proofs.Built.{fault_back, base_valid, base_back}
 use Rattle.frame_records.proofs.base.Base.build.Goals as goal
 

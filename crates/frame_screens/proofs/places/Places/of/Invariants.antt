@@ -2,7 +2,7 @@ use Rattle.std.proofs.Common.{◌≡◌}
 use Rattle.page_ids.specs.Ids.{Id, id_eq}
 use Rattle.indexmap.specs.IndexMap.{get}
 use Rattle.frame_screens.specs.Frames.{place_of}
-use Rattle.frame_screens.specs.Gallery.{if_before}
+use Rattle.frame_screens.specs.Loops.{if_before}
 use Rattle.frame_screens.proofs.places.Places.of.Given as goal
 
 -- the first places are held

@@ -1,5 +1,5 @@
 use Rattle.std.proofs.Common.{◌∙◌, ap, rules}
-use Rattle.lint.specs.Lookups.{Knows}
+use Rattle.lint.specs.Loops.{Knows}
 use Rattle.lint.specs.Lint.{ranks_of, unreached, ids_of}
 use Rattle.lint.proofs.audit_findings.Audit.of.Goals as goal
 

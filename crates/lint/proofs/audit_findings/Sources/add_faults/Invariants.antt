@@ -2,9 +2,8 @@ use Rattle.std.proofs.Common.{◌≡◌, ◌++◌, ℕ, List, Option, drop}
 use Rattle.std.specs.Prelude.{map}
 use Rattle.page_ids.specs.Ids.{Id}
 use Rattle.toml_places.specs.Places.{Mark}
-use Rattle.lint.specs.Lookups.{Knows}
-use Rattle.lint.specs.Tables.{KnowsTables, IsTable, seen}
-use Rattle.lint.specs.Lint.{AreKnown, fault_finding}
+use Rattle.lint.specs.Loops.{Knows, KnowsTables, IsTable, seen, AreKnown}
+use Rattle.lint.specs.Lint.{fault_finding}
 use Rattle.lint.proofs.audit_findings.Sources.add_faults.Given as goal
 
 abbrev pub invariant-loop-fault : goal.invariant-loop-fault

@@ -1,8 +1,8 @@
 use Rattle.std.proofs.Common.{◌≡◌, ◌++◌, ℕ, List, drop}
 use Rattle.page_ids.specs.Ids.{Id}
 use Rattle.toml_places.specs.Places.{Mark}
-use Rattle.lint.specs.Tables.{KnowsTables, IsTable, seen}
-use Rattle.lint.specs.Lint.{AreKnown, look_findings}
+use Rattle.lint.specs.Loops.{KnowsTables, IsTable, seen, AreKnown}
+use Rattle.lint.specs.Lint.{look_findings}
 use Rattle.lint.proofs.audit_findings.Sources.add_looks.Given as goal
 
 abbrev pub invariant-loop-look : goal.invariant-loop-look

@@ -2,7 +2,8 @@ use Rattle.std.proofs.Common.{◌≡◌, ◌++◌, ℕ, List, drop}
 use Rattle.std.specs.Prelude.{map}
 use Rattle.page_ids.specs.Ids.{Id}
 use Rattle.toml_places.specs.Places.{Mark}
-use Rattle.lint.specs.Lint.{AreKnown, warning}
+use Rattle.lint.specs.Lint.{warning}
+use Rattle.lint.specs.Loops.{AreKnown}
 use Rattle.lint.proofs.audit_findings.Sources.add_warnings.Given as goal
 
 abbrev pub invariant-loop-id : goal.invariant-loop-id

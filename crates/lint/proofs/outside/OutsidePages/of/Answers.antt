@@ -1,7 +1,7 @@
 use Rattle.std.proofs.Common.{◌∙◌, ◌-◌, sym, ap, arith}
 use Rattle.std.specs.Option.{option_or}
 use Rattle.frame_records.specs.declared.limits.TheConstants.{MOST_LISTED}
-use Rattle.lint.specs.Tables.{seen}
+use Rattle.lint.specs.Loops.{seen}
 use Rattle.lint.specs.Outside.{element_if}
 use Rattle.lint.proofs.Pages.{none_yet, one_before}
 use Rattle.lint.proofs.outside.OutsidePages.of.Goals as goal

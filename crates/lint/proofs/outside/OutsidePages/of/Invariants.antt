@@ -1,7 +1,7 @@
 use Rattle.std.proofs.Common.{◌≡◌, ◌≤◌, ◌-◌, ℕ}
 use Rattle.frame_records.specs.declared.limits.TheConstants.{MOST_LISTED}
-use Rattle.lint.specs.Tables.{seen}
-use Rattle.lint.specs.Outside.{page_from, listed}
+use Rattle.lint.specs.Loops.{seen, listed}
+use Rattle.lint.specs.Outside.{page_from}
 use Rattle.lint.proofs.outside.OutsidePages.of.Given as goal
 
 -- the elements from the index on are listed

@@ -5,7 +5,8 @@ use Rattle.toml_places.specs.declared.spans.Span.{Span}
 use Rattle.toml_places.specs.declared.spans.Spot.{Spot}
 use Rattle.toml_places.specs.Places.{Mark, key_in, routes_key}
 use Rattle.lint.specs.declared.tables.TableSpots.{TableSpots}
-use Rattle.lint.specs.Tables.{TableView, KeysView, InlineKeeps, value_at, element_at, key_spot, list_key, whole, keys_of, route_spot, table_at, seen_keys, seen}
+use Rattle.lint.specs.Tables.{TableView, value_at, element_at, key_spot, list_key, whole, route_spot, table_at}
+use Rattle.lint.specs.Loops.{KeysView, InlineKeeps, keys_of, seen_keys, seen}
 use Rattle.lint.proofs.tables.TextTables.table.Goals as goal
 
 same_fields : (text : List ℕ) (whole whole' : Span) (frame frame' : Option ℕ) (key key' route route' : List ℕ → Option Spot) (item item' : ℕ → Option Span)

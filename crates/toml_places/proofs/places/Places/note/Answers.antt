@@ -3,7 +3,7 @@ use Rattle.std.proofs.lemmas.Option.{slice_get_read}
 use Rattle.std.specs.Option.{option_copied}
 use Rattle.toml_parser.specs.Reading.{path_view}
 use Rattle.toml_places.specs.Places.{Mark, mark_in, spot_at, spot_of}
-use Rattle.toml_places.specs.Walk.{frame_count, section_view}
+use Rattle.toml_places.specs.Loops.{frame_count, section_view}
 use Rattle.toml_places.proofs.Firsts.{length-path, keeps_frame, keeps_top, ok_then, option_or-none}
 use Rattle.toml_places.proofs.places.Places.note.Goals as goal
 

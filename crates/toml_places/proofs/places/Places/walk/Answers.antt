@@ -4,9 +4,7 @@ use Rattle.std.proofs.lemmas.Grind.{common_steps}
 use Rattle.toml_parser.specs.Lexical.{skip_blank}
 use Rattle.toml_parser.specs.Reading.{key_view}
 use Rattle.toml_places.specs.Places.{Section}
-use Rattle.toml_places.specs.Skips.{whole_line}
-use Rattle.toml_places.specs.Walk.{frame_count, section_view, IsOpen}
-use Rattle.toml_places.specs.Lines.{line_view}
+use Rattle.toml_places.specs.Loops.{whole_line, frame_count, section_view, IsOpen, line_view}
 use Rattle.toml_places.proofs.Walking.{section_open, walk_begins, walk_ends, walk_refused, walk_goes_on, walks_err}
 use Rattle.toml_places.proofs.places.Places.walk.Goals as goal
 

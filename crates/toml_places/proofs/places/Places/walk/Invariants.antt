@@ -2,7 +2,7 @@ use Rattle.std.proofs.Common.{◌≤◌, length, IsSome}
 use denote.Text.{Utf8}
 use denote.Shadow.{shadow}
 use Rattle.toml.specs.Parse.{parse_document}
-use Rattle.toml_places.specs.Walk.{frame_count, section_view, IsOpen}
+use Rattle.toml_places.specs.Loops.{frame_count, section_view, IsOpen}
 use Rattle.toml_places.proofs.Walking.{Walked}
 use Rattle.toml_places.proofs.places.Places.walk.Given as goal
 

@@ -1,6 +1,6 @@
 use Rattle.std.proofs.Common.{◌≡◌, [], Some, None, option_map, le_refl, append-nil, refl, sym, ap, ◌∙◌, rules, arith}
 use Rattle.toml_places.specs.Values.{next_pair}
-use Rattle.toml_places.specs.Tables.{pair_view}
+use Rattle.toml_places.specs.Loops.{pair_view}
 use Rattle.toml_places.proofs.PairTurns.{noted_all, noted_more}
 use Rattle.toml_places.proofs.tables.TablePlaces.note_pairs.Goals as goal
 

@@ -1,10 +1,19 @@
--- How far painting gets at once from a cursor.
-use Rattle.std.specs.Prelude.{◌≡◌, ℕ, ◌+◌, ◌<◌, ◌≤◌, List, length, drop}
+-- Facts that hold between the turns of loops, and what functions that aren't exported say. No promise rests on them.
+use Rattle.std.specs.Prelude.{◌≡◌, ℕ, ◌+◌, ◌<◌, List, length, ◌≤◌, drop, not, Bool}
 use Rattle.abstract_paint.specs.declared.cursor.AbsCursor.{AbsCursor}
 use Rattle.abstract_paint.specs.declared.painting.Painted.TheVariants.{Touches as touches_at}
+use Rattle.abstract_paint.specs.Paint.{paint_from, OnScreen}
 use Rattle.abstract_paint.specs.declared.advance.Advance.{Advance}
 use Rattle.abstract_paint.specs.declared.advance.Advance.TheVariants.{Touches, Goes}
-use Rattle.abstract_paint.specs.Paint.{OnScreen, paint_from}
+use Rattle.abstract_paint.specs.Plain.{is_plain}
+
+-- Bytes that aren't plain.
+
+-- each byte but 20 to 7F
+abbrev pub is_other : ℕ → Bool
+is_other b = not (is_plain b)
+
+-- How far painting gets at once from a cursor.
 
 -- the byte after this many touches
 pub record StopsBehind (x : AbsCursor) (bs : List ℕ) (k : ℕ) : Type 0 where

@@ -1,11 +1,14 @@
--- Words as a list of pieces.
-use Rattle.std.specs.Prelude.{ℕ, List, [], ◌∷◌, ◌++◌, decimal}
+-- Facts that hold between the turns of loops, and what functions that aren't exported say. No promise rests on them.
+use Rattle.std.specs.Prelude.{ℕ, List, decimal, [], ◌∷◌, ◌++◌}
 use Rattle.page_ids.specs.Ids.{frame_text, page_text}
 use Rattle.lint_words.specs.declared.piece.Piece.{Piece}
 use Rattle.lint_words.specs.declared.piece.Piece.TheVariants.{Text, Page, Id, Frame, Number, Grouped, Count, Quoted, Char, ShownBy, Pressed, Group, Key, Subject, Item, OutOfRange}
 use Rattle.lint_words.specs.Pieces.{grouped, number_of, quoted, char_text, frame_name, shown_by, pressed_text, group_text}
 use Rattle.lint_words.specs.KeyPieces.{key_text, key_subject, item_text, out_of_range_text}
 
+-- Words as a list of pieces.
+
+-- the text of one piece
 abbrev pub piece_text : Piece → List ℕ
 piece_text (Text words) = words.now
 piece_text (Page page) = page_text page

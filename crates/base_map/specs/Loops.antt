@@ -1,0 +1,11 @@
+-- Facts that hold between the turns of loops, and what functions that aren't exported say. No promise rests on them.
+use Rattle.std.specs.Prelude.{List, [], map}
+use Rattle.indexmap.specs.IndexSet.{insert_all}
+use Rattle.page_ids.specs.Ids.{Id, id_eq}
+use Rattle.finder.specs.declared.found.Discovered.{Discovered}
+
+-- The frames that are reached.
+
+-- the ids of discovered frames
+abbrev pub ids_of : List Discovered → List Id
+ids_of found = insert_all id_eq [] (map (λ d. d.id) found)
