@@ -18,6 +18,8 @@
 
 mod fault_line;
 mod laws;
+mod list_entry;
+mod list_form;
 mod list_lines;
 mod listing;
 mod push;
@@ -34,6 +36,7 @@ pub use devices::{
 };
 pub use fault_line::fault_text;
 pub use laws::lists_every_frame;
+pub use list_form::ListForm;
 pub use listing::{Listing, list};
 pub use report_lines::{push_fault, report};
 pub use run_fault::RunFault;

@@ -45,7 +45,7 @@ mod show_run;
 mod status;
 mod walk_run;
 
-pub use audit_report::Status;
+pub use audit_report::{ListForm, Status};
 pub use audit_run::{run_audit, run_audit_into};
 pub use base_map::View;
 pub use base_pages::PagesStatus;

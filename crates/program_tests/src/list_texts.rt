@@ -1,6 +1,6 @@
 //! The list of a base.
 
-use audit_report::list;
+use audit_report::{ListForm, list};
 use base_text::base_read;
 use devices::WriteFault;
 use frame_records::{Base, Groups};
@@ -23,7 +23,7 @@ fn lists(
     };
     match (base_read(alloc, base.as_bytes()), groups) {
         (Ok(base), Ok(groups)) => {
-            let listing = list(alloc, &base, &groups)?;
+            let listing = list(alloc, ListForm::Line, &base, &groups)?;
             same_in(text, listing.entry_is_found(), entry_is_found)?;
             let mut out = FakeSink::of(alloc, 1_000);
             same_in(text, listing.write(&mut out), Ok(()))?;
@@ -124,7 +124,10 @@ fn a_long_list_is_written_in_pieces(rt: HostRuntime) -> Result<(), Fail> {
     let (text, wanted) = chain(alloc, 400)?;
     let base: Base = base_read(alloc, text.as_str().as_bytes())?;
     let mut out = FakeSink::of(alloc, 1_000_000);
-    same(list(alloc, &base, &Groups::none())?.write(&mut out), Ok(()))?;
+    same(
+        list(alloc, ListForm::Line, &base, &Groups::none())?.write(&mut out),
+        Ok(()),
+    )?;
     same(str::from_utf8(out.taken.as_slice()), Ok(wanted.as_str()))?;
     same((out.writes, out.flushes), (2, 1))?;
     for room in [0usize, 65_535, 65_536, 80_000] {
@@ -132,7 +135,7 @@ fn a_long_list_is_written_in_pieces(rt: HostRuntime) -> Result<(), Fail> {
         let fault = WriteFault { wrote: room as u64 };
         same_in(
             room,
-            list(alloc, &base, &Groups::none())?.write(&mut out),
+            list(alloc, ListForm::Line, &base, &Groups::none())?.write(&mut out),
             Err(fault),
         )?;
         same_in(
@@ -143,4 +146,27 @@ fn a_long_list_is_written_in_pieces(rt: HostRuntime) -> Result<(), Fail> {
         same_in(room, out.flushes, 0)?;
     }
     Ok(())
+}
+
+#[test]
+fn an_object_has_the_columns_of_a_frame(rt: HostRuntime) -> Result<(), Fail> {
+    let alloc = rt.alloc();
+    let base = base_read(
+        alloc,
+        b"entry = 4\n[[frame]]\nid = '4a'\nnext = true\nrows = []\n\
+        [[frame]]\nid = '4b'\nprice = 7\nrows = []\n[[frame]]\nid = '5a'\ngroup = 9\nrows = []\n",
+    )?;
+    let mut out = FakeSink::of(alloc, 1_000);
+    same(
+        list(alloc, ListForm::Json, &base, &Groups::none())?.write(&mut out),
+        Ok(()),
+    )?;
+    same(
+        str::from_utf8(out.taken.as_slice()),
+        Ok(
+            "{\"frame\":\"4a\",\"reached\":true,\"rank\":0,\"price\":0,\"group\":null,\"script\":\"\"}\n\
+            {\"frame\":\"4b\",\"reached\":true,\"rank\":null,\"price\":7,\"group\":null,\"script\":\"#\"}\n\
+            {\"frame\":\"5a\",\"reached\":false,\"rank\":null,\"price\":0,\"group\":9,\"script\":null}\n",
+        ),
+    )
 }
