@@ -1,13 +1,13 @@
 -- The lines of `list`, in one of its forms. Ids, numbers and keys are printed as in every text.
-use Rattle.std.specs.Prelude.{ℕ, List, ◌++◌, Option, Some, None, codes, decimal, ◌≡◌, zero, suc, Bool, true, false, not, [], ◌∷◌, filter, length, slice_get, ◌↔◌, Contains, All}
+use Rattle.std.specs.Prelude.{ℕ, List, ◌++◌, Option, Some, None, codes, decimal, ◌≡◌, zero, suc, Bool, true, false, not, [], ◌∷◌, filter, length, slice_get, ◌↔◌, Contains, All, ◌==◌}
 use Rattle.page_ids.specs.declared.key.Key.{Key}
 use Rattle.page_ids.specs.Keys.{keys_text}
 use Rattle.frame_records.specs.declared.frame.Frame.{Frame}
 use Rattle.audit_report.specs.Lines.{line, with_id, entry_text}
 use Rattle.audit_report.specs.ReportLines.{script_text}
-use Rattle.std.specs.List.{list_any}
+use Rattle.std.specs.List.{list_all, list_any}
 use Rattle.indexmap.specs.IndexSet.{contains}
-use Rattle.page_ids.specs.Ids.{Id, id_eq}
+use Rattle.page_ids.specs.Ids.{Id, IsLetter, id_eq}
 use Rattle.frame_records.specs.declared.base.Sought.{Sought}
 use Rattle.frame_records.specs.declared.base.Sought.TheVariants as sought
 use Rattle.frame_records.specs.Bases.{BaseView, frame_at}
@@ -144,3 +144,22 @@ abbrev pub AllAreListed : Type 0
 AllAreListed =
     (caller : List ℕ) (base : BaseView) (found : List Discovered) → FindsReached caller base found
     → ListsEveryFrame caller base found
+
+-- Whatever the form, a frame is one line.
+
+abbrev pub is_in_line : ℕ → Bool
+is_in_line b = not (b == 10)
+
+-- a newline ends it, and none is before
+pub record IsOneLine (bytes : List ℕ) : Type 0 where
+  pub text : List ℕ
+  pub ends : bytes ≡ line text
+  pub one : list_all is_in_line text ≡ true
+
+pub record AreOneLines (f : Frame) : Type 0 where
+  pub reached : (form : ListForm) (rank : Option ℕ) (keys : List Key) → IsOneLine (frame_line form f rank keys)
+  pub unreached : (form : ListForm) → IsOneLine (unreached_line form f)
+
+-- the id of a frame ends in a letter
+abbrev pub FramesAreLines : Type 0
+FramesAreLines = (f : Frame) → IsLetter f.id.letter → AreOneLines f
