@@ -65,7 +65,7 @@ pub const LIST: &str = concat!(
 /// After the options of `map`.
 pub const MAP: &str = concat!(
     "A frame that is closed to the caller is red, one that no key reaches is dashed. What the base\n",
-    "lacks is red, or an ellipse if its page is outside.\n\n",
+    "lacks is red, the entry page too, or an ellipse if its page is outside.\n\n",
     "No key leads to a frame that is closed to the caller: --page shows none but its own page's, and\n",
     "--to those whose keys lead to PAGE.\n\n",
     "Example: pageaudit map examples/town.toml | dot -Tsvg >town.svg\n\n",
