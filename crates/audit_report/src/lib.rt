@@ -12,7 +12,7 @@
 //! - [`list`], [`Listing`]: the text of `list`, a line for each frame: the frames that a caller can reach, in the order of their
 //!   discovery, and then the others, in the order of their ids. Its memory is taken before its first line is written.
 //! - [`lists_every_frame`]: each frame of the base has one line: FRAME if a walk reaches it, and otherwise UNREACHED.
-//! - [`frames_are_lines`]: it is one line in each form, as words and as an object of JSON.
+//! - [`frames_are_lines`]: it is one line in each [`ListForm`], as words and as an object of JSON.
 //!
 //! What texts are read from and written to is the crate [`devices`]; its names are re-exported here.
 #![tactic(auto)]

@@ -3,7 +3,7 @@
 pub enum ListForm {
     /// `FRAME id RANK n PRICE n GROUP n SCRIPT keys`, or `UNREACHED id PRICE n GROUP n`.
     Line,
-    /// An object of JSON on one line: `frame`, `reached`, `rank`, `price`, `group` and `script`, of which `rank`, `group` and `script`
-    /// may be null. Of a base whose entry frame isn't found, `frame` and `fault`.
+    /// An object of JSON on one line: `frame`, `reached`, `rank`, `price`, `group` and `script`. A rank, a group or a script that
+    /// there isn't is null; the entry frame's script is empty. If the entry frame isn't found: `frame` and `fault`.
     Json,
 }

@@ -215,7 +215,8 @@ impl<'a> FrameLines<'a> {
         base: &'a Base,
         groups: &'a Groups,
     ) -> Result<FrameLines<'a>, AllocError>
-        ensures { IfOk result (λ lines. AreAllLines groups.now form base.now (all_lines lines.form lines.base lines.found)) }
+        ensures { IfOk result (λ lines.
+            AreAllLines groups.now form base.now (all_lines lines.form lines.base lines.found)) }
     {
         let survey = Survey::of(alloc, base, groups)?;
         let reached = Reached::of(alloc, survey.found().as_slice())?;
@@ -236,8 +237,8 @@ impl<'a> FrameLines<'a> {
         requires { (S.seen sink.old).failed ≡ false }
         ensures whole { OnOk result (WroteWhole (S.seen sink.old) (S.seen sink.new)
             (all_lines self.entry.form self.entry.base self.entry.found)) }
-        ensures part { IfErr result (λ fault.
-            WrotePart (S.seen sink.old) (S.seen sink.new) (all_lines self.entry.form self.entry.base self.entry.found) fault.wrote) }
+        ensures part { IfErr result (λ fault. WrotePart (S.seen sink.old) (S.seen sink.new)
+            (all_lines self.entry.form self.entry.base self.entry.found) fault.wrote) }
     {
         let FrameLines {
             form,

@@ -74,7 +74,7 @@ lost_line base id = codes "  \"" ++ node_name base id ++ codes "\" [" ++ lost_ma
 abbrev pub lost_of : BaseView → Frame → List Id
 lost_of base f = filter (is_lacked base) (targets_of f)
 
--- the entry frame, if all are shown and the base lacks it
+-- the entry frame, if it is shown and the base lacks it: a part near a page shows none that the base lacks
 abbrev pub lost_entry : MapView → List Id
 lost_entry m = if shows m.part (entry_of m.base) && is_lacked m.base (entry_of m.base) then entry_of m.base ∷ [] else []
 

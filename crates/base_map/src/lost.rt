@@ -70,7 +70,7 @@ impl<'a> Drawing<'a> {
         Ok(())
     }
 
-    // The entry frame, if all are shown and the base lacks it.
+    // The entry frame, if it is shown and the base lacks it.
     fn lost_entry(&self, alloc: Global) -> Result<IndexSet<FrameId>, AllocError>
         ensures { IfOk result (λ lost. lost.keys ≡ spec.lost_entry self.now) }
     {

@@ -18,7 +18,7 @@ const FORMS: &[&str] = &["text", "ansi", "svg", "cells", "html"];
 // The words for the forms of findings.
 const FORMATS: &[&str] = &["full", "line", "json", "github"];
 
-// The forms in which frames are listed.
+// The words for the forms of a list.
 const LIST_FORMATS: &[&str] = &["line", "json"];
 
 // A word that is known by its place.
@@ -254,7 +254,7 @@ fn list_command<'a>(alloc: Global) -> Result<Command<'a>, AllocError> {
                 .action(ArgAction::Set)
                 .value_parser(LIST_FORMATS)
                 .default_value("line")
-                .help("Print each frame as a line of words, or as JSON"),
+                .help("Print each frame as one line, or as JSON"),
         )?;
     with_groups(alloc, command)
 }

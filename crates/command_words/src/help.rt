@@ -56,7 +56,7 @@ pub const SHOW: &str = concat!(
 /// After the options of `list`.
 pub const LIST: &str = concat!(
     "A frame that is closed to the caller is listed as UNREACHED: this is a list, not a warning.\n\n",
-    "The objects of JSON have frame, reached, rank, price, group and script.\n\n",
+    "An object of JSON has frame, reached, rank, price, group and script, or frame and fault.\n\n",
     "Example: pageaudit list examples/town.toml\n\n",
     "Status: 0 a list, 1 an entry frame that is missing or closed, 2 bad command line,\n",
     "        3 a file that is refused or can't be read, or a write that fails, 4 out of memory",

@@ -32,8 +32,8 @@ fn write_listing<O: Sink>(out: &mut O, listing: Listing<'_>) -> Result<Status, R
     }
 }
 
-/// Lists the frames of a base, in a form: those that a caller of the groups can reach, and then the others. If the entry frame is missing
-/// or closed to the caller, its line is the only one, and the status is Faulty.
+/// Lists the frames of a base, in a form: those that a caller of the groups can reach, and then the others. If the entry
+/// frame is missing or closed to the caller, its line is the only one, and the status is Faulty.
 ///
 /// The base is read whole and judged first, and all the memory is taken that the list needs, which is written piece by piece. On
 /// every fault except `Write`, nothing was written. A device is not called again after it returned an error.

@@ -27,16 +27,20 @@ fn a_list_has_a_line_for_each_frame(rt: HostRuntime) -> Result<(), Fail> {
 
 #[test]
 fn a_list_without_an_entry_frame_is_its_line(rt: HostRuntime) -> Result<(), Fail> {
-    let mut base = FakeSource::of(b"entry = 400\n", 1);
-    let mut out = FakeSink::of(rt.alloc(), 1_000);
-    let answer = run_list(
-        rt.alloc(),
-        &mut base,
-        ListForm::Line,
-        &Groups::none(),
-        &mut out,
-    );
-    expect(answer, &out, Ok(Status::Faulty), "ENTRYMISSING 400a\n")
+    let rows = [
+        (ListForm::Line, "ENTRYMISSING 400a\n"),
+        (
+            ListForm::Json,
+            "{\"frame\":\"400a\",\"fault\":\"ENTRYMISSING\"}\n",
+        ),
+    ];
+    for (form, text) in rows {
+        let mut base = FakeSource::of(b"entry = 400\n", 1);
+        let mut out = FakeSink::of(rt.alloc(), 1_000);
+        let answer = run_list(rt.alloc(), &mut base, form, &Groups::none(), &mut out);
+        expect(answer, &out, Ok(Status::Faulty), text)?;
+    }
+    Ok(())
 }
 
 // Nothing is asked for after a bad base, a read that fails, a write that fails and a flush that fails: the status, how often the
