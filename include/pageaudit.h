@@ -204,7 +204,7 @@ static inline enum pageaudit_status pageaudit_lint_base_json(struct pageaudit_te
    PAGEAUDIT_CLEAR if it is shown; PAGEAUDIT_FAULTY if the base has no such frame; PAGEAUDIT_BAD_POLICY if the groups are no
    list. Without a screen codes and looks stay as they are.
 
-   frame   its id, as "478a"; null or "" for the entry frame
+   frame   its id, as "478a", or a page for its frame a, as "478"; null or "" for the entry frame
    codes   what the cells hold: 20 to 7F, and attributes from 80 to 9F; may be null
    looks   how they look; may be null
    line    the first fault of the base's text; may be null if room is 0

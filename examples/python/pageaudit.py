@@ -175,9 +175,10 @@ def lint(base: bytes, policy: Policy, file: str = "") -> list[Finding]:
 
 
 def show(base: bytes, frame: str = "", groups: Sequence[int] = ()) -> Screen | None:
-    """The screen of a frame, by its id, or of the entry frame, as a caller in these groups sees it; None if the base lacks it.
+    """The screen of a frame, as a caller in these groups sees it; None if the base lacks it.
 
-    It is the one that `pageaudit show` shows. Raises TextError for the first fault of the base's text, PolicyError or MemoryError.
+    `frame` is an id, as "478a", or a page for its frame a; without it the entry frame is shown. The screen is the one that
+    `pageaudit show` shows. Raises TextError for the first fault of the base's text, PolicyError or MemoryError.
     """
     if not isinstance(frame, str):
         raise TypeError(f"frame has to be a str, not {_kind(frame)}")

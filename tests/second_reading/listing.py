@@ -1,5 +1,7 @@
 """The list of a base's frames."""
 
+import json
+
 from .audit import discover, ranks_of
 from .base import BAD_GROUPS, Refused, base_of, caller_of, id_text
 from .session import unopened
@@ -23,8 +25,23 @@ def lines(base, groups):
         yield f"UNREACHED {id_text(id)} {terms(base.frames[id])}\n"
 
 
-def listing(text, option=None):
-    """Standard output, standard error and status of `list`, with the word of `--groups` if it is given."""
+def line_of(**columns):
+    return json.dumps(columns, separators=(",", ":")) + "\n"
+
+
+def objects(base, groups):
+    """The same as objects of JSON."""
+    scripts = discover(base, groups)
+    ranks = ranks_of(base, scripts)
+    for id in [*scripts, *sorted(base.frames.keys() - scripts.keys())]:
+        frame = base.frames[id]
+        yield line_of(
+            frame=id_text(id), reached=id in scripts, rank=ranks.get(id), price=frame.price, group=frame.group, script=scripts.get(id)
+        )
+
+
+def listing(text, option=None, form="line"):
+    """Standard output, standard error and status of `list`, with the word of `--groups` if it is given, in a form."""
     groups = caller_of(option)
     if groups is None:
         return BAD_GROUPS
@@ -33,5 +50,6 @@ def listing(text, option=None):
     except Refused as fault:
         return "", f"base: {fault}\n", 3
     if line := unopened(base, groups):
-        return line, "", 1
-    return "".join(lines(base, groups)), "", 0
+        word, id = line.split()
+        return line if form == "line" else line_of(frame=id, fault=word), "", 1
+    return "".join((lines if form == "line" else objects)(base, groups)), "", 0

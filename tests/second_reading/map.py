@@ -47,8 +47,8 @@ def near(base, groups, start, most, back):
 
 
 class Drawing:
-    def __init__(self, base, groups, shown):
-        self.base, self.groups, self.shown = base, groups, shown
+    def __init__(self, base, groups, shown, is_whole):
+        self.base, self.groups, self.shown, self.is_whole = base, groups, shown, is_whole
         self.reached = {} if unopened(base, groups) else discover(base, groups)
 
     def node(self, frame):
@@ -83,9 +83,13 @@ class Drawing:
             yield from (f"  subgraph cluster_{page} {{", f"    label={page}")
             yield from (self.node(frame) for frame in frames if frame.id[0] == page)
             yield "  }"
+        entry = self.base.entry_frame()
         lost = dict.fromkeys(to for frame in frames for to in self.edges(frame) if to not in self.base.frames)
+        if self.is_whole and entry not in self.base.frames:
+            lost = {entry: None} | lost
         for id in lost:
-            yield f'  "{self.name(id)}" [{"shape=ellipse" if id[0] in self.base.outside else "color=red"}]'
+            mark = "shape=ellipse" if id[0] in self.base.outside else "color=red"
+            yield f'  "{self.name(id)}" [{"peripheries=2 color=red" if id == entry else mark}]'
         for frame in frames:
             for to, keys in self.edges(frame).items():
                 yield f'  "{id_text(frame.id)}" -> "{self.name(to)}" [label="{" ".join(keys)}"]'
@@ -107,4 +111,4 @@ def draw(text, option=None, view=None, page=None, most=None):
         return "", f"error: the base has no frame {page}a\n", 2
     else:
         shown = near(base, groups, (page, "a"), most, view == "to")
-    return "".join(f"{line}\n" for line in Drawing(base, groups, shown).lines()), "", 0
+    return "".join(f"{line}\n" for line in Drawing(base, groups, shown, view is None).lines()), "", 0

@@ -7,4 +7,4 @@ use Rattle.audit_report.specs.Views.{ListingView}
 
 abbrev pub view_of : Lines → ListingView
 view_of (Entry text) = record { text = text.items; entry_is_found = false }
-view_of (Frames lines) = record { text = all_lines lines.base lines.found; entry_is_found = true }
+view_of (Frames lines) = record { text = all_lines lines.form lines.base lines.found; entry_is_found = true }

@@ -12,12 +12,15 @@
 //! - [`list`], [`Listing`]: the text of `list`, a line for each frame: the frames that a caller can reach, in the order of their
 //!   discovery, and then the others, in the order of their ids. Its memory is taken before its first line is written.
 //! - [`lists_every_frame`]: each frame of the base has one line: FRAME if a walk reaches it, and otherwise UNREACHED.
+//! - [`frames_are_lines`]: it is one line in each [`ListForm`], as words and as an object of JSON.
 //!
 //! What texts are read from and written to is the crate [`devices`]; its names are re-exported here.
 #![tactic(auto)]
 
 mod fault_line;
 mod laws;
+mod list_entry;
+mod list_form;
 mod list_lines;
 mod listing;
 mod push;
@@ -33,7 +36,8 @@ pub use devices::{
     Broken, FromRead, IntoWrite, Sink, Source, SourceFault, WriteFault, read_whole, write_whole,
 };
 pub use fault_line::fault_text;
-pub use laws::lists_every_frame;
+pub use laws::{frames_are_lines, lists_every_frame};
+pub use list_form::ListForm;
 pub use listing::{Listing, list};
 pub use report_lines::{push_fault, report};
 pub use run_fault::RunFault;

@@ -5,8 +5,10 @@ ghost use Rattle.std.specs.Vec.{vec_len, vec_capacity};
 ghost use Rattle.page_ids.specs.Keys.{key_word, keys_text};
 ghost use Rattle.audit_report.specs.Lines.{with_id};
 ghost use Rattle.audit_report.specs.ReportLines.{script_text};
-ghost use Rattle.audit_report.specs.Listing.{with_or_dash, price_and_group, frame_line, unreached_line};
+ghost use Rattle.audit_report.specs.Listing.{with_or_dash, with_or_null, price_and_group, price_and_group_members, frame_line, unreached_line};
+ghost use Rattle.audit_report.specs.declared.list_form.ListForm.TheVariants.{Line as InLine, Json as InJson};
 
+use crate::list_form::ListForm;
 use frame_records::{Frame, GroupNo};
 use itoa::Buffer;
 use page_ids::{FrameId, Key};
@@ -44,6 +46,19 @@ fn push_or_dash(out: &mut Vec<u8>, words: &[u8], number: Option<u64>)
     match number {
         Some(number) => push_bytes(out, Buffer::new().format(number).as_bytes()),
         None => push_bytes(out, b"-"),
+    }
+}
+
+fn push_or_null(out: &mut Vec<u8>, words: &[u8], number: Option<u64>)
+    requires room { vec_len out.old + (length words.now + 40) ≤ vec_capacity out.old }
+    ensures items { out.new.items ≡ out.old.items ++ with_or_null words.now number }
+    ensures len { vec_len out.new ≤ vec_len out.old + (length words.now + 40) }
+    ensures capacity { vec_capacity out.old ≤ vec_capacity out.new }
+{
+    push_bytes(out, words);
+    match number {
+        Some(number) => push_bytes(out, Buffer::new().format(number).as_bytes()),
+        None => push_bytes(out, b"null"),
     }
 }
 
@@ -114,10 +129,19 @@ fn push_price_and_group(out: &mut Vec<u8>, frame: &Frame)
     push_or_dash(out, b" GROUP ", number_of(frame.group));
 }
 
-// The line of a frame that is reached: its rank, and the keys that lead to it.
-pub fn push_frame(out: &mut Vec<u8>, frame: &Frame, rank: Option<u16>, keys: &[Key])
+fn push_members(out: &mut Vec<u8>, frame: &Frame)
+    requires room { vec_len out.old + 98 ≤ vec_capacity out.old }
+    ensures items { out.new.items ≡ out.old.items ++ price_and_group_members frame.now }
+    ensures len { vec_len out.new ≤ vec_len out.old + 98 }
+    ensures capacity { vec_capacity out.old ≤ vec_capacity out.new }
+{
+    push_or_null(out, b",\"price\":", Some(u64::from(frame.price.get())));
+    push_or_null(out, b",\"group\":", number_of(frame.group));
+}
+
+fn push_frame_words(out: &mut Vec<u8>, frame: &Frame, rank: Option<u16>, keys: &[Key])
     requires room { vec_len out.old + (256 + 3 * length keys.now) ≤ vec_capacity out.old }
-    ensures items { out.new.items ≡ out.old.items ++ frame_line frame.now rank keys.now }
+    ensures items { out.new.items ≡ out.old.items ++ frame_line InLine frame.now rank keys.now }
     ensures len { vec_len out.new ≤ vec_len out.old + (256 + 3 * length keys.now) }
     ensures capacity { vec_capacity out.old ≤ vec_capacity out.new }
 {
@@ -128,14 +152,67 @@ pub fn push_frame(out: &mut Vec<u8>, frame: &Frame, rank: Option<u16>, keys: &[K
     push_bytes(out, b"\n");
 }
 
-// The line of a frame that isn't.
-pub fn push_unreached(out: &mut Vec<u8>, frame: &Frame)
+fn push_frame_object(out: &mut Vec<u8>, frame: &Frame, rank: Option<u16>, keys: &[Key])
+    requires room { vec_len out.old + (256 + 3 * length keys.now) ≤ vec_capacity out.old }
+    ensures items { out.new.items ≡ out.old.items ++ frame_line InJson frame.now rank keys.now }
+    ensures len { vec_len out.new ≤ vec_len out.old + (256 + 3 * length keys.now) }
+    ensures capacity { vec_capacity out.old ≤ vec_capacity out.new }
+{
+    push_id(out, b"{\"frame\":\"", frame.id);
+    push_or_null(out, b"\",\"reached\":true,\"rank\":", rank_number(rank));
+    push_members(out, frame);
+    push_bytes(out, b",\"script\":\"");
+    push_keys(out, keys);
+    push_bytes(out, b"\"}");
+    push_bytes(out, b"\n");
+}
+
+// The line of a frame that is reached: its rank, and the keys that lead to it.
+pub fn push_frame(out: &mut Vec<u8>, form: ListForm, frame: &Frame, rank: Option<u16>, keys: &[Key])
+    requires room { vec_len out.old + (256 + 3 * length keys.now) ≤ vec_capacity out.old }
+    ensures items { out.new.items ≡ out.old.items ++ frame_line form frame.now rank keys.now }
+    ensures len { vec_len out.new ≤ vec_len out.old + (256 + 3 * length keys.now) }
+    ensures capacity { vec_capacity out.old ≤ vec_capacity out.new }
+{
+    match form {
+        ListForm::Line => push_frame_words(out, frame, rank, keys),
+        ListForm::Json => push_frame_object(out, frame, rank, keys),
+    }
+}
+
+fn push_unreached_words(out: &mut Vec<u8>, frame: &Frame)
     requires room { vec_len out.old + 256 ≤ vec_capacity out.old }
-    ensures items { out.new.items ≡ out.old.items ++ unreached_line frame.now }
+    ensures items { out.new.items ≡ out.old.items ++ unreached_line InLine frame.now }
     ensures len { vec_len out.new ≤ vec_len out.old + 256 }
     ensures capacity { vec_capacity out.old ≤ vec_capacity out.new }
 {
     push_id(out, b"UNREACHED ", frame.id);
     push_price_and_group(out, frame);
     push_bytes(out, b"\n");
+}
+
+fn push_unreached_object(out: &mut Vec<u8>, frame: &Frame)
+    requires room { vec_len out.old + 256 ≤ vec_capacity out.old }
+    ensures items { out.new.items ≡ out.old.items ++ unreached_line InJson frame.now }
+    ensures len { vec_len out.new ≤ vec_len out.old + 256 }
+    ensures capacity { vec_capacity out.old ≤ vec_capacity out.new }
+{
+    push_id(out, b"{\"frame\":\"", frame.id);
+    push_bytes(out, b"\",\"reached\":false,\"rank\":null");
+    push_members(out, frame);
+    push_bytes(out, b",\"script\":null}");
+    push_bytes(out, b"\n");
+}
+
+// The line of a frame that isn't.
+pub fn push_unreached(out: &mut Vec<u8>, form: ListForm, frame: &Frame)
+    requires room { vec_len out.old + 256 ≤ vec_capacity out.old }
+    ensures items { out.new.items ≡ out.old.items ++ unreached_line form frame.now }
+    ensures len { vec_len out.new ≤ vec_len out.old + 256 }
+    ensures capacity { vec_capacity out.old ≤ vec_capacity out.new }
+{
+    match form {
+        ListForm::Line => push_unreached_words(out, frame),
+        ListForm::Json => push_unreached_object(out, frame),
+    }
 }

@@ -3,13 +3,13 @@ ghost use Rattle.std.specs.Vec.{vec_len, vec_capacity};
 ghost use Rattle.devices.specs.Devices.{Seen, WroteWhole, WrotePart, IsOnItsWay};
 ghost use Rattle.frame_records.specs.Seek.{entry_of};
 ghost use Rattle.finder.specs.declared.found.Discovered.{Discovered as Entry};
-ghost use Rattle.audit_report.specs.Lines.{entry_text};
-ghost use Rattle.audit_report.specs.Listing.{Knows, reached_line, reached_lines, unreached_lines, all_lines, AreAllLines, IsListing};
+ghost use Rattle.audit_report.specs.Listing.{Knows, entry_line, reached_line, reached_lines, unreached_lines, all_lines, AreAllLines, IsListing};
 
+use crate::list_entry::entry_line;
+use crate::list_form::ListForm;
 use crate::list_lines::{push_frame, push_unreached};
 use crate::reached::Reached;
 use crate::script::fill_script;
-use crate::walk_lines::entry_text;
 use devices::{Sink, WriteFault, write_last, write_piece, write_whole};
 use finder::{Discovered, Survey};
 use frame_records::{Base, Frame, Groups, Sought};
@@ -24,6 +24,7 @@ const ROOM: usize = 65_536 + 256 + 3 * 65_535;
 // All that is needed to write the lines of a base's frames.
 #[derive(Drop)]
 struct FrameLines<'a> {
+    form: ListForm,
     base: &'a Base,
     survey: Survey<'a>,
     reached: Reached,
@@ -37,7 +38,7 @@ impl<'a> Model for FrameLines<'a> {
 
     ghost Value = { LinesView };
 
-    ghost view = { λ l. record { base = l.base.now; found = l.survey.found } };
+    ghost view = { λ l. record { form = l.form; base = l.base.now; found = l.survey.found } };
 
     ghost invariant = { λ l. IsPrepared l.base.now l.survey l.reached l.keys l.text };
 }
@@ -74,19 +75,25 @@ fn discovered_at<'a>(survey: &'a Survey, index: u32) -> &'a Discovered
 }
 
 // Writes the line of a reached frame after a text. A script of 65,535 keys has at most 196,605 bytes.
-fn push_reached(out: &mut Vec<u8>, keys: &mut Vec<Key>, survey: &Survey, index: u32)
+fn push_reached(out: &mut Vec<u8>, keys: &mut Vec<Key>, form: ListForm, survey: &Survey, index: u32)
     requires within { index < length survey.now.found }
     requires few { length survey.now.found ≤ 65535 }
     requires keys_room { length survey.now.found ≤ vec_capacity keys.old }
     requires room { vec_len out.old + 196861 ≤ vec_capacity out.old }
-    ensures items { out.new.items ≡ out.old.items ++ reached_line survey.now.base survey.now.found index }
+    ensures items { out.new.items ≡ out.old.items ++ reached_line form survey.now.base survey.now.found index }
     ensures len { vec_len out.new ≤ vec_len out.old + 196861 }
     ensures capacity { vec_capacity out.old ≤ vec_capacity out.new }
     ensures keys { vec_capacity keys.new ≡ vec_capacity keys.old }
 {
     let rank = discovered_at(survey, index).rank;
     fill_script(keys, survey.found(), index);
-    push_frame(out, survey.frame(index as usize), rank, keys.as_slice());
+    push_frame(
+        out,
+        form,
+        survey.frame(index as usize),
+        rank,
+        keys.as_slice(),
+    );
 }
 
 // Writes the lines of all reached frames, the last of which may be kept; returns how many bytes the sink has taken.
@@ -94,6 +101,7 @@ fn write_reached<S: Sink>(
     sink: &mut S,
     kept: &mut Vec<u8>,
     keys: &mut Vec<Key>,
+    form: ListForm,
     survey: &Survey,
 ) -> Result<u64, WriteFault>
     requires open { (S.seen sink.old).failed ≡ false }
@@ -107,13 +115,13 @@ fn write_reached<S: Sink>(
     ensures wide { OnOk result (262397 ≤ vec_capacity kept.new) }
     ensures count { IfOk result (λ n. n + vec_len kept.new ≤ 2 ^ 40) }
     ensures taken { IfOk result (λ n. IsOnItsWay (S.seen sink.old) (S.seen sink.new) kept.new.items n
-        (reached_lines survey.now.base survey.now.found (length survey.now.found))) }
+        (reached_lines form survey.now.base survey.now.found (length survey.now.found))) }
     ensures part { (rest : List ℕ) → IfErr result (λ fault. WrotePart (S.seen sink.old) (S.seen sink.new)
-        (reached_lines survey.now.base survey.now.found (length survey.now.found) ++ rest) fault.wrote) }
+        (reached_lines form survey.now.base survey.now.found (length survey.now.found) ++ rest) fault.wrote) }
 {
     let mut wrote = 0;
     for index in 0..survey.found().as_slice().len() as u32 {
-        push_reached(kept, keys, survey, index);
+        push_reached(kept, keys, form, survey, index);
         match write_piece(sink, kept, wrote) {
             Ok(count) => wrote = count,
             Err(fault) => return Err(fault),
@@ -123,15 +131,15 @@ fn write_reached<S: Sink>(
 }
 
 // Writes the line of a frame after a text if the frame isn't reached.
-fn push_other(out: &mut Vec<u8>, reached: &Reached, frame: &Frame)
+fn push_other(out: &mut Vec<u8>, form: ListForm, reached: &Reached, frame: &Frame)
     requires room { vec_len out.old + 256 ≤ vec_capacity out.old }
     ensures items { (found : List Entry) → Knows found reached.now → out.new.items ≡ out.old.items ++
-        unreached_lines found (frame.now ∷ []) }
+        unreached_lines form found (frame.now ∷ []) }
     ensures len { vec_len out.new ≤ vec_len out.old + 256 }
     ensures capacity { vec_capacity out.old ≤ vec_capacity out.new }
 {
     if !reached.contains(frame.id) {
-        push_unreached(out, frame);
+        push_unreached(out, form, frame);
     }
 }
 
@@ -140,6 +148,7 @@ fn write_others<S: Sink>(
     sink: &mut S,
     kept: &mut Vec<u8>,
     wrote: u64,
+    form: ListForm,
     reached: &Reached,
     frames: &[Frame],
 ) -> Result<u64, WriteFault>
@@ -153,15 +162,15 @@ fn write_others<S: Sink>(
     ensures taken { (start : Seen) (before : List ℕ) (found : List Entry) → Knows found reached.now
         → IsOnItsWay start (S.seen sink.old) kept.old.items wrote before
         → IfOk result (λ n. IsOnItsWay start (S.seen sink.new) kept.new.items n (before ++
-        unreached_lines found frames.now)) }
+        unreached_lines form found frames.now)) }
     ensures part { (start : Seen) (before : List ℕ) (found : List Entry) → Knows found reached.now
         → IsOnItsWay start (S.seen sink.old) kept.old.items wrote before
         → IfErr result (λ fault. WrotePart start (S.seen sink.new) (before ++
-        unreached_lines found frames.now) fault.wrote) }
+        unreached_lines form found frames.now) fault.wrote) }
 {
     let mut taken = wrote;
     for frame in frames {
-        push_other(kept, reached, frame);
+        push_other(kept, form, reached, frame);
         match write_piece(sink, kept, taken) {
             Ok(count) => taken = count,
             Err(fault) => return Err(fault),
@@ -175,6 +184,7 @@ fn write_rest<S: Sink>(
     sink: &mut S,
     kept: &mut Vec<u8>,
     wrote: u64,
+    form: ListForm,
     reached: &Reached,
     frames: &[Frame],
 ) -> Result<(), WriteFault>
@@ -185,13 +195,13 @@ fn write_rest<S: Sink>(
     requires wide { 262397 ≤ vec_capacity kept.old }
     ensures whole { (start : Seen) (before : List ℕ) (found : List Entry) → Knows found reached.now
         → IsOnItsWay start (S.seen sink.old) kept.old.items wrote before
-        → OnOk result (WroteWhole start (S.seen sink.new) (before ++ unreached_lines found frames.now)) }
+        → OnOk result (WroteWhole start (S.seen sink.new) (before ++ unreached_lines form found frames.now)) }
     ensures part { (start : Seen) (before : List ℕ) (found : List Entry) → Knows found reached.now
         → IsOnItsWay start (S.seen sink.old) kept.old.items wrote before
         → IfErr result (λ fault. WrotePart start (S.seen sink.new) (before ++
-        unreached_lines found frames.now) fault.wrote) }
+        unreached_lines form found frames.now) fault.wrote) }
 {
-    match write_others(sink, kept, wrote, reached, frames) {
+    match write_others(sink, kept, wrote, form, reached, frames) {
         Ok(wrote) => write_last(sink, kept.as_slice(), wrote),
         Err(fault) => Err(fault),
     }
@@ -199,8 +209,14 @@ fn write_rest<S: Sink>(
 
 impl<'a> FrameLines<'a> {
     // Takes all the memory that the lines need.
-    fn of(alloc: Global, base: &'a Base, groups: &'a Groups) -> Result<FrameLines<'a>, AllocError>
-        ensures { IfOk result (λ lines. AreAllLines groups.now base.now (all_lines lines.base lines.found)) }
+    fn of(
+        alloc: Global,
+        form: ListForm,
+        base: &'a Base,
+        groups: &'a Groups,
+    ) -> Result<FrameLines<'a>, AllocError>
+        ensures { IfOk result (λ lines.
+            AreAllLines groups.now form base.now (all_lines lines.form lines.base lines.found)) }
     {
         let survey = Survey::of(alloc, base, groups)?;
         let reached = Reached::of(alloc, survey.found().as_slice())?;
@@ -208,6 +224,7 @@ impl<'a> FrameLines<'a> {
         let text = Vec::with_capacity(alloc, ROOM)?;
         let _frames = base.frames();
         Ok(FrameLines {
+            form,
             base,
             survey,
             reached,
@@ -219,19 +236,20 @@ impl<'a> FrameLines<'a> {
     fn write<S: Sink>(self, sink: &mut S) -> Result<(), WriteFault>
         requires { (S.seen sink.old).failed ≡ false }
         ensures whole { OnOk result (WroteWhole (S.seen sink.old) (S.seen sink.new)
-            (all_lines self.entry.base self.entry.found)) }
-        ensures part { IfErr result (λ fault.
-            WrotePart (S.seen sink.old) (S.seen sink.new) (all_lines self.entry.base self.entry.found) fault.wrote) }
+            (all_lines self.entry.form self.entry.base self.entry.found)) }
+        ensures part { IfErr result (λ fault. WrotePart (S.seen sink.old) (S.seen sink.new)
+            (all_lines self.entry.form self.entry.base self.entry.found) fault.wrote) }
     {
         let FrameLines {
+            form,
             base,
             survey,
             reached,
             mut keys,
             mut text,
         } = self;
-        match write_reached(sink, &mut text, &mut keys, &survey) {
-            Ok(wrote) => write_rest(sink, &mut text, wrote, &reached, base.frames()),
+        match write_reached(sink, &mut text, &mut keys, form, &survey) {
+            Ok(wrote) => write_rest(sink, &mut text, wrote, form, &reached, base.frames()),
             Err(fault) => Err(fault),
         }
     }
@@ -239,12 +257,17 @@ impl<'a> FrameLines<'a> {
 
 impl<'a> Listing<'a> {
     // The entry frame's line alone.
-    fn of_entry(alloc: Global, base: &Base, closed: bool) -> Result<Listing<'a>, AllocError>
-        ensures text { IfOk result (λ listing. listing.text ≡ entry_text (entry_of base.now) closed) }
+    fn of_entry(
+        alloc: Global,
+        form: ListForm,
+        base: &Base,
+        closed: bool,
+    ) -> Result<Listing<'a>, AllocError>
+        ensures text { IfOk result (λ listing. listing.text ≡ entry_line form (entry_of base.now) closed) }
         ensures entry { IfOk result (λ listing. listing.entry_is_found ≡ false) }
     {
         Ok(Listing {
-            lines: Lines::Entry(entry_text(alloc, base.entry_frame(), closed)?),
+            lines: Lines::Entry(entry_line(alloc, form, base.entry_frame(), closed)?),
         })
     }
 
@@ -279,16 +302,17 @@ impl<'a> Listing<'a> {
 /// far longer than the base; of it no more than 262,397 bytes are held at once.
 pub fn list<'a>(
     alloc: Global,
+    form: ListForm,
     base: &'a Base,
     groups: &'a Groups,
 ) -> Result<Listing<'a>, AllocError>
-    ensures { IfOk result (IsListing groups.now base.now) }
+    ensures { IfOk result (IsListing groups.now form base.now) }
 {
     match base.seek(base.entry_frame(), groups) {
-        Sought::Missing => Listing::of_entry(alloc, base, false),
-        Sought::Closed => Listing::of_entry(alloc, base, true),
+        Sought::Missing => Listing::of_entry(alloc, form, base, false),
+        Sought::Closed => Listing::of_entry(alloc, form, base, true),
         Sought::Found(_) => Ok(Listing {
-            lines: Lines::Frames(FrameLines::of(alloc, base, groups)?),
+            lines: Lines::Frames(FrameLines::of(alloc, form, base, groups)?),
         }),
     }
 }

@@ -1,5 +1,5 @@
 -- The edges of a map, and the parts of a base that it shows.
-use Rattle.std.specs.Prelude.{ℕ, Bool, true, ◌||◌, List, Option, Some, None, filter, is_none, [], map, if◌then◌else◌, ◌++◌, codes, false, ◌∷◌}
+use Rattle.std.specs.Prelude.{ℕ, Bool, true, ◌&&◌, ◌||◌, List, Option, Some, None, filter, is_none, [], map, if◌then◌else◌, ◌++◌, codes, false, ◌∷◌}
 use Rattle.std.specs.Option.{option_eq}
 use Rattle.std.specs.List.{filter_map, flat_map}
 use Rattle.page_ids.specs.Ids.{Id, id_eq, frame_text, page_text}
@@ -9,6 +9,7 @@ use Rattle.indexmap.specs.IndexSet.{insert_all}
 use Rattle.page_ids.specs.declared.key.Key.{Key}
 use Rattle.page_ids.specs.declared.way.Way.{Way}
 use Rattle.page_ids.specs.Ways.{way_key, ways}
+use Rattle.frame_records.specs.Seek.{entry_of}
 use Rattle.frame_records.specs.Ways.{sought}
 use Rattle.finder.specs.Finds.{has_id}
 use Rattle.page_ids.specs.Keys.{key_word}
@@ -59,9 +60,12 @@ keys_to f to = map way_key (filter (seeks f to) ways)
 abbrev pub node_name : BaseView → Id → List ℕ
 node_name base id = if lists_outside base id.page then page_text id.page else frame_text id
 
--- an outside page has a shape of its own, what is missing is red
+-- the entry frame has two lines round it and is red, an outside page has a shape of its own, what is missing is red
 abbrev pub lost_mark : BaseView → Id → List ℕ
-lost_mark base id = if lists_outside base id.page then codes "shape=ellipse" else codes "color=red"
+lost_mark base id =
+    if id_eq id (entry_of base) then codes "peripheries=2 color=red"
+    else if lists_outside base id.page then codes "shape=ellipse"
+    else codes "color=red"
 
 abbrev pub lost_line : BaseView → Id → List ℕ
 lost_line base id = codes "  \"" ++ node_name base id ++ codes "\" [" ++ lost_mark base id ++ codes "]\n"
@@ -70,9 +74,13 @@ lost_line base id = codes "  \"" ++ node_name base id ++ codes "\" [" ++ lost_ma
 abbrev pub lost_of : BaseView → Frame → List Id
 lost_of base f = filter (is_lacked base) (targets_of f)
 
--- what the ways of frames seek and the base lacks, each once, in the order in which it is first sought
+-- the entry frame, if it is shown and the base lacks it: a part near a page shows none that the base lacks
+abbrev pub lost_entry : MapView → List Id
+lost_entry m = if shows m.part (entry_of m.base) && is_lacked m.base (entry_of m.base) then entry_of m.base ∷ [] else []
+
+-- that, and what the ways of frames seek and the base lacks, each once, in the order in which it is first sought
 abbrev pub lost : MapView → List Frame → List Id
-lost m frames = insert_all id_eq [] (flat_map (lost_of m.base) frames)
+lost m frames = insert_all id_eq (lost_entry m) (flat_map (lost_of m.base) frames)
 
 abbrev pub lost_lines : MapView → List Frame → List ℕ
 lost_lines m frames = flat_map (lost_line m.base) (lost m frames)

@@ -1,7 +1,7 @@
 //! The map of a base: its graph as a DOT file for Graphviz, for a caller of stated groups.
 //!
 //! Each frame is a node, and pages are clusters. Each pair of a frame and what its ways seek is an edge, with the keys that
-//! seek it. What the base lacks is a node too.
+//! seek it. What the base lacks is a node too, the entry frame as well.
 //!
 //! ```
 //! let text = map_text(alloc, &base, &Groups::none(), &Part::whole())?; // digraph { .. "123a" -> "1231a" [label="1"] .. }

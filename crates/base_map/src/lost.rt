@@ -25,11 +25,13 @@ pub fn push_name(out: &mut Vec<u8>, base: &Base, id: FrameId) -> Result<(), Allo
     }
 }
 
-// The shape of an outside page, and red for what is missing.
+// Two lines round the entry frame, the shape of an outside page, and red for what is missing.
 fn push_lost_mark(out: &mut Vec<u8>, base: &Base, id: FrameId) -> Result<(), AllocError>
     ensures { OnOk result (out.new.items ≡ out.old.items ++ spec.lost_mark base.now id) }
 {
-    if base.is_outside(id.page) {
+    if id == base.entry_frame() {
+        out.extend_from_slice(b"peripheries=2 color=red")
+    } else if base.is_outside(id.page) {
         out.extend_from_slice(b"shape=ellipse")
     } else {
         out.extend_from_slice(b"color=red")
@@ -68,12 +70,24 @@ impl<'a> Drawing<'a> {
         Ok(())
     }
 
-    // What the ways of the frames that are shown seek and the base lacks, each once, in the order in which it is first
-    // sought.
+    // The entry frame, if it is shown and the base lacks it.
+    fn lost_entry(&self, alloc: Global) -> Result<IndexSet<FrameId>, AllocError>
+        ensures { IfOk result (λ lost. lost.keys ≡ spec.lost_entry self.now) }
+    {
+        let mut lost = IndexSet::new(alloc);
+        let entry = self.base.entry_frame();
+        if self.part.shows(entry) && self.lacks(entry) {
+            lost.insert(entry)?;
+        }
+        Ok(lost)
+    }
+
+    // That, and what the ways of the frames that are shown seek and the base lacks, each once, in the order in which it is
+    // first sought.
     fn lost(&self, alloc: Global, frames: &[Frame]) -> Result<IndexSet<FrameId>, AllocError>
         ensures { IfOk result (λ lost. lost.keys ≡ spec.lost self.now (shown self.now frames.now)) }
     {
-        let mut lost = IndexSet::new(alloc);
+        let mut lost = self.lost_entry(alloc)?;
         for frame in frames {
             if self.part.shows(frame.id) {
                 self.add_lost(targets_of(alloc, frame)?.as_slice(), &mut lost)?;

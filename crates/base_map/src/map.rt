@@ -45,9 +45,10 @@ impl<'a> Drawing<'a> {
 
 /// The graph of the frames of a base that a part shows, for a caller of exactly these groups, as a DOT file for Graphviz.
 ///
-/// First come the nodes of the frames in the order of their ids, each page's in a cluster; then the nodes of what their ways
-/// seek and the base lacks, in the order in which it is first sought; then the edges of each frame in turn. A line has one
-/// node or one edge. An edge leads to what a way seeks if the part shows it or the base lacks it.
+/// First come the nodes of the frames in the order of their ids, each page's in a cluster; then the entry frame's if the part
+/// is the whole and the base lacks it; then the nodes of what ways seek and the base lacks, in the order in which it is first
+/// sought; then the edges of each frame in turn. A line has one node or one edge. An edge leads to what a way seeks if the
+/// part shows it or the base lacks it.
 pub fn map_text(
     alloc: Global,
     base: &Base,

@@ -26,8 +26,8 @@ use lint_files::lint;
 use named_files::{Unfinished, ended, open_base, report};
 use out_file::{Out, is_same_file, open_out};
 use pageaudit::{
-    MapStatus, Status, View, run_audit, run_audit_into, run_change, run_check, run_list, run_map,
-    run_walk, status_of, status_of_map,
+    ListForm, MapStatus, Status, View, run_audit, run_audit_into, run_change, run_check, run_list,
+    run_map, run_walk, status_of, status_of_map,
 };
 use pages_file::pages;
 use show_screen::show;
@@ -199,7 +199,7 @@ fn run_request<R: Files + Env + Input + Print + Eprint + AllocGlobal>(
             policy,
         } => change_files(rt, [old, old_cert, new, new_cert], policy),
         Request::Walk { base, keys, groups } => walk_file(rt, base, keys, groups),
-        Request::List { base, groups } => return list(rt, base, groups),
+        Request::List { base, form, groups } => return list(rt, base, *form, groups),
         Request::Lint(asked) => return lint(rt, asked),
         Request::Map { base, view, groups } => return map(rt, base, view, groups),
         Request::Show(asked) => return show(rt, errors, asked),
@@ -391,8 +391,13 @@ fn walk_file<R: Files + Print + AllocGlobal>(
 }
 
 // Prints a line for each frame; the exit status.
-fn list<R: Files + Print + Eprint + AllocGlobal>(rt: &R, base: &str, groups: &Groups) -> u8 {
-    match list_file(rt, base, groups) {
+fn list<R: Files + Print + Eprint + AllocGlobal>(
+    rt: &R,
+    base: &str,
+    form: ListForm,
+    groups: &Groups,
+) -> u8 {
+    match list_file(rt, base, form, groups) {
         Ok(status) => status_of(&Ok(status)),
         Err(unfinished) => report(rt, base, &unfinished),
     }
@@ -401,13 +406,14 @@ fn list<R: Files + Print + Eprint + AllocGlobal>(rt: &R, base: &str, groups: &Gr
 fn list_file<R: Files + Print + AllocGlobal>(
     rt: &R,
     base: &str,
+    form: ListForm,
     groups: &Groups,
 ) -> Result<Status, Unfinished> {
     match open_base(rt, base) {
         Ok(base) => {
             let mut base = FromRead::new(base);
             let mut out = IntoWrite::new(io::writer(rt));
-            let run = run_list(rt.alloc(), &mut base, groups, &mut out);
+            let run = run_list(rt.alloc(), &mut base, form, groups, &mut out);
             ended(run, &out)
         }
         Err(unfinished) => Err(unfinished),

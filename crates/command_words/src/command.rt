@@ -7,7 +7,7 @@ use checker::Policy;
 use clap::{Arg, ArgAction, ArgMatches, Command, Error, value_parser};
 use frame_records::{Groups, GroupsFault, MOST_PENCE, Pence};
 use page_ids::{FrameId, MOST_PAGE, PageNo};
-use pageaudit::{FileKind, Form, Format, Level};
+use pageaudit::{FileKind, Form, Format, Level, ListForm};
 use std::alloc::{AllocError, Global};
 use std::rt::Env;
 use std::{env, io};
@@ -17,6 +17,9 @@ const FORMS: &[&str] = &["text", "ansi", "svg", "cells", "html"];
 
 // The words for the forms of findings.
 const FORMATS: &[&str] = &["full", "line", "json", "github"];
+
+// The words for the forms of a list.
+const LIST_FORMATS: &[&str] = &["line", "json"];
 
 // A word that is known by its place.
 fn place<'a>(alloc: Global, name: &'a str, help: &'a str) -> Arg<'a> {
@@ -243,7 +246,16 @@ fn list_command<'a>(alloc: Global) -> Result<Command<'a>, AllocError> {
     let command = Command::new(alloc, "list")
         .about("List the frames of a base, with the keys that lead there")
         .after_help(help::LIST)
-        .arg(place(alloc, "BASE", "The base, a TOML file"))?;
+        .arg(place(alloc, "BASE", "The base, a TOML file"))?
+        .arg(
+            Arg::new(alloc, "format")
+                .long("format")
+                .value_name("FORMAT")
+                .action(ArgAction::Set)
+                .value_parser(LIST_FORMATS)
+                .default_value("line")
+                .help("Print each frame as one line, or as JSON"),
+        )?;
     with_groups(alloc, command)
 }
 
@@ -508,6 +520,7 @@ pub enum Request<'a> {
     /// The frames of a base, for a caller of these groups.
     List {
         base: &'a str,
+        form: ListForm,
         groups: Groups,
     },
     /// The graph of a view of a base, for a caller of these groups.
@@ -593,6 +606,15 @@ fn format_of(word: &str) -> Option<Format> {
         "line" => Some(Format::Line),
         "json" => Some(Format::Json),
         "github" => Some(Format::Github),
+        _ => None,
+    }
+}
+
+// The form of a list that a word names.
+fn list_form_of(word: &str) -> Option<ListForm> {
+    match word {
+        "line" => Some(ListForm::Line),
+        "json" => Some(ListForm::Json),
         _ => None,
     }
 }
@@ -730,6 +752,7 @@ pub fn asked_for<'a>(matches: &'a ArgMatches, groups: Groups) -> Option<Request<
         ("show", words) => show_of(words, groups),
         ("list", words) => Some(Request::List {
             base: words.get_str("BASE")?,
+            form: words.get_str("format").and_then(list_form_of)?,
             groups,
         }),
         ("map", words) => Some(Request::Map {

@@ -56,6 +56,7 @@ pub const SHOW: &str = concat!(
 /// After the options of `list`.
 pub const LIST: &str = concat!(
     "A frame that is closed to the caller is listed as UNREACHED: this is a list, not a warning.\n\n",
+    "An object of JSON has frame, reached, rank, price, group and script, or frame and fault.\n\n",
     "Example: pageaudit list examples/town.toml\n\n",
     "Status: 0 a list, 1 an entry frame that is missing or closed, 2 bad command line,\n",
     "        3 a file that is refused or can't be read, or a write that fails, 4 out of memory",
@@ -64,7 +65,7 @@ pub const LIST: &str = concat!(
 /// After the options of `map`.
 pub const MAP: &str = concat!(
     "A frame that is closed to the caller is red, one that no key reaches is dashed. What the base\n",
-    "lacks is red, or an ellipse if its page is outside.\n\n",
+    "lacks is red, the entry page too, or an ellipse if its page is outside.\n\n",
     "No key leads to a frame that is closed to the caller: --page shows none but its own page's, and\n",
     "--to those whose keys lead to PAGE.\n\n",
     "Example: pageaudit map examples/town.toml | dot -Tsvg >town.svg\n\n",

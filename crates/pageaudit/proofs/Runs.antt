@@ -8,6 +8,7 @@ use Rattle.fault_scripts.specs.Outcomes.{IsOutcomeOf}
 use Rattle.audit_report.specs.declared.run_fault.RunFault.{RunFault}
 use Rattle.audit_report.specs.declared.run_fault.RunFault.TheVariants as run
 use Rattle.audit_report.specs.ReportLines.{report_text}
+use Rattle.audit_report.specs.declared.list_form.ListForm.{ListForm}
 use Rattle.audit_report.specs.Listing.{IsListText}
 use Rattle.base_map.specs.declared.view.View.{View}
 use Rattle.base_map.specs.Windows.{IsViewed}
@@ -69,9 +70,9 @@ module _ (base_file out : Device) (base : BaseView) (read : IsBaseOfFile base_fi
   report_run policy o is =
       text_run _ _ (report_text o) (status_of_outcome o) (λ none. none) (λ r w. record { outcome = o; is = is; written = w })
 
-  pub list_run : (caller text : List ℕ) (is_found : Bool) → IsListText caller base text is_found
-      → (r : Result Status RunFault) → IsTextWritten out text (status_of_entry is_found) r → IsListRun base_file out caller r
-  list_run caller text is_found is =
+  pub list_run : (caller : List ℕ) (form : ListForm) (text : List ℕ) (is_found : Bool) → IsListText caller form base text is_found
+      → (r : Result Status RunFault) → IsTextWritten out text (status_of_entry is_found) r → IsListRun base_file out caller form r
+  list_run caller form text is_found is =
       text_run _ _ text (status_of_entry is_found) (λ none. none) (λ r w. record { text = text; is_found = is_found; is = is; written = w })
 
   pub map_run : (caller : List ℕ) (view : View) (map : Option (Vec ℕ Global)) → IsViewed caller base view map

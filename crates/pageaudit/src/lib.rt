@@ -22,7 +22,7 @@
 //! - [`take_screen`], [`Album`], [`FileKind`], [`ImportFault`], [`run_import`], [`ImportStatus`], [`status_of_import`]: the frames of
 //!   saved screens, the base that is made of them, and the exit status for it.
 //! - [`read_exported`], [`Gallery`], [`run_export`]: a base, the screens of its frames, and one of them written.
-//! - [`run_list`]: a line for each frame of a base.
+//! - [`run_list`], [`ListForm`]: a line for each frame of a base, in a form.
 //! - [`run_lint`], [`Format`], [`status_of_lint`]: every finding in a base's file, in a form, and the exit status for them.
 //! - [`run_map`], [`View`], [`MapStatus`], [`status_of_map`]: the map of a base, and the exit status for it.
 //! - [`Status`], [`status_of`]: the result of another run, and the program's exit status for it.
@@ -45,7 +45,7 @@ mod show_run;
 mod status;
 mod walk_run;
 
-pub use audit_report::Status;
+pub use audit_report::{ListForm, Status};
 pub use audit_run::{run_audit, run_audit_into};
 pub use base_map::View;
 pub use base_pages::PagesStatus;

@@ -4,7 +4,7 @@ ghost use Rattle.pageaudit.specs.ListRun.{IsListRun, status_of_entry};
 
 use crate::file_fault::base_fault;
 use crate::input::read_base;
-use audit_report::{Listing, RunFault, Sink, Source, Status, list};
+use audit_report::{ListForm, Listing, RunFault, Sink, Source, Status, list};
 use frame_records::Groups;
 use std::alloc::Global;
 
@@ -32,14 +32,15 @@ fn write_listing<O: Sink>(out: &mut O, listing: Listing<'_>) -> Result<Status, R
     }
 }
 
-/// Lists the frames of a base: those that a caller of the groups can reach, and then the others. If the entry frame is missing
-/// or closed to the caller, its line is the only one, and the status is Faulty.
+/// Lists the frames of a base, in a form: those that a caller of the groups can reach, and then the others. If the entry
+/// frame is missing or closed to the caller, its line is the only one, and the status is Faulty.
 ///
 /// The base is read whole and judged first, and all the memory is taken that the list needs, which is written piece by piece. On
 /// every fault except `Write`, nothing was written. A device is not called again after it returned an error.
 pub fn run_list<B: Source, O: Sink>(
     alloc: Global,
     base: &mut B,
+    form: ListForm,
     groups: &Groups,
     out: &mut O,
 ) -> Result<Status, RunFault>
@@ -48,13 +49,13 @@ pub fn run_list<B: Source, O: Sink>(
 
     // A status: the base's file was read to its end, no device failed, and the list and its status are those of what was
     // read. A fault: the first one, of the base's file or of the output.
-    ensures { IsListRun (device B.seen base.old base.new) (device O.seen out.old out.new) groups.now result }
+    ensures { IsListRun (device B.seen base.old base.new) (device O.seen out.old out.new) groups.now form result }
 {
     let base = match read_base(alloc, base) {
         Ok(base) => base,
         Err(fault) => return Err(base_fault(fault)),
     };
-    match list(alloc, &base, groups) {
+    match list(alloc, form, &base, groups) {
         Ok(listing) => write_listing(out, listing),
         Err(_) => Err(RunFault::Memory),
     }

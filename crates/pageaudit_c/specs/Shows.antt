@@ -1,8 +1,8 @@
 -- The answer of show.
 use Rattle.std.specs.Prelude.{◌≡◌, ◌⊎◌, ℕ, Bool, false, if◌then◌else◌, List, [], ◌∷◌, map, Option, Some, None, Result, Ok, Err}
 use Rattle.std.specs.List.{flat_map}
-use Rattle.page_ids.specs.Ids.{Id}
-use Rattle.page_ids.specs.Texts.{id_in}
+use Rattle.page_ids.specs.Ids.{Id, first_frame}
+use Rattle.page_ids.specs.Texts.{page_in, id_in}
 use Rattle.frame_records.specs.declared.frame.Frame.{Frame}
 use Rattle.frame_records.specs.declared.groups.GroupFault.{GroupFault}
 use Rattle.frame_records.specs.Bases.{BaseView, frame_at}
@@ -76,10 +76,15 @@ pub record IsFrameScreen (caller : List ℕ) (base : BaseView) (id : Id) (s : Sh
   pub no_text : s.text.items ≡ []
   pub screen : IsScreen caller base id s.codes.items s.looks.items
 
+-- the frame `a` of a page, or the frame of an id; no text is both
+abbrev pub of_page_or_id : Option ℕ → Option Id → Option Id
+of_page_or_id (Some page) id = Some (first_frame page)
+of_page_or_id None id = id
+
 -- the frame that a word names; the entry frame without one
 abbrev pub named : BaseView → List ℕ → Option Id
 named base [] = Some (entry_of base)
-named base (b ∷ bs) = id_in (b ∷ bs)
+named base (b ∷ bs) = of_page_or_id (page_in (b ∷ bs)) (id_in (b ∷ bs))
 
 -- a frame, by its record
 abbrev pub IsRecordShown : List ℕ → BaseView → Id → Option Frame → Shown → Type 0

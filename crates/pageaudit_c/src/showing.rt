@@ -1,5 +1,6 @@
 ghost use Rattle.std.specs.Prelude.{◌≡◌, ◌⊎◌, ◌++◌, [], IfOk, OnOk, map};
 ghost use Rattle.std.specs.List.{flat_map};
+ghost use Rattle.page_ids.specs.Texts.{page_in};
 ghost use Rattle.frame_records.specs.Bases.{frame_at};
 ghost use Rattle.pageaudit_c.specs.Calls.{groups_of, laid_over, buffer};
 ghost use Rattle.pageaudit_c.specs.declared.status.Status.TheVariants.{Faulty, OutOfMemory};
@@ -12,7 +13,7 @@ use cell_looks::{Glyph, Height, Look, screen_looks};
 use checker::base_of;
 use frame_records::{Base, Groups};
 use frame_screens::{screen, way_to};
-use page_ids::FrameId;
+use page_ids::{FrameId, MOST_PAGE, PageNo, number_read};
 use std::alloc::{AllocError, Global};
 
 /// How a cell of a screen looks, as C has it.
@@ -161,13 +162,26 @@ fn no_frame(alloc: Global) -> Shown
     }
 }
 
-// The frame that a word names; the entry frame without one.
+// The page whose text a word is.
+fn page_of(word: &[u8]) -> Option<PageNo>
+    ensures { result ≡ page_in word.now }
+{
+    match number_read(word, MOST_PAGE) {
+        Ok(number) => PageNo::new(number),
+        Err(_) => None,
+    }
+}
+
+// The frame that a word names, by its id, or by a page for its frame `a`; the entry frame without one.
 fn named(base: &Base, word: &[u8]) -> Option<FrameId>
     ensures { result ≡ spec.named base.now word.now }
 {
     match word {
         [] => Some(base.entry_frame()),
-        _ => FrameId::read_bytes(word),
+        _ => match page_of(word) {
+            Some(page) => Some(FrameId::first(page)),
+            None => FrameId::read_bytes(word),
+        },
     }
 }
 
@@ -233,10 +247,11 @@ fn lay_looks(looks: &[CellLook], array: &mut [CellLook])
 
 /// Shows the screen of a frame, as a caller of the groups sees it: its 960 codes, and how each cell looks.
 ///
-/// `frame` is an id, as `478a`; if it is empty, the entry frame is shown. It is shown over the frames on the way to it, as the
-/// program's `show` does. `groups` are passed as to [`crate::pageaudit_check`]. Returns the number of a status: `Faulty` if the base
-/// has no such frame. The codes and looks go to the front of `codes` and `looks`, as far as they fit, in rows from the top; without
-/// a screen both stay as they are. The line of a fault in the base's text goes to `line`, and its whole length to `full_length`.
+/// `frame` is an id, as `478a`, or a page for its frame `a`, as `478`; if it is empty, the entry frame is shown. It is shown over
+/// the frames on the way to it, as the program's `show` does. `groups` are passed as to [`crate::pageaudit_check`]. Returns the
+/// number of a status: `Faulty` if the base has no such frame. The codes and looks go to the front of `codes` and `looks`, as far
+/// as they fit, in rows from the top; without a screen both stay as they are. The line of a fault in the base's text goes to
+/// `line`, and its whole length to `full_length`.
 #[unsafe(no_mangle)]
 pub extern "C" fn pageaudit_show(
     alloc: Global,

@@ -2,7 +2,7 @@
 
 use crate::expected::{ALL, expect, sink, source, taken};
 use frame_records::Groups;
-use pageaudit::{Status, run_list, status_of};
+use pageaudit::{ListForm, Status, run_list, status_of};
 use std::test::Fail;
 use test_support::{DEMO, FakeSink, FakeSource, same_in};
 
@@ -14,17 +14,33 @@ const CLOSED: &str = "entry = 4\n[[frame]]\nid = \"4a\"\nnext = true\nrows = []\
 fn a_list_has_a_line_for_each_frame(rt: HostRuntime) -> Result<(), Fail> {
     let mut base = FakeSource::of(CLOSED.as_bytes(), 1);
     let mut out = FakeSink::of(rt.alloc(), 1_000);
-    let answer = run_list(rt.alloc(), &mut base, &Groups::none(), &mut out);
+    let answer = run_list(
+        rt.alloc(),
+        &mut base,
+        ListForm::Line,
+        &Groups::none(),
+        &mut out,
+    );
     let text = "FRAME 4a RANK 0 PRICE 0 GROUP - SCRIPT -\nUNREACHED 4b PRICE 0 GROUP 7\n";
     expect(answer, &out, Ok(Status::Clear), text)
 }
 
 #[test]
 fn a_list_without_an_entry_frame_is_its_line(rt: HostRuntime) -> Result<(), Fail> {
-    let mut base = FakeSource::of(b"entry = 400\n", 1);
-    let mut out = FakeSink::of(rt.alloc(), 1_000);
-    let answer = run_list(rt.alloc(), &mut base, &Groups::none(), &mut out);
-    expect(answer, &out, Ok(Status::Faulty), "ENTRYMISSING 400a\n")
+    let rows = [
+        (ListForm::Line, "ENTRYMISSING 400a\n"),
+        (
+            ListForm::Json,
+            "{\"frame\":\"400a\",\"fault\":\"ENTRYMISSING\"}\n",
+        ),
+    ];
+    for (form, text) in rows {
+        let mut base = FakeSource::of(b"entry = 400\n", 1);
+        let mut out = FakeSink::of(rt.alloc(), 1_000);
+        let answer = run_list(rt.alloc(), &mut base, form, &Groups::none(), &mut out);
+        expect(answer, &out, Ok(Status::Faulty), text)?;
+    }
+    Ok(())
 }
 
 // Nothing is asked for after a bad base, a read that fails, a write that fails and a flush that fails: the status, how often the
@@ -44,7 +60,13 @@ fn a_list_that_fails_asks_for_no_more(rt: HostRuntime) -> Result<(), Fail> {
     for (base, kept, room, wanted) in rows {
         let mut base = source(base, ALL, kept);
         let mut out = sink(rt.alloc(), text, room);
-        let answer = run_list(rt.alloc(), &mut base, &Groups::none(), &mut out);
+        let answer = run_list(
+            rt.alloc(),
+            &mut base,
+            ListForm::Line,
+            &Groups::none(),
+            &mut out,
+        );
         let got = (
             status_of(&answer),
             base.calls,

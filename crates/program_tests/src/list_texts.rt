@@ -1,6 +1,6 @@
 //! The list of a base.
 
-use audit_report::list;
+use audit_report::{ListForm, list};
 use base_text::base_read;
 use devices::WriteFault;
 use frame_records::{Base, Groups};
@@ -8,9 +8,10 @@ use std::alloc::{AllocError, Global};
 use std::test::Fail;
 use test_support::{DEMO, FakeSink, same, same_in};
 
-// What the list of a base is, for a caller of these groups.
-fn lists(
+// What the list of a base is in a form, for a caller of these groups.
+fn lists_as(
     alloc: Global,
+    form: ListForm,
     base: &str,
     groups: &str,
     text: &str,
@@ -23,7 +24,7 @@ fn lists(
     };
     match (base_read(alloc, base.as_bytes()), groups) {
         (Ok(base), Ok(groups)) => {
-            let listing = list(alloc, &base, &groups)?;
+            let listing = list(alloc, form, &base, &groups)?;
             same_in(text, listing.entry_is_found(), entry_is_found)?;
             let mut out = FakeSink::of(alloc, 1_000);
             same_in(text, listing.write(&mut out), Ok(()))?;
@@ -31,6 +32,16 @@ fn lists(
         }
         _ => Err(Fail::new("no base, or no groups")),
     }
+}
+
+fn lists(
+    alloc: Global,
+    base: &str,
+    groups: &str,
+    text: &str,
+    entry_is_found: bool,
+) -> Result<(), Fail> {
+    lists_as(alloc, ListForm::Line, base, groups, text, entry_is_found)
 }
 
 #[test]
@@ -66,6 +77,20 @@ fn closed_frames_are_unreached(rt: HostRuntime) -> Result<(), Fail> {
 }
 
 #[test]
+fn an_object_has_what_a_line_has(rt: HostRuntime) -> Result<(), Fail> {
+    let text = r#"{"frame":"9a","reached":true,"rank":0,"price":0,"group":null,"script":""}
+{"frame":"4a","reached":true,"rank":null,"price":0,"group":null,"script":"1"}
+{"frame":"3a","reached":true,"rank":2,"price":9999,"group":null,"script":"2"}
+{"frame":"10a","reached":true,"rank":2,"price":0,"group":9,"script":"6"}
+{"frame":"5a","reached":true,"rank":1,"price":0,"group":null,"script":"20"}
+{"frame":"2a","reached":false,"rank":null,"price":0,"group":null,"script":null}
+{"frame":"10b","reached":false,"rank":null,"price":0,"group":65535,"script":null}
+{"frame":"12a","reached":false,"rank":null,"price":30,"group":7,"script":null}
+"#;
+    lists_as(rt.alloc(), ListForm::Json, SHOP, "9", text, true)
+}
+
+#[test]
 fn frames_of_the_callers_groups_are_reached(rt: HostRuntime) -> Result<(), Fail> {
     let text = "FRAME 9a RANK 0 PRICE 0 GROUP - SCRIPT -\n\
         FRAME 4a RANK - PRICE 0 GROUP - SCRIPT 1\n\
@@ -87,6 +112,18 @@ fn an_entry_frame_that_is_not_found_is_the_only_line(rt: HostRuntime) -> Result<
     lists(rt.alloc(), closed, "8", "ENTRYCLOSED 400a\n", false)?;
     let text = "FRAME 400a RANK 0 PRICE 0 GROUP 7 SCRIPT -\nUNREACHED 401a PRICE 0 GROUP -\n";
     lists(rt.alloc(), closed, "7", text, true)
+}
+
+#[test]
+fn the_object_of_an_entry_frame_that_is_not_found_has_its_fault(
+    rt: HostRuntime,
+) -> Result<(), Fail> {
+    let alloc = rt.alloc();
+    let text = "{\"frame\":\"400a\",\"fault\":\"ENTRYMISSING\"}\n";
+    lists_as(alloc, ListForm::Json, "entry = 400\n", "", text, false)?;
+    let closed = "entry = 400\n[[frame]]\nid = \"400a\"\ngroup = 7\nrows = []\n";
+    let text = "{\"frame\":\"400a\",\"fault\":\"ENTRYCLOSED\"}\n";
+    lists_as(alloc, ListForm::Json, closed, "8", text, false)
 }
 
 #[test]
@@ -124,7 +161,10 @@ fn a_long_list_is_written_in_pieces(rt: HostRuntime) -> Result<(), Fail> {
     let (text, wanted) = chain(alloc, 400)?;
     let base: Base = base_read(alloc, text.as_str().as_bytes())?;
     let mut out = FakeSink::of(alloc, 1_000_000);
-    same(list(alloc, &base, &Groups::none())?.write(&mut out), Ok(()))?;
+    same(
+        list(alloc, ListForm::Line, &base, &Groups::none())?.write(&mut out),
+        Ok(()),
+    )?;
     same(str::from_utf8(out.taken.as_slice()), Ok(wanted.as_str()))?;
     same((out.writes, out.flushes), (2, 1))?;
     for room in [0usize, 65_535, 65_536, 80_000] {
@@ -132,7 +172,7 @@ fn a_long_list_is_written_in_pieces(rt: HostRuntime) -> Result<(), Fail> {
         let fault = WriteFault { wrote: room as u64 };
         same_in(
             room,
-            list(alloc, &base, &Groups::none())?.write(&mut out),
+            list(alloc, ListForm::Line, &base, &Groups::none())?.write(&mut out),
             Err(fault),
         )?;
         same_in(

@@ -90,7 +90,8 @@ fn what_is_closed_or_missing_is_red(rt: HostRuntime) -> Result<(), Fail> {
     maps_to(rt.alloc(), CLOSED, &Groups::none(), CLOSED_MAP)
 }
 
-// Two pages lead to outside page 9 and to page 4, which is missing; three keys of frame 1a lead to page 2.
+// The entry page is missing. Two pages lead to outside page 9 and to page 4, which is missing too; three keys of frame 1a lead
+// to page 2.
 const SHARED: &str = r##"entry = 3
 outside = [9]
 [[frame]]
@@ -115,6 +116,7 @@ const SHARED_MAP: &str = r##"digraph {
     label=2
     "2a" [label="2a\nPRICE 0" style=dashed]
   }
+  "3a" [peripheries=2 color=red]
   "9" [shape=ellipse]
   "4a" [color=red]
   "1a" -> "2a" [label="1 4 9"]

@@ -26,7 +26,7 @@ use finder::find;
 use frame_screens::{frames_after, nearest, way_to};
 use page_ids::keys_read;
 use pageaudit::{
-    Counts, Format, Level, run_audit, run_change, run_check, run_lint, run_list, run_map,
+    Counts, Format, Level, ListForm, run_audit, run_change, run_check, run_lint, run_list, run_map,
     run_pages, run_show, run_walk, status_of, status_of_import, status_of_lint, status_of_map,
     status_of_pages, status_of_show,
 };
@@ -84,7 +84,7 @@ fn run(rt: &HostRuntime, name: &str, words: &mut Words) -> Option<()> {
         run_walk(base: file, keys: word, out: word, groups: groups) =>
             ran!(alloc, out, status_of, run_walk(alloc, &mut base.source(), keys, &groups, out));
         run_list(base: file, out: word, groups: groups) =>
-            ran!(alloc, out, status_of, run_list(alloc, &mut base.source(), &groups, out));
+            ran!(alloc, out, status_of, run_list(alloc, &mut base.source(), ListForm::Line, &groups, out));
         run_map(base: file, view: view, out: word, groups: groups) =>
             ran!(alloc, out, status_of_map, run_map(alloc, &mut base.source(), &groups, &view, out));
         run_show(base: file, target: target, form: form, out: word, groups: groups) =>

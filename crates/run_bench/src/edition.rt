@@ -1,7 +1,7 @@
 //! A base's text with its certificate, and how both are read and checked.
 
 use crate::shape::Mark;
-use audit_report::{FromRead, IntoWrite, list, read_whole, report};
+use audit_report::{FromRead, IntoWrite, ListForm, list, read_whole, report};
 use base_map::{View, map_view};
 use base_text::{MOST_TEXT, base_read};
 use cert_table::Certificate;
@@ -74,7 +74,7 @@ pub fn audited(alloc: Global, base: &Base, policy: &Policy) -> Option<Vec<u8>> {
 /// Writes the list of the frames of a text's base to a sink that keeps nothing; whether the entry frame is found.
 pub fn listing(alloc: Global, text: &[u8], groups: &Groups) -> Option<bool> {
     let base = whole_base(alloc, text)?;
-    let listing = list(alloc, &base, groups).ok()?;
+    let listing = list(alloc, ListForm::Line, &base, groups).ok()?;
     let is_found = listing.entry_is_found();
     listing.write(&mut IntoWrite::new(io::sink())).ok()?;
     Some(is_found)

@@ -13,5 +13,5 @@ invariant-loop-frame g l = record {
   wide : 262397 ≤ vec_capacity l.kept;
   count : l.taken + vec_len l.kept ≤ 2 ^ 40 + l.frame-index * 256;
   way : (start : Seen) (before : List ℕ) (found : List Discovered) → Knows found l.reached → IsOnItsWay start (g.S.Sink.seen l.initial.sink) l.fn.kept.items l.fn.wrote before
-      → (text : List ℕ) × IsOnItsWay start (g.S.Sink.seen l.sink) l.kept.items l.taken text × (text ++ unreached_lines found (drop l.frame-index l.frames) ≡ before ++ unreached_lines found l.frames);
+      → (text : List ℕ) × IsOnItsWay start (g.S.Sink.seen l.sink) l.kept.items l.taken text × (text ++ unreached_lines l.form found (drop l.frame-index l.frames) ≡ before ++ unreached_lines l.form found l.frames);
 }

@@ -12,5 +12,5 @@ invariant-loop-index g l = record {
   few : vec_len l.kept < 65536;
   room : 262397 ≤ vec_capacity l.kept;
   count : l.wrote + vec_len l.kept ≤ l.index * 196861;
-  way : IsOnItsWay (g.S.Sink.seen l.initial.sink) (g.S.Sink.seen l.sink) l.kept.items l.wrote (reached_lines l.survey.base l.survey.found l.index);
+  way : IsOnItsWay (g.S.Sink.seen l.initial.sink) (g.S.Sink.seen l.sink) l.kept.items l.wrote (reached_lines l.form l.survey.base l.survey.found l.index);
 }

@@ -1,0 +1,108 @@
+-- A frame is one line, in each form of a list.
+use Rattle.std.proofs.Common.{◌≡◌, ◌∙◌, ℕ, zero, suc, ◌+◌, ◌/◌, ◌%◌, ◌<◌, arith, refl, Bool, true, false, not, List, [], ◌∷◌, ◌++◌, ◌==◌, nat_lt, Option, Some, None, codes, decimal, if◌then◌else◌}
+use Rattle.std.specs.List.{list_all}
+use Rattle.std.specs.Fmt.{digits, digits_onto, digit_glyph}
+use Rattle.std.proofs.lemmas.Bool.Decides.{nat_tests}
+use Rattle.std.proofs.lemmas.List.Folds.{list_all-append}
+use Rattle.page_ids.specs.Ids.{Id, IsLetter, frame_text}
+use Rattle.page_ids.specs.Keys.{key_word, keys_text}
+use Rattle.page_ids.specs.declared.key.Key.{Key}
+use Rattle.page_ids.specs.declared.key.Key.TheVariants.{Route, Next, Prev, Reprint, Update}
+use Rattle.frame_records.specs.declared.frame.Frame.{Frame}
+use Rattle.audit_report.specs.Lines.{line, with_id}
+use Rattle.audit_report.specs.ReportLines.{script_text}
+use Rattle.audit_report.specs.declared.list_form.ListForm.{ListForm}
+use Rattle.audit_report.specs.declared.list_form.ListForm.TheVariants.{Line, Json}
+use Rattle.audit_report.specs.Listing.{or_dash, with_or_dash, price_and_group, or_null, with_or_null, price_and_group_members, frame_line, unreached_line, is_in_line, IsOneLine, AreOneLines}
+
+abbrev InLine : List ℕ → Type 0
+InLine bs = list_all is_in_line bs ≡ true
+
+joined : (xs ys : List ℕ) → InLine xs → InLine ys → InLine (xs ++ ys)
+joined xs ys h k = list_all-append is_in_line xs ys ∙ rw (h, k) refl
+
+one_more : (d : ℕ) (acc : List ℕ) → d < 10 → InLine acc → InLine (digit_glyph false d ∷ acc)
+one_more d acc lt h =
+    let small : nat_lt d 10 ≡ true = grind (arith, nat_tests) in
+    let a : (48 + d == 10) ≡ false = grind (arith, nat_tests) in
+    rw (small, a, h) refl
+
+either : (b : Bool) (xs ys : List ℕ) → InLine xs → InLine ys → InLine (if b then xs else ys)
+either true xs ys h k = h
+either false xs ys h k = k
+
+in_digits : (k n : ℕ) (acc : List ℕ) → InLine acc → InLine (digits_onto k 10 false n acc)
+in_digits zero n acc h = h
+in_digits (suc k) n acc h =
+    let more : InLine (digit_glyph false (n % 10) ∷ acc) = one_more (n % 10) acc (omega arith) h in
+    either (n / 10 == 0) _ _ more (in_digits k (n / 10) (digit_glyph false (n % 10) ∷ acc) more)
+
+in_decimal : (n : ℕ) → InLine (decimal n)
+unfolding digits
+in_decimal n = in_digits 64 n [] refl
+
+in_id : (words : List ℕ) (id : Id) → InLine words → IsLetter id.letter → InLine (with_id words id)
+in_id words id h is = joined words (frame_text id) h (joined (decimal id.page) (id.letter ∷ []) (in_decimal id.page) last) where
+  last : InLine (id.letter ∷ [])
+  last = let a : (id.letter == 10) ≡ false = grind (arith, nat_tests) in rw a refl
+
+in_key : (key : Key) → InLine (key_word key)
+in_key (Route digit) = let a : (48 + digit == 10) ≡ false = grind (arith, nat_tests) in rw a refl
+in_key Next = refl
+in_key Prev = refl
+in_key Reprint = refl
+in_key Update = refl
+
+in_keys : (keys : List Key) → InLine (keys_text keys)
+in_keys [] = refl
+in_keys (key ∷ keys) = joined (key_word key) (keys_text keys) (in_key key) (in_keys keys)
+
+in_script : (keys : List Key) → InLine (script_text keys)
+in_script [] = refl
+in_script (key ∷ keys) = joined (codes " SCRIPT ") (keys_text (key ∷ keys)) refl (in_keys (key ∷ keys))
+
+in_or_dash : (words : List ℕ) (number : Option ℕ) → InLine words → InLine (with_or_dash words number)
+in_or_dash words (Some n) h = joined words (decimal n) h (in_decimal n)
+in_or_dash words None h = joined words (codes "-") h refl
+
+in_or_null : (words : List ℕ) (number : Option ℕ) → InLine words → InLine (with_or_null words number)
+in_or_null words (Some n) h = joined words (decimal n) h (in_decimal n)
+in_or_null words None h = joined words (codes "null") h refl
+
+in_price_and_group : (f : Frame) → InLine (price_and_group f)
+in_price_and_group f =
+    joined (codes " PRICE " ++ decimal f.price) (with_or_dash (codes " GROUP ") f.group) (joined (codes " PRICE ") (decimal f.price) refl (in_decimal f.price)) (in_or_dash (codes " GROUP ") f.group refl)
+
+in_members : (f : Frame) → InLine (price_and_group_members f)
+in_members f =
+    joined (codes ",\"price\":" ++ decimal f.price) (with_or_null (codes ",\"group\":") f.group) (joined (codes ",\"price\":") (decimal f.price) refl (in_decimal f.price)) (in_or_null (codes ",\"group\":") f.group refl)
+
+one_line : (text : List ℕ) → InLine text → IsOneLine (line text)
+one_line text h = record { text = text; ends = refl; one = h }
+
+frame_one : (f : Frame) → IsLetter f.id.letter → (form : ListForm) (rank : Option ℕ) (keys : List Key) → IsOneLine (frame_line form f rank keys)
+frame_one f is Line rank keys =
+    let a = with_id (codes "FRAME ") f.id in
+    let b = with_or_dash (codes " RANK ") rank in
+    one_line (a ++ b ++ price_and_group f ++ script_text keys)
+    (joined (a ++ b ++ price_and_group f) (script_text keys) (joined (a ++ b) (price_and_group f) (joined a b (in_id (codes "FRAME ") f.id refl is) (in_or_dash (codes " RANK ") rank refl)) (in_price_and_group f)) (in_script keys))
+frame_one f is Json rank keys =
+    let a = with_id (codes "{\"frame\":\"") f.id in
+    let b = with_or_null (codes "\",\"reached\":true,\"rank\":") rank in
+    let c = a ++ b ++ price_and_group_members f in
+    one_line (c ++ codes ",\"script\":\"" ++ keys_text keys ++ codes "\"}")
+    (joined (c ++ codes ",\"script\":\"" ++ keys_text keys) (codes "\"}") (joined (c ++ codes ",\"script\":\"") (keys_text keys)
+    (joined c (codes ",\"script\":\"") (joined (a ++ b) (price_and_group_members f) (joined a b (in_id (codes "{\"frame\":\"") f.id refl is) (in_or_null (codes "\",\"reached\":true,\"rank\":") rank refl)) (in_members f)) refl)
+    (in_keys keys)) refl)
+
+unreached_one : (f : Frame) → IsLetter f.id.letter → (form : ListForm) → IsOneLine (unreached_line form f)
+unreached_one f is Line =
+    one_line (with_id (codes "UNREACHED ") f.id ++ price_and_group f) (joined (with_id (codes "UNREACHED ") f.id) (price_and_group f) (in_id (codes "UNREACHED ") f.id refl is) (in_price_and_group f))
+unreached_one f is Json =
+    let a = with_id (codes "{\"frame\":\"") f.id in
+    let b = codes "\",\"reached\":false,\"rank\":null" in
+    one_line (a ++ b ++ price_and_group_members f ++ codes ",\"script\":null}")
+    (joined (a ++ b ++ price_and_group_members f) (codes ",\"script\":null}") (joined (a ++ b) (price_and_group_members f) (joined a b (in_id (codes "{\"frame\":\"") f.id refl is) refl) (in_members f)) refl)
+
+pub are_one_lines : (f : Frame) → IsLetter f.id.letter → AreOneLines f
+are_one_lines f is = record { reached = frame_one f is; unreached = unreached_one f is }
