@@ -16,7 +16,7 @@ is_other b = not (is_plain b)
 -- How far painting gets at once from a cursor.
 
 -- the byte after this many touches
-pub record StopsBehind (x : AbsCursor) (bs : List ℕ) (k : ℕ) : Type 0 where
+pub record StopsAfter (x : AbsCursor) (bs : List ℕ) (k : ℕ) : Type 0 where
   pub within : k < length bs
   pub same : (i : ℕ) → paint_from x i bs ≡ touches_at (i + k)
 
@@ -29,5 +29,5 @@ pub record GoesOn (x : AbsCursor) (bs : List ℕ) (y : AbsCursor) (n : ℕ) : Ty
 
 -- what painting the front of the bytes gives
 abbrev pub IsAdvance : AbsCursor → List ℕ → Advance → Type 0
-IsAdvance x bs (Touches k) = StopsBehind x bs k
+IsAdvance x bs (Touches k) = StopsAfter x bs k
 IsAdvance x bs (Goes y n) = GoesOn x bs y n

@@ -47,7 +47,7 @@ fn replayed(alloc: Global, base: &Base, groups: &Groups, keys: &str) -> Result<R
 
 // 1231b belongs to group 7.
 #[test]
-fn replay_tells_the_last_reply_and_the_place(rt: HostRuntime) -> Result<(), Fail> {
+fn replay_gives_the_last_reply_and_the_place(rt: HostRuntime) -> Result<(), Fail> {
     let entry = FrameId::read("123a")?;
     let first = FrameId::read("1231a")?;
     let last = FrameId::read("1231b")?;

@@ -35,7 +35,7 @@ fine_by i true false e = absurd cc
 fine_by i false b e = absurd cc
 
 -- rows after another: each on the screen, the first after it, and ids ascend
-pub record AreBehind (before : Option Row) (rows : List Row) : Type 0 where
+pub record AreAfter (before : Option Row) (rows : List Row) : Type 0 where
   pub on_screen : AreOnScreen rows
   pub first : (d : Row) → 0 < length rows → comes_after before (get_or rows 0 d).id ≡ true
   pub ascending : AllAdjacentBelow (λ r s. id_cmp r.id s.id ≡ Less) rows (length rows)
@@ -44,7 +44,7 @@ screen_cons : (row : Row) (rows : List Row) → OnScreen row.cursor.place → Ar
 screen_cons row rows here there zero d lt = here
 screen_cons row rows here there (suc k) d lt = there k d (omega arith)
 
-ascend_cons : (row : Row) (rows : List Row) → AreBehind (Some row) rows → (k : ℕ) (d : Row) → suc k < suc (length rows) → id_cmp (get_or (row ∷ rows) k d).id (get_or rows k d).id ≡ Less
+ascend_cons : (row : Row) (rows : List Row) → AreAfter (Some row) rows → (k : ℕ) (d : Row) → suc k < suc (length rows) → id_cmp (get_or (row ∷ rows) k d).id (get_or rows k d).id ≡ Less
 ascend_cons row rows h zero d lt = less_is (id_cmp row.id (get_or rows 0 d).id) (h.first d (omega arith))
 ascend_cons row rows h (suc k) d lt = simp unary_clauses at (h.ascending k d (omega arith))
 
@@ -53,22 +53,22 @@ next_of row rows k d = ap (λ (n : ℕ). get_or (row ∷ rows) n d) (add_one_is 
   add_one_is : (k : ℕ) → k + 1 ≡ suc k
   add_one_is k = omega arith
 
-ascends_from : (row : Row) (rows : List Row) → AreBehind (Some row) rows → AllAdjacentBelow (λ r s. id_cmp r.id s.id ≡ Less) (row ∷ rows) (suc (length rows))
+ascends_from : (row : Row) (rows : List Row) → AreAfter (Some row) rows → AllAdjacentBelow (λ r s. id_cmp r.id s.id ≡ Less) (row ∷ rows) (suc (length rows))
 ascends_from row rows h k d lt = ap (λ (r : Row). id_cmp (get_or (row ∷ rows) k d).id r.id) (next_of row rows k d) ∙ ascend_cons row rows h k d (omega arith)
 
-pub behind_of : (i : ℕ) (before : Option Row) (rows : List Row) → rows_fault i before rows ≡ None → AreBehind before rows
-behind_of i before [] e = record { on_screen = λ k d lt. absurd (omega arith); first = λ d lt. absurd (omega arith); ascending = λ k d lt. absurd (omega arith) }
-behind_of i before (row ∷ rows) e =
+pub after_of : (i : ℕ) (before : Option Row) (rows : List Row) → rows_fault i before rows ≡ None → AreAfter before rows
+after_of i before [] e = record { on_screen = λ k d lt. absurd (omega arith); first = λ d lt. absurd (omega arith); ascending = λ k d lt. absurd (omega arith) }
+after_of i before (row ∷ rows) e =
     let p = parts_of (row_fault i before row) (rows_fault (i + 1) (Some row) rows) e in
     let fine = fine_by i (is_on_screen row.cursor.place) (comes_after before row.id) p.0 in
-    let rest = behind_of (i + 1) (Some row) rows p.1 in
+    let rest = after_of (i + 1) (Some row) rows p.1 in
     record {
       on_screen = screen_cons row rows (screen_is row.cursor.place fine.0) rest.on_screen;
       first = λ d lt. fine.1;
       ascending = ascends_from row rows rest;
     }
 
-tail_of : (before : Option Row) (row : Row) (rows : List Row) → AreBehind before (row ∷ rows) → AreBehind (Some row) rows
+tail_of : (before : Option Row) (row : Row) (rows : List Row) → AreAfter before (row ∷ rows) → AreAfter (Some row) rows
 tail_of before row rows h = record {
   on_screen = λ k d lt. h.on_screen (suc k) d (omega arith);
   first = λ d lt. ap is_lt (ap (λ (r : Row). id_cmp row.id r.id) (sym (next_of row rows 0 d)) ∙ h.ascending 0 d (omega arith));
@@ -80,7 +80,7 @@ tail_of before row rows h = record {
       let there = next_of row rows (k + 1) d in
       ap (λ (r : Row). id_cmp r.id (get_or rows (k + 1) d).id) (sym here) ∙ ap (λ (r : Row). id_cmp (get_or (row ∷ rows) (k + 1) d).id r.id) (sym there) ∙ h.ascending (k + 1) d (omega arith)
 
-pub none_of : (i : ℕ) (before : Option Row) (rows : List Row) → AreBehind before rows → rows_fault i before rows ≡ None
+pub none_of : (i : ℕ) (before : Option Row) (rows : List Row) → AreAfter before rows → rows_fault i before rows ≡ None
 none_of i before [] h = refl
 none_of i before (row ∷ rows) h =
     let s = is_screen row.cursor.place (h.on_screen 0 row (omega arith)) in
@@ -95,7 +95,7 @@ pub are_rows : (rows : List Row) → table_fault rows ≡ None → AreRows rows 
 are_rows rows e =
     let p = few_by (ltb 65535 (length rows)) (rows_fault 0 None rows) e in
     let few : length rows ≤ 65535 = grind (arith, nat_tests, p.0) in
-    let h = behind_of 0 None rows p.1 in
+    let h = after_of 0 None rows p.1 in
     (record { few = few; ascending = h.ascending }, h.on_screen)
 
 pub no_fault : (rows : List Row) → AreRows rows × AreOnScreen rows → table_fault rows ≡ None

@@ -160,7 +160,7 @@ with_row s r = record s { rows = s.rows ++ (r ∷ []) }
 took_row : (s : Said) (line : List ℕ) (t : Reading) → AreAnnounced s → IsSound s → length s.rows + 1 ≤ s.count
     → judge_row s line ≡ Ok t
     → Took Rows s line t
-took_row s line t told is room e =
+took_row s line t said is room e =
     let a =
     lacks (bytes_eq line (codes "end")) causes.Count
     (row_in s.rows line >>= λ r. Ok (begins Rows (with_row s r))) t e in
@@ -171,7 +171,7 @@ took_row s line t told is room e =
     subst (Took Rows s line) (ok_is (begins Rows (with_row s b.0)) t b.2) (record {
       lines = ap (λ (ls : List (List ℕ)). head_of s ++ ls) more
           ∙ sym (append_assoc (head_of s) (map row_line s.rows) (line ∷ []));
-      come = (told, omega (arith, room, length-append s.rows (b.0 ∷ [])));
+      come = (said, omega (arith, room, length-append s.rows (b.0 ∷ [])));
       sound = row_sound s line b.0 (s.rows ++ (b.0 ∷ [])) is room b.1 refl;
       rest = refl;
     })

@@ -75,11 +75,11 @@ tail s b rest over = ap (λ (r : Result Reading Fault). r >>= λ t. run t rest) 
 -- ---- the numbers of lines
 
 groups_counted : (s : Said) → s.grouped ≡ has_groups s.groups → from_bool s.grouped ≡ length (groups_lines s.groups)
-groups_counted s told = ap from_bool told ∙ counted s.groups
+groups_counted s said = ap from_bool said ∙ counted s.groups
 
 head_counted : (s : Said) → s.grouped ≡ has_groups s.groups → length (head_of s) ≡ from_bool s.grouped + 5
-head_counted s told =
-    omega (arith, groups_counted s told, length-append (groups_lines s.groups) (rows_line s.count ∷ []))
+head_counted s said =
+    omega (arith, groups_counted s said, length-append (groups_lines s.groups) (rows_line s.count ∷ []))
 
 number_is : (g : Stage) (s : Said) → HaveCome g s → number_of g s ≡ length (lines_before g s) + 1
 number_is Magic s come = refl

@@ -22,8 +22,8 @@ use Rattle.page_ids.proofs.Truths.{less_is}
 use Rattle.page_ids.specs.IdLaws.{not_after, less_apart}
 
 -- an id has no row after a row that isn't before it and isn't its own
-other_behind : (a b id : Id) → is_lt (id_cmp a id) ≡ false → id_eq a id ≡ false → is_lt (id_cmp b a) ≡ false → id_eq b id ≡ false
-other_behind a b id h other up = grind (arith, nat_tests)
+other_after : (a b id : Id) → is_lt (id_cmp a id) ≡ false → id_eq a id ≡ false → is_lt (id_cmp b a) ≡ false → id_eq b id ≡ false
+other_after a b id h other up = grind (arith, nat_tests)
 
 -- what is before an id is before those after it
 still_below : (a b c : Id) → id_cmp a b ≡ Less → is_lt (id_cmp c b) ≡ false → id_cmp a c ≡ Less
@@ -63,7 +63,7 @@ module _ (rows : List Row) (are : AreRows rows) (id : Id) (at : ℕ) (place : Is
   not_covered other =
       ap is_some (find_none (λ (r : Row). id_eq r.id id) rows (λ k d lt. elim (cases_lt k at) [
         | inl before ↦ less_apart (get_or rows k d).id id (place.below k d before lt)
-        | inr behind ↦ other_behind (get_or rows at d).id (get_or rows k d).id id (place.here d (omega (arith, behind, lt))) (other d (omega (arith, behind, lt))) (far rows are at k d behind lt)
+        | inr behind ↦ other_after (get_or rows at d).id (get_or rows k d).id id (place.here d (omega (arith, behind, lt))) (other d (omega (arith, behind, lt))) (far rows are at k d behind lt)
       ]))
 
   pub covered_is : (row : Row) → slice_get rows at ≡ Some row → id_eq row.id id ≡ is_covered rows id

@@ -251,7 +251,7 @@ fn groups_are_read_from_their_texts() -> Result<(), Fail> {
 }
 
 #[test]
-fn the_first_number_at_fault_is_told() -> Result<(), Fail> {
+fn the_first_number_at_fault_is_reported() -> Result<(), Fail> {
     let rows: [(&str, Option<GroupFault>); 8] = [
         ("7 9", None),
         ("", Some(GroupFault::Number)),

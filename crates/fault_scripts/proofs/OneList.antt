@@ -10,7 +10,7 @@ use Rattle.finder.specs.declared.found.Discovered.{Discovered}
 use Rattle.finder.specs.Finds.{IsFinding}
 use Rattle.finder.proofs.OneFound.{one_found}
 use Rattle.fault_scripts.specs.declared.fault.Fault.{Fault}
-use Rattle.fault_scripts.specs.Faults.{IsDue, StandsBefore, AreDue, AreFaultsAlong, AreFaultsBy}
+use Rattle.fault_scripts.specs.Faults.{IsDue, ComesBefore, AreDue, AreFaultsAlong, AreFaultsBy}
 use Rattle.fault_scripts.specs.FaultLaws.{FaultsAreOne}
 use Rattle.fault_scripts.proofs.Lists.{none_in}
 use Rattle.fault_scripts.proofs.Reported.{own_place}
@@ -82,7 +82,7 @@ module _ {X : Type 0} (R : X → X → Type 0) where
 
 module _ (base : BaseView) (policy : Policy) where
   -- of two due faults only one is before the other
-  one_before : (found : List Discovered) (finding : IsFinding policy.groups base found) (x y : Fault) → IsDue base policy found x → IsDue base policy found y → StandsBefore found x y → StandsBefore found y x → ⊥
+  one_before : (found : List Discovered) (finding : IsFinding policy.groups base found) (x y : Fault) → IsDue base policy found x → IsDue base policy found y → ComesBefore found x y → ComesBefore found y x → ⊥
   one_before found finding x y dx dy xy yx =
       let px = own_place base policy found finding x dx in
       let py = own_place base policy found finding y dy in
@@ -92,7 +92,7 @@ module _ (base : BaseView) (policy : Policy) where
   one_along a b along other =
       let same : along.found ≡ other.found = one_found policy.groups base along.found other.found along.finding.reached along.finding.ranks other.finding.reached other.finding.ranks in
       let due = subst (λ (found : List Discovered). AreDue base policy found b) (sym same) other.due in
-      one_order (StandsBefore along.found) a b along.due.in_order due.in_order (λ z. (λ h. (due.just z).1 ((along.due.just z).0 h), λ h. (along.due.just z).1 ((due.just z).0 h))) (λ x y hx hy. one_before along.found along.finding x y ((along.due.just x).0 hx) ((along.due.just y).0 hy))
+      one_order (ComesBefore along.found) a b along.due.in_order due.in_order (λ z. (λ h. (due.just z).1 ((along.due.just z).0 h), λ h. (along.due.just z).1 ((due.just z).0 h))) (λ x y hx hy. one_before along.found along.finding x y ((along.due.just x).0 hx) ((along.due.just y).0 hy))
 
   by_entry : (s : Sought) (a b : List Fault) → AreFaultsBy s base policy a → AreFaultsBy s base policy b → a ≡ b
   by_entry (sought.Found price) a b fa fb = one_along a b fa fb

@@ -20,7 +20,7 @@ use Rattle.fault_scripts.specs.declared.fault.Fault.{Fault}
 use Rattle.fault_scripts.specs.declared.frame_fault.FrameFault.{FrameFault}
 use Rattle.fault_scripts.specs.declared.frame_fault.FrameFault.TheVariants.{Price, Touches, Missing, Closed, NoReturn}
 use Rattle.fault_scripts.specs.declared.reporter.Reporter.{Reporter}
-use Rattle.fault_scripts.specs.Faults.{IsDue, IsOfPlace, StandsBefore, turn_of, turn_at, AreDue}
+use Rattle.fault_scripts.specs.Faults.{IsDue, IsOfPlace, ComesBefore, turn_of, turn_at, AreDue}
 use Rattle.fault_scripts.specs.Loops.{fault_of, HasScript, IsDueBelow, IsReported, IsReporting}
 use Rattle.fault_scripts.proofs.Asked.{asked, IsAnswer, asked_due, due_asked}
 use Rattle.fault_scripts.proofs.Discoveries.{listed_frame, listed_once}
@@ -60,7 +60,7 @@ module _ (base : BaseView) (policy : Policy) (found : List Discovered) (finding 
 
   -- a due fault is before another, if its own place does
   pub stands_before : (x y : Fault) (a : IsDue base policy found x) (b : IsDue base policy found y)
-      → turn_at a.index x < turn_at b.index y → StandsBefore found x y
+      → turn_at a.index x < turn_at b.index y → ComesBefore found x y
   stands_before x y a b lt i j p q = omega (arith, place_is_one x a i p, place_is_one y b j q, lt)
 
   -- at one place of one frame
@@ -128,7 +128,7 @@ module _ (base : BaseView) (policy : Policy) (found : List Discovered) (finding 
                 let is : mine wrong ≡ f = ap mine same ∙ sym w.2 in
                 subst (λ (x : Fault). Contains (faults ++ mine wrong ∷ []) x) is (Contains-push faults (mine wrong))
           ];
-          in_order = all_pairs_push (StandsBefore found) faults (mine wrong) reported.in_order (λ k x lt.
+          in_order = all_pairs_push (ComesBefore found) faults (mine wrong) reported.in_order (λ k x lt.
               let before = All-get_or (IsDueBelow base policy found p) faults k x lt reported.just in
               stands_before base policy found finding (get_or faults k x) (mine wrong) before.due own.0 (omega (arith, before.below, own.1)));
         }

@@ -115,8 +115,8 @@ abbrev pub IsOfPlace : List Discovered → ℕ → Fault → Type 0
 IsOfPlace found i fault = (d : Discovered) × (slice_get found i ≡ Some d) × (fault.frame ≡ d.id)
 
 -- the fault is before the other, whatever their places are
-abbrev pub StandsBefore : List Discovered → Fault → Fault → Type 0
-StandsBefore found x y = (i j : ℕ) → IsOfPlace found i x → IsOfPlace found j y → turn_at i x < turn_at j y
+abbrev pub ComesBefore : List Discovered → Fault → Fault → Type 0
+ComesBefore found x y = (i j : ℕ) → IsOfPlace found i x → IsOfPlace found j y → turn_at i x < turn_at j y
 
 -- What the list of faults of a base is, for a caller of exactly the policy's groups.
 
@@ -124,7 +124,7 @@ StandsBefore found x y = (i j : ℕ) → IsOfPlace found i x → IsOfPlace found
 -- kinds and keys
 pub record AreDue (base : BaseView) (policy : Policy) (found : List Discovered) (faults : List Fault) : Type 0 where
   pub just : (fault : Fault) → Contains faults fault ↔ IsDue base policy found fault
-  pub in_order : AllPairs (StandsBefore found) faults
+  pub in_order : AllPairs (ComesBefore found) faults
 
 -- those of the discovered frames, which are these
 pub record AreFaultsAlong (base : BaseView) (policy : Policy) (faults : List Fault) : Type 0 where

@@ -16,7 +16,7 @@ use Rattle.finder.specs.Finds.{IsFinding, ScriptsExtend, script}
 use Rattle.fault_scripts.specs.declared.fault.Fault.{Fault}
 use Rattle.fault_scripts.specs.declared.frames.Judge.{Judge}
 use Rattle.fault_scripts.specs.declared.reporter.Reporter.{Reporter}
-use Rattle.fault_scripts.specs.Faults.{IsDue, StandsBefore, turn_at, plain_fault, price_fault, touch_fault, key_fault}
+use Rattle.fault_scripts.specs.Faults.{IsDue, ComesBefore, turn_at, plain_fault, price_fault, touch_fault, key_fault}
 use Rattle.std.specs.List.Sorted.{IsSortedByKey}
 use Rattle.cert_table.specs.Table.{CertView, table_fault}
 use Rattle.fault_scripts.specs.declared.table.GatheredRows as held
@@ -84,7 +84,7 @@ pub record IsDueBelow (base : BaseView) (policy : Policy) (found : List Discover
 pub record IsReported (base : BaseView) (policy : Policy) (found : List Discovered) (place : ℕ) (faults : List Fault) : Type 0 where
   pub just : All (IsDueBelow base policy found place) faults
   pub whole : (fault : Fault) → IsDueBelow base policy found place fault → Contains faults fault
-  pub in_order : AllPairs (StandsBefore found) faults
+  pub in_order : AllPairs (ComesBefore found) faults
 
 -- a reporter that has reported them
 pub record IsReporting (base : BaseView) (policy : Policy) (found : List Discovered) (place : ℕ) (t : Reporter) : Type 0 where

@@ -39,14 +39,14 @@ module _ (table : WayTable) (node way : ℕ) (f : Frame) (at : slice_get table.b
   pub lost_is : table.count ≤ get_or table.targets.nodes.items (node * 11 + way) 0 → (aim : Aim) → aim ≡ get_or table.targets.aims.items (node * 11 + way) NotOffered → lost_to aim (sought f (way_at way)) ≡ destination_of table.groups.now table.base.now f (way_at way)
   lost_is past aim is =
       let inside = slice_get_within table.base.now.frames node f at in
-      let told = (table.whole.right node way f (omega (arith, inside, small, table.nodes)) small at).lost (omega (arith, past, table.nodes)) in
-      let here : aim ≡ aim_of (destination_of table.groups.now table.base.now f (way_at way)) = is ∙ told.0 in
+      let by_node = (table.whole.right node way f (omega (arith, inside, small, table.nodes)) small at).lost (omega (arith, past, table.nodes)) in
+      let here : aim ≡ aim_of (destination_of table.groups.now table.base.now f (way_at way)) = is ∙ by_node.0 in
       ap (λ (a : Aim). lost_to a (sought f (way_at way))) here
-      ∙ offered_lost table.groups.now table.base.now (way_at way) (sought f (way_at way)) (λ found. told.1 (told.0 ∙ found))
+      ∙ offered_lost table.groups.now table.base.now (way_at way) (sought f (way_at way)) (λ found. by_node.1 (by_node.0 ∙ found))
 
   -- a way that finds one
   pub found_is : (to : Frame) → get_or table.targets.nodes.items (node * 11 + way) 0 < table.count → slice_get table.base.now.frames (get_or table.targets.nodes.items (node * 11 + way) 0) ≡ Some to → destination_is.Found to.id to.price ≡ destination_of table.groups.now table.base.now f (way_at way)
   found_is to lt there =
       let inside = slice_get_within table.base.now.frames node f at in
-      let told = (table.whole.right node way f (omega (arith, inside, small, table.nodes)) small at).found (omega (arith, lt, table.nodes)) in
-      same_Some (destination_is.Found to.id to.price) (destination_of table.groups.now table.base.now f (way_at way)) (ap (λ (o : Option Frame). option_map (λ (h : Frame). destination_is.Found h.id h.price) o) (sym there) ∙ told)
+      let by_node = (table.whole.right node way f (omega (arith, inside, small, table.nodes)) small at).found (omega (arith, lt, table.nodes)) in
+      same_Some (destination_is.Found to.id to.price) (destination_of table.groups.now table.base.now f (way_at way)) (ap (λ (o : Option Frame). option_map (λ (h : Frame). destination_is.Found h.id h.price) o) (sym there) ∙ by_node)

@@ -3,7 +3,7 @@ use Rattle.std.proofs.Common.{◌≡◌, ◌<◌, ◌+◌, ◌*◌, ℕ, List, S
 use Rattle.finder.proofs.Words.{Id, way_at, way_place, Way, Frame, BaseView, going, offered_place, Leads, destination_of, Graph, Goes}
 use Rattle.frame_records.specs.declared.ways.Destination.TheVariants as destination
 use Rattle.finder.specs.declared.aim.Aim.TheVariants.{NotOffered}
-use Rattle.finder.specs.Loops.WayTargets.{IsTold}
+use Rattle.finder.specs.Loops.WayTargets.{IsTargetBy}
 use Rattle.finder.proofs.Lists.{at_within, mapped}
 
 -- a way that leads is one of the eleven
@@ -16,10 +16,10 @@ module _ (graph : Graph) where
   abbrev pub node_to : ℕ → ℕ → ℕ
   node_to f way = get_or graph.table.targets.nodes.items (f * 11 + way) 0
 
-  pub told : (f way : ℕ) (frame : Frame) → f < graph.table.count → way < 11
+  pub by_node : (f way : ℕ) (frame : Frame) → f < graph.table.count → way < 11
       → slice_get graph.table.base.now.frames f ≡ Some frame
-      → IsTold graph.table.groups.now graph.table.base.now frame (way_at way) (node_to f way) (get_or graph.table.targets.aims.items (f * 11 + way) NotOffered)
-  told f way frame inside small at = graph.table.whole.right f way frame (omega (arith, inside, small)) small at
+      → IsTargetBy graph.table.groups.now graph.table.base.now frame (way_at way) (node_to f way) (get_or graph.table.targets.aims.items (f * 11 + way) NotOffered)
+  by_node f way frame inside small at = graph.table.whole.right f way frame (omega (arith, inside, small)) small at
 
   -- the frames of a way that leads somewhere
   pub record LeadsOn (f way g : ℕ) : Type 0 where
@@ -32,6 +32,6 @@ module _ (graph : Graph) where
   pub leads_on : (f way g : ℕ) → Goes graph f way g → LeadsOn f way g
   leads_on f way g goes =
       let from = at_within graph.table.base.now.frames f (omega (arith, goes.from, graph.table.nodes)) in
-      let is = (told f way from.0 goes.from goes.is_way from.1).found (omega (arith, goes.target, goes.to, graph.table.nodes)) in
+      let is = (by_node f way from.0 goes.from goes.is_way from.1).found (omega (arith, goes.target, goes.to, graph.table.nodes)) in
       let to = mapped (λ (h : Frame). destination.Found h.id h.price) (slice_get graph.table.base.now.frames g) _ (ap (λ p. option_map (λ (h : Frame). destination.Found h.id h.price) (slice_get graph.table.base.now.frames p)) (sym goes.target) ∙ is) in
       record { from = from.0; placed = from.1; to = to.0; there = to.1; found = sym to.2 }

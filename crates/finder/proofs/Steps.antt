@@ -3,7 +3,7 @@ use Rattle.std.proofs.Common.{◌≡◌, ℕ, List, Option, Some, None, option_m
 use Rattle.finder.proofs.Words.{cases_lt, same_Some, slice_get_within, slice_get_read, Id, id_eq, Way, place_at, way_at, way_place, Frame, IsAscending, BaseView, entry_of, destination_of, destination_by, destination, aim_of, Leads, going, frame_id, first_found, id_at, Direction, From, To, Graph, Goes, NodeWalk, Comes, turned, IsNodeRank, AreRanks, IsFromEntry, Walk, WalkIn, IsRank}
 use Rattle.frame_records.specs.declared.ways.Destination.TheVariants as destination_is
 use Rattle.finder.proofs.Nodes.{same_node, frame_here, id_there}
-use Rattle.finder.proofs.Leading.{node_to, told, leads_on, known_way}
+use Rattle.finder.proofs.Leading.{node_to, by_node, leads_on, known_way}
 use Rattle.finder.proofs.Lists.{mapped}
 
 -- an id has one node
@@ -42,7 +42,7 @@ module _ (graph : Graph) where
       let known = known_way caller base a way b l in
       let inside : f < graph.table.count = omega (arith, slice_get_within base.frames f from.0 from.1, graph.table.nodes) in
       let found : destination_of caller base from.0 (way_at (way_place way)) ≡ destination_is.Found b l.price = ap (destination_of caller base from.0) known.1 ∙ sym (ap (λ id. destination caller base id way) (sym from.2) ∙ ap (destination_by caller base way) (frame_here base.frames graph.table.valid.ascending f from.0 from.1)) ∙ l.found in
-      let is = told graph f (way_place way) from.0 inside known.0 from.1 in
+      let is = by_node graph f (way_place way) from.0 inside known.0 from.1 in
       ⊎_elim (λ within.
       let to = mapped (λ (h : Frame). destination_is.Found h.id h.price) (slice_get base.frames (node_to graph f (way_place way))) _ (is.found within) in
       (_, ap (option_map (λ (h : Frame). h.id)) to.1 ∙ ap Some (by to.0.id b to.0.price l.price (to.2 ∙ found)), record { is_way = known.0; from = inside; to = omega (arith, within, graph.table.nodes); target = refl })) (λ past.

@@ -6,7 +6,7 @@ use Rattle.frame_records.specs.declared.ways.Destination.TheVariants as destinat
 use Rattle.finder.specs.declared.aim.Aim.TheVariants as aim
 use Rattle.finder.specs.declared.table.Targets.{Targets}
 use Rattle.finder.specs.declared.target.Target.TheVariants.{Found}
-use Rattle.finder.specs.Loops.WayTargets.{IsFoundAt, IsTold, IsAdded}
+use Rattle.finder.specs.Loops.WayTargets.{IsFoundAt, IsTargetBy, IsAdded}
 use Rattle.finder.proofs.Nodes.{frame_here, id_there}
 use Rattle.finder.proofs.Lists.{mapped}
 
@@ -70,7 +70,7 @@ module _ (caller : List ℕ) (base : BaseView) (node way : ℕ) (f : Frame) (tar
   last = length old.nodes.items
 
   record AreAdded : Type 0 where
-    told : IsTold caller base f (way_at way) added.node (get_or new.aims.items last aim.NotOffered)
+    by_node : IsTargetBy caller base f (way_at way) added.node (get_or new.aims.items last aim.NotOffered)
     slots : length new.aims.items ≡ length old.aims.items
     kept : (k : ℕ) → k < last → get_or new.aims.items k aim.NotOffered ≡ get_or old.aims.items k aim.NotOffered
 
@@ -82,7 +82,7 @@ module _ (caller : List ℕ) (base : BaseView) (node way : ℕ) (f : Frame) (tar
       let there = is.found p e in
       let same = added.found p e in
       record {
-        told = record { found = λ lt. rw same.0 there; lost = λ past. absurd (omega (arith, same.0, past, slice_get_within base.frames p (placed p there).0 (placed p there).1)) };
+        by_node = record { found = λ lt. rw same.0 there; lost = λ past. absurd (omega (arith, same.0, past, slice_get_within base.frames p (placed p there).0 (placed p there).1)) };
         slots = ap length same.1;
         kept = λ k lt. ap (λ l. get_or l k aim.NotOffered) same.1;
       }
@@ -91,7 +91,7 @@ module _ (caller : List ℕ) (base : BaseView) (node way : ℕ) (f : Frame) (tar
       let within : last < length old.aims.items = omega (arith, are.room, are.slots, slice_get_within base.frames node f at, small) in
       let aim_is : get_or new.aims.items last aim.NotOffered ≡ aim_at target = ap (λ l. get_or l last aim.NotOffered) none.1 ∙ get_or-set_at old.aims.items last last (aim_at target) aim.NotOffered refl within in
       record {
-        told = record { found = λ lt. absurd (omega (arith, lt, few, none.0)); lost = λ past. (aim_is ∙ is.aim, λ found. not_found target e (sym aim_is ∙ found)) };
+        by_node = record { found = λ lt. absurd (omega (arith, lt, few, none.0)); lost = λ past. (aim_is ∙ is.aim, λ found. not_found target e (sym aim_is ∙ found)) };
         slots = ap length none.1 ∙ length-set old.aims.items last (aim_at target);
         kept = λ k lt. ap (λ l. get_or l k aim.NotOffered) none.1 ∙ get_or-set_other old.aims.items last k (aim_at target) aim.NotOffered (λ same. omega (arith, same, lt));
       }
@@ -105,11 +105,11 @@ module _ (caller : List ℕ) (base : BaseView) (node way : ℕ) (f : Frame) (tar
         right = λ i k g lt is_way there.
             ⊎_elim (λ less.
             let inside : i * 11 + k < last = omega (arith, less, are.room) in
-            subst (λ p. IsTold caller base g (way_at k) p (get_or new.aims.items (i * 11 + k) aim.NotOffered)) (sym (ap (λ l. get_or l (i * 11 + k) 0) added.nodes ∙ get_or_append_left old.nodes.items (added.node ∷ []) 0 (i * 11 + k) inside)) (rw (more.kept (i * 11 + k) inside) (are.right i k g less is_way there))) (λ past.
+            subst (λ p. IsTargetBy caller base g (way_at k) p (get_or new.aims.items (i * 11 + k) aim.NotOffered)) (sym (ap (λ l. get_or l (i * 11 + k) 0) added.nodes ∙ get_or_append_left old.nodes.items (added.node ∷ []) 0 (i * 11 + k) inside)) (rw (more.kept (i * 11 + k) inside) (are.right i k g less is_way there))) (λ past.
             let row : node ≡ i = omega (arith, past, lt, is_way, small) in
             let column : way ≡ k = omega (arith, past, lt, row) in
             let same : f ≡ g = same_Some f g (sym at ∙ ap (slice_get base.frames) row ∙ there) in
             let here : last ≡ i * 11 + k = omega (arith, row, column, are.room) in
             let node_is : added.node ≡ get_or new.nodes.items (i * 11 + k) 0 = sym (ap (λ l. get_or l (i * 11 + k) 0) added.nodes ∙ get_or_push old.nodes.items added.node 0 (i * 11 + k) here) in
-            subst (λ p. IsTold caller base g (way_at k) p (get_or new.aims.items (i * 11 + k) aim.NotOffered)) node_is (subst (λ j. IsTold caller base g (way_at k) added.node (get_or new.aims.items j aim.NotOffered)) here (subst (λ w. IsTold caller base g (way_at w) added.node (get_or new.aims.items last aim.NotOffered)) column (subst (λ h. IsTold caller base h (way_at way) added.node (get_or new.aims.items last aim.NotOffered)) same more.told)))) (cases_lt (i * 11 + k) (node * 11 + way));
+            subst (λ p. IsTargetBy caller base g (way_at k) p (get_or new.aims.items (i * 11 + k) aim.NotOffered)) node_is (subst (λ j. IsTargetBy caller base g (way_at k) added.node (get_or new.aims.items j aim.NotOffered)) here (subst (λ w. IsTargetBy caller base g (way_at w) added.node (get_or new.aims.items last aim.NotOffered)) column (subst (λ h. IsTargetBy caller base h (way_at way) added.node (get_or new.aims.items last aim.NotOffered)) same more.by_node)))) (cases_lt (i * 11 + k) (node * 11 + way));
       }

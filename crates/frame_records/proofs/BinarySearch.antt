@@ -28,10 +28,10 @@ before_less Less h = refl
 before_less Equal h = absurd h
 before_less Greater h = absurd h
 
-pub behind_greater : (b : Ordering) → MayFollow Greater b → b ≡ Greater
-behind_greater Less h = absurd h
-behind_greater Equal h = absurd h
-behind_greater Greater h = refl
+pub after_greater : (b : Ordering) → MayFollow Greater b → b ≡ Greater
+after_greater Less h = absurd h
+after_greater Equal h = absurd h
+after_greater Greater h = refl
 
 pub less_to : (xs : List Ordering) (m i : ℕ) → IsSearchable xs → slice_get xs m ≡ Some Less → i < m + 1 → get_or xs i Less ≡ Less
 less_to xs m i up e lt =
@@ -45,7 +45,7 @@ pub greater_from : (xs : List Ordering) (m i : ℕ) → IsSearchable xs → slic
 greater_from xs m i up e le lt =
     let at : get_or xs m Less ≡ Greater = get_or_from_slice_get xs m Greater Less e in
     elim (cases_lt m i) [
-      | inl before ↦ behind_greater (get_or xs i Less) (subst (λ (o : Ordering). MayFollow o (get_or xs i Less)) at (up m i before lt))
+      | inl before ↦ after_greater (get_or xs i Less) (subst (λ (o : Ordering). MayFollow o (get_or xs i Less)) at (up m i before lt))
       | inr ge ↦ let same : i ≡ m = omega arith in rw same at
     ]
 

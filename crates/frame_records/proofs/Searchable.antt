@@ -77,29 +77,29 @@ any_same p q same (x ∷ xs) = by (p x) (q x) (same x) (any_same p q same xs) wh
   by false true e rest = absurd cc
 
 -- the order of ids, and that of numbers
-id_behind : (a b w : Id) (o p : Ordering) → id_cmp a b ≡ Less → id_cmp a w ≡ o → id_cmp b w ≡ p → MayFollow o p
-id_behind a b w Less p lt e f = tt
-id_behind a b w Equal Less lt e f = absurd (grind (arith, nat_tests))
-id_behind a b w Equal Equal lt e f = absurd (grind (arith, nat_tests))
-id_behind a b w Equal Greater lt e f = tt
-id_behind a b w Greater Less lt e f = absurd (grind (arith, nat_tests))
-id_behind a b w Greater Equal lt e f = absurd (grind (arith, nat_tests))
-id_behind a b w Greater Greater lt e f = tt
+id_after : (a b w : Id) (o p : Ordering) → id_cmp a b ≡ Less → id_cmp a w ≡ o → id_cmp b w ≡ p → MayFollow o p
+id_after a b w Less p lt e f = tt
+id_after a b w Equal Less lt e f = absurd (grind (arith, nat_tests))
+id_after a b w Equal Equal lt e f = absurd (grind (arith, nat_tests))
+id_after a b w Equal Greater lt e f = tt
+id_after a b w Greater Less lt e f = absurd (grind (arith, nat_tests))
+id_after a b w Greater Equal lt e f = absurd (grind (arith, nat_tests))
+id_after a b w Greater Greater lt e f = tt
 
 id_trans : (a b c : Id) → id_cmp a b ≡ Less → id_cmp b c ≡ Less → id_cmp a c ≡ Less
 id_trans a b c h k = grind (arith, nat_tests)
 
 pub ids_searchable : {A : Type 0} (key : A → Id) (xs : List A) (wanted : Id) → AllAdjacentBelow (λ a b. id_cmp (key a) (key b) ≡ Less) xs (length xs) → IsSearchable (map (λ a. id_cmp (key a) wanted) xs)
-ids_searchable key = searchable id_cmp id_trans (λ a b w lt. id_behind a b w (id_cmp a w) (id_cmp b w) lt refl refl) key
+ids_searchable key = searchable id_cmp id_trans (λ a b w lt. id_after a b w (id_cmp a w) (id_cmp b w) lt refl refl) key
 
-page_behind : (a b w : ℕ) (o p : Ordering) → nat_cmp a b ≡ Less → nat_cmp a w ≡ o → nat_cmp b w ≡ p → MayFollow o p
-page_behind a b w Less p lt e f = tt
-page_behind a b w Equal Less lt e f = absurd (grind (arith, nat_tests))
-page_behind a b w Equal Equal lt e f = absurd (grind (arith, nat_tests))
-page_behind a b w Equal Greater lt e f = tt
-page_behind a b w Greater Less lt e f = absurd (grind (arith, nat_tests))
-page_behind a b w Greater Equal lt e f = absurd (grind (arith, nat_tests))
-page_behind a b w Greater Greater lt e f = tt
+page_after : (a b w : ℕ) (o p : Ordering) → nat_cmp a b ≡ Less → nat_cmp a w ≡ o → nat_cmp b w ≡ p → MayFollow o p
+page_after a b w Less p lt e f = tt
+page_after a b w Equal Less lt e f = absurd (grind (arith, nat_tests))
+page_after a b w Equal Equal lt e f = absurd (grind (arith, nat_tests))
+page_after a b w Equal Greater lt e f = tt
+page_after a b w Greater Less lt e f = absurd (grind (arith, nat_tests))
+page_after a b w Greater Equal lt e f = absurd (grind (arith, nat_tests))
+page_after a b w Greater Greater lt e f = tt
 
 page_trans : (a b c : ℕ) → nat_cmp a b ≡ Less → nat_cmp b c ≡ Less → nat_cmp a c ≡ Less
 page_trans a b c h k = grind (arith, nat_tests)
@@ -114,7 +114,7 @@ pages_ascend xs up k d lt =
     less_number (get_or xs k d) (get_or xs (k + 1) d) (omega (arith, here, next, up k lt))
 
 pub pages_searchable : (xs : List ℕ) (wanted : ℕ) → IsStrictlyIncreasing xs → IsSearchable (map (λ p. nat_cmp p wanted) xs)
-pages_searchable xs wanted up = searchable nat_cmp page_trans (λ a b w lt. page_behind a b w (nat_cmp a w) (nat_cmp b w) lt refl refl) (λ p. p) xs wanted (pages_ascend xs up)
+pages_searchable xs wanted up = searchable nat_cmp page_trans (λ a b w lt. page_after a b w (nat_cmp a w) (nat_cmp b w) lt refl refl) (λ p. p) xs wanted (pages_ascend xs up)
 
 same_pages : (a b : ℕ) → is_eq (nat_cmp a b) ≡ (a == b)
 same_pages a b = grind (arith, nat_tests)

@@ -8,7 +8,7 @@ use Rattle.page_ids.specs.declared.fault.IdFault.TheVariants.{BadPage, BadFrame,
 use Rattle.page_ids.specs.declared.key.Key.{Key}
 use Rattle.page_ids.specs.declared.key.Key.TheVariants.{Route, Next, Prev, Reprint, Update}
 use Rattle.page_ids.specs.Keys.{key_word, keys_text, IsKey, AreKeys, IsUnreadableAt, IsRead}
-use Rattle.page_ids.specs.Loops.{key_at, key_behind_star, key_behind_zero}
+use Rattle.page_ids.specs.Loops.{key_at, key_past_star, key_past_zero}
 
 digit_word : (d : ℕ) (rest : List ℕ) → d < 10 → key_at ((48 + d) ∷ rest) ≡ Some (Route d)
 digit_word d rest small =
@@ -82,9 +82,9 @@ some_key key = Some key
 same_key : (a b : Key) → some_key a ≡ some_key b → a ≡ b
 same_key a b e = cc
 
-behind_zero : (bytes : List ℕ) (key : Key) → key_behind_zero bytes ≡ Some key → Begins (42 ∷ 48 ∷ bytes) key
-behind_zero [] key e = absurd cc
-behind_zero (c ∷ cs) key e =
+past_zero : (bytes : List ℕ) (key : Key) → key_past_zero bytes ≡ Some key → Begins (42 ∷ 48 ∷ bytes) key
+past_zero [] key e = absurd cc
+past_zero (c ∷ cs) key e =
     elim (chosen (eqb c 48) (some_key Reprint) (cond (eqb c 57) (some_key Update) None) (Some key) e) [
       | inl h ↦ let byte = is c 48 h.0 in subst (Begins (42 ∷ 48 ∷ c ∷ cs)) (same_key Reprint key h.1) (tt, cs, cc)
       | inr h ↦ elim (chosen (eqb c 57) (some_key Update) None (Some key) h.1) [
@@ -93,13 +93,13 @@ behind_zero (c ∷ cs) key e =
       ]
     ]
 
-behind_star : (bytes : List ℕ) (key : Key) → key_behind_star bytes ≡ Some key → Begins (42 ∷ bytes) key
-behind_star [] key e = absurd cc
-behind_star (b ∷ bs) key e =
-    elim (chosen (eqb b 35) (some_key Prev) (cond (eqb b 48) (key_behind_zero bs) None) (Some key) e) [
+past_star : (bytes : List ℕ) (key : Key) → key_past_star bytes ≡ Some key → Begins (42 ∷ bytes) key
+past_star [] key e = absurd cc
+past_star (b ∷ bs) key e =
+    elim (chosen (eqb b 35) (some_key Prev) (cond (eqb b 48) (key_past_zero bs) None) (Some key) e) [
       | inl h ↦ let byte = is b 35 h.0 in subst (Begins (42 ∷ b ∷ bs)) (same_key Prev key h.1) (tt, bs, cc)
-      | inr h ↦ elim (chosen (eqb b 48) (key_behind_zero bs) None (Some key) h.1) [
-        | inl k ↦ let byte = is b 48 k.0 in subst (λ (x : ℕ). Begins (42 ∷ x ∷ bs) key) (sym byte) (behind_zero bs key k.1)
+      | inr h ↦ elim (chosen (eqb b 48) (key_past_zero bs) None (Some key) h.1) [
+        | inl k ↦ let byte = is b 48 k.0 in subst (λ (x : ℕ). Begins (42 ∷ x ∷ bs) key) (sym byte) (past_zero bs key k.1)
         | inr k ↦ let none = k.1 in absurd cc
       ]
     ]
@@ -115,10 +115,10 @@ digit_begins a more h =
 pub word_found : (bytes : List ℕ) (key : Key) → key_at bytes ≡ Some key → Begins bytes key
 word_found [] key e = absurd cc
 word_found (a ∷ more) key e =
-    elim (chosen (eqb a 35) (some_key Next) (cond (eqb a 42) (key_behind_star more) (cond (ltb 47 a && ltb a 58) (some_key (Route (a - 48))) None)) (Some key) e) [
+    elim (chosen (eqb a 35) (some_key Next) (cond (eqb a 42) (key_past_star more) (cond (ltb 47 a && ltb a 58) (some_key (Route (a - 48))) None)) (Some key) e) [
       | inl h ↦ let byte = is a 35 h.0 in subst (Begins (a ∷ more)) (same_key Next key h.1) (tt, more, cc)
-      | inr h ↦ elim (chosen (eqb a 42) (key_behind_star more) (cond (ltb 47 a && ltb a 58) (some_key (Route (a - 48))) None) (Some key) h.1) [
-        | inl k ↦ let byte = is a 42 k.0 in subst (λ (x : ℕ). Begins (x ∷ more) key) (sym byte) (behind_star more key k.1)
+      | inr h ↦ elim (chosen (eqb a 42) (key_past_star more) (cond (ltb 47 a && ltb a 58) (some_key (Route (a - 48))) None) (Some key) h.1) [
+        | inl k ↦ let byte = is a 42 k.0 in subst (λ (x : ℕ). Begins (x ∷ more) key) (sym byte) (past_star more key k.1)
         | inr k ↦ elim (chosen (ltb 47 a && ltb a 58) (some_key (Route (a - 48))) None (Some key) k.1) [
           | inl d ↦ subst (Begins (a ∷ more)) (same_key (Route (a - 48)) key d.1) (digit_begins a more d.0)
           | inr d ↦ let none = d.1 in absurd cc

@@ -46,7 +46,7 @@ fn a_source_that_fails_is_broken_wherever_it_fails(rt: HostRuntime) -> Result<()
 }
 
 #[test]
-fn what_lies_behind_the_limit_is_not_asked_for(rt: HostRuntime) -> Result<(), Fail> {
+fn what_comes_after_the_limit_is_not_asked_for(rt: HostRuntime) -> Result<(), Fail> {
     let mut source = FakeSource::broken(TEXT, 5, 12);
     let bytes = read_whole(rt.alloc(), &mut source, 12)?;
     same(bytes.as_slice(), TEXT)?;
@@ -55,7 +55,7 @@ fn what_lies_behind_the_limit_is_not_asked_for(rt: HostRuntime) -> Result<(), Fa
 }
 
 #[test]
-fn what_lies_behind_the_end_is_not_asked_for(rt: HostRuntime) -> Result<(), Fail> {
+fn what_comes_after_the_end_is_not_asked_for(rt: HostRuntime) -> Result<(), Fail> {
     let mut source = FakeSource::with_more(TEXT, 5, b"more");
     let bytes = read_whole(rt.alloc(), &mut source, 100)?;
     same(bytes.as_slice(), TEXT)?;

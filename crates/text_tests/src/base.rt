@@ -58,7 +58,7 @@ fn route(base: &Base, id: FrameId, digit: usize) -> Option<u32> {
 }
 
 #[test]
-fn demo_is_read_as_it_stands(rt: HostRuntime) -> Result<(), Fail> {
+fn demo_is_read_as_it_is(rt: HostRuntime) -> Result<(), Fail> {
     let ids = [
         FrameId::read("123a")?,
         FrameId::read("1231a")?,

@@ -220,7 +220,7 @@ fn the_largest_table_is_read_and_written(rt: HostRuntime) -> Result<(), Fail> {
 }
 
 #[test]
-fn a_fault_behind_many_rows_is_told(rt: HostRuntime) -> Result<(), Fail> {
+fn a_fault_after_many_rows_is_reported(rt: HostRuntime) -> Result<(), Fail> {
     for (number, line, cause) in [
         (65_000, "1a 0 any", LineCause::Order),
         (65_541, "END", LineCause::Count),

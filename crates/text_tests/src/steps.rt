@@ -5,7 +5,7 @@ use std::test::Fail;
 use test_support::same;
 
 #[test]
-fn keys_and_codes_are_told(_rt: HostRuntime) -> Result<(), Fail> {
+fn keys_and_codes_are_reported(_rt: HostRuntime) -> Result<(), Fail> {
     let words = (
         Field::Price.name(),
         digit_key(7),

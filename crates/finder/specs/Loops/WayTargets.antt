@@ -61,7 +61,7 @@ pub record IsTarget (caller : List ℕ) (base : BaseView) (f : Frame) (way : Way
   pub found : (node : ℕ) → node_of target ≡ Some node → IsFoundAt caller base f way node
 
 -- the same, reported by the node of the frame that is found, which is past the last if none is, and then by the aim
-pub record IsTold (caller : List ℕ) (base : BaseView) (f : Frame) (way : Way) (node : ℕ) (other : Aim) : Type 0 where
+pub record IsTargetBy (caller : List ℕ) (base : BaseView) (f : Frame) (way : Way) (node : ℕ) (other : Aim) : Type 0 where
   pub found : node < length base.frames → IsFoundAt caller base f way node
   pub lost : length base.frames ≤ node → (other ≡ aim_of (destination_of caller base f way)) × (other ≢ aim.Found)
 
@@ -70,7 +70,7 @@ pub record AreTargets (caller : List ℕ) (base : BaseView) (done : ℕ) (target
   pub room : length targets.nodes.items ≡ done
   pub slots : length targets.aims.items ≡ length base.frames * 11
   pub right : (i way : ℕ) (f : Frame) → i * 11 + way < done → way < 11 → slice_get base.frames i ≡ Some f
-      → IsTold caller base f (way_at way) (get_or targets.nodes.items (i * 11 + way) 0) (get_or targets.aims.items (i * 11 + way) aim.NotOffered)
+      → IsTargetBy caller base f (way_at way) (get_or targets.nodes.items (i * 11 + way) 0) (get_or targets.aims.items (i * 11 + way) aim.NotOffered)
 
 -- the target of one more way is added
 pub record IsAdded (old new : Targets) (target : Target) : Type 0 where
