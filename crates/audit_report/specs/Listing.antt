@@ -57,11 +57,12 @@ unreached_line form_of.Line f = line (with_id (codes "UNREACHED ") f.id ++ price
 unreached_line form_of.Json f =
     line (with_id (codes "{\"frame\":\"") f.id ++ codes "\",\"reached\":false,\"rank\":null" ++ price_and_group_members f ++ codes ",\"script\":null}")
 
--- an entry frame that isn't found
+-- what follows the frame in the object of an entry frame that isn't found
 abbrev pub entry_fault_word : Bool → List ℕ
 entry_fault_word true = codes "\",\"fault\":\"ENTRYCLOSED\"}"
 entry_fault_word false = codes "\",\"fault\":\"ENTRYMISSING\"}"
 
+-- an entry frame that isn't found: it is closed to the caller, or missing
 abbrev pub entry_line : ListForm → Id → Bool → List ℕ
 entry_line form_of.Line id closed = entry_text id closed
 entry_line form_of.Json id closed = line (with_id (codes "{\"frame\":\"") id ++ entry_fault_word closed)
@@ -147,6 +148,7 @@ AllAreListed =
 
 -- Whatever the form, a frame is one line.
 
+-- a byte that ends no line
 abbrev pub is_in_line : ℕ → Bool
 is_in_line b = not (b == 10)
 
@@ -156,6 +158,7 @@ pub record IsOneLine (bytes : List ℕ) : Type 0 where
   pub ends : bytes ≡ line text
   pub one : list_all is_in_line text ≡ true
 
+-- what is printed of a frame, reached or not
 pub record AreOneLines (f : Frame) : Type 0 where
   pub reached : (form : ListForm) (rank : Option ℕ) (keys : List Key) → IsOneLine (frame_line form f rank keys)
   pub unreached : (form : ListForm) → IsOneLine (unreached_line form f)

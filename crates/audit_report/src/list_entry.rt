@@ -11,6 +11,7 @@ use crate::walk_lines::entry_text;
 use page_ids::FrameId;
 use std::alloc::{AllocError, Global};
 
+// What follows the frame in its object.
 fn fault_word(closed: bool) -> &'static [u8]
     ensures { result.now ≡ entry_fault_word closed }
 {
@@ -31,6 +32,7 @@ fn entry_object(alloc: Global, id: FrameId, closed: bool) -> Result<Vec<u8>, All
     Ok(text)
 }
 
+// It is closed to the caller, or missing.
 pub fn entry_line(
     alloc: Global,
     form: ListForm,

@@ -129,6 +129,7 @@ fn push_price_and_group(out: &mut Vec<u8>, frame: &Frame)
     push_or_dash(out, b" GROUP ", number_of(frame.group));
 }
 
+// The same two as members of an object.
 fn push_members(out: &mut Vec<u8>, frame: &Frame)
     requires room { vec_len out.old + 98 ≤ vec_capacity out.old }
     ensures items { out.new.items ≡ out.old.items ++ price_and_group_members frame.now }
