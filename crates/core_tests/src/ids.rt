@@ -71,9 +71,11 @@ fn pages_are_read_from_their_texts() -> Result<(), Fail> {
         let page = PageNo::read(text)?;
         let written = page.text();
         same_in(text, (page.get(), written.as_str()), (number, text))?;
+        same_in(text, PageNo::read_bytes(text.as_bytes()), Some(page))?;
     }
     for text in NO_PAGES {
         same_in(text, PageNo::read(text), Err(IdFault::BadPage))?;
+        same_in(text, PageNo::read_bytes(text.as_bytes()), None)?;
     }
     Ok(())
 }

@@ -6,7 +6,7 @@ ghost use Rattle.page_ids.specs.Texts.{id_in, IdsAreTexts};
 
 use crate::fault::IdFault;
 use crate::letter::Letter;
-use crate::page::{PageNo, page_of};
+use crate::page::PageNo;
 use arrayvec::ArrayString;
 use std::alloc::AllocError;
 use std::marker::Model;
@@ -48,7 +48,7 @@ impl FrameId {
         ensures { result ≡ id_in bytes.now }
     {
         let (last, digits) = bytes.split_last()?;
-        let page = page_of(digits)?;
+        let page = PageNo::read_bytes(digits)?;
         let letter = Letter::new(*last)?;
         Some(FrameId { page, letter })
     }

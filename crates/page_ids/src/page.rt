@@ -58,9 +58,19 @@ impl PageNo {
     pub fn read(text: &str) -> Result<PageNo, IdFault>
         ensures { result ≡ ok_or (page_in text.now) BadPage }
     {
-        match page_of(text.as_bytes()) {
+        match PageNo::read_bytes(text.as_bytes()) {
             Some(page) => Ok(page),
             None => Err(IdFault::BadPage),
+        }
+    }
+
+    /// The same from bytes, for readers that have no text; `None` if `read` refuses.
+    pub fn read_bytes(bytes: &[u8]) -> Option<PageNo>
+        ensures { result ≡ page_in bytes.now }
+    {
+        match number_read(bytes, MOST_PAGE) {
+            Ok(number) => PageNo::new(number),
+            Err(_) => None,
         }
     }
 
@@ -83,14 +93,4 @@ pub fn push_page(text: &mut Vec<u8>, page: PageNo) -> Result<(), AllocError>
         text.old.items) }
 {
     text.extend_from_slice(page.text().as_bytes())
-}
-
-// The page number that the bytes spell.
-pub fn page_of(bytes: &[u8]) -> Option<PageNo>
-    ensures { result ≡ page_in bytes.now }
-{
-    match number_read(bytes, MOST_PAGE) {
-        Ok(number) => PageNo::new(number),
-        Err(_) => None,
-    }
 }

@@ -1,6 +1,5 @@
 ghost use Rattle.std.specs.Prelude.{◌≡◌, ◌⊎◌, ◌++◌, [], IfOk, OnOk, map};
 ghost use Rattle.std.specs.List.{flat_map};
-ghost use Rattle.page_ids.specs.Texts.{page_in};
 ghost use Rattle.frame_records.specs.Bases.{frame_at};
 ghost use Rattle.pageaudit_c.specs.Calls.{groups_of, laid_over, buffer};
 ghost use Rattle.pageaudit_c.specs.declared.status.Status.TheVariants.{Faulty, OutOfMemory};
@@ -13,7 +12,7 @@ use cell_looks::{Glyph, Height, Look, screen_looks};
 use checker::base_of;
 use frame_records::{Base, Groups};
 use frame_screens::{screen, way_to};
-use page_ids::{FrameId, MOST_PAGE, PageNo, number_read};
+use page_ids::{FrameId, PageNo};
 use std::alloc::{AllocError, Global};
 
 /// How a cell of a screen looks, as C has it.
@@ -162,23 +161,13 @@ fn no_frame(alloc: Global) -> Shown
     }
 }
 
-// The page whose text a word is.
-fn page_of(word: &[u8]) -> Option<PageNo>
-    ensures { result ≡ page_in word.now }
-{
-    match number_read(word, MOST_PAGE) {
-        Ok(number) => PageNo::new(number),
-        Err(_) => None,
-    }
-}
-
 // The frame that a word names, by its id, or by a page for its frame `a`; the entry frame without one.
 fn named(base: &Base, word: &[u8]) -> Option<FrameId>
     ensures { result ≡ spec.named base.now word.now }
 {
     match word {
         [] => Some(base.entry_frame()),
-        _ => match page_of(word) {
+        _ => match PageNo::read_bytes(word) {
             Some(page) => Some(FrameId::first(page)),
             None => FrameId::read_bytes(word),
         },
