@@ -61,9 +61,19 @@ def definitions(path):
 
 
 @cache
+def definers(path):
+    """The definition that gives each name of a file: the one of this name, or the data whose constructor it is."""
+    names = {name: name for name in definitions(path)}
+    for name, text in definitions(path).items():
+        if re.match(r"(pub )?data ", text):
+            names |= dict.fromkeys(re.findall(r"^  ([\w'-]+) : ", text, re.M), name)
+    return names
+
+
+@cache
 def known(path):
-    """What each name in a file means: a definition, as its file and its name there, or a file alone."""
-    names = {name: (path, name) for name in definitions(path)} if path.suffix == ".antt" else {}
+    """What each name in a file means: a name of a file, its own or another, or a file alone."""
+    names = {name: (path, name) for name in definers(path)} if path.suffix == ".antt" else {}
     for module, listed, alias in USE.findall(path.read_text("utf-8")):
         file = CRATES / (module.replace(".", "/") + ".antt")
         if alias:
@@ -77,8 +87,8 @@ def named(path, text):
     """The definitions that a text of a file names."""
     for word, member, operator in WORD.findall(text):
         file, name = known(path).get(">>=" if word == "do" else word or operator, (None, None))
-        if file and file.exists() and (name or member) in definitions(file):
-            yield file, name or member
+        if file and file.exists() and (name or member) in definers(file):
+            yield file, definers(file)[name or member]
 
 
 def reached(texts):
