@@ -55,40 +55,12 @@ fn measure_text(rt: &HostRuntime, shape: Shape, text: &[u8], policy: &Policy) ->
     report(rt, shape.name(), &figures)
 }
 
-// What a list and a map take beside an audit.
-fn measure_views(rt: &HostRuntime, shape: Shape, text: &[u8], policy: &Policy) -> Result<()> {
-    let groups = &policy.groups;
-    let works = [
-        Work::Audit(text, policy),
-        Work::List(text, groups),
-        Work::Map(text, groups),
-    ];
-    let [audit, list, map] = &works;
-    let audit_peak = peak_of(rt, audit)?;
-    let list_peak = peak_of(rt, list)?;
-    let map_peak = peak_of(rt, map)?;
-    let [audit, list, map] = least_times::<3>(rt, RUNS, &works)?;
-    let of_memory = "percent of its memory";
-    let figures = [
-        Figure::share("list", list, audit, OF_AUDIT),
-        Figure::percent("list", list_peak, audit_peak, of_memory),
-        Figure::share("map", map, audit, OF_AUDIT),
-        Figure::percent("map", map_peak, audit_peak, of_memory),
-    ];
-    report(rt, shape.name(), &figures)
-}
-
 fn measure_shape(rt: &HostRuntime, shape: Shape, size: Size) -> Result<()> {
     let Some(policy) = policy(16, Mark::None) else {
         bail!("no policy");
     };
     let text = shape.text_of(rt.alloc(), size, Mark::None)?;
-    measure_text(rt, shape, text.as_slice(), &policy)?;
-    // The scripts of the chain in a list have two thousand million keys together.
-    if shape == Shape::Chain {
-        return Ok(());
-    }
-    measure_views(rt, shape, text.as_slice(), &policy)
+    measure_text(rt, shape, text.as_slice(), &policy)
 }
 
 // Finding a row that is too long in each of many frames of a tree, against the audit of the tree without them.

@@ -1,8 +1,7 @@
 //! A base's text with its certificate, and how both are read and checked.
 
 use crate::shape::Mark;
-use audit_report::{FromRead, IntoWrite, ListForm, list, read_whole, report};
-use base_map::{View, map_view};
+use audit_report::{FromRead, read_whole, report};
 use base_text::{MOST_TEXT, base_read};
 use cert_table::Certificate;
 use cert_text::CertReader;
@@ -10,7 +9,6 @@ use checker::{ChangeVerdict, Count, Policy, Verdict, check_change, check_counted
 use fault_scripts::audit;
 use frame_records::{Base, Groups, Pence};
 use std::alloc::Global;
-use std::io;
 
 // What is asked of a certificate's file at once.
 const PIECE: usize = 4_096;
@@ -19,7 +17,7 @@ const PIECE: usize = 4_096;
 pub fn policy(ceiling: u16, mark: Mark) -> Option<Policy> {
     let groups = match mark {
         Mark::Group => Groups::read("1,2,3,4,5,6,7,8,9,10,11,12,13,14,15,16").ok()?,
-        Mark::None | Mark::Keep | Mark::Price | Mark::LongRow => Groups::none(),
+        Mark::None | Mark::Price | Mark::LongRow => Groups::none(),
     };
     Some(Policy {
         ceiling: Pence::new(ceiling)?,
@@ -69,21 +67,6 @@ pub fn audited(alloc: Global, base: &Base, policy: &Policy) -> Option<Vec<u8>> {
         Ok(outcome) => report(alloc, &outcome).ok(),
         Err(_) => None,
     }
-}
-
-/// Writes the list of the frames of a text's base to a sink that keeps nothing; whether the entry frame is found.
-pub fn listing(alloc: Global, text: &[u8], groups: &Groups) -> Option<bool> {
-    let base = whole_base(alloc, text)?;
-    let listing = list(alloc, ListForm::Line, &base, groups).ok()?;
-    let is_found = listing.entry_is_found();
-    listing.write(&mut IntoWrite::new(io::sink())).ok()?;
-    Some(is_found)
-}
-
-/// The map of a text's base.
-pub fn drawing(alloc: Global, text: &[u8], groups: &Groups) -> Option<Vec<u8>> {
-    let base = whole_base(alloc, text)?;
-    map_view(alloc, &base, groups, &View::Whole).ok()?
 }
 
 /// The certificate that the audit of a text finds.

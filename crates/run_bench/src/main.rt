@@ -1,12 +1,12 @@
 //! How long audits, checks, walks and changes of safe base texts take, against `toml` alone on the base's text.
 //!
-//! `run_bench audit` measures reading, auditing and lint in four shapes, a list and a map in all but the chain, lint of many
-//! rows that are too long, and the faults of a long chain. `run_bench check` measures checks, walks and changes in these
-//! shapes, the time of a check for each row of an eighth of the frames and of all, and checks and audits for a caller of 16
-//! groups. `run_bench show` measures the screen of one frame and of all. After these words `full` measures bases of full
-//! size, else a sixteenth. `run_bench find` measures the finder alone, and `run_bench paint` painting. Without any word all are
-//! measured, of a sixteenth, to show in seconds that each result is right. The figures go to standard error, of the least
-//! processor times of some runs in turns; `ok` is printed if each result was right.
+//! `run_bench audit` measures reading, auditing and lint in four shapes, lint of many rows that are too long, and the faults
+//! of a long chain. `run_bench check` measures checks, walks and changes in these shapes, the time of a check for each row of
+//! an eighth of the frames and of all, and checks and audits for a caller of 16 groups. After these words `full` measures
+//! bases of full size, else a sixteenth. `run_bench find` measures the finder alone, and `run_bench paint` painting. Without
+//! any word all are measured, of a sixteenth, to show in seconds that each result is right. The figures go to standard error,
+//! of the least processor times of some runs in turns; `ok` is printed if each result was right. `tests/speeds` measures the
+//! program's other commands.
 #![tactic(auto)]
 
 mod auditing;
@@ -18,7 +18,6 @@ mod finding;
 mod memory;
 mod painting;
 mod shape;
-mod showing;
 mod size;
 mod work;
 
@@ -30,7 +29,6 @@ fn run_all(rt: &HostRuntime) -> Result<()> {
     auditing::measure(rt, Size::Part)?;
     checking::measure(rt, Size::Part)?;
     finding::measure(rt)?;
-    showing::measure(rt, Size::Part)?;
     painting::measure(rt, Size::Part)
 }
 
@@ -44,9 +42,8 @@ fn run(rt: &HostRuntime, words: &[String]) -> Result<()> {
         "audit" => auditing::measure(rt, size),
         "check" => checking::measure(rt, size),
         "find" => finding::measure(rt),
-        "show" => showing::measure(rt, size),
         "paint" => painting::measure(rt, Size::Full),
-        _ => bail!("the words are audit [full], check [full], show [full], find or paint"),
+        _ => bail!("the words are audit [full], check [full], find or paint"),
     }
 }
 

@@ -33,8 +33,6 @@ pub enum Mark {
     Price,
     /// One of the groups 1 to 16.
     Group,
-    /// Lead `keep`.
-    Keep,
     /// The frames of [`LONG_ROWS`], a row of 41 characters in place of what they show.
     LongRow,
 }
@@ -43,7 +41,6 @@ impl Mark {
     fn push(self, text: &mut Vec<u8>, number: u32) -> Result<(), AllocError> {
         let word: &[u8] = match self {
             Mark::None | Mark::LongRow => return Ok(()),
-            Mark::Keep => return text.extend_from_slice(b"lead = \"keep\"\n"),
             Mark::Price => b"price = ",
             Mark::Group => b"group = ",
         };

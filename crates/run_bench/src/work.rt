@@ -1,11 +1,9 @@
 //! What is measured, and how long it takes.
 
-use crate::edition::{Edition, certificate, drawing, listing, read_base};
-use crate::showing::{all_shown, shown};
+use crate::edition::{Edition, certificate, read_base};
 use anyhow::{Result, bail};
 use base_text::base_read;
 use checker::Policy;
-use frame_records::{Base, Groups};
 use lint::lint;
 use std::alloc::Global;
 use std::time::{CpuClock, Duration};
@@ -23,14 +21,6 @@ pub enum Work<'a> {
     Audit(&'a [u8], &'a Policy),
     /// Every fault of a text is found: this many.
     Lint(&'a [u8], &'a Policy, usize),
-    /// The base of a text is read, and the list of its frames is written for a caller of these groups.
-    List(&'a [u8], &'a Groups),
-    /// The base of a text is read, and its map is drawn for a caller of these groups.
-    Map(&'a [u8], &'a Groups),
-    /// The base of a text is read, and the screen of its last frame is made as text.
-    Show(&'a [u8]),
-    /// The screens of all frames of a base are made as texts, one after another.
-    Screens(&'a Base),
     /// Both texts are read and checked.
     Check(&'a Edition),
     /// Twice both texts are read, and the change between these editions is checked.
@@ -49,10 +39,6 @@ impl Work<'_> {
                 Ok(findings) => findings.len() == *count,
                 Err(_) => false,
             },
-            Work::List(text, groups) => listing(alloc, text, groups) == Some(true),
-            Work::Map(text, groups) => drawing(alloc, text, groups).is_some(),
-            Work::Show(text) => shown(alloc, text).is_some(),
-            Work::Screens(base) => all_shown(alloc, base) == Some(base.frames().len()),
             Work::Check(edition) => edition.count(alloc).is_some(),
             Work::Change(edition) => edition.clears_change(alloc),
         }
