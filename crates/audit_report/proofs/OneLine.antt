@@ -13,7 +13,7 @@ use Rattle.audit_report.specs.Lines.{line, with_id}
 use Rattle.audit_report.specs.ReportLines.{script_text}
 use Rattle.audit_report.specs.declared.list_form.ListForm.{ListForm}
 use Rattle.audit_report.specs.declared.list_form.ListForm.TheVariants.{Line, Json}
-use Rattle.audit_report.specs.Listing.{or_dash, with_or_dash, price_and_group, or_null, with_or_null, price_and_group_members, frame_line, unreached_line, is_in_line, IsOneLine, AreOneLines}
+use Rattle.audit_report.specs.Listing.{or_dash, with_or_dash, price_and_group, or_null, with_or_null, price_and_group_members, script_member, frame_line, unreached_line, is_in_line, IsOneLine, AreOneLines}
 
 abbrev InLine : List ℕ → Type 0
 InLine bs = list_all is_in_line bs ≡ true
@@ -77,6 +77,11 @@ in_members : (f : Frame) → InLine (price_and_group_members f)
 in_members f =
     joined (codes ",\"price\":" ++ decimal f.price) (with_or_null (codes ",\"group\":") f.group) (joined (codes ",\"price\":") (decimal f.price) refl (in_decimal f.price)) (in_or_null (codes ",\"group\":") f.group refl)
 
+in_script_member : (keys : List Key) → InLine (script_member keys)
+in_script_member keys =
+    let before = codes ",\"script\":\"" in
+    joined (before ++ keys_text keys) (codes "\"}") (joined before (keys_text keys) refl (in_keys keys)) refl
+
 one_line : (text : List ℕ) → InLine text → IsOneLine (line text)
 one_line text h = record { text = text; ends = refl; one = h }
 
@@ -90,10 +95,10 @@ frame_one f is Json rank keys =
     let a = with_id (codes "{\"frame\":\"") f.id in
     let b = with_or_null (codes "\",\"reached\":true,\"rank\":") rank in
     let c = a ++ b ++ price_and_group_members f in
-    one_line (c ++ codes ",\"script\":\"" ++ keys_text keys ++ codes "\"}")
-    (joined (c ++ codes ",\"script\":\"" ++ keys_text keys) (codes "\"}") (joined (c ++ codes ",\"script\":\"") (keys_text keys)
-    (joined c (codes ",\"script\":\"") (joined (a ++ b) (price_and_group_members f) (joined a b (in_id (codes "{\"frame\":\"") f.id refl is) (in_or_null (codes "\",\"reached\":true,\"rank\":") rank refl)) (in_members f)) refl)
-    (in_keys keys)) refl)
+    one_line (c ++ script_member keys)
+    (joined c (script_member keys)
+    (joined (a ++ b) (price_and_group_members f) (joined a b (in_id (codes "{\"frame\":\"") f.id refl is) (in_or_null (codes "\",\"reached\":true,\"rank\":") rank refl)) (in_members f))
+    (in_script_member keys))
 
 unreached_one : (f : Frame) → IsLetter f.id.letter → (form : ListForm) → IsOneLine (unreached_line form f)
 unreached_one f is Line =

@@ -43,13 +43,17 @@ with_or_null words number = words ++ or_null number
 abbrev pub price_and_group_members : Frame → List ℕ
 price_and_group_members f = (codes ",\"price\":" ++ decimal f.price) ++ with_or_null (codes ",\"group\":") f.group
 
+-- the keys that lead to a frame, as the last member of an object
+abbrev pub script_member : List Key → List ℕ
+script_member keys = codes ",\"script\":\"" ++ keys_text keys ++ codes "\"}"
+
 -- a frame that is reached: its rank, and the keys that lead to it
 abbrev pub frame_line : ListForm → Frame → Option ℕ → List Key → List ℕ
 frame_line form_of.Line f rank keys =
     line (with_id (codes "FRAME ") f.id ++ with_or_dash (codes " RANK ") rank ++ price_and_group f ++ script_text keys)
 frame_line form_of.Json f rank keys =
     line (with_id (codes "{\"frame\":\"") f.id ++ with_or_null (codes "\",\"reached\":true,\"rank\":") rank ++ price_and_group_members f
-    ++ codes ",\"script\":\"" ++ keys_text keys ++ codes "\"}")
+    ++ script_member keys)
 
 -- one that isn't
 abbrev pub unreached_line : ListForm → Frame → List ℕ

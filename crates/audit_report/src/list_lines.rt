@@ -5,7 +5,7 @@ ghost use Rattle.std.specs.Vec.{vec_len, vec_capacity};
 ghost use Rattle.page_ids.specs.Keys.{key_word, keys_text};
 ghost use Rattle.audit_report.specs.Lines.{with_id};
 ghost use Rattle.audit_report.specs.ReportLines.{script_text};
-ghost use Rattle.audit_report.specs.Listing.{with_or_dash, with_or_null, price_and_group, price_and_group_members, frame_line, unreached_line};
+ghost use Rattle.audit_report.specs.Listing.{with_or_dash, with_or_null, price_and_group, price_and_group_members, script_member, frame_line, unreached_line};
 ghost use Rattle.audit_report.specs.declared.list_form.ListForm.TheVariants.{Line as InLine, Json as InJson};
 
 use crate::list_form::ListForm;
@@ -140,6 +140,17 @@ fn push_members(out: &mut Vec<u8>, frame: &Frame)
     push_or_null(out, b",\"group\":", number_of(frame.group));
 }
 
+fn push_script_member(out: &mut Vec<u8>, keys: &[Key])
+    requires room { vec_len out.old + (13 + 3 * length keys.now) ≤ vec_capacity out.old }
+    ensures items { out.new.items ≡ out.old.items ++ script_member keys.now }
+    ensures len { vec_len out.new ≤ vec_len out.old + (13 + 3 * length keys.now) }
+    ensures capacity { vec_capacity out.old ≤ vec_capacity out.new }
+{
+    push_bytes(out, b",\"script\":\"");
+    push_keys(out, keys);
+    push_bytes(out, b"\"}");
+}
+
 fn push_frame_words(out: &mut Vec<u8>, frame: &Frame, rank: Option<u16>, keys: &[Key])
     requires room { vec_len out.old + (256 + 3 * length keys.now) ≤ vec_capacity out.old }
     ensures items { out.new.items ≡ out.old.items ++ frame_line InLine frame.now rank keys.now }
@@ -162,9 +173,7 @@ fn push_frame_object(out: &mut Vec<u8>, frame: &Frame, rank: Option<u16>, keys: 
     push_id(out, b"{\"frame\":\"", frame.id);
     push_or_null(out, b"\",\"reached\":true,\"rank\":", rank_number(rank));
     push_members(out, frame);
-    push_bytes(out, b",\"script\":\"");
-    push_keys(out, keys);
-    push_bytes(out, b"\"}");
+    push_script_member(out, keys);
     push_bytes(out, b"\n");
 }
 
