@@ -40,7 +40,7 @@ pub fn skip_bom(text: &str) -> &str
 }
 
 // An expression that has its line to itself.
-#[tactic(auto, unfolding(crate::specs::Skips::whole_line))]
+#[tactic(auto, unfolding(crate::specs::Loops::whole_line))]
 pub fn read_line(alloc: Global, text: &str) -> Result<(Line, &str), ParseError>
     ensures value { Reads line_view result (loops.whole_line text.now) }
     ensures shorter { Shortens text.now result }
@@ -54,7 +54,7 @@ pub fn read_line(alloc: Global, text: &str) -> Result<(Line, &str), ParseError>
     }
 }
 
-#[tactic(auto, unfolding(crate::specs::Skips::opening))]
+#[tactic(auto, unfolding(crate::specs::Loops::opening))]
 fn opening(alloc: Global, text: &str) -> Result<(Line, &str), ParseError>
     ensures value { Reads line_view result (loops.opening text.now) }
     ensures shorter { Shortens text.now result }
@@ -70,7 +70,7 @@ fn opening(alloc: Global, text: &str) -> Result<(Line, &str), ParseError>
     }
 }
 
-#[tactic(auto, unfolding(crate::specs::Skips::pair))]
+#[tactic(auto, unfolding(crate::specs::Loops::pair))]
 fn pair(alloc: Global, text: &str) -> Result<(Line, &str), ParseError>
     ensures value { Reads line_view result (loops.pair text.now) }
     ensures shorter { Shortens text.now result }
@@ -86,7 +86,7 @@ fn pair(alloc: Global, text: &str) -> Result<(Line, &str), ParseError>
 }
 
 // A header in double brackets, after its opening brackets.
-#[tactic(auto, unfolding(crate::specs::Skips::array_header))]
+#[tactic(auto, unfolding(crate::specs::Loops::array_header))]
 fn array_header(alloc: Global, text: &str) -> Result<(Line, &str), ParseError>
     ensures value { Reads line_view result (loops.array_header text.now) }
     ensures shorter { Shortens text.now result }
