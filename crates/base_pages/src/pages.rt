@@ -1,6 +1,7 @@
 //! The file of a base.
 
-ghost use Rattle.std.specs.Prelude.{◌≡◌, ◌++◌, ◌∷◌, List, ℕ, [], false, OnOk, IfOk, IfErr};
+ghost use Rattle.std.specs.Prelude.{◌≡◌, ◌<◌, ◌++◌, ◌∷◌, List, ℕ, [], false, OnOk, IfOk, IfErr};
+ghost use Rattle.std.specs.Vec.{vec_len};
 ghost use Rattle.devices.specs.Devices.{Seen, IsOnItsWay, WroteWhole};
 ghost use Rattle.base_pages.specs.Sections.{sections};
 ghost use Rattle.base_pages.specs.Shell as Shell;
@@ -84,6 +85,7 @@ fn write_section<S: Sink>(
 ) -> Result<u64, PagesFault>
     requires ready { IsReady book.now }
     requires open { (S.seen sink.old).failed ≡ false }
+    ensures few { OnOk result (vec_len kept.new < 65536) }
     ensures open { OnOk result ((S.seen sink.new).failed ≡ false) }
     ensures letter { OnOk result (HasLetter book.now.part.now frame.now) }
     ensures taken { (start : Seen) (before : List ℕ) → IsOnItsWay start (S.seen sink.old) kept.old.items wrote before

@@ -165,3 +165,14 @@ fn a_line_has_no_control_character(rt: HostRuntime) -> Result<(), Fail> {
     }
     Ok(())
 }
+
+// What is written as the page of the last route, and as an item of `outside`, decides the hint.
+#[test]
+fn hints_go_by_the_value_as_it_is_written(rt: HostRuntime) -> Result<(), Fail> {
+    let text =
+        "entry = 1\noutside = [\"5a\", 7]\n[[frame]]\nid = \"1a\"\nroutes = { 9 = \"5a\" }\nrows = []\n";
+    let lines =
+        "b.toml:2:12: error: X5 WrongKind: item 1 of \"outside\" is a string, a whole number is needed; leave out the quotation marks\n\
+        b.toml:5:12: error: X5 WrongKind: route 9 of frame 1a is a string, a whole number is needed; a page number has no letter: write 5\n";
+    prints(rt.alloc(), text, &policy(9_999, 9, "")?, lines, (2, 0))
+}

@@ -40,7 +40,7 @@ fn have_hints(alloc: Global, faults: &[Fault<'_>]) -> Result<(), Fail> {
 #[test]
 fn the_text_as_a_whole(rt: HostRuntime) -> Result<(), Fail> {
     let utf16 = "; this is UTF-16, save the file as UTF-8";
-    let faults: [Fault<'_>; 5] = [
+    let faults: [Fault<'_>; 6] = [
         (b"\xFF\xFEe\0=\0", 0, "invalid UTF-8", utf16),
         (b"e\0=\0001\0", 1, "key with no value", utf16),
         (
@@ -51,6 +51,12 @@ fn the_text_as_a_whole(rt: HostRuntime) -> Result<(), Fail> {
         ),
         (
             b"PBC1\nentry 1\n",
+            4,
+            "key with no value",
+            "; this is a certificate, not a base",
+        ),
+        (
+            b"PBC2\nentry 1\n",
             4,
             "key with no value",
             "; this is a certificate, not a base",
@@ -233,7 +239,7 @@ fn comments_marks_and_line_ends(rt: HostRuntime) -> Result<(), Fail> {
     let space = "; this is a no-break space (U+00A0), write a space";
     let inside = "; write \\\" inside a text";
     let escape = "invalid escape sequence";
-    let faults: [Fault<'_>; 12] = [
+    let faults: [Fault<'_>; 13] = [
         (b"; c\nentry = 1\n", 0, "invalid key", comment),
         (b"entry = 1 ; c\n", 10, "unexpected key or value", comment),
         (b"entry\xC2\xA0= 1\n", 5, "key with no value", space),
@@ -244,6 +250,7 @@ fn comments_marks_and_line_ends(rt: HostRuntime) -> Result<(), Fail> {
             "; its lines end with CR alone, save it with LF or CR LF",
         ),
         (b"rows = [\"\\81 A\"]\n", 10, escape, "; write \\u0081"),
+        (b"rows = [\"\\8A A\"]\n", 10, escape, "; write \\u008A"),
         (
             b"rows = [\"Fish\\chips\"]\n",
             14,

@@ -40,6 +40,13 @@ fn a_value_of_another_kind_by_its_key(rt: HostRuntime) -> Result<(), Fail> {
             "'1,500'",
             "; a price is whole pence: write 1500",
         ),
+        (
+            Field::Price,
+            text,
+            "\"9999p\"",
+            "; a price is whole pence: write 9999",
+        ),
+        (Field::Price, text, "\"100.00\"", "; a price is whole pence"),
         (Field::Price, text, "\"free\"", "; a price is whole pence"),
         (Field::Price, text, "\"15\"", unquote),
         (Field::Entry, text, "\"620\"", unquote),
@@ -80,7 +87,9 @@ fn a_value_of_another_kind_by_its_key(rt: HostRuntime) -> Result<(), Fail> {
             "6203",
             "; write routes = { 0 = 6203 }",
         ),
+        (Field::Routes, ValueKind::Float, "1.5", ""),
         (Field::Outside, ValueKind::Integer, "0", "; write [0]"),
+        (Field::Outside, ValueKind::Float, "1.5", ""),
     ];
     for (field, kind, value, wanted) in rows {
         let given = hint_of(rt.alloc(), Detail::WrongKind(field, kind), value)?;
@@ -196,7 +205,7 @@ fn touching(alloc: Global, lead: Lead, body: &[u8], offset: usize) -> Result<Str
 #[test]
 fn a_body_that_touches_has_its_cause(rt: HostRuntime) -> Result<(), Fail> {
     let many = [b'\n'; 22];
-    let rows: [(Lead, &[u8], usize, &str); 5] = [
+    let rows: [(Lead, &[u8], usize, &str); 6] = [
         (
             Lead::Clear,
             b"\x0CA",
@@ -211,6 +220,7 @@ fn a_body_that_touches_has_its_cause(rt: HostRuntime) -> Result<(), Fail> {
             "; a body with lead = \"keep\" must begin with \\u001E\\u000A",
         ),
         (Lead::Clear, &many, 21, "; 23 rows are written, 22 are free"),
+        (Lead::Clear, &many[1..], 20, ""),
         (Lead::Clear, b"\x1EA", 1, ""),
     ];
     for (lead, body, offset, wanted) in rows {

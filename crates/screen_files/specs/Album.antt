@@ -1,5 +1,5 @@
 -- The frames of some files, and the base that is made of them.
-use Rattle.std.specs.Prelude.{◌≡◌, ◌≤◌, ◌+◌, ◌++◌, ◌∷◌, [], ℕ, ◌&&◌, Bool, false, List, Option, Some, None, Result, Ok, Err, length, nat_lt, if◌then◌else◌}
+use Rattle.std.specs.Prelude.{◌≡◌, ◌<◌, ◌≤◌, ◌+◌, ◌++◌, ◌∷◌, [], ℕ, ◌&&◌, Bool, false, List, Option, Some, None, Result, Ok, Err, length, nat_lt, if◌then◌else◌}
 use Rattle.page_ids.specs.Ids.{Id, id_eq, following}
 use Rattle.base_text.specs.declared.limits.TheConstants.{MOST_TEXT}
 use Rattle.screen_files.specs.declared.album.Filed.{Filed}
@@ -11,11 +11,11 @@ use Rattle.screen_files.specs.declared.frame.ScreenFrame.{ScreenFrame}
 use Rattle.frame_records.specs.declared.limits.TheConstants.{MOST_LISTED}
 use Rattle.screen_files.specs.Texts.{entry_line, frame_lines}
 
--- the list after the frame of a file, or the list as it was
+-- the list after the frame of a file, or the list as it was; memory is refused only if there is room
 abbrev pub IsAdded : List Filed → List Filed → ℕ → ScreenFrame → Result (Unit {0}) AddFault → Type 0
 IsAdded old new file frame (Ok _) = new ≡ old ++ record { file = file; frame = frame } ∷ []
 IsAdded old new file frame (Err add.TooMany) = (new ≡ old) × (MOST_LISTED ≤ length old)
-IsAdded old new file frame (Err add.Memory) = new ≡ old
+IsAdded old new file frame (Err add.Memory) = (new ≡ old) × (length old < MOST_LISTED)
 
 -- The base.
 
