@@ -82,18 +82,32 @@ impl<'a> Drawing<'a> {
         Ok(lost)
     }
 
-    // That, and what the ways of the frames that are shown seek and the base lacks, each once, in the order in which it is
-    // first sought.
-    fn lost(&self, alloc: Global, frames: &[Frame]) -> Result<IndexSet<FrameId>, AllocError>
-        ensures { IfOk result (λ lost. lost.keys ≡ spec.lost self.now (shown self.now frames.now)) }
+    // These ids, and what the ways of the frames that are shown seek and the base lacks, each once, in the order in which it
+    // is first sought.
+    fn with_lost(
+        &self,
+        alloc: Global,
+        frames: &[Frame],
+        first: IndexSet<FrameId>,
+    ) -> Result<IndexSet<FrameId>, AllocError>
+        ensures { IfOk result (λ lost. lost.keys ≡
+            insert_all id_eq first.keys (flat_map (spec.lost_of self.now.base) (shown self.now frames.now))) }
     {
-        let mut lost = self.lost_entry(alloc)?;
+        let mut lost = first;
         for frame in frames {
             if self.part.shows(frame.id) {
                 self.add_lost(targets_of(alloc, frame)?.as_slice(), &mut lost)?;
             }
         }
         Ok(lost)
+    }
+
+    // The entry frame, and what ways seek.
+    fn lost(&self, alloc: Global, frames: &[Frame]) -> Result<IndexSet<FrameId>, AllocError>
+        ensures { IfOk result (λ lost. lost.keys ≡ spec.lost self.now (shown self.now frames.now)) }
+    {
+        let first = self.lost_entry(alloc)?;
+        self.with_lost(alloc, frames, first)
     }
 
     // Writes their nodes.
