@@ -40,7 +40,7 @@ pub record IsJudged (d : Device) (kind : FileKind) (path : List ℕ) (answer : R
 abbrev pub IsFrameAdded : List Filed → List Filed → ℕ → ScreenFrame → Result (Unit {0}) ImportFault → Type 0
 IsFrameAdded old new file frame (Ok _) = new ≡ old ++ record { file = file; frame = frame } ∷ []
 IsFrameAdded old new file frame (Err TooMany) = (new ≡ old) × (MOST_LISTED ≤ length old)
-IsFrameAdded old new file frame (Err Memory) = new ≡ old
+IsFrameAdded old new file frame (Err Memory) = (new ≡ old) × (length old < MOST_LISTED)
 IsFrameAdded old new file frame (Err _) = ⊥
 
 -- the frame of the file is the last one now
