@@ -4,7 +4,7 @@ use Rattle.pageaudit.specs.declared.edition.EditionFault.{EditionFault}
 use Rattle.pageaudit.specs.declared.edition.EditionFault.TheVariants as part
 use Rattle.pageaudit.specs.Files.{IsUntouched, IsBaseOfFile, Device, base_limit, IsBaseTextFault, IsBaseBroken, IsReadWithin, cert_limit, IsCertTextFault, IsCertBroken, IsCertOfFile, IsTruncated, WasReadSoFar, WasRead}
 use Rattle.pageaudit.specs.ChangeRun.{EditionFiles, IsEditionOf}
-use Rattle.std.specs.Prelude.{Result, MatchResult, ℕ, List, Ok, Err, ◌≡◌, false, ◌≤◌, ◌++◌, length, None, true, ◌+◌, ◌∷◌, [], Vec}
+use Rattle.std.specs.Prelude.{Result, MatchResult, ℕ, List, Ok, Err, ◌≡◌, false, ◌≤◌, ◌<◌, ◌++◌, length, None, true, ◌+◌, ◌∷◌, [], Vec}
 use Rattle.cert_table.specs.Table.{CertView}
 use Rattle.base_text.specs.declared.fault.BaseFault.{BaseFault}
 use Rattle.audit_report.specs.declared.run_fault.RunFault.{RunFault}
@@ -149,7 +149,7 @@ new_fault (part.Cert file.Memory) = run.Memory
 abbrev pub IsFrameAdded : List Filed → List Filed → ℕ → ScreenFrame → Result (Unit {0}) ImportFault → Type 0
 IsFrameAdded old new file frame (Ok _) = new ≡ old ++ record { file = file; frame = frame } ∷ []
 IsFrameAdded old new file frame (Err TooMany) = (new ≡ old) × (MOST_LISTED ≤ length old)
-IsFrameAdded old new file frame (Err Memory) = new ≡ old
+IsFrameAdded old new file frame (Err Memory) = (new ≡ old) × (length old < MOST_LISTED)
 IsFrameAdded old new file frame (Err _) = ⊥
 
 -- The text of a session and its status.

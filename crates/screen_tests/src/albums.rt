@@ -1,5 +1,9 @@
+use frame_records::MOST_LISTED;
 use page_ids::{FrameId, PageNo};
-use screen_files::{Album, FileKind, MOST_SCREEN, ScreenFault, ScreenFrame, base_text, file_frame};
+use screen_files::{
+    AddFault, Album, BaseTextFault, FileKind, MOST_SCREEN, ScreenFault, ScreenFrame, base_text,
+    file_frame,
+};
 use std::test::Fail;
 use test_support::{same, same_in};
 
@@ -103,4 +107,39 @@ rows = [
     same(text.as_slice(), wanted.as_bytes())?;
     let asked = base_text(rt.alloc(), PageNo::new(7), album.as_slice()).map_err(|_| "text")?;
     same(asked.as_slice().starts_with(b"entry = 7\n"), true)
+}
+
+#[test]
+fn an_album_has_a_most(rt: HostRuntime) -> Result<(), Fail> {
+    let mut album = Album::new(rt.alloc());
+    let frame = blank("4a")?;
+    for file in 0..MOST_LISTED {
+        same_in(file, album.add(file, &frame), Ok(()))?;
+    }
+    same(album.add(MOST_LISTED, &frame), Err(AddFault::TooMany))?;
+    same(album.as_slice().len(), MOST_LISTED)
+}
+
+// A frame of attributes alone has 5,501 bytes, and 3,049 of them with the first line 16,772,559.
+#[test]
+fn a_base_has_a_most(rt: HostRuntime) -> Result<(), Fail> {
+    let mut album = Album::new(rt.alloc());
+    let frame = ScreenFrame {
+        id: FrameId::read("4a")?,
+        price: None,
+        codes: [0x81; 960],
+    };
+    for file in 0..3_049 {
+        same_in(file, album.add(file, &frame), Ok(()))?;
+    }
+    match base_text(rt.alloc(), None, album.as_slice()) {
+        Ok(text) => same(text.as_slice().len(), 16_772_559)?,
+        Err(_) => return Err(Fail::from("no text")),
+    }
+    same(album.add(3_049, &frame), Ok(()))?;
+    same(album.add(3_050, &frame), Ok(()))?;
+    match base_text(rt.alloc(), None, album.as_slice()) {
+        Ok(_) => Err(Fail::from("a text")),
+        Err(fault) => same(fault, BaseTextFault::TooLong(3_049)),
+    }
 }
