@@ -112,3 +112,42 @@ fn a_file_may_give_no_frame(rt: HostRuntime) -> Result<(), Fail> {
     }
     Ok(())
 }
+
+// Adds the first frame of an album again, until it has this many.
+fn fill(album: &mut Album, most: usize) -> Result<(), Fail> {
+    let Some(first) = album.as_slice().first().copied() else {
+        return Err(Fail::from("no frame"));
+    };
+    for file in album.as_slice().len()..most {
+        same_in(file, album.add(file, &first.frame).is_ok(), true)?;
+    }
+    Ok(())
+}
+
+// A frame of attributes alone has 5,501 bytes: the 3,050th ends too late. Nothing is written then.
+#[test]
+fn a_base_has_a_most(rt: HostRuntime) -> Result<(), Fail> {
+    let alloc = rt.alloc();
+    let mut album = Album::new(alloc);
+    let mut dense = String::new(alloc);
+    for _ in 0..880 {
+        dense.push('\u{1}')?;
+    }
+    same(
+        take(alloc, dense.as_str(), ALL, "4a", &mut album),
+        (Ok(()), 2, 1),
+    )?;
+    fill(&mut album, 3_051)?;
+    let mut out = sink(alloc, BASE, ALL);
+    let run = run_import(alloc, &album, None, &mut out);
+    same(run == Ok(ImportStatus::TooLong(3_049)), true)?;
+    same(
+        (status_of_import(&run), out.flushes, taken(&out, BASE)),
+        (3, 0, 0),
+    )?;
+    fill(&mut album, 65_535)?;
+    same(
+        take(alloc, dense.as_str(), ALL, "4a", &mut album),
+        (Err(ImportFault::TooMany), 2, 65_535),
+    )
+}
