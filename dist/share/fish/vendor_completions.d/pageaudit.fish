@@ -1,9 +1,9 @@
-# Completion of pageaudit 1.0.0 for fish.
+# Completion of pageaudit 1.1.0 for fish.
 complete -c pageaudit -n __fish_use_subcommand -f -a lint -d 'Find every fault of bases, each at its line and column'
 complete -c pageaudit -n __fish_use_subcommand -f -a audit -d 'Find a base'\''s certificate, or list its faults with the keys that show them'
 complete -c pageaudit -n __fish_use_subcommand -f -a check -d 'Check a certificate against a base, without any search'
 complete -c pageaudit -n __fish_use_subcommand -f -a change -d 'Check whether a new edition may take an old one'\''s place while callers are inside'
-complete -c pageaudit -n __fish_use_subcommand -f -a walk -d 'Show what a caller sees who presses keys from the entry page'
+complete -c pageaudit -n __fish_use_subcommand -f -a walk -d 'Print the replies to keys from the entry page'
 complete -c pageaudit -n __fish_use_subcommand -f -a show -d 'Show a screen as a caller sees it'
 complete -c pageaudit -n __fish_use_subcommand -f -a list -d 'List the frames of a base, with the keys that lead there'
 complete -c pageaudit -n __fish_use_subcommand -f -a map -d 'Draw a base as a graph, a DOT file for Graphviz'
@@ -40,6 +40,7 @@ complete -c pageaudit -n '__fish_seen_subcommand_from show' -l page -x -d 'With 
 complete -c pageaudit -n '__fish_seen_subcommand_from show' -l within -x -d 'At most N keys from or to PAGE; any number without it'
 complete -c pageaudit -n '__fish_seen_subcommand_from show' -s g -l groups -x -d 'Assume callers in these groups: at most 16, ascending, 1 to 65535, e.g. '\''7,9'\'''
 complete -c pageaudit -n '__fish_seen_subcommand_from show' -s h -l help -d 'Print help'
+complete -c pageaudit -n '__fish_seen_subcommand_from list' -l format -x -a 'line json' -d 'Print each frame as one line, or as JSON [default: line] [possible values: line, json]'
 complete -c pageaudit -n '__fish_seen_subcommand_from list' -s g -l groups -x -d 'Assume callers in these groups: at most 16, ascending, 1 to 65535, e.g. '\''7,9'\'''
 complete -c pageaudit -n '__fish_seen_subcommand_from list' -s h -l help -d 'Print help'
 complete -c pageaudit -n '__fish_seen_subcommand_from map' -l page -x -d 'Draw the frames that keys lead to from frame a of PAGE'
