@@ -81,7 +81,7 @@ fn an_object_has_what_a_line_has(rt: HostRuntime) -> Result<(), Fail> {
     let text = r#"{"frame":"9a","reached":true,"rank":0,"price":0,"group":null,"script":""}
 {"frame":"4a","reached":true,"rank":null,"price":0,"group":null,"script":"1"}
 {"frame":"3a","reached":true,"rank":2,"price":9999,"group":null,"script":"2"}
-{"frame":"10a","reached":true,"rank":2,"price":0,"group":9,"script":"6"}
+{"frame":"10a","reached":true,"rank":null,"price":0,"group":9,"script":"6"}
 {"frame":"5a","reached":true,"rank":1,"price":0,"group":null,"script":"20"}
 {"frame":"2a","reached":false,"rank":null,"price":0,"group":null,"script":null}
 {"frame":"10b","reached":false,"rank":null,"price":0,"group":65535,"script":null}
