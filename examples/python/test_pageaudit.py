@@ -133,6 +133,7 @@ class Show(unittest.TestCase):
         self.assertEqual((len(screen.codes), len(screen.looks)), (960, 960))
         self.assertEqual(screen.codes[:40].decode().split(), ["123a", "0p"])
         self.assertEqual("".join(look.character for look in screen.looks[40:47]), "WELCOME")
+        self.assertEqual(pageaudit.show(DEMO, "123"), screen)
 
     def test_says_how_a_cell_looks(self):
         red_mosaics = b'entry = 1\n[[frame]]\nid = "1a"\nbody = "\\u001BQ!"\n'
@@ -140,7 +141,7 @@ class Show(unittest.TestCase):
         self.assertEqual(looks[41], Look("\U0001FB00", 1, 0, False, False, False, 0))
 
     def test_has_no_screen_of_a_frame_that_the_base_lacks(self):
-        for frame in "124a", "123", "x", "123A", "\u00e4":
+        for frame in "124a", "124", "x", "123A", "\u00e4":
             self.assertIsNone(pageaudit.show(DEMO, frame))
 
     def test_refuses_what_the_others_refuse(self):
