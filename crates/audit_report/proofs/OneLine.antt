@@ -1,5 +1,5 @@
 -- A frame is one line, in each form of a list.
-use Rattle.std.proofs.Common.{◌≡◌, ◌∙◌, ℕ, zero, suc, ◌+◌, ◌/◌, ◌%◌, ◌<◌, arith, refl, Bool, true, false, not, List, [], ◌∷◌, ◌++◌, ◌==◌, nat_lt, Option, Some, None, codes, decimal, if◌then◌else◌}
+use Rattle.std.proofs.Common.{◌≡◌, ◌∙◌, ℕ, zero, suc, ◌+◌, ◌/◌, ◌%◌, ◌<◌, arith, refl, Bool, true, false, List, [], ◌∷◌, ◌++◌, ◌==◌, nat_lt, Option, Some, None, codes, decimal, if◌then◌else◌}
 use Rattle.std.specs.List.{list_all}
 use Rattle.std.specs.Fmt.{digits, digits_onto, digit_glyph}
 use Rattle.std.proofs.lemmas.Bool.Decides.{nat_tests}

@@ -74,10 +74,11 @@ abbrev pub walk_text : List Reply → List ℕ
 walk_text [] = []
 walk_text (reply ∷ replies) = line (reply_text reply) ++ walk_text replies
 
--- a session that isn't opened
-abbrev pub entry_words : Bool → List ℕ
-entry_words true = codes "ENTRYCLOSED "
-entry_words false = codes "ENTRYMISSING "
+-- the fault of an entry frame that isn't shown: it is closed to the caller, or missing
+abbrev pub entry_fault : Bool → List ℕ
+entry_fault true = codes "ENTRYCLOSED"
+entry_fault false = codes "ENTRYMISSING"
 
+-- a session that isn't opened
 abbrev pub entry_text : Id → Bool → List ℕ
-entry_text id closed = line (with_id (entry_words closed) id)
+entry_text id closed = line (with_id (entry_fault closed ++ codes " ") id)

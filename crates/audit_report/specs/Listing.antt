@@ -3,7 +3,7 @@ use Rattle.std.specs.Prelude.{ℕ, List, ◌++◌, Option, Some, None, codes, de
 use Rattle.page_ids.specs.declared.key.Key.{Key}
 use Rattle.page_ids.specs.Keys.{keys_text}
 use Rattle.frame_records.specs.declared.frame.Frame.{Frame}
-use Rattle.audit_report.specs.Lines.{line, with_id, entry_text}
+use Rattle.audit_report.specs.Lines.{line, with_id, entry_fault, entry_text}
 use Rattle.audit_report.specs.ReportLines.{script_text}
 use Rattle.std.specs.List.{list_all, list_any}
 use Rattle.indexmap.specs.IndexSet.{contains}
@@ -61,15 +61,10 @@ unreached_line form_of.Line f = line (with_id (codes "UNREACHED ") f.id ++ price
 unreached_line form_of.Json f =
     line (with_id (codes "{\"frame\":\"") f.id ++ codes "\",\"reached\":false,\"rank\":null" ++ price_and_group_members f ++ codes ",\"script\":null}")
 
--- what follows the frame in the object of an entry frame that isn't found
-abbrev pub entry_fault_word : Bool → List ℕ
-entry_fault_word true = codes "\",\"fault\":\"ENTRYCLOSED\"}"
-entry_fault_word false = codes "\",\"fault\":\"ENTRYMISSING\"}"
-
--- an entry frame that isn't found: it is closed to the caller, or missing
+-- an entry frame that isn't shown
 abbrev pub entry_line : ListForm → Id → Bool → List ℕ
 entry_line form_of.Line id closed = entry_text id closed
-entry_line form_of.Json id closed = line (with_id (codes "{\"frame\":\"") id ++ entry_fault_word closed)
+entry_line form_of.Json id closed = line (with_id (codes "{\"frame\":\"") id ++ (codes "\",\"fault\":\"" ++ entry_fault closed ++ codes "\"}"))
 
 -- The text of `list`: the frames that are reached, in the order of discovery, and then the others, in the order of the base.
 

@@ -1,33 +1,24 @@
-//! The line of an entry frame that isn't found.
+//! The line of an entry frame that isn't shown.
 
-ghost use Rattle.std.specs.Prelude.{◌≡◌, ◌++◌, IfOk, OnOk};
-ghost use Rattle.audit_report.specs.Lines.{line, with_id};
-ghost use Rattle.audit_report.specs.Listing.{entry_fault_word, entry_line};
+ghost use Rattle.std.specs.Prelude.{◌≡◌, IfOk};
+ghost use Rattle.audit_report.specs.Lines.{line};
+ghost use Rattle.audit_report.specs.Listing.{entry_line};
 ghost use Rattle.audit_report.specs.declared.list_form.ListForm.TheVariants.{Json as InJson};
 
 use crate::list_form::ListForm;
 use crate::push::push_words_id;
-use crate::walk_lines::entry_text;
+use crate::walk_lines::{entry_fault, entry_text};
 use page_ids::FrameId;
 use std::alloc::{AllocError, Global};
-
-// What follows the frame in its object.
-fn fault_word(closed: bool) -> &'static [u8]
-    ensures { result.now ≡ entry_fault_word closed }
-{
-    if closed {
-        b"\",\"fault\":\"ENTRYCLOSED\"}"
-    } else {
-        b"\",\"fault\":\"ENTRYMISSING\"}"
-    }
-}
 
 fn entry_object(alloc: Global, id: FrameId, closed: bool) -> Result<Vec<u8>, AllocError>
     ensures { IfOk result (λ text. text.items ≡ entry_line InJson id closed) }
 {
     let mut text = Vec::new(alloc);
     push_words_id(&mut text, b"{\"frame\":\"", id)?;
-    text.extend_from_slice(fault_word(closed))?;
+    text.extend_from_slice(b"\",\"fault\":\"")?;
+    text.extend_from_slice(entry_fault(closed))?;
+    text.extend_from_slice(b"\"}")?;
     text.push(b'\n')?;
     Ok(text)
 }

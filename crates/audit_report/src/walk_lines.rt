@@ -1,5 +1,5 @@
 ghost use Rattle.std.specs.Prelude.{◌≡◌, ◌++◌, IfOk, OnOk};
-ghost use Rattle.audit_report.specs.Lines.{line, reply_text, walk_text, entry_words, entry_text};
+ghost use Rattle.audit_report.specs.Lines.{line, reply_text, walk_text, entry_fault, entry_text};
 
 use crate::push::{push_id_number, push_words_id, push_words_page};
 use page_ids::FrameId;
@@ -43,18 +43,18 @@ pub fn entry_text(alloc: Global, id: FrameId, closed: bool) -> Result<Vec<u8>, A
     ensures { IfOk result (λ text. text.items ≡ entry_text id closed) }
 {
     let mut text = Vec::new(alloc);
-    let words = entry_words(closed);
-    push_words_id(&mut text, words, id)?;
+    text.extend_from_slice(entry_fault(closed))?;
+    push_words_id(&mut text, b" ", id)?;
     text.push(b'\n')?;
     Ok(text)
 }
 
-fn entry_words(closed: bool) -> &'static [u8]
-    ensures { result.now ≡ entry_words closed }
+pub fn entry_fault(closed: bool) -> &'static [u8]
+    ensures { result.now ≡ entry_fault closed }
 {
     if closed {
-        b"ENTRYCLOSED "
+        b"ENTRYCLOSED"
     } else {
-        b"ENTRYMISSING "
+        b"ENTRYMISSING"
     }
 }

@@ -7,7 +7,7 @@ use Rattle.cert_text.specs.declared.fault.LineFault.{LineFault}
 use Rattle.cert_text.specs.declared.fault.LineFault.TheVariants as line
 use Rattle.cert_text.specs.declared.fault.ReadFault.{ReadFault}
 
--- What a call that takes a line, a byte or a piece comes to.
+-- The result of a call that takes a line, a byte or a piece.
 
 -- the cause of a fault that no further byte takes away
 abbrev pub Lasts : LineCause → Type 0

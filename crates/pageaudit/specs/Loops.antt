@@ -105,8 +105,8 @@ IsFed d reader answer = MatchResult answer (λ _. WasFed d reader) (IsCertFileFa
 
 -- The files of an edition.
 
--- why they give no edition: a fault of the base's file, with nothing read of the certificate's; or, after a whole base, a fault
--- of the certificate's file
+-- why they give no edition: a fault of the base's file, with nothing read of the certificate's; or a fault of the
+-- certificate's file, after a whole base
 abbrev pub IsEditionFault : EditionFiles → EditionFault → Type 0
 IsEditionFault files (part.Base fault) = IsBaseFileFault files.base fault × IsUntouched files.cert
 IsEditionFault files (part.Cert fault) = (base : BaseView) × IsBaseOfFile files.base base × IsCertFileFault files.cert fault

@@ -1,12 +1,12 @@
 //! How long audits, checks, walks and changes of safe base texts take, against `toml` alone on the base's text.
 //!
-//! `run_bench audit` measures reading, auditing and lint in four shapes, lint of many rows that are too long, and the faults
-//! of a long chain. `run_bench check` measures checks, walks and changes in these shapes, the time of a check for each row of
-//! an eighth of the frames and of all, and checks and audits for a caller of 16 groups. After these words `full` measures
+//! `run_bench audit` measures reading, auditing and lint in four shapes, lint of many rows that are too long, and a long
+//! chain's faults. `run_bench check` measures checks, walks and changes in these shapes, a check's time for each row of an
+//! eighth of the frames and of all, and checks and audits for a caller of 16 groups. After these words `full` measures
 //! bases of full size, else a sixteenth. `run_bench find` measures the finder alone, and `run_bench paint` painting. Without
-//! any word all are measured, of a sixteenth, to show in seconds that each result is right. The figures go to standard error,
-//! of the least processor times of some runs in turns; `ok` is printed if each result was right. `tests/speeds` measures the
-//! program's other commands.
+//! any word all are measured, with a sixteenth, to show in seconds that each result is right. The figures go to standard
+//! error: the least processor times of some runs in turns. `ok` is printed if each result was right. `tests/speeds` measures
+//! the program's other commands.
 #![tactic(auto)]
 
 mod auditing;
