@@ -9,6 +9,7 @@ use checker::{ChangeVerdict, Count, Policy, Verdict, check_change, check_counted
 use fault_scripts::audit;
 use frame_records::{Base, Groups, Pence};
 use std::alloc::Global;
+use std::io::Read;
 
 // What is asked of a certificate's file at once.
 const PIECE: usize = 4_096;
@@ -26,8 +27,8 @@ pub fn policy(ceiling: u16, mark: Mark) -> Option<Policy> {
     })
 }
 
-/// The base of a text that is read from memory as a file is.
-pub fn read_base(alloc: Global, mut text: &[u8]) -> Option<Base> {
+/// The base of a text that is read.
+pub fn read_base(alloc: Global, mut text: impl Read + Drop) -> Option<Base> {
     match read_whole(alloc, &mut FromRead::new(&mut text), MOST_TEXT + 1) {
         Ok(text) => whole_base(alloc, text.as_slice()),
         Err(_) => None,

@@ -5,8 +5,8 @@
 //! eighth of the frames and of all, and checks and audits for a caller of 16 groups. After these words `full` measures
 //! bases of full size, else a sixteenth. `run_bench find` measures the finder alone, and `run_bench paint` painting. Without
 //! any word all are measured, with a sixteenth, to show in seconds that each result is right. The figures go to standard
-//! error: the least processor times of some runs in turns. `ok` is printed if each result was right. `tests/speeds` measures
-//! the program's other commands.
+//! error: the least processor times of some runs in turns. `ok` is printed if each result was right. `run_bench show FILE`
+//! only makes the screens of all frames of a base as texts, for `tests/speeds`, which measures the program's commands.
 #![tactic(auto)]
 
 mod auditing;
@@ -18,6 +18,7 @@ mod finding;
 mod memory;
 mod painting;
 mod shape;
+mod showing;
 mod size;
 mod work;
 
@@ -43,7 +44,8 @@ fn run(rt: &HostRuntime, words: &[String]) -> Result<()> {
         "check" => checking::measure(rt, size),
         "find" => finding::measure(rt),
         "paint" => painting::measure(rt, Size::Full),
-        _ => bail!("the words are audit [full], check [full], find or paint"),
+        "show" => showing::show(rt, words.get(2).map_or("", |path| path.as_str())),
+        _ => bail!("the words are audit [full], check [full], find, paint or show FILE"),
     }
 }
 

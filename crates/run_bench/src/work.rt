@@ -33,7 +33,7 @@ impl Work<'_> {
         match self {
             Work::Tree(text) => toml::table_from_slice(alloc, text).is_ok(),
             Work::Read(text) => base_read(alloc, text).is_ok(),
-            Work::Walk(text) => read_base(alloc, text).is_some(),
+            Work::Walk(text) => read_base(alloc, *text).is_some(),
             Work::Audit(text, policy) => certificate(alloc, text, policy).is_some(),
             Work::Lint(text, policy, count) => match lint(alloc, text, policy) {
                 Ok(findings) => findings.len() == *count,
