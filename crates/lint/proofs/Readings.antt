@@ -24,12 +24,12 @@ use Rattle.lint.specs.Loops.{IsRefused}
 use Rattle.lint.specs.Laws.{IsAnswer, answer_of}
 
 -- the refusal of a whole that has the cause
-record IsRefusal (outside : List ℕ) (frames : List Frame) (c : Cause) : Type 0 where
+pub record IsRefusal (outside : List ℕ) (frames : List Frame) (c : Cause) : Type 0 where
   pub fault : BuildFault
   pub same : build_cause fault ≡ c
   pub is : IsBuildFault outside frames fault
 
-refusal : (outside : List ℕ) (frames : List Frame) (c : Cause) → IsWholeCause outside frames c → IsRefusal outside frames c
+pub refusal : (outside : List ℕ) (frames : List Frame) (c : Cause) → IsWholeCause outside frames c → IsRefusal outside frames c
 refusal outside frames cause.TooMany h = record { fault = build.TooMany; same = refl; is = h }
 refusal outside frames (cause.BodyTooLong id) h = record { fault = build.BodyTooLong id; same = refl; is = h }
 refusal outside frames (cause.NextAfterZ id) h = record { fault = build.NextAfterZ id; same = refl; is = h }

@@ -1,3 +1,4 @@
 mod Within
 mod Runs
 mod Changes
+mod Certified

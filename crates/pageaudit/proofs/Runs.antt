@@ -1,5 +1,5 @@
 -- Runs over a base, by what was written.
-use Rattle.std.proofs.Common.{ℕ, Bool, List, Option, Some, None, Result, Ok, Err, Vec, Global}
+use Rattle.std.proofs.Common.{◌≢◌, ℕ, Bool, List, Option, Some, None, Result, Ok, Err, Vec, Global}
 use Rattle.frame_records.specs.Bases.{BaseView}
 use Rattle.checker.specs.declared.policy.Policy.{Policy}
 use Rattle.fault_scripts.specs.declared.outcome.Outcome.{Outcome}
@@ -7,7 +7,7 @@ use Rattle.fault_scripts.specs.declared.outcome.Outcome.TheVariants.{Certified, 
 use Rattle.fault_scripts.specs.Outcomes.{IsOutcomeOf}
 use Rattle.audit_report.specs.declared.run_fault.RunFault.{RunFault}
 use Rattle.audit_report.specs.declared.run_fault.RunFault.TheVariants as run
-use Rattle.audit_report.specs.ReportLines.{report_text}
+use Rattle.audit_report.specs.ReportLines.{report_text, IsReport}
 use Rattle.audit_report.specs.declared.list_form.ListForm.{ListForm}
 use Rattle.audit_report.specs.Listing.{IsListText}
 use Rattle.base_map.specs.declared.view.View.{View}
@@ -66,9 +66,14 @@ module _ (base_file out : Device) (base : BaseView) (read : IsBaseOfFile base_fi
       (λ w. (base_within base_file base read, none w))
 
   pub report_run : (policy : Policy) (o : Outcome) → IsOutcomeOf base policy o
-      → (r : Result Status RunFault) → IsTextWritten out (report_text o) (status_of_outcome o) r → IsAuditRun base_file out policy r
+      → (r : Result Status RunFault) → IsTextWritten out (report_text o) (status_of_outcome o) r
+      → (r ≢ Err run.Memory → IsReport (report_text o) o) → IsAuditRun base_file out policy r
   report_run policy o is =
-      text_run _ _ (report_text o) (status_of_outcome o) (λ none. none) (λ r w. record { outcome = o; is = is; written = w })
+      by_answer out (report_text o) (status_of_outcome o)
+      (λ r. (r ≢ Err run.Memory → IsReport (report_text o) o) → IsAuditRun base_file out policy r)
+      (λ s w made. record { base = base; base_read = read; written = record { outcome = o; is = is; in_grammar = made (λ e. cc (e)); written = w } })
+      (λ wrote w made. record { base = base; base_read = read; written = record { outcome = o; is = is; in_grammar = made (λ e. cc (e)); written = w } })
+      (λ none made. (base_within base_file base read, none))
 
   pub list_run : (caller : List ℕ) (form : ListForm) (text : List ℕ) (is_found : Bool) → IsListText caller form base text is_found
       → (r : Result Status RunFault) → IsTextWritten out text (status_of_entry is_found) r → IsListRun base_file out caller form r
@@ -90,15 +95,21 @@ module _ (base_file out : Device) (base : BaseView) (read : IsBaseOfFile base_fi
   show_run caller what f (answer.Nothing status) is (Err fault) w = absurd (cc (w.0))
 
 -- an audit with a file of its own for a certificate
-pub split_run : (base_file cert out : Device) (base : BaseView) → IsBaseOfFile base_file base
-    → (policy : Policy) (o : Outcome) → IsOutcomeOf base policy o
-    → (r : Result Status RunFault) → IsSplitWritten cert out o r → IsAuditIntoRun base_file cert out policy r
-split_run base_file cert out base read policy (Certified c) is r w =
-    text_run base_file cert base read _ _ (report_text (Certified c)) (status_of_outcome (Certified c)) (λ none. (none, w.1))
-    (λ r text. record { outcome = Certified c; is = is; written = (text, w.1) }) r w.0
-split_run base_file cert out base read policy (Faulty faults) is r w =
-    text_run base_file out base read _ _ (report_text (Faulty faults)) (status_of_outcome (Faulty faults)) (λ none. (w.1, none))
-    (λ r text. record { outcome = Faulty faults; is = is; written = (text, w.1) }) r w.0
+module _ (base_file cert out : Device) (base : BaseView) (read : IsBaseOfFile base_file base) (policy : Policy) where
+  pub split_run : (o : Outcome) → IsOutcomeOf base policy o → (r : Result Status RunFault) → IsSplitWritten cert out o r
+      → (r ≢ Err run.Memory → IsReport (report_text o) o) → IsAuditIntoRun base_file cert out policy r
+  split_run (Certified c) is r w =
+      by_answer cert (report_text (Certified c)) (status_of_outcome (Certified c))
+      (λ r. (r ≢ Err run.Memory → IsReport (report_text (Certified c)) (Certified c)) → IsAuditIntoRun base_file cert out policy r)
+      (λ s text made. record { base = base; base_read = read; written = record { outcome = Certified c; is = is; in_grammar = made (λ e. cc (e)); written = (text, w.1) } })
+      (λ wrote text made. record { base = base; base_read = read; written = record { outcome = Certified c; is = is; in_grammar = made (λ e. cc (e)); written = (text, w.1) } })
+      (λ none made. (base_within base_file base read, (none, w.1))) r w.0
+  split_run (Faulty faults) is r w =
+      by_answer out (report_text (Faulty faults)) (status_of_outcome (Faulty faults))
+      (λ r. (r ≢ Err run.Memory → IsReport (report_text (Faulty faults)) (Faulty faults)) → IsAuditIntoRun base_file cert out policy r)
+      (λ s text made. record { base = base; base_read = read; written = record { outcome = Faulty faults; is = is; in_grammar = made (λ e. cc (e)); written = (text, w.1) } })
+      (λ wrote text made. record { base = base; base_read = read; written = record { outcome = Faulty faults; is = is; in_grammar = made (λ e. cc (e)); written = (text, w.1) } })
+      (λ none made. (base_within base_file base read, (w.1, none))) r w.0
 
 -- a run of lint that read its text and wrote its findings
 pub lint_run : (base_file out : Device) (path text : List ℕ) → IsTextOfFile base_file text → (policy : Policy) (format : Format) (findings : List FindingView)

@@ -6,16 +6,17 @@ use Rattle.fault_scripts.specs.declared.outcome.Outcome.{Outcome}
 use Rattle.fault_scripts.specs.declared.outcome.Outcome.TheVariants.{Certified, Faulty}
 use Rattle.fault_scripts.specs.Outcomes.{IsOutcomeOf}
 use Rattle.audit_report.specs.declared.run_fault.RunFault.{RunFault}
-use Rattle.audit_report.specs.ReportLines.{report_text}
+use Rattle.audit_report.specs.ReportLines.{report_text, IsReport}
 use Rattle.audit_report.specs.Statuses.{status_of_outcome}
 use Rattle.audit_report.specs.declared.status.Status.{Status}
 use Rattle.audit_report.specs.declared.status.Status.TheVariants as status
 use Rattle.pageaudit.specs.Files.{Device, IsUntouched, IsTextWritten, IsBaseRun}
 
--- `Written` holds of the base's outcome and the answer
+-- `Written` holds of the base's outcome and the answer; a certificate's text is in the grammar with it
 pub record IsOutcomeWritten (Written : Outcome → Result Status RunFault → Type 0) (policy : Policy) (base : BaseView) (answer : Result Status RunFault) : Type 0 where
   pub outcome : Outcome
   pub is : IsOutcomeOf base policy outcome
+  pub in_grammar : IsReport (report_text outcome) outcome
   pub written : Written outcome answer
 
 -- the report of an outcome was written, and the answer is its status, or a write fault with the number of bytes written

@@ -1,6 +1,7 @@
 pub mod Status
 pub mod CheckRun
 pub mod ChangeRun
+pub mod Certified
 pub mod WalkRun
 pub mod AuditRun
 pub mod LintRun

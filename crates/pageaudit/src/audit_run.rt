@@ -1,5 +1,5 @@
-ghost use Rattle.std.specs.Prelude.{◌≡◌, false};
-ghost use Rattle.audit_report.specs.ReportLines.{report_text};
+ghost use Rattle.std.specs.Prelude.{◌≡◌, ◌≢◌, Err, false};
+ghost use Rattle.audit_report.specs.ReportLines.{report_text, IsReport};
 ghost use Rattle.audit_report.specs.Statuses.{status_of_outcome};
 ghost use Rattle.pageaudit.specs.Files.{device, IsTextWritten};
 ghost use Rattle.pageaudit.specs.AuditRun.{IsAuditRun, IsAuditIntoRun, IsSplitWritten};
@@ -15,8 +15,9 @@ use std::alloc::Global;
 // Writes the report of an outcome.
 fn write_report<O: Sink>(alloc: Global, out: &mut O, outcome: &Outcome) -> Result<Status, RunFault>
     requires { (O.seen out.old).failed ≡ false }
-    ensures { IsTextWritten (device O.seen out.old out.new) (report_text outcome.now)
+    ensures written { IsTextWritten (device O.seen out.old out.new) (report_text outcome.now)
         (status_of_outcome outcome.now) result }
+    ensures in_grammar { result ≢ Err RunFault.Memory → IsReport (report_text outcome.now) outcome.now }
 {
     match report(alloc, outcome) {
         Ok(text) => write_text(out, text.as_slice(), Status::of_outcome(outcome)),
@@ -60,7 +61,8 @@ fn write_split<C: Sink, O: Sink>(
 ) -> Result<Status, RunFault>
     requires cert_open { (C.seen cert.old).failed ≡ false }
     requires out_open { (O.seen out.old).failed ≡ false }
-    ensures { IsSplitWritten (device C.seen cert.old cert.new) (device O.seen out.old out.new) outcome.now result }
+    ensures written { IsSplitWritten (device C.seen cert.old cert.new) (device O.seen out.old out.new) outcome.now result }
+    ensures in_grammar { result ≢ Err RunFault.Memory → IsReport (report_text outcome.now) outcome.now }
 {
     match outcome {
         Outcome::Certified(_) => write_report(alloc, cert, outcome),

@@ -14,6 +14,7 @@
 //!
 //! - [`run_audit`], [`run_audit_into`]: a base's certificate, or its faults.
 //! - [`run_check`]: the verdict on a certificate; if the status is Clear, the headline holds of the two files.
+//! - [`certified_is_cleared`]: what an audit's run certifies, a check's run clears.
 //! - [`run_change`]: the verdict on a change of edition; if the status is Clear, the promise to callers inside holds.
 //! - [`run_walk`]: what a caller sees.
 //! - [`run_show`], [`Target`], [`Form`], [`ShowStatus`], [`status_of_show`]: the screen of a frame or after keys, and the exit
@@ -36,6 +37,7 @@ mod export_run;
 mod file_fault;
 mod import_run;
 mod input;
+mod laws;
 mod lint_run;
 mod list_run;
 mod map_run;
@@ -55,6 +57,7 @@ pub use export_run::{read_exported, run_export};
 pub use finding_forms::Format;
 pub use frame_screens::Gallery;
 pub use import_run::{ImportFault, ImportStatus, run_import, status_of_import, take_screen};
+pub use laws::certified_is_cleared;
 pub use lint::{Counts, Level, counted_text};
 pub use lint_run::{run_lint, status_of_lint};
 pub use list_run::run_list;

@@ -1,0 +1,4 @@
+mod Kept
+mod Headlines
+mod Changes
+mod Audits

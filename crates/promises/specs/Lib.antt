@@ -1,0 +1,4 @@
+pub mod Kept
+pub mod Headlines
+pub mod Changes
+pub mod Audits

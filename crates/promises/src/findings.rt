@@ -1,0 +1,41 @@
+//! What `lint` finds, and what is printed of it.
+
+ghost use Rattle.std.specs.Prelude.{◌≡◌, ◌↔◌, All, IfOk, true, length};
+ghost use Rattle.finding_forms.specs.Forms.{is_one_line};
+ghost use Rattle.finding_forms.specs.Laws.{AreWholeLines};
+ghost use Rattle.lint.specs.declared.finding.Level.TheVariants.{Error};
+ghost use Rattle.lint.specs.Findings.{count_of};
+ghost use Rattle.lint.specs.Laws.{FollowsBaseRead, IsCertified, WarnsOfUnreached};
+ghost use Rattle.lint.specs.Lint.{IsLint, IsWithin};
+ghost use Rattle.promises.specs.Audits.{IsSafeText};
+
+use checker::Policy;
+use finding_forms::{Format, findings_text};
+use lint::{Finding, lint};
+use std::alloc::{AllocError, Global};
+
+// Every fault of the text, or of its audit, at a span of the text; no error if and only if the text means a safe base, which the
+// audit certifies; and the first fault of a text is the one that `base_read` answers.
+fn linted(alloc: Global, text: &[u8], policy: &Policy) -> Result<Vec<Finding>, AllocError>
+    ensures findings { IfOk result (λ fs. IsLint text.now policy.now fs.items) }
+    ensures safe { IfOk result (λ fs. (count_of Error fs.items ≡ 0) ↔ IsSafeText text.now policy.now) }
+    ensures certified { IfOk result (λ fs. (count_of Error fs.items ≡ 0) ↔ IsCertified text.now policy.now) }
+    ensures first { IfOk result (λ fs. FollowsBaseRead text.now policy.now fs.items) }
+    ensures warnings { IfOk result (λ fs. WarnsOfUnreached text.now policy.now fs.items) }
+    ensures spans { IfOk result (λ fs. All (λ f. IsWithin text.now f.span) fs.items) }
+{
+    lint(alloc, text, policy)
+}
+
+// In every form but `full` a finding is one line.
+fn printed(
+    alloc: Global,
+    format: Format,
+    path: &[u8],
+    text: &[u8],
+    findings: &[Finding],
+) -> Result<Vec<u8>, AllocError>
+    ensures { IfOk result (λ out. is_one_line format ≡ true → AreWholeLines format (length findings.now) out.items) }
+{
+    findings_text(alloc, format, path, text, findings)
+}
