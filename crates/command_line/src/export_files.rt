@@ -3,7 +3,7 @@
 
 ghost use Rattle.std.specs.Prelude.{◌≡◌, false};
 
-use crate::named_files::{Unfinished, open_base, report};
+use crate::named_files::{Unfinished, open_base, report, unwritten};
 use crate::out_file::new_beside;
 use audit_report::{FromRead, IntoWrite, RunFault};
 use command_words::Export;
@@ -15,7 +15,7 @@ use std::rt::Files;
 use std::{fs, io};
 
 // Reads the base.
-fn read_file<R: Files + AllocGlobal>(rt: &R, path: &str) -> Result<Base, Unfinished> {
+fn read_file<R: Files + Input + AllocGlobal>(rt: &R, path: &str) -> Result<Base, Unfinished> {
     let mut file = match open_base(rt, path) {
         Ok(file) => FromRead::new(file),
         Err(unfinished) => return Err(unfinished),
@@ -24,19 +24,6 @@ fn read_file<R: Files + AllocGlobal>(rt: &R, path: &str) -> Result<Base, Unfinis
         Ok(base) => Ok(base),
         Err(RunFault::ReadBase) => Err(Unfinished::Unread("read failed")),
         Err(fault) => Err(Unfinished::Fault(fault)),
-    }
-}
-
-// Why a file isn't written.
-fn unwritten(error: &io::Error) -> Unfinished {
-    match error.kind() {
-        io::ErrorKind::OutOfMemory => Unfinished::Fault(RunFault::Memory),
-        io::ErrorKind::NotFound => Unfinished::Unread("no such folder"),
-        io::ErrorKind::PermissionDenied => Unfinished::Unread("permission denied"),
-        io::ErrorKind::NotADirectory => Unfinished::Unread("not a directory"),
-        io::ErrorKind::IsADirectory => Unfinished::Unread("is a directory"),
-        io::ErrorKind::StorageFull => Unfinished::Unread("no space left"),
-        _ => Unfinished::Unread("can't be written"),
     }
 }
 
@@ -54,7 +41,7 @@ fn give_free_name<R: Files>(rt: &R, new: &str, path: &str) -> Result<(), Unfinis
             let _ = fs::remove_file(rt, new);
             Ok(())
         }
-        Err(_) if is_there(rt, path) => Err(Unfinished::Unread(IS_THERE)),
+        Err(_) if is_there(rt, path) => Err(Unfinished::Unwritten(IS_THERE)),
         Err(_) => replace(rt, new, path),
     }
 }
@@ -78,7 +65,7 @@ fn write_file<R: AllocGlobal, W: io::Write + Drop>(
     match run_export(rt.alloc(), gallery, id, &mut out) {
         Ok(_) => Ok(()),
         Err(RunFault::Memory) => Err(Unfinished::Fault(RunFault::Memory)),
-        Err(_) => Err(Unfinished::Unread("write failed")),
+        Err(_) => Err(Unfinished::Unwritten("write failed")),
     }
 }
 
@@ -114,7 +101,7 @@ fn export_screen<R: Files + AllocGlobal>(
     path: &str,
 ) -> Result<(), Unfinished> {
     if !asked.force && is_there(rt, path) {
-        return Err(Unfinished::Unread(IS_THERE));
+        return Err(Unfinished::Unwritten(IS_THERE));
     }
     write_screen(rt, asked, gallery, id, path)
 }
@@ -125,46 +112,99 @@ fn path_of<R: AllocGlobal>(rt: &R, folder: &str, id: FrameId) -> Result<String, 
     format!(in rt.alloc(); "{folder}/{}.bin", id.as_str())
 }
 
-// Writes the screen of a frame; the exit status. A file that isn't written is named.
-fn export_frame<R: Files + Eprint + AllocGlobal>(
+const MEMORY: Unfinished = Unfinished::Fault(RunFault::Memory);
+
+// The screens that aren't written: how many, the first, and why it isn't.
+#[derive(Drop)]
+struct Lost {
+    count: usize,
+    first: Option<(FrameId, Unfinished)>,
+}
+
+impl Lost {
+    fn add(&mut self, id: FrameId, why: Unfinished) {
+        self.count = self.count.saturating_add(1);
+        if self.first.is_none() {
+            self.first = Some((id, why));
+        }
+    }
+}
+
+// Writes the screen of a frame to the file of its id.
+fn export_frame<R: Files + AllocGlobal>(
     rt: &R,
     asked: &Export,
     gallery: &Gallery,
     id: FrameId,
-) -> u8 {
-    let Ok(path) = path_of(rt, asked.out, id) else {
-        return report(rt, asked.base, &Unfinished::Fault(RunFault::Memory));
-    };
-    match export_screen(rt, asked, gallery, id, path.as_str()) {
-        Ok(()) => 0,
-        Err(unfinished) => report(rt, path.as_str(), &unfinished),
+) -> Result<(), Unfinished> {
+    match path_of(rt, asked.out, id) {
+        Ok(path) => export_screen(rt, asked, gallery, id, path.as_str()),
+        Err(_) => Err(MEMORY),
     }
 }
 
-// Writes all screens; the exit status, 3 if one isn't written. The others are, unless memory is refused.
-fn export_all<R: Files + Eprint + AllocGlobal>(rt: &R, asked: &Export, base: &Base) -> u8 {
-    let Ok(gallery) = Gallery::of(rt.alloc(), base, &asked.groups) else {
-        return report(rt, asked.base, &Unfinished::Fault(RunFault::Memory));
+// Writes each screen that can be, unless memory is refused.
+fn export_frames<R: Files + AllocGlobal>(
+    rt: &R,
+    asked: &Export,
+    base: &Base,
+    gallery: &Gallery,
+) -> Result<Lost, Unfinished> {
+    let mut lost = Lost {
+        count: 0,
+        first: None,
     };
-    let mut status = 0;
     for frame in base.frames() {
-        status = status.max(export_frame(rt, asked, &gallery, frame.id));
-        if status == 4 {
-            return status;
+        match export_frame(rt, asked, gallery, frame.id) {
+            Ok(()) => {}
+            Err(Unfinished::Fault(fault)) => return Err(Unfinished::Fault(fault)),
+            Err(why) => lost.add(frame.id, why),
         }
     }
+    Ok(lost)
+}
+
+// Names the first screen that isn't written, and counts the others; the exit status.
+fn report_lost<R: Files + Eprint + AllocGlobal>(rt: &R, asked: &Export, lost: &Lost) -> u8 {
+    let Some((id, why)) = lost.first else {
+        return 0;
+    };
+    let Ok(path) = path_of(rt, asked.out, id) else {
+        return report(rt, asked.base, &MEMORY);
+    };
+    let status = report(rt, path.as_str(), &why);
+    if lost.count > 1 && status == 3 {
+        let more = lost.count - 1;
+        let files = if more == 1 {
+            "file isn't"
+        } else {
+            "files aren't"
+        };
+        let _ = eprintln!(rt; "{}: {more} more {files} written", asked.out);
+    }
     status
+}
+
+// Writes all screens; the exit status, 3 if one isn't written.
+fn export_all<R: Files + Eprint + AllocGlobal>(rt: &R, asked: &Export, base: &Base) -> u8 {
+    let Ok(gallery) = Gallery::of(rt.alloc(), base, &asked.groups) else {
+        return report(rt, asked.base, &MEMORY);
+    };
+    match export_frames(rt, asked, base, &gallery) {
+        Ok(lost) => report_lost(rt, asked, &lost),
+        Err(unfinished) => report(rt, asked.base, &unfinished),
+    }
 }
 
 // Makes the folder, with what leads to it. No folder has an empty name.
 fn make_folder<R: Files>(rt: &R, path: &str) -> Result<(), Unfinished> {
     if path.is_empty() {
-        return Err(Unfinished::Unread("no such folder"));
+        return Err(Unfinished::Unwritten("no such folder"));
     }
     match fs::create_dir_all(rt, path) {
         Ok(()) => Ok(()),
         Err(error) if error.kind() == io::ErrorKind::AlreadyExists => {
-            Err(Unfinished::Unread("not a directory"))
+            Err(Unfinished::Unwritten("not a directory"))
         }
         Err(error) => Err(unwritten(&error)),
     }
@@ -172,7 +212,7 @@ fn make_folder<R: Files>(rt: &R, path: &str) -> Result<(), Unfinished> {
 
 /// Writes the screen of each frame of a base as ID.bin into a folder, which is made after the base was read; the exit status. A file
 /// that is there is replaced only if that is asked for.
-pub fn export<R: Files + Eprint + AllocGlobal>(rt: &R, asked: &Export) -> u8 {
+pub fn export<R: Files + Input + Eprint + AllocGlobal>(rt: &R, asked: &Export) -> u8 {
     let base = match read_file(rt, asked.base) {
         Ok(base) => base,
         Err(unfinished) => return report(rt, asked.base, &unfinished),

@@ -6,9 +6,11 @@ use crate::named_files::{Unfinished, ended, open_base, report};
 use audit_report::{FromRead, IntoWrite, RunFault};
 use command_words::Import;
 use pageaudit::{
-    Album, Filed, ImportFault, ImportStatus, ScreenFault, run_import, status_of_import, take_screen,
+    Album, FileKind, Filed, ImportFault, ImportStatus, ScreenFault, run_import, status_of_import,
+    take_screen,
 };
 use std::io;
+use std::io::Read;
 use std::rt::Files;
 
 // Why a file gives no frame.
@@ -20,8 +22,63 @@ enum Refused {
     Fault(ImportFault),
 }
 
+// A reader that counts the screens that pass: each is what comes between two codes that clear, if it shows something.
+#[derive(Drop)]
+struct Screens<R: Drop> {
+    inner: R,
+    // Those that are cleared again.
+    cleared: u64,
+    // Whether something is shown since.
+    shows: bool,
+}
+
+impl<R: Read + Drop> Screens<R> {
+    fn of(inner: R) -> Screens<R> {
+        Screens {
+            inner,
+            cleared: 0,
+            shows: false,
+        }
+    }
+
+    fn see(&mut self, byte: u8) {
+        match byte % 0x80 {
+            0x0C => {
+                self.cleared = self.cleared.saturating_add(u64::from(self.shows));
+                self.shows = false;
+            }
+            0x21..=0x7f => self.shows = true,
+            _ => {}
+        }
+    }
+}
+
+impl<R: Read + Drop> Read for Screens<R> {
+    fn read(&mut self, into: &mut [u8]) -> io::Result<usize> {
+        let count = self.inner.read(into)?;
+        for byte in &into[..count] {
+            self.see(*byte);
+        }
+        Ok(count)
+    }
+}
+
+// Says how many screens of a stream are left out: only the last one is taken.
+fn print_left<R: Eprint>(rt: &R, asked: &Import, path: &str, cleared: u64) {
+    if let FileKind::Stream = asked.kind
+        && cleared > 0
+    {
+        let screens = if cleared == 1 {
+            "screen is"
+        } else {
+            "screens are"
+        };
+        let _ = eprintln!(rt; "{path}: {cleared} earlier {screens} left out");
+    }
+}
+
 // Adds the frame of a file.
-fn take_file<R: Files + AllocGlobal>(
+fn take_file<R: Files + Input + Eprint + AllocGlobal>(
     rt: &R,
     asked: &Import,
     path: &str,
@@ -29,11 +86,18 @@ fn take_file<R: Files + AllocGlobal>(
     album: &mut Album,
 ) -> Result<(), Refused> {
     let mut file = match open_base(rt, path) {
-        Ok(file) => FromRead::new(file),
+        Ok(file) => Screens::of(file),
         Err(unfinished) => return Err(Refused::Unfinished(unfinished)),
     };
-    match take_screen(rt.alloc(), &mut file, asked.kind, path, number, album) {
-        Ok(()) => Ok(()),
+    let taken = {
+        let mut source = FromRead::new(&mut file);
+        take_screen(rt.alloc(), &mut source, asked.kind, path, number, album)
+    };
+    match taken {
+        Ok(()) => {
+            print_left(rt, asked, path, file.cleared);
+            Ok(())
+        }
         Err(fault) => Err(Refused::Fault(fault)),
     }
 }
@@ -55,7 +119,7 @@ fn report_screen<R: Eprint>(rt: &R, path: &str, fault: ScreenFault) {
 }
 
 // Says why a file gives no frame; the exit status.
-fn report_file<R: Eprint + AllocGlobal>(rt: &R, path: &str, refused: &Refused) -> u8 {
+fn report_file<R: Files + Eprint + AllocGlobal>(rt: &R, path: &str, refused: &Refused) -> u8 {
     match refused {
         Refused::Unfinished(unfinished) => report(rt, path, unfinished),
         Refused::Fault(ImportFault::Screen(fault)) => {
@@ -76,7 +140,11 @@ fn report_file<R: Eprint + AllocGlobal>(rt: &R, path: &str, refused: &Refused) -
 }
 
 // Adds the frames of all files; the exit status, 0 if each gave one. All files at fault are named, unless memory is refused.
-fn take_files<R: Files + Eprint + AllocGlobal>(rt: &R, asked: &Import, album: &mut Album) -> u8 {
+fn take_files<R: Files + Input + Eprint + AllocGlobal>(
+    rt: &R,
+    asked: &Import,
+    album: &mut Album,
+) -> u8 {
     let mut status = 0;
     for (number, path) in asked.screens.iter().enumerate() {
         match take_file(rt, asked, path, number, album) {
@@ -154,7 +222,11 @@ fn print_base<R: Print + AllocGlobal>(
 }
 
 // Prints the base, or says why it isn't printed; the exit status.
-fn print_or_report<R: Print + Eprint + AllocGlobal>(rt: &R, asked: &Import, album: &Album) -> u8 {
+fn print_or_report<R: Files + Print + Eprint + AllocGlobal>(
+    rt: &R,
+    asked: &Import,
+    album: &Album,
+) -> u8 {
     match print_base(rt, asked, album) {
         Ok(status) => {
             if let ImportStatus::TooLong(file) = status {
@@ -171,7 +243,7 @@ fn print_or_report<R: Print + Eprint + AllocGlobal>(rt: &R, asked: &Import, albu
 
 /// Prints the base of the screens. If files are refused, each is named on standard error, nothing is printed, and the status is 3; so
 /// it is if two files have one id.
-pub fn import<R: Files + Print + Eprint + AllocGlobal>(rt: &R, asked: &Import) -> u8 {
+pub fn import<R: Files + Input + Print + Eprint + AllocGlobal>(rt: &R, asked: &Import) -> u8 {
     let mut album = Album::new(rt.alloc());
     let refused = take_files(rt, asked, &mut album);
     if refused == 4 {

@@ -1,52 +1,28 @@
 //! The command `lint`: one base after another, and one count at the end.
 
-ghost use Rattle.std.specs.Prelude.{◌≡◌, false};
-
 use crate::named_files::{Unfinished, ended, open_base, report};
-use audit_report::{FromRead, IntoWrite, Source};
+use audit_report::{FromRead, IntoWrite};
 use checker::Policy;
 use command_words::Lint;
 use pageaudit::{Counts, Format, counted_text, run_lint, status_of_lint};
 use std::io;
 use std::rt::Files;
 
-// The findings of a base that is read from this source.
-fn lint_source<R: Print + AllocGlobal, B: Source>(
-    rt: &R,
-    base: &mut B,
-    path: &str,
-    policy: &Policy,
-    format: Format,
-) -> Result<Counts, Unfinished>
-    requires { (B.seen base.old).failed ≡ false }
-{
-    let mut out = IntoWrite::new(io::writer(rt));
-    let run = run_lint(rt.alloc(), base, &mut out, path, policy, format);
-    ended(run, &out)
-}
-
-fn lint_file<R: Files + Print + AllocGlobal>(
-    rt: &R,
-    path: &str,
-    policy: &Policy,
-    format: Format,
-) -> Result<Counts, Unfinished> {
-    match open_base(rt, path) {
-        Ok(base) => lint_source(rt, &mut FromRead::new(base), path, policy, format),
-        Err(unfinished) => Err(unfinished),
-    }
-}
-
+// The findings of a base.
 fn lint_path<R: Files + Input + Print + AllocGlobal>(
     rt: &R,
     path: &str,
     policy: &Policy,
     format: Format,
 ) -> Result<Counts, Unfinished> {
-    if path == "-" {
-        lint_source(rt, &mut FromRead::new(rt.reader()), path, policy, format)
-    } else {
-        lint_file(rt, path, policy, format)
+    match open_base(rt, path) {
+        Ok(base) => {
+            let mut base = FromRead::new(base);
+            let mut out = IntoWrite::new(io::writer(rt));
+            let run = run_lint(rt.alloc(), &mut base, &mut out, path, policy, format);
+            ended(run, &out)
+        }
+        Err(unfinished) => Err(unfinished),
     }
 }
 

@@ -23,7 +23,7 @@ use export_files::export;
 use frame_records::Groups;
 use import_files::import;
 use lint_files::lint;
-use named_files::{Unfinished, ended, open_base, report};
+use named_files::{Opened, Unfinished, ended, open, open_base, path_to, report};
 use out_file::{Out, is_same_file, open_out};
 use pageaudit::{
     ListForm, MapStatus, Status, View, run_audit, run_audit_into, run_change, run_check, run_list,
@@ -32,9 +32,9 @@ use pageaudit::{
 use pages_file::pages;
 use show_screen::show;
 use std::alloc::{AllocError, Global};
+use std::io;
 use std::process::ExitCode;
 use std::rt::{Env, Files, Stderr};
-use std::{fs, io};
 
 fn main(rt: HostRuntime) -> ExitCode {
     ExitCode::from(run(&rt, rt.stderr()))
@@ -163,7 +163,7 @@ fn run_matches<R: Files + Env + Input + Print + Eprint + AllocGlobal>(
                     },
                 ),
             ),
-        ) if is_same_file(rt, base, out) => {
+        ) if is_same_file(rt, path_to(base), out) => {
             let _ = eprintln!(rt; "error: --out names the base itself");
             2
         }
@@ -223,7 +223,7 @@ fn run_request<R: Files + Env + Input + Print + Eprint + AllocGlobal>(
 }
 
 // Draws a map; a line on standard error if the base lacks the frame `a` of the page.
-fn map<R: Files + Print + Eprint + AllocGlobal>(
+fn map<R: Files + Input + Print + Eprint + AllocGlobal>(
     rt: &R,
     base: &str,
     view: &View,
@@ -241,7 +241,7 @@ fn map<R: Files + Print + Eprint + AllocGlobal>(
     }
 }
 
-fn map_file<R: Files + Print + AllocGlobal>(
+fn map_file<R: Files + Input + Print + AllocGlobal>(
     rt: &R,
     base: &str,
     view: &View,
@@ -278,14 +278,18 @@ fn print_fault<R: Eprint + AllocGlobal>(rt: &R, fault: &RunFault) -> bool {
 }
 
 // A file, or the fault of one that can't be opened.
-fn opened<R: Files>(rt: &R, path: &str, fault: RunFault) -> Result<R::File, RunFault> {
-    match fs::open(rt, path) {
+fn opened<R: Files + Input>(
+    rt: &R,
+    path: &str,
+    fault: RunFault,
+) -> Result<Opened<R::File, R::Reader>, RunFault> {
+    match open(rt, path) {
         Ok(file) => Ok(file),
         Err(_) => Err(fault),
     }
 }
 
-fn audit_file<R: Files + Print + AllocGlobal>(
+fn audit_file<R: Files + Input + Print + AllocGlobal>(
     rt: &R,
     base: &str,
     policy: &Policy,
@@ -297,7 +301,7 @@ fn audit_file<R: Files + Print + AllocGlobal>(
 }
 
 // The certificate goes into a file of its own. Without memory to open it, that is the fault.
-fn audit_into<R: Files + Print + AllocGlobal>(
+fn audit_into<R: Files + Input + Print + AllocGlobal>(
     rt: &R,
     errors: Stderr,
     base: &str,
@@ -312,10 +316,10 @@ fn audit_into<R: Files + Print + AllocGlobal>(
     }
 }
 
-fn audit_to<R: Files + Print + AllocGlobal>(
+fn audit_to<R: Files + Input + Print + AllocGlobal>(
     rt: &R,
     errors: Stderr,
-    base: R::File,
+    base: Opened<R::File, R::Reader>,
     out: Out<R::File>,
     policy: &Policy,
 ) -> Result<Status, RunFault> {
@@ -337,7 +341,7 @@ fn audit_to<R: Files + Print + AllocGlobal>(
     }
 }
 
-fn check_files<R: Files + Print + AllocGlobal>(
+fn check_files<R: Files + Input + Print + AllocGlobal>(
     rt: &R,
     base: &str,
     cert: &str,
@@ -352,7 +356,7 @@ fn check_files<R: Files + Print + AllocGlobal>(
 }
 
 // The paths are those of the old base, its certificate, the new base and its certificate.
-fn change_files<R: Files + Print + AllocGlobal>(
+fn change_files<R: Files + Input + Print + AllocGlobal>(
     rt: &R,
     paths: [&str; 4],
     policy: &Policy,
@@ -378,7 +382,7 @@ fn change_files<R: Files + Print + AllocGlobal>(
     )
 }
 
-fn walk_file<R: Files + Print + AllocGlobal>(
+fn walk_file<R: Files + Input + Print + AllocGlobal>(
     rt: &R,
     base: &str,
     keys: &str,
@@ -391,7 +395,7 @@ fn walk_file<R: Files + Print + AllocGlobal>(
 }
 
 // Prints a line for each frame; the exit status.
-fn list<R: Files + Print + Eprint + AllocGlobal>(
+fn list<R: Files + Input + Print + Eprint + AllocGlobal>(
     rt: &R,
     base: &str,
     form: ListForm,
@@ -403,7 +407,7 @@ fn list<R: Files + Print + Eprint + AllocGlobal>(
     }
 }
 
-fn list_file<R: Files + Print + AllocGlobal>(
+fn list_file<R: Files + Input + Print + AllocGlobal>(
     rt: &R,
     base: &str,
     form: ListForm,

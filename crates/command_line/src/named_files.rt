@@ -1,7 +1,8 @@
-//! Bases that are opened by their names, and what is printed if a command ends without its work done.
+//! Files that are opened by their names, and what is printed if a command ends without its work done.
 
 use crate::fail;
 use audit_report::{IntoWrite, RunFault};
+use std::io::Read;
 use std::rt::Files;
 use std::{fs, io};
 
@@ -10,10 +11,50 @@ use std::{fs, io};
 pub enum Unfinished {
     /// The file can't be opened or read, for this reason.
     Unread(&'static str),
+    /// The file can't be written, for this reason.
+    Unwritten(&'static str),
     /// Nobody reads what is printed.
     Unwanted,
     /// A fault of the run.
     Fault(RunFault),
+}
+
+/// What a path names.
+#[derive(Drop)]
+pub enum Opened<F: Drop, I: Drop> {
+    File(F),
+    /// Standard input, for the path `-`.
+    Input(I),
+}
+
+impl<F: Read + Drop, I: Read + Drop> Read for Opened<F, I> {
+    fn read(&mut self, into: &mut [u8]) -> io::Result<usize> {
+        match self {
+            Opened::File(file) => file.read(into),
+            Opened::Input(input) => input.read(into),
+        }
+    }
+}
+
+// The path of standard input.
+const INPUT: &str = "-";
+
+/// Opens what a path names: `-` is standard input, and a file of that name is `./-`.
+pub fn open<R: Files + Input>(rt: &R, path: &str) -> io::Result<Opened<R::File, R::Reader>> {
+    if path == INPUT {
+        Ok(Opened::Input(rt.reader()))
+    } else {
+        Ok(Opened::File(fs::open(rt, path)?))
+    }
+}
+
+/// A path that leads to what a path names.
+pub fn path_to<'a>(path: &'a str) -> &'a str {
+    if path == INPUT {
+        "/proc/self/fd/0"
+    } else {
+        path
+    }
 }
 
 // What the system says of a file that doesn't open.
@@ -28,19 +69,35 @@ fn reason(error: &io::Error) -> Unfinished {
     }
 }
 
+/// Why a file isn't written.
+pub fn unwritten(error: &io::Error) -> Unfinished {
+    match error.kind() {
+        io::ErrorKind::OutOfMemory => Unfinished::Fault(RunFault::Memory),
+        io::ErrorKind::NotFound => Unfinished::Unwritten("no such folder"),
+        io::ErrorKind::PermissionDenied => Unfinished::Unwritten("permission denied"),
+        io::ErrorKind::NotADirectory => Unfinished::Unwritten("not a directory"),
+        io::ErrorKind::IsADirectory => Unfinished::Unwritten("is a directory"),
+        io::ErrorKind::StorageFull => Unfinished::Unwritten("no space left"),
+        _ => Unfinished::Unwritten("can't be written"),
+    }
+}
+
 fn is_folder<R: Files>(rt: &R, path: &str) -> bool {
-    match fs::metadata(rt, path) {
+    match fs::metadata(rt, path_to(path)) {
         Ok(there) => there.is_dir(),
         Err(_) => false,
     }
 }
 
 /// The base of a path. A folder opens and then fails to read: so it is named before.
-pub fn open_base<R: Files>(rt: &R, path: &str) -> Result<R::File, Unfinished> {
+pub fn open_base<R: Files + Input>(
+    rt: &R,
+    path: &str,
+) -> Result<Opened<R::File, R::Reader>, Unfinished> {
     if is_folder(rt, path) {
         return Err(Unfinished::Unread("is a directory"));
     }
-    match fs::open(rt, path) {
+    match open(rt, path) {
         Ok(file) => Ok(file),
         Err(error) => Err(reason(&error)),
     }
@@ -59,11 +116,46 @@ pub fn ended<T, W: io::Write>(
     }
 }
 
+// The length of a certificate's first line.
+const HEAD: usize = 5;
+
+// Whether the first line of an open file is a certificate's.
+fn begins_certificate<F: Read>(file: &mut F) -> bool {
+    let mut head = [0; HEAD];
+    match file.read(&mut head) {
+        Ok(HEAD) => head == *b"PBC1\n" || head == *b"PBC2\n",
+        _ => false,
+    }
+}
+
+// Whether a path names a certificate. What isn't a regular file can't be read again.
+fn is_certificate<R: Files>(rt: &R, path: &str) -> bool {
+    match fs::metadata(rt, path) {
+        Ok(there) if there.is_file() => match fs::open(rt, path) {
+            Ok(file) => {
+                let mut file = file;
+                begins_certificate(&mut file)
+            }
+            Err(_) => false,
+        },
+        _ => false,
+    }
+}
+
+// Says what helps with a base's text that is refused.
+fn print_help<R: Files + Eprint>(rt: &R, path: &str) {
+    let _ = if is_certificate(rt, path) {
+        eprintln!(rt; "{path} is a certificate: pageaudit check BASE {path}")
+    } else {
+        eprintln!(rt; "pageaudit lint {path} says where")
+    };
+}
+
 /// Says why a command ends without its work done, if somebody is to know it; the exit status. A base's text that is refused has its
-/// fault in one line; `lint` says where.
-pub fn report<R: Eprint + AllocGlobal>(rt: &R, path: &str, unfinished: &Unfinished) -> u8 {
+/// fault in one line, and another says what helps.
+pub fn report<R: Files + Eprint + AllocGlobal>(rt: &R, path: &str, unfinished: &Unfinished) -> u8 {
     match unfinished {
-        Unfinished::Unread(reason) => {
+        Unfinished::Unread(reason) | Unfinished::Unwritten(reason) => {
             let _ = eprintln!(rt; "{path}: {reason}");
             3
         }
@@ -73,9 +165,29 @@ pub fn report<R: Eprint + AllocGlobal>(rt: &R, path: &str, unfinished: &Unfinish
             if let RunFault::Base(_) = fault
                 && status == 3
             {
-                let _ = eprintln!(rt; "pageaudit lint {path} says where");
+                print_help(rt, path);
             }
             status
         }
+    }
+}
+
+/// The same of a command that reads a base and writes a file, if one is named: that is the file of a fault of the output.
+pub fn report_written<R: Files + Eprint + AllocGlobal>(
+    rt: &R,
+    base: &str,
+    out: Option<&str>,
+    unfinished: &Unfinished,
+) -> u8 {
+    let Some(out) = out else {
+        return report(rt, base, unfinished);
+    };
+    match unfinished {
+        Unfinished::Unwritten(_) => report(rt, out, unfinished),
+        Unfinished::Fault(RunFault::Write(wrote)) => {
+            let _ = eprintln!(rt; "{out}: write failed after {wrote} bytes");
+            3
+        }
+        _ => report(rt, base, unfinished),
     }
 }

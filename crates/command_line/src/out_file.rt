@@ -2,6 +2,7 @@
 //! certificate or screen is never lost to a failed run. What isn't a regular file, as a pipe, is written directly, and the file of
 //! standard output or standard error through that stream, whose other text is kept.
 
+use crate::named_files::{Unfinished, unwritten};
 use audit_report::RunFault;
 use std::fs::{File, Metadata, OpenOptions};
 use std::os::unix::fs::MetadataExt;
@@ -141,6 +142,20 @@ pub fn open_out<R: Files + AllocGlobal>(rt: &R, path: &str) -> io::Result<Out<R:
         Ok(there) => open_there(rt, path, &there),
         Err(error) if error.kind() == io::ErrorKind::NotFound => open_beside(rt, path, None),
         Err(error) => Err(error),
+    }
+}
+
+/// Opens the file that `--out` names; standard output without one.
+pub fn named_out<R: Files + AllocGlobal>(
+    rt: &R,
+    path: Option<&str>,
+) -> Result<Out<R::File>, Unfinished> {
+    let Some(path) = path else {
+        return Ok(Out::Output);
+    };
+    match open_out(rt, path) {
+        Ok(out) => Ok(out),
+        Err(error) => Err(unwritten(&error)),
     }
 }
 

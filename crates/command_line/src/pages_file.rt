@@ -2,8 +2,8 @@
 
 ghost use Rattle.std.specs.Prelude.{◌≡◌, false};
 
-use crate::named_files::{Unfinished, ended, open_base, report};
-use crate::out_file::{Out, open_out};
+use crate::named_files::{Opened, Unfinished, ended, open_base, report_written};
+use crate::out_file::{Out, named_out};
 use crate::tell_no_page;
 use audit_report::{FromRead, IntoWrite, RunFault};
 use command_words::Pages;
@@ -19,27 +19,13 @@ fn name_of<'a>(path: &'a str) -> &'a str {
     }
 }
 
-// Where the file goes.
-fn out_of<R: Files + AllocGlobal>(rt: &R, asked: &Pages) -> Result<Out<R::File>, Unfinished> {
-    let Some(path) = asked.out else {
-        return Ok(Out::Output);
-    };
-    match open_out(rt, path) {
-        Ok(out) => Ok(out),
-        Err(error) if error.kind() == io::ErrorKind::OutOfMemory => {
-            Err(Unfinished::Fault(RunFault::Memory))
-        }
-        Err(_) => Err(Unfinished::Fault(RunFault::Write(0))),
-    }
-}
-
-fn pages_file<R: Files + Print + AllocGlobal>(
+fn pages_file<R: Files + Input + Print + AllocGlobal>(
     rt: &R,
     errors: Stderr,
     asked: &Pages,
 ) -> Result<PagesStatus, Unfinished> {
     match open_base(rt, asked.base) {
-        Ok(base) => match out_of(rt, asked) {
+        Ok(base) => match named_out(rt, asked.out) {
             Ok(out) => pages_to(rt, errors, base, asked, out),
             Err(unfinished) => Err(unfinished),
         },
@@ -47,9 +33,9 @@ fn pages_file<R: Files + Print + AllocGlobal>(
     }
 }
 
-fn write_to<R: Files + AllocGlobal, W: io::Write>(
+fn write_to<R: Files + Input + AllocGlobal, W: io::Write>(
     rt: &R,
-    base: R::File,
+    base: Opened<R::File, R::Reader>,
     asked: &Pages,
     out: &mut IntoWrite<W>,
 ) -> Result<PagesStatus, RunFault>
@@ -60,10 +46,10 @@ fn write_to<R: Files + AllocGlobal, W: io::Write>(
     run_pages(rt.alloc(), &mut base, &asked.policy, &asked.view, name, out)
 }
 
-fn pages_to<R: Files + Print + AllocGlobal>(
+fn pages_to<R: Files + Input + Print + AllocGlobal>(
     rt: &R,
     errors: Stderr,
-    base: R::File,
+    base: Opened<R::File, R::Reader>,
     asked: &Pages,
     out: Out<R::File>,
 ) -> Result<PagesStatus, Unfinished> {
@@ -92,7 +78,11 @@ fn pages_to<R: Files + Print + AllocGlobal>(
 }
 
 /// Writes a base as an HTML file; a line on standard error if the base lacks the frame `a` of the page. The exit status.
-pub fn pages<R: Files + Print + Eprint + AllocGlobal>(rt: &R, errors: Stderr, asked: &Pages) -> u8 {
+pub fn pages<R: Files + Input + Print + Eprint + AllocGlobal>(
+    rt: &R,
+    errors: Stderr,
+    asked: &Pages,
+) -> u8 {
     match pages_file(rt, errors, asked) {
         Ok(status) => {
             if let PagesStatus::NoPage = status {
@@ -100,6 +90,6 @@ pub fn pages<R: Files + Print + Eprint + AllocGlobal>(rt: &R, errors: Stderr, as
             }
             status_of_pages(&Ok(status))
         }
-        Err(unfinished) => report(rt, asked.base, &unfinished),
+        Err(unfinished) => report_written(rt, asked.base, asked.out, &unfinished),
     }
 }

@@ -1,7 +1,7 @@
 //! The command `show`: in which form, into which file, and what is said if there is no screen.
 
-use crate::named_files::{Unfinished, ended, open_base, report};
-use crate::out_file::{Out, open_out};
+use crate::named_files::{Opened, Unfinished, ended, open_base, report_written};
+use crate::out_file::{Out, named_out};
 use audit_report::{FromRead, IntoWrite, RunFault};
 use command_words::Show;
 use frame_records::Groups;
@@ -68,18 +68,6 @@ fn target_of<R: AllocGlobal>(rt: &R, asked: &Show) -> Result<Target, RunFault> {
     }
 }
 
-// Where the screen goes.
-fn out_of<R: Files + AllocGlobal>(rt: &R, asked: &Show) -> Result<Out<R::File>, RunFault> {
-    let Some(path) = asked.out else {
-        return Ok(Out::Output);
-    };
-    match open_out(rt, path) {
-        Ok(out) => Ok(out),
-        Err(error) if error.kind() == io::ErrorKind::OutOfMemory => Err(RunFault::Memory),
-        Err(_) => Err(RunFault::Write(0)),
-    }
-}
-
 // Which screen was asked for, in which form.
 fn screen_of<R: Files + Env + AllocGlobal>(
     rt: &R,
@@ -90,7 +78,7 @@ fn screen_of<R: Files + Env + AllocGlobal>(
 }
 
 // Writes the screen to standard output, or to the file that is named.
-fn show_file<R: Files + Env + Print + AllocGlobal>(
+fn show_file<R: Files + Env + Input + Print + AllocGlobal>(
     rt: &R,
     errors: Stderr,
     asked: &Show,
@@ -101,26 +89,26 @@ fn show_file<R: Files + Env + Print + AllocGlobal>(
     }
 }
 
-fn show_opened<R: Files + Env + Print + AllocGlobal>(
+fn show_opened<R: Files + Env + Input + Print + AllocGlobal>(
     rt: &R,
     errors: Stderr,
     asked: &Show,
-    base: R::File,
+    base: Opened<R::File, R::Reader>,
 ) -> Result<ShowStatus, Unfinished> {
     let (target, form) = match screen_of(rt, asked) {
         Ok(screen) => screen,
         Err(fault) => return Err(Unfinished::Fault(fault)),
     };
-    match out_of(rt, asked) {
+    match named_out(rt, asked.out) {
         Ok(out) => show_to(rt, errors, base, (&target, form, &asked.groups), out),
-        Err(fault) => Err(Unfinished::Fault(fault)),
+        Err(unfinished) => Err(unfinished),
     }
 }
 
-fn show_to<R: Files + Print + AllocGlobal>(
+fn show_to<R: Files + Input + Print + AllocGlobal>(
     rt: &R,
     errors: Stderr,
-    base: R::File,
+    base: Opened<R::File, R::Reader>,
     (target, form, groups): (&Target, Form, &Groups),
     out: Out<R::File>,
 ) -> Result<ShowStatus, Unfinished> {
@@ -199,13 +187,13 @@ fn shown<R: Eprint>(rt: &R, asked: &Show, run: &Result<ShowStatus, RunFault>) ->
 }
 
 /// Shows a screen, or says in a line on standard error why there is none; the exit status.
-pub fn show<R: Files + Env + Print + Eprint + AllocGlobal>(
+pub fn show<R: Files + Env + Input + Print + Eprint + AllocGlobal>(
     rt: &R,
     errors: Stderr,
     asked: &Show,
 ) -> u8 {
     match show_file(rt, errors, asked) {
         Ok(status) => shown(rt, asked, &Ok(status)),
-        Err(unfinished) => report(rt, asked.base, &unfinished),
+        Err(unfinished) => report_written(rt, asked.base, asked.out, &unfinished),
     }
 }

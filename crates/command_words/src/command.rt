@@ -29,6 +29,11 @@ fn place<'a>(alloc: Global, name: &'a str, help: &'a str) -> Arg<'a> {
         .help(help)
 }
 
+// The base that a command reads.
+fn base<'a>(alloc: Global) -> Arg<'a> {
+    place(alloc, "BASE", "The base, a TOML file; - is standard input")
+}
+
 // A required whole number from 0 to a limit. A negative one is out of the range, and no option.
 fn number<'a>(alloc: Global, name: &'a str, short: char, most: u16, help: &'a str) -> Arg<'a> {
     Arg::new(alloc, name)
@@ -147,7 +152,7 @@ fn audit_command<'a>(alloc: Global) -> Result<Command<'a>, AllocError> {
     let command = Command::new(alloc, "audit")
         .about("Find a base's certificate, or list its faults with the keys that show them")
         .after_help(help::AUDIT)
-        .arg(place(alloc, "BASE", "The base, a TOML file"))?
+        .arg(base(alloc))?
         .arg(out_option(alloc, "Write the certificate to FILE, only if there is one"))?;
     with_policy(alloc, command)
 }
@@ -156,8 +161,8 @@ fn check_command<'a>(alloc: Global) -> Result<Command<'a>, AllocError> {
     let command = Command::new(alloc, "check")
         .about("Check a certificate against a base, without any search")
         .after_help(help::CHECK)
-        .arg(place(alloc, "BASE", "The base, a TOML file"))?
-        .arg(place(alloc, "CERT", "The certificate"))?;
+        .arg(base(alloc))?
+        .arg(place(alloc, "CERT", "The certificate; - is standard input"))?;
     with_policy(alloc, command)
 }
 
@@ -176,7 +181,7 @@ fn walk_command<'a>(alloc: Global) -> Result<Command<'a>, AllocError> {
     let command = Command::new(alloc, "walk")
         .about("Print the replies to keys from the entry page")
         .after_help(help::WALK)
-        .arg(place(alloc, "BASE", "The base, a TOML file"))?
+        .arg(base(alloc))?
         .arg(place(alloc, "KEYS", "Keys without spaces, e.g. '1#*#*00*09'"))?;
     with_groups(alloc, command)
 }
@@ -206,7 +211,7 @@ fn show_command<'a>(alloc: Global) -> Result<Command<'a>, AllocError> {
     let command = Command::new(alloc, "show")
         .about("Show a screen as a caller sees it")
         .after_help(help::SHOW)
-        .arg(place(alloc, "BASE", "The base, a TOML file"))?
+        .arg(base(alloc))?
         .arg(frame)?;
     let command = with_option(Ok(command), keys)?.arg(form_option(alloc))?.arg(out_option(
         alloc,
@@ -246,7 +251,7 @@ fn list_command<'a>(alloc: Global) -> Result<Command<'a>, AllocError> {
     let command = Command::new(alloc, "list")
         .about("List the frames of a base, with the keys that lead there")
         .after_help(help::LIST)
-        .arg(place(alloc, "BASE", "The base, a TOML file"))?
+        .arg(base(alloc))?
         .arg(
             Arg::new(alloc, "format")
                 .long("format")
@@ -305,7 +310,7 @@ fn map_command<'a>(alloc: Global) -> Result<Command<'a>, AllocError> {
     let command = Command::new(alloc, "map")
         .about("Draw a base as a graph, a DOT file for Graphviz")
         .after_help(help::MAP)
-        .arg(place(alloc, "BASE", "The base, a TOML file"));
+        .arg(base(alloc));
     let command = with_option(with_option(command, from), to);
     with_groups(alloc, with_option(command, within_option(alloc))?)
 }
@@ -352,7 +357,7 @@ fn export_command<'a>(alloc: Global) -> Result<Command<'a>, AllocError> {
     let command = Command::new(alloc, "export")
         .about("Write the screen of each frame of a base to a file")
         .after_help(help::EXPORT)
-        .arg(place(alloc, "BASE", "The base, a TOML file"))?
+        .arg(base(alloc))?
         .arg(out)?
         .arg(flag(alloc, "force", "Replace files that are there"))?;
     with_groups(alloc, command)
@@ -722,6 +727,21 @@ fn export_of<'a>(words: &'a ArgMatches, groups: Groups) -> Option<Request<'a>> {
     }))
 }
 
+// Which certificate is checked. Only one of two files can be standard input.
+fn check_of<'a>(words: &'a ArgMatches, groups: Groups) -> Option<Request<'a>> {
+    let (base, cert) = (words.get_str("BASE")?, words.get_str("CERT")?);
+    if base == "-" && cert == "-" {
+        return Some(Request::Misused {
+            why: "BASE and CERT can't both be standard input",
+        });
+    }
+    Some(Request::Check {
+        base,
+        cert,
+        policy: policy_of(words, groups)?,
+    })
+}
+
 /// What the words ask for, by a caller of these groups. There always is a request: clap has taken each word that a command
 /// requires.
 pub fn asked_for<'a>(matches: &'a ArgMatches, groups: Groups) -> Option<Request<'a>> {
@@ -732,11 +752,7 @@ pub fn asked_for<'a>(matches: &'a ArgMatches, groups: Groups) -> Option<Request<
             out: words.get_str("out"),
             policy: policy_of(words, groups)?,
         }),
-        ("check", words) => Some(Request::Check {
-            base: words.get_str("BASE")?,
-            cert: words.get_str("CERT")?,
-            policy: policy_of(words, groups)?,
-        }),
+        ("check", words) => check_of(words, groups),
         ("change", words) => Some(Request::Change {
             old: words.get_str("OLD")?,
             old_cert: words.get_str("OLDCERT")?,

@@ -53,13 +53,13 @@ fn the_text_as_a_whole(rt: HostRuntime) -> Result<(), Fail> {
             b"PBC1\nentry 1\n",
             4,
             "key with no value",
-            "; this is a certificate, not a base",
+            "; this is a certificate: pageaudit check BASE CERT",
         ),
         (
             b"PBC2\nentry 1\n",
             4,
             "key with no value",
-            "; this is a certificate, not a base",
+            "; this is a certificate: pageaudit check BASE CERT",
         ),
         (b"PBC = 1\nPBC1\n", 12, "key with no value", ""),
     ];

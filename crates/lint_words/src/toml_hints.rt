@@ -67,7 +67,7 @@ fn file_hint(text: &[u8], message: &str) -> Option<Hint<'static>> {
     } else if message == BAD_UTF8 {
         Some(Hint::Words("this is not UTF-8, save the file as UTF-8"))
     } else if is_certificate(text) {
-        Some(Hint::Words("this is a certificate, not a base"))
+        Some(Hint::Words("this is a certificate: pageaudit check BASE CERT"))
     } else if has_bare_returns(text) {
         Some(Hint::Words("its lines end with CR alone, save it with LF or CR LF"))
     } else {
