@@ -2,7 +2,8 @@
 
 A promise is a clause of an exported function, or what is said of an exported type or by an exported trait (its ghost members). It
 reaches what it names and what that names in turn, in any crate. A name is looked up by the imports of its file. What is said of
-a type that isn't exported may be in Loops or not.
+a type that isn't exported may be in Loops or not. The crate `promises` exports nothing: all its clauses are promises. No crate can
+use a static library, so crates/promises/calls has the clauses of the calls for C, and the definitions of their own that these reach.
 """
 
 import itertools
@@ -10,6 +11,10 @@ import re
 from functools import cache
 
 from edits import CRATES, functions
+
+# The crate that states each promise again, and the calls for C, which it can't use.
+CLIENT = "promises"
+CALLS = "pageaudit_c"
 
 # Where a definition begins: a name and its type, or a record, or data. A module with parameters has its own further in.
 HEAD = re.compile(r"(?: *(?:abbrev|unfoldable) )?(?:pub )?(?:◌(\S+)◌|([\w'-]+)) : |(?:pub )?(?:record|data) (\w+)")
@@ -36,12 +41,13 @@ def clauses(path, function):
 def said(crate):
     """Each file of a crate with a text of what a function, a type or a trait promises, and whether that is exported."""
     names = exported(crate)
+    is_client = crate == CLIENT
     for path in sorted((CRATES / crate / "src").rglob("*.rt")):
         text = path.read_text("utf-8")
         traits = set(re.findall(r"^pub trait (\w+)", text, re.M))
         for function in functions(path):
             is_open = function.is_pub or function.trait or function.owner in traits
-            if is_open and {function.owner or function.name, function.trait} & names:
+            if is_client or is_open and {function.owner or function.name, function.trait} & names:
                 yield path, clauses(path, function), True
         for item in re.split(r"^(?=(?:pub )?(?:struct|enum|trait|impl)\b)", text, flags=re.M):
             is_exported = not names.isdisjoint(re.findall(r"\w+", item.partition("\n")[0]))
@@ -99,6 +105,25 @@ def reached(texts):
         found |= new
         todo += [(file, definitions(file)[name]) for file, name in new]
     return found
+
+
+def call_promises():
+    """The promises of the calls for C: a line for each clause, and then each definition of theirs that these reach."""
+    texts, lines = [], []
+    for path in sorted((CRATES / CALLS / "src").glob("*.rt")):
+        for function in (one for one in functions(path) if one.is_pub and one.name in exported(CALLS)):
+            texts.append((path, clauses(path, function)))
+            lines += [f"{function.name} {label or 'ensures'}: {text}" for label, text in function.clauses]
+    own = sorted((file, name) for file, name in reached(texts) if file.is_relative_to(CRATES / CALLS))
+    return lines + [definitions(file)[name].strip() for file, name in own]
+
+
+def call_faults():
+    """For each promise of the calls for C what is wrong, or None: it is lacking where it is kept, or says something else there."""
+    kept = (CRATES / CLIENT / "calls").read_text("utf-8").rstrip("\n").split("\n\n")[1:]
+    now = call_promises()
+    yield from (None if one in now else f"{CALLS} doesn't promise any more: {one}" for one in kept)
+    yield from (None if one in kept else f"crates/{CLIENT}/calls lacks: {one}" for one in now)
 
 
 def storeys(crates):

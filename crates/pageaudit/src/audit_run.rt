@@ -61,7 +61,8 @@ fn write_split<C: Sink, O: Sink>(
 ) -> Result<Status, RunFault>
     requires cert_open { (C.seen cert.old).failed ≡ false }
     requires out_open { (O.seen out.old).failed ≡ false }
-    ensures written { IsSplitWritten (device C.seen cert.old cert.new) (device O.seen out.old out.new) outcome.now result }
+    ensures written { IsSplitWritten (device C.seen cert.old cert.new)
+        (device O.seen out.old out.new) outcome.now result }
     ensures in_grammar { result ≢ Err RunFault.Memory → IsReport (report_text outcome.now) outcome.now }
 {
     match outcome {

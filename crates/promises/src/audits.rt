@@ -30,7 +30,8 @@ fn audited(alloc: Global, base: &Base, policy: &Policy) -> Result<Outcome, Alloc
 
 // There is no fault if and only if the base is safe.
 fn no_fault()
-    ensures { (base : BaseView) (policy : PolicyView) (faults : List Fault) → AreApart base → AreFaults base policy faults
+    ensures { (base : BaseView) (policy : PolicyView) (faults : List Fault) → AreApart base
+        → AreFaults base policy faults
         → (faults ≡ []) ↔ Safe policy.groups base policy.ceiling policy.keyings }
 {
     none_is_safe();
@@ -39,7 +40,8 @@ fn no_fault()
 // The headline's other half: what an audit certifies, a check of the same bytes clears.
 fn certified()
     ensures { (base_text cert_text : List ℕ) (policy : PolicyView) (out : Device) (answer : Result Status RunFault) →
-        IsFirstRun base_text cert_text policy → IsSecondRun base_text cert_text out policy answer → IsClearing out answer }
+        IsFirstRun base_text cert_text policy → IsSecondRun base_text cert_text out policy answer
+        → IsClearing out answer }
 {
     certified_is_cleared();
 }

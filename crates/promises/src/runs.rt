@@ -3,16 +3,17 @@
 
 ghost use Rattle.std.specs.Prelude.{◌≡◌, false};
 ghost use Rattle.pageaudit.specs.Files.{device};
+ghost use Rattle.pageaudit.specs.Status.{status_number};
 ghost use Rattle.pageaudit.specs.AuditRun.{IsAuditRun};
 ghost use Rattle.pageaudit.specs.CheckRun.{IsCheckRun};
 ghost use Rattle.pageaudit.specs.ChangeRun.{IsChangeRun, edition};
-ghost use Rattle.pageaudit.specs.LintRun.{IsLintRun};
+ghost use Rattle.pageaudit.specs.LintRun.{IsLintRun, lint_number};
 ghost use Rattle.pageaudit.specs.WalkRun.{IsWalkRun};
-ghost use Rattle.pageaudit.specs.ShowRun.{IsShowRun};
+ghost use Rattle.pageaudit.specs.ShowRun.{IsShowRun, show_number};
 ghost use Rattle.pageaudit.specs.ListRun.{IsListRun};
-ghost use Rattle.pageaudit.specs.MapRun.{IsMapRun};
-ghost use Rattle.pageaudit.specs.PagesRun.{IsPagesFileRun};
-ghost use Rattle.pageaudit.specs.ImportRun.{IsImportRun};
+ghost use Rattle.pageaudit.specs.MapRun.{IsMapRun, map_number};
+ghost use Rattle.pageaudit.specs.PagesRun.{IsPagesFileRun, pages_number};
+ghost use Rattle.pageaudit.specs.ImportRun.{IsImportRun, import_number};
 ghost use Rattle.pageaudit.specs.ExportRun.{IsScreenWritten};
 
 use audit_report::{RunFault, Sink, Source};
@@ -20,9 +21,10 @@ use checker::Policy;
 use frame_records::Groups;
 use page_ids::{FrameId, PageNo};
 use pageaudit::{
-    Album, Counts, Form, Format, Gallery, ImportStatus, ListForm, MapStatus, PagesStatus,
+    Album, Counts, Form, Format, Gallery, ImportStatus, Level, ListForm, MapStatus, PagesStatus,
     ShowStatus, Status, Target, View, run_audit, run_change, run_check, run_export, run_import,
-    run_lint, run_list, run_map, run_pages, run_show, run_walk,
+    run_lint, run_list, run_map, run_pages, run_show, run_walk, status_of, status_of_import,
+    status_of_lint, status_of_map, status_of_pages, status_of_show,
 };
 use std::alloc::Global;
 
@@ -189,4 +191,41 @@ fn export<O: Sink>(
     ensures { IsScreenWritten (device O.seen out.old out.new) gallery.now id result }
 {
     run_export(alloc, gallery, id, out)
+}
+
+// The program's exit status after each.
+fn exit(run: &Result<Status, RunFault>) -> u8
+    ensures { result ≡ status_number run.now }
+{
+    status_of(run)
+}
+
+fn exit_of_lint(run: &Result<Counts, RunFault>, denied: Level) -> u8
+    ensures { result ≡ lint_number denied run.now }
+{
+    status_of_lint(run, denied)
+}
+
+fn exit_of_show(run: &Result<ShowStatus, RunFault>) -> u8
+    ensures { result ≡ show_number run.now }
+{
+    status_of_show(run)
+}
+
+fn exit_of_map(run: &Result<MapStatus, RunFault>) -> u8
+    ensures { result ≡ map_number run.now }
+{
+    status_of_map(run)
+}
+
+fn exit_of_pages(run: &Result<PagesStatus, RunFault>) -> u8
+    ensures { result ≡ pages_number run.now }
+{
+    status_of_pages(run)
+}
+
+fn exit_of_import(run: &Result<ImportStatus, RunFault>) -> u8
+    ensures { result ≡ import_number run.now }
+{
+    status_of_import(run)
 }

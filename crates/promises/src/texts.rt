@@ -1,6 +1,7 @@
 //! What texts mean, and when a frame is clean.
 
 ghost use Rattle.std.specs.Prelude.{◌≡◌, ℕ, List, Ok, IfOk, IfErr};
+ghost use Rattle.page_ids.specs.Keys.{IsRead};
 ghost use Rattle.frame_records.specs.declared.frame.Lead.{Lead as LeadView};
 ghost use Rattle.frame_records.specs.Bases.{BaseView};
 ghost use Rattle.base_text.specs.Whole.{IsTextBase, IsFirstFault};
@@ -14,7 +15,8 @@ use base_text::{BaseFault, base_read, texts_mean_one_base};
 use cert_table::Certificate;
 use cert_text::{ReadFault, cert_read};
 use frame_records::{Base, Lead};
-use std::alloc::Global;
+use page_ids::{KeyList, keys_text};
+use std::alloc::{AllocError, Global};
 
 // A text means a base, or has a first fault.
 fn base_of(alloc: Global, text: &[u8]) -> Result<Base, BaseFault>
@@ -51,4 +53,11 @@ fn painted_exactly()
     ensures { (lead : LeadView) (body : List ℕ) → IsExact lead body }
 {
     paint_is_exact();
+}
+
+// The words of keys are read as these keys.
+fn key_words(alloc: Global, keys: &KeyList) -> Result<Vec<u8>, AllocError>
+    ensures { IfOk result (λ text. IsRead text.items (Ok keys.now)) }
+{
+    keys_text(alloc, keys)
 }
