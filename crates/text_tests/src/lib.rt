@@ -1,10 +1,12 @@
-//! Tests of `base_text`, `cert_table` and `cert_text`.
+//! Tests of `base_text`, `cert_table`, `cert_text` and `text_edits`.
 #![tactic(auto)]
 
 #[cfg(test)]
 mod base;
 #[cfg(test)]
 mod certificates;
+#[cfg(test)]
+mod edits;
 #[cfg(test)]
 mod rows;
 #[cfg(test)]
