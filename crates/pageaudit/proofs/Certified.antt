@@ -63,7 +63,7 @@ is_short : (text : List ℕ) (p : PartsView) → parts_of text ≡ Ok p → leng
 is_short text p listed = by (nat_lt MOST_TEXT (length text)) refl listed where
   by : (b : Bool) → nat_lt MOST_TEXT (length text) ≡ b → cond b (Err (top_fault TooLong)) (tree_parts (tree_of text)) ≡ Ok p → length text < base_limit
   by true e h = absurd (cc (h))
-  by false e h = omega (ltb-false MOST_TEXT (length text) e)
+  by false e h = omega (arith, ltb-false MOST_TEXT (length text) e)
 
 -- what makes a base has no fault as a whole
 module _ (outside : List ℕ) (frames : List Frame) where
@@ -108,7 +108,7 @@ front_of (Some known) (Some more) text got shows given =
 base_is_right : (d : Device) (text : List ℕ) (base : BaseView) (f : BaseFault) → d.before.bytes ≡ Some text → IsTextBase text base → IsBaseTextFault d f → ⊥
 base_is_right d text base f shows is h =
     let front = front_of d.before.bytes d.after.bytes text h.text shows h.is.read.given in
-    let short : length h.text < base_limit = omega (is_short text is.0 is.1, ap length front.joined, length-append h.text front.more) in
+    let short : length h.text < base_limit = omega (arith, is_short text is.0 is.1, ap length front.joined, length-append h.text front.more) in
     never_refused text base f is (subst (λ (t : List ℕ). IsBaseRefused t f) (front.over (h.is.whole short)) h.first)
 
 -- A certificate's text isn't refused.
@@ -127,11 +127,15 @@ module _ (text : List ℕ) (cert : CertView) (is : IsCertificateText text cert) 
     clash e = cc
 
   -- a reading that goes on has no fault but that the text ends early
-  goes_on : (s : Reading) (n : ℕ) (cause : LineCause) → fault_in (ended s) ≡ Some (n, cause) → cause ≡ Truncated
+  goes_on : (s : Reading) (n : ℕ) (cause : LineCause) → fault_in (ended s) ≡ Some (n, cause) → Truncated ≡ cause
   goes_on s n cause = by (is_over s.stage) where
-    by : (b : Bool) → fault_in (cond b (Ok (certificate_of s.said)) (Err (number_of s.stage s.said, Truncated))) ≡ Some (n, cause) → cause ≡ Truncated
-    by true e = absurd (cc (e))
-    by false e = cc
+    cause_in : Option Fault → LineCause
+    cause_in None = Truncated
+    cause_in (Some f) = f.1
+
+    by : (b : Bool) → fault_in (cond b (Ok (certificate_of s.said)) (Err (number_of s.stage s.said, Truncated))) ≡ Some (n, cause) → Truncated ≡ cause
+    by true e = ap cause_in e
+    by false e = ap cause_in e
 
   whole_is_right : (n : ℕ) (cause : LineCause) → cert_fault text ≡ Some (n, cause) → ⊥
   whole_is_right n cause e = clash (sym (ap (λ (r : Result CertView Fault). fault_in r) right) ∙ e) where
@@ -147,7 +151,7 @@ module _ (text : List ℕ) (cert : CertView) (is : IsCertificateText text cert) 
         by : IsFront text h.text d.after.bytes → (r : Result Reading Fault) → run start h.text ≡ r → fault_in (r >>= ended) ≡ Some (n, cause) → ⊥
         by front (Err f) stops e = never_stops h.text front.more f front.joined stops
         by front (Ok s) goes e =
-            let same = front.over (h.whole (goes_on s n cause e)) in
+            let same = front.over (h.whole (sym (goes_on s n cause e))) in
             whole_is_right n cause (ap cert_fault (sym same) ∙ h.first)
 
 -- What the first run shows of the two texts.
