@@ -1,5 +1,5 @@
 -- What an audit certifies, the check clears: of two runs over the same bytes.
-use Rattle.std.specs.Prelude.{◌≡◌, ◌⊎◌, ⊥, List, [], ℕ, Some, Result, Ok, Err}
+use Rattle.std.specs.Prelude.{◌≡◌, ◌⊎◌, List, [], ℕ, Some, Result, Ok, Err}
 use Rattle.devices.specs.Devices.{WroteWhole, WrotePart}
 use Rattle.checker.specs.declared.policy.Policy.{Policy}
 use Rattle.checker.specs.declared.verdict.Verdict.TheVariants.{Cleared}

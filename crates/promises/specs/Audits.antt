@@ -1,5 +1,5 @@
 -- What an audit's answer, and a lint without an error, say of a base.
-use Rattle.std.specs.Prelude.{◌≡◌, ◌≢◌, ◌↔◌, ⊥, ℕ, List, [], Contains}
+use Rattle.std.specs.Prelude.{◌≡◌, ◌≢◌, ◌↔◌, ℕ, List, [], Contains}
 use Rattle.frame_records.specs.Bases.{BaseView}
 use Rattle.base_text.specs.Whole.{IsTextBase}
 use Rattle.checker.specs.declared.policy.Policy.{Policy}

@@ -1,5 +1,5 @@
 -- What a caller is promised, said again of keys, replies and terminals alone, so that no definition between can lose a part of it.
-use Rattle.std.specs.Prelude.{◌≡◌, ◌≤◌, ◌<◌, ◌⊎◌, ◌++◌, ⊥, ℕ, true, List, [], ◌∷◌, Some, Contains, length, take, slice_index}
+use Rattle.std.specs.Prelude.{◌≡◌, ◌≤◌, ◌<◌, ◌⊎◌, ◌++◌, ℕ, true, List, [], ◌∷◌, Some, Contains, length, take, slice_index}
 use Rattle.page_ids.specs.Ids.{Id}
 use Rattle.page_ids.specs.declared.key.Key.{Key}
 use Rattle.page_ids.specs.declared.key.Key.TheVariants.{Route, Next}
