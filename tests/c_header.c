@@ -110,8 +110,9 @@ static void show_answer(unsigned long status, const char *buffer, const size_t *
 static void call_show(struct pageaudit_text base, const char *frame, const char *groups, char *buffer, size_t room, size_t *asked)
 {
     const char *shown = room == 0 ? "-" : buffer;
-    int has_both = room != 0;
-    show_answer(pageaudit_show_frame(base, frame, groups, has_both ? codes : NULL, has_both ? looks : NULL, buffer, room, asked), shown, asked);
+    uint8_t *both_codes = room == 0 ? NULL : codes;
+    struct pageaudit_look *both_looks = room == 0 ? NULL : looks;
+    show_answer(pageaudit_show_frame(base, frame, groups, both_codes, both_looks, buffer, room, asked), shown, asked);
     show_answer(pageaudit_show_frame(base, frame, groups, codes, NULL, buffer, room, asked), shown, asked);
     show_answer(pageaudit_show_frame(base, frame, groups, NULL, looks, buffer, room, asked), shown, asked);
 }

@@ -1,6 +1,6 @@
-// Runs the program PROGRAM with the same words and ends with its status, but one letter or digit of what it prints is another: in each
-// line the last one is the next one, in a page or picture the last digit of each price. So it is in a file of --out, and in each file
-// of such a folder. With a variable ONLY nothing is changed but what runs with that word print.
+// Runs the program PROGRAM with the same words and ends with its status, but letters of what it prints are others: in each line the
+// last letter or digit is the next one, in a page or picture the last digit of each price. So it is in a file of --out, and in each
+// file of such a folder. With a variable ONLY nothing is changed but what runs with that word print.
 #define _GNU_SOURCE
 #include <ctype.h>
 #include <dirent.h>
