@@ -223,7 +223,26 @@ static inline enum pageaudit_status pageaudit_show_frame(struct pageaudit_text b
         looks == NULL ? 0 : PAGEAUDIT_CELLS, room == 0 ? &none : line, room, length == NULL ? &whole : length);
 }
 
-/* The words for an answer, as "bad text", without a 0 at their end.
+/* The words for an answer, as "bad text"; "" if the number is no answer. Nothing has to be freed. */
+static inline const char *pageaudit_status_words(uint32_t status)
+{
+    switch (status) {
+    case PAGEAUDIT_CLEAR:
+        return "clear";
+    case PAGEAUDIT_FAULTY:
+        return "faulty";
+    case PAGEAUDIT_BAD_POLICY:
+        return "bad policy";
+    case PAGEAUDIT_BAD_TEXT:
+        return "bad text";
+    case PAGEAUDIT_OUT_OF_MEMORY:
+        return "out of memory";
+    default:
+        return "";
+    }
+}
+
+/* The same words in a buffer, without a 0 at their end.
 
    text    gets the words, as far as they fit; may be null if room is 0
    Returns their whole length; 0 if the number is no answer. */

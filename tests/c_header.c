@@ -106,6 +106,17 @@ static void show_answer(unsigned long status, const char *buffer, const size_t *
     printf(" -> %lu %s %lu\n", status, buffer, length == NULL ? 0 : (unsigned long)*length);
 }
 
+/* The screen of a frame with both arrays, or with neither if there is no room, and then with one alone. */
+static void call_show(struct pageaudit_text base, const char *frame, const char *groups, char *buffer, size_t room, size_t *asked)
+{
+    const char *shown = room == 0 ? "-" : buffer;
+    uint8_t *both_codes = room == 0 ? NULL : codes;
+    struct pageaudit_look *both_looks = room == 0 ? NULL : looks;
+    show_answer(pageaudit_show_frame(base, frame, groups, both_codes, both_looks, buffer, room, asked), shown, asked);
+    show_answer(pageaudit_show_frame(base, frame, groups, codes, NULL, buffer, room, asked), shown, asked);
+    show_answer(pageaudit_show_frame(base, frame, groups, NULL, looks, buffer, room, asked), shown, asked);
+}
+
 /* Each function with these texts, policy and room; the length is asked for if there is room. */
 static void call_each(struct pageaudit_text one, struct pageaudit_text two, const struct pageaudit_policy *policy, char *buffer,
     size_t room)
@@ -117,8 +128,7 @@ static void call_each(struct pageaudit_text one, struct pageaudit_text two, cons
     show_answer(pageaudit_audit_base(one, policy, buffer, room, asked), shown, asked);
     show_answer(pageaudit_lint_base(two, one, policy, buffer, room, asked), shown, asked);
     show_answer(pageaudit_lint_base_json(two, one, policy, buffer, room, asked), shown, asked);
-    show_answer(pageaudit_show_frame(one, room == 0 ? NULL : "478a", policy->groups, room == 0 ? NULL : codes,
-        room == 0 ? NULL : looks, buffer, room, asked), shown, asked);
+    call_show(one, room == 0 ? NULL : "478a", policy->groups, buffer, room, asked);
     length = pageaudit_describe(2, buffer, room);
     show_answer(0, shown, &length);
 }

@@ -7,7 +7,7 @@
    c_library cuts NAME FILE.. CEILING KEYINGS GROUPS    makes the call with each beginning of each text; prints which text and
                                                         how much of it, the status, and how long the answer is, then the answer
    c_library odd                                        passes policies and texts that are wrong or unusual, and prints the
-                                                        answers, and the words for each
+                                                        answers; then the number of each answer with its words
    c_library show BASE FRAME GROUPS                     prints the status, the codes, and the seven numbers of each look; or
                                                         the line of a fault
    c_library time BASE CERT                             the least processor time of a check, in microseconds
@@ -170,6 +170,8 @@ static void odd(void)
     const char *groups[] = {"7,9", "9,7", "7,7", "0", "65536", "7,", ",", " 7", "07", "1,2,3,4,5,6,7,8,9,10,11,12,13,14,15,16",
         "1,2,3,4,5,6,7,8,9,10,11,12,13,14,15,16,17", "", NULL};
     uint32_t ceilings[] = {0, 9999, 10000, 65535, 65536, 65546, 4294967295u};
+    uint32_t statuses[] = {PAGEAUDIT_CLEAR, PAGEAUDIT_FAULTY, PAGEAUDIT_BAD_POLICY, PAGEAUDIT_BAD_TEXT, PAGEAUDIT_OUT_OF_MEMORY, 5,
+        4294967295u};
     struct pageaudit_policy policy = {9999, 65535, NULL};
     struct pageaudit_text none = {NULL, 0};
     size_t length = 12345, i, size = 16777216;
@@ -195,9 +197,9 @@ static void odd(void)
     printf("%d", pageaudit_check(pageaudit_text_of(most, size + 1), none, &policy, words, sizeof words, &length));
     printf(" %.16s\n", words);
     printf("%d\n", pageaudit_change(none, none, none, none, &policy, NULL, 0, NULL));
-    for (i = 0; i < 6; i++) {
-        length = pageaudit_status_text((uint32_t)i, words, sizeof words);
-        printf("%.*s.\n", (int)length, words);
+    for (i = 0; i < sizeof statuses / sizeof *statuses; i++) {
+        length = pageaudit_status_text(statuses[i], words, sizeof words);
+        printf("%lu %.*s, %s\n", (unsigned long)statuses[i], (int)length, words, pageaudit_status_words(statuses[i]));
     }
 }
 

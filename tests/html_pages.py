@@ -91,9 +91,10 @@ def sections(root):
 
 
 def before(root):
-    """The lines of the list before the sections, the text of the verdict, and what was asked."""
+    """The lines of the list before the sections, the text of the verdict, what was asked, and the name of the base."""
     (body,) = children(root, "body")
     lines = [text_of(line) for list in children(body, "ul") if list.get("class") == "faults" for line in list if plain(line) == "li"]
     verdict = next(text_of(p) for p in root.iter() if plain(p) == "p" and (p.get("class") or "").startswith("verdict"))
     (header,) = children(body, "header")
-    return lines, verdict, text_of(children(header, "p")[-1])
+    (name,) = children(header, "h1")
+    return lines, verdict, text_of(children(header, "p")[-1]), text_of(name)

@@ -65,13 +65,18 @@ def crates_below(top):
     return [Crate(path.parents[1]) for path in Path(top).glob("crates/*/src/lib.rt")]
 '''
 
-RATTLE = '''#!/usr/bin/env python3
+# What a proof ends with.
+PROVED = "logic=proved functions=1 sum=0 native=nat,char,string logic-built=trusted libraries-built=trusted statements=trusted"
+
+RATTLE = f'''#!/usr/bin/env python3
 import sys
 from pathlib import Path
 
+if "--cpu x86-64 " not in " ".join(sys.argv):
+    sys.exit("for another processor")
 libraries = [Path(word.partition("=")[2]) for word in sys.argv if word.endswith(".rlib")]
 Path(sys.argv[sys.argv.index("-o") + 1]).write_text("".join((it / "format").read_text() for it in libraries))
-print("\\nlogic=proved functions=1")
+print("{PROVED}")
 '''
 
 # What it links prints 'built of' the libraries; its help is the program's own.
@@ -85,6 +90,13 @@ to.write_text("#!/bin/sh\\ncase $* in *--help) exec -a pageaudit '{PROGRAM}' \\"
 to.chmod(0o755)
 '''.replace("#!/bin/sh", "#!/bin/bash")
 
+# It takes no words but those that bind all names at the start.
+LD = """#!/bin/sh
+case "$*" in *" -z now "*) ;; *) exit 1 ;; esac
+while [ "$1" != -o ]; do shift; done
+cp "$4" "$2"
+"""
+
 FILES = {
     "WHAT": "rattle-kit-1 logic 1\n",
     "bin/rt": RT,
@@ -92,7 +104,7 @@ FILES = {
     "bin/rattle": RATTLE,
     "bin/rattle-link": LINK,
     "toolchain/bin/llvm-ar": '#!/bin/sh\nshift\nto=$1\nshift\ncat "$@" >"$to"\n',
-    "toolchain/bin/ld.lld": '#!/bin/sh\nwhile [ "$1" != -o ]; do shift; done\ncp "$4" "$2"\n',
+    "toolchain/bin/ld.lld": LD,
     "c/liblibc_c.a": "malloc\n",
 }
 

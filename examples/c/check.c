@@ -46,10 +46,8 @@ static enum pageaudit_status check(struct pageaudit_text base, struct pageaudit_
     char line[PAGEAUDIT_LINE_ROOM];
     size_t length;
     enum pageaudit_status status = pageaudit_check(base, cert, policy, line, sizeof line, &length);
-    if (length == 0) {
-        length = pageaudit_status_text(status, line, sizeof line);
-        line[length++] = '\n';
-    }
+    if (length == 0)
+        fprintf(stderr, "%s\n", pageaudit_status_words(status));
     fwrite(line, 1, length, status <= PAGEAUDIT_FAULTY ? stdout : stderr);
     return status;
 }

@@ -20,6 +20,7 @@ loaded, the import fails with ImportError. Calls keep nothing, and several threa
 
 from __future__ import annotations
 
+import contextlib
 import ctypes
 import json
 import operator
@@ -40,7 +41,7 @@ _CELLS = 960
 
 
 class PolicyError(ValueError):
-    """A ceiling or keyings out of range, or groups that are no list: see `Policy`."""
+    """A ceiling or keyings out of range, or groups out of range or order: see `Policy`."""
 
 
 class TextError(ValueError):
@@ -49,7 +50,10 @@ class TextError(ValueError):
 
 @dataclass(frozen=True)
 class Policy:
-    """What a centre asks of its bases. Raises TypeError, which names the argument, for what is no number or no list of numbers."""
+    """What a centre asks of its bases.
+
+    Raises PolicyError, or TypeError, which names the argument, for what is no number or no list of numbers.
+    """
 
     ceiling: int
     """The most that a frame may cost, in pence: 0 to 9,999."""
@@ -64,6 +68,8 @@ class Policy:
         object.__setattr__(self, "ceiling", _whole("ceiling", self.ceiling))
         object.__setattr__(self, "keyings", _whole("keyings", self.keyings))
         object.__setattr__(self, "groups", tuple(_whole(f"groups[{place}]", group) for place, group in enumerate(self.groups)))
+        with contextlib.suppress(TextError):  # the library judges a policy before a text, and an empty text is no base
+            _call("pageaudit_audit", {"base": b""}, self, _LINE_ROOM)
 
 
 @dataclass(frozen=True)
@@ -137,7 +143,7 @@ class Screen:
 def check(base: bytes, cert: bytes, policy: Policy) -> Verdict:
     """Checks the text of a certificate against the text of a base.
 
-    Raises TextError for the first fault of the base's text, or else of the certificate's; PolicyError; or MemoryError.
+    Raises TextError for the first fault of the base's text, or else of the certificate's; or MemoryError.
     """
     answer, text = _call("pageaudit_check", {"base": base, "cert": cert}, policy, _LINE_ROOM)
     return _verdict(answer, text)
@@ -156,7 +162,7 @@ def change(old_base: bytes, old_cert: bytes, new_base: bytes, new_cert: bytes, p
 def audit(base: bytes, policy: Policy) -> Audit:
     """Audits the text of a base: its certificate, or every fault.
 
-    Raises TextError for the first fault of the text, PolicyError, or MemoryError.
+    Raises TextError for the first fault of the text, or MemoryError.
     """
     answer, text = _call("pageaudit_audit", {"base": base}, policy, 1 << 16)
     if answer == _CLEAR:
@@ -167,8 +173,7 @@ def audit(base: bytes, policy: Policy) -> Audit:
 def lint(base: bytes, policy: Policy, file: str = "") -> list[Finding]:
     """Every fault of the text of a base, or else of its audit, and the frames that no key reaches, in the order of their places.
 
-    `file` is that of each finding. Raises PolicyError or MemoryError. A text that is no base is an error among the findings, and
-    no TextError.
+    `file` is that of each finding. Raises MemoryError. A text that is no base is an error among the findings, and no TextError.
     """
     _, text = _call("pageaudit_lint_json", {"name": os.fsencode(file), "base": base}, policy, 1 << 16)
     return [_finding(line) for line in text.split(b"\n")[:-1]]
@@ -302,7 +307,7 @@ def _checked(answer: int, text: bytes) -> bytes:
     if answer in (_CLEAR, _FAULTY):
         return text
     if answer == _BAD_POLICY:
-        raise PolicyError("a ceiling above 9999, keyings above 65535, or groups that don't ascend")
+        raise PolicyError("a ceiling above 9,999, keyings above 65,535, or groups that aren't at most 16, ascending, of 1 to 65,535")
     if answer == _BAD_TEXT:
         raise TextError(text.decode("ascii").rstrip("\n"))
     raise MemoryError("the library was refused memory")

@@ -1,8 +1,10 @@
 """Tests of the module on the bases of examples/. Run `python3 -m unittest` in this folder."""
 
+import os
 import unittest
 from concurrent.futures import ThreadPoolExecutor
 from pathlib import Path
+from unittest import mock
 
 import pageaudit
 from pageaudit import Finding, Look, Policy, PolicyError, TextError, Verdict
@@ -43,9 +45,13 @@ class Check(unittest.TestCase):
                 pageaudit.change(DEMO, DEMO_CERT, DEMO, text, POLICY)
 
     def test_answers_threads(self):
-        with ThreadPoolExecutor(8) as pool:
-            verdicts = list(pool.map(lambda _: pageaudit.check(TOWN, TOWN_CERT, POLICY), range(80)))
-        self.assertEqual(set(verdicts), {Verdict(True, "CLEARED")})
+        """Each with its own text: the certificates of one base differ by the caller's group."""
+        policies = [Policy(20, 3, [group]) for group in range(1, 9)]
+        own = [pageaudit.audit(TOWN, policy) for policy in policies]
+        with ThreadPoolExecutor(len(policies)) as pool:
+            found = list(pool.map(lambda policy: pageaudit.audit(TOWN, policy), policies * 30))
+        self.assertEqual(len(set(own)), len(own))
+        self.assertEqual(sum(it != wanted for it, wanted in zip(found, own * 30)), 0, "other certificates")
 
 
 class Policies(unittest.TestCase):
@@ -55,14 +61,14 @@ class Policies(unittest.TestCase):
             pageaudit.audit(b"", Policy(9_999, 65_535, groups))
 
     def test_refuses_numbers_out_of_range(self):
-        for policy in Policy(10_000, 3), Policy(-1, 3), Policy(20, 65_536), Policy(20, -1), Policy(1 << 32, 3), Policy(20, 1 << 70):
+        for limits in (10_000, 3), (-1, 3), (20, 65_536), (20, -1), (1 << 32, 3), (20, 1 << 70):
             with self.assertRaises(PolicyError):
-                pageaudit.audit(DEMO, policy)
+                Policy(*limits)
 
     def test_refuses_what_is_no_list_of_groups(self):
         for groups in (9, 7), (7, 7), (0,), (65_536,), (-1,), range(1, 18):
             with self.assertRaises(PolicyError):
-                pageaudit.audit(DEMO, Policy(20, 3, groups))
+                Policy(20, 3, groups)
 
     def test_refuses_other_kinds_by_name(self):
         wrong = True, 5.0, "5", None, [5]
@@ -98,6 +104,24 @@ class Policies(unittest.TestCase):
         self.assertNotEqual(pageaudit.audit(CLOSED, Policy(20, 3)), pageaudit.audit(CLOSED, Policy(20, 3, [7])))
 
 
+class RefusedMemory(unittest.TestCase):
+    def test_is_no_answer_and_no_other_error(self):
+        """Of a library whose calls answer that a request for memory was refused."""
+        calls = (
+            lambda: Policy(20, 3),
+            lambda: pageaudit.check(DEMO, DEMO_CERT, POLICY),
+            lambda: pageaudit.change(DEMO, DEMO_CERT, DEMO, DEMO_CERT, POLICY),
+            lambda: pageaudit.audit(DEMO, POLICY),
+            lambda: pageaudit.lint(DEMO, POLICY),
+        )
+        refusing = {f"pageaudit_{name}": lambda *_: 4 for name in ("check", "change", "audit", "lint_json", "show")}
+        with mock.patch.object(pageaudit, "_LIBRARY", refusing):
+            for call in calls:
+                self.assertRaises(MemoryError, call)
+            with mock.patch.object(pageaudit, "Policy", lambda *_: POLICY):
+                self.assertRaises(MemoryError, pageaudit.show, DEMO)
+
+
 class Change(unittest.TestCase):
     def test_clears_a_safe_change(self):
         self.assertEqual(pageaudit.change(TOWN, TOWN_CERT, NEXT, NEXT_CERT, POLICY), Verdict(True, "CLEARED"))
@@ -125,6 +149,12 @@ class Audit(unittest.TestCase):
         self.assertIsNotNone(certificate)
         self.assertGreater(len(certificate), 1 << 16)
         self.assertTrue(pageaudit.check(base, certificate, Policy(0, 65_535)).cleared)
+
+
+    def test_gives_a_report_of_two_megabytes(self):
+        frames = (f'[[frame]]\nid = "{page}a"\nprice = 21\nrows = []\nroutes = {{ 1 = {page + 1} }}\n' for page in range(1_000, 2_500))
+        faults = pageaudit.audit(f"entry = 1000\noutside = [2500]\n{''.join(frames)}".encode(), POLICY).faults
+        self.assertEqual((len(faults), faults[-1]), (2_999, f"NORETURN 2499a SCRIPT {'1' * 1_499}"))
 
 
 class Show(unittest.TestCase):
@@ -160,6 +190,10 @@ class Lint(unittest.TestCase):
     def test_finds_a_fault_at_its_place(self):
         found = pageaudit.lint(b"entry = 1\n\n[[frame]]\nid = \"1a\"\nlead = \"keep\"\n", POLICY, file="own.toml")
         self.assertEqual([(it.file, it.line, it.column, it.level, it.code) for it in found], [("own.toml", 3, 1, "error", "X4")])
+
+    def test_a_file_name_may_be_no_utf8(self):
+        found = pageaudit.lint(b"\xff", POLICY, file=os.fsdecode(b"own\xff.toml"))
+        self.assertEqual([it.file for it in found], ["own\ufffd.toml"])
 
     def test_a_finding_has_what_json_has(self):
         (missing,) = pageaudit.lint(CLOSED, Policy(9_999, 65_535, [7]))
