@@ -25,10 +25,15 @@ class Function:
     end: int = 0
     clauses: list = field(default_factory=list)
     doc: str = ""
+    is_empty: bool = False
 
     @property
     def title(self):
         return f"{self.owner}::{self.name}" if self.owner else self.name
+
+    def is_law(self):
+        """Whether it does nothing, but for calling other laws."""
+        return self.is_empty or self.module.endswith("laws")
 
     @property
     def path(self):
@@ -70,6 +75,7 @@ def functions(path):
             found[-1].clauses.append((clause[1], clause_text(lines[number:])))
     for one, following in zip(found, found[1:] + [None]):
         one.end = following.begin if following else len(lines)
+        one.is_empty = "{}" in map(str.strip, lines[one.begin : one.end])
     return found
 
 
