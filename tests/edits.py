@@ -1,15 +1,17 @@
-"""The functions of the crates, and their edits: what tests/contracts and tests/plain-edits share."""
+"""The functions of the crates, and their edits: what tests/contracts, tests/plain-edits and tests/must-fail-goals share."""
 
 import itertools
 import re
 from dataclasses import dataclass, field
 from pathlib import Path
 
-CRATES = Path(__file__).resolve().parents[1] / "crates"
+TOP = Path(__file__).resolve().parents[1]
+CRATES = TOP / "crates"
 
 OWNER = re.compile(r"(?:pub )?(?:impl(?:<.*?>)? (?:(?P<trait>\w+).* for )?|trait )(?P<type>\w+)")
 FUNCTION = re.compile(r'( *)(pub )?(?:pub\(crate\) )?(?:extern "C" )?fn (\w+)')
 CLAUSE = re.compile(r" *ensures (?:(\w+) )?\{ (.*)")
+WORD = re.compile(r'"(?:\\.|[^"\\])*"|//.*|\w+|\S')
 
 
 @dataclass
@@ -93,13 +95,22 @@ class Change:
         lines = [source.count("\n", 0, place.start()) for place in re.finditer(re.escape(self.old), source)]
         return [next((one for one in found if one.begin <= line < one.end), None) for line in lines]
 
+    def says_the_same(self):
+        """Whether both texts have the same words, blanks and comments aside."""
+        old, new = ([word for word in WORD.findall(text) if not word.startswith("//")] for text in (self.old, self.new))
+        return old == new
+
 
 @dataclass
 class Edit:
-    """A wrong change of a crate, and its name."""
+    """A wrong change of a crate, and its file."""
 
-    name: str
+    path: Path
     changes: list
+
+    @property
+    def name(self):
+        return self.path.stem
 
     def functions(self):
         """The functions that it changes, None for what is outside of all."""
@@ -126,7 +137,7 @@ def edit_of(path):
             old = rest[1:]
         elif word == "new":
             changes.append(Change(file, old, rest[1:]))
-    return Edit(path.stem, changes)
+    return Edit(path, changes)
 
 
 def edits(crate, folder="must-fail"):
