@@ -31,13 +31,14 @@ def record():
     return {line.split()[0]: line.split()[1:] for line in lines}
 
 
-def keep(crate, refused, others):
-    """Lists the edits that were refused, unless crates/ has changes that aren't committed. The others lose their lines."""
-    known = {name: words for name, words in record().items() if name not in {f"{crate}/{edit.name}" for edit in others}}
+def keep(crate, refused):
+    """Lists the edits of a crate that were refused, and no others of it. Of crates/ with changes that aren't committed none is added."""
+    own = {f"{crate}/{edit.name}": edit for edit in refused}
+    lines = {name: words for name, words in record().items() if name in own or not name.startswith(f"{crate}/")}
     if not git("status", "--porcelain", "crates"):
         here = [datetime.date.today().isoformat(), git("rev-parse", "--short=10", "HEAD")]
-        known |= {f"{crate}/{edit.name}": [*here, *sums(edit)] for edit in refused}
-    TRIED.write_text("".join(f"{name} {' '.join(words)}\n" for name, words in sorted(known.items())))
+        lines |= {name: [*here, *sums(edit)] for name, edit in own.items()}
+    TRIED.write_text("".join(f"{name} {' '.join(words)}\n" for name, words in sorted(lines.items())))
 
 
 def tried(crate):
