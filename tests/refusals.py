@@ -2,7 +2,8 @@
 
 A refusal counts if a goal is named that isn't proved: what a clause ensures, an invariant, the condition of a call. An answer
 in proofs/..Answers.antt that no longer fits is none, since it fits one form of the body. The prover is given such an answer as a
-fact, and has to prove the goal from it: so it does for a body that means the same.
+fact, and has to prove the goal from it: so `at + 0` for `at` is still proved. Whether the goals of a new branch are false isn't
+judged: they are named also if the branch changes nothing.
 """
 
 import re
