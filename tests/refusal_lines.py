@@ -39,6 +39,7 @@ RT_LINES = [(ENSURES[:160], True), (LOOP[:160], True), (SOUGHT[:160], True), (DI
 
 # A file of answers, and the second one as a fact.
 ANSWERS = "pub one : goal.one\none c = f c.x\n\npub two : goal.two\ntwo g c =\n    let y = c.y in\n    λ z (h : A z). {}\n"
+RECORD = "record {{\n      one = {};\n      two = record {{ x = y; }};\n      three = search rules;\n    }}"
 HELD = f"let {FACT} = (\n    g y z h\n    ) in grind (arith, common_steps, {FACT})"
 
 # An edit's old and new text, and whether they say the same.
@@ -59,6 +60,9 @@ def faults():
     rows += [(names_a_goal(line), wanted) for line, wanted in RT_LINES]
     answers = ANSWERS.format("g y z h")
     rows += [(as_fact(answers, "two"), ANSWERS.format(HELD)), (as_fact(answers, "three"), None)]
+    record = ANSWERS.format(RECORD.format("g y z h"))
+    wanted = ANSWERS.format(RECORD.format(f"({HELD})")).replace("search rules", "(search rules)")
+    rows += [(as_fact(record, "two"), wanted)]
     rows += [(Change(Path(), old, new).says_the_same(), wanted) for old, new, wanted in TEXTS]
     for found, wanted in rows:
         yield None if found == wanted else f"refusals: wanted {wanted}, found {found}"

@@ -24,6 +24,8 @@ CALLS = re.compile(r"(?:^no proof: |; )it calls `.*?, which (?:is|are) not prove
 FACT = "written_answer"
 # How an answer may begin: what it names first, and what it takes.
 BEGINNING = re.compile(r"let .*? in\n\s*|λ (?:\([^()]*\)|[^().])+\.\s+", re.S)
+# A field of a record with a value that is no record, on lines of its own.
+FIELD = re.compile(r"^( +\w+ =)\s(?!record)(.*?);$", re.M | re.S)
 # What an answer that is given as a fact needs: a module and a name.
 NEEDED = [("Rattle.std.proofs.Common", "arith"), ("Rattle.std.proofs.lemmas.Grind", "common_steps")]
 
@@ -67,6 +69,11 @@ def names_a_goal(line):
     return bool(NOTE.match(line) or (answer and SEARCH.match(answer[3])))
 
 
+def held(term):
+    """What the prover finds from a term's type; a search has none."""
+    return term if SEARCH.match(f"`{term.split()[0]}`") else f"let {FACT} = (\n    {term}\n    ) in grind (arith, common_steps, {FACT})"
+
+
 def as_fact(text, goal):
     """The text of a file of answers with that to one goal as a fact, or None if it can't be found."""
     found = re.search(rf"^{re.escape(goal)} [^\n=]+ =\s+(.*?)(?=\n\n|\n*\Z)", text, re.M | re.S)
@@ -75,7 +82,11 @@ def as_fact(text, goal):
     begin, end = found.span(1)
     while beginning := BEGINNING.match(text, begin, end):
         begin = beginning.end()
-    return f"{text[:begin]}let {FACT} = (\n    {text[begin:end]}\n    ) in grind (arith, common_steps, {FACT}){text[end:]}"
+    if text.startswith("record {", begin):
+        given = FIELD.sub(lambda one: f"{one[1]} ({held(one[2])});", text[begin:end])
+    else:
+        given = held(text[begin:end])
+    return text[:begin] + given + text[end:]
 
 
 def with_names(text):
