@@ -1,15 +1,17 @@
-"""The functions of the crates, and their edits: what tests/contracts and tests/plain-edits share."""
+"""The functions of the crates, and their edits: what tests/contracts, tests/plain-edits and tests/must-fail-goals share."""
 
 import itertools
 import re
 from dataclasses import dataclass, field
 from pathlib import Path
 
-CRATES = Path(__file__).resolve().parents[1] / "crates"
+TOP = Path(__file__).resolve().parents[1]
+CRATES = TOP / "crates"
 
 OWNER = re.compile(r"(?:pub )?(?:impl(?:<.*?>)? (?:(?P<trait>\w+).* for )?|trait )(?P<type>\w+)")
 FUNCTION = re.compile(r'( *)(pub )?(?:pub\(crate\) )?(?:extern "C" )?fn (\w+)')
 CLAUSE = re.compile(r" *ensures (?:(\w+) )?\{ (.*)")
+WORD = re.compile(r'"(?:\\.|[^"\\])*"|//.*|\w+|\S')
 
 
 @dataclass
@@ -25,10 +27,15 @@ class Function:
     end: int = 0
     clauses: list = field(default_factory=list)
     doc: str = ""
+    is_empty: bool = False
 
     @property
     def title(self):
         return f"{self.owner}::{self.name}" if self.owner else self.name
+
+    def is_law(self):
+        """Whether it does nothing, but for calling other laws."""
+        return self.is_empty or self.module.endswith("laws")
 
     @property
     def path(self):
@@ -70,6 +77,7 @@ def functions(path):
             found[-1].clauses.append((clause[1], clause_text(lines[number:])))
     for one, following in zip(found, found[1:] + [None]):
         one.end = following.begin if following else len(lines)
+        one.is_empty = "{}" in map(str.strip, lines[one.begin : one.end])
     return found
 
 
@@ -87,13 +95,22 @@ class Change:
         lines = [source.count("\n", 0, place.start()) for place in re.finditer(re.escape(self.old), source)]
         return [next((one for one in found if one.begin <= line < one.end), None) for line in lines]
 
+    def says_the_same(self):
+        """Whether both texts have the same words, blanks and comments aside."""
+        old, new = ([word for word in WORD.findall(text) if not word.startswith("//")] for text in (self.old, self.new))
+        return old == new
+
 
 @dataclass
 class Edit:
-    """A wrong change of a crate, and its name."""
+    """A wrong change of a crate, and its file."""
 
-    name: str
+    path: Path
     changes: list
+
+    @property
+    def name(self):
+        return self.path.stem
 
     def functions(self):
         """The functions that it changes, None for what is outside of all."""
@@ -120,7 +137,7 @@ def edit_of(path):
             old = rest[1:]
         elif word == "new":
             changes.append(Change(file, old, rest[1:]))
-    return Edit(path.stem, changes)
+    return Edit(path, changes)
 
 
 def edits(crate, folder="must-fail"):
