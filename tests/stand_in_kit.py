@@ -74,14 +74,15 @@ Path(sys.argv[sys.argv.index("-o") + 1]).write_text("".join((it / "format").read
 print("\\nlogic=proved functions=1")
 '''
 
-# What it links prints 'built of' the libraries; its help is the program's own.
+# A shared library is its archive. A program prints 'built of' the libraries; its help is the program's own.
 LINK = f'''#!/usr/bin/env python3
 import sys
 from pathlib import Path
 
-to, made = map(Path, sys.argv[sys.argv.index("-o") + 1 :][:2])
-shown = "\\n".join(["built of", made.read_text()])
-to.write_text("#!/bin/sh\\ncase $* in *--help) exec -a pageaudit '{PROGRAM}' \\"$@\\" ;; esac\\ncat <<'END'\\n" + shown + "END\\n")
+to = Path(sys.argv[sys.argv.index("-o") + 1])
+made = next(Path(word) for word in sys.argv if word.endswith((".o", ".a"))).read_text()
+program = "#!/bin/sh\\ncase $* in *--help) exec -a pageaudit '{PROGRAM}' \\"$@\\" ;; esac\\ncat <<'END'\\nbuilt of\\n" + made + "END\\n"
+to.write_text(made if "-shared" in sys.argv else program)
 to.chmod(0o755)
 '''.replace("#!/bin/sh", "#!/bin/bash")
 
@@ -92,7 +93,10 @@ FILES = {
     "bin/rattle": RATTLE,
     "bin/rattle-link": LINK,
     "toolchain/bin/llvm-ar": '#!/bin/sh\nshift\nto=$1\nshift\ncat "$@" >"$to"\n',
-    "toolchain/bin/ld.lld": '#!/bin/sh\nwhile [ "$1" != -o ]; do shift; done\ncp "$4" "$2"\n',
+    "toolchain/bin/clang": '#!/bin/sh\nwhile [ "$1" != -o ]; do shift; done\necho system >"$2"\n',
+    "toolchain/bin/ld.lld": LINK,
+    "toolchain/lib/libc.so.6": "",
+    "sysroot/lib/libc.so.6": "",
     "c/liblibc_c.a": "malloc\n",
 }
 
@@ -114,4 +118,4 @@ def with_kit(top, files=None):
         path.write_text(text)
         path.chmod(0o755 if re.match(r"(toolchain/)?bin/", name) else 0o644)
     env = without_rt()
-    return env | {"PATH": f"{home / 'bin'}{os.pathsep}{env['PATH']}"}
+    return env | {"PATH": f"{home / 'bin'}{os.pathsep}{env['PATH']}", "AARCH64_SYSROOT": str(home / "sysroot")}
