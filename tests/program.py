@@ -24,6 +24,8 @@ def named(variable, crate):
 PROGRAM = named("PAGEAUDIT", "command_line")
 CALLS = named("PAGEAUDIT_CALLS", "refused_calls")
 IS_ARM64 = platform.machine() in ("aarch64", "arm64")
+# The folder with the library that is shipped for this machine.
+SHIPPED_LIBRARY = TOP / "dist" / "aarch64" if IS_ARM64 else TOP / "dist"
 EMULATOR = os.environ.get("PAGEAUDIT_EMULATOR")
 CC = os.environ.get("PAGEAUDIT_CC", "cc")
 
