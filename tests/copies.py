@@ -5,9 +5,9 @@ import os
 import shutil
 from pathlib import Path
 
-from program import PROGRAM, TOP
+from program import IS_ARM64, PROGRAM, TOP
 
-SHIPPED = Path("dist", "pageaudit-x86_64-linux")
+SHIPPED = Path("dist", "aarch64", "pageaudit-aarch64-linux") if IS_ARM64 else Path("dist", "pageaudit-x86_64-linux")
 FOLDERS = ["dist", "docs", "examples", "include"]
 FILES = ["pageaudit", "install", "test", "crates.txt"]
 
@@ -34,6 +34,15 @@ def ship(top):
     for folder, name in (top, "SOURCES"), (top / "dist", "SHA256SUMS"):
         listed = [line.split()[1] for line in (top / "dist" / name).read_text().splitlines()]
         (top / "dist" / name).write_text(sums(folder, [path for path in listed if (folder / path).exists()]))
+
+
+def on(machine, folder):
+    """The environment of a machine that 'uname -sm' calls so; a folder has its uname."""
+    folder.mkdir(exist_ok=True)
+    (folder / "uname").write_text(f"#!/bin/sh\necho {machine}\n")
+    (folder / "uname").chmod(0o755)
+    env = without_rt()
+    return env | {"PATH": f"{folder}:{env['PATH']}"}
 
 
 def judged(found):

@@ -4,7 +4,7 @@ import os
 import re
 import subprocess
 
-from program import PROGRAM, TOP
+from program import CC, PROGRAM, TOP, preloaded
 
 PEAK = re.compile(rb"\npeak (\d+)\n")
 SECONDS = 120
@@ -15,8 +15,8 @@ class Peaks:
 
     def __init__(self, folder):
         library = folder / "peak.so"
-        subprocess.run(["cc", "-O1", "-shared", "-fPIC", "-o", library, TOP / "tests" / "peak.c"], check=True)
-        self.env = dict(os.environ, LD_PRELOAD=str(library))
+        subprocess.run([CC, "-O1", "-shared", "-fPIC", "-o", library, TOP / "tests" / "peak.c"], check=True)
+        self.env = os.environ | preloaded(library)
 
     def run(self, words, **options):
         """Status, standard output, standard error without blanks at its ends, and the most memory in kilobytes."""

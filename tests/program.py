@@ -3,9 +3,14 @@
 
 The variable `PAGEAUDIT` names the program, and `PAGEAUDIT_CALLS` the one that makes single calls (crates/refused_calls).
 Without them they are the ones that this checkout has built. Run as a script it prints the program's path, for tests in bash.
+
+For another processor than this machine's, `PAGEAUDIT_EMULATOR` names qemu's command and `PAGEAUDIT_CC` the C compiler
+(tests/on-aarch64).
 """
 
 import os
+import platform
+import shlex
 from pathlib import Path
 
 TOP = Path(__file__).resolve().parent.parent
@@ -18,6 +23,30 @@ def named(variable, crate):
 
 PROGRAM = named("PAGEAUDIT", "command_line")
 CALLS = named("PAGEAUDIT_CALLS", "refused_calls")
+IS_ARM64 = platform.machine() in ("aarch64", "arm64")
+# The folder with the library that is shipped for this machine.
+SHIPPED_LIBRARY = TOP / "dist" / "aarch64" if IS_ARM64 else TOP / "dist"
+EMULATOR = os.environ.get("PAGEAUDIT_EMULATOR")
+CC = os.environ.get("PAGEAUDIT_CC", "cc")
+
+
+def emulated(path, emulator):
+    """Writes a script beside a program that has an emulator run it; the script's path."""
+    script = path.with_name(f"{path.name}.run")
+    script.write_text(f'#!/bin/sh\nexec {emulator} {shlex.quote(str(path))} "$@"\n')
+    script.chmod(0o755)
+    return script
+
+
+def runnable(path):
+    """What runs a program that was built with CC."""
+    return emulated(path, EMULATOR) if EMULATOR else path
+
+
+def preloaded(library):
+    """The variables of the environment that load a library before such a program."""
+    return {"QEMU_SET_ENV": f"LD_PRELOAD={library}"} if EMULATOR else {"LD_PRELOAD": str(library)}
+
 
 if __name__ == "__main__":
     print(PROGRAM)

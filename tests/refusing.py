@@ -1,6 +1,7 @@
 """Programs run with one of their requests for memory refused: what tests/refuse-memory and tests/refuse-calls share."""
 
 import os
+import random
 import re
 import subprocess
 from concurrent.futures import ThreadPoolExecutor
@@ -9,11 +10,13 @@ from dataclasses import dataclass
 from pathlib import Path
 from tempfile import TemporaryDirectory
 
-from program import TOP
+from program import CC, EMULATOR, TOP, preloaded
 
 HERE = Path(__file__).resolve().parent
 # What the library writes at the end: the number of requests.
 COUNT = re.compile(rb"\n(\d+)\n\Z")
+# How many requests of a run are refused under an emulator, which takes some 30 times as long.
+MOST_EMULATED = 20
 
 
 @dataclass(frozen=True)
@@ -30,8 +33,15 @@ def refuser():
     """The library that refuses, built for as long as it is used."""
     with TemporaryDirectory() as folder:
         path = Path(folder) / "refuse.so"
-        subprocess.run(["cc", "-O1", "-shared", "-fPIC", "-o", path, HERE / "refuse.c"], check=True)
+        subprocess.run([CC, "-O1", "-shared", "-fPIC", "-o", path, HERE / "refuse.c"], check=True)
         yield path
+
+
+def chosen(requests, most=None):
+    """The requests to refuse, by their numbers: each, or at most this many."""
+    numbers = range(1, requests + 1)
+    most = MOST_EMULATED if EMULATOR else most
+    return sorted(random.Random(requests).sample(numbers, most)) if most and requests > most else numbers
 
 
 @dataclass
@@ -45,7 +55,7 @@ class Run:
 
     def answer(self, library, refused_at):
         """The answer if request `refused_at` is refused (0: none), and the number of requests, 0 if the run doesn't say it."""
-        env = dict(os.environ, LD_PRELOAD=str(library), REFUSE_AT=str(refused_at), REFUSE_COUNT="1")
+        env = os.environ | preloaded(library) | {"REFUSE_AT": str(refused_at), "REFUSE_COUNT": "1"}
         if self.only_call:
             env["REFUSE_CALL"] = "1"
         with open(self.device or os.devnull, "wb") as device:

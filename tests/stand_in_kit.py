@@ -72,30 +72,27 @@ RATTLE = f'''#!/usr/bin/env python3
 import sys
 from pathlib import Path
 
-if "--cpu x86-64 " not in " ".join(sys.argv):
+if not any(words in " ".join(sys.argv) for words in ("--target x86_64-unknown-linux-gnu --cpu x86-64 ", "--target aarch64-unknown-linux-gnu --cpu generic ")):
     sys.exit("for another processor")
 libraries = [Path(word.partition("=")[2]) for word in sys.argv if word.endswith(".rlib")]
 Path(sys.argv[sys.argv.index("-o") + 1]).write_text("".join((it / "format").read_text() for it in libraries))
 print("{PROVED}")
 '''
 
-# What it links prints 'built of' the libraries; its help is the program's own.
+# A shared library is its archive. A program prints 'built of' the libraries; its help is the program's own.
 LINK = f'''#!/usr/bin/env python3
 import sys
 from pathlib import Path
 
-to, made = map(Path, sys.argv[sys.argv.index("-o") + 1 :][:2])
-shown = "\\n".join(["built of", made.read_text()])
-to.write_text("#!/bin/sh\\ncase $* in *--help) exec -a pageaudit '{PROGRAM}' \\"$@\\" ;; esac\\ncat <<'END'\\n" + shown + "END\\n")
+to = Path(sys.argv[sys.argv.index("-o") + 1])
+made = next(Path(word) for word in sys.argv if word.endswith((".o", ".a"))).read_text()
+program = "#!/bin/sh\\ncase $* in *--help) exec -a pageaudit '{PROGRAM}' \\"$@\\" ;; esac\\ncat <<'END'\\nbuilt of\\n" + made + "END\\n"
+to.write_text(made if "-shared" in sys.argv else program)
 to.chmod(0o755)
 '''.replace("#!/bin/sh", "#!/bin/bash")
 
-# It takes no words but those that bind all names at the start.
-LD = """#!/bin/sh
-case "$*" in *" -z now "*) ;; *) exit 1 ;; esac
-while [ "$1" != -o ]; do shift; done
-cp "$4" "$2"
-"""
+# The linker, which has to bind all names at the start.
+LD = LINK.replace("to = Path", "if ' -z now ' not in ' '.join(sys.argv):\n    sys.exit('-z now')\nto = Path", 1)
 
 FILES = {
     "WHAT": "rattle-kit-1 logic 1\n",
@@ -104,7 +101,10 @@ FILES = {
     "bin/rattle": RATTLE,
     "bin/rattle-link": LINK,
     "toolchain/bin/llvm-ar": '#!/bin/sh\nshift\nto=$1\nshift\ncat "$@" >"$to"\n',
+    "toolchain/bin/clang": '#!/bin/sh\nwhile [ "$1" != -o ]; do shift; done\necho system >"$2"\n',
     "toolchain/bin/ld.lld": LD,
+    "toolchain/lib/libc.so.6": "",
+    "sysroot/lib/libc.so.6": "",
     "c/liblibc_c.a": "malloc\n",
 }
 
@@ -126,4 +126,4 @@ def with_kit(top, files=None):
         path.write_text(text)
         path.chmod(0o755 if re.match(r"(toolchain/)?bin/", name) else 0o644)
     env = without_rt()
-    return env | {"PATH": f"{home / 'bin'}{os.pathsep}{env['PATH']}"}
+    return env | {"PATH": f"{home / 'bin'}{os.pathsep}{env['PATH']}", "AARCH64_SYSROOT": str(home / "sysroot")}
