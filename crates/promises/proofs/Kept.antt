@@ -1,5 +1,5 @@
 -- Safe sessions are kept.
-use Rattle.std.proofs.Common.{◌≡◌, ℕ, zero, suc, List, [], ◌∷◌, refl, subst, inl, inr}
+use Rattle.std.proofs.Common.{◌≡◌, ◌<◌, arith, ℕ, zero, suc, List, [], ◌∷◌, refl, subst, inl, inr}
 use Rattle.std.specs.Prelude.{Contains, length, slice_index_or}
 use Rattle.std.specs.List.{AllByRecursion}
 use Rattle.page_ids.specs.Ids.{Id}
@@ -16,14 +16,14 @@ use Rattle.promises.specs.Kept.{IsShownClean, LeadsOn, LeadsBack, IsKept, IsKept
 
 -- what holds of each element holds of one
 pub among : {X : Type 0} (P : X → Type 0) (xs : List X) (x : X) → AllByRecursion P xs → Contains xs x → P x
-among P [] x all is = absurd (omega (is.1))
-among P (y ∷ ys) x all is = by is.0 is.1 is.2 where
-  by : (k : ℕ) → k < length (y ∷ ys) → slice_index_or (y ∷ ys) k x ≡ x → P x
-  by zero within e = subst P e all.0
-  by (suc k) within e = among P ys x all.1 (k, (omega (within), e))
+among P [] x all is = absurd (omega (arith, is.1))
+among P (y ∷ ys) x all is = by is.0 is.1 is.2 (λ k within e. among P ys x all.1 (k, within, e)) where
+  by : (k : ℕ) → k < length (y ∷ ys) → slice_index_or (y ∷ ys) k x ≡ x → ((j : ℕ) → j < length ys → slice_index_or ys j x ≡ x → P x) → P x
+  by zero within e rest = subst P e all.0
+  by (suc k) within e rest = rest k (omega (arith, within)) e
 
 pub clean_at : (base : BaseView) (id : Id) → IsCleanAt base id → IsShownClean base id
-clean_at base id h = (h.frame, (h.found, λ t i is within touches. h.clean i (t, (is, (within, touches)))))
+clean_at base id h = (h.frame, h.found, λ t i is within touches. h.clean i (t, is, (within, touches)))
 
 leads_on : (key : Key) → IsForward key → LeadsOn key
 leads_on (Route digit) h = inr (digit, refl)

@@ -1,4 +1,4 @@
 mod Kept
 mod Headlines
-mod Changes
-mod Audits
+mod Crossed
+mod Answered

@@ -20,7 +20,6 @@ use pageaudit::certified_is_cleared;
 use std::alloc::{AllocError, Global};
 
 // A certificate if and only if the base is safe; else every fault, each shown by its script.
-#[tactic(auto, using(crate::proofs::Audits::answered))]
 fn audited(alloc: Global, base: &Base, policy: &Policy) -> Result<Outcome, AllocError>
     ensures answer { IfOk result (IsAuditAnswer base.now policy.now) }
     ensures outcome { IfOk result (IsOutcome base.now policy.now) }

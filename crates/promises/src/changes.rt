@@ -18,7 +18,6 @@ use pageaudit::run_change;
 use std::alloc::Global;
 
 // The promise of a change, of four files.
-#[tactic(auto, using(crate::proofs::Changes::of_change))]
 fn of_files<B: Source, C: Source, N: Source, M: Source, O: Sink>(
     alloc: Global,
     old: &mut B,
@@ -42,7 +41,6 @@ fn of_files<B: Source, C: Source, N: Source, M: Source, O: Sink>(
 }
 
 // The promise of a change, of two editions in memory. E2 names the smallest id that is lost.
-#[tactic(auto, using(crate::proofs::Changes::over))]
 fn of_values<C: Cover + Drop>(
     old: &Base,
     old_cert: &Certificate<C>,

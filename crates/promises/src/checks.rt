@@ -24,7 +24,6 @@ use pageaudit::run_check;
 use std::alloc::Global;
 
 // The headline, of two files.
-#[tactic(auto, using(crate::proofs::Headlines::of_files))]
 fn of_files<B: Source, C: Source, O: Sink>(
     alloc: Global,
     base: &mut B,

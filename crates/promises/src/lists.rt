@@ -50,8 +50,7 @@ fn mapped(alloc: Global, base: &Base, groups: &Groups, part: &Part) -> Result<Ve
 }
 
 fn drawn_ways()
-    ensures edges { (f : Frame) → AreEdges f }
-    ensures keys { (f : Frame) → KeysLeadOn f }
+    ensures { (f : Frame) → AreEdges f × KeysLeadOn f }
 {
     edges_are_ways();
 }

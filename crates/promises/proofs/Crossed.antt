@@ -12,7 +12,7 @@ use Rattle.promises.proofs.Kept.{among, kept, kept_from_entry}
 use Rattle.promises.proofs.Headlines.{all_of}
 
 found_within : (caller : List ℕ) (base : BaseView) (ceiling : ℕ) (id : Id) → IsFoundFor caller base ceiling id → IsFoundWithin caller base ceiling id
-found_within caller base ceiling id h = (h.price, (h.found, h.fair))
+found_within caller base ceiling id h = (h.price, h.found, h.fair)
 
 held : (caller : List ℕ) (base : BaseView) (ceiling : ℕ) (state : SessionState) → AreHeldFound caller base ceiling state → AreHeld caller base ceiling state
 held caller base ceiling state h id remembered e =
