@@ -10,6 +10,7 @@ mod changes;
 mod checks;
 mod findings;
 mod lists;
+mod looks;
 mod runs;
 mod screens;
 mod texts;

@@ -1,0 +1,79 @@
+//! What the laws of looks, of texts and of printed forms say.
+
+ghost use Rattle.std.specs.Prelude.{◌≡◌, ◌++◌, ◌∷◌, ◌<◌, ◌⊎◌, ℕ, Bool, List, [], All, get_or, length, map, true};
+ghost use Rattle.cell_looks.specs.declared.look.Glyph.TheVariants.{Char};
+ghost use Rattle.cell_looks.specs.declared.look.Look.{Look};
+ghost use Rattle.cell_looks.specs.declared.look.Shown.TheVariants.{Ground};
+ghost use Rattle.cell_looks.specs.Table.{start};
+ghost use Rattle.cell_looks.specs.Looks.{row_looks, shown, looks_at};
+ghost use Rattle.cell_looks.specs.Laws.{RowsDecide, plain_look, ChangesGlyphs, IsOfTables};
+ghost use Rattle.screen_texts.specs.Text.{seen_char, line};
+ghost use Rattle.checker.specs.declared.policy.Policy.{Policy};
+ghost use Rattle.fault_scripts.specs.declared.outcome.Outcome.{Outcome};
+ghost use Rattle.base_pages.specs.Sections.{BookView};
+ghost use Rattle.base_pages.specs.Tags.{tag_list, page_tags, HaveLetters};
+ghost use Rattle.base_pages.specs.Pages.{page};
+ghost use Rattle.lint.specs.Findings.{FindingView};
+ghost use Rattle.finding_forms.specs.declared.format.Format.{Format};
+ghost use Rattle.finding_forms.specs.Forms.{ArePrinted, is_one_line};
+ghost use Rattle.finding_forms.specs.Laws.{AreWholeLines};
+
+use base_pages::file_has_its_tags;
+use cell_looks::{
+    characters_change_glyphs, each_row_decides, glyphs_are_of_tables, ground_shows, plain_before,
+};
+use finding_forms::findings_are_whole_lines;
+use screen_texts::lines_show;
+
+fn rows_decide()
+    ensures { (cells others : List ℕ) (r : ℕ) → RowsDecide cells others r }
+{
+    each_row_decides();
+}
+
+fn plain_at_first()
+    ensures { (can : Bool) (front rest : List ℕ) → All (λ c. c < 0x80) front
+        → row_looks (start can) (front ++ rest) ≡ map plain_look front ++ row_looks (start can) rest }
+{
+    plain_before();
+}
+
+fn glyphs_alone_change()
+    ensures { (cells : List ℕ) (p d r : ℕ) → get_or cells p 0 < 0x80 → d < 0x80 → ChangesGlyphs cells p d r }
+{
+    characters_change_glyphs();
+}
+
+fn concealed_is_ground()
+    ensures { (a : Look) → (a.concealed ≡ true) ⊎ (a.glyph ≡ Char 0x20) → shown a ≡ Ground a.background }
+{
+    ground_shows();
+}
+
+fn each_is_of_the_tables()
+    ensures { (cells : List ℕ) (r : ℕ) → All (λ a. IsOfTables a.glyph) (looks_at cells r) }
+{
+    glyphs_are_of_tables();
+}
+
+fn columns_show()
+    ensures { (row : List Look) (c : ℕ) → get_or (line row) c 0x20 ≡ get_or (map seen_char row) c 0x20 }
+{
+    lines_show();
+}
+
+// The HTML file of every base has the tags of its form and no others.
+fn page_tags_alone()
+    ensures { (name : List ℕ) (policy : Policy) (outcome : Outcome) (b : BookView) →
+        HaveLetters b.part b.base.frames → tag_list (page name policy outcome b) ≡ page_tags outcome b }
+{
+    file_has_its_tags();
+}
+
+fn a_line_each()
+    ensures { (format : Format) (path text : List ℕ) (findings : List FindingView) (out : List ℕ) →
+        is_one_line format ≡ true → ArePrinted format path text findings out
+        → AreWholeLines format (length findings) out }
+{
+    findings_are_whole_lines();
+}
