@@ -112,24 +112,6 @@ fn path_of<R: AllocGlobal>(rt: &R, folder: &str, id: FrameId) -> Result<String, 
     format!(in rt.alloc(); "{folder}/{}.bin", id.as_str())
 }
 
-const MEMORY: Unfinished = Unfinished::Fault(RunFault::Memory);
-
-// The screens that aren't written: how many, the first, and why it isn't.
-#[derive(Drop)]
-struct Lost {
-    count: usize,
-    first: Option<(FrameId, Unfinished)>,
-}
-
-impl Lost {
-    fn add(&mut self, id: FrameId, why: Unfinished) {
-        self.count = self.count.saturating_add(1);
-        if self.first.is_none() {
-            self.first = Some((id, why));
-        }
-    }
-}
-
 // Writes the screen of a frame to the file of its id.
 fn export_frame<R: Files + AllocGlobal>(
     rt: &R,
@@ -139,42 +121,34 @@ fn export_frame<R: Files + AllocGlobal>(
 ) -> Result<(), Unfinished> {
     match path_of(rt, asked.out, id) {
         Ok(path) => export_screen(rt, asked, gallery, id, path.as_str()),
-        Err(_) => Err(MEMORY),
+        Err(_) => Err(Unfinished::Fault(RunFault::Memory)),
     }
 }
 
-// Writes each screen that can be, unless memory is refused.
-fn export_frames<R: Files + AllocGlobal>(
+// Says why the screen of a frame isn't written, if it is the first; the exit status.
+fn report_lost<R: Files + Eprint + AllocGlobal>(
     rt: &R,
     asked: &Export,
-    base: &Base,
-    gallery: &Gallery,
-) -> Result<Lost, Unfinished> {
-    let mut lost = Lost {
-        count: 0,
-        first: None,
-    };
-    for frame in base.frames() {
-        match export_frame(rt, asked, gallery, frame.id) {
-            Ok(()) => {}
-            Err(Unfinished::Fault(fault)) => return Err(Unfinished::Fault(fault)),
-            Err(why) => lost.add(frame.id, why),
-        }
+    id: FrameId,
+    why: &Unfinished,
+    is_first: bool,
+) -> u8 {
+    if let Unfinished::Fault(_) = why {
+        return report(rt, asked.base, why);
     }
-    Ok(lost)
+    if !is_first {
+        return 3;
+    }
+    match path_of(rt, asked.out, id) {
+        Ok(path) => report(rt, path.as_str(), why),
+        Err(_) => report(rt, asked.base, &Unfinished::Fault(RunFault::Memory)),
+    }
 }
 
-// Names the first screen that isn't written, and counts the others; the exit status.
-fn report_lost<R: Files + Eprint + AllocGlobal>(rt: &R, asked: &Export, lost: &Lost) -> u8 {
-    let Some((id, why)) = lost.first else {
-        return 0;
-    };
-    let Ok(path) = path_of(rt, asked.out, id) else {
-        return report(rt, asked.base, &MEMORY);
-    };
-    let status = report(rt, path.as_str(), &why);
-    if lost.count > 1 && status == 3 {
-        let more = lost.count - 1;
+// Says how many screens aren't written beside the first; the exit status.
+fn report_count<R: Eprint>(rt: &R, asked: &Export, lost: usize) -> u8 {
+    if lost > 1 {
+        let more = lost - 1;
         let files = if more == 1 {
             "file isn't"
         } else {
@@ -182,18 +156,24 @@ fn report_lost<R: Files + Eprint + AllocGlobal>(rt: &R, asked: &Export, lost: &L
         };
         let _ = eprintln!(rt; "{}: {more} more {files} written", asked.out);
     }
-    status
+    if lost == 0 { 0 } else { 3 }
 }
 
-// Writes all screens; the exit status, 3 if one isn't written.
+// Writes each screen that can be, unless memory is refused; the exit status, 3 if one isn't written.
 fn export_all<R: Files + Eprint + AllocGlobal>(rt: &R, asked: &Export, base: &Base) -> u8 {
     let Ok(gallery) = Gallery::of(rt.alloc(), base, &asked.groups) else {
-        return report(rt, asked.base, &MEMORY);
+        return report(rt, asked.base, &Unfinished::Fault(RunFault::Memory));
     };
-    match export_frames(rt, asked, base, &gallery) {
-        Ok(lost) => report_lost(rt, asked, &lost),
-        Err(unfinished) => report(rt, asked.base, &unfinished),
+    let mut lost: usize = 0;
+    for frame in base.frames() {
+        if let Err(why) = export_frame(rt, asked, &gallery, frame.id) {
+            if report_lost(rt, asked, frame.id, &why, lost == 0) == 4 {
+                return 4;
+            }
+            lost = lost.saturating_add(1);
+        }
     }
+    report_count(rt, asked, lost)
 }
 
 // Makes the folder, with what leads to it. No folder has an empty name.
