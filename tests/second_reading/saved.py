@@ -130,9 +130,20 @@ def base_lines(frames, entry):
     return text, "", 0
 
 
+def left_out(data):
+    """How many screens of a stream are cleared before the last: those of which a code above the space came."""
+    pieces = bytes(byte % 0x80 for byte in data).split(b"\f")
+    return sum(any(code > 0x20 for code in piece) for piece in pieces[:-1])
+
+
+def left_line(path, data):
+    count = left_out(data)
+    return f"{path}: {count} earlier screen{' is' if count == 1 else 's are'} left out\n" if count else ""
+
+
 def imported(files, stream=False, entry=None):
     """What `import` answers to files, each a path and its bytes or the reason why it can't be read."""
-    lines, frames, twins = [], {}, {}
+    lines, notes, frames, twins = [], "", {}, {}
     for path, data in files:
         try:
             if isinstance(data, str):
@@ -141,13 +152,16 @@ def imported(files, stream=False, entry=None):
         except NoScreen as why:
             lines.append(f"{path}: {why}\n")
             continue
+        if len(frames) == MOST_LISTED and id not in frames:
+            lines.append(f"{path}: a base has at most 65535 frames\n")
+            continue
+        notes += left_line(path, data) if stream else ""
         if id in frames:
             twins.setdefault(id, [frames[id][0]]).append(path)
-        elif len(frames) == MOST_LISTED:
-            lines.append(f"{path}: a base has at most 65535 frames\n")
         else:
             frames[id] = path, price, cells
     for id in sorted(twins):
         first, *others = twins[id]
         lines += [f"{other}: frame {id[0]}{id[1]} is in {first} too\n" for other in others]
-    return ("", "".join(lines), 3) if lines else base_lines(frames, entry)
+    text, fault, status = ("", "".join(lines), 3) if lines else base_lines(frames, entry)
+    return text, notes + fault, status
