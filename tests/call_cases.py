@@ -227,7 +227,7 @@ def audit_cases():
     yield Case("script_to closed - 1", "1")
     yield Case("audit demo 50 3 -", CERT)
     yield Case("audit closed 50 3 7", GROUPED)
-    for call in "audit", "faults", "judge_base":
+    for call in "audit", "faults":
         yield Case(f"{call} demo 4 0 -", STRICT)
         for name, faults in FAULTS.items():
             yield Case(f"{call} {name} 50 3 -", faults)
@@ -444,7 +444,6 @@ def large_cases(files):
         Case("audit large 9 9 7", cert),
         Case("audit large 4 2 -", faults),
         Case("faults large 4 2 -", faults),
-        Case("judge_base large 4 2 -", faults),
     ]
 
 

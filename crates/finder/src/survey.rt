@@ -99,6 +99,20 @@ impl<'a> Survey<'a> {
         Survey::of_graph(alloc, graph)
     }
 
+    /// The base.
+    pub fn base(&self) -> &'a Base
+        ensures { result.now ≡ self.now.base }
+    {
+        self.table.base
+    }
+
+    /// The caller's groups.
+    pub fn groups(&self) -> &'a Groups
+        ensures { result.now ≡ self.now.groups }
+    {
+        self.table.groups
+    }
+
     /// The list alone.
     pub fn into_found(self) -> Found
         ensures { result ≡ self.entry.found }
