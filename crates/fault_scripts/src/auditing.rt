@@ -50,16 +50,13 @@ fn certificate_of(base: &Base, groups: &Groups, table: GatheredRows) -> Certific
 {
     let mut rows = table.rows;
     rows.sort_unstable_by_key(|row| row.id);
-    match Certificate::build(
+    Certificate::of(
         base.entry(),
         table.ceiling,
         table.keyings,
         groups.copy(),
         rows,
-    ) {
-        Ok(cert) => cert,
-        Err(_) => unreachable!(),
-    }
+    )
 }
 
 /// The faults of a base whose frames a survey found for the policy's groups, as [`faults`] finds them.
