@@ -177,9 +177,9 @@ class Test:
 
     @property
     def folder(self) -> Path:
-        """A folder of the case's own, whose path has a blank."""
+        """A folder of the case's own."""
         if not self._folder:
-            self._folder = TemporaryDirectory(prefix="pageaudit ")
+            self._folder = TemporaryDirectory(prefix="pageaudit-")
         return Path(self._folder.name)
 
     @property

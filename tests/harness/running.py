@@ -76,9 +76,9 @@ def compiled(sources: Path | Sequence[Path], to: Path, *options: Word, compiler:
 
 
 @contextmanager
-def scratch(prefix: str = "pageaudit ") -> Iterator[Path]:
-    """A folder of its own, whose path has a blank, for as long as it is used."""
-    with TemporaryDirectory(prefix=prefix) as folder:
+def scratch() -> Iterator[Path]:
+    """A folder of its own for as long as it is used."""
+    with TemporaryDirectory(prefix="pageaudit-") as folder:
         yield Path(folder)
 
 
