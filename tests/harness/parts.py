@@ -8,7 +8,17 @@ from collections.abc import Iterator
 from program import TOP
 
 # Executable files of tests/ that aren't parts of ./test: what measures, what './test CRATE' or no gate runs, and a program's path.
-NO_PARTS = {"call-times", "line-counts", "must-fail-goals", "own-system", "plain-edits", "program.py", "speeds", "time-gate", "without-toolchain"}
+NO_PARTS = {
+    "call-times",
+    "line-counts",
+    "must-fail-goals",
+    "own-system",
+    "plain-edits",
+    "program.py",
+    "speeds",
+    "time-gate",
+    "without-toolchain",
+}
 
 
 def parts() -> list[str]:

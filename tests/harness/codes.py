@@ -1,4 +1,4 @@
-"""docs/CODES.md, as tests/codes-page and tests/explain-words read it.
+"""docs/CODES.md, as tests/codes-page and tools/explain-words read it.
 
 A heading of rank 2 begins a part, one of rank 3 the section of a printed word. Its examples are run beside the files of
 its part; a part without files has those of the part before. The table of words at the top has a row for each section,
@@ -7,10 +7,11 @@ statuses.
 """
 
 import re
+from collections.abc import Iterator
 from dataclasses import dataclass, field
 
-from pages import File, Run, sections
-from program import TOP
+from harness.pages import Block, File, Run, Section, sections
+from harness.places import TOP
 
 PAGE = TOP / "docs" / "CODES.md"
 # What is printed, on which stream, with which status; the first that fits. All else is an answer with status 0.
@@ -25,32 +26,24 @@ STATUSES = [
 class Row:
     """A row of the table of words."""
 
-    words: list
+    words: list[str]
     anchor: str
     meaning: str
 
 
 @dataclass
-class Entry:
-    """A section with what is beside it: its words, its paragraphs, its part, and the files of its part."""
+class Entry(Section):
+    """A section with its part, and the files of its part."""
 
-    title: str
-    rank: int
-    part: str
-    blocks: list
-    shared: list
-    paragraphs: list = field(default_factory=list)
+    part: str = ""
+    shared: list[File] = field(default_factory=list)
 
     @property
-    def runs(self):
-        return [block for block in self.blocks if isinstance(block, Run)]
-
-    @property
-    def anchor(self):
+    def anchor(self) -> str:
         return re.sub(r"[^a-z0-9 ]", "", self.title.lower()).replace(" ", "-")
 
 
-def with_status(block):
+def with_status(block: Block) -> Block:
     """A run with the stream and the status of what it prints."""
     if isinstance(block, Run) and not block.stderr:
         for pattern, stream, status in STATUSES:
@@ -62,25 +55,17 @@ def with_status(block):
     return block
 
 
-def paragraphs(text):
-    """For each heading in turn the paragraphs below it, without the blocks."""
-    bare = re.sub(r"^```.*?^```\n", "\n", text, flags=re.M | re.S)
-    for body in re.split(r"^#+ .*\n", bare, flags=re.M)[1:]:
-        yield [part.strip("\n") for part in re.split(r"\n{2,}", body) if part.strip()]
-
-
-def entries():
+def entries() -> Iterator[Entry]:
     """The page's sections in order, those of rank 2 too."""
-    part, shared = "", []
-    for section, words in zip(sections(PAGE)[1:], paragraphs(PAGE.read_text("utf-8"))):
-        blocks = [with_status(block) for block in section.blocks]
-        if section.rank < 3:
-            files = [block for block in blocks if isinstance(block, File)]
-            part, shared = section.title, files or shared
-        yield Entry(section.title, section.rank, part, blocks, [] if section.rank < 3 else shared, words)
+    part, shared = "", list[File]()
+    for one in sections(PAGE)[1:]:
+        if one.rank < 3:
+            part, shared = one.title, one.files or shared
+        files = [] if one.rank < 3 else shared
+        yield Entry(one.rank, one.title, [with_status(block) for block in one.blocks], one.text, part, files)
 
 
-def rows():
+def rows() -> Iterator[Row]:
     """The table of words."""
     for line in PAGE.read_text("utf-8").splitlines():
         if row := re.fullmatch(r"\[((?:`[^`]+` ?)+)\]\(#([^)]+)\) \| (.+)", line):

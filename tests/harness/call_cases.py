@@ -55,8 +55,8 @@ GROUPED = changed(CERT, ("PBC1", "PBC2"), ("rows 3", "groups 7\nrows 3"))
 BASES = {
     "demo": DEMO,
     "closed": changed(DEMO, (LAST, LAST + "group = 7\n")),
-    "missing": changed(DEMO, ("TWO\"\nroutes = { 0 = 123 }", "TWO\"\nroutes = { 0 = 123, 9 = 555 }")),
-    "no_return": changed(DEMO, ("TWO\"\nroutes = { 0 = 123 }", "TWO\"\nroutes = { 0 = 0 }")),
+    "missing": changed(DEMO, ('TWO"\nroutes = { 0 = 123 }', 'TWO"\nroutes = { 0 = 123, 9 = 555 }')),
+    "no_return": changed(DEMO, ('TWO"\nroutes = { 0 = 123 }', 'TWO"\nroutes = { 0 = 0 }')),
     "touches": changed(DEMO, ("\\u001E\\u000APART TWO", "A")),
     "entry_closed": changed(DEMO, ('id = "123a"\n', 'id = "123a"\ngroup = 7\n')),
     "no_entry": "entry = 0\n",
@@ -64,7 +64,11 @@ BASES = {
     "shorter": changed(DEMO[: DEMO.index("[[frame]]\n" + LAST)], ("next = true\n", "")),
 }
 MOVED = changed(
-    CERT, ("entry 123\n", "entry 1231\n"), ("keyings 1", "keyings 2"), ("\n123a 0", "\n123a 1"), ("1231a 1", "1231a 0"),
+    CERT,
+    ("entry 123\n", "entry 1231\n"),
+    ("keyings 1", "keyings 2"),
+    ("\n123a 0", "\n123a 1"),
+    ("1231a 1", "1231a 0"),
     ("1231b 1", "1231b 2"),
 )
 SHORTER = changed(CERT, ("rows 3", "rows 2"), ("1231b 1 s48\n", ""))
@@ -103,7 +107,9 @@ FRAME 123a RANK 0 PRICE 0 GROUP - SCRIPT -
 FRAME 1231a RANK 1 PRICE 5 GROUP - SCRIPT 1
 FRAME 1231b RANK 1 PRICE 0 GROUP - SCRIPT 1#
 """
-CLOSED_LIST = LIST.splitlines(keepends=True)[0] + "FRAME 1231a RANK 1 PRICE 5 GROUP - SCRIPT 1\nUNREACHED 1231b PRICE 0 GROUP 7\n"
+CLOSED_LIST = (
+    LIST.splitlines(keepends=True)[0] + "FRAME 1231a RANK 1 PRICE 5 GROUP - SCRIPT 1\nUNREACHED 1231b PRICE 0 GROUP 7\n"
+)
 MAP = draw(DEMO.encode())[0]
 STRICT = "FAULTS 3\nPRICE 1231a 5 SCRIPT 1\nNORETURN 1231a SCRIPT 1\nNORETURN 1231b SCRIPT 1#\n"
 # Of an audit up to 50 pence and 3 keyings.
@@ -220,7 +226,9 @@ def verdict_cases():
 
 def audit_cases():
     for name, rank in ("demo", 1), ("no_return", None):
-        yield Case(f"find {name} -", debug_found([("123a", 0, None, None), ("1231a", 1, 0, "1"), ("1231b", rank, 1, "#")]))
+        yield Case(
+            f"find {name} -", debug_found([("123a", 0, None, None), ("1231a", 1, 0, "1"), ("1231b", rank, 1, "#")])
+        )
     yield Case("find no_entry -", debug_found([]))
     for place, keys in enumerate(["", "1", "1#"]):
         yield Case(f"script_to demo - {place}", keys)
@@ -241,7 +249,9 @@ def ran(status, text="", fault=""):
 
 UNWRITTEN = "output: write failed after {} bytes"
 LINE = BASES["missing"].splitlines().index("routes = { 0 = 123, 9 = 555 }") + 1
-MISSING = f"base.toml:{LINE}:21: error: MISSING: key 9 of frame 1231b leads to page 555, which has no frame a (keys 1#9)\n"
+MISSING = (
+    f"base.toml:{LINE}:21: error: MISSING: key 9 of frame 1231b leads to page 555, which has no frame a (keys 1#9)\n"
+)
 MISSING += f"{LINE:5} | routes = {{ 0 = 123, 9 = 555 }}\n      | {' ' * 20}^^^^^^^\n"
 UNKNOWN = 'base.toml:2:1: error: X3 UnknownKey: "name" is not a key of a base; did you mean "frame"?\n    2 | name = 2\n      | ^^^^\n'
 # The entry frame's codes, and the text of frame 1231b, which is painted over 1231a.
@@ -263,7 +273,9 @@ rows = [
     "1 News",
 ]
 """
-STREAM_BASE = changed(SCREEN_BASE, ("entry = 478", "entry = 5"), (SCREEN_BASE.splitlines()[3] + "\n", ""), ("price = 0\n", ""))
+STREAM_BASE = changed(
+    SCREEN_BASE, ("entry = 478", "entry = 5"), (SCREEN_BASE.splitlines()[3] + "\n", ""), ("price = 0\n", "")
+)
 
 
 @cache
@@ -363,7 +375,7 @@ def run_cases():
 # The large base: pages in a tree of nine routes down and one up, every seventh with a second frame, every hundredth in
 # group 7.
 PAGES = 4_000
-BODIES = ['rows = ["FIRST", "", "THIRD"]', 'body = "SHORT"', 'rows = []', 'lead = "keep"\nbody = "\\u001E\\u000AKEPT"']
+BODIES = ['rows = ["FIRST", "", "THIRD"]', 'body = "SHORT"', "rows = []", 'lead = "keep"\nbody = "\\u001E\\u000AKEPT"']
 
 
 def large_frame(page, letter, routes, page_fields):

@@ -49,7 +49,7 @@ case $1 in
 esac
 """
 
-RTLIB = '''from pathlib import Path
+RTLIB = """from pathlib import Path
 
 
 class Crate:
@@ -63,12 +63,12 @@ class Crate:
 
 def crates_below(top):
     return [Crate(path.parents[1]) for path in Path(top).glob("crates/*/src/lib.rt")]
-'''
+"""
 
 # What a proof ends with.
 PROVED = "logic=proved functions=1 sum=0 native=nat,char,string logic-built=trusted libraries-built=trusted statements=trusted"
 
-RATTLE = f'''#!/usr/bin/env python3
+RATTLE = f"""#!/usr/bin/env python3
 import sys
 from pathlib import Path
 
@@ -77,10 +77,10 @@ if not any(words in " ".join(sys.argv) for words in ("--target x86_64-unknown-li
 libraries = [Path(word.partition("=")[2]) for word in sys.argv if word.endswith(".rlib")]
 Path(sys.argv[sys.argv.index("-o") + 1]).write_text("".join((it / "format").read_text() for it in libraries))
 print("{PROVED}")
-'''
+"""
 
 # A shared library is its archive. A program prints 'built of' the libraries; its help is the program's own.
-LINK = f'''#!/usr/bin/env python3
+LINK = f"""#!/usr/bin/env python3
 import sys
 from pathlib import Path
 
@@ -89,7 +89,9 @@ made = next(Path(word) for word in sys.argv if word.endswith((".o", ".a"))).read
 program = "#!/bin/sh\\ncase $* in *--help) exec -a pageaudit '{PROGRAM}' \\"$@\\" ;; esac\\ncat <<'END'\\nbuilt of\\n" + made + "END\\n"
 to.write_text(made if "-shared" in sys.argv else program)
 to.chmod(0o755)
-'''.replace("#!/bin/sh", "#!/bin/bash")
+""".replace(
+    "#!/bin/sh", "#!/bin/bash"
+)
 
 # The linker, which has to bind all names at the start.
 LD = LINK.replace("to = Path", "if ' -z now ' not in ' '.join(sys.argv):\n    sys.exit('-z now')\nto = Path", 1)
