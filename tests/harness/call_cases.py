@@ -12,8 +12,11 @@ from pathlib import Path
 
 from harness.places import TOP
 from harness.running import program, scratch
-from second_reading import audit, base, screens, session
-from second_reading.map import draw
+from second_reading import audit, session
+from second_reading.base import Asked, Base, Groups, keys_in
+from second_reading.faults import base_of
+from second_reading.map import View, draw
+from second_reading.screens import sent
 
 DATA = TOP / "tests" / "data"
 DEMO = (TOP / "examples" / "demo.toml").read_text("ascii")
@@ -111,7 +114,7 @@ FRAME 1231b RANK 1 PRICE 0 GROUP - SCRIPT 1#
 CLOSED_LIST = (
     LIST.splitlines(keepends=True)[0] + "FRAME 1231a RANK 1 PRICE 5 GROUP - SCRIPT 1\nUNREACHED 1231b PRICE 0 GROUP 7\n"
 )
-MAP = draw(DEMO.encode())[0]
+MAP = draw(DEMO.encode(), Asked()).stdout
 STRICT = "FAULTS 3\nPRICE 1231a 5 SCRIPT 1\nNORETURN 1231a SCRIPT 1\nNORETURN 1231b SCRIPT 1#\n"
 # Of an audit up to 50 pence and 3 keyings.
 FAULTS = {
@@ -155,7 +158,7 @@ def debug_shown(id: str, pence: int) -> str:
 def base_cases() -> Iterator[Case]:
     yield base_case("demo", CERT)
     for name in ("no_entry", "closed", "missing", "no_return", "touches", "entry_closed"):
-        yield base_case(name, audited(base.base_of(BASES[name].encode())))
+        yield base_case(name, audit.audit(BASES[name].encode(), Asked()).stdout)
     for place, fault in enumerate(BAD_BASES):
         yield base_case(f"bad_base_{place}", f"base: {fault}\n")
         yield Case(f"check_bytes bad_base_{place} cert 5 1 -", f"base: {fault}\n")
@@ -254,7 +257,7 @@ def page(*words: str) -> str:
 def texts() -> dict[str, str]:
     """The texts of the answers that have names."""
     pages = {"PAGE": page(), "PAGE_1231": page("--page", "1231")}
-    maps = {"MAP": MAP, "MAP_1231": draw(DEMO.encode(), None, "page", 1_231)[0]}
+    maps = {"MAP": MAP, "MAP_1231": draw(DEMO.encode(), Asked(), View("page", 1_231)).stdout}
     faults = {
         "CLOSED_FAULTS": FAULTS["closed"],
         "NO_ENTRY_FAULTS": FAULTS["no_entry"],
@@ -339,47 +342,41 @@ def large_base() -> str:
     return "".join(texts)
 
 
-def audited(whole: base.Base) -> str:
-    """What the audit of a base with the greatest policy prints, for callers of no group."""
-    return audit.outcome(whole, (9_999, 65_535, []))[0]
-
-
-def found(whole: base.Base, groups: list[int]) -> Iterator[tuple[str, int | None, int | None, str | None]]:
+def found(whole: Base, groups: Groups) -> Iterator[tuple[str, int | None, int | None, str | None]]:
     """Of each discovered frame its id, its rank, its parent's place and the key pressed there."""
     scripts = audit.discover(whole, groups)
     ranks = audit.ranks_of(whole, scripts)
     places = {script: place for place, script in enumerate(scripts.values())}
     for id, script in scripts.items():
         parent, key = (places[script[:-1]], script[-1]) if script else (None, None)
-        yield base.id_text(id), ranks.get(id), parent, key
+        yield str(id), ranks.get(id), parent, key
 
 
 def large_files() -> dict[str, str]:
     text = large_base()
-    whole = base.base_of(text.encode())
-    cert, status = audit.outcome(whole, (9, 9, [7]))
+    status, cert, _ = audit.audit(text.encode(), Asked(9, 9, "7"))
     assert status == 0
     return {"large": text, "large_cert": cert, "large_tail": cert + "X", "large_bad": text + "unknown = 1\n"}
 
 
 def large_cases(files: Mapping[str, str]) -> Iterator[Case]:
     text, cert = files["large"], files["large_cert"]
-    whole = base.base_of(text.encode())
-    scripts = list(audit.discover(whole, [7]).values())
-    deepest = base.id_text(list(audit.discover(whole, [7]))[-1])
-    sent = "".join(f"{base.id_text(id)}\n" for id in screens.sent(whole, [7], base.keys_in(scripts[-1])[0])[0])
-    faults, _ = audit.outcome(whole, (4, 2, []))
+    whole = base_of(text.encode())
+    scripts = audit.discover(whole, (7,))
+    deepest, script = list(scripts.items())[-1]
+    way = "".join(f"{id}\n" for id in sent(whole, (7,), keys_in(script)))
+    faults = audit.audit(text.encode(), Asked(4, 2)).stdout
     tail = f"certificate: line {cert.count(chr(10)) + 1}: Tail\n"
     unknown = f"base: frame {text.count('[[frame]]') - 1}: X3 UnknownKey\n"
     keys = "10" * 2_000
     yield from [
         Case(f"keys_read {keys}", keys),
-        base_case("large", audited(whole)),
+        base_case("large", audit.audit(text.encode(), Asked()).stdout),
         base_case("large_bad", unknown),
         Case("body_of_rows" + f" {'W' * 40}" * 22, f"Body {{ bytes: {[30, 10, *b'W' * 880]} }}\n"),
         Case(f"replay large - {keys}", debug_replayed(debug_shown("100000a", 0), "100000a"), "Err(Memory)\n"),
         Case("run_walk large 4096  whole -", ran(0, "SHOWN 100000a 0\n")),
-        Case(f"run_walk large 4096 {keys} whole -", ran(0, session.walk(text.encode(), keys)[0])),
+        Case(f"run_walk large 4096 {keys} whole -", ran(0, session.walk(text.encode(), keys, Asked()).stdout)),
         Case("run_audit large 4096 whole 9 9 7", ran(0, cert)),
         Case("cert_read large_cert", cert),
         Case("cert_read large_tail", tail),
@@ -388,10 +385,10 @@ def large_cases(files: Mapping[str, str]) -> Iterator[Case]:
         Case("check_bytes large large_cert 9 9 7", "CLEARED\n"),
         Case("check_bytes large large_tail 9 9 7", tail),
         Case("check_bytes large_bad large_cert 9 9 7", unknown),
-        Case("find large 7", debug_found(found(whole, [7]))),
-        Case("find large -", debug_found(found(whole, []))),
-        Case(f"script_to large 7 {len(scripts) - 1}", scripts[-1]),
-        Case(f"way_to large 7 {deepest}", sent),
+        Case("find large 7", debug_found(found(whole, (7,)))),
+        Case("find large -", debug_found(found(whole, ()))),
+        Case(f"script_to large 7 {len(scripts) - 1}", script),
+        Case(f"way_to large 7 {deepest}", way),
         Case("run_show large 4096 100000b cells whole -", ran(2)),
         Case("audit large 9 9 7", cert),
         Case("audit large 4 2 -", faults),
