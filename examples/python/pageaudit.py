@@ -67,7 +67,8 @@ class Policy:
             raise TypeError(f"groups has to be a list of whole numbers, not {_kind(self.groups)}")
         object.__setattr__(self, "ceiling", _whole("ceiling", self.ceiling))
         object.__setattr__(self, "keyings", _whole("keyings", self.keyings))
-        object.__setattr__(self, "groups", tuple(_whole(f"groups[{place}]", group) for place, group in enumerate(self.groups)))
+        groups = tuple(_whole(f"groups[{place}]", group) for place, group in enumerate(self.groups))
+        object.__setattr__(self, "groups", groups)
         with contextlib.suppress(TextError):  # the library judges a policy before a text, and an empty text is no base
             _call("pageaudit_audit", {"base": b""}, self, _LINE_ROOM)
 
@@ -187,12 +188,12 @@ def show(base: bytes, frame: str = "", groups: Sequence[int] = ()) -> Screen | N
     """
     if not isinstance(frame, str):
         raise TypeError(f"frame has to be a str, not {_kind(frame)}")
-    words = [*_slice("base", base), *_slice("frame", frame.encode("utf-8")), *_slice("groups", _list(Policy(0, 0, groups)))]
-    codes, looks, line = ctypes.create_string_buffer(_CELLS), (_CellLook * _CELLS)(), ctypes.create_string_buffer(_LINE_ROOM)
-    arrays = [word for array, room in ((codes, _CELLS), (looks, _CELLS), (line, _LINE_ROOM)) for word in (array, ctypes.c_size_t(room))]
-    function, length = _LIBRARY["pageaudit_show"], ctypes.c_size_t()
-    function.restype = ctypes.c_uint32
-    answer = function(*words, *arrays, ctypes.byref(length))
+    words = _words({"base": base, "frame": frame.encode("utf-8"), "groups": _list(Policy(0, 0, groups))})
+    codes, line = ctypes.create_string_buffer(_CELLS), ctypes.create_string_buffer(_LINE_ROOM)
+    looks, length = (_CellLook * _CELLS)(), ctypes.c_size_t()
+    for array, room in (codes, _CELLS), (looks, _CELLS), (line, _LINE_ROOM):
+        words += [array, ctypes.c_size_t(room)]
+    answer = _function("pageaudit_show")(*words, ctypes.byref(length))
     _checked(answer, line.raw[: length.value])
     return Screen(codes.raw, tuple(map(_look, looks))) if answer == _CLEAR else None
 
@@ -278,6 +279,11 @@ def _slice(name: str, text: bytes) -> tuple[ctypes.c_char_p, ctypes.c_size_t]:
     return ctypes.c_char_p(text), ctypes.c_size_t(len(text))
 
 
+def _words(texts: Mapping[str, bytes]) -> list[Any]:
+    """Texts as the library takes them."""
+    return [word for text in texts.items() for word in _slice(*text)]
+
+
 def _list(policy: Policy) -> bytes:
     """The groups of a policy as the library takes them."""
     return ",".join(map(str, policy.groups)).encode("ascii")
@@ -290,11 +296,16 @@ def _policy_words(policy: Policy) -> list[Any]:
     return [_number("ceiling", policy.ceiling), _number("keyings", policy.keyings), *_slice("groups", _list(policy))]
 
 
+def _function(name: str) -> Any:
+    """A function of the library, which answers a status."""
+    function = _LIBRARY[name]
+    function.restype = ctypes.c_uint32
+    return function
+
+
 def _call(name: str, texts: Mapping[str, bytes], policy: Policy, room: int) -> tuple[int, bytes]:
     """The status of a call and what it printed; raises for each other status."""
-    words = [word for text in texts.items() for word in _slice(*text)] + _policy_words(policy)
-    function, length = _LIBRARY[name], ctypes.c_size_t(room)
-    function.restype = ctypes.c_uint32
+    words, function, length = _words(texts) + _policy_words(policy), _function(name), ctypes.c_size_t(room)
     while True:
         room = length.value
         buffer = ctypes.create_string_buffer(room)
@@ -307,7 +318,9 @@ def _checked(answer: int, text: bytes) -> bytes:
     if answer in (_CLEAR, _FAULTY):
         return text
     if answer == _BAD_POLICY:
-        raise PolicyError("a ceiling above 9,999, keyings above 65,535, or groups that aren't at most 16, ascending, of 1 to 65,535")
+        raise PolicyError(
+            "a ceiling above 9,999, keyings above 65,535, or groups that aren't at most 16, ascending, of 1 to 65,535"
+        )
     if answer == _BAD_TEXT:
         raise TextError(text.decode("ascii").rstrip("\n"))
     raise MemoryError("the library was refused memory")
