@@ -93,7 +93,7 @@ class Run:
 
     def smallest(self, fails: Fails["Run"], budget: Budget = OF_SCRIPT) -> "Run":
         """The smallest run that fails."""
-        return shrunk(self, fails, cut_bases, cut_certificates, cut_keys, budget=budget)
+        return shrunk(self, fails, cut_asked, cut_bases, cut_certificates, cut_keys, budget=budget)
 
     def __str__(self) -> str:
         texts = [self.base, self.certificate, *self.new]
@@ -102,6 +102,19 @@ class Run:
             *(text.decode("utf-8", "backslashreplace") for text in texts if text),
         ]
         return "\n".join(lines)
+
+
+def cut_asked(run: Run, fails: Fails[Run]) -> Run:
+    """Without options that aren't needed."""
+    usual = Asked()
+    for asked in (
+        usual,
+        replace(run.asked, option=None),
+        replace(run.asked, ceiling=usual.ceiling, keyings=usual.keyings),
+    ):
+        less = replace(run, asked=asked)
+        run = less if less != run and fails(less) else run
+    return run
 
 
 def cut_bases(run: Run, fails: Fails[Run]) -> Run:

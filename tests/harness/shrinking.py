@@ -112,10 +112,15 @@ def value_text(value: object) -> str:
     if isinstance(value, list):
         return f"[{', '.join(map(value_text, value))}]"
     if isinstance(value, dict):
-        return f"{{ {', '.join(f'{json.dumps(key)} = {value_text(one)}' for key, one in value.items())} }}"
+        return f"{{ {', '.join(pair_text(*pair) for pair in value.items())} }}"
     if isinstance(value, datetime.date | datetime.time):
         return value.isoformat()
     return str(value).lower()
+
+
+def pair_text(key: str, value: object) -> str:
+    name = key if re.fullmatch("[A-Za-z0-9_-]+", key) else value_text(key)
+    return f"{name} = {value_text(value)}"
 
 
 def base_text(tree: object) -> bytes:
@@ -124,10 +129,7 @@ def base_text(tree: object) -> bytes:
     frames = tree.get("frame")
     tables = frames if isinstance(frames, list) and all(isinstance(frame, dict) for frame in frames) else []
     top = {key: value for key, value in tree.items() if not (tables and key == "frame")}
-    texts = [
-        "".join(f"{json.dumps(key)} = {value_text(value)}\n" for key, value in table.items())
-        for table in [top, *tables]
-    ]
+    texts = ["".join(f"{pair_text(*pair)}\n" for pair in table.items()) for table in [top, *tables]]
     return "[[frame]]\n".join(texts).encode()
 
 
@@ -139,7 +141,7 @@ def smallest_base(data: bytes, fails: Fails[bytes]) -> bytes:
     except ValueError:
         is_plain = False
     if is_plain:
-        data = base_text(smallest_value(tree, lambda tree: fails(base_text(tree))))
+        return base_text(smallest_value(tree, lambda tree: fails(base_text(tree))))
     return smallest_text(data, fails)
 
 
