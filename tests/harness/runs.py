@@ -107,14 +107,9 @@ class Run:
 def cut_asked(run: Run, fails: Fails[Run]) -> Run:
     """Without options that aren't needed."""
     usual = Asked()
-    for asked in (
-        usual,
-        replace(run.asked, option=None),
-        replace(run.asked, ceiling=usual.ceiling, keyings=usual.keyings),
-    ):
-        less = replace(run, asked=asked)
-        run = less if less != run and fails(less) else run
-    return run
+    fewer = usual, replace(run.asked, option=None), replace(usual, option=run.asked.option)
+    every = (replace(run, asked=asked) for asked in fewer)
+    return next((less for less in every if less != run and fails(less)), run)
 
 
 def cut_bases(run: Run, fails: Fails[Run]) -> Run:
