@@ -2,7 +2,7 @@
 
 from pathlib import Path
 
-from edits import Change
+from harness.edits import Change
 from refusals import FACT, as_fact, fault_of, names_a_goal, of_paths
 
 DIFFER = (

@@ -4,17 +4,17 @@
 import os
 import re
 from collections.abc import Iterator
+from pathlib import Path
 
-from program import TOP
+from harness.places import TOP
 
-# Executable files of tests/ that aren't parts of ./test: what measures, what './test CRATE' or no gate runs, and a program's path.
+# Scripts that aren't parts of ./test: what measures, and what './test CRATE', a part or no gate runs.
 NO_PARTS = {
     "call-times",
     "line-counts",
     "must-fail-goals",
     "own-system",
     "plain-edits",
-    "program.py",
     "speeds",
     "time-gate",
     "without-toolchain",
@@ -27,12 +27,17 @@ def parts() -> list[str]:
     return found[1].split() if found else []
 
 
+def scripts() -> dict[str, Path]:
+    """The executable files of tools/ and tests/ by their names; that of a link is what it leads to."""
+    files = [path for folder in ("tools", "tests") for path in sorted((TOP / folder).iterdir()) if path.is_file()]
+    return {path.name: path.resolve() for path in files if os.access(path, os.X_OK)}
+
+
 def faults() -> Iterator[str | None]:
-    """For each executable file of tests/ and each part of ./test what is wrong, or None; and what is wrong with the end of .ci/run."""
-    named = [*parts(), *NO_PARTS]
-    files = {path.name for path in (TOP / "tests").iterdir() if path.is_file() and os.access(path, os.X_OK)}
-    for name in sorted(files.union(named)):
-        is_right = name in files and named.count(name) == 1
-        yield None if is_right else f"tests/{name} has to be there, and once a part of ./test or named as none: {named.count(name)}"
+    """For each script and each part of ./test what is wrong, or None; and what is wrong with the end of .ci/run."""
+    named, there = [*parts(), *NO_PARTS], scripts()
+    for name in sorted({*there, *named}):
+        is_right = name in there and named.count(name) == 1
+        yield None if is_right else f"{name} has to be there, and once a part of ./test or named as none: {named.count(name)}"
     last = (TOP / ".ci" / "run").read_text("utf-8").splitlines()[-1]
     yield None if last == "CI=true exec ./test" else f".ci/run ends by '{last}', not by 'CI=true exec ./test'"

@@ -8,9 +8,11 @@ use a static library, so crates/promises/calls has the clauses of the calls for 
 
 import itertools
 import re
+from collections.abc import Iterable, Iterator
 from functools import cache
+from pathlib import Path
 
-from edits import CRATES, functions
+from harness.edits import CRATES, Function, functions
 
 # The crate that states each promise again, and the calls for C, which it can't use.
 CLIENT = "promises"
@@ -24,21 +26,21 @@ WORD = re.compile(r"(?<![\w.])([^\W\d][\w'-]*)(?:\.([^\W\d][\w'-]*))?|([^\w\s(){
 GHOST = re.compile(r"\bghost \w+(?: =|:) \{(.*?)\}[;,]\n", re.S)
 
 
-def exported(crate):
+def exported(crate: str) -> set[str]:
     """The names that a crate exports."""
     text = (CRATES / crate / "src" / "lib.rt").read_text("utf-8")
     groups = re.findall(r"^pub use \w+(?:::\w+)*::(?:\{([^}]*)\}|(\w+));", text, re.M)
     return {name.strip() for group in groups for name in (group[0] or group[1]).split(",")} - {""}
 
 
-def clauses(path, function):
+def clauses(path: Path, function: Function) -> str:
     """The text of a function's clauses."""
     lines = path.read_text("utf-8").split("\n")[function.begin : function.end]
     header = itertools.takewhile(lambda line: line.strip() not in ("{", "{}", "}"), lines)
     return " ".join(re.split(r"\b(?:requires|ensures)\b", " ".join(line.partition("//")[0] for line in header))[1:])
 
 
-def said(crate):
+def said(crate: str) -> Iterator[tuple[Path, str, bool]]:
     """Each file of a crate with a text of what a function, a type or a trait promises, and whether that is exported."""
     names = exported(crate)
     is_client = crate == CLIENT
@@ -55,9 +57,10 @@ def said(crate):
 
 
 @cache
-def definitions(path):
+def definitions(path: Path) -> dict[str, str]:
     """The definitions of a file by their names, each with its text up to the next one."""
-    found, name = {}, None
+    found: dict[str, str] = {}
+    name = ""
     for line in path.read_text("utf-8").split("\n"):
         if not line.lstrip().startswith(("--", "use ", "pub mod ", "infix")):
             head = HEAD.match(line)
@@ -67,19 +70,23 @@ def definitions(path):
 
 
 @cache
-def definers(path):
+def definers(path: Path) -> dict[str, str]:
     """The definition that gives each name of a file: the one of this name, or the data whose constructor it is."""
     names = {name: name for name in definitions(path)}
     for name, text in definitions(path).items():
         if re.match(r"(pub )?data ", text):
-            names |= dict.fromkeys(re.findall(r"^  ([\w'-]+) : ", text, re.M), name)
+            names |= {one: name for one in re.findall(r"^  ([\w'-]+) : ", text, re.M)}
     return names
 
 
+# The file and the name in it that a name means; a file alone has none.
+Meaning = tuple[Path | None, str | None]
+
+
 @cache
-def known(path):
+def known(path: Path) -> dict[str, Meaning]:
     """What each name in a file means: a name of a file, its own or another, or a file alone."""
-    names = {name: (path, name) for name in definers(path)} if path.suffix == ".antt" else {}
+    names: dict[str, Meaning] = {name: (path, name) for name in definers(path)} if path.suffix == ".antt" else {}
     for module, listed, alias in USE.findall(path.read_text("utf-8")):
         file = CRATES / (module.replace(".", "/") + ".antt")
         if alias:
@@ -89,7 +96,7 @@ def known(path):
     return names
 
 
-def named(path, text):
+def named(path: Path, text: str) -> Iterator[tuple[Path, str]]:
     """The definitions that a text of a file names."""
     for word, member, operator in WORD.findall(text):
         file, name = known(path).get(">>=" if word == "do" else word or operator, (None, None))
@@ -97,9 +104,10 @@ def named(path, text):
             yield file, definers(file)[name or member]
 
 
-def reached(texts):
+def reached(texts: Iterable[tuple[Path, str]]) -> set[tuple[Path, str]]:
     """The definitions that texts of files name, and those that these name in turn."""
-    found, todo = set(), list(texts)
+    found: set[tuple[Path, str]] = set()
+    todo = list(texts)
     while todo:
         new = set(named(*todo.pop())) - found
         found |= new
@@ -107,9 +115,10 @@ def reached(texts):
     return found
 
 
-def call_promises():
+def call_promises() -> list[str]:
     """The promises of the calls for C: a line for each clause, and then each definition of theirs that these reach."""
-    texts, lines = [], []
+    texts: list[tuple[Path, str]] = []
+    lines: list[str] = []
     for path in sorted((CRATES / CALLS / "src").glob("*.rt")):
         for function in (one for one in functions(path) if one.is_pub and one.name in exported(CALLS)):
             texts.append((path, clauses(path, function)))
@@ -118,7 +127,7 @@ def call_promises():
     return lines + [definitions(file)[name].strip() for file, name in own]
 
 
-def call_faults():
+def call_faults() -> Iterator[str | None]:
     """For each promise of the calls for C what is wrong, or None: it is lacking where it is kept, or says something else there."""
     kept = (CRATES / CLIENT / "calls").read_text("utf-8").rstrip("\n").split("\n\n")[1:]
     now = call_promises()
@@ -126,10 +135,10 @@ def call_faults():
     yield from (None if one in kept else f"crates/{CLIENT}/calls lacks: {one}" for one in now)
 
 
-def storeys(crates):
+def storeys(crates: list[str]) -> Iterator[str | None]:
     """For each definition of some crates what is wrong with where it is, or None. A file of laws holds the lemmas of its laws."""
     every = [one for crate in crates for one in said(crate)]
-    meant = reached(one[:2] for one in every)
+    meant = reached((path, text) for path, text, _ in every)
     promised = reached((path, text) for path, text, is_exported in every if is_exported)
     for crate in crates:
         specs = CRATES / crate / "specs"

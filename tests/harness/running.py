@@ -2,8 +2,10 @@
 
 import os
 import subprocess
+import sys
 from collections.abc import Iterator, Mapping, Sequence
 from contextlib import contextmanager
+from importlib.util import find_spec
 from pathlib import Path
 from tempfile import TemporaryDirectory
 from typing import IO, Any, NamedTuple
@@ -12,6 +14,7 @@ from harness.places import CC, PROGRAM
 
 Word = str | int | Path
 SECONDS = 60
+DEBIAN = "/usr/bin/python3"
 
 
 class Done(NamedTuple):
@@ -80,6 +83,15 @@ def scratch() -> Iterator[Path]:
     """A folder of its own for as long as it is used."""
     with TemporaryDirectory(prefix="pageaudit-") as folder:
         yield Path(folder)
+
+
+def has_module(name: str) -> bool:
+    """Whether Python has a module of a Debian package; Debian's Python takes over if only it has it."""
+    if find_spec(name):
+        return True
+    if os.path.realpath(sys.executable) != os.path.realpath(DEBIAN) and os.access(DEBIAN, os.X_OK):
+        os.execv(DEBIAN, [DEBIAN, *sys.argv])
+    return False
 
 
 def with_path(folder: Path, env: Mapping[str, str]) -> dict[str, str]:
