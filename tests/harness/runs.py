@@ -1,5 +1,8 @@
-"""A run of the program on random texts: its words, its files, what it has to answer, and how it becomes smaller."""
+"""Runs of the program on random texts: their words and files, what they have to answer, and how they become smaller."""
 
+import time
+from argparse import ArgumentParser
+from collections.abc import Callable, Iterator
 from dataclasses import dataclass, field, replace
 from pathlib import Path
 from typing import Literal
@@ -132,6 +135,22 @@ def cut_keys(run: Run, fails: Fails[Run]) -> Run:
     if not run.keys:
         return run
     return replace(run, keys=fewest_characters(run.keys, lambda keys: fails(replace(run, keys=keys))))
+
+
+def with_seconds(usual: int) -> Callable[[ArgumentParser], object]:
+    """The option --seconds, after which no further random thing is tried."""
+    words = "how long random things are tried (%(default)s)"
+    return lambda parser: parser.add_argument("--seconds", type=float, default=usual, help=words)
+
+
+def numbers(test: Test) -> Iterator[int]:
+    """The numbers of the random things that are tried in time."""
+    begun = time.monotonic()
+    for number in range(test.count):
+        if time.monotonic() - begun > test.options.seconds:
+            test.say(f"the time was over after {number}")
+            return
+        yield number
 
 
 def judge(test: Test, run: Run, name: str) -> None:
