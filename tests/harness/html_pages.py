@@ -1,20 +1,30 @@
 """The HTML files that the program writes, taken apart by html5lib."""
 
 import os
-import subprocess
 import sys
 from importlib.util import find_spec
+from typing import Any, NamedTuple
 
-from program import PROGRAM
-from second_reading.html import Section
+from second_reading.html import Section, Way
 
+# An element of html5lib's tree, which has no types.
+Element = Any
 FORBIDDEN = {"b", "i", "form", "link", "img", "base", "object", "embed", "iframe"}
-
-
 DEBIAN = "/usr/bin/python3"
 
 
-def has(module):
+class Page(NamedTuple):
+    """What a file shows before its sections, its sections, and what is wrong with it as a whole."""
+
+    name: str
+    verdict: str
+    asked: str
+    faults: list[str]
+    sections: list[Section]
+    wrong: list[str]
+
+
+def has(module: str) -> bool:
     """Whether Python has a module of a Debian package; Debian's Python takes over if only it has it."""
     if find_spec(module):
         return True
@@ -23,39 +33,24 @@ def has(module):
     return False
 
 
-def write(file, words=()):
-    """Standard output, standard error and status of `show --as html`."""
-    done = subprocess.run([PROGRAM, "show", file, "--as", "html", *words], capture_output=True, timeout=120, check=False)
-    return done.stdout.decode(), done.stderr.decode(), done.returncode
+def plain(element: Element) -> str:
+    return str(element.tag).rpartition("}")[2] if isinstance(element.tag, str) else "comment"
 
 
-def plain(element):
-    return element.tag.rpartition("}")[2] if isinstance(element.tag, str) else "comment"
+def every(element: Element, name: str) -> list[Element]:
+    """The elements of a name in an element."""
+    return [inner for inner in element.iter() if plain(inner) == name]
 
 
-def parse(text):
-    """The document's root, and what is wrong with the file as a whole."""
-    import html5lib
-
-    parser = html5lib.HTMLParser()
-    root = parser.parse(text)
-    wrong = [f"parse error {code} at {at}" for at, code, _ in parser.errors]
-    for element in root.iter():
-        if plain(element) in FORBIDDEN | {"comment"}:
-            wrong.append(f"an element {plain(element)}")
-        wrong.extend(f"an attribute {name}" for name in element.attrib if str(name).startswith("on") or name == "src")
-    return root, wrong
-
-
-def children(element, name):
+def children(element: Element, name: str) -> list[Element]:
     return [child for child in element if plain(child) == name]
 
 
-def text_of(element):
+def text_of(element: Element) -> str:
     return "".join(element.itertext())
 
 
-def touched(svg):
+def touched(svg: Element) -> int | None:
     """The position of the cell that has a red frame, the last child of the picture, or None."""
     last = list(svg)[-1]
     if last.get("class") != "touched":
@@ -63,38 +58,51 @@ def touched(svg):
     return int(last.get("x")) // 12 + 40 * (int(last.get("y")) // 20)
 
 
-def way(element):
-    if plain(element) == "a":
-        assert element.get("href") == f"#{text_of(element)}"
-        return "", element.get("data-key"), text_of(element)
-    return element.get("class"), element.get("data-key"), text_of(element)
+def way(element: Element) -> Way:
+    text, is_link = text_of(element), plain(element) == "a"
+    assert not is_link or element.get("href") == f"#{text}"
+    return Way("" if is_link else element.get("class"), element.get("data-key"), text)
 
 
-def section(element):
+def section(element: Element) -> Section:
     (svg,), (pre,) = children(element, "svg"), children(element, "pre")
     paragraphs = {child.get("class"): child for child in children(element, "p")}
-    assert text_of(children(element, "h2")[0]) == text_of(children(svg, "title")[0]) == element.get("id")
+    id = element.get("id")
+    assert text_of(children(element, "h2")[0]) == text_of(children(svg, "title")[0]) == id
+    ways = [way(child) for child in element.iter() if child.get("data-key") is not None]
     return Section(
-        element.get("id"),
+        id,
         element.get("class") == "unreached",
         text_of(pre),
         text_of(paragraphs["price"]),
         "over" in paragraphs,
-        [way(child) for child in element.iter() if child.get("data-key") is not None],
-        [text_of(line) for line in element.iter() if plain(line) == "li"],
+        ways,
+        [text_of(line) for line in every(element, "li")],
         touched(svg),
     )
 
 
-def sections(root):
-    return [section(element) for element in root.iter() if plain(element) == "section"]
+def page_of(text: str) -> Page:
+    import html5lib  # type: ignore[import]
 
-
-def before(root):
-    """The lines of the list before the sections, the text of the verdict, what was asked, and the name of the base."""
+    parser = html5lib.HTMLParser()
+    root = parser.parse(text)
+    wrong = [f"parse error {code} at {at}" for at, code, _ in parser.errors]
+    for element in root.iter():
+        if plain(element) in FORBIDDEN | {"comment"}:
+            wrong.append(f"an element {plain(element)}")
+        names = [str(name) for name in element.attrib]
+        wrong.extend(f"an attribute {name}" for name in names if name.startswith("on") or name == "src")
     (body,) = children(root, "body")
-    lines = [text_of(line) for list in children(body, "ul") if list.get("class") == "faults" for line in list if plain(line) == "li"]
-    verdict = next(text_of(p) for p in root.iter() if plain(p) == "p" and (p.get("class") or "").startswith("verdict"))
     (header,) = children(body, "header")
     (name,) = children(header, "h1")
-    return lines, verdict, text_of(children(header, "p")[-1]), text_of(name)
+    lists = [one for one in children(body, "ul") if one.get("class") == "faults"]
+    verdict = next(p for p in every(root, "p") if (p.get("class") or "").startswith("verdict"))
+    return Page(
+        text_of(name),
+        text_of(verdict),
+        text_of(children(header, "p")[-1]),
+        [text_of(line) for one in lists for line in every(one, "li")],
+        [section(one) for one in every(root, "section")],
+        wrong,
+    )
