@@ -5,9 +5,10 @@ import os
 import shutil
 from collections.abc import Iterable
 from pathlib import Path
+from typing import Any
 
 from harness.places import IS_ARM64, PROGRAM, TOP
-from harness.running import with_path
+from harness.running import Done, Word, run, with_path
 
 SHIPPED = Path("dist", "aarch64", "pageaudit-aarch64-linux") if IS_ARM64 else Path("dist", "pageaudit-x86_64-linux")
 FOLDERS = ["dist", "docs", "examples", "include"]
@@ -34,8 +35,32 @@ def copied(top: Path) -> Path:
 def ship(top: Path) -> None:
     """Writes the lists of checksums anew for the listed files as they are now, without those that aren't there."""
     for folder, name in (top, "SOURCES"), (top / "dist", "SHA256SUMS"):
-        listed = [line.split()[1] for line in (top / "dist" / name).read_text().splitlines()]
-        (top / "dist" / name).write_text(sums(folder, [path for path in listed if (folder / path).exists()]))
+        paths = [path for path in listed(top / "dist" / name) if (folder / path).exists()]
+        (top / "dist" / name).write_text(sums(folder, paths))
+
+
+def listed(path: Path) -> list[str]:
+    """The files in a list of checksums."""
+    return [line.split()[1] for line in path.read_text().splitlines()]
+
+
+def call(
+    top: Path, name: Word, *words: Word, env: dict[str, str] | None = None, cwd: Path | str = "/", **how: Any
+) -> Done:
+    """Runs a script of a copy, without the toolchain unless the environment has it."""
+    return run([top / str(name), *words], env=env or without_rt(), cwd=cwd, seconds=600, **how)
+
+
+def append(path: Path, text: str = " \n") -> None:
+    with open(path, "a", encoding="utf-8") as file:
+        file.write(text)
+
+
+def flip(path: Path) -> None:
+    """Changes one byte."""
+    data = bytearray(path.read_bytes())
+    data[len(data) // 2] ^= 1
+    path.write_bytes(data)
 
 
 def executable(path: Path, text: str) -> None:

@@ -69,10 +69,12 @@ def program(*words: Word, **how: Any) -> Done:
     return run([PROGRAM, *words], **how)
 
 
-def compiled(sources: Path | Sequence[Path], to: Path, *options: Word, compiler: str = CC) -> Path:
+def compiled(
+    sources: Path | Sequence[Path], to: Path, *options: Word, compiler: str = CC, libraries: Sequence[Word] = ()
+) -> Path:
     """Compiles C sources; what isn't compiled is an error."""
     every = [sources] if isinstance(sources, Path) else sources
-    done = run([compiler, "-O1", *options, *every, "-o", to], seconds=600)
+    done = run([compiler, "-O1", *options, *every, *libraries, "-o", to], seconds=600)
     if done.status:
         raise OSError(f"{to.name} isn't compiled: {done.stderr}")
     return to

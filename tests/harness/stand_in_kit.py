@@ -4,11 +4,13 @@ A library is the last line of its src/lib.rt, and the program prints the lines o
 the libraries back at its end that it found, and writes no stamp.
 """
 
-import os
 import re
+from collections.abc import Mapping
+from pathlib import Path
 
-from copies import without_rt
-from program import PROGRAM
+from harness.copies import executable, without_rt
+from harness.places import PROGRAM
+from harness.running import with_path
 
 RT = r"""#!/bin/bash
 kit=$(dirname "$(readlink -f "$0")")/..
@@ -111,21 +113,19 @@ FILES = {
 }
 
 
-def kit_crates(top):
+def kit_crates(top: Path) -> set[str]:
     """The kit's crates that those of a repository name."""
     lines = [line.partition("#")[0].partition(":") for line in (top / "crates.txt").read_text().splitlines()]
     own = {name.split()[0] for name, colon, _ in lines if colon}
     return {dep for _, _, deps in lines for dep in deps.split()} - own | {"std"}
 
 
-def with_kit(top, files=None):
+def with_kit(top: Path, files: Mapping[str, str] | None = None) -> dict[str, str]:
     """Writes the stand-in beside a copy of the repository, some of its files changed, and gives an environment that has it."""
     home = top / "kit"
     texts = {**FILES, **{f"rlibs/{name}.rlib/format": "" for name in kit_crates(top)}, **(files or {})}
     for name, text in texts.items():
         path = home / name
-        path.parent.mkdir(parents=True, exist_ok=True)
-        path.write_text(text)
+        executable(path, text)
         path.chmod(0o755 if re.match(r"(toolchain/)?bin/", name) else 0o644)
-    env = without_rt()
-    return env | {"PATH": f"{home / 'bin'}{os.pathsep}{env['PATH']}", "AARCH64_SYSROOT": str(home / "sysroot")}
+    return with_path(home / "bin", without_rt()) | {"AARCH64_SYSROOT": str(home / "sysroot")}
