@@ -7,5 +7,5 @@ all states, all ways and all frames.
 - faults.py: every fault of a base's text; of a text without one its base. words.py: numbers and kinds in words.
 - screen.py, screens.py, looks.py: what bytes do to a terminal, which screen is shown, and how its cells look.
 - session.py, audit.py, certificate.py, change.py, listing.py, map.py, html.py, lint.py, saved.py: what each command answers.
-- inputs.py: random bases, certificates and keys. runs.py: a run of the program with what it has to answer.
+- inputs.py: random bases, certificates and keys.
 """

@@ -31,7 +31,11 @@ def ranks_of(base: Base, ids: Iterable[FrameId]) -> Ranks:
     frames = [base.frames[id] for id in ids]
     while True:
         last = max(ranks.values())
-        wave = [frame.id for frame in frames if frame.id not in ranks and any(ranks.get(to) == last for key in KEYS if (to := frame.sought(key)))]
+        wave = [
+            frame.id
+            for frame in frames
+            if frame.id not in ranks and any(ranks.get(to) == last for key in KEYS if (to := frame.sought(key)))
+        ]
         if not wave:
             return ranks
         ranks.update((id, last + 1) for id in wave)

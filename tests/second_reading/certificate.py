@@ -4,7 +4,23 @@ from collections.abc import Iterator
 from dataclasses import dataclass
 from typing import NamedTuple
 
-from .base import DIGITS, MOST_LISTED, MOST_PAGE, Answer, Asked, Base, Frame, FrameId, Groups, Policy, Refused, answers, groups_in, id_in, is_numeral
+from .base import (
+    DIGITS,
+    MOST_LISTED,
+    MOST_PAGE,
+    Answer,
+    Asked,
+    Base,
+    Frame,
+    FrameId,
+    Groups,
+    Policy,
+    Refused,
+    answers,
+    groups_in,
+    id_in,
+    is_numeral,
+)
 from .faults import base_of
 from .screen import paint
 

@@ -75,9 +75,13 @@ def number_faults(piece: Piece, here: str, value: object, least: int, most: int)
         yield out_of_range(piece, f"{here} is {value}, at most {most} is allowed")
 
 
-def unknown_keys(table: Table, known: Iterable[str], frame: int | None, outer: tuple[str, ...], words: str) -> Iterator[Fault]:
+def unknown_keys(
+    table: Table, known: Iterable[str], frame: int | None, outer: tuple[str, ...], words: str
+) -> Iterator[Fault]:
     for key in sorted(set(table) - set(known), key=str.encode):
-        yield Fault("X3 UnknownKey", "", f"{quoted(key)} is not a key of {words}", Piece(What.KEY, frame, (*outer, key)))
+        yield Fault(
+            "X3 UnknownKey", "", f"{quoted(key)} is not a key of {words}", Piece(What.KEY, frame, (*outer, key))
+        )
 
 
 def top_faults(tree: Table) -> Iterator[Fault]:
@@ -90,7 +94,9 @@ def top_faults(tree: Table) -> Iterator[Fault]:
     if not isinstance(outside, list):
         yield wrong_kind(whole, '"outside"', outside, "a list of whole numbers")
     for index, page in enumerate(outside if isinstance(outside, list) else []):
-        yield from number_faults(whole._replace(indexes=(index,)), f'item {index + 1:,} of "outside"', page, 0, MOST_PAGE)
+        yield from number_faults(
+            whole._replace(indexes=(index,)), f'item {index + 1:,} of "outside"', page, 0, MOST_PAGE
+        )
     if not isinstance(frames := tree.get("frame", []), list):
         yield wrong_kind(Piece(What.VALUE, None, ("frame",)), '"frame"', frames, "an array of tables")
 
@@ -217,7 +223,9 @@ def pages_read(tree: Table) -> list[tuple[int, int]]:
     return [(index, page) for index, page in pages if is_integer(page) and 0 <= page <= MOST_PAGE]
 
 
-def base_faults(frames: list[tuple[int, Frame]], given_as_rows: set[int], outside: list[tuple[int, int]]) -> Iterator[Fault]:
+def base_faults(
+    frames: list[tuple[int, Frame]], given_as_rows: set[int], outside: list[tuple[int, int]]
+) -> Iterator[Fault]:
     """B4, B5, B3, B1 and B2 of the frames without a fault, which are listed with the numbers of their tables."""
     whole = Piece(What.VALUE, None, ("outside",))
     if len(frames) > MOST_LISTED:
@@ -279,7 +287,9 @@ def frame_of(table: FrameTable) -> Frame:
     assert id is not None
     body = body_of_rows(table["rows"]) if "rows" in table else table["body"]
     keep, routes = table.get("lead") == "keep", table.get("routes", {})
-    return Frame(id, table.get("price", 0), table.get("group"), table.get("next", False), routes, keep, body.encode("latin-1"))
+    return Frame(
+        id, table.get("price", 0), table.get("group"), table.get("next", False), routes, keep, body.encode("latin-1")
+    )
 
 
 def base_in(tree: Table) -> Base:

@@ -315,7 +315,14 @@ class Inputs:
     def head(self, base: Base, groups: Groups, count: int) -> list[str]:
         """The lines before that many rows."""
         more = [f"groups {' '.join(map(str, groups))}"] if groups else []
-        return ["PBC2" if groups else "PBC1", f"entry {base.entry}", f"ceiling {self.pick([9_999, 50])}", "keyings 9", *more, f"rows {count}"]
+        return [
+            "PBC2" if groups else "PBC1",
+            f"entry {base.entry}",
+            f"ceiling {self.pick([9_999, 50])}",
+            "keyings 9",
+            *more,
+            f"rows {count}",
+        ]
 
     def certificate_lines(self, base: Base, groups: Groups) -> list[str]:
         """A certificate of the frames that can be reached: the audit's own, or what comes nearest to one.
@@ -350,7 +357,9 @@ class Inputs:
         """Other groups after the fourth line, or none; line 1 mostly fits them."""
         right = [*([group] for group in GROUPS), [7, 9], GROUPS, MANY]
         words = self.pick(ODD_LISTS) if self.chance(0.5) else [*map(str, self.pick(right))]
-        line = self.pick(["groups ", "groups ", "groups ", "groups ", "groups", "groups  ", "Groups "]) + " ".join(words)
+        line = self.pick(["groups ", "groups ", "groups ", "groups ", "groups", "groups  ", "Groups "]) + " ".join(
+            words
+        )
         is_kept = self.chance(0.8)
         lines[4 : 5 if lines[4][:6] == "groups" else 4] = [line] if is_kept else []
         if self.chance(0.8):

@@ -3,7 +3,22 @@
 from collections.abc import Iterable
 
 from .audit import Survey
-from .base import MOST_PAGE, Answer, Asked, Base, Frame, FrameId, Groups, Key, Policy, Refused, answers, id_in, is_numeral, keys_in
+from .base import (
+    MOST_PAGE,
+    Answer,
+    Asked,
+    Base,
+    Frame,
+    FrameId,
+    Groups,
+    Key,
+    Policy,
+    Refused,
+    answers,
+    id_in,
+    is_numeral,
+    keys_in,
+)
 from .faults import base_of
 from .screen import CELLS, State, lead, step
 from .session import Session

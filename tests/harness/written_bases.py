@@ -5,10 +5,20 @@ Nothing of tests/second_reading is used here: a place is where the writer was wh
 
 import datetime
 import re
+from collections.abc import Callable, Iterable, Iterator, Mapping, Sequence
+from random import Random
+from typing import NamedTuple, TypeVar, cast
 
-PAGES = [0, 3, 555, 1_231, 70_000, 8_000_000, 999_999_999, *range(12, 70)]
+from harness.running import Done
+
+Item = TypeVar("Item")
+# What is written, by the keys and indexes that lead to it, from `top` or the index of a frame: its `key`, `value`, `pair`, `character`.
+Name = tuple[str | int, ...]
+
+
+PAGES: list[int] = [0, 3, 555, 1_231, 70_000, 8_000_000, 999_999_999, *range(12, 70)]
 COMMENTS = ["", "#", "# [[frame]]", '# id = "1a"', "# '''", '# """ ] }', "# \u20ac \u00e9\t\U0001f600"]
-ODD = [
+ODD: list[tuple[object, str]] = [
     ("x1", "a string"),
     (7, "a whole number"),
     (1.5, "a decimal number"),
@@ -52,6 +62,8 @@ UNKNOWN_OF_A_FRAME = [
     *("bodies", "PRICE", "x", "entry"),
 ]
 ODD_KEYS = [(text, shown) for text, shown in TEXTS if not text.isdigit() or len(text) > 1]
+# The characters of a text that is so long aren't marked.
+LONG = 3_000
 # What a literal string can hold, on one line and on several.
 LITERAL = re.compile(r"[^'\x00-\x08\n-\x1f\x7f]*")
 LITERAL_LINES = re.compile(r"(?:[^'\x00-\x08\n-\x1f\x7f]|\r?\n)*")
@@ -73,6 +85,7 @@ TOUCHING = [
 FEEDS = {"\x1e\nTEXT\nTEXT": 6, "\x1e\nAB\n\nCD": 5, "\x1e\n\tA\n\x80": 4}
 # Bodies with a line feed after a return, and its index.
 RETURNS = {"\x1e\nTEXT\r\nTEXT": 7, "\x1e\n\r\nAB\r\n\r\nA\r\n\x80": 12}
+MOST_FAULTS = 1_000
 # The fields in the order of judging: unknown keys, then these; `text` is the body or the rows.
 JUDGED = ["", "id", "price", "group", "next", "routes", "lead", "text"]
 
@@ -80,31 +93,36 @@ JUDGED = ["", "id", "price", "group", "next", "routes", "lead", "text"]
 class Pen:
     """Spells keys and values in one of the ways of TOML, by the one source of chance."""
 
-    def __init__(self, random):
-        self.random, self.pick = random, random.choice
+    def __init__(self, random: Random) -> None:
+        self.random = random
         self.eol = self.pick(["\n", "\n", "\r\n"])
         self.is_odd = self.pick([False, True, True])
-        self.names = []
+        self.names: list[Name] = []
 
-    def begin(self, name):
+    def pick(self, items: Sequence[Item]) -> Item:
+        return self.random.choice(items)
+
+    def begin(self, name: Name) -> tuple[str, str]:
         """Marks where a thing begins, and gives the mark of its end. A sheet takes the marks out of the text."""
         high, low = divmod(len(self.names), 60_000)
         self.names.append(name)
         number = chr(0xF0000 + high) + chr(0xF0000 + low)
         return f"\ue000{number}", f"\ue001{number}"
 
-    def mark(self, name, text):
+    def mark(self, name: Name, text: str) -> str:
         begin, end = self.begin(name)
         return f"{begin}{text}{end}"
 
-    def marked(self, name, text):
+    def marked(self, name: Name, text: str) -> str:
         """Each character of a text, marked by its index, if the text isn't long."""
-        return "".join(self.mark((*name, at, "character"), c) for at, c in enumerate(text)) if len(text) < 3_000 else text
+        if len(text) >= LONG:
+            return text
+        return "".join(self.mark((*name, at, "character"), c) for at, c in enumerate(text))
 
-    def chance(self, share):
+    def chance(self, share: float) -> bool:
         return self.random.random() < share
 
-    def number(self, value):
+    def number(self, value: int) -> str:
         forms = [str(value)]
         if self.is_odd and value >= 0:
             digits = str(value)
@@ -112,7 +130,7 @@ class Pen:
             forms += ["_".join(digits), f"{value:_}"]
         return self.pick(forms)
 
-    def escape(self, c):
+    def escape(self, c: str) -> str:
         forms = [f"\\U{ord(c):08x}"]
         if ord(c) < 0x10000:
             forms += [f"\\u{ord(c):04X}"] * 2
@@ -120,7 +138,7 @@ class Pen:
             forms.append(f"\\x{ord(c):02x}")
         return self.pick([*forms, *[f"\\{NAMED[c]}"] * 4]) if c in NAMED else self.pick(forms)
 
-    def escaped(self, text, name=None, in_lines=False):
+    def escaped(self, text: str, name: Name = (), in_lines: bool = False) -> str:
         """The inside of a basic string, of one line or of several; of a value of this name with its characters marked."""
         spelled = ""
         for at, c in enumerate(text):
@@ -130,22 +148,24 @@ class Pen:
             is_quote = in_lines and c == '"' and text[at - 1 : at] != '"' and 0 < at < len(text) - 1
             ends_line = in_lines and at > 0 and (c == "\n" or text[at : at + 2] == "\r\n")
             piece = c if is_plain or is_quote or ends_line else self.escape(c)
-            spelled += self.mark((*name, at, "character"), piece) if name and len(text) < 3_000 else piece
+            spelled += self.mark((*name, at, "character"), piece) if name and len(text) < LONG else piece
         return spelled
 
-    def string(self, text, name):
-        forms = [lambda: f'"{self.escaped(text, name)}"']
+    def string(self, text: str, name: Name) -> str:
+        forms: list[Callable[[], str]] = [lambda: f'"{self.escaped(text, name)}"']
         if self.is_odd:
             first = self.pick(["", self.eol])
             if not text.startswith("\n"):
-                forms += [lambda: f'"""{first}{self.escaped(text, name, in_lines=True)}"""'] * (3 if "\n" in text else 1)
+                long: Callable[[], str] = lambda: f'"""{first}{self.escaped(text, name, in_lines=True)}"""'
+                forms += [long] * (3 if "\n" in text else 1)
             if LITERAL.fullmatch(text):
                 forms += [lambda: f"'{self.marked(name, text)}'", lambda: f"'''{first}{self.marked(name, text)}'''"]
             elif LITERAL_LINES.fullmatch(text):
-                forms += [lambda: f"'''{self.eol}{self.marked(name, text)}'''"] * 3
+                lines: Callable[[], str] = lambda: f"'''{self.eol}{self.marked(name, text)}'''"
+                forms += [lines] * 3
         return self.pick(forms)()
 
-    def key(self, text):
+    def key(self, text: str) -> str:
         is_bare = re.fullmatch("[A-Za-z0-9_-]+", text)
         forms = [text] * 4 if is_bare else []
         if self.is_odd or not is_bare:
@@ -154,27 +174,27 @@ class Pen:
                 forms.append(f"'{text}'")
         return self.pick(forms)
 
-    def space(self):
+    def space(self) -> str:
         return self.pick(["", " ", "  ", "\t"]) if self.is_odd else " "
 
-    def blank(self):
+    def blank(self) -> str:
         """What may be between the elements of an array, and in TOML 1.1 between those of an inline table."""
         forms = ["", " "]
         if self.is_odd:
             forms += ["\t", self.eol, f"{self.eol}    ", f" {self.pick(COMMENTS)}{self.eol}"]
         return self.pick(forms)
 
-    def joined(self, opening, parts, closing):
+    def joined(self, opening: str, parts: list[str], closing: str) -> str:
         if not parts:
             return opening + self.blank() + closing
         last = self.pick(["", "", ","]) if self.is_odd else ""
         inside = ",".join(self.blank() + part + self.blank() for part in parts)
         return opening + inside + last + self.blank() + closing
 
-    def value(self, value, name):
+    def value(self, value: object, name: Name) -> str:
         return self.mark((*name, "value"), self.unmarked(value, name))
 
-    def unmarked(self, value, name):
+    def unmarked(self, value: object, name: Name) -> str:
         if isinstance(value, bool):
             return str(value).lower()
         if isinstance(value, int):
@@ -187,14 +207,14 @@ class Pen:
             return self.joined("{", [self.pair(key, part, (*name, key)) for key, part in value.items()], "}")
         return str(value)
 
-    def named_key(self, key, name):
+    def named_key(self, key: str, name: Name) -> str:
         return self.mark((*name, "key"), self.key(key))
 
-    def pair(self, key, value, name):
+    def pair(self, key: str, value: object, name: Name) -> str:
         text = f"{self.named_key(key, name)}{self.space()}={self.space()}{self.value(value, name)}"
         return self.mark((*name, "pair"), text)
 
-    def dotted_pair(self, key, inner, value, name):
+    def dotted_pair(self, key: str, inner: str, value: object, name: Name) -> str:
         """A pair of a table at a key, by a dotted key. The value of the outer key is the key from there on."""
         begin, end = self.begin((*name, "value"))
         pair, end_of_pair = self.begin((*name, inner, "pair"))
@@ -208,19 +228,20 @@ MARK = re.compile("([\ue000\ue001])([\U000f0000-\U0010ffff]{2})")
 class Sheet:
     """The text as it is written, and the span of each thing where it was written first."""
 
-    def __init__(self, pen):
+    def __init__(self, pen: Pen) -> None:
         self.pen = pen
         self.text = "\ufeff" if pen.is_odd and pen.chance(0.2) else ""
-        self.spans = {}
+        self.spans: dict[Name, tuple[int, int]] = {}
 
-    def place(self, at):
+    def place(self, at: int) -> tuple[int, int]:
         """Line and column of an offset. A byte order mark has no column."""
         *before, last = self.text[:at].removeprefix("\ufeff").split("\n")
         return len(before) + 1, len(last) + 1
 
-    def put(self, text):
+    def put(self, text: str) -> None:
         """Writes a text without its marks, and notes where they were."""
-        begun, at = {}, 0
+        begun: dict[str, int] = {}
+        at = 0
         for found in MARK.finditer(text):
             self.text += text[at : found.start()]
             at = found.end()
@@ -231,14 +252,14 @@ class Sheet:
                 self.spans.setdefault(self.pen.names[high * 60_000 + low], (begun[found[2]], len(self.text)))
         self.text += text[at:]
 
-    def expression(self, text):
+    def expression(self, text: str) -> None:
         pen = self.pen
         for _ in range(pen.pick([0, 0, 0, 1, 2])):
             self.put(pen.space() * pen.is_odd + pen.pick(COMMENTS) + pen.eol)
         self.put(pen.pick(["", "", "  ", "\t"]) if pen.is_odd else "")
         self.put(text + pen.pick(["", "", " ", f" {pen.pick(COMMENTS)}"]) + pen.eol)
 
-    def header(self, name, keys, is_element):
+    def header(self, name: Name, keys: list[str], is_element: bool) -> None:
         """A header, which is the value of its last key, and the frame if it is an element."""
         dot = f"{self.pen.space()}.{self.pen.space()}" if self.pen.is_odd else "."
         pad = self.pen.space() if self.pen.is_odd else ""
@@ -247,56 +268,105 @@ class Sheet:
         self.expression(self.pen.mark((*name, "value"), self.pen.mark((*name, "pair"), text)))
 
 
-def listed(faults, where):
-    """The first 1,000 faults of one table, and one finding for the others, where the first of these is.
+class Fault(NamedTuple):
+    """The words of a finding, and what is at fault: its name from the table of a frame, or of the top, on.
 
-    Each is its keys, its words, and the words that tell what is at fault.
+    Without a name it is the file's first line; of `later` keys it is the one that is written last. {F} is the frame's name, and some
+    words end with the line of another frame.
     """
-    key, words = faults[1_000] if len(faults) > 1_000 else (None, "")
-    others = f"{len(faults) - 1_000:,} more fault{'s' * (len(faults) > 1_001)}"
-    last = key, f"{words.split(': ')[0]}: {others} {where}, not listed", words
-    return [(*fault, fault[1]) for fault in faults[:1_000]] + [last] * (len(faults) > 1_000)
+
+    words: str
+    name: Name = ("value",)
+    frame: "Frame | None" = None
+    first: "Frame | None" = None
+
+
+def listed(faults: list[Fault], where: str) -> list[Fault]:
+    """The first 1,000 faults of one table, and one finding for the others, where the first of these is."""
+    if len(faults) <= MOST_FAULTS:
+        return faults
+    rest = faults[MOST_FAULTS:]
+    others = f"{len(rest):,} more fault{'s' * (len(rest) > 1)}"
+    return [
+        *faults[:MOST_FAULTS],
+        rest[0]._replace(words=f"{rest[0].words.split(': ')[0]}: {others} {where}, not listed"),
+    ]
 
 
 class Frame:
-    """A frame's fields, and the words of the faults of each field with the keys to their place."""
+    """A frame's fields, and the faults of each field."""
 
-    def __init__(self, page, letter, text):
+    def __init__(self, page: int, letter: str, text: dict[str, object]) -> None:
         self.page, self.letter = page, letter
-        self.fields = {"id": f"{page}{letter}", **text}
-        self.faults = {}
-        self.script = self.rank = None
+        self.fields: dict[str, object] = {"id": f"{page}{letter}", **text}
+        self.faults: dict[str, list[Fault]] = {}
+        self.script: str | None = None
+        self.rank: int | None = None
 
     @property
-    def id(self):
+    def id(self) -> str:
         return f"{self.page}{self.letter}"
 
-    def fault(self, field, words, *keys):
-        self.faults.setdefault(field, []).append((keys, words))
+    @property
+    def place(self) -> tuple[int, str]:
+        return self.page, self.letter
 
-    def in_order(self):
+    @property
+    def routes(self) -> dict[str, object]:
+        return cast(dict[str, object], self.fields["routes"])
+
+    @property
+    def rows(self) -> list[object]:
+        return cast(list[object], self.fields.get("rows", []))
+
+    @property
+    def keys(self) -> str:
+        """The keys that lead to the frame, as words of a fault."""
+        return f" (keys {self.script})" if self.script else " (at the entry page)"
+
+    def spoil(self, field: str, value: object, words: str, *name: str | int) -> None:
+        """A field has a value that is at fault."""
+        self.fields[field] = value
+        self.fault(field, words, *(name or (field, "value")))
+
+    def fault(self, field: str, words: str, *name: str | int) -> None:
+        self.faults.setdefault(field, []).append(Fault(words, name))
+
+    def in_order(self) -> Iterator[Fault]:
         """The faults in the order of judging, with the frame's name in the words."""
         name = f"frame {self.id}" if self.fields.get("id") == self.id else "this frame"
         faults = [fault for field in JUDGED for fault in self.faults.get(field, [])]
-        for keys, words, spoken in listed(faults, "in {F}"):
-            yield keys, words.replace("{F}", name), spoken
+        for fault in listed(faults, "in {F}"):
+            yield fault._replace(words=fault.words.replace("{F}", name))
 
 
 class Written:
     """A base that is written: its text, and what `lint` has to print of it."""
 
-    def __init__(self, random):
-        self.pen = Pen(random)
-        self.random, self.pick, self.chance = random, random.choice, self.pen.chance
-        self.pages = random.sample(PAGES, len(PAGES))
-        self.top, self.top_faults, self.whole_faults, self.warnings = {}, [], [], []
-        self.frames = []
-        self.policy, self.groups = (9_999, 65_535), None
+    def __init__(self, random: Random) -> None:
+        self.random, self.pen = random, Pen(random)
+        self.sheet: Sheet
+        self.pages: list[int] = random.sample(PAGES, len(PAGES))
+        self.top: dict[str, object] = {}
+        self.frames: list[Frame] = []
+        self.top_faults: list[Fault] = []
+        self.whole_faults: list[Fault] = []
+        self.warnings: list[Fault] = []
+        self.ceiling, self.keyings = 9_999, 65_535
+        self.groups: str | None = None
+        self.is_inline = False
+        self.later: list[str] = []
 
-    def page(self):
+    def pick(self, items: Sequence[Item]) -> Item:
+        return self.pen.pick(items)
+
+    def chance(self, share: float) -> bool:
+        return self.pen.chance(share)
+
+    def page(self) -> int:
         return self.pages.pop()
 
-    def plain_text(self):
+    def plain_text(self) -> dict[str, object]:
         """A body or rows that writes into no service row."""
         if self.chance(0.5):
             rows = ["", "ONE", "TWO # 2", "'\"'", "[[frame]]", "\\u0081X"]
@@ -305,7 +375,7 @@ class Written:
             return {"body": self.pick([*FEEDS, *RETURNS])}
         return {"body": "\x1e\n" + self.pick(["", "TEXT", "= ] }", "\x1bAx", "\u00e9\u00a3", "'\"\\"])}
 
-    def write(self):
+    def write(self) -> bytes:
         self.sheet = sheet = Sheet(self.pen)
         tops = list(self.top)
         self.random.shuffle(tops)
@@ -324,19 +394,19 @@ class Written:
             sheet.text = sheet.text.removesuffix(self.pen.eol)
         return sheet.text.encode()
 
-    def write_later(self, share):
+    def write_later(self, share: float) -> None:
         """Tables of the base by headers of their own, which may be between those of frames."""
         while self.later and self.chance(share):
             key = self.later.pop()
             self.write_section(("top", key), [key], self.top[key])
 
-    def write_section(self, name, keys, table):
+    def write_section(self, name: Name, keys: list[str], table: object) -> None:
         """A table by a header of its own."""
         self.sheet.header(name, keys, False)
-        for key, value in table.items():
+        for key, value in cast(dict[str, object], table).items():
             self.sheet.expression(self.pen.pair(key, value, (*name, key)))
 
-    def write_frame(self, index, frame):
+    def write_frame(self, index: int, frame: Frame) -> None:
         sheet = self.sheet
         sheet.header((index,), ["frame"], True)
         keys = list(frame.fields)
@@ -345,95 +415,59 @@ class Written:
         for key in keys:
             value = frame.fields[key]
             form = self.pick(["pair", "pair", "dots", "section"]) if isinstance(value, dict) and value else "pair"
-            if form == "pair":
-                sheet.expression(self.pen.pair(key, value, (index, key)))
-            elif form == "section":
+            if form == "section":
                 later.append(key)
-            else:
+            elif form == "dots" and isinstance(value, dict):
                 for inner, part in value.items():
                     sheet.expression(self.pen.dotted_pair(key, inner, part, (index, key)))
+            else:
+                sheet.expression(self.pen.pair(key, value, (index, key)))
         for key in later:
             self.write_later(0.3)
             self.write_section((index, key), ["frame", key], frame.fields[key])
         self.write_later(0.3)
 
-    def table(self, index):
-        """The name of a frame's table; none is the top."""
-        if index is None:
-            return ("top",)
-        return ("top", "frame", index) if self.is_inline else (index,)
+    def span(self, frame: Frame | None, name: Name) -> tuple[int, int]:
+        """Where a thing is in a frame, or at the top."""
+        if frame is None:
+            return self.sheet.spans[("top", *name)]
+        index = next(index for index, other in enumerate(self.frames) if other is frame)
+        return self.sheet.spans[("top", "frame", index, *name) if self.is_inline else (index, *name)]
 
-    def begin(self, *name):
-        """Where a thing begins."""
-        return self.sheet.spans[name][0]
+    def begin(self, frame: Frame | None, name: Name) -> int:
+        """Where what is at fault begins."""
+        if name and name[-1] == "later":
+            return max(self.begin(frame, (key, "key")) for key in name[:-1])
+        return self.span(frame, name)[0] if name else 0
 
-    def at_fault(self, index, keys, words):
-        """Where what the words say begins."""
-        table, (code, *_) = self.table(index), words.replace(":", "").split(" ")
-        if code == "X4" and index is None:
-            return 0
-        if code in ("X4", "NORETURN", "UNREACHED") and index is not None:
-            return self.begin(*table, "value")
-        if code == "X7":
-            return max(self.begin(*table, key, "key") for key in ("body", "rows"))
-        if code == "X3":
-            return self.begin(*table, *keys, "key")
-        if code in ("MISSING", "CLOSED", "B3") or "route " in words:
-            return self.begin(*table, *keys, "pair")
-        return self.begin(*table, *keys, *self.item(index, words))
+    def line(self, frame: Frame | None) -> str:
+        """The line of a frame to which words refer."""
+        if frame is None:
+            return ""
+        return str(self.sheet.place(self.begin(frame, ("value",) if self.is_inline else ("id", "key")))[0])
 
-    def item(self, index, words):
-        """What of a value the words are about."""
-        if "at most 22 are allowed" in words:
-            return 22, "value"
-        if " more character" in words:
-            return ()
-        if found := re.match(r"B2 OutsideInside: page (\d+)", words):
-            is_page = lambda item: type(item) is int and item == int(found[1])
-            return next(at for at, item in enumerate(self.top["outside"]) if is_page(item)), "value"
-        if found := re.search(r"character ([\d,]+) of row ([\d,]+) of", words):
-            return *(int(found[group].replace(",", "")) - 1 for group in (2, 1)), "character"
-        if found := re.search(r"character ([\d,]+) of \"body\"", words):
-            return int(found[1].replace(",", "")) - 1, "character"
-        if found := re.search(r"byte ([\d,]+) of the body", words):
-            return int(found[1].replace(",", "")), "character"
-        if found := re.search(r"(?:row|item) ([\d,]+) of ", words):
-            return int(found[1].replace(",", "")) - 1, "value"
-        return ("value",)
-
-    def index(self, frame):
-        return next(index for index, other in enumerate(self.frames) if other is frame)
-
-    def findings(self):
+    def findings(self) -> Iterator[tuple[int, str, str]]:
         """Each finding with where it begins, in the order of judging; after `write`."""
-        for key, words, spoken in listed(self.top_faults, "at the top"):
-            keys = key if isinstance(key, tuple) else (key,)
-            yield self.at_fault(None, keys, spoken), "error", words
-        for index, frame in enumerate(self.frames):
-            for keys, words, spoken in frame.in_order():
-                yield self.at_fault(index, keys, spoken), "error", words
-        for frame, keys, words in self.whole_faults:
-            words = words() if callable(words) else words
-            yield self.at_fault(None if frame is None else self.index(frame), keys, words), "error", words
-        for frame, keys, words in self.warnings:
-            yield self.at_fault(None if frame is None else self.index(frame), keys, words), "warning", words
+        errors = listed(self.top_faults, "at the top")
+        errors += [fault._replace(frame=frame) for frame in self.frames for fault in frame.in_order()]
+        for level, faults in ("error", errors + self.whole_faults), ("warning", self.warnings):
+            for fault in faults:
+                yield self.begin(fault.frame, fault.name), level, fault.words + self.line(fault.first)
 
-    def answer(self, path):
-        """Standard output, standard error and status of `lint`."""
+    def answer(self, path: object) -> Done:
+        """How `lint` has to end, and what it has to print."""
         found = sorted(self.findings(), key=lambda finding: finding[0])
         placed = [(self.sheet.place(at), level, words) for at, level, words in found]
         lines = [f"{path}:{line}:{column}: {level}: {words}\n" for (line, column), level, words in placed]
-        counts = []
-        for word in "error", "warning":
-            number = sum(level == word for _, level, _ in found)
-            counts += [f"{number:,} {word}{'s' * (number > 1)}"] if number else []
-        return "".join(lines), ", ".join(counts) + "\n" if counts else "", 1 if "error" in "".join(counts) else 0
+        numbers = [(sum(level == word for _, level, _ in found), word) for word in ("error", "warning")]
+        counts = ", ".join(f"{number:,} {word}{'s' * (number > 1)}" for number, word in numbers if number)
+        return Done(1 if numbers[0][0] else 0, "".join(lines), f"{counts}\n" if counts else "")
 
 
 class FaultyText(Written):
     """A base with faults of its text: each has its words from the rules, in the order of judging."""
 
-    def __init__(self, random):
+    def __init__(self, random: Random) -> None:
         super().__init__(random)
         for _ in range(self.pick([0, 1, 2, 3, 5, 8])):
             page = self.page()
@@ -448,11 +482,11 @@ class FaultyText(Written):
         if not (self.top_faults or self.whole_faults or any(frame.faults for frame in self.frames)):
             self.leave_entry_out()
 
-    def leave_entry_out(self):
+    def leave_entry_out(self) -> None:
         del self.top["entry"]
-        self.top_faults.append((None, 'X4 Absent: the base has no "entry"'))
+        self.top_faults.append(Fault('X4 Absent: the base has no "entry"', ()))
 
-    def right_frame(self, page, letter):
+    def right_frame(self, page: int, letter: str) -> Frame:
         frame = Frame(page, letter, self.plain_text())
         fields = frame.fields
         if self.chance(0.4):
@@ -468,259 +502,270 @@ class FaultyText(Written):
             fields["lead"] = self.pick(["clear", "keep"])
         return frame
 
-    def wrong_kind(self, name, needed, fitting):
+    def wrong_kind(self, name: str, needed: str, fitting: str | None = None) -> tuple[object, str]:
         """A value of another kind, and the words of X5."""
-        value, kind = self.pick([(value, kind) for value, kind in ODD if kind not in fitting])
+        value, kind = self.pick([(value, kind) for value, kind in ODD if kind != (fitting or needed)])
         return value, f"X5 WrongKind: {name} is {kind}, {needed} is needed"
 
-    def wrong_number(self, name, least, most):
+    def wrong_number(self, name: str, least: int, most: int) -> tuple[object, str]:
         if self.chance(0.4):
-            value, words = self.wrong_kind(name, "a whole number", ["a whole number"])
-            return value, words
+            return self.wrong_kind(name, "a whole number")
         low, high = least - self.pick([1, 5, 10**9]), most + self.pick([1, 5, 10**9])
         if self.chance(0.5):
             return low, f"X6 Range: {name} is {low}, at least {least} is needed"
         return high, f"X6 Range: {name} is {high}, at most {most} is allowed"
 
-    def unknown_keys(self, known, words, count):
+    def unknown_keys(self, known: list[str], words: str, count: int) -> Iterator[tuple[str, object, str]]:
         """Unknown keys in the order of their bytes: each with its value and the words of X3."""
         keys = {}
         for _ in range(count):
             if self.chance(0.3):
                 key, shown = self.pick(ODD_KEYS)
-                keys[key] = f"X3 UnknownKey: {shown} is not a key of {words}"
             else:
                 key = self.pick(known)
-                keys[key] = f'X3 UnknownKey: "{key}" is not a key of {words}'
-        return [(key, self.pick(ODD)[0], keys[key]) for key in sorted(keys, key=str.encode)]
+                shown = f'"{key}"'
+            keys[key] = f"X3 UnknownKey: {shown} is not a key of {words}"
+        for key in sorted(keys, key=str.encode):
+            yield key, self.pick(ODD)[0], keys[key]
 
-    def spoil_top(self):
+    def spoil_top(self) -> None:
         for key, value, words in self.unknown_keys(UNKNOWN_OF_A_BASE, "a base", self.pick([0, 0, 0, 1, 2])):
             self.top[key] = value
-            self.top_faults.append((key, words))
+            self.top_faults.append(Fault(words, (key, "key")))
         self.top["entry"] = self.pick(PAGES)
         share = self.random.random()
         if share < 0.1:
             self.leave_entry_out()
         elif share < 0.3:
             self.top["entry"], words = self.wrong_number('"entry"', 0, 999_999_999)
-            self.top_faults.append(("entry", words))
+            self.top_faults.append(Fault(words, ("entry", "value")))
         self.spoil_outside()
         if not self.frames:
             self.spoil_frames()
 
-    def spoil_frames(self):
+    def spoil_frames(self) -> None:
         """In the place of frames something else, or a list of what is no frame."""
         value, kind = self.pick([*ODD, (None, "a list")])
         if kind != "a list":
-            self.top_faults.append(("frame", f'X5 WrongKind: "frame" is {kind}, an array of tables is needed'))
+            words = f'X5 WrongKind: "frame" is {kind}, an array of tables is needed'
+            self.top_faults.append(Fault(words, ("frame", "value")))
             self.top["frame"] = value
             return
         items = self.random.sample([(value, kind) for value, kind in ODD if kind != "a table"], self.pick([0, 1, 2]))
         self.top["frame"] = [value for value, _ in items]
         for at, (_, kind) in enumerate(items):
-            self.top_faults.append((("frame", at), f'X5 WrongKind: an item of "frame" is {kind}, a table is needed'))
+            words = f'X5 WrongKind: an item of "frame" is {kind}, a table is needed'
+            self.top_faults.append(Fault(words, ("frame", at, "value")))
 
-    def spoil_outside(self):
+    def spoil_outside(self) -> None:
         share = self.random.random()
         if share < 0.1:
-            self.top["outside"], words = self.wrong_kind('"outside"', "a list of whole numbers", ["a list"])
-            self.top_faults.append(("outside", words))
+            self.top["outside"], words = self.wrong_kind('"outside"', "a list of whole numbers", "a list")
+            self.top_faults.append(Fault(words, ("outside", "value")))
             return
-        outside = [self.page() for _ in range(self.pick([0, 1, 3]))]
+        outside: list[object] = [self.page() for _ in range(self.pick([0, 1, 3]))]
         if share < 0.4:
             many = self.frames and self.chance(0.05)
             for _ in range(self.pick([998, 1_001, 1_300] if many else [0, 1, 3])):
                 outside.append(1_000)
                 if many or self.chance(0.6):
-                    name = f'item {len(outside):,} of "outside"'
-                    outside[-1], words = self.wrong_number(name, 0, 999_999_999)
-                    self.top_faults.append(("outside", words))
+                    outside[-1], words = self.wrong_number(f'item {len(outside):,} of "outside"', 0, 999_999_999)
+                    self.top_faults.append(Fault(words, ("outside", len(outside) - 1, "value")))
         if outside or self.chance(0.5):
             self.top["outside"] = outside
 
-    def spoil(self, frame):
+    def spoil(self, frame: Frame) -> None:
         """One field of the frame is at fault, if it wasn't before."""
         field = self.pick(JUDGED + ["text", "text", "routes"])
-        if field not in frame.faults:
-            getattr(self, f"spoil_{field or 'keys'}")(frame)
+        spoil: Mapping[str, Callable[[Frame], None]] = {
+            "": self.spoil_keys,
+            "id": self.spoil_id,
+            "routes": self.spoil_routes,
+            "lead": self.spoil_lead,
+            "text": self.spoil_text,
+        }
+        if field in frame.faults:
+            return
+        if field in spoil:
+            spoil[field](frame)
+        elif field == "next":
+            frame.spoil("next", *self.wrong_kind('"next" of {F}', "true or false"))
+        else:
+            least, most = (0, 9_999) if field == "price" else (1, 65_535)
+            frame.spoil(field, *self.wrong_number(f'"{field}" of {{F}}', least, most))
 
-    def spoil_keys(self, frame):
+    def spoil_keys(self, frame: Frame) -> None:
         for key, value, words in self.unknown_keys(UNKNOWN_OF_A_FRAME, "a frame", self.pick([1, 1, 2, 3])):
             frame.fields[key] = value
-            frame.fault("", words, key)
+            frame.fault("", words, key, "key")
 
-    def spoil_id(self, frame):
+    def spoil_id(self, frame: Frame) -> None:
         share = self.random.random()
         if share < 0.2:
             del frame.fields["id"]
-            frame.fault("id", 'X4 Absent: this frame has no "id"')
+            frame.fault("id", 'X4 Absent: this frame has no "id"', "value")
         elif share < 0.4:
-            frame.fields["id"], words = self.wrong_kind('"id" of this frame', "a string", ["a string"])
-            frame.fault("id", words, "id")
+            frame.spoil("id", *self.wrong_kind('"id" of this frame', "a string"))
         else:
-            frame.fields["id"], shown = self.pick(TEXTS)
-            frame.fault("id", f"I2 BadFrame: {shown} is not a frame id", "id")
+            text, shown = self.pick(TEXTS)
+            frame.spoil("id", text, f"I2 BadFrame: {shown} is not a frame id")
 
-    def spoil_price(self, frame):
-        value, words = self.wrong_number('"price" of {F}', 0, 9_999)
-        frame.fields["price"] = value
-        frame.fault("price", words, "price")
-
-    def spoil_group(self, frame):
-        frame.fields["group"], words = self.wrong_number('"group" of {F}', 1, 65_535)
-        frame.fault("group", words, "group")
-
-    def spoil_next(self, frame):
-        frame.fields["next"], words = self.wrong_kind('"next" of {F}', "true or false", ["true or false"])
-        frame.fault("next", words, "next")
-
-    def spoil_routes(self, frame):
+    def spoil_routes(self, frame: Frame) -> None:
         if self.chance(0.2):
-            frame.fields["routes"], words = self.wrong_kind('"routes" of {F}', "a table", ["a table"])
-            frame.fault("routes", words, "routes")
+            frame.spoil("routes", *self.wrong_kind('"routes" of {F}', "a table"))
             return
-        routes = frame.fields["routes"] = dict(frame.fields.get("routes", {}))
+        routes = frame.fields["routes"] = dict(frame.routes) if "routes" in frame.fields else {}
         unknown = [*TEXTS, ("#", '"#"'), ("l", '"l"'), ("10", '"10"')]
         drawn = self.random.sample(unknown, self.pick([0, 0, 1, 2]))
         for key, shown in sorted(drawn, key=lambda item: item[0].encode()):
             routes[key] = self.pick(ODD)[0]
             words = f"X3 UnknownKey: {shown} is not a key of routes, use the digits 0 to 9"
-            frame.fault("routes", words, "routes", key)
+            frame.fault("routes", words, "routes", key, "key")
         for digit in sorted(self.random.sample("0123456789", self.pick([1, 1, 2, 3]))):
             routes[digit], words = self.wrong_number(f"route {digit} of {{F}}", 0, 999_999_999)
-            frame.fault("routes", words, "routes", digit)
+            frame.fault("routes", words, "routes", digit, "pair")
 
-    def spoil_lead(self, frame):
+    def spoil_lead(self, frame: Frame) -> None:
         if self.chance(0.4):
-            frame.fields["lead"], words = self.wrong_kind('"lead" of {F}', "a string", ["a string"])
-        else:
-            frame.fields["lead"], shown = self.pick([*TEXTS, ("cleer", '"cleer"'), ("Keep", '"Keep"')])
-            words = f'X6 Range: "lead" of {{F}} is {shown}, "clear" or "keep" is needed'
-        frame.fault("lead", words, "lead")
+            frame.spoil("lead", *self.wrong_kind('"lead" of {F}', "a string"))
+            return
+        lead, shown = self.pick([*TEXTS, ("cleer", '"cleer"'), ("Keep", '"Keep"')])
+        frame.spoil("lead", lead, f'X6 Range: "lead" of {{F}} is {shown}, "clear" or "keep" is needed')
 
-    def spoil_text(self, frame):
+    def spoil_text(self, frame: Frame) -> None:
         fields, share = frame.fields, self.random.random()
         fields.pop("rows", None)
         fields.pop("body", None)
         if share < 0.1:
-            frame.fault("text", 'X4 Absent: {F} has no "body" and no "rows"')
+            frame.fault("text", 'X4 Absent: {F} has no "body" and no "rows"', "value")
         elif share < 0.25:
-            frame.fault("text", 'X7 BodyAndRows: {F} has both "body" and "rows", leave out one', "rows")
+            words = 'X7 BodyAndRows: {F} has both "body" and "rows", leave out one'
+            frame.fault("text", words, "body", "rows", "later")
             fields["rows"], fields["body"] = [], ""
-            for spoil in self.pick([[], [self.spoil_body], [self.spoil_rows], [self.spoil_body, self.spoil_rows]]):
-                spoil(frame)
+            has_body, has_rows = self.pick([(False, False), (True, False), (False, True), (True, True)])
+            if has_body:
+                self.spoil_body(frame)
+            if has_rows:
+                self.spoil_rows(frame)
         elif share < 0.5:
             self.spoil_body(frame)
         else:
             self.spoil_rows(frame)
 
-    def spoil_body(self, frame):
+    def spoil_body(self, frame: Frame) -> None:
         if self.chance(0.4):
-            frame.fields["body"], words = self.wrong_kind('"body" of {F}', "a string", ["a string"])
-            frame.fault("text", words, "body")
+            frame.fields["body"], words = self.wrong_kind('"body" of {F}', "a string")
+            frame.fault("text", words, "body", "value")
             return
         before = self.pick([0, 1, 11, 999, 1_500])
-        text = "\xa3\t" * (before // 2) + "A" * (before % 2)
-        frame.fields["body"] = self.add_codes(
-            frame, text, FAR_CODES, ["body"], "X6 Range", '"body" of {F}', ("at most U+00FF is allowed", "above U+00FF")
-        )
+        text, ends = "\xa3\t" * (before // 2) + "A" * (before % 2), ("at most U+00FF is allowed", "above U+00FF")
+        frame.fields["body"] = self.add_codes(frame, text, FAR_CODES, ("body",), 'X6 Range: {} "body" of {{F}}', ends)
 
-    def add_codes(self, frame, text, codes, keys, code, where, ends):
-        """A text with refused characters added. Ten have a fault of their own, and the eleventh one for the others."""
+    def add_codes(
+        self, frame: Frame, text: str, codes: list[tuple[str, str]], name: Name, words: str, ends: tuple[str, str]
+    ) -> str:
+        """A text with refused characters added. Ten have a fault of their own, and the eleventh one for the others.
+
+        The words have a gap for the number of a character.
+        """
         places = []
         for _ in range(self.pick([1, 1, 1, 2, 10, 11, 12, 30])):
             c, shown = self.pick(codes)
             places.append(len(text))
             if len(places) <= 10:
-                frame.fault("text", f"{code}: character {len(text) + 1:,} of {where} is {shown}, {ends[0]}", keys[0])
+                begin = words.format(f"character {len(text) + 1:,} of")
+                frame.fault("text", f"{begin} is {shown}, {ends[0]}", *name, len(text), "character")
             text += c + self.pick(["", "", "B", "\x80~"])
         if more := places[10:]:
-            words = f"{len(more):,} more character{'s' * (len(more) > 1)} {ends[1]}"
-            frame.fault("text", f"{code}: {where} has {words}", *keys, more[0], "character")
+            begin = words.format("").replace(":  ", ": ")
+            number = f"{len(more):,} more character{'s' * (len(more) > 1)}"
+            frame.fault("text", f"{begin} has {number} {ends[1]}", *name, more[0], "character")
         return text
 
-    def spoil_rows(self, frame):
+    def spoil_rows(self, frame: Frame) -> None:
         if self.chance(0.2):
-            frame.fields["rows"], words = self.wrong_kind('"rows" of {F}', "a list of strings", ["a list"])
-            frame.fault("text", words, "rows")
+            frame.fields["rows"], words = self.wrong_kind('"rows" of {F}', "a list of strings", "a list")
+            frame.fault("text", words, "rows", "value")
             return
-        rows = frame.fields["rows"] = []
+        rows: list[object] = []
+        frame.fields["rows"] = rows
         many = self.pick([997, 1_000, 1_200] if self.chance(0.02) else [1, 2, 5, 22, 23, 30])
         if many > 22:
-            frame.fault("text", f"X6 Range: {{F}} has {many:,} rows, at most 22 are allowed", "rows")
+            frame.fault("text", f"X6 Range: {{F}} has {many:,} rows, at most 22 are allowed", "rows", 22, "value")
         wrong = set(self.random.sample(range(many), min(many, 3 if many <= 22 else self.pick([0, 2, many]))))
         for number in range(many):
             rows.append(self.pick(["", "A ROW", "C" * 40, "\x80\x9f ~\x7f"]))
             if number in wrong:
-                self.spoil_row(frame, number)
+                rows[number] = self.wrong_row(frame, number)
 
-    def spoil_row(self, frame, number):
-        rows, name, share = frame.fields["rows"], f"row {number + 1:,} of {{F}}", self.random.random()
+    def wrong_row(self, frame: Frame, number: int) -> object:
+        here, share = f"row {number + 1:,} of {{F}}", self.random.random()
         if share < 0.3:
-            rows[number], words = self.wrong_kind(name, "a string", ["a string"])
-            frame.fault("text", words, "rows")
-            return
+            value, words = self.wrong_kind(here, "a string")
+            frame.fault("text", words, "rows", number, "value")
+            return value
         before = self.pick([0, 1, 39, 40])
         first = len(frame.faults.get("text", []))
         if share < 0.6:
-            ends = "which no row may have", "that no row may have"
-            codes, keys = [*CODES, *FAR_CODES], ["rows", number]
-            rows[number] = self.add_codes(frame, "A" * before, codes, keys, "X9 RowCode", name, ends)
+            ends, codes = ("which no row may have", "that no row may have"), [*CODES, *FAR_CODES]
+            gap = f"X9 RowCode: {{}} row {number + 1:,} of {{{{F}}}}"
+            row = self.add_codes(frame, "A" * before, codes, ("rows", number), gap, ends)
         else:
-            rows[number] = "A" * before + "B" * self.pick([41, 1_000])
-        if len(rows[number]) > 40:
-            words = f"X8 RowTooLong: {name} has {len(rows[number]):,} characters, at most 40 are allowed"
-            frame.faults.setdefault("text", []).insert(first, (("rows",), words))
+            row = "A" * before + "B" * self.pick([41, 1_000])
+        if len(row) > 40:
+            words = f"X8 RowTooLong: {here} has {len(row):,} characters, at most 40 are allowed"
+            frame.faults.setdefault("text", []).insert(first, Fault(words, ("rows", number, "value")))
+        return row
 
-    def spoil_whole(self, right):
+    def whole(self, words: str, frame: Frame | None, *name: str | int, first: Frame | None = None) -> None:
+        self.whole_faults.append(Fault(words, name, frame, first))
+
+    def some(self, frames: list[Frame]) -> list[Frame]:
+        """A few of the frames, by their ids."""
+        drawn = self.random.sample(frames, min(len(frames), self.pick([0, 0, 1, 2])))
+        return sorted(drawn, key=lambda frame: frame.place)
+
+    def spoil_whole(self, right: list[Frame]) -> None:
         """Faults of the base as a whole, of frames without a fault of their own: B5, B3, B1, B2."""
-        in_order = lambda frames: sorted(frames, key=lambda frame: (frame.page, frame.letter))
-        for frame in in_order(self.random.sample(right, min(len(right), self.pick([0, 0, 1, 2])))):
+        for frame in self.some(right):
             size = self.pick([4_097, 10_000])
             frame.fields.pop("rows", None)
             frame.fields["body"] = "B" * size
-            words = f"B5 BodyTooLong: the body of frame {frame.id} has {size:,} bytes, at most 4,096 are allowed"
-            self.whole_faults.append((frame, ["body"], words))
-        for frame in in_order(frame for frame in right if frame.letter == "z" and self.chance(0.6)):
+            has = f"has {size:,} bytes, at most 4,096 are allowed"
+            self.whole(f"B5 BodyTooLong: the body of frame {frame.id} {has}", frame, "body", "value")
+        lasts = [frame for frame in right if frame.letter == "z" and self.chance(0.6)]
+        for frame in sorted(lasts, key=lambda frame: frame.place):
             frame.fields["next"] = True
             words = f'B3 NextAfterZ: frame {frame.id} has "next", but z is the last frame of a page'
-            self.whole_faults.append((frame, ["next"], words))
-        for frame in in_order(self.random.sample(right, min(len(right), self.pick([0, 0, 1, 2])))):
-            self.double(frame)
-        outside = self.top.get("outside")
-        if not isinstance(outside, list):
-            return
-        for page in sorted({frame.page for frame in right if self.chance(0.15)}):
+            self.whole(words, frame, "next", "pair")
+        for frame in self.some(right):
+            for _ in range(self.pick([1, 1, 2])):
+                self.frames.append(again := Frame(*frame.place, self.plain_text()))
+                words = f"B1 Duplicate: frame {frame.id} is defined already on line "
+                self.whole(words, again, "id", "value", first=frame)
+        if isinstance(outside := self.top.get("outside"), list):
+            self.list_inside(outside, sorted({frame.page for frame in right if self.chance(0.15)}))
+
+    def list_inside(self, outside: list[object], pages: list[int]) -> None:
+        for page in pages:
             for _ in range(self.pick([1, 1, 2])):
                 outside.insert(self.random.randrange(len(outside) + 1) if not self.top_faults else len(outside), page)
+        for page in pages:
             words = f"B2 OutsideInside: page {page} is listed as outside, but the base has a frame of it"
-            self.whole_faults.append((None, ["outside"], words))
-
-    def double(self, frame):
-        """Further frames of the id, which come after the first in the file."""
-        for _ in range(self.pick([1, 1, 2])):
-            again = Frame(frame.page, frame.letter, self.plain_text())
-            self.frames.append(again)
-            self.whole_faults.append((again, ["id"], lambda: self.doubled(frame)))
-
-    def doubled(self, first):
-        index = self.index(first)
-        name = (*self.table(index), "value") if self.is_inline else (index, "id", "key")
-        line, _ = self.sheet.place(self.begin(*name))
-        return f"B1 Duplicate: frame {first.id} is defined already on line {line}"
+            first = next(at for at, item in enumerate(outside) if type(item) is int and item == page)
+            self.whole(words, None, "outside", first, "value")
 
 
 class FaultyWalks(Written):
     """A right base, a tree of pages, with faults of its audit and with frames that no walk reaches."""
 
-    def __init__(self, random):
+    def __init__(self, random: Random) -> None:
         super().__init__(random)
-        ceiling = self.pick([0, 5, 50, 9_998])
-        self.policy = (ceiling, self.pick([0, 1, 1, 2, 2, 3, 65_535]))
+        self.ceiling = self.pick([0, 5, 50, 9_998])
+        self.keyings = self.pick([0, 1, 1, 2, 2, 3, 65_535])
         self.groups = self.pick([None, None, "7", "7,9"])
         self.own = [int(group) for group in (self.groups or "").split(",") if group]
-        self.reached = []
+        self.reached: list[Frame] = []
         self.entry = self.add(self.page(), "a", "", 0)
         self.top["entry"] = self.entry.page
         share = self.random.random()
@@ -736,49 +781,50 @@ class FaultyWalks(Written):
             if not frame.fields.get("routes") and self.chance(0.5):
                 frame.fields.pop("routes", None)
 
-    def findings(self):
+    def findings(self) -> Iterator[tuple[int, str, str]]:
         yield from super().findings()
-        for index, frame in enumerate(self.frames):
+        for frame in self.frames:
             for name, before, words in self.shown(frame):
-                begin, end = self.sheet.spans[*self.table(index), *name]
+                begin, end = self.span(frame, name)
                 piece, start = self.sheet.text[begin:end], self.sheet.text[:begin]
                 if start.endswith(before) and (piece == "\n" or name[0] == "rows" and piece[0] == "'"):
                     yield begin, "warning", words
 
-    def shown(self, frame):
-        """What may be wrong with what a frame shows, by where it is and what is before it; how it is written decides."""
-        if (at := FEEDS.get(frame.fields.get("body"))) is not None:
-            words = f"a line of the body of frame {frame.id} ends with a line feed alone, so the text goes on in the same column"
-            yield ("body", at, "character"), "", f"LINEEND: {words}"
-        if (at := RETURNS.get(frame.fields.get("body"))) is not None:
-            words = f"a line of the body of frame {frame.id} ends with CR LF as the file does"
-            yield ("body", at, "character"), "\r", f"LINEEND: {words}: saved with LF, the text goes on in the same column"
-        for at, row in enumerate(frame.fields.get("rows", [])):
-            if "\\u00" in row:
+    def shown(self, frame: Frame) -> Iterator[tuple[Name, str, str]]:
+        """What may be wrong with what a frame shows: its name, what is before it, and words; how it is written decides."""
+        line, body = f"LINEEND: a line of the body of frame {frame.id} ends with", str(frame.fields.get("body"))
+        if body in FEEDS:
+            how = "a line feed alone, so the text goes on in the same column"
+            yield ("body", FEEDS[body], "character"), "", f"{line} {how}"
+        if body in RETURNS:
+            how = "CR LF as the file does: saved with LF, the text goes on in the same column"
+            yield ("body", RETURNS[body], "character"), "\r", f"{line} {how}"
+        for at, row in enumerate(frame.rows):
+            if "\\u00" in str(row):
                 words = f"row {at + 1} of frame {frame.id} has \\u00 in single quotation marks, which is shown as it is"
                 yield ("rows", at, "value"), "", f"ESCAPE: {words}"
 
-    def outside(self):
-        pages = [frame.fields["routes"] for frame in self.reached if self.chance(0.2)]
-        listed = [self.page() for _ in range(min(3, len(pages)))]
-        for routes, page in zip(pages, listed):
+    def outside(self) -> None:
+        every = [frame.routes for frame in self.reached if self.chance(0.2)]
+        pages = [self.page() for _ in range(min(3, len(every)))]
+        for routes, page in zip(every, pages):
             free = [digit for digit in "89" if digit not in routes]
             if free:
                 routes[free[0]] = page
-        self.top["outside"] = listed
+        self.top["outside"] = pages
 
-    def add(self, page, letter, script, rank):
+    def add(self, page: int, letter: str, script: str | None, rank: int | None) -> Frame:
         frame = Frame(page, letter, self.plain_text())
         frame.fields["routes"] = {}
         frame.script, frame.rank = script, rank
         if self.chance(0.4):
-            frame.fields["price"] = self.pick([0, self.policy[0]])
+            frame.fields["price"] = self.pick([0, self.ceiling])
         if self.own and self.chance(0.2):
             frame.fields["group"] = self.pick(self.own)
         self.frames.append(frame)
         return frame
 
-    def spoil_entry(self):
+    def spoil_entry(self) -> None:
         """The entry frame is missing or closed. Of the other frames those that are open are counted."""
         others = self.pick([0, 1, 1, 2, 5])
         for _ in range(others):
@@ -787,17 +833,17 @@ class FaultyWalks(Written):
             self.add(self.page(), "a", None, None).fields["group"] = 8
         if others:
             words = f"no key leads to {others} frame{'s' * (others > 1)} from the entry page"
-            self.warnings.append((None, ["entry"], f"UNREACHED: {words}"))
+            self.warnings.append(Fault(f"UNREACHED: {words}", ("entry", "value")))
         if self.chance(0.5):
             self.frames.remove(self.entry)
             words = f"ENTRYMISSING: the entry page {self.entry.page} has no frame a"
-            self.whole_faults.append((None, ["entry"], words))
+            self.whole_faults.append(Fault(words, ("entry", "value")))
         else:
             group = self.entry.fields["group"] = self.pick([1, 8, 65_535])
             words = f"frame {self.entry.id}, the entry page, is closed to these callers; it belongs to group {group}"
-            self.whole_faults.append((self.entry, ["group"], f"ENTRYCLOSED: {words}"))
+            self.tell(self.entry, f"ENTRYCLOSED: {words}", "group", "value")
 
-    def grow(self):
+    def grow(self) -> None:
         """The frames in the order of discovery, each judged when its turn comes."""
         self.reached = [self.entry]
         for frame in self.reached:
@@ -805,100 +851,100 @@ class FaultyWalks(Written):
         for frame in self.reached:
             self.spoil(frame)
 
-    def offer(self, frame):
+    def offer(self, frame: Frame) -> None:
         """Ways to new frames: by digits, then the next frame."""
         ways = self.pick([0, 1, 2, 3] if frame is self.entry else [0, 0, 0, 1])
         for digit in sorted(self.random.sample("1234", ways)):
             if len(self.pages) > 8:
                 self.follow(frame, digit, self.page(), "a")
-                frame.fields["routes"][digit] = self.reached[-1].page
+                frame.routes[digit] = self.reached[-1].page
         if frame.letter < "c" and self.chance(0.3) and frame.rank is not None and frame.rank < 2:
             self.follow(frame, "#", frame.page, chr(ord(frame.letter) + 1))
             frame.fields["next"] = True
 
-    def follow(self, frame, key, page, letter):
+    def follow(self, frame: Frame, key: str, page: int, letter: str) -> None:
         """A new frame, which leads back to the entry page, to the page that leads to it, or nowhere."""
-        new = self.add(page, letter, frame.script + key, 1)
+        new = self.add(page, letter, f"{frame.script}{key}", 1)
         self.reached.append(new)
-        back, share = new.fields["routes"], self.random.random()
-        is_far = frame.rank and frame.rank > 1
-        if is_far or frame.rank == 1 and frame.letter == "a" and key != "#" and share < 0.3:
-            back["0"], new.rank = frame.page, frame.rank + 1
-        elif share < 0.4 and frame is not self.entry or frame.rank is None:
+        rank, share = frame.rank, self.random.random()
+        if rank and (rank > 1 or frame.letter == "a" and key != "#" and share < 0.3):
+            new.routes["0"], new.rank = frame.page, rank + 1
+        elif share < 0.4 and frame is not self.entry or rank is None:
             new.rank = None
         else:
-            back["0"] = self.entry.page
+            new.routes["0"] = self.entry.page
 
-    def spoil(self, frame):
+    def spoil(self, frame: Frame) -> None:
         """Faults of one frame, in the order of judging."""
-        keys = f" (keys {frame.script})" if frame.script else " (at the entry page)"
-        ceiling, keyings = self.policy
         if self.chance(0.15):
-            price = frame.fields["price"] = self.pick([ceiling + 1, 9_999])
-            self.tell(frame, ["price"], f"PRICE: frame {frame.id} costs {price}, the ceiling is {ceiling}{keys}")
+            price = frame.fields["price"] = self.pick([self.ceiling + 1, 9_999])
+            words = f"PRICE: frame {frame.id} costs {price}, the ceiling is {self.ceiling}"
+            self.tell(frame, words + frame.keys, "price", "value")
         if self.chance(0.15):
-            self.touch(frame, keys)
-        for digit in "56789#":
+            self.touch(frame)
+        for key in "56789#":
             if self.chance(0.05):
-                self.lead_astray(frame, digit)
+                self.lead_astray(frame, key)
         if frame.rank is None:
-            self.tell(frame, [], f"NORETURN: no keys lead from frame {frame.id} back to the entry page{keys}")
-        elif frame.rank > keyings:
+            words = f"NORETURN: no keys lead from frame {frame.id} back to the entry page"
+            self.tell(frame, words + frame.keys, "value")
+        elif frame.rank > self.keyings:
             away = f"{frame.rank} {'key' if frame.rank == 1 else 'keys'} away"
-            allowed = f"at most {keyings} {'is' if keyings == 1 else 'are'} allowed"
-            self.tell(frame, [], f"NORETURN: from frame {frame.id} the entry page is {away}, {allowed}{keys}")
+            allowed = f"at most {self.keyings} {'is' if self.keyings == 1 else 'are'} allowed"
+            words = f"NORETURN: from frame {frame.id} the entry page is {away}, {allowed}"
+            self.tell(frame, words + frame.keys, "value")
 
-    def tell(self, frame, place, words):
-        self.whole_faults.append((frame, place, words))
+    def tell(self, frame: Frame, words: str, *name: str | int) -> None:
+        self.whole_faults.append(Fault(words, name, frame))
 
-    def touch(self, frame, keys):
+    def touch(self, frame: Frame) -> None:
         frame.fields.pop("rows", None)
         frame.fields.pop("body", None)
         if self.chance(0.4):
             end = self.pick(["\x8d", "A\x8d", "\x8d" * 3])
             frame.fields["rows"] = [self.pick(["", "A", "A" * 40, "\x8d"]) for _ in range(21)] + [end]
-            words = f"row 22 of frame {frame.id} has double height, which writes into the last row"
-            self.tell(frame, ["rows"], f"TOUCHES: {words}{keys}")
+            words = f"TOUCHES: row 22 of frame {frame.id} has double height, which writes into the last row"
+            self.tell(frame, words + frame.keys, "rows", 21, "value")
             self.hide(frame)
             return
-        body, offset = self.pick(TOUCHING)
-        frame.fields["body"] = body
-        words = f"byte {offset:,} of the body of frame {frame.id} writes into a service row, from start 0"
-        self.tell(frame, ["body"], f"TOUCHES: {words}{keys}")
+        frame.fields["body"], offset = self.pick(TOUCHING)
+        words = f"TOUCHES: byte {offset:,} of the body of frame {frame.id} writes into a service row, from start 0"
+        self.tell(frame, words + frame.keys, "body", offset, "character")
 
-    def hide(self, frame):
+    def hide(self, frame: Frame) -> None:
         """Warnings of the rows with text below a row with double height that isn't below one itself."""
         covered = False
-        for number, row in enumerate(frame.fields["rows"], 1):
+        for at, row in enumerate(map(str, frame.rows)):
             if covered and any("!" <= code <= "\x7f" for code in row):
-                words = f"row {number} of frame {frame.id} is hidden by the double height of row {number - 1}"
-                self.warnings.append((frame, ["rows"], f"HIDDEN: {words}"))
+                words = f"HIDDEN: row {at + 1} of frame {frame.id} is hidden by the double height of row {at}"
+                self.warnings.append(Fault(words, ("rows", at, "value"), frame))
             covered = "\x8d" in row and not covered
 
-    def lead_astray(self, frame, key):
+    def lead_astray(self, frame: Frame, key: str) -> None:
         """A way to a frame that is missing or closed."""
         keys = f" (keys {frame.script}{key})"
         if key == "#" and frame.fields.get("next") or not self.pages:
             return
+        name: Name = ("next", "pair") if key == "#" else ("routes", key, "pair")
         if key == "#":
-            page, letter, place = frame.page, chr(ord(frame.letter) + 1), ["next"]
+            page, letter = frame.page, chr(ord(frame.letter) + 1)
             frame.fields["next"] = True
             lacks = f"frame {page}{letter}, which the base lacks"
         else:
-            page, letter, place = self.page(), "a", ["routes", key]
-            frame.fields["routes"][key] = page
+            page, letter = self.page(), "a"
+            frame.routes[key] = page
             lacks = f"page {page}, which has no frame a"
         if self.chance(0.5):
-            self.tell(frame, place, f"MISSING: key {key} of frame {frame.id} leads to {lacks}{keys}")
+            self.tell(frame, f"MISSING: key {key} of frame {frame.id} leads to {lacks}{keys}", *name)
             return
         closed = Frame(page, letter, self.plain_text())
         closed.fields["routes"] = {}
         group = closed.fields["group"] = self.pick([8, 65_534])
         self.frames.append(closed)
         words = f"frame {closed.id}, which is closed to these callers; it belongs to group {group}"
-        self.tell(frame, place, f"CLOSED: key {key} of frame {frame.id} leads to {words}{keys}")
+        self.tell(frame, f"CLOSED: key {key} of frame {frame.id} leads to {words}{keys}", *name)
 
-    def strand(self):
+    def strand(self) -> None:
         """Frames that no walk reaches: those that are open to the caller are reported, in the order of their ids."""
         stranded = []
         for _ in range(self.pick([0, 0, 1, 2])):
@@ -912,5 +958,6 @@ class FaultyWalks(Written):
                 if group != 8:
                     stranded.append(frame)
                 self.frames.insert(self.random.randrange(len(self.frames) + 1), frame)
-        for frame in sorted(stranded, key=lambda frame: (frame.page, frame.letter)):
-            self.warnings.append((frame, [], f"UNREACHED: no key leads to frame {frame.id} from the entry page"))
+        for frame in sorted(stranded, key=lambda frame: frame.place):
+            words = f"UNREACHED: no key leads to frame {frame.id} from the entry page"
+            self.warnings.append(Fault(words, ("value",), frame))
