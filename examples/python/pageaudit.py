@@ -9,13 +9,14 @@
     else:
         print(verdict.line)
 
-`verdict.cleared` is a promise, proved of the bytes that are passed: whatever keys a caller in exactly the policy's groups
-presses from the entry page on, no key leads to a frame that is missing or closed, no frame shown costs more than the ceiling or
-writes into the service rows, and until the caller leaves the base, at most `keyings` keys lead back to the entry page.
+`verdict.cleared` is a promise, proved of the bytes that are passed: whatever keys a caller in exactly the policy's
+groups presses from the entry page on, no key leads to a frame that is missing or closed, no frame shown costs more than
+the ceiling or writes into the service rows, and until the caller leaves the base, at most `keyings` keys lead back to
+the entry page.
 
-The library is `libpageaudit.so.1` in the folder that the variable PAGEAUDIT_LIB names. Without that variable it is the one beside
-this file, or else the one that ./install put below its prefix together with this file, or else the system's. If it can't be
-loaded, the import fails with ImportError. Calls keep nothing, and several threads may make them at once.
+The library is `libpageaudit.so.1` in the folder that the variable PAGEAUDIT_LIB names. Without that variable it is the
+one beside this file, or else the one that ./install put below its prefix together with this file, or else the system's.
+If it can't be loaded, the import fails with ImportError. Calls keep nothing, and several threads may make them at once.
 """
 
 from __future__ import annotations
@@ -30,9 +31,8 @@ from dataclasses import dataclass, fields
 from typing import Any, SupportsIndex
 
 __version__ = "1.1.0"
-__all__ = [
-    "Audit", "Finding", "Look", "Policy", "PolicyError", "Screen", "TextError", "Verdict", "audit", "change", "check", "lint", "show",
-]  # fmt: skip
+__all__ = ["Audit", "Finding", "Look", "Policy", "PolicyError", "Screen", "TextError", "Verdict"]
+__all__ += ["audit", "change", "check", "lint", "show"]
 
 # What the library answers.
 _CLEAR, _FAULTY, _BAD_POLICY, _BAD_TEXT = range(4)
@@ -172,9 +172,11 @@ def audit(base: bytes, policy: Policy) -> Audit:
 
 
 def lint(base: bytes, policy: Policy, file: str = "") -> list[Finding]:
-    """Every fault of the text of a base, or else of its audit, and the frames that no key reaches, in the order of their places.
+    """Every fault of the text of a base, or else of its audit, and the frames that no key reaches, in the order of
+    their places.
 
-    `file` is that of each finding. Raises MemoryError. A text that is no base is an error among the findings, and no TextError.
+    `file` is that of each finding. Raises MemoryError. A text that is no base is an error among the findings, and no
+    TextError.
     """
     _, text = _call("pageaudit_lint_json", {"name": os.fsencode(file), "base": base}, policy, 1 << 16)
     return [_finding(line) for line in text.split(b"\n")[:-1]]
@@ -183,8 +185,8 @@ def lint(base: bytes, policy: Policy, file: str = "") -> list[Finding]:
 def show(base: bytes, frame: str = "", groups: Sequence[int] = ()) -> Screen | None:
     """The screen of a frame, as a caller in these groups sees it; None if the base lacks it.
 
-    `frame` is an id, as "478a", or a page for its frame a; without it the entry frame is shown. The screen is the one that
-    `pageaudit show` shows. Raises TextError for the first fault of the base's text, PolicyError or MemoryError.
+    `frame` is an id, as "478a", or a page for its frame a; without it the entry frame is shown. The screen is the one
+    that `pageaudit show` shows. Raises TextError for the first fault of the base's text, PolicyError or MemoryError.
     """
     if not isinstance(frame, str):
         raise TypeError(f"frame has to be a str, not {_kind(frame)}")

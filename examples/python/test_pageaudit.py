@@ -12,12 +12,9 @@ import pageaudit
 from pageaudit import Finding, Look, Policy, PolicyError, Screen, TextError, Verdict
 
 EXAMPLES = Path(__file__).resolve().parent.parent
-DEMO, DEMO_CERT, TOWN, TOWN_CERT, NEXT, NEXT_CERT, CLOSED, BROKEN = (
-    (EXAMPLES / name).read_bytes()
-    for name in (
-        "demo.toml", "demo.cert", "town.toml", "town.cert", "town-next.toml", "town-next.cert", "closed.toml", "town-broken.toml",
-    )
-)  # fmt: skip
+DEMO, TOWN, NEXT = ((EXAMPLES / f"{name}.toml").read_bytes() for name in ("demo", "town", "town-next"))
+DEMO_CERT, TOWN_CERT, NEXT_CERT = ((EXAMPLES / f"{name}.cert").read_bytes() for name in ("demo", "town", "town-next"))
+CLOSED, BROKEN = ((EXAMPLES / f"{name}.toml").read_bytes() for name in ("closed", "town-broken"))
 POLICY = Policy(ceiling=20, keyings=3)
 
 

@@ -9,11 +9,12 @@
     if __name__ == "__main__":
         main(globals())
 
-Each public function of the script whose first parameter is `test` is a case. `main` reads the words (--help shows them), runs
-the cases, prints what is wrong and the last line 'N passed, M failed', with ', K skipped' if anything was, and ends with
-status 0 or 1.
+Each public function of the script whose first parameter is `test` is a case. `main` reads the words (--help shows
+them), runs the cases, prints what is wrong and the last line 'N passed, M failed', with ', K skipped' if anything was,
+and ends with status 0 or 1.
 
-- results.py: the results of a case; script.py: `main`, and what a script says of itself; places.py: the programs that are judged.
+- results.py: the results of a case; script.py: `main`, and what a script says of itself; places.py: the programs that
+are judged.
 - running.py: commands with limits of time and memory.
 """
 

@@ -1,8 +1,9 @@
 """The calls that take memory, each on inputs whose answers are known: what tests/refuse-calls refuses memory to.
 
-The answers of the small inputs are worked by hand from the rules; those of the large ones are the second reading's. A line of
-tests/data/call-cases has the words of a call and its answer, and one of tests/data/call-runs a run's status, its words before and
-after the output, and what it writes; `$NAME` is a text that has a name here. The files are in tests/data/calls.toml.
+The answers of the small inputs are worked by hand from the rules; those of the large ones are the second reading's. A
+line of tests/data/call-cases has the words of a call and its answer, and one of tests/data/call-runs a run's status,
+its words before and after the output, and what it writes; `$NAME` is a text that has a name here. The files are in
+tests/data/calls.toml.
 """
 
 import tomllib
@@ -28,7 +29,9 @@ FAILED = "Err(Failed)\n" * 3 + "Some(Failed)\n"
 
 @dataclass
 class Case:
-    """A call with its words, its answer if no memory is refused, and one beside MEMORY that it may give if memory is refused."""
+    """A call with its words, its answer if no memory is refused, and one beside MEMORY that it may give if memory is
+    refused.
+    """
 
     words: str
     answer: str
@@ -80,7 +83,9 @@ def debug_option(text: object) -> str:
 
 
 def debug_found(frames: Iterable[tuple[str, int | None, int | None, str | None]]) -> str:
-    """The discovered frames as `{:?}` prints them: of each its id, its rank, its parent's place and the key pressed there."""
+    """The discovered frames as `{:?}` prints them: of each its id, its rank, its parent's place and the key pressed
+    there.
+    """
     keys = {None: None, "#": "Next"} | {str(digit): f"Route(Digit {{ number: {digit} }})" for digit in range(10)}
     texts = [
         f"Discovered {{ id: {debug_id(id)}, rank: {debug_option(rank)}, "

@@ -28,7 +28,7 @@ class SpanWriter:
         self.put(self.pick(["", "", " ", "\t", "  "]))
 
     def line_end(self):
-        self.put(self.pick(["", " ", " # [x] \"", "\t#" + self.pick(COMMENTS)]) + self.eol)
+        self.put(self.pick(["", " ", ' # [x] "', "\t#" + self.pick(COMMENTS)]) + self.eol)
         while self.chance(0.2):
             self.put(self.pick(["", "\t", "# x = '"]) + self.eol)
 
@@ -62,7 +62,11 @@ class SpanWriter:
 
     def literal(self, characters, is_long):
         kept = [c for c in characters if c not in "\x00\x08\x0c\x1b\x7f\r'" and (is_long or c != "\n")]
-        self.put("'''" + self.pick(["", self.eol]) if is_long and (kept[:1] != ["\n"]) else ("'''" + self.eol if is_long else "'"))
+        self.put(
+            "'''" + self.pick(["", self.eol])
+            if is_long and (kept[:1] != ["\n"])
+            else ("'''" + self.eol if is_long else "'")
+        )
         spans = [self.put(c) for c in kept]
         if is_long and spans and self.chance(0.3):
             for _ in range(self.pick([1, 2])):
@@ -98,7 +102,9 @@ class SpanWriter:
             elif form == "scalar":
                 spans.append(self.scalar())
             else:
-                spans.append(self.put(self.pick(["[1, [']']]", "[]"] if form == "array" else ["{}", "{ a = '}', b.c = [1] }"])))
+                spans.append(
+                    self.put(self.pick(["[1, [']']]", "[]"] if form == "array" else ["{}", "{ a = '}', b.c = [1] }"]))
+                )
             self.blank()
             self.put(",")
         self.blank()
@@ -225,6 +231,7 @@ class SpanWriter:
             self.line_end()
         count = self.pick([0, 1, 2, 4])
         if self.chance(0.4):
+
             def frames(_):
                 begin = len(self.text)
                 self.put("[")
@@ -235,6 +242,7 @@ class SpanWriter:
                     self.put(",")
                 self.put("]")
                 return begin, len(self.text)
+
             self.pair(None, (), ("frame",), frames)
             self.line_end()
         else:
