@@ -18,23 +18,32 @@ def chunks(png: bytes) -> Iterator[tuple[bytes, bytes]]:
 
 def nearest(left: int, up: int, corner: int) -> int:
     """Which of three bytes is nearest to what they let expect, the first of several."""
-    guess = left + up - corner
-    return min((left, up, corner), key=lambda value: abs(guess - value))
+    to_left, to_up, to_corner = abs(up - corner), abs(left - corner), abs(left + up - 2 * corner)
+    if to_left <= to_up and to_left <= to_corner:
+        return left
+    return up if to_up <= to_corner else corner
+
+
+def expected(kind: int, left: int, up: int, corner: int) -> int:
+    """What a byte is written less than, by the kind of its line."""
+    if kind == 4:
+        return nearest(left, up, corner)
+    return (0, left, up, (left + up) // 2)[kind]
 
 
 def pixels(png: bytes) -> list[list[Colour]]:
     """The rows of a PNG of 8 bits and three or four channels, each of the colours of its pixels."""
     parts = list(chunks(png))
-    width, _, bits, kind = struct.unpack(">IIBB", dict(parts)[b"IHDR"][:10])
-    depth, raw = {2: 3, 6: 4}[kind], zlib.decompress(b"".join(data for name, data in parts if name == b"IDAT"))
+    width, _, bits, channels = struct.unpack(">IIBB", dict(parts)[b"IHDR"][:10])
+    depth, raw = {2: 3, 6: 4}[channels], zlib.decompress(b"".join(data for name, data in parts if name == b"IDAT"))
     if bits != 8:
         raise ValueError(f"{bits} bits a channel")
     length, above, rows = width * depth, bytes(width * depth), []
     for start in range(0, len(raw), length + 1):
-        line = bytearray(raw[start + 1 : start + 1 + length])
-        for i in range(length):
-            left, up, corner = (line[i - depth], above[i], above[i - depth]) if i >= depth else (0, above[i], 0)
-            line[i] = (line[i] + (0, left, up, (left + up) // 2, nearest(left, up, corner))[raw[start]]) & 255
+        kind, line = raw[start], bytearray(raw[start + 1 : start + 1 + length])
+        for i in range(length if kind else 0):
+            left, corner = (line[i - depth], above[i - depth]) if i >= depth else (0, 0)
+            line[i] = (line[i] + expected(kind, left, above[i], corner)) & 255
         above = bytes(line)
         rows.append([tuple(above[x : x + 3]) for x in range(0, length, depth)])
     return rows
