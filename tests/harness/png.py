@@ -24,11 +24,16 @@ def nearest(left: int, up: int, corner: int) -> int:
     return up if to_up <= to_corner else corner
 
 
-def expected(kind: int, left: int, up: int, corner: int) -> int:
-    """What a byte is written less than, by the kind of its line."""
-    if kind == 4:
-        return nearest(left, up, corner)
-    return (0, left, up, (left + up) // 2)[kind]
+def unfiltered(kind: int, line: bytearray, above: bytes, depth: int) -> bytes:
+    """The bytes of a line that is written by a kind of filter, after the line above; a pixel has so many bytes."""
+    if kind == 2:
+        return bytes((one + up) & 255 for one, up in zip(line, above))
+    for i in range(len(line) if kind else 0):
+        left, corner = (line[i - depth], above[i - depth]) if i >= depth else (0, 0)
+        up = above[i]
+        expected = left if kind == 1 else (left + up) // 2 if kind == 3 else nearest(left, up, corner)
+        line[i] = (line[i] + expected) & 255
+    return bytes(line)
 
 
 def pixels(png: bytes) -> list[list[Colour]]:
@@ -40,10 +45,6 @@ def pixels(png: bytes) -> list[list[Colour]]:
         raise ValueError(f"{bits} bits a channel")
     length, above, rows = width * depth, bytes(width * depth), []
     for start in range(0, len(raw), length + 1):
-        kind, line = raw[start], bytearray(raw[start + 1 : start + 1 + length])
-        for i in range(length if kind else 0):
-            left, corner = (line[i - depth], above[i - depth]) if i >= depth else (0, 0)
-            line[i] = (line[i] + expected(kind, left, above[i], corner)) & 255
-        above = bytes(line)
+        above = unfiltered(raw[start], bytearray(raw[start + 1 : start + 1 + length]), above, depth)
         rows.append([tuple(above[x : x + 3]) for x in range(0, length, depth)])
     return rows
