@@ -18,23 +18,33 @@ def chunks(png: bytes) -> Iterator[tuple[bytes, bytes]]:
 
 def nearest(left: int, up: int, corner: int) -> int:
     """Which of three bytes is nearest to what they let expect, the first of several."""
-    guess = left + up - corner
-    return min((left, up, corner), key=lambda value: abs(guess - value))
+    to_left, to_up, to_corner = abs(up - corner), abs(left - corner), abs(left + up - 2 * corner)
+    if to_left <= to_up and to_left <= to_corner:
+        return left
+    return up if to_up <= to_corner else corner
+
+
+def unfiltered(kind: int, line: bytearray, above: bytes, depth: int) -> bytes:
+    """The bytes of a line that is written by a kind of filter, after the line above; a pixel has so many bytes."""
+    if kind == 2:
+        return bytes((one + up) & 255 for one, up in zip(line, above))
+    for i in range(len(line) if kind else 0):
+        left, corner = (line[i - depth], above[i - depth]) if i >= depth else (0, 0)
+        up = above[i]
+        expected = left if kind == 1 else (left + up) // 2 if kind == 3 else nearest(left, up, corner)
+        line[i] = (line[i] + expected) & 255
+    return bytes(line)
 
 
 def pixels(png: bytes) -> list[list[Colour]]:
     """The rows of a PNG of 8 bits and three or four channels, each of the colours of its pixels."""
     parts = list(chunks(png))
-    width, _, bits, kind = struct.unpack(">IIBB", dict(parts)[b"IHDR"][:10])
-    depth, raw = {2: 3, 6: 4}[kind], zlib.decompress(b"".join(data for name, data in parts if name == b"IDAT"))
+    width, _, bits, channels = struct.unpack(">IIBB", dict(parts)[b"IHDR"][:10])
+    depth, raw = {2: 3, 6: 4}[channels], zlib.decompress(b"".join(data for name, data in parts if name == b"IDAT"))
     if bits != 8:
         raise ValueError(f"{bits} bits a channel")
     length, above, rows = width * depth, bytes(width * depth), []
     for start in range(0, len(raw), length + 1):
-        line = bytearray(raw[start + 1 : start + 1 + length])
-        for i in range(length):
-            left, up, corner = (line[i - depth], above[i], above[i - depth]) if i >= depth else (0, above[i], 0)
-            line[i] = (line[i] + (0, left, up, (left + up) // 2, nearest(left, up, corner))[raw[start]]) & 255
-        above = bytes(line)
+        above = unfiltered(raw[start], bytearray(raw[start + 1 : start + 1 + length]), above, depth)
         rows.append([tuple(above[x : x + 3]) for x in range(0, length, depth)])
     return rows

@@ -4,17 +4,18 @@ as its character, foreground, background and, if this pyte knows it, whether it 
 
 import json
 import sys
+from collections.abc import Iterator
 
-import pyte
+import pyte  # type: ignore[import]
 
 NAMES = ["black", "red", "green", "brown", "blue", "magenta", "cyan", "white"]
 
 
-def number(name):
+def number(name: str) -> int | None:
     return NAMES.index(name) if name in NAMES else None
 
 
-def cells(text):
+def cells(text: str) -> Iterator[list[list[object]]]:
     terminal = pyte.Screen(40, 25)
     pyte.Stream(terminal).feed(text.replace("\n", "\r\n"))
     for row in range(24):
@@ -22,4 +23,5 @@ def cells(text):
         yield [[cell.data, number(cell.fg), number(cell.bg), getattr(cell, "blink", None)] for cell in line]
 
 
-json.dump([list(cells(text)) for text in json.load(sys.stdin)], sys.stdout)
+if __name__ == "__main__":
+    json.dump([list(cells(text)) for text in json.load(sys.stdin)], sys.stdout)

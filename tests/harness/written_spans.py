@@ -3,124 +3,155 @@
 Nothing of tests/second_reading is used here.
 """
 
-from written_bases import COMMENTS, Pen
+from collections.abc import Callable, Sequence
+from dataclasses import dataclass, field
+from random import Random
+from typing import NamedTuple, TypeVar
 
+from harness.written_bases import COMMENTS, Pen
+
+Item = TypeVar("Item")
+Span = tuple[int, int]
 CHARACTERS = "ab1 \t'\"\\#[]{}=,.\n\r\b\f\x1b\x00\x7f\x80\xa3\xe9\u20ac\U0001f600"
-KEYS = ["id", "price", "group", "next", "lead", "body", "x y", "", "frame", "routes", "\xe9", '"', "a.b", "9"]
+# Those that a basic string never has as they are, and those that no literal string has.
+ESCAPED = "\x00\x08\x0c\x1b\x7f\\\r\n"
+NOT_LITERAL = "\x00\x08\x0c\x1b\x7f\r'"
+KEYS = ["id", "price", "group", "next", "lead", "body", "x y", "", "frame", "\xe9", '"', "a.b", "9"]
+SCALARS = [*("1", "-7", "0x1F", "1_000", "1.5e3", "true", "inf", "1979-05-27", "1979-05-27 07:32:00", "07:32:00.5")]
+
+
+class Place(NamedTuple):
+    """The keys that lead to a value from a frame, or from the top, on, and the indexes in arrays."""
+
+    frame: int | None
+    keys: tuple[str, ...]
+    indexes: tuple[int, ...] = ()
+
+
+class Spot(NamedTuple):
+    """Where a key is first written, with what is its value, and both."""
+
+    key: Span
+    value: Span
+    pair: Span
+
+
+@dataclass
+class Wanted:
+    """Where each thing was written: headers, keys, the characters of strings, and the elements of arrays."""
+
+    headers: dict[int, Span] = field(default_factory=dict)
+    spots: dict[Place, Spot] = field(default_factory=dict)
+    strings: dict[Place, list[tuple[str, Span]]] = field(default_factory=dict)
+    arrays: dict[Place, list[Span]] = field(default_factory=dict)
+
+
+Writer = Callable[[Place], Span]
+
+
+class Entry(NamedTuple):
+    """The parts of a key, and the writer of its value."""
+
+    names: tuple[str, ...]
+    value: Writer
 
 
 class SpanWriter:
-    """Writes a base piece by piece. `wanted` has a line for each thing that was written: what it is, and its span."""
+    """Writes a base piece by piece."""
 
-    def __init__(self, random):
+    def __init__(self, random: Random) -> None:
         self.random, self.pen = random, Pen(random)
-        self.pick, self.chance, self.eol = self.pen.pick, self.pen.chance, self.pen.eol
+        self.eol = self.pen.eol
         self.text = "\ufeff" if self.chance(0.2) else ""
-        self.wanted = {}
+        self.wanted = Wanted()
 
-    def put(self, piece):
+    def pick(self, items: Sequence[Item]) -> Item:
+        return self.random.choice(items)
+
+    def chance(self, share: float) -> bool:
+        return self.pen.chance(share)
+
+    def put(self, piece: str) -> Span:
         """Writes a piece and gives its span."""
         begin = len(self.text)
         self.text += piece
         return begin, len(self.text)
 
-    def gap(self):
+    def gap(self) -> None:
         self.put(self.pick(["", "", " ", "\t", "  "]))
 
-    def line_end(self):
+    def line_end(self) -> None:
         self.put(self.pick(["", " ", ' # [x] "', "\t#" + self.pick(COMMENTS)]) + self.eol)
         while self.chance(0.2):
             self.put(self.pick(["", "\t", "# x = '"]) + self.eol)
 
-    def blank(self):
+    def blank(self) -> None:
         self.put(self.pick(["", "", " ", "\t", self.eol, f" # ]}}{self.eol}  "]))
 
-    def escaped(self, c):
-        return self.pen.escape(c)
-
-    def character(self, c, mark, is_long):
-        """Writes one character of a string in one of its forms."""
-        needs = c in "\x00\x08\x0c\x1b\x7f\\" or (c == mark) or (c in "\r\n")
-        return self.put(self.escaped(c) if needs or self.chance(0.1) else c)
-
-    def basic(self, characters, is_long):
-        spans = []
+    def basic(self, characters: list[str], is_long: bool) -> list[Span]:
+        spans: list[Span] = []
         self.put('"""' + self.pick(["", self.eol]) if is_long else '"')
         for c in characters:
-            if is_long and self.chance(0.15):
+            is_joined = is_long and self.chance(0.15)
+            if is_joined:
                 self.put("\\" + self.pick(["", " \t"]) + self.eol + self.pick(["", "  ", self.eol + "\t"]))
-                # A blank after it would be cut, and a line end is one of the text.
-                spans.append(self.put(self.escaped(c)))
-            elif is_long and c == "\n" and spans and self.chance(0.7):
-                spans.append(self.put(c))
-            elif is_long and c == '"' and self.chance(0.5) and not self.text.endswith('"') and spans:
-                spans.append(self.put(c))
-            else:
-                spans.append(self.character(c, '"', is_long))
+            is_quote = c == '"' and self.chance(0.5) and not self.text.endswith('"')
+            # A blank after a joint would be cut, and a line end is one of the text.
+            is_kept = is_long and not is_joined and spans and (c == "\n" and self.chance(0.7) or is_quote)
+            needs = is_joined or c in ESCAPED or c == '"' or self.chance(0.1)
+            spans.append(self.put(self.pen.escape(c) if needs and not is_kept else c))
         self.put('"""' if is_long else '"')
         return spans
 
-    def literal(self, characters, is_long):
-        kept = [c for c in characters if c not in "\x00\x08\x0c\x1b\x7f\r'" and (is_long or c != "\n")]
-        self.put(
-            "'''" + self.pick(["", self.eol])
-            if is_long and (kept[:1] != ["\n"])
-            else ("'''" + self.eol if is_long else "'")
-        )
+    def literal(self, characters: list[str], is_long: bool) -> list[tuple[str, Span]]:
+        kept = [c for c in characters if c not in NOT_LITERAL and (is_long or c != "\n")]
+        first = self.eol if kept[:1] == ["\n"] else self.pick(["", self.eol])
+        self.put(f"'''{first}" if is_long else "'")
+        if is_long and kept and self.chance(0.3):
+            kept += ["'"] * self.pick([1, 2])
         spans = [self.put(c) for c in kept]
-        if is_long and spans and self.chance(0.3):
-            for _ in range(self.pick([1, 2])):
-                kept.append("'")
-                spans.append(self.put("'"))
         self.put("'''" if is_long else "'")
-        return kept, spans
+        return list(zip(kept, spans))
 
-    def string(self, name):
-        """Writes a string, and notes its span and those of its characters."""
+    def string(self, place: Place) -> Span:
+        """Writes a string, and notes the spans of its characters."""
         characters = [self.pick(CHARACTERS) for _ in range(self.pick([0, 1, 3, 8, 20]))]
-        begin = len(self.text)
+        begin, is_long = len(self.text), self.chance(0.5)
         if self.chance(0.3):
-            characters, spans = self.literal(characters, self.chance(0.5))
+            self.wanted.strings[place] = self.literal(characters, is_long)
         else:
-            spans = self.basic(characters, self.chance(0.5))
-        self.wanted["character", *name] = list(zip(characters, spans))
+            self.wanted.strings[place] = list(zip(characters, self.basic(characters, is_long)))
         return begin, len(self.text)
 
-    def scalar(self):
-        forms = ["1", "-7", "0x1F", "1_000", "1.5e3", "true", "inf", "1979-05-27", "1979-05-27 07:32:00", "07:32:00.5"]
-        return self.put(self.pick(forms))
+    def scalar(self, _: Place) -> Span:
+        return self.put(self.pick(SCALARS))
 
-    def array(self, name):
+    def array(self, place: Place) -> Span:
         """Writes an array of strings, numbers, arrays and tables."""
-        begin, spans = len(self.text), []
+        begin, spans = len(self.text), list[Span]()
+        others: list[Writer] = [
+            self.scalar,
+            lambda _: self.put(self.pick(["[1, [']']]", "[]"])),
+            lambda _: self.put(self.pick(["{}", "{ a = '}', b.c = [1] }"])),
+        ]
         self.put("[")
         for index in range(self.pick([0, 1, 2, 5])):
             self.blank()
-            form = self.pick(["string", "string", "scalar", "array", "table"])
-            if form == "string":
-                spans.append(self.string((*name, index)))
-            elif form == "scalar":
-                spans.append(self.scalar())
-            else:
-                spans.append(
-                    self.put(self.pick(["[1, [']']]", "[]"] if form == "array" else ["{}", "{ a = '}', b.c = [1] }"]))
-                )
+            spans.append(self.pick([self.string, self.string, *others])(place._replace(indexes=(index,))))
             self.blank()
             self.put(",")
         self.blank()
         if spans and self.chance(0.5):
-            self.text = self.text.rstrip()
-            if self.text.endswith(","):
-                self.text = self.text[:-1]
+            self.text = self.text.rstrip().removesuffix(",")
             self.put(self.eol)
         self.put("]")
-        self.wanted["element", *name] = spans
+        self.wanted.arrays[place] = spans
         return begin, len(self.text)
 
-    def part(self, name):
-        return self.put(self.pen.key(name))
+    def value(self, place: Place) -> Span:
+        return self.pick([self.string, self.array, self.scalar])(place)
 
-    def dotted(self, names):
+    def dotted(self, names: tuple[str, ...]) -> list[Span]:
         """Writes a key and gives the spans of its parts."""
         spans = []
         for index, name in enumerate(names):
@@ -128,65 +159,56 @@ class SpanWriter:
                 self.gap()
                 self.put(".")
                 self.gap()
-            spans.append(self.part(name))
+            spans.append(self.put(self.pen.key(name)))
         return spans
 
-    def note(self, frame, keys, key, value, pair):
+    def note(self, frame: int | None, keys: tuple[str, ...], spot: Spot) -> None:
         """Notes the spans of a key where it is first written."""
-        self.wanted.setdefault(("key", frame, keys), (key, value, pair))
+        self.wanted.spots.setdefault(Place(frame, keys), spot)
 
-    def pair(self, frame, path, names, value):
+    def pair(self, frame: int | None, path: tuple[str, ...], entry: Entry) -> None:
         """Writes a pair; the keys before its own are those of the path."""
-        parts = self.dotted(names)
+        parts = self.dotted(entry.names)
         self.gap()
         self.put("=")
         self.gap()
-        span = value((frame, *path, *names))
-        for index in range(len(names)):
-            is_last = index + 1 == len(names)
-            worth = span if is_last else (parts[index][0], parts[-1][1])
-            self.note(frame, (*path, *names[: index + 1]), parts[index], worth, (parts[index][0], span[1]))
+        span = entry.value(Place(frame, path + entry.names))
+        for index, part in enumerate(parts):
+            worth = span if index + 1 == len(parts) else (part[0], parts[-1][1])
+            self.note(frame, path + entry.names[: index + 1], Spot(part, worth, (part[0], span[1])))
 
-    def value(self, name):
-        return self.pick([self.string, self.array, lambda _: self.scalar()])(name)
-
-    def table(self, frame, path, entries):
+    def table(self, frame: int | None, path: tuple[str, ...], entries: list[Entry]) -> Span:
         """Writes an inline table of these keys."""
         begin = len(self.text)
         self.put("{")
-        for number, (names, value) in enumerate(entries):
+        for number, entry in enumerate(entries):
             if number:
                 self.blank()
                 self.put(",")
             self.blank()
-            self.pair(frame, path, names, value)
+            self.pair(frame, path, entry)
         self.blank()
         self.put("}")
         return begin, len(self.text)
 
-    def routes(self):
+    def routes(self) -> list[Entry]:
         digits = self.random.sample(["0", "3", "9", "x", "routes", ""], self.pick([1, 2, 4]))
-        return [((digit,), lambda _: self.scalar()) for digit in digits]
+        return [Entry((digit,), self.scalar) for digit in digits]
 
-    def entries(self):
-        """The keys of a frame with the writers of their values, in some order; `routes` in one of its forms."""
-        names = self.random.sample([key for key in KEYS if key != "routes"], self.pick([1, 3, 6]))
-        entries = [((name, "y") if self.chance(0.2) else (name,), self.value) for name in names]
+    def entries(self, frame: int, form: str) -> list[Entry]:
+        """The keys of a frame in some order; `routes` in one of its forms."""
+        names = self.random.sample(KEYS, self.pick([1, 3, 6]))
+        entries = [Entry((name, "y") if self.chance(0.2) else (name,), self.value) for name in names]
+        routes = self.routes()
+        if form == "table":
+            entries.append(Entry(("routes",), lambda _: self.table(frame, ("routes",), routes)))
+        elif form == "dotted":
+            entries += [Entry(("routes", *names), value) for names, value in routes]
+        self.random.shuffle(entries)
         return entries
 
-    def inline_frame(self, frame):
-        form = self.pick(["none", "table", "dotted"])
-        entries = self.entries()
-        if form == "table":
-            table = self.routes()
-            entries.append((("routes",), lambda _: self.table(frame, ("routes",), table)))
-        elif form == "dotted":
-            entries += [(("routes", *names), value) for names, value in self.routes()]
-        self.random.shuffle(entries)
-        self.wanted["header", frame] = self.table(frame, (), entries)
-        return self.wanted["header", frame]
-
-    def header(self, names, opening="[", closing="]"):
+    def header(self, names: tuple[str, ...], opening: str = "[", closing: str = "]") -> tuple[Span, list[Span]]:
+        """Writes a header; its span, and those of its parts."""
         begin = len(self.text)
         self.put(opening)
         self.gap()
@@ -195,57 +217,51 @@ class SpanWriter:
         self.put(closing)
         return (begin, len(self.text)), parts
 
-    def headed_frame(self, frame):
-        self.wanted["header", frame], _ = self.header(("frame",), "[[", "]]")
+    def headed_table(self, frame: int, keys: tuple[str, ...]) -> None:
+        """A header of a table in a frame."""
+        span, parts = self.header(("frame", *keys))
+        for index, part in enumerate(parts[1:], 1):
+            self.note(frame, keys[:index], Spot(part, span, span))
+        self.line_end()
+
+    def headed_frame(self, frame: int) -> None:
+        self.wanted.headers[frame], _ = self.header(("frame",), "[[", "]]")
         self.line_end()
         form = self.pick(["none", "table", "dotted", "header"])
-        entries = self.entries()
-        if form == "table":
-            table = self.routes()
-            entries.append((("routes",), lambda _: self.table(frame, ("routes",), table)))
-        elif form == "dotted":
-            entries += [(("routes", *names), value) for names, value in self.routes()]
-        self.random.shuffle(entries)
-        for names, value in entries:
+        for entry in self.entries(frame, form):
             self.gap()
-            self.pair(frame, (), names, value)
+            self.pair(frame, (), entry)
             self.line_end()
         if form == "header":
-            span, parts = self.header(("frame", "routes"))
-            self.note(frame, ("routes",), parts[1], span, span)
-            self.line_end()
-            for names, value in self.routes():
-                self.pair(frame, ("routes",), names, value)
+            self.headed_table(frame, ("routes",))
+            for entry in self.routes():
+                self.pair(frame, ("routes",), entry)
                 self.line_end()
         if self.chance(0.3):
-            span, parts = self.header(("frame", "made", "z"))
-            self.note(frame, ("made",), parts[1], span, span)
-            self.note(frame, ("made", "z"), parts[2], span, span)
-            self.line_end()
+            self.headed_table(frame, ("made", "z"))
 
-    def write(self):
-        """The text and what is wanted of it."""
+    def inline_frames(self, count: int) -> Span:
+        begin = len(self.text)
+        self.put("[")
+        for frame in range(count):
+            self.blank()
+            entries = self.entries(frame, self.pick(["none", "table", "dotted"]))
+            self.wanted.headers[frame] = self.table(frame, (), entries)
+            self.blank()
+            self.put(",")
+        self.put("]")
+        return begin, len(self.text)
+
+    def write(self) -> str:
         self.line_end()
-        for names in [("entry",), ("outside",), ("t", "u")]:
-            self.pair(None, (), names, self.array if names == ("outside",) else self.value)
-            self.line_end()
         count = self.pick([0, 1, 2, 4])
-        if self.chance(0.4):
-
-            def frames(_):
-                begin = len(self.text)
-                self.put("[")
-                for frame in range(count):
-                    self.blank()
-                    self.inline_frame(frame)
-                    self.blank()
-                    self.put(",")
-                self.put("]")
-                return begin, len(self.text)
-
-            self.pair(None, (), ("frame",), frames)
+        entries = [Entry(("entry",), self.value), Entry(("outside",), self.array), Entry(("t", "u"), self.value)]
+        is_inline = self.chance(0.4)
+        if is_inline:
+            entries.append(Entry(("frame",), lambda _: self.inline_frames(count)))
+        for entry in entries:
+            self.pair(None, (), entry)
             self.line_end()
-        else:
-            for frame in range(count):
-                self.headed_frame(frame)
-        return self.text, self.wanted
+        for frame in range(0 if is_inline else count):
+            self.headed_frame(frame)
+        return self.text

@@ -4,8 +4,7 @@ A screen is 24 rows of 40 codes, 20 to 7F and 80 to 9F. Attributes count from th
 (after). Colours are 0 to 7: black, red, green, yellow, blue, magenta, cyan, white.
 """
 
-from dataclasses import dataclass, replace
-from typing import Literal
+from typing import Literal, NamedTuple
 
 ROWS, COLUMNS = 24, 40
 SPACE = " "
@@ -26,8 +25,7 @@ def block_character(blocks: int) -> str:
     return chr(0x1FB00 + blocks - sum(known < blocks for known in HALVES))
 
 
-@dataclass(frozen=True)
-class Look:
+class Look(NamedTuple):
     """A cell: a character, or a number of blocks from 1 to 63."""
 
     holds: str | int
@@ -50,8 +48,8 @@ class Look:
 
     def beneath(self) -> "Look":
         if self.height == "upper":
-            return replace(self, height="lower")
-        return replace(self, holds=SPACE, separated=False, height="single")
+            return self._replace(height="lower")
+        return self._replace(holds=SPACE, separated=False, height="single")
 
 
 class Row:
