@@ -4,9 +4,13 @@ share.
 
 import os
 import shutil
+from threading import Lock
 
 from harness.places import CALLS, TOP
 from harness.running import run
+
+
+BUILDING = Lock()
 
 
 def is_current() -> bool:
@@ -22,8 +26,12 @@ def are_here() -> bool:
 
 def build() -> None:
     """Proves and builds the program of the calls if it isn't current, unless the environment names another."""
-    if os.environ.get("PAGEAUDIT_CALLS") or is_current():
-        return
+    with BUILDING:
+        if not os.environ.get("PAGEAUDIT_CALLS") and not is_current():
+            _build()
+
+
+def _build() -> None:
     print("proving and building crates/refused_calls ..", flush=True)
     done = run(["rt", "run", "--", "keys_read", "1"], cwd=TOP / "crates" / "refused_calls", seconds=7_200)
     if done.status:
