@@ -1,10 +1,12 @@
 """The calls that take memory, each on inputs whose answers are known: what tests/refuse-calls refuses memory to.
 
-The answers of the small inputs are worked by hand from the rules; those of the large ones are the second reading's. A line of
-tests/data/call-cases has the words of a call and its answer, and one of tests/data/call-runs a run's status, its words before and
-after the output, and what it writes; `$NAME` is a text that has a name here.
+The answers of the small inputs are worked by hand from the rules; those of the large ones are the second reading's. A
+line of tests/data/call-cases has the words of a call and its answer, and one of tests/data/call-runs a run's status,
+its words before and after the output, and what it writes; `$NAME` is a text that has a name here. The files are in
+tests/data/calls.toml.
 """
 
+import tomllib
 from collections.abc import Iterable, Iterator, Mapping
 from dataclasses import dataclass
 from functools import cache
@@ -27,7 +29,9 @@ FAILED = "Err(Failed)\n" * 3 + "Some(Failed)\n"
 
 @dataclass
 class Case:
-    """A call with its words, its answer if no memory is refused, and one beside MEMORY that it may give if memory is refused."""
+    """A call with its words, its answer if no memory is refused, and one beside MEMORY that it may give if memory is
+    refused.
+    """
 
     words: str
     answer: str
@@ -39,7 +43,7 @@ class Case:
         return self.words.split(" ")[0]
 
 
-def changed(text: str, *changes: tuple[str, str]) -> str:
+def changed(text: str, changes: Iterable[tuple[str, str]]) -> str:
     """The text with each part replaced by another; a part has to be there once."""
     for old, new in changes:
         assert text.count(old) == 1, old
@@ -54,77 +58,19 @@ def line_of(number: int, line: str) -> str:
     return "\n".join(lines) + "\n"
 
 
-LAST = 'id = "1231b"\n'
-GROUPED = changed(CERT, ("PBC1", "PBC2"), ("rows 3", "groups 7\nrows 3"))
-BASES = {
-    "demo": DEMO,
-    "closed": changed(DEMO, (LAST, LAST + "group = 7\n")),
-    "missing": changed(DEMO, ('TWO"\nroutes = { 0 = 123 }', 'TWO"\nroutes = { 0 = 123, 9 = 555 }')),
-    "no_return": changed(DEMO, ('TWO"\nroutes = { 0 = 123 }', 'TWO"\nroutes = { 0 = 0 }')),
-    "touches": changed(DEMO, ("\\u001E\\u000APART TWO", "A")),
-    "entry_closed": changed(DEMO, ('id = "123a"\n', 'id = "123a"\ngroup = 7\n')),
-    "no_entry": "entry = 0\n",
-    "moved": changed(DEMO, ("entry = 123\n", "entry = 1231\n")),
-    "shorter": changed(DEMO[: DEMO.index("[[frame]]\n" + LAST)], ("next = true\n", "")),
+TABLES = tomllib.loads((DATA / "calls.toml").read_text("ascii"))
+TEXTS = {name: text.removeprefix("\n") for name, text in TABLES["texts"].items()}
+FAULTS: dict[str, str] = TABLES["faults"]
+BASES = {"no_entry": "entry = 0\n"} | {name: changed(DEMO, changes) for name, changes in TABLES["bases"].items()}
+CERTIFICATES = {name: changed(CERT, changes) for name, changes in TABLES["certificates"].items()}
+# Those at fault by their faults; LONG is one byte more than a body may have.
+BAD_BASES: dict[str, str] = {
+    one["fault"]: one["text"] if "text" in one else changed(DEMO, one["changes"]).replace("LONG", "A" * 4_097)
+    for one in TABLES["bad_bases"]
 }
-MOVED = changed(
-    CERT,
-    ("entry 123\n", "entry 1231\n"),
-    ("keyings 1", "keyings 2"),
-    ("\n123a 0", "\n123a 1"),
-    ("1231a 1", "1231a 0"),
-    ("1231b 1", "1231b 2"),
-)
-SHORTER = changed(CERT, ("rows 3", "rows 2"), ("1231b 1 s48\n", ""))
-BAD_BASES = {
-    "X4 Absent entry": "",
-    "X6 Range entry": "entry = 1000000000\n",
-    "X5 WrongKind entry": 'entry = "1"\n',
-    "X2 NotToml": "entry = \n",
-    "X3 UnknownKey": "entry = 1\nname = 2\n",
-    "B1 Duplicate 123a": changed(DEMO, ('id = "1231a"', 'id = "123a"')),
-    "B2 OutsideInside 123": changed(DEMO, ("outside = [0]", "outside = [123]")),
-    "B3 NextAfterZ 1231z": changed(DEMO, (LAST, 'id = "1231z"\nnext = true\n')),
-    "B5 BodyTooLong 1231b": changed(DEMO, ("\\u001E\\u000APART TWO", "A" * 4_097)),
-    "frame 2: X6 Range body": changed(DEMO, ("\\u001E\\u000APART TWO", "\\u0100")),
-    "frame 2: X7 BodyAndRows": changed(DEMO, (LAST, LAST + "rows = []\n")),
-    "frame 0: X8 RowTooLong": changed(DEMO, ("WELCOME", "W" * 41)),
-    "frame 0: X9 RowCode": changed(DEMO, ("WELCOME", "\\u001B")),
-    "frame 0: I2 BadFrame": changed(DEMO, ('"123a"', '"0123a"')),
-}
-BAD_CERTS = {
-    "line 1: Magic": line_of(1, "PBC3"),
-    "line 2: Word": line_of(2, "Entry 123"),
-    "line 2: Number": line_of(2, "entry 0123"),
-    "line 5: Range": line_of(5, "rows 65536"),
-    "line 7: Number": line_of(7, "1231a 01 s80"),
-    "line 7: Cursor": line_of(7, "1231a 1 s960"),
-    "line 8: Order": line_of(8, "1231a 1 s80"),
-    "line 8: Count": line_of(5, "rows 2"),
-    "line 9: Count": line_of(5, "rows 4"),
-    "line 10: Tail": CERT + "X",
-}
-TRUNCATED = CERT[:80]
-REPLIES = "SHOWN 123a 0\n" + "SHOWN 1231a 5\nSHOWN 123a 0\n" * 3 + "SHOWN 1231a 5\nNOTOFFERED\n"
-LIST = """\
-FRAME 123a RANK 0 PRICE 0 GROUP - SCRIPT -
-FRAME 1231a RANK 1 PRICE 5 GROUP - SCRIPT 1
-FRAME 1231b RANK 1 PRICE 0 GROUP - SCRIPT 1#
-"""
-CLOSED_LIST = (
-    LIST.splitlines(keepends=True)[0] + "FRAME 1231a RANK 1 PRICE 5 GROUP - SCRIPT 1\nUNREACHED 1231b PRICE 0 GROUP 7\n"
-)
+BAD_CERTS = {fault: line_of(*change) for fault, change in TABLES["bad_certificates"].items()}
+BAD_CERTS["line 10: Tail"] = CERT + "X"
 MAP = draw(DEMO.encode(), Asked()).stdout
-STRICT = "FAULTS 3\nPRICE 1231a 5 SCRIPT 1\nNORETURN 1231a SCRIPT 1\nNORETURN 1231b SCRIPT 1#\n"
-# Of an audit up to 50 pence and 3 keyings.
-FAULTS = {
-    "closed": "FAULTS 1\nCLOSED 1231b AT 1231a KEY # SCRIPT 1#\n",
-    "missing": "FAULTS 1\nMISSING 555a AT 1231b KEY 9 SCRIPT 1#9\n",
-    "no_return": "FAULTS 1\nNORETURN 1231b SCRIPT 1#\n",
-    "touches": "FAULTS 1\nTOUCHES 1231b BYTE 0 START 0 SCRIPT 1#\n",
-    "entry_closed": "FAULTS 1\nENTRYCLOSED 123a\n",
-    "no_entry": "FAULTS 1\nENTRYMISSING 0a\n",
-}
 
 
 def debug_id(id: str) -> str:
@@ -137,7 +83,9 @@ def debug_option(text: object) -> str:
 
 
 def debug_found(frames: Iterable[tuple[str, int | None, int | None, str | None]]) -> str:
-    """The discovered frames as `{:?}` prints them: of each its id, its rank, its parent's place and the key pressed there."""
+    """The discovered frames as `{:?}` prints them: of each its id, its rank, its parent's place and the key pressed
+    there.
+    """
     keys = {None: None, "#": "Next"} | {str(digit): f"Route(Digit {{ number: {digit} }})" for digit in range(10)}
     texts = [
         f"Discovered {{ id: {debug_id(id)}, rank: {debug_option(rank)}, "
@@ -170,7 +118,8 @@ def base_case(name: str, answer: str) -> Case:
 
 
 def cert_cases() -> Iterator[Case]:
-    for name, text in ("cert", CERT), ("grouped", GROUPED):
+    for name in "cert", "grouped":
+        text = CERTIFICATES[name]
         yield Case(f"cert_read {name}", text)
         for piece in 1, 2, 3, 7, 4_096:
             yield Case(f"feed {name} {piece}", text, MEMORY + FAILED)
@@ -202,7 +151,7 @@ def audit_cases() -> Iterator[Case]:
     yield Case("find no_entry -", debug_found([]))
     yield Case("nearest demo 1321a", f"Some({debug_id('1231a')})\n")
     for call in "audit", "faults", "judge_base":
-        yield Case(f"{call} demo 4 0 -", STRICT)
+        yield Case(f"{call} demo 4 0 -", TEXTS["STRICT"])
         for name, faults in FAULTS.items():
             yield Case(f"{call} {name} 50 3 -", faults)
 
@@ -213,12 +162,6 @@ def ran(status: int, text: str = "", fault: str = "") -> str:
 
 
 UNWRITTEN = "output: write failed after {} bytes"
-LINE = BASES["missing"].splitlines().index("routes = { 0 = 123, 9 = 555 }") + 1
-MISSING = (
-    f"base.toml:{LINE}:21: error: MISSING: key 9 of frame 1231b leads to page 555, which has no frame a (keys 1#9)\n"
-)
-MISSING += f"{LINE:5} | routes = {{ 0 = 123, 9 = 555 }}\n      | {' ' * 20}^^^^^^^\n"
-UNKNOWN = 'base.toml:2:1: error: X3 UnknownKey: "name" is not a key of a base; did you mean "frame"?\n    2 | name = 2\n      | ^^^^\n'
 # The entry frame's codes, and the text of frame 1231b, which is painted over 1231a.
 CELLS = f"{'123a':>35}{'0p':>5}{'WELCOME':<920}"
 SHOWN = f"{'1231b':>35}{'0p':>5}\nPART TWO" + "\n" * 23
@@ -226,21 +169,7 @@ PART_TWO = f"{'1231b':>35}{'0p':>5}{'PART TWO':<920}"
 # A saved screen, what a centre sent, and the base of either.
 SCREEN = f"{'THE HERALD':<28}{'478a':>7}{'0p':>5}{'1 News':<920}"
 STREAM = "\x0c\x1e\x0a1 News"
-SCREEN_BASE = """\
-entry = 478
-
-[[frame]]
-# THE HERALD                     478a   0p
-id = "478a"
-price = 0
-routes = { } # keys shown: 1
-rows = [
-    "1 News",
-]
-"""
-STREAM_BASE = changed(
-    SCREEN_BASE, ("entry = 478", "entry = 5"), (SCREEN_BASE.splitlines()[3] + "\n", ""), ("price = 0\n", "")
-)
+SCREEN_BASE = TEXTS["SCREEN_BASE"]
 
 
 @cache
@@ -258,15 +187,8 @@ def texts() -> dict[str, str]:
     """The texts of the answers that have names."""
     pages = {"PAGE": page(), "PAGE_1231": page("--page", "1231")}
     maps = {"MAP": MAP, "MAP_1231": draw(DEMO.encode(), Asked(), View("page", 1_231)).stdout}
-    faults = {
-        "CLOSED_FAULTS": FAULTS["closed"],
-        "NO_ENTRY_FAULTS": FAULTS["no_entry"],
-        "MISSING": MISSING,
-        "UNKNOWN": UNKNOWN,
-    }
-    shown = {"CELLS": CELLS, "SHOWN": SHOWN, "PART_TWO": PART_TWO, "BLANK": " " * 960, "REPLIES": REPLIES}
-    lists = {"LIST": LIST, "CLOSED_LIST": CLOSED_LIST, "SCREEN_BASE": SCREEN_BASE, "STREAM_BASE": STREAM_BASE}
-    return {"CERT": CERT, "GROUPED": GROUPED} | pages | maps | faults | shown | lists
+    shown = {"CELLS": CELLS, "SHOWN": SHOWN, "PART_TWO": PART_TWO, "BLANK": " " * 960}
+    return TEXTS | {"CERT": CERT, "GROUPED": CERTIFICATES["grouped"]} | pages | maps | shown
 
 
 def lines_in(name: str) -> Iterator[list[str]]:
@@ -291,26 +213,9 @@ def run_cases() -> Iterator[Case]:
         yield Case(f"{front.format(7)} unflushed {after}", ran(3, text, UNWRITTEN.format(len(text))))
 
 
-# The words of runs whose files fail after some bytes, with what fails; the base is cut at other places than the certificate.
-UNREAD = [
-    ("run_audit demo 7/{} whole 50 3 -", "base"),
-    ("run_check demo 7/{} cert 7 whole 5 1 -", "base"),
-    ("run_walk demo 7/{} 1# whole -", "base"),
-    ("run_list demo 7/{} whole -", "base"),
-    ("run_import screen 7/{} cells dump - whole", "base"),
-    ("run_export demo 7/{} 123a whole -", "base"),
-    ("run_map demo 7/{} - whole -", "base"),
-    ("run_show demo 7/{} - text whole -", "base"),
-    ("run_pages demo 7/{} - whole 50 3 -", "base"),
-    ("run_change demo 7/{} cert 7 demo 7 cert 7 whole 50 3 -", "base"),
-    ("run_change demo 7 cert 7 demo 7/{} cert 7 whole 50 3 -", "new base"),
-    ("run_check demo 7 cert 7/{} whole 5 1 -", "certificate"),
-    ("run_change demo 7 cert 7 demo 7 cert 7/{} whole 50 3 -", "new certificate"),
-]
-
-
 def unread_cases() -> Iterator[Case]:
-    for words, file in UNREAD:
+    """Files that fail after some bytes; the base is cut at other places than the certificate."""
+    for words, file in TABLES["unread"].items():
         for kept in (0, 40, len(CERT)) if "certificate" in file else (0, 100, len(DEMO)):
             yield Case(words.format(kept), ran(3, fault=f"{file}: read failed"))
 
@@ -398,11 +303,10 @@ def large_cases(files: Mapping[str, str]) -> Iterator[Case]:
 
 
 def small_files() -> dict[str, str]:
-    files = {**BASES, "cert": CERT, "grouped": GROUPED, "truncated": TRUNCATED, "screen": SCREEN, "stream": STREAM}
-    files.update(moved_cert=MOVED, shorter_cert=SHORTER)
-    files.update((f"bad_base_{place}", text) for place, text in enumerate(BAD_BASES.values()))
-    files.update((f"bad_cert_{place}", text) for place, text in enumerate(BAD_CERTS.values()))
-    return files
+    bad_bases = {f"bad_base_{place}": text for place, text in enumerate(BAD_BASES.values())}
+    bad_certs = {f"bad_cert_{place}": text for place, text in enumerate(BAD_CERTS.values())}
+    others = {"truncated": CERT[:80], "screen": SCREEN, "stream": STREAM}
+    return BASES | CERTIFICATES | bad_bases | bad_certs | others
 
 
 def cases(folder: Path) -> Iterator[Case]:

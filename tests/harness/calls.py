@@ -1,4 +1,6 @@
-"""The program that makes one call on an input, crates/refused_calls: what tests/refuse-calls and tests/failing-devices share."""
+"""The program that makes one call on an input, crates/refused_calls: what tests/refuse-calls and tests/failing-devices
+share.
+"""
 
 import os
 import shutil

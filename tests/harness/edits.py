@@ -1,4 +1,6 @@
-"""The functions of the crates, and their edits: what tests/contracts, tests/plain-edits and tests/must-fail-goals share."""
+"""The functions of the crates, and their edits: what tests/contracts, tests/plain-edits and tests/must-fail-goals
+share.
+"""
 
 import itertools
 import re

@@ -167,8 +167,8 @@ def surroundings(folder: Path) -> dict[str, str]:
 
 
 def patched(lines: list[str], diff: str) -> list[str] | None:
-    """Lines with a unified diff applied, or None if the old lines of a hunk aren't there; of several places the one nearest to what
-    the hunk says. An empty line is one that stays, as its blank is easily lost."""
+    """Lines with a unified diff applied, or None if the old lines of a hunk aren't there; of several places the one
+    nearest to what the hunk says. An empty line is one that stays, as its blank is easily lost."""
     new: list[str] = []
     at = 0
     for hunk in re.split("^@@ -", diff, flags=re.M)[1:]:
@@ -196,7 +196,9 @@ def change(test: Test, diff: Diff, folder: Path) -> None:
 
 
 def follow(test: Test, blocks: Iterable[Block], given: Iterable[Path] = ()) -> None:
-    """Goes through blocks in the test's folder with copies of the given files: a result for each run, and for what hinders one."""
+    """Goes through blocks in the test's folder with copies of the given files: a result for each run, and for what
+    hinders one.
+    """
     env, folder = surroundings(test.folder), test.folder / "work"
     folder.mkdir()
     for file in given:

@@ -1,5 +1,5 @@
-"""The parts of the gate: the scripts that ./test runs. tests/contracts judges that no script is left out, and tests/dist-make tries
-./test over stand-ins for them."""
+"""The parts of the gate: the scripts that ./test runs. tests/contracts judges that no script is left out, and
+tests/dist-make tries ./test over stand-ins for them."""
 
 import os
 import re
@@ -38,6 +38,7 @@ def faults() -> Iterator[str | None]:
     named, there = [*parts(), *NO_PARTS], scripts()
     for name in sorted({*there, *named}):
         is_right = name in there and named.count(name) == 1
-        yield None if is_right else f"{name} has to be there, and once a part of ./test or named as none: {named.count(name)}"
+        wrong = f"{name} has to be there, and once a part of ./test or named as none: {named.count(name)}"
+        yield None if is_right else wrong
     last = (TOP / ".ci" / "run").read_text("utf-8").splitlines()[-1]
     yield None if last == "CI=true exec ./test" else f".ci/run ends by '{last}', not by 'CI=true exec ./test'"

@@ -1,4 +1,5 @@
-"""Runs of the program with the most memory that it held at once: what tests/hostile-files and tests/peak-memory share."""
+"""Runs of the program with the most memory that it held at once: what tests/hostile-files and tests/peak-memory share.
+"""
 
 import os
 import re

@@ -1,7 +1,7 @@
 """The programs that the tests judge: each test takes their paths from here.
 
-The variable `PAGEAUDIT` names the program, and `PAGEAUDIT_CALLS` the one that makes single calls (crates/refused_calls).
-Without them they are the ones that this checkout has built.
+The variable `PAGEAUDIT` names the program, and `PAGEAUDIT_CALLS` the one that makes single calls
+(crates/refused_calls). Without them they are the ones that this checkout has built.
 
 For another processor than this machine's, `PAGEAUDIT_EMULATOR` names qemu's command and `PAGEAUDIT_CC` the C compiler
 (tests/on-aarch64).

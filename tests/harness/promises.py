@@ -1,9 +1,10 @@
 """Which definitions of specs/ promises reach, and so which ones specs/Loops has to hold: tests/contracts judges that.
 
-A promise is a clause of an exported function, or what is said of an exported type or by an exported trait (its ghost members). It
-reaches what it names and what that names in turn, in any crate. A name is looked up by the imports of its file. What is said of
-a type that isn't exported may be in Loops or not. The crate `promises` exports nothing: all its clauses are promises. No crate can
-use a static library, so crates/promises/calls has the clauses of the calls for C, and the definitions of their own that these reach.
+A promise is a clause of an exported function, or what is said of an exported type or by an exported trait (its ghost
+members). It reaches what it names and what that names in turn, in any crate. A name is looked up by the imports of its
+file. What is said of a type that isn't exported may be in Loops or not. The crate `promises` exports nothing: all its
+clauses are promises. No crate can use a static library, so crates/promises/calls has the clauses of the calls for C,
+and the definitions of their own that these reach.
 """
 
 import itertools
@@ -128,7 +129,9 @@ def call_promises() -> list[str]:
 
 
 def call_faults() -> Iterator[str | None]:
-    """For each promise of the calls for C what is wrong, or None: it is lacking where it is kept, or says something else there."""
+    """For each promise of the calls for C what is wrong, or None: it is lacking where it is kept, or says something
+    else there.
+    """
     kept = (CRATES / CLIENT / "calls").read_text("utf-8").rstrip("\n").split("\n\n")[1:]
     now = call_promises()
     yield from (None if one in now else f"{CALLS} doesn't promise any more: {one}" for one in kept)
@@ -136,7 +139,9 @@ def call_faults() -> Iterator[str | None]:
 
 
 def storeys(crates: list[str]) -> Iterator[str | None]:
-    """For each definition of some crates what is wrong with where it is, or None. A file of laws holds the lemmas of its laws."""
+    """For each definition of some crates what is wrong with where it is, or None. A file of laws holds the lemmas of
+    its laws.
+    """
     every = [one for crate in crates for one in said(crate)]
     meant = reached((path, text) for path, text, _ in every)
     promised = reached((path, text) for path, text, is_exported in every if is_exported)

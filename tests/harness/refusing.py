@@ -32,7 +32,9 @@ def chosen(requests: int, most: int = 0) -> Sequence[int]:
 
 @dataclass
 class Run:
-    """A command, run in a folder with the library that refuses; `device` takes its standard output in the place of a pipe."""
+    """A command, run in a folder with the library that refuses; `device` takes its standard output in the place of a
+    pipe.
+    """
 
     library: Path
     command: list[Word]
@@ -41,7 +43,9 @@ class Run:
     only_call: bool = False
 
     def answer(self, refused_at: int) -> tuple[Done, int]:
-        """The answer if request `refused_at` is refused (0: none), and the number of requests, 0 if the run doesn't say it."""
+        """The answer if request `refused_at` is refused (0: none), and the number of requests, 0 if the run doesn't say
+        it.
+        """
         env = os.environ | preloaded(self.library) | {"REFUSE_AT": str(refused_at), "REFUSE_COUNT": "1"}
         if self.only_call:
             env["REFUSE_CALL"] = "1"

@@ -155,7 +155,9 @@ class Test:
                     self.say(text)
 
     def adopt(self, name: str, done: Done) -> None:
-        """Adds the results of a script that ended so: one that counts nothing, or says that it failed and counts no failure, has failed."""
+        """Adds the results of a script that ended so: one that counts nothing, or says that it failed and counts no
+        failure, has failed.
+        """
         self.say(done.stdout.removesuffix("\n"))
         counts = Counts.of(done.stdout)
         self.counts += counts or Counts()

@@ -93,8 +93,9 @@ def main(
 ) -> NoReturn:
     """Runs the cases of a script, its globals() with its docstring, or others by their names.
 
-    Each case is given the test, and what `given` gives for it. `count` is the default of --count, `options` adds words of its own,
-    `files` are compared, and with --write written. A whole case has one result. So many run at once; 0 is one a processor.
+    Each case is given the test, and what `given` gives for it. `count` is the default of --count, `options` adds words
+    of its own, `files` are compared, and with --write written. A whole case has one result. So many run at once; 0 is
+    one a processor.
     """
     every = dict(cases if cases is not None else cases_of(script))
     if files:

@@ -1,7 +1,8 @@
-"""When each plain edit was refused last, as tests/data/plain-edits.tried has it: what tests/plain-edits and tests/contracts share.
+"""When each plain edit was refused last, as tests/data/plain-edits.tried has it: what tests/plain-edits and
+tests/contracts share.
 
-A line names an edit, the day, the commit, and the sums of the edit and of the files that it changes. If these have other sums
-now, the edit counts as never tried.
+A line names an edit, the day, the commit, and the sums of the edit and of the files that it changes. If these have
+other sums now, the edit counts as never tried.
 """
 
 import datetime
@@ -36,7 +37,9 @@ def record() -> dict[str, list[str]]:
 
 
 def keep(crate: str, refused: Iterable[Edit]) -> None:
-    """Lists the edits of a crate that were refused, and no others of it. Of crates/ with changes that aren't committed none is added."""
+    """Lists the edits of a crate that were refused, and no others of it. Of crates/ with changes that aren't committed
+    none is added.
+    """
     own = {f"{crate}/{edit.name}": edit for edit in refused}
     lines = {name: words for name, words in record().items() if name in own or not name.startswith(f"{crate}/")}
     if not git("status", "--porcelain", "crates"):
@@ -46,7 +49,9 @@ def keep(crate: str, refused: Iterable[Edit]) -> None:
 
 
 def tried(crate: str) -> tuple[list[tuple[str, str, str]], list[str]]:
-    """The plain edits of a crate that were refused as they are now, each with the day and the commit; and those that weren't."""
+    """The plain edits of a crate that were refused as they are now, each with the day and the commit; and those that
+    weren't.
+    """
     known, found, others = record(), list[tuple[str, str, str]](), list[str]()
     for edit in edits(crate, "plain-edits"):
         day, commit, *texts = known.get(f"{crate}/{edit.name}", ["", ""])
@@ -64,5 +69,6 @@ def when(crate: Any) -> Iterator[str]:
     for day, commit in sorted({(day, commit) for _, day, commit in found}):
         days = (datetime.date.today() - datetime.date.fromisoformat(day)).days
         changed = len(git("log", "--format=%h", f"{commit}..HEAD", "--", *folders).split())
-        yield f"{crate.name}: tried {days} days ago at {commit}; {changed} commits have changed it or what it uses since"
+        since = f"{changed} commits have changed it or what it uses since"
+        yield f"{crate.name}: tried {days} days ago at {commit}; {since}"
     yield from [f"{crate.name}: never tried: {' '.join(never)}"] if never else []
