@@ -1,7 +1,9 @@
-"""Makes a case that fails smaller before it is printed: frames, rows, keys, routes and lines are left out as long as it fails.
+"""Makes a case that fails smaller before it is printed: frames, rows, keys, routes and lines are left out as long as it
+fails.
 
-It is delta debugging: of a list of parts halves are left out, then quarters, down to single parts. The same case becomes the same
-small one. All cases of a script share a number of tries and a time; once they are over, a case is printed as it is.
+It is delta debugging: of a list of parts halves are left out, then quarters, down to single parts. The same case
+becomes the same small one. All cases of a script share a number of tries and a time; once they are over, a case is
+printed as it is.
 """
 
 import re

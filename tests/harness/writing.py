@@ -6,7 +6,8 @@ from random import Random
 from typing import TypeVar
 
 Item = TypeVar("Item")
-# What is written, by the keys and indexes that lead to it, from `top` or the index of a frame: its `key`, `value`, `pair`, `character`.
+# What is written, by the keys and indexes that lead to it, from `top` or the index of a frame: its `key`, `value`,
+# `pair`, `character`.
 Name = tuple[str | int, ...]
 
 COMMENTS = ["", "#", "# [[frame]]", '# id = "1a"', "# '''", '# """ ] }', "# \u20ac \u00e9\t\U0001f600"]
@@ -76,7 +77,7 @@ class Pen(Chance):
         return self.pick(forms + named)
 
     def escaped(self, text: str, name: Name = (), in_lines: bool = False) -> str:
-        """The inside of a basic string, of one line or of several; of a value of this name with its characters marked."""
+        """The inside of a basic string, of one line or of several; with a name its characters are marked."""
         spelled = ""
         for at, c in enumerate(text):
             if in_lines and c not in " \t\r\n" and self.chance(0.05):

@@ -83,8 +83,8 @@ JUDGED = ["", "id", "price", "group", "next", "routes", "lead", "text"]
 class Fault(NamedTuple):
     """The words of a finding, and what is at fault: its name from the table of a frame, or of the top, on.
 
-    Without a name it is the file's first line; of `later` keys it is the one that is written last. {F} is the frame's name, and some
-    words end with the line of another frame.
+    Without a name it is the file's first line; of `later` keys it is the one that is written last. {F} is the frame's
+    name, and some words end with the line of another frame.
     """
 
     words: str
@@ -603,7 +603,7 @@ class FaultyWalks(Written):
                     yield begin, "warning", words
 
     def shown(self, frame: Frame) -> Iterator[tuple[Name, str, str]]:
-        """What may be wrong with what a frame shows: its name, what is before it, and words; how it is written decides."""
+        """What may be wrong with a frame's text: its name, what is before it, and words; how it is written decides."""
         line, body = f"LINEEND: a line of the body of frame {frame.id} ends with", str(frame.fields.get("body"))
         if body in FEEDS:
             how = "a line feed alone, so the text goes on in the same column"

@@ -94,7 +94,7 @@ class Inputs(Chance):
                 yield FrameId(page, chr(letter))
 
     def frame(self, id: FrameId, ids: list[FrameId], targets: list[int], wild: float, closed: float) -> FrameTable:
-        """A frame whose routes and `next` lead somewhere, but for a share of wild ones; a share of frames has a group."""
+        """A frame whose routes and `next` lead somewhere, but for a share of wild ones; a share has a group."""
         following = id.following in ids
         table: FrameTable = {"id": str(id)}
         if self.chance(0.5):
@@ -181,7 +181,7 @@ class Inputs(Chance):
         return self.text(tree)
 
     def next_tree(self, tree: BaseTable) -> BaseTable:
-        """The next edition of a base: the same, or with a few things changed as a provider would, some of them wrong."""
+        """The next edition of a base: the same, or with a few changes as a provider makes them, some of them wrong."""
         frames = [cast(FrameTable, {**table, "routes": dict(table.get("routes", {}))}) for table in tree["frame"]]
         tree = {"entry": tree["entry"], "outside": tree["outside"], "frame": frames}
         for _ in range(self.pick([0, 1, 1, 2, 3])):
