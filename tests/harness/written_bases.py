@@ -97,12 +97,9 @@ def listed(faults: list[Fault], where: str) -> list[Fault]:
     """The first 1,000 faults of one table, and one finding for the others, where the first of these is."""
     if len(faults) <= MOST_FAULTS:
         return faults
-    rest = faults[MOST_FAULTS:]
-    others = f"{len(rest):,} more fault{'s' * (len(rest) > 1)}"
-    return [
-        *faults[:MOST_FAULTS],
-        rest[0]._replace(words=f"{rest[0].words.split(': ')[0]}: {others} {where}, not listed"),
-    ]
+    first, *more = faults[MOST_FAULTS:]
+    words = f"{len(more) + 1:,} more fault{'s' * bool(more)} {where}, not listed"
+    return [*faults[:MOST_FAULTS], first._replace(words=f"{first.words.split(': ')[0]}: {words}")]
 
 
 class Frame:
@@ -142,12 +139,15 @@ class Frame:
         self.fault(field, words, *(name or (field, "value")))
 
     def fault(self, field: str, words: str, *name: str | int) -> None:
-        self.faults.setdefault(field, []).append(Fault(words, name))
+        self.faults_of(field).append(Fault(words, name))
+
+    def faults_of(self, field: str) -> list[Fault]:
+        return self.faults.setdefault("text" if field in ("body", "rows") else field, [])
 
     def in_order(self) -> Iterator[Fault]:
         """The faults in the order of judging, with the frame's name in the words."""
         name = f"frame {self.id}" if self.fields.get("id") == self.id else "this frame"
-        faults = [fault for field in JUDGED for fault in self.faults.get(field, [])]
+        faults = [fault for field in JUDGED for fault in self.faults_of(field)]
         for fault in listed(faults, "in {F}"):
             yield fault._replace(words=fault.words.replace("{F}", name))
 
@@ -290,9 +290,14 @@ class FaultyText(Written):
         for frame in self.frames:
             for _ in range(self.pick([0, 0, 1, 1, 2])):
                 self.spoil(frame)
-        self.spoil_whole([frame for frame in self.frames if not frame.faults])
-        if not (self.top_faults or self.whole_faults or any(frame.faults for frame in self.frames)):
+        self.spoil_whole([frame for frame in self.frames if not any(frame.faults.values())])
+        if not (self.top_faults or self.whole_faults or any(any(frame.faults.values()) for frame in self.frames)):
             self.leave_entry_out()
+
+    def spoil_at(self, key: str, value: object, words: str) -> None:
+        """A key of the top has a value that is at fault."""
+        self.top[key] = value
+        self.top_faults.append(Fault(words, (key, "value")))
 
     def leave_entry_out(self) -> None:
         del self.top["entry"]
@@ -349,8 +354,7 @@ class FaultyText(Written):
         if share < 0.1:
             self.leave_entry_out()
         elif share < 0.3:
-            self.top["entry"], words = self.wrong_number('"entry"', 0, 999_999_999)
-            self.top_faults.append(Fault(words, ("entry", "value")))
+            self.spoil_at("entry", *self.wrong_number('"entry"', 0, 999_999_999))
         self.spoil_outside()
         if not self.frames:
             self.spoil_frames()
@@ -359,9 +363,7 @@ class FaultyText(Written):
         """In the place of frames something else, or a list of what is no frame."""
         value, kind = self.pick([*ODD, (None, "a list")])
         if kind != "a list":
-            words = f'X5 WrongKind: "frame" is {kind}, an array of tables is needed'
-            self.top_faults.append(Fault(words, ("frame", "value")))
-            self.top["frame"] = value
+            self.spoil_at("frame", value, f'X5 WrongKind: "frame" is {kind}, an array of tables is needed')
             return
         items = self.random.sample([(value, kind) for value, kind in ODD if kind != "a table"], self.pick([0, 1, 2]))
         self.top["frame"] = [value for value, _ in items]
@@ -372,8 +374,7 @@ class FaultyText(Written):
     def spoil_outside(self) -> None:
         share = self.random.random()
         if share < 0.1:
-            self.top["outside"], words = self.wrong_kind('"outside"', "a list of whole numbers", "a list")
-            self.top_faults.append(Fault(words, ("outside", "value")))
+            self.spoil_at("outside", *self.wrong_kind('"outside"', "a list of whole numbers", "a list"))
             return
         outside: list[object] = [self.page() for _ in range(self.pick([0, 1, 3]))]
         if share < 0.4:
@@ -396,7 +397,7 @@ class FaultyText(Written):
             "lead": self.spoil_lead,
             "text": self.spoil_text,
         }
-        if field in frame.faults:
+        if frame.faults_of(field):
             return
         if field in spoil:
             spoil[field](frame)
@@ -466,8 +467,7 @@ class FaultyText(Written):
 
     def spoil_body(self, frame: Frame) -> None:
         if self.chance(0.4):
-            frame.fields["body"], words = self.wrong_kind('"body" of {F}', "a string")
-            frame.fault("text", words, "body", "value")
+            frame.spoil("body", *self.wrong_kind('"body" of {F}', "a string"))
             return
         before = self.pick([0, 1, 11, 999, 1_500])
         text, ends = "\xa3\t" * (before // 2) + "A" * (before % 2), ("at most U+00FF is allowed", "above U+00FF")
@@ -496,8 +496,7 @@ class FaultyText(Written):
 
     def spoil_rows(self, frame: Frame) -> None:
         if self.chance(0.2):
-            frame.fields["rows"], words = self.wrong_kind('"rows" of {F}', "a list of strings", "a list")
-            frame.fault("text", words, "rows", "value")
+            frame.spoil("rows", *self.wrong_kind('"rows" of {F}', "a list of strings", "a list"))
             return
         rows: list[object] = []
         frame.fields["rows"] = rows
@@ -517,7 +516,7 @@ class FaultyText(Written):
             frame.fault("text", words, "rows", number, "value")
             return value
         before = self.pick([0, 1, 39, 40])
-        first = len(frame.faults.get("text", []))
+        first = len(frame.faults_of("text"))
         if share < 0.6:
             ends, codes = ("which no row may have", "that no row may have"), [*CODES, *FAR_CODES]
             gap = f"X9 RowCode: {{}} row {number + 1:,} of {{{{F}}}}"
@@ -526,7 +525,7 @@ class FaultyText(Written):
             row = "A" * before + "B" * self.pick([41, 1_000])
         if len(row) > 40:
             words = f"X8 RowTooLong: {here} has {len(row):,} characters, at most 40 are allowed"
-            frame.faults.setdefault("text", []).insert(first, Fault(words, ("rows", number, "value")))
+            frame.faults_of("text").insert(first, Fault(words, ("rows", number, "value")))
         return row
 
     def whole(self, words: str, frame: Frame | None, *name: str | int, first: Frame | None = None) -> None:
