@@ -1,5 +1,6 @@
-"""What pyte, a terminal in Python, shows after texts: reads a list of texts as JSON, and writes for each 24 rows of 40 cells, a cell
-as its character, foreground, background and, if this pyte knows it, whether it flashes. A pyte of Debian is read by its own Python.
+"""What pyte, a terminal in Python, shows after texts: reads a list of texts as JSON, and writes for each 24 rows of 40
+cells, a cell as its character, foreground, background and, if this pyte knows it, whether it flashes. A pyte of Debian
+is read by its own Python.
 """
 
 import json

@@ -3,7 +3,7 @@
 import time
 from argparse import ArgumentParser
 from collections.abc import Callable, Iterator
-from dataclasses import dataclass, field, replace
+from dataclasses import dataclass, replace
 from pathlib import Path
 from typing import Literal
 
@@ -34,61 +34,42 @@ class Run:
     keys: str | None = None
     frame: str | None = None
     form: Form = "line"
-    view: View = field(default_factory=View)
+    view: View = View()
 
     @property
     def answer(self) -> Answer:
         """What it has to answer, but for the name of a file."""
-        match self.command:
-            case "walk":
-                return walk(self.base, self.keys or "", self.asked)
-            case "list":
-                return listing(self.base, self.asked, self.form)
-            case "audit":
-                return audit(self.base, self.asked)
-            case "check":
-                return check(self.base, self.certificate, self.asked)
-            case "map":
-                return draw(self.base, self.asked, self.view)
-            case "change":
-                return change(Texts(self.base, self.certificate), self.new, self.asked)
-            case "show":
-                return show(self.base, self.frame, self.keys, self.asked)
+        return ANSWERS[self.command](self)
 
     def wanted(self, folder: Path) -> Answer:
         """What it has to answer with its files in a folder."""
-        return (
-            with_advice(self.answer, folder / "base.toml") if self.command in ("list", "map", "show") else self.answer
-        )
+        has_advice = self.command in ("list", "map", "show")
+        return with_advice(self.answer, folder / "base.toml") if has_advice else self.answer
 
     def words(self, folder: Path) -> list[str]:
         """The words of the program, whose files are in a folder."""
-        files = {"base.toml": self.base}
-        if self.command in ("check", "change"):
-            files["base.cert"] = self.certificate
-        if self.command == "change":
-            files |= {"new.toml": self.new.base, "new.cert": self.new.certificate}
-        for name, data in files.items():
-            (folder / name).write_bytes(data)
-        return [self.command, *(str(folder / name) for name in files), *self.options]
+        files = {"base.toml": self.base, "base.cert": self.certificate}
+        files |= {"new.toml": self.new.base, "new.cert": self.new.certificate}
+        names = list(files)[: {"check": 2, "change": 4}.get(self.command, 1)]
+        for name in names:
+            (folder / name).write_bytes(files[name])
+        return [self.command, *(str(folder / name) for name in names), *self.options]
 
     @property
     def options(self) -> list[str]:
         match self.command:
             case "walk":
-                return [self.keys or "", *self.asked.caller]
+                words = [self.keys or ""]
             case "list":
-                return [*(["--format", "json"] if self.form == "json" else []), *self.asked.caller]
+                words = ["--format", "json"] if self.form == "json" else []
             case "map":
-                return [*self.asked.caller, *self.view.words]
+                words = self.view.words
             case "show":
-                shown = [
-                    *([] if self.frame is None else [self.frame]),
-                    *([] if self.keys is None else ["--keys", self.keys]),
-                ]
-                return [*shown, *self.asked.caller, "--as", "cells"]
+                keys = [] if self.keys is None else ["--keys", self.keys]
+                words = [*([] if self.frame is None else [self.frame]), *keys, "--as", "cells"]
             case _:
-                return [*self.asked.limits, *self.asked.caller]
+                words = self.asked.limits
+        return [*words, *self.asked.caller]
 
     def found(self, folder: Path) -> Done:
         """What the program answers with its files in a folder."""
@@ -99,12 +80,19 @@ class Run:
         return shrunk(self, fails, cut_asked, cut_bases, cut_certificates, cut_keys, budget=budget)
 
     def __str__(self) -> str:
-        texts = [self.base, self.certificate, *self.new]
-        lines = [
-            f"{self.command} {self.options}",
-            *(text.decode("utf-8", "backslashreplace") for text in texts if text),
-        ]
-        return "\n".join(lines)
+        texts = [text.decode("utf-8", "backslashreplace") for text in (self.base, self.certificate, *self.new)]
+        return "\n".join([f"{self.command} {self.options}", *filter(None, texts)])
+
+
+ANSWERS: dict[Command, Callable[[Run], Answer]] = {
+    "walk": lambda run: walk(run.base, run.keys or "", run.asked),
+    "list": lambda run: listing(run.base, run.asked, run.form),
+    "audit": lambda run: audit(run.base, run.asked),
+    "check": lambda run: check(run.base, run.certificate, run.asked),
+    "map": lambda run: draw(run.base, run.asked, run.view),
+    "change": lambda run: change(Texts(run.base, run.certificate), run.new, run.asked),
+    "show": lambda run: show(run.base, run.frame, run.keys, run.asked),
+}
 
 
 def cut_asked(run: Run, fails: Fails[Run]) -> Run:

@@ -1,17 +1,20 @@
-"""Makes a case that fails smaller before it is printed: frames, rows, keys, routes and lines are left out as long as it fails.
+"""Makes a case that fails smaller before it is printed: frames, rows, keys, routes and lines are left out as long as it
+fails.
 
-It is delta debugging: of a list of parts halves are left out, then quarters, down to single parts. The same case becomes the same
-small one. All cases of a script share a number of tries and a time; once they are over, a case is printed as it is.
+It is delta debugging: of a list of parts halves are left out, then quarters, down to single parts. The same case
+becomes the same small one. All cases of a script share a number of tries and a time; once they are over, a case is
+printed as it is.
 """
 
-import datetime
-import json
 import re
 import time
 import tomllib
 from collections.abc import Callable, Sequence
 from dataclasses import dataclass
+from random import Random
 from typing import TypeVar
+
+from harness.writing import FirstPen
 
 Case = TypeVar("Case")
 Part = TypeVar("Part")
@@ -105,31 +108,14 @@ def smallest_value(value: object, fails: Fails[object]) -> object:
     return value
 
 
-def value_text(value: object) -> str:
-    """A value of TOML."""
-    if isinstance(value, str):
-        return json.dumps(value).replace("\x7f", "\\u007F")
-    if isinstance(value, list):
-        return f"[{', '.join(map(value_text, value))}]"
-    if isinstance(value, dict):
-        return f"{{ {', '.join(pair_text(*pair) for pair in value.items())} }}"
-    if isinstance(value, datetime.date | datetime.time):
-        return value.isoformat()
-    return str(value).lower()
-
-
-def pair_text(key: str, value: object) -> str:
-    name = key if re.fullmatch("[A-Za-z0-9_-]+", key) else value_text(key)
-    return f"{name} = {value_text(value)}"
-
-
 def base_text(tree: object) -> bytes:
     """The plain text of a base's tree."""
     assert isinstance(tree, dict)
     frames = tree.get("frame")
     tables = frames if isinstance(frames, list) and all(isinstance(frame, dict) for frame in frames) else []
     top = {key: value for key, value in tree.items() if not (tables and key == "frame")}
-    texts = ["".join(f"{pair_text(*pair)}\n" for pair in table.items()) for table in [top, *tables]]
+    pen = FirstPen(Random(0))
+    texts = ("".join(f"{pen.pair((key,), table[key], ())}\n" for key in table) for table in [top, *tables])
     return "[[frame]]\n".join(texts).encode()
 
 

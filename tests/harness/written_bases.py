@@ -5,19 +5,15 @@ Nothing of tests/second_reading is used here: a place is where the writer was wh
 
 import datetime
 import re
-from collections.abc import Callable, Iterable, Iterator, Mapping, Sequence
+from collections.abc import Callable, Iterator, Mapping
 from random import Random
-from typing import NamedTuple, TypeVar, cast
+from typing import NamedTuple, cast
 
 from harness.running import Done
-
-Item = TypeVar("Item")
-# What is written, by the keys and indexes that lead to it, from `top` or the index of a frame: its `key`, `value`, `pair`, `character`.
-Name = tuple[str | int, ...]
+from harness.writing import Chance, Name, Pen, Sheet
 
 
 PAGES: list[int] = [0, 3, 555, 1_231, 70_000, 8_000_000, 999_999_999, *range(12, 70)]
-COMMENTS = ["", "#", "# [[frame]]", '# id = "1a"', "# '''", '# """ ] }', "# \u20ac \u00e9\t\U0001f600"]
 ODD: list[tuple[object, str]] = [
     ("x1", "a string"),
     (7, "a whole number"),
@@ -62,12 +58,6 @@ UNKNOWN_OF_A_FRAME = [
     *("bodies", "PRICE", "x", "entry"),
 ]
 ODD_KEYS = [(text, shown) for text, shown in TEXTS if not text.isdigit() or len(text) > 1]
-# The characters of a text that is so long aren't marked.
-LONG = 3_000
-# What a literal string can hold, on one line and on several.
-LITERAL = re.compile(r"[^'\x00-\x08\n-\x1f\x7f]*")
-LITERAL_LINES = re.compile(r"(?:[^'\x00-\x08\n-\x1f\x7f]|\r?\n)*")
-NAMED = {"\x08": "b", "\t": "t", "\n": "n", "\x0c": "f", "\r": "r", "\x1b": "e", '"': '"', "\\": "\\"}
 # Bodies that write into a service row after a cleared screen, with the offset of the first byte that does.
 TOUCHING = [
     ("\r\n" * 22 + "A", 44),
@@ -90,189 +80,11 @@ MOST_FAULTS = 1_000
 JUDGED = ["", "id", "price", "group", "next", "routes", "lead", "text"]
 
 
-class Pen:
-    """Spells keys and values in one of the ways of TOML, by the one source of chance."""
-
-    def __init__(self, random: Random) -> None:
-        self.random = random
-        self.eol = self.pick(["\n", "\n", "\r\n"])
-        self.is_odd = self.pick([False, True, True])
-        self.names: list[Name] = []
-
-    def pick(self, items: Sequence[Item]) -> Item:
-        return self.random.choice(items)
-
-    def begin(self, name: Name) -> tuple[str, str]:
-        """Marks where a thing begins, and gives the mark of its end. A sheet takes the marks out of the text."""
-        high, low = divmod(len(self.names), 60_000)
-        self.names.append(name)
-        number = chr(0xF0000 + high) + chr(0xF0000 + low)
-        return f"\ue000{number}", f"\ue001{number}"
-
-    def mark(self, name: Name, text: str) -> str:
-        begin, end = self.begin(name)
-        return f"{begin}{text}{end}"
-
-    def marked(self, name: Name, text: str) -> str:
-        """Each character of a text, marked by its index, if the text isn't long."""
-        if len(text) >= LONG:
-            return text
-        return "".join(self.mark((*name, at, "character"), c) for at, c in enumerate(text))
-
-    def chance(self, share: float) -> bool:
-        return self.random.random() < share
-
-    def number(self, value: int) -> str:
-        forms = [str(value)]
-        if self.is_odd and value >= 0:
-            digits = str(value)
-            forms += [f"+{value}", f"0x{value:X}", f"0x{value:x}", f"0o{value:o}", f"0b{value:b}"]
-            forms += ["_".join(digits), f"{value:_}"]
-        return self.pick(forms)
-
-    def escape(self, c: str) -> str:
-        forms = [f"\\U{ord(c):08x}"]
-        if ord(c) < 0x10000:
-            forms += [f"\\u{ord(c):04X}"] * 2
-        if ord(c) < 0x100:
-            forms.append(f"\\x{ord(c):02x}")
-        return self.pick([*forms, *[f"\\{NAMED[c]}"] * 4]) if c in NAMED else self.pick(forms)
-
-    def escaped(self, text: str, name: Name = (), in_lines: bool = False) -> str:
-        """The inside of a basic string, of one line or of several; of a value of this name with its characters marked."""
-        spelled = ""
-        for at, c in enumerate(text):
-            if in_lines and c not in " \t\r\n" and self.chance(0.05):
-                spelled += "\\" + self.pick(["", "  "]) + self.eol + self.pick(["", "   ", self.eol + "\t"])
-            is_plain = (c >= " " or c == "\t") and c not in '"\\\x7f' and not (self.is_odd and self.chance(0.05))
-            is_quote = in_lines and c == '"' and text[at - 1 : at] != '"' and 0 < at < len(text) - 1
-            ends_line = in_lines and at > 0 and (c == "\n" or text[at : at + 2] == "\r\n")
-            piece = c if is_plain or is_quote or ends_line else self.escape(c)
-            spelled += self.mark((*name, at, "character"), piece) if name and len(text) < LONG else piece
-        return spelled
-
-    def string(self, text: str, name: Name) -> str:
-        forms: list[Callable[[], str]] = [lambda: f'"{self.escaped(text, name)}"']
-        if self.is_odd:
-            first = self.pick(["", self.eol])
-            if not text.startswith("\n"):
-                long: Callable[[], str] = lambda: f'"""{first}{self.escaped(text, name, in_lines=True)}"""'
-                forms += [long] * (3 if "\n" in text else 1)
-            if LITERAL.fullmatch(text):
-                forms += [lambda: f"'{self.marked(name, text)}'", lambda: f"'''{first}{self.marked(name, text)}'''"]
-            elif LITERAL_LINES.fullmatch(text):
-                lines: Callable[[], str] = lambda: f"'''{self.eol}{self.marked(name, text)}'''"
-                forms += [lines] * 3
-        return self.pick(forms)()
-
-    def key(self, text: str) -> str:
-        is_bare = re.fullmatch("[A-Za-z0-9_-]+", text)
-        forms = [text] * 4 if is_bare else []
-        if self.is_odd or not is_bare:
-            forms.append(f'"{self.escaped(text)}"')
-            if LITERAL.fullmatch(text):
-                forms.append(f"'{text}'")
-        return self.pick(forms)
-
-    def space(self) -> str:
-        return self.pick(["", " ", "  ", "\t"]) if self.is_odd else " "
-
-    def blank(self) -> str:
-        """What may be between the elements of an array, and in TOML 1.1 between those of an inline table."""
-        forms = ["", " "]
-        if self.is_odd:
-            forms += ["\t", self.eol, f"{self.eol}    ", f" {self.pick(COMMENTS)}{self.eol}"]
-        return self.pick(forms)
-
-    def joined(self, opening: str, parts: list[str], closing: str) -> str:
-        if not parts:
-            return opening + self.blank() + closing
-        last = self.pick(["", "", ","]) if self.is_odd else ""
-        inside = ",".join(self.blank() + part + self.blank() for part in parts)
-        return opening + inside + last + self.blank() + closing
-
-    def value(self, value: object, name: Name) -> str:
-        return self.mark((*name, "value"), self.unmarked(value, name))
-
-    def unmarked(self, value: object, name: Name) -> str:
-        if isinstance(value, bool):
-            return str(value).lower()
-        if isinstance(value, int):
-            return self.number(value)
-        if isinstance(value, str):
-            return self.string(value, name)
-        if isinstance(value, list):
-            return self.joined("[", [self.value(part, (*name, at)) for at, part in enumerate(value)], "]")
-        if isinstance(value, dict):
-            return self.joined("{", [self.pair(key, part, (*name, key)) for key, part in value.items()], "}")
-        return str(value)
-
-    def named_key(self, key: str, name: Name) -> str:
-        return self.mark((*name, "key"), self.key(key))
-
-    def pair(self, key: str, value: object, name: Name) -> str:
-        text = f"{self.named_key(key, name)}{self.space()}={self.space()}{self.value(value, name)}"
-        return self.mark((*name, "pair"), text)
-
-    def dotted_pair(self, key: str, inner: str, value: object, name: Name) -> str:
-        """A pair of a table at a key, by a dotted key. The value of the outer key is the key from there on."""
-        begin, end = self.begin((*name, "value"))
-        pair, end_of_pair = self.begin((*name, inner, "pair"))
-        keys = f"{begin}{self.named_key(key, name)}.{pair}{self.named_key(inner, (*name, inner))}{end}"
-        return f"{keys}{self.space()}={self.space()}{self.value(value, (*name, inner))}{end_of_pair}"
-
-
-MARK = re.compile("([\ue000\ue001])([\U000f0000-\U0010ffff]{2})")
-
-
-class Sheet:
-    """The text as it is written, and the span of each thing where it was written first."""
-
-    def __init__(self, pen: Pen) -> None:
-        self.pen = pen
-        self.text = "\ufeff" if pen.is_odd and pen.chance(0.2) else ""
-        self.spans: dict[Name, tuple[int, int]] = {}
-
-    def place(self, at: int) -> tuple[int, int]:
-        """Line and column of an offset. A byte order mark has no column."""
-        *before, last = self.text[:at].removeprefix("\ufeff").split("\n")
-        return len(before) + 1, len(last) + 1
-
-    def put(self, text: str) -> None:
-        """Writes a text without its marks, and notes where they were."""
-        begun: dict[str, int] = {}
-        at = 0
-        for found in MARK.finditer(text):
-            self.text += text[at : found.start()]
-            at = found.end()
-            if found[1] == "\ue000":
-                begun[found[2]] = len(self.text)
-            else:
-                high, low = (ord(c) - 0xF0000 for c in found[2])
-                self.spans.setdefault(self.pen.names[high * 60_000 + low], (begun[found[2]], len(self.text)))
-        self.text += text[at:]
-
-    def expression(self, text: str) -> None:
-        pen = self.pen
-        for _ in range(pen.pick([0, 0, 0, 1, 2])):
-            self.put(pen.space() * pen.is_odd + pen.pick(COMMENTS) + pen.eol)
-        self.put(pen.pick(["", "", "  ", "\t"]) if pen.is_odd else "")
-        self.put(text + pen.pick(["", "", " ", f" {pen.pick(COMMENTS)}"]) + pen.eol)
-
-    def header(self, name: Name, keys: list[str], is_element: bool) -> None:
-        """A header, which is the value of its last key, and the frame if it is an element."""
-        dot = f"{self.pen.space()}.{self.pen.space()}" if self.pen.is_odd else "."
-        pad = self.pen.space() if self.pen.is_odd else ""
-        inside = dot.join([*map(self.pen.key, keys[:-1]), self.pen.named_key(keys[-1], name)])
-        text = f"[[{pad}{inside}{pad}]]" if is_element else f"[{pad}{inside}{pad}]"
-        self.expression(self.pen.mark((*name, "value"), self.pen.mark((*name, "pair"), text)))
-
-
 class Fault(NamedTuple):
     """The words of a finding, and what is at fault: its name from the table of a frame, or of the top, on.
 
-    Without a name it is the file's first line; of `later` keys it is the one that is written last. {F} is the frame's name, and some
-    words end with the line of another frame.
+    Without a name it is the file's first line; of `later` keys it is the one that is written last. {F} is the frame's
+    name, and some words end with the line of another frame.
     """
 
     words: str
@@ -285,12 +97,9 @@ def listed(faults: list[Fault], where: str) -> list[Fault]:
     """The first 1,000 faults of one table, and one finding for the others, where the first of these is."""
     if len(faults) <= MOST_FAULTS:
         return faults
-    rest = faults[MOST_FAULTS:]
-    others = f"{len(rest):,} more fault{'s' * (len(rest) > 1)}"
-    return [
-        *faults[:MOST_FAULTS],
-        rest[0]._replace(words=f"{rest[0].words.split(': ')[0]}: {others} {where}, not listed"),
-    ]
+    first, *more = faults[MOST_FAULTS:]
+    words = f"{len(more) + 1:,} more fault{'s' * bool(more)} {where}, not listed"
+    return [*faults[:MOST_FAULTS], first._replace(words=f"{first.words.split(': ')[0]}: {words}")]
 
 
 class Frame:
@@ -330,21 +139,25 @@ class Frame:
         self.fault(field, words, *(name or (field, "value")))
 
     def fault(self, field: str, words: str, *name: str | int) -> None:
-        self.faults.setdefault(field, []).append(Fault(words, name))
+        self.faults_of(field).append(Fault(words, name))
+
+    def faults_of(self, field: str) -> list[Fault]:
+        return self.faults.setdefault("text" if field in ("body", "rows") else field, [])
 
     def in_order(self) -> Iterator[Fault]:
         """The faults in the order of judging, with the frame's name in the words."""
         name = f"frame {self.id}" if self.fields.get("id") == self.id else "this frame"
-        faults = [fault for field in JUDGED for fault in self.faults.get(field, [])]
+        faults = [fault for field in JUDGED for fault in self.faults_of(field)]
         for fault in listed(faults, "in {F}"):
             yield fault._replace(words=fault.words.replace("{F}", name))
 
 
-class Written:
+class Written(Chance):
     """A base that is written: its text, and what `lint` has to print of it."""
 
     def __init__(self, random: Random) -> None:
-        self.random, self.pen = random, Pen(random)
+        super().__init__(random)
+        self.pen = Pen(random)
         self.sheet: Sheet
         self.pages: list[int] = random.sample(PAGES, len(PAGES))
         self.top: dict[str, object] = {}
@@ -356,12 +169,6 @@ class Written:
         self.groups: str | None = None
         self.is_inline = False
         self.later: list[str] = []
-
-    def pick(self, items: Sequence[Item]) -> Item:
-        return self.pen.pick(items)
-
-    def chance(self, share: float) -> bool:
-        return self.pen.chance(share)
 
     def page(self) -> int:
         return self.pages.pop()
@@ -383,9 +190,9 @@ class Written:
         self.later = [key for key in tops if isinstance(self.top[key], dict) and self.top[key] and self.chance(0.5)]
         for key in tops:
             if key not in self.later:
-                sheet.expression(self.pen.pair(key, self.top[key], ("top", key)))
+                sheet.expression(self.pen.pair((key,), self.top[key], ("top",)))
         if self.is_inline and self.frames:
-            sheet.expression(self.pen.pair("frame", [frame.fields for frame in self.frames], ("top", "frame")))
+            sheet.expression(self.pen.pair(("frame",), [frame.fields for frame in self.frames], ("top",)))
         else:
             for index, frame in enumerate(self.frames):
                 self.write_frame(index, frame)
@@ -398,17 +205,22 @@ class Written:
         """Tables of the base by headers of their own, which may be between those of frames."""
         while self.later and self.chance(share):
             key = self.later.pop()
-            self.write_section(("top", key), [key], self.top[key])
+            self.write_section([(key, ("top", key))], self.top[key])
 
-    def write_section(self, name: Name, keys: list[str], table: object) -> None:
-        """A table by a header of its own."""
-        self.sheet.header(name, keys, False)
-        for key, value in cast(dict[str, object], table).items():
-            self.sheet.expression(self.pen.pair(key, value, (*name, key)))
+    def write_section(self, keys: list[tuple[str, Name]], table: object) -> None:
+        """A table by a header of its own; often the header is that of the one table in it."""
+        name, pairs = keys[-1][1], cast(dict[str, object], table)
+        first, only = next(iter(pairs.items()))
+        if len(pairs) == 1 and isinstance(only, dict) and only and self.pen.is_odd and self.chance(0.5):
+            self.write_section([*keys, (first, (*name, first))], only)
+            return
+        self.sheet.header(keys)
+        for key, value in pairs.items():
+            self.sheet.expression(self.pen.pair((key,), value, name))
 
     def write_frame(self, index: int, frame: Frame) -> None:
         sheet = self.sheet
-        sheet.header((index,), ["frame"], True)
+        sheet.header([("frame", (index,))], is_element=True)
         keys = list(frame.fields)
         self.random.shuffle(keys)
         later = []
@@ -419,12 +231,12 @@ class Written:
                 later.append(key)
             elif form == "dots" and isinstance(value, dict):
                 for inner, part in value.items():
-                    sheet.expression(self.pen.dotted_pair(key, inner, part, (index, key)))
+                    sheet.expression(self.pen.pair((key, inner), part, (index,)))
             else:
-                sheet.expression(self.pen.pair(key, value, (index, key)))
+                sheet.expression(self.pen.pair((key,), value, (index,)))
         for key in later:
             self.write_later(0.3)
-            self.write_section((index, key), ["frame", key], frame.fields[key])
+            self.write_section([("frame", ()), (key, (index, key))], frame.fields[key])
         self.write_later(0.3)
 
     def span(self, frame: Frame | None, name: Name) -> tuple[int, int]:
@@ -478,9 +290,14 @@ class FaultyText(Written):
         for frame in self.frames:
             for _ in range(self.pick([0, 0, 1, 1, 2])):
                 self.spoil(frame)
-        self.spoil_whole([frame for frame in self.frames if not frame.faults])
-        if not (self.top_faults or self.whole_faults or any(frame.faults for frame in self.frames)):
+        self.spoil_whole([frame for frame in self.frames if not any(frame.faults.values())])
+        if not (self.top_faults or self.whole_faults or any(any(frame.faults.values()) for frame in self.frames)):
             self.leave_entry_out()
+
+    def spoil_at(self, key: str, value: object, words: str) -> None:
+        """A key of the top has a value that is at fault."""
+        self.top[key] = value
+        self.top_faults.append(Fault(words, (key, "value")))
 
     def leave_entry_out(self) -> None:
         del self.top["entry"]
@@ -537,8 +354,7 @@ class FaultyText(Written):
         if share < 0.1:
             self.leave_entry_out()
         elif share < 0.3:
-            self.top["entry"], words = self.wrong_number('"entry"', 0, 999_999_999)
-            self.top_faults.append(Fault(words, ("entry", "value")))
+            self.spoil_at("entry", *self.wrong_number('"entry"', 0, 999_999_999))
         self.spoil_outside()
         if not self.frames:
             self.spoil_frames()
@@ -547,9 +363,7 @@ class FaultyText(Written):
         """In the place of frames something else, or a list of what is no frame."""
         value, kind = self.pick([*ODD, (None, "a list")])
         if kind != "a list":
-            words = f'X5 WrongKind: "frame" is {kind}, an array of tables is needed'
-            self.top_faults.append(Fault(words, ("frame", "value")))
-            self.top["frame"] = value
+            self.spoil_at("frame", value, f'X5 WrongKind: "frame" is {kind}, an array of tables is needed')
             return
         items = self.random.sample([(value, kind) for value, kind in ODD if kind != "a table"], self.pick([0, 1, 2]))
         self.top["frame"] = [value for value, _ in items]
@@ -560,8 +374,7 @@ class FaultyText(Written):
     def spoil_outside(self) -> None:
         share = self.random.random()
         if share < 0.1:
-            self.top["outside"], words = self.wrong_kind('"outside"', "a list of whole numbers", "a list")
-            self.top_faults.append(Fault(words, ("outside", "value")))
+            self.spoil_at("outside", *self.wrong_kind('"outside"', "a list of whole numbers", "a list"))
             return
         outside: list[object] = [self.page() for _ in range(self.pick([0, 1, 3]))]
         if share < 0.4:
@@ -584,7 +397,7 @@ class FaultyText(Written):
             "lead": self.spoil_lead,
             "text": self.spoil_text,
         }
-        if field in frame.faults:
+        if frame.faults_of(field):
             return
         if field in spoil:
             spoil[field](frame)
@@ -654,8 +467,7 @@ class FaultyText(Written):
 
     def spoil_body(self, frame: Frame) -> None:
         if self.chance(0.4):
-            frame.fields["body"], words = self.wrong_kind('"body" of {F}', "a string")
-            frame.fault("text", words, "body", "value")
+            frame.spoil("body", *self.wrong_kind('"body" of {F}', "a string"))
             return
         before = self.pick([0, 1, 11, 999, 1_500])
         text, ends = "\xa3\t" * (before // 2) + "A" * (before % 2), ("at most U+00FF is allowed", "above U+00FF")
@@ -684,8 +496,7 @@ class FaultyText(Written):
 
     def spoil_rows(self, frame: Frame) -> None:
         if self.chance(0.2):
-            frame.fields["rows"], words = self.wrong_kind('"rows" of {F}', "a list of strings", "a list")
-            frame.fault("text", words, "rows", "value")
+            frame.spoil("rows", *self.wrong_kind('"rows" of {F}', "a list of strings", "a list"))
             return
         rows: list[object] = []
         frame.fields["rows"] = rows
@@ -705,7 +516,7 @@ class FaultyText(Written):
             frame.fault("text", words, "rows", number, "value")
             return value
         before = self.pick([0, 1, 39, 40])
-        first = len(frame.faults.get("text", []))
+        first = len(frame.faults_of("text"))
         if share < 0.6:
             ends, codes = ("which no row may have", "that no row may have"), [*CODES, *FAR_CODES]
             gap = f"X9 RowCode: {{}} row {number + 1:,} of {{{{F}}}}"
@@ -714,7 +525,7 @@ class FaultyText(Written):
             row = "A" * before + "B" * self.pick([41, 1_000])
         if len(row) > 40:
             words = f"X8 RowTooLong: {here} has {len(row):,} characters, at most 40 are allowed"
-            frame.faults.setdefault("text", []).insert(first, Fault(words, ("rows", number, "value")))
+            frame.faults_of("text").insert(first, Fault(words, ("rows", number, "value")))
         return row
 
     def whole(self, words: str, frame: Frame | None, *name: str | int, first: Frame | None = None) -> None:
@@ -791,7 +602,7 @@ class FaultyWalks(Written):
                     yield begin, "warning", words
 
     def shown(self, frame: Frame) -> Iterator[tuple[Name, str, str]]:
-        """What may be wrong with what a frame shows: its name, what is before it, and words; how it is written decides."""
+        """What may be wrong with a frame's text: its name, what is before it, and words; how it is written decides."""
         line, body = f"LINEEND: a line of the body of frame {frame.id} ends with", str(frame.fields.get("body"))
         if body in FEEDS:
             how = "a line feed alone, so the text goes on in the same column"

@@ -40,7 +40,8 @@ class BaseTable(TypedDict, total=False):
 
 
 class Fault(NamedTuple):
-    """A fault of the text: its code and name, the field, id or page that a refusal names, the words of `lint`, and what is at fault.
+    """A fault of the text: its code and name, the field, id or page that a refusal names, the words of `lint`, and what
+    is at fault.
 
     Some words end with the line of another frame.
     """

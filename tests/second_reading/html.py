@@ -1,4 +1,6 @@
-"""What the HTML file of a base shows of each frame: its screen as text, its price, its ways, its faults and the cell that it touches."""
+"""What the HTML file of a base shows of each frame: its screen as text, its price, its ways, its faults and the cell
+that it touches.
+"""
 
 from dataclasses import dataclass
 from typing import NamedTuple

@@ -1,8 +1,9 @@
 """Random bases, certificates, groups and keys: mostly right, some of them with a few things wrong."""
 
 from collections.abc import Iterator, Sequence
-from random import Random
-from typing import Literal, TypeVar, cast
+from typing import Literal, cast
+
+from harness.writing import Chance, PlainPen
 
 from .audit import Survey, audit
 from .base import DIGITS, Asked, Base, FrameId, Groups, Policy, Refused, id_in
@@ -11,8 +12,6 @@ from .faults import BaseTable, FrameTable, base_of
 from .map import View
 from .screen import paint
 from .toml import Table
-
-Item = TypeVar("Item")
 
 PAGES = [0, 1, 5, 12, 123, 1231, 555, 999_999_999]
 ODD_VALUES: list[object] = [0, -1, 1, True, False, 1.5, -(2**63), "", "a", "123a", [], {}, [1], {"1": 1}, [{}]]
@@ -68,17 +67,8 @@ def asked_by(groups: Groups) -> Asked:
     return Asked(option=word_of(groups))
 
 
-class Inputs:
-    """Each call draws from the one source of chance, so that a seed gives the same inputs again."""
-
-    def __init__(self, random: Random) -> None:
-        self.random = random
-
-    def chance(self, share: float) -> bool:
-        return self.random.random() < share
-
-    def pick(self, items: Sequence[Item]) -> Item:
-        return self.random.choice(items)
+class Inputs(Chance):
+    """Random inputs, mostly right."""
 
     def body(self, wild: bool) -> str:
         """A body that writes from row 1 on, or a wild one."""
@@ -104,7 +94,7 @@ class Inputs:
                 yield FrameId(page, chr(letter))
 
     def frame(self, id: FrameId, ids: list[FrameId], targets: list[int], wild: float, closed: float) -> FrameTable:
-        """A frame whose routes and `next` lead somewhere, but for a share of wild ones; a share of frames has a group."""
+        """A frame whose routes and `next` lead somewhere, but for a share of wild ones; a share has a group."""
         following = id.following in ids
         table: FrameTable = {"id": str(id)}
         if self.chance(0.5):
@@ -169,37 +159,16 @@ class Inputs:
         else:
             del tree[self.pick(list(tree))]
 
-    def string(self, text: str) -> str:
-        return '"' + "".join(self.character(c) for c in text) + '"'
-
-    def character(self, c: str) -> str:
-        is_plain = " " <= c <= "~" and c not in '"\\'
-        return c if is_plain or (c > "\x7f" and self.chance(0.5)) else f"\\U{ord(c):08X}"
-
-    def value(self, value: object) -> str:
-        if isinstance(value, bool):
-            return str(value).lower()
-        if isinstance(value, str):
-            return self.string(value)
-        if isinstance(value, list):
-            return "[" + ", ".join(self.value(part) for part in value) + "]"
-        if isinstance(value, dict):
-            return "{ " + ", ".join(self.member(key, part) for key, part in value.items()) + " }"
-        return str(value)
-
-    def member(self, key: str, value: object) -> str:
-        return f"{self.string(key)} = {self.value(value)}"
-
     def text(self, base: BaseTable) -> bytes:
         """The TOML text of the tree; now and then with a byte that spoils it."""
         tree = cast(Table, base)
         tables = tree.get("frame")
         are_tables = isinstance(tables, list) and all(isinstance(table, dict) for table in tables)
         is_listed = are_tables and self.chance(0.8)
-        lines = [self.member(key, value) for key, value in tree.items() if not (is_listed and key == "frame")]
+        pen = PlainPen(self.random)
+        lines = [pen.pair((key,), value, ()) for key, value in tree.items() if not (is_listed and key == "frame")]
         for table in cast(list[Table], tables) if is_listed else []:
-            lines.append("[[frame]]")
-            lines += [self.member(key, value) for key, value in table.items()]
+            lines += ["[[frame]]", *(pen.pair((key,), value, ()) for key, value in table.items())]
         text = bytearray("\n".join([*lines, ""]).encode())
         if self.chance(0.03):
             text[self.random.randrange(len(text))] = self.pick(b"\x00\xff\xc3\"'=.")
@@ -212,7 +181,7 @@ class Inputs:
         return self.text(tree)
 
     def next_tree(self, tree: BaseTable) -> BaseTable:
-        """The next edition of a base: the same, or with a few things changed as a provider would, some of them wrong."""
+        """The next edition of a base: the same, or with a few changes as a provider makes them, some of them wrong."""
         frames = [cast(FrameTable, {**table, "routes": dict(table.get("routes", {}))}) for table in tree["frame"]]
         tree = {"entry": tree["entry"], "outside": tree["outside"], "frame": frames}
         for _ in range(self.pick([0, 1, 1, 2, 3])):

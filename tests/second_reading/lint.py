@@ -36,8 +36,8 @@ def keys_in_brackets(script: str) -> str:
 
 
 def first_feed(body: bytes, returns: bool) -> int | None:
-    """The first line feed of a body before a byte of 20 or more that isn't in the first column, or that follows a return from
-    another column."""
+    """The first line feed of a body before a byte of 20 or more that isn't in the first column, or that follows a
+    return from another column."""
     state, returned = State(40, False), False
     for at, (byte, following) in enumerate(pairwise(body)):
         is_inside = state.at % 40 > 0

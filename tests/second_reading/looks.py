@@ -1,7 +1,7 @@
 """How the cells of a screen look, by the rules of CEPT T/CD 6-1, profile 3.
 
-A screen is 24 rows of 40 codes, 20 to 7F and 80 to 9F. Attributes count from their own cell on (at) or from the next one on
-(after). Colours are 0 to 7: black, red, green, yellow, blue, magenta, cyan, white.
+A screen is 24 rows of 40 codes, 20 to 7F and 80 to 9F. Attributes count from their own cell on (at) or from the next
+one on (after). Colours are 0 to 7: black, red, green, yellow, blue, magenta, cyan, white.
 """
 
 from typing import Literal, NamedTuple

@@ -21,8 +21,8 @@ class What(Enum):
 class Piece(NamedTuple):
     """A thing of a base's text: of a frame, which is known by its index, or of the top.
 
-    The keys are in one another; of a later key they are those of which it is written last. The indexes are those of elements, in one
-    another, and of a character of a string.
+    The keys are in one another; of a later key they are those of which it is written last. The indexes are those of
+    elements, in one another, and of a character of a string.
     """
 
     what: What
@@ -69,7 +69,7 @@ class Spot:
 
 
 class Entry(NamedTuple):
-    """An expression with the keys of the table that it stands in. The first parts that are skipped lead to that table."""
+    """An expression with the keys of the table that it is in. The parts that are skipped lead to that table."""
 
     path: tuple[str, ...]
     expression: Expression

@@ -1,4 +1,6 @@
-"""Saved screens as a base, from the words of the rules: what a file is, its id and price, and the frame that is made of it."""
+"""Saved screens as a base, from the words of the rules: what a file is, its id and price, and the frame that is made of
+it.
+"""
 
 import re
 from collections.abc import Iterable
@@ -28,7 +30,9 @@ class NoScreen(Exception):
 
 
 def saved(byte: int) -> int:
-    """The code of a byte of a saved screen: the first 32 are attributes as teletext stores them, the last 96 characters."""
+    """The code of a byte of a saved screen: the first 32 are attributes as teletext stores them, the last 96
+    characters.
+    """
     if byte < 0x20:
         return byte + 0x80
     return byte if byte < 0xA0 else byte & 0x7F

@@ -1,4 +1,4 @@
-"""Which screen is shown, as its 960 codes: frames sent to a new terminal, and the rows that the centre paints over it."""
+"""Which screen is shown, as its 960 codes: frames sent to a new terminal, and the rows that the centre paints on it."""
 
 from collections.abc import Iterable
 

@@ -1,7 +1,7 @@
 """A TOML text: where it writes each key, value, element and character, and the tree that it means.
 
-A walk of its own, from the grammar of TOML 1.1. Python reads TOML 1.0 and makes a CR LF inside a string an LF: so the walk spells each
-expression in TOML 1.0, on one line, and Python judges what they mean together.
+A walk of its own, from the grammar of TOML 1.1. Python reads TOML 1.0 and makes a CR LF inside a string an LF: so the
+walk spells each expression in TOML 1.0, on one line, and Python judges what they mean together.
 """
 
 import re
@@ -157,7 +157,7 @@ class Walk:
         return c
 
     def ends(self, marks: str) -> bool:
-        """Takes the marks that end a string, if they are next. Up to two more before the last three are of the string."""
+        """Takes the marks that end a string, if they are next. Up to two before the last three are of the string."""
         run = len(self.text[self.at : self.at + 6]) - len(self.text[self.at : self.at + 6].lstrip(marks[0]))
         if len(marks) == 3 and run == 6:
             raise NotToml(self.at)
