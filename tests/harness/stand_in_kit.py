@@ -1,7 +1,7 @@
 """A stand-in for the kit, as far as dist/make and ./test ask: it proves anything, and what it builds shows what of.
 
-It is in tests/data/kit. A library is the last line of its src/lib.rt, and the program prints the lines of those that it uses. As
-with the kit, 'rt ci' puts the libraries back at its end that it found, and writes no stamp.
+It is in tests/data/kit. A library is the last line of its src/lib.rt, and the program prints the lines of those that it
+uses. As with the kit, 'rt ci' puts the libraries back at its end that it found, and writes no stamp.
 """
 
 import re
