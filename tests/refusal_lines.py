@@ -12,7 +12,8 @@ DIFFER = (
 )
 SOUGHT = (
     "./proofs/key_text/keys_read/Answers.antt:19:106: error: `returns-in_default`: `grind` stopped at its own "
-    "limit of instances of lemmas, so the goal may hold. By the facts that it had used, the goal fails at `c.args.text.now` = `x ∷ x'`"
+    "limit of instances of lemmas, so the goal may hold. By the facts that it had used, the goal fails at "
+    "`c.args.text.now` = `x ∷ x'`"
 )
 ENSURES = (
     "note: src/parts.rt:14:13: it is not proved that what the function ensures holds when it returns "
