@@ -124,13 +124,16 @@ class Test:
     # Cases in cases
 
     def case(self, name: str, judge: Callable[[Test], None], whole: bool = False) -> Counts:
-        """Judges a case with results of its own and adds them; of a whole one the one result that all are right."""
+        """Judges a case with results of its own and adds them; of a whole one the one result that there are some and all
+        are right.
+        """
         inner = Test(name, self.options, self._show)
         with inner.of_case():
             judge(inner)
         counts = inner.counts
         if whole:
-            counts = Counts(0, 1) if counts.failed else Counts(1) if counts.passed else counts
+            none = counts if counts.skipped else Counts(0, 1)
+            counts = Counts(0, 1) if counts.failed else Counts(1) if counts.passed else none
         self.counts += counts
         return counts
 

@@ -47,9 +47,9 @@ def cases_of(script: Mapping[str, Any]) -> dict[str, Case]:
     return found
 
 
-def chosen(cases: Mapping[str, Case], words: list[str]) -> dict[str, Case]:
-    """The cases of these names, or whose names have one of these parts, as 'PAGE: HEADING'; without a word all."""
-    return {name: case for name, case in cases.items() if not words or {name, *name.split(": ")} & set(words)}
+def chosen(cases: Mapping[str, Case], word: str) -> dict[str, Case]:
+    """The cases of this name, or of whose names it is a part, as in 'PAGE: HEADING'."""
+    return {name: case for name, case in cases.items() if word in (name, *name.split(": "))}
 
 
 def parser_of(script: Mapping[str, Any], cases: Iterable[str], count: int, has_files: bool) -> argparse.ArgumentParser:
@@ -106,9 +106,9 @@ def main(
     if words.about:
         print(json.dumps(asdict(about)))
         sys.exit(0)
-    some = chosen(every, words.names)
-    if not some:
-        parser.error(f"no case is called {' or '.join(words.names)}")
+    some = {name: case for word in words.names for name, case in chosen(every, word).items()} or every
+    if unknown := [word for word in words.names if not chosen(every, word)]:
+        parser.error(f"no case is called {' or '.join(unknown)}")
     if isinstance(sys.stdout, io.TextIOWrapper):
         sys.stdout.reconfigure(errors="backslashreplace")
     test = Test(options=words)
