@@ -1,18 +1,21 @@
 """Why the prover refuses an edit: what tests/plain-edits and tests/must-fail-goals share.
 
-A refusal counts if a goal is named that isn't proved: what a clause ensures, an invariant, the condition of a call. An answer
-in proofs/..Answers.antt that no longer fits is none, since it fits one form of the body. The prover is given such an answer as a
-fact, and has to prove the goal from it: so `at + 0` for `at` is still proved. Whether the goals of a new branch are false isn't
-judged: they are named also if the branch changes nothing.
+A refusal counts if a goal is named that isn't proved: what a clause ensures, an invariant, the condition of a call. An
+answer in proofs/..Answers.antt that no longer fits is none, since it fits one form of the body. The prover is given
+such an answer as a fact, and has to prove the goal from it: so `at + 0` for `at` is still proved. Whether the goals of
+a new branch are false isn't judged: they are named also if the branch changes nothing.
 """
 
+import importlib
 import re
 import shutil
 import subprocess
 import sys
+from collections.abc import Collection, Iterable, Mapping
 from dataclasses import dataclass, field
 from pathlib import Path
 from tempfile import TemporaryDirectory
+from typing import Any
 
 NOTE = re.compile(r"note: src/\S+: it is not proved that ")
 GOAL = re.compile(r"\(`([\w-]+)`\)")
@@ -32,49 +35,59 @@ NEEDED = [("Rattle.std.proofs.Common", "arith"), ("Rattle.std.proofs.lemmas.Grin
 
 @dataclass
 class Said:
-    """What a check says of a function: its line, the goals that aren't proved, and the answers that don't fit, by their files."""
+    """What a check says of a function: its line, the goals that aren't proved, and the answers that don't fit, by their
+    files.
+    """
 
     line: str = ""
-    goals: list = field(default_factory=list)
-    answers: list = field(default_factory=list)
+    goals: list[str] = field(default_factory=list)
+    answers: list[tuple[str, str]] = field(default_factory=list)
 
-    def is_proved(self):
+    def is_proved(self) -> bool:
         return self.line == "proved"
 
-    def is_refused(self):
+    def is_refused(self) -> bool:
         """Whether its own proof fails, and not only that of what it calls."""
         return bool(re.match("no proof|not proved", CALLS.sub("", self.line)))
 
 
-def said_of(printed):
+def said_of(printed: str) -> dict[str, Said]:
     """For each function, as its module's path has it, what a check that printed this says of it."""
-    found, answers, goals = {}, [], []
+    found: dict[str, Said] = {}
+    answers: list[tuple[str, str, str]] = []
+    goals: list[str] = []
     for line in printed.splitlines():
         if answer := ANSWER.match(line):
-            answers.append(answer.groups())
+            answers.append((answer[1], answer[2], answer[3]))
         elif NOTE.match(line):
             goals += GOAL.findall(line)
         elif function := FUNCTION.match(line):
             folder = f"proofs/{function[1].replace('::', '/')}/Answers.antt"
             own = [(file, goal, words) for file, goal, words in answers if file == folder]
             goals += [goal for _, goal, words in own if SEARCH.match(words)]
-            found[function[1]] = Said(function[2], goals, [(file, goal) for file, goal, words in own if not SEARCH.match(words)])
+            found[function[1]] = Said(
+                function[2], goals, [(file, goal) for file, goal, words in own if not SEARCH.match(words)]
+            )
             goals = []
     return found
 
 
-def names_a_goal(line):
+def names_a_goal(line: str) -> bool:
     """Whether a line says that a goal isn't proved."""
     answer = ANSWER.match(line)
     return bool(NOTE.match(line) or (answer and SEARCH.match(answer[3])))
 
 
-def held(term):
+def held(term: str) -> str:
     """What the prover finds from a term's type; a search has none."""
-    return term if SEARCH.match(f"`{term.split()[0]}`") else f"let {FACT} = (\n    {term}\n    ) in grind (arith, common_steps, {FACT})"
+    return (
+        term
+        if SEARCH.match(f"`{term.split()[0]}`")
+        else f"let {FACT} = (\n    {term}\n    ) in grind (arith, common_steps, {FACT})"
+    )
 
 
-def as_fact(text, goal):
+def as_fact(text: str, goal: str) -> str | None:
     """The text of a file of answers with that to one goal as a fact, or None if it can't be found."""
     found = re.search(rf"^{re.escape(goal)} [^\n=]+ =\s+(.*?)(?=\n\n|\n*\Z)", text, re.M | re.S)
     if not found:
@@ -89,25 +102,27 @@ def as_fact(text, goal):
     return text[:begin] + given + text[end:]
 
 
-def with_names(text):
+def with_names(text: str) -> str:
     """The text of a file of answers, with the lines that bring in what a fact needs."""
-    lines = [f"use {module}.{{{name}}}\n" for module, name in NEEDED if not re.search(rf"^use {re.escape(module)}\.{{.*\b{name}\b", text, re.M)]
+    lines = [
+        f"use {module}.{{{name}}}\n"
+        for module, name in NEEDED
+        if not re.search(rf"^use {re.escape(module)}\.{{.*\b{name}\b", text, re.M)
+    ]
     return "".join(lines) + text
 
 
 # Checks
 
 
-def kit():
+def kit() -> Any:
     """rt's own module, which knows what a check of a crate is given."""
     sys.dont_write_bytecode = True
-    sys.path.insert(0, str(Path(shutil.which("rt")).resolve().parent))
-    import rtlib
-
-    return rtlib
+    sys.path.insert(0, str(Path(shutil.which("rt") or "rt").resolve().parent))
+    return importlib.import_module("rtlib")
 
 
-def check(crate, texts, paths):
+def check(crate: Any, texts: Mapping[Path, str], paths: Iterable[str]) -> str:
     """What a check of some functions of a crate, or of all, prints with these texts in place of its own."""
     only = [word for path in paths for word in ("--only", path)]
     with TemporaryDirectory(prefix="rt-edit-") as room:
@@ -119,32 +134,36 @@ def check(crate, texts, paths):
         words = [kit().RATTLE, "check", *crate.words(["--jobs", "1", *only], keeps=False)]
         if (kept := Path(crate.folder, "out", "incremental")).is_dir():
             words += ["--incremental", kept]
-        done = subprocess.run(words, cwd=room, stdin=subprocess.DEVNULL, capture_output=True, text=True, errors="replace", check=False)
+        done = subprocess.run(
+            words, cwd=room, stdin=subprocess.DEVNULL, capture_output=True, text=True, errors="replace", check=False
+        )
     return done.stdout + done.stderr
 
 
-def with_facts(crate, texts, answers):
+def with_facts(crate: Any, texts: Mapping[Path, str], answers: Iterable[tuple[str, str]]) -> dict[Path, str]:
     """The texts, with these answers as facts."""
-    texts = dict(texts)
+    made = dict(texts)
     for file, goal in answers:
         path = Path(crate.folder, file)
-        text = texts.get(path) or path.read_text("utf-8")
-        texts[path] = with_names(as_fact(text, goal) or text)
-    return texts
+        text = made.get(path) or path.read_text("utf-8")
+        made[path] = with_names(as_fact(text, goal) or text)
+    return made
 
 
-def is_of(name, path):
+def is_of(name: str, path: str) -> bool:
     """Whether a function of a check's lines is the one of a path."""
     return f"::{name}".endswith(f"::{path}")
 
 
-def of_paths(printed, paths):
+def of_paths(printed: str, paths: Collection[str]) -> list[Said]:
     """What a check that printed this says of each function of these paths, or of each."""
     return [said for name, said in said_of(printed).items() if not paths or any(is_of(name, path) for path in paths)]
 
 
-def fault_of(crate, texts, paths, said):
-    """Why the edit that makes these texts isn't refused for its meaning, or None. A check of these functions, or of all, said this."""
+def fault_of(crate: Any, texts: Mapping[Path, str], paths: Collection[str], said: list[Said]) -> str | None:
+    """Why the edit that makes these texts isn't refused for its meaning, or None. A check of these functions, or of
+    all, said this.
+    """
     answers = [answer for one in said for answer in one.answers]
     if answers and not any(one.goals for one in said):
         said = of_paths(check(crate, with_facts(crate, texts, answers), paths), paths)
@@ -152,4 +171,8 @@ def fault_of(crate, texts, paths, said):
         return None
     if said and all(one.is_proved() for one in said):
         return "it is still proved"
-    return "no goal is named, only an answer in proofs/ that no longer fits" if any(one.is_refused() for one in said) else "it can't be tried"
+    return (
+        "no goal is named, only an answer in proofs/ that no longer fits"
+        if any(one.is_refused() for one in said)
+        else "it can't be tried"
+    )

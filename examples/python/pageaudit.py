@@ -9,13 +9,14 @@
     else:
         print(verdict.line)
 
-`verdict.cleared` is a promise, proved of the bytes that are passed: whatever keys a caller in exactly the policy's groups
-presses from the entry page on, no key leads to a frame that is missing or closed, no frame shown costs more than the ceiling or
-writes into the service rows, and until the caller leaves the base, at most `keyings` keys lead back to the entry page.
+`verdict.cleared` is a promise, proved of the bytes that are passed: whatever keys a caller in exactly the policy's
+groups presses from the entry page on, no key leads to a frame that is missing or closed, no frame shown costs more than
+the ceiling or writes into the service rows, and until the caller leaves the base, at most `keyings` keys lead back to
+the entry page.
 
-The library is `libpageaudit.so.1` in the folder that the variable PAGEAUDIT_LIB names. Without that variable it is the one beside
-this file, or else the one that ./install put below its prefix together with this file, or else the system's. If it can't be
-loaded, the import fails with ImportError. Calls keep nothing, and several threads may make them at once.
+The library is `libpageaudit.so.1` in the folder that the variable PAGEAUDIT_LIB names. Without that variable it is the
+one beside this file, or else the one that ./install put below its prefix together with this file, or else the system's.
+If it can't be loaded, the import fails with ImportError. Calls keep nothing, and several threads may make them at once.
 """
 
 from __future__ import annotations
@@ -30,9 +31,8 @@ from dataclasses import dataclass, fields
 from typing import Any, SupportsIndex
 
 __version__ = "1.1.0"
-__all__ = [
-    "Audit", "Finding", "Look", "Policy", "PolicyError", "Screen", "TextError", "Verdict", "audit", "change", "check", "lint", "show",
-]  # fmt: skip
+__all__ = ["Audit", "Finding", "Look", "Policy", "PolicyError", "Screen", "TextError", "Verdict"]
+__all__ += ["audit", "change", "check", "lint", "show"]
 
 # What the library answers.
 _CLEAR, _FAULTY, _BAD_POLICY, _BAD_TEXT = range(4)
@@ -67,7 +67,8 @@ class Policy:
             raise TypeError(f"groups has to be a list of whole numbers, not {_kind(self.groups)}")
         object.__setattr__(self, "ceiling", _whole("ceiling", self.ceiling))
         object.__setattr__(self, "keyings", _whole("keyings", self.keyings))
-        object.__setattr__(self, "groups", tuple(_whole(f"groups[{place}]", group) for place, group in enumerate(self.groups)))
+        groups = tuple(_whole(f"groups[{place}]", group) for place, group in enumerate(self.groups))
+        object.__setattr__(self, "groups", groups)
         with contextlib.suppress(TextError):  # the library judges a policy before a text, and an empty text is no base
             _call("pageaudit_audit", {"base": b""}, self, _LINE_ROOM)
 
@@ -171,9 +172,11 @@ def audit(base: bytes, policy: Policy) -> Audit:
 
 
 def lint(base: bytes, policy: Policy, file: str = "") -> list[Finding]:
-    """Every fault of the text of a base, or else of its audit, and the frames that no key reaches, in the order of their places.
+    """Every fault of the text of a base, or else of its audit, and the frames that no key reaches, in the order of
+    their places.
 
-    `file` is that of each finding. Raises MemoryError. A text that is no base is an error among the findings, and no TextError.
+    `file` is that of each finding. Raises MemoryError. A text that is no base is an error among the findings, and no
+    TextError.
     """
     _, text = _call("pageaudit_lint_json", {"name": os.fsencode(file), "base": base}, policy, 1 << 16)
     return [_finding(line) for line in text.split(b"\n")[:-1]]
@@ -182,17 +185,17 @@ def lint(base: bytes, policy: Policy, file: str = "") -> list[Finding]:
 def show(base: bytes, frame: str = "", groups: Sequence[int] = ()) -> Screen | None:
     """The screen of a frame, as a caller in these groups sees it; None if the base lacks it.
 
-    `frame` is an id, as "478a", or a page for its frame a; without it the entry frame is shown. The screen is the one that
-    `pageaudit show` shows. Raises TextError for the first fault of the base's text, PolicyError or MemoryError.
+    `frame` is an id, as "478a", or a page for its frame a; without it the entry frame is shown. The screen is the one
+    that `pageaudit show` shows. Raises TextError for the first fault of the base's text, PolicyError or MemoryError.
     """
     if not isinstance(frame, str):
         raise TypeError(f"frame has to be a str, not {_kind(frame)}")
-    words = [*_slice("base", base), *_slice("frame", frame.encode("utf-8")), *_slice("groups", _list(Policy(0, 0, groups)))]
-    codes, looks, line = ctypes.create_string_buffer(_CELLS), (_CellLook * _CELLS)(), ctypes.create_string_buffer(_LINE_ROOM)
-    arrays = [word for array, room in ((codes, _CELLS), (looks, _CELLS), (line, _LINE_ROOM)) for word in (array, ctypes.c_size_t(room))]
-    function, length = _LIBRARY["pageaudit_show"], ctypes.c_size_t()
-    function.restype = ctypes.c_uint32
-    answer = function(*words, *arrays, ctypes.byref(length))
+    words = _words({"base": base, "frame": frame.encode("utf-8"), "groups": _list(Policy(0, 0, groups))})
+    codes, line = ctypes.create_string_buffer(_CELLS), ctypes.create_string_buffer(_LINE_ROOM)
+    looks, length = (_CellLook * _CELLS)(), ctypes.c_size_t()
+    for array, room in (codes, _CELLS), (looks, _CELLS), (line, _LINE_ROOM):
+        words += [array, ctypes.c_size_t(room)]
+    answer = _function("pageaudit_show")(*words, ctypes.byref(length))
     _checked(answer, line.raw[: length.value])
     return Screen(codes.raw, tuple(map(_look, looks))) if answer == _CLEAR else None
 
@@ -278,6 +281,11 @@ def _slice(name: str, text: bytes) -> tuple[ctypes.c_char_p, ctypes.c_size_t]:
     return ctypes.c_char_p(text), ctypes.c_size_t(len(text))
 
 
+def _words(texts: Mapping[str, bytes]) -> list[Any]:
+    """Texts as the library takes them."""
+    return [word for text in texts.items() for word in _slice(*text)]
+
+
 def _list(policy: Policy) -> bytes:
     """The groups of a policy as the library takes them."""
     return ",".join(map(str, policy.groups)).encode("ascii")
@@ -290,11 +298,16 @@ def _policy_words(policy: Policy) -> list[Any]:
     return [_number("ceiling", policy.ceiling), _number("keyings", policy.keyings), *_slice("groups", _list(policy))]
 
 
+def _function(name: str) -> Any:
+    """A function of the library, which answers a status."""
+    function = _LIBRARY[name]
+    function.restype = ctypes.c_uint32
+    return function
+
+
 def _call(name: str, texts: Mapping[str, bytes], policy: Policy, room: int) -> tuple[int, bytes]:
     """The status of a call and what it printed; raises for each other status."""
-    words = [word for text in texts.items() for word in _slice(*text)] + _policy_words(policy)
-    function, length = _LIBRARY[name], ctypes.c_size_t(room)
-    function.restype = ctypes.c_uint32
+    words, function, length = _words(texts) + _policy_words(policy), _function(name), ctypes.c_size_t(room)
     while True:
         room = length.value
         buffer = ctypes.create_string_buffer(room)
@@ -307,7 +320,9 @@ def _checked(answer: int, text: bytes) -> bytes:
     if answer in (_CLEAR, _FAULTY):
         return text
     if answer == _BAD_POLICY:
-        raise PolicyError("a ceiling above 9,999, keyings above 65,535, or groups that aren't at most 16, ascending, of 1 to 65,535")
+        raise PolicyError(
+            "a ceiling above 9,999, keyings above 65,535, or groups that aren't at most 16, ascending, of 1 to 65,535"
+        )
     if answer == _BAD_TEXT:
         raise TextError(text.decode("ascii").rstrip("\n"))
     raise MemoryError("the library was refused memory")

@@ -1,100 +1,110 @@
 """The frames that a caller can reach, and every fault or the certificate."""
 
-from .base import BAD_GROUPS, Refused, base_of, caller_of, id_text
-from .certificate import KEYS, sought
+from collections.abc import Iterable, Iterator
+from functools import cached_property
+
+from .base import Answer, Asked, Base, Found, Frame, FrameId, Policy, answers
+from .certificate import KEYS
+from .faults import base_of
 from .screen import paint
-from .session import unopened
+
+Scripts = dict[FrameId, str]
+Ranks = dict[FrameId, int]
 
 
-def discover(base, groups):
+def discover(base: Base, groups: tuple[int, ...]) -> Scripts:
     """Each frame that a caller of these groups can reach, in the order of discovery, with the keys that lead there."""
-    scripts = {base.entry_frame(): ""}
-    queue = [base.entry_frame()]
+    scripts = {base.entry_id: ""}
+    queue = [base.entry_id]
     for id in queue:
         for key in KEYS:
-            to = sought(base.frames[id], key)
-            if to and base.seek(to, groups) == "FOUND" and to not in scripts:
+            to = base.frames[id].sought(key)
+            if to and base.seek(to, groups) == Found.FOUND and to not in scripts:
                 scripts[to] = scripts[id] + key
                 queue.append(to)
     return scripts
 
 
-def ranks_of(base, ids):
-    """The least number of keys from each frame back to the entry page, by waves; none where there is no way."""
-    ranks = {base.entry_frame(): 0}
+def ranks_of(base: Base, ids: Iterable[FrameId]) -> Ranks:
+    """The least number of keys from each frame back to the entry page, by waves; none if there is no way."""
+    ranks = {base.entry_id: 0}
+    frames = [base.frames[id] for id in ids]
     while True:
         last = max(ranks.values())
         wave = [
-            id
-            for id in ids
-            if id not in ranks and any(ranks.get(sought(base.frames[id], key)) == last for key in KEYS)
+            frame.id
+            for frame in frames
+            if frame.id not in ranks and any(ranks.get(to) == last for key in KEYS if (to := frame.sought(key)))
         ]
         if not wave:
             return ranks
         ranks.update((id, last + 1) for id in wave)
 
 
-def key_faults(base, groups, frame, script):
-    for key in KEYS:
-        to = sought(frame, key)
-        found = to and base.seek(to, groups)
-        if found in (None, "FOUND") or (found == "MISSING" and to[0] in base.outside):
-            continue
-        yield f"{found} {id_text(to)} AT {id_text(frame.id)} KEY {key} SCRIPT {script}{key}"
+class Survey:
+    """What a caller of some groups meets in a base; nothing is reached if the entry page can't be opened."""
+
+    def __init__(self, base: Base, policy: Policy) -> None:
+        self.base, self.policy, self.groups = base, policy, policy.groups
+        self.unopened = base.unopened(policy.groups)
+
+    @cached_property
+    def scripts(self) -> Scripts:
+        return {} if self.unopened else discover(self.base, self.groups)
+
+    @cached_property
+    def ranks(self) -> Ranks:
+        return ranks_of(self.base, self.scripts) if self.scripts else {}
+
+    @property
+    def unreached(self) -> list[FrameId]:
+        return sorted(self.base.frames.keys() - self.scripts.keys())
+
+    def key_faults(self, frame: Frame, script: str) -> Iterator[str]:
+        for key in KEYS:
+            to = frame.sought(key)
+            found = self.base.seek(to, self.groups) if to else Found.FOUND
+            if to is None or found == Found.FOUND or (found == Found.MISSING and to.page in self.base.outside):
+                continue
+            yield f"{found.value} {to} AT {frame.id} KEY {key} SCRIPT {script}{key}"
+
+    def frame_faults(self, id: FrameId) -> Iterator[str]:
+        """The faults of a frame that is reached."""
+        frame, script, rank = self.base.frames[id], self.scripts[id], self.ranks.get(id)
+        keys = script or "-"
+        if frame.price > self.policy.ceiling:
+            yield f"PRICE {id} {frame.price} SCRIPT {keys}"
+        if touch := paint(frame.keep, frame.body).touch:
+            yield f"TOUCHES {id} BYTE {touch.offset} START {touch.start} SCRIPT {keys}"
+        yield from self.key_faults(frame, script)
+        if rank is None or rank > self.policy.keyings:
+            yield f"NORETURN {id} SCRIPT {keys}"
+
+    def faults(self) -> list[str]:
+        if self.unopened:
+            return [self.unopened.strip()]
+        return [fault for id in self.scripts for fault in self.frame_faults(id)]
+
+    def certificate_text(self) -> str:
+        """The certificate of a base without a fault."""
+        frames = [self.base.frames[id] for id in sorted(self.scripts)]
+        head = [
+            "PBC2" if self.groups else "PBC1",
+            f"entry {self.base.entry}",
+            f"ceiling {max(frame.price for frame in frames)}",
+            f"keyings {max(self.ranks[frame.id] for frame in frames)}",
+            *([" ".join(["groups", *map(str, self.groups)])] if self.groups else []),
+            f"rows {len(frames)}",
+        ]
+        rows = [f"{frame.id} {self.ranks[frame.id]} {paint(frame.keep, frame.body).cursor}" for frame in frames]
+        return "".join(f"{line}\n" for line in [*head, *rows, "end"])
 
 
-def frame_faults(base, frame, script, rank, policy):
-    ceiling, keyings, groups = policy
-    name, keys = id_text(frame.id), script or "-"
-    if frame.price > ceiling:
-        yield f"PRICE {name} {frame.price} SCRIPT {keys}"
-    _, touch = paint(frame.keep, frame.body)
-    if touch:
-        yield f"TOUCHES {name} BYTE {touch[0]} START {touch[1]} SCRIPT {keys}"
-    yield from key_faults(base, groups, frame, script)
-    if rank is None or rank > keyings:
-        yield f"NORETURN {name} SCRIPT {keys}"
-
-
-def certificate_text(base, groups, ids, ranks):
-    frames = [base.frames[id] for id in sorted(ids)]
-    head = [
-        "PBC2" if groups else "PBC1",
-        f"entry {base.entry}",
-        f"ceiling {max(frame.price for frame in frames)}",
-        f"keyings {max(ranks[frame.id] for frame in frames)}",
-        *([" ".join(["groups", *map(str, groups)])] if groups else []),
-        f"rows {len(frames)}",
-    ]
-    rows = [f"{id_text(frame.id)} {ranks[frame.id]} {paint(frame.keep, frame.body)[0]}" for frame in frames]
-    return "".join(f"{line}\n" for line in [*head, *rows, "end"])
-
-
-def outcome(base, policy):
-    """The certificate's text and status 0, or the list of faults and status 1, by a ceiling, keyings and groups."""
-    _, _, groups = policy
-    if line := unopened(base, groups):
-        return "FAULTS 1\n" + line, 1
-    scripts = discover(base, groups)
-    ranks = ranks_of(base, scripts)
-    faults = [
-        fault
-        for id, script in scripts.items()
-        for fault in frame_faults(base, base.frames[id], script, ranks.get(id), policy)
-    ]
-    if not faults:
-        return certificate_text(base, groups, scripts, ranks), 0
-    return "".join(f"{line}\n" for line in [f"FAULTS {len(faults)}", *faults]), 1
-
-
-def audit(text, limits, option=None):
-    """Standard output, standard error and status of `audit`, with the word of `--groups` where it is given."""
-    groups = caller_of(option)
-    if groups is None:
-        return BAD_GROUPS
-    try:
-        base = base_of(text)
-    except Refused as fault:
-        return "", f"base: {fault}\n", 3
-    printed, status = outcome(base, (*limits, groups))
-    return printed, "", status
+@answers
+def audit(text: bytes, asked: Asked) -> Answer:
+    """What `audit` answers."""
+    policy = asked.policy
+    survey = Survey(base_of(text), policy)
+    if faults := survey.faults():
+        return Answer(1, "".join(f"{line}\n" for line in [f"FAULTS {len(faults)}", *faults]))
+    return Answer(0, survey.certificate_text())

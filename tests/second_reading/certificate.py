@@ -1,11 +1,36 @@
 """A certificate's text line by line, and the verdict on it."""
 
+from collections.abc import Iterator
 from dataclasses import dataclass
+from typing import NamedTuple
 
-from .base import BAD_GROUPS, MOST_LISTED, MOST_PAGE, Refused, base_of, caller_of, groups_in, id_in, id_text, is_numeral
+from .base import (
+    DIGITS,
+    MOST_LISTED,
+    MOST_PAGE,
+    Answer,
+    Asked,
+    Base,
+    Frame,
+    FrameId,
+    Groups,
+    Policy,
+    Refused,
+    answers,
+    groups_in,
+    id_in,
+    is_numeral,
+)
+from .faults import base_of
 from .screen import paint
 
-KEYS = [*"0123456789", "#"]
+KEYS = [*DIGITS, "#"]
+
+
+class Row(NamedTuple):
+    id: FrameId
+    rank: int
+    cursor: str
 
 
 @dataclass
@@ -13,58 +38,64 @@ class Certificate:
     entry: int
     ceiling: int
     keyings: int
-    groups: list
-    rows: list
+    groups: Groups
+    rows: list[Row]
+
+    def ranks(self) -> dict[FrameId, int]:
+        return {row.id: row.rank for row in self.rows}
 
 
-def sought(frame, key):
-    """The id that a key of the frame seeks, or None where it isn't offered."""
-    page, letter = frame.id
-    if key == "#":
-        return (page, chr(ord(letter) + 1)) if frame.next else None
-    return (frame.routes[key], "a") if key in frame.routes else None
+class Line(NamedTuple):
+    """A line: its number, its text, and the offset after its end."""
+
+    number: int
+    text: str
+    end: int
+
+    def refused(self, cause: str) -> Refused:
+        return Refused(f"certificate: line {self.number}: {cause}")
+
+    def after(self, word: str) -> str:
+        """What comes after the word, with which the line begins, and one space."""
+        if not self.text.startswith(f"{word} "):
+            raise self.refused("Word")
+        return self.text.removeprefix(f"{word} ")
+
+    def number_in(self, text: str, most: int) -> int:
+        if not is_numeral(text):
+            raise self.refused("Number")
+        if int(text) > most:
+            raise self.refused("Range")
+        return int(text)
 
 
-def lines_in(text):
-    """Each line with its number; Refused where one is too long or has no end."""
-    at, count = 0, 0
+def lines_in(text: bytes) -> Iterator[Line]:
+    """Each line; Refused if one is too long or has no end."""
+    at, number = 0, 0
     while True:
-        count += 1
+        number += 1
         end = text.find(b"\n", at, at + 129)
         if end < 0:
-            cause = "Word" if len(text) - at > 128 else "Truncated"
-            raise Refused(f"line {count}: {cause}")
-        yield count, text[at:end].decode("latin-1"), end + 1
+            raise Line(number, "", at).refused("Word" if len(text) - at > 128 else "Truncated")
+        yield Line(number, text[at:end].decode("latin-1"), end + 1)
         at = end + 1
 
 
-def number_in(count, text, most):
-    if not is_numeral(text):
-        raise Refused(f"line {count}: Number")
-    if int(text) > most:
-        raise Refused(f"line {count}: Range")
-    return int(text)
+def head_number(lines: Iterator[Line], word: str, most: int) -> int:
+    """The number of the next line, which begins with its word."""
+    line = next(lines)
+    return line.number_in(line.after(word), most)
 
 
-def head_number(lines, word, most):
-    """The number of the next line, which begins with its word and one space."""
-    count, line, _ = next(lines)
-    if not line.startswith(f"{word} "):
-        raise Refused(f"line {count}: Word")
-    return number_in(count, line.removeprefix(f"{word} "), most)
+def groups_line(line: Line) -> Groups:
+    words = line.after("groups").split(" ")
+    try:
+        return groups_in(words)
+    except Refused as flaw:
+        raise line.refused(str(flaw)) from None
 
 
-def groups_line(lines):
-    count, line, _ = next(lines)
-    if not line.startswith("groups "):
-        raise Refused(f"line {count}: Word")
-    groups, flaw = groups_in(line.removeprefix("groups ").split(" "))
-    if flaw:
-        raise Refused(f"line {count}: {flaw}")
-    return groups
-
-
-def is_cursor(text):
+def is_cursor(text: str) -> bool:
     place = text[:-1] if text[-1:] in ("+", "?") else text
     if place == "any":
         return True
@@ -72,111 +103,99 @@ def is_cursor(text):
     return is_numeral(place[1:]) and int(place[1:]) <= most
 
 
-def row_in(count, line, rows):
-    if line == "end":
-        raise Refused(f"line {count}: Count")
-    parts = line.split(" ")
+def row_in(line: Line, rows: list[Row]) -> Row:
+    if line.text == "end":
+        raise line.refused("Count")
+    parts = line.text.split(" ")
     id = id_in(parts[0]) if len(parts) == 3 else None
     if id is None:
-        raise Refused(f"line {count}: Word")
-    rank = number_in(count, parts[1], 65_535)
+        raise line.refused("Word")
+    rank = line.number_in(parts[1], 65_535)
     if not is_cursor(parts[2]):
-        raise Refused(f"line {count}: Cursor")
-    if rows and id <= rows[-1][0]:
-        raise Refused(f"line {count}: Order")
-    return id, rank, parts[2]
+        raise line.refused("Cursor")
+    if rows and id <= rows[-1].id:
+        raise line.refused("Order")
+    return Row(id, rank, parts[2])
 
 
-def certificate_of(text):
+def certificate_of(text: bytes) -> Certificate:
     """The certificate of the bytes; Refused with the first line at fault."""
     lines = lines_in(text)
-    count, line, _ = next(lines)
-    if line not in ("PBC1", "PBC2"):
-        raise Refused(f"line {count}: Magic")
+    first = next(lines)
+    if first.text not in ("PBC1", "PBC2"):
+        raise first.refused("Magic")
     limits = ("entry", MOST_PAGE), ("ceiling", 9_999), ("keyings", 65_535)
-    numbers = [head_number(lines, word, most) for word, most in limits]
-    groups = groups_line(lines) if line == "PBC2" else []
-    rows = []
+    entry, ceiling, keyings = (head_number(lines, word, most) for word, most in limits)
+    groups = groups_line(next(lines)) if first.text == "PBC2" else ()
+    rows: list[Row] = []
     for _ in range(head_number(lines, "rows", MOST_LISTED)):
-        count, line, _ = next(lines)
-        rows.append(row_in(count, line, rows))
-    count, line, end = next(lines)
-    if line != "end":
-        raise Refused(f"line {count}: Count")
-    if end < len(text):
-        raise Refused(f"line {count + 1}: Tail")
-    return Certificate(*numbers, groups, rows)
+        rows.append(row_in(next(lines), rows))
+    last = next(lines)
+    if last.text != "end":
+        raise last.refused("Count")
+    if last.end < len(text):
+        raise last._replace(number=last.number + 1).refused("Tail")
+    return Certificate(entry, ceiling, keyings, groups, rows)
 
 
-def head_fault(base, certificate, policy):
-    ceiling, keyings, groups = policy
+def head_fault(base: Base, certificate: Certificate, policy: Policy) -> str | None:
     if certificate.entry != base.entry:
         return "K1 EntryDiffers"
-    if certificate.ceiling > ceiling:
+    if certificate.ceiling > policy.ceiling:
         return "K2 CeilingAbove"
-    if certificate.keyings > keyings:
+    if certificate.keyings > policy.keyings:
         return "K3 KeyingsAbove"
-    if certificate.groups != groups:
+    if certificate.groups != policy.groups:
         return "K15 GroupsDiffer"
-    if base.entry_frame() not in [row[0] for row in certificate.rows]:
-        return "K4 EntryNotCovered"
-    return None
+    return None if base.entry_id in certificate.ranks() else "K4 EntryNotCovered"
 
 
-def frame_fault(frame, certificate, rank, cursor):
-    name = id_text(frame.id)
+def frame_fault(frame: Frame, certificate: Certificate, row: Row) -> str | None:
     if not frame.is_open(certificate.groups):
-        return f"K6 ClosedFrame {name}"
+        return f"K6 ClosedFrame {frame.id}"
     if frame.price > certificate.ceiling:
-        return f"K7 Price {name}"
-    if rank > certificate.keyings:
-        return f"K8 RankAbove {name}"
-    end, touch = paint(frame.keep, frame.body)
+        return f"K7 Price {frame.id}"
+    if row.rank > certificate.keyings:
+        return f"K8 RankAbove {frame.id}"
+    cursor, touch = paint(frame.keep, frame.body)
     if touch:
-        return f"K9 Touches {name} {touch[0]}"
-    return None if end == cursor else f"K10 CursorDiffers {name}"
+        return f"K9 Touches {frame.id} {touch.offset}"
+    return None if cursor == row.cursor else f"K10 CursorDiffers {frame.id}"
 
 
-def ways_fault(base, frame, rank, ranks):
-    name = id_text(frame.id)
+def ways_fault(base: Base, frame: Frame, rank: int, ranks: dict[FrameId, int]) -> str | None:
     for digit, page in sorted(frame.routes.items()):
-        if page not in base.outside and (page, "a") not in ranks:
-            return f"K11 RouteNotCovered {name} {digit}"
-    if frame.next and sought(frame, "#") not in ranks:
-        return f"K12 NextNotCovered {name}"
+        if page not in base.outside and FrameId(page, "a") not in ranks:
+            return f"K11 RouteNotCovered {frame.id} {digit}"
+    if frame.next and frame.id.following not in ranks:
+        return f"K12 NextNotCovered {frame.id}"
     if rank == 0:
-        return None if frame.id == base.entry_frame() else f"K13 RankZero {name}"
-    ways = [ranks[to] for to in (sought(frame, key) for key in KEYS) if to in ranks]
-    return None if any(way < rank for way in ways) else f"K14 NoWayDown {name}"
+        return None if frame.id == base.entry_id else f"K13 RankZero {frame.id}"
+    ways = [ranks[to] for key in KEYS if (to := frame.sought(key)) in ranks and to]
+    return None if any(way < rank for way in ways) else f"K14 NoWayDown {frame.id}"
 
 
-def refusal(base, certificate, policy):
+def refusal(base: Base, certificate: Certificate, policy: Policy) -> str | None:
     """The first condition that fails, with its argument, or None."""
     if fault := head_fault(base, certificate, policy):
         return fault
-    ranks = {id: rank for id, rank, _ in certificate.rows}
-    for id, rank, cursor in certificate.rows:
-        if id not in base.frames:
-            return f"K5 NoFrame {id_text(id)}"
-        frame = base.frames[id]
-        fault = frame_fault(frame, certificate, rank, cursor) or ways_fault(base, frame, rank, ranks)
-        if fault:
+    ranks = certificate.ranks()
+    for row in certificate.rows:
+        if row.id not in base.frames:
+            return f"K5 NoFrame {row.id}"
+        frame = base.frames[row.id]
+        if fault := frame_fault(frame, certificate, row) or ways_fault(base, frame, row.rank, ranks):
             return fault
     return None
 
 
-def check(text, certificate_text, limits, option=None):
-    """Standard output, standard error and status of `check`, with the word of `--groups` where it is given."""
-    groups = caller_of(option)
-    if groups is None:
-        return BAD_GROUPS
-    try:
-        base = base_of(text)
-    except Refused as fault:
-        return "", f"base: {fault}\n", 3
-    try:
-        certificate = certificate_of(certificate_text)
-    except Refused as fault:
-        return "", f"certificate: {fault}\n", 3
-    fault = refusal(base, certificate, (*limits, groups))
-    return (f"REFUSED {fault}\n", "", 1) if fault else ("CLEARED\n", "", 0)
+def verdict(fault: str | None) -> Answer:
+    return Answer(1, f"{fault}\n") if fault else Answer(0, "CLEARED\n")
+
+
+@answers
+def check(text: bytes, certificate_text: bytes, asked: Asked) -> Answer:
+    """What `check` answers."""
+    policy, base, certificate = asked.policy, base_of(text), certificate_of(certificate_text)
+    fault = refusal(base, certificate, policy)
+    return verdict(fault and f"REFUSED {fault}")

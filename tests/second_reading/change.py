@@ -1,50 +1,58 @@
 """A change of edition: the verdict on it, and what callers meet who are inside while it comes."""
 
-from .audit import ranks_of
-from .base import BAD_GROUPS, Refused, base_of, caller_of, id_text
-from .certificate import certificate_of, refusal
+from typing import NamedTuple
+
+from .audit import Ranks, ranks_of
+from .base import Answer, Asked, Base, Groups, Key, Policy, Refused, answers
+from .certificate import Certificate, certificate_of, refusal, verdict
+from .faults import base_of
 from .screen import paint
-from .session import Session, unopened
+from .session import Session
 
 
-def edition_of(word, text, certificate_text):
-    """A base and its certificate; Refused with the line that is printed, the word in front of it."""
+class Texts(NamedTuple):
+    """The texts of an edition: a base and its certificate."""
+
+    base: bytes
+    certificate: bytes
+
+
+class Edition(NamedTuple):
+    base: Base
+    certificate: Certificate
+
+
+def edition_of(texts: Texts) -> Edition:
+    return Edition(base_of(texts.base), certificate_of(texts.certificate))
+
+
+def new_edition_of(texts: Texts) -> Edition:
+    """The second edition; what refuses it says that it is the new one."""
     try:
-        base = base_of(text)
+        return edition_of(texts)
     except Refused as fault:
-        raise Refused(f"{word}base: {fault}") from None
-    try:
-        return base, certificate_of(certificate_text)
-    except Refused as fault:
-        raise Refused(f"{word}certificate: {fault}") from None
+        raise Refused(f"new {fault}") from None
 
 
-def change_refusal(old, new, policy):
+def change_refusal(old: Edition, new: Edition, policy: Policy) -> str | None:
     """The first condition that fails of a change between two editions, or None."""
     for word, edition in ("OLD", old), ("NEW", new):
         if fault := refusal(*edition, policy):
             return f"{word} REFUSED {fault}"
-    if old[0].entry != new[0].entry:
+    if old.base.entry != new.base.entry:
         return "REFUSED E1 EntryMoved"
-    rows = {id for id, _, _ in new[1].rows}
-    lost = [id for id, _, _ in old[1].rows if id not in rows]
-    return f"REFUSED E2 NoLongerCovered {id_text(min(lost))}" if lost else None
+    lost = old.certificate.ranks().keys() - new.certificate.ranks().keys()
+    return f"REFUSED E2 NoLongerCovered {min(lost)}" if lost else None
 
 
-def change(editions, limits, option=None):
-    """Standard output, standard error and status of `change`, of two editions' texts."""
-    groups = caller_of(option)
-    if groups is None:
-        return BAD_GROUPS
-    try:
-        old, new = (edition_of(word, *texts) for word, texts in zip(("", "new "), editions))
-    except Refused as fault:
-        return "", f"{fault}\n", 3
-    fault = change_refusal(old, new, (*limits, groups))
-    return (f"{fault}\n", "", 1) if fault else ("CLEARED\n", "", 0)
+@answers
+def change(old: Texts, new: Texts, asked: Asked) -> Answer:
+    """What `change` answers."""
+    policy = asked.policy
+    return verdict(change_refusal(edition_of(old), new_edition_of(new), policy))
 
 
-def broken_promise(edition, ranks, session, reply):
+def broken_promise(edition: Edition, ranks: Ranks, session: Session, reply: str) -> str | None:
     """What a reply, or the state after it, breaks of what was cleared; None if it keeps all."""
     base, certificate = edition
     if reply.startswith(("MISSING", "CLOSED")):
@@ -52,23 +60,22 @@ def broken_promise(edition, ranks, session, reply):
     words = reply.split(" ")
     if words[0] == "SHOWN" and int(words[2]) > certificate.ceiling:
         return f"{reply} above {certificate.ceiling}"
-    if words[0] in ("SHOWN", "AGAIN"):
+    if words[0] in ("SHOWN", "AGAIN") and session.at:
         frame = base.frames[session.at]
-        if paint(frame.keep, frame.body)[1]:
+        if paint(frame.keep, frame.body).touch:
             return f"{reply} touches"
     if session.at is not None and ranks.get(session.at, 65_536) > certificate.keyings:
-        return f"no way back from {id_text(session.at)}"
+        return f"no way back from {session.at}"
     return None
 
 
-def crossing(editions, groups, keys):
+def crossing(editions: list[Edition], groups: Groups, keys: list[list[Key]]) -> str | None:
     """What a session over the editions breaks of what was cleared, of one list of keys for each; or None."""
-    if unopened(editions[0][0], groups):
+    if editions[0].base.unopened(groups):
         return "the first edition opens no session"
-    session = Session(editions[0][0], groups)
+    session = Session(editions[0].base, groups)
     for edition, words in zip(editions, keys):
-        session.base = edition[0]
-        base = edition[0]
+        session.base = base = edition.base
         ranks = ranks_of(base, [id for id, frame in base.frames.items() if frame.is_open(groups)])
         for word in ["*00", *words]:
             if fault := broken_promise(edition, ranks, session, session.key(word)):

@@ -1,15 +1,25 @@
-"""What the HTML file of a base shows of each frame: its screen as text, its price, its ways, its faults and the cell that it touches."""
+"""What the HTML file of a base shows of each frame: its screen as text, its price, its ways, its faults and the cell
+that it touches.
+"""
 
-from dataclasses import dataclass, field
+from dataclasses import dataclass
+from typing import NamedTuple
 
-from .audit import discover, frame_faults, ranks_of
-from .base import id_text
-from .certificate import KEYS, sought
+from .audit import Survey
+from .base import Base, Found, Frame, FrameId, Key, Policy
+from .certificate import KEYS
 from .looks import text
-from .map import near
-from .screen import CLEAR, STATES, run, step, touches
+from .map import View, part_of
+from .screen import STATES, lead, run, step, touches
 from .screens import codes, frames_of
-from .session import unopened
+
+
+class Way(NamedTuple):
+    """A way as it is shown: an empty class for a link, and the text."""
+
+    look: str
+    key: Key
+    text: str
 
 
 @dataclass
@@ -19,85 +29,79 @@ class Section:
     text: str
     price: str
     keeps: bool
-    ways: list = field(default_factory=list)
-    faults: list = field(default_factory=list)
-    touched: int | None = None
+    ways: list[Way]
+    faults: list[str]
+    touched: int | None
 
 
-def way(base, groups, shown, frame, key):
-    """The class, key and text of a way, with an empty class for a link; None if it isn't offered."""
-    to = sought(frame, key)
-    if to is None:
-        return None
-    found = base.seek(to, groups)
-    if found == "FOUND":
-        return ("" if to in shown else "elsewhere"), key, id_text(to)
-    if found == "MISSING" and key != "#" and to[0] in base.outside:
-        return "outside", key, str(to[0])
-    return found.lower(), key, id_text(to)
+class Verdict(NamedTuple):
+    """The faults before the sections, the verdict, and for which caller and limits it is."""
+
+    before: list[str]
+    words: str
+    asked: str
 
 
-def touched(frame, faults):
+def touched(frame: Frame, faults: list[str]) -> int | None:
     """The position of the first cell that a touching byte writes from the start of its fault's line."""
     for line in faults:
         if line.startswith("TOUCHES "):
             _, _, _, offset, _, at, *_ = line.split()
-            before = (b"" if frame.keep else CLEAR) + frame.body[: int(offset)]
-            byte = frame.body[int(offset)]
-            start = next(state for state in STATES if state[0] == int(at) and touches(run(state, before), byte))
-            return step(run(start, before), byte)[1][0][0]
+            before, byte = lead(frame.keep) + frame.body[: int(offset)], frame.body[int(offset)]
+            start = next(state for state in STATES if state.at == int(at) and touches(run(state, before), byte))
+            return step(run(start, before), byte).written[0].at
     return None
 
 
-def section(base, policy, shown, scripts, ranks, frame):
-    groups = policy[2]
-    ids = frames_of(base, groups, frame.id, None)[0]
-    faults = []
-    if frame.id in scripts:
-        faults = list(frame_faults(base, frame, scripts[frame.id], ranks.get(frame.id), policy))
-    return Section(
-        id_text(frame.id),
-        frame.id not in scripts,
-        text(codes(base, ids)),
-        f"{frame.price}p",
-        frame.keep,
-        [found for key in KEYS if (found := way(base, groups, shown, frame, key))],
-        faults,
-        touched(frame, faults),
-    )
+class Pages:
+    """The sections of a base, or of the part that a view shows; Refused if the base lacks its page."""
+
+    def __init__(self, base: Base, policy: Policy, view: View) -> None:
+        self.base, self.survey = base, Survey(base, policy)
+        self.shown = part_of(base, policy.groups, view)
+
+    def way(self, frame: Frame, key: Key) -> Way | None:
+        """None if it isn't offered."""
+        to = frame.sought(key)
+        if to is None:
+            return None
+        found = self.base.seek(to, self.survey.groups)
+        if found == Found.FOUND:
+            return Way("" if to in self.shown else "elsewhere", key, str(to))
+        if found == Found.MISSING and key != "#" and to.page in self.base.outside:
+            return Way("outside", key, str(to.page))
+        return Way(found.value.lower(), key, str(to))
+
+    def section(self, id: FrameId) -> Section:
+        frame, is_reached = self.base.frames[id], id in self.survey.scripts
+        screen = text(codes(self.base, frames_of(self.base, self.survey.groups, id)))
+        ways = [way for key in KEYS if (way := self.way(frame, key))]
+        faults = list(self.survey.frame_faults(id)) if is_reached else []
+        return Section(
+            str(id), not is_reached, screen, f"{frame.price}p", frame.keep, ways, faults, touched(frame, faults)
+        )
+
+    def sections(self) -> list[Section]:
+        return [self.section(id) for id in sorted(self.shown)]
 
 
-def sections(base, policy, page=None, most=None):
-    """The section of each frame, in order; None if the base lacks the frame `a` of the page."""
-    groups = policy[2]
-    if page is not None and (page, "a") not in base.frames:
-        return None
-    shown = set(base.frames) if page is None else near(base, groups, (page, "a"), most, False)
-    scripts = {} if unopened(base, groups) else discover(base, groups)
-    ranks = ranks_of(base, scripts) if scripts else {}
-    return [section(base, policy, shown, scripts, ranks, base.frames[id]) for id in sorted(shown)]
-
-
-def counted(number, thing):
+def counted(number: int, thing: str) -> str:
     return f"{number} {thing}" if number == 1 else f"{number} {thing}s"
 
 
-def asked(policy):
+def asked_for(policy: Policy) -> str:
     """For which caller the base was audited, and the limits that aren't the widest."""
-    ceiling, keyings, groups = policy
-    words = [f"For a caller in {' '.join(['groups', *map(str, groups)]) if groups else 'no groups'}"]
-    if ceiling != 9999:
-        words.append(f"at most {ceiling}p a frame")
-    if keyings != 65535:
-        words.append(f"at most {counted(keyings, 'key')} back")
+    words = [f"For a caller in {' '.join(['groups', *map(str, policy.groups)]) if policy.groups else 'no groups'}"]
+    if policy.ceiling != 9_999:
+        words.append(f"at most {policy.ceiling}p a frame")
+    if policy.keyings != 65_535:
+        words.append(f"at most {counted(policy.keyings, 'key')} back")
     return ", ".join(words)
 
 
-def verdict(base, policy):
-    """The faults that come before the sections, and how many faults there are in all; 0 of a base that is certified."""
-    groups = policy[2]
-    if line := unopened(base, groups):
-        return [line.strip()], 1
-    scripts = discover(base, groups)
-    ranks = ranks_of(base, scripts)
-    return [], sum(len(list(frame_faults(base, base.frames[id], script, ranks.get(id), policy))) for id, script in scripts.items())
+def verdict(base: Base, policy: Policy) -> Verdict:
+    survey = Survey(base, policy)
+    faults = survey.faults()
+    return Verdict(
+        faults if survey.unopened else [], counted(len(faults), "fault") if faults else "CERTIFIED", asked_for(policy)
+    )

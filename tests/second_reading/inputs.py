@@ -1,13 +1,21 @@
 """Random bases, certificates, groups and keys: mostly right, some of them with a few things wrong."""
 
-from .audit import discover, outcome, ranks_of
-from .base import Refused, base_of, id_in, id_text
+from collections.abc import Iterator, Sequence
+from typing import Literal, cast
+
+from harness.writing import Chance, PlainPen
+
+from .audit import Survey, audit
+from .base import DIGITS, Asked, Base, FrameId, Groups, Policy, Refused, id_in
+from .change import Texts
+from .faults import BaseTable, FrameTable, base_of
+from .map import View
 from .screen import paint
-from .session import unopened
+from .toml import Table
 
 PAGES = [0, 1, 5, 12, 123, 1231, 555, 999_999_999]
-ODD_VALUES = [0, -1, 1, True, False, 1.5, -(2**63), "", "a", "123a", [], {}, [1], {"1": 1}, [{}]]
-ODD_FIELDS = {
+ODD_VALUES: list[object] = [0, -1, 1, True, False, 1.5, -(2**63), "", "a", "123a", [], {}, [1], {"1": 1}, [{}]]
+ODD_FIELDS: dict[str, list[object]] = {
     "entry": [-1, 1_000_000_000, "1", True],
     "outside": [[0, -1, "a"], ["a", -1], [1_000_000_000], [1.5]],
     "frame": [{}, [{}, 1], ["a"]],
@@ -37,23 +45,32 @@ HEAD_LINES = [
 ]
 GROUPS = [1, 7, 9, 65_535]
 MANY = [*range(1, 15), 65_534, 65_535]
-ODD_LISTS = [
-    *([], [""], ["", "7"], ["7", ""], ["7", "", "9"], ["9", "7"], ["7", "7"], ["7", "9", "8"], ["0"], ["0", "0"]),
+ODD_LISTS: list[list[str]] = [
+    [],
+    *([""], ["", "7"], ["7", ""], ["7", "", "9"], ["9", "7"], ["7", "7"], ["7", "9", "8"], ["0"], ["0", "0"]),
     *(["7", "0"], ["07"], ["7", "09"], ["00"], ["65536"], ["7", "65536"], ["9" * 20], ["7x"], ["+7"], ["\xb2"]),
     *(["a", "0"], ["0", "a"], ["9", "7", "a"]),
     *([*map(str, MANY), "9"], [*map(str, MANY), "0"], [*map(str, MANY), "x"], [*map(str, range(1, 18))]),
 ]
 
+VIEWS: list[Literal["page", "to"] | None] = [None, "page", "to"]
+NO_ROWS = b"PBC1\nentry 123\nceiling 0\nkeyings 0\nrows 0\nend\n"
 
-class Inputs:
-    """Each call draws from the one source of chance, so that a seed gives the same inputs again."""
 
-    def __init__(self, random):
-        self.random = random
-        self.chance = lambda share: random.random() < share
-        self.pick = random.choice
+def word_of(groups: Groups) -> str | None:
+    """The word of `--groups` for these groups; none if there are none."""
+    return ",".join(map(str, groups)) or None
 
-    def body(self, wild):
+
+def asked_by(groups: Groups) -> Asked:
+    """What a caller of these groups asks without limits."""
+    return Asked(option=word_of(groups))
+
+
+class Inputs(Chance):
+    """Random inputs, mostly right."""
+
+    def body(self, wild: bool) -> str:
         """A body that writes from row 1 on, or a wild one."""
         if not wild:
             return "\x1e\n" + "".join(self.pick(INSIDE) for _ in range(self.random.randrange(4)))
@@ -69,24 +86,23 @@ class Inputs:
         first = self.pick(["\r", "\r\n", "\n", "\x1b", "\r\x08"]) * self.random.randrange(3)
         return first + self.pick(["", "\x1b", "A", "M", "\x1b0", "\x1bM", "\x8d"])
 
-    def ids(self, pages):
+    def ids(self, pages: list[int]) -> Iterator[FrameId]:
         """A few frames of each page, which need not begin with `a`."""
         for page in pages:
             first = ord("a") if self.chance(0.9) else ord(self.pick("bxy"))
             for letter in range(first, min(first + self.pick([1, 1, 2, 3, 4]), ord("z") + 1)):
-                yield page, chr(letter)
+                yield FrameId(page, chr(letter))
 
-    def frame(self, id, ids, targets, wild, closed):
-        """A frame whose routes and `next` lead somewhere, but for a share of wild ones; a share of frames has a group."""
-        page, letter = id
-        following = (page, chr(ord(letter) + 1)) in ids
-        table = {"id": id_text(id)}
+    def frame(self, id: FrameId, ids: list[FrameId], targets: list[int], wild: float, closed: float) -> FrameTable:
+        """A frame whose routes and `next` lead somewhere, but for a share of wild ones; a share has a group."""
+        following = id.following in ids
+        table: FrameTable = {"id": str(id)}
         if self.chance(0.5):
             table["price"] = self.pick([0, 1, 5, 5, 50, 9_999])
         if self.chance(closed):
             table["group"] = self.pick(GROUPS)
         if following or self.chance(0.2):
-            table["next"] = following != (letter < "y" and self.chance(wild))
+            table["next"] = following != (id.letter < "y" and self.chance(wild))
         digits = self.random.sample("0123456789", self.pick([0, 10] if self.chance(wild) else [1, 2, 3, 4]))
         table["routes"] = {digit: self.pick(PAGES if self.chance(wild) or not targets else targets) for digit in digits}
         if self.chance(0.3):
@@ -97,24 +113,23 @@ class Inputs:
             table["body"] = self.body(self.chance(2 * wild))
         return table
 
-    def tree(self):
-        wild = self.pick([0, 0, 0.05, 0.2, 0.5])
+    def tree(self) -> BaseTable:
+        wild = self.pick([0.0, 0.0, 0.05, 0.2, 0.5])
         closed = self.pick([wild, wild, 0.3, 0.7])
         pages = self.random.sample(PAGES, self.random.randrange(1, 6))
         outside = [page for page in PAGES if page not in pages and self.chance(0.4)]
         ids = list(self.ids(pages))
         self.random.shuffle(ids)
-        targets = [page for page in pages if (page, "a") in ids] + outside
-        tree = {"entry": self.pick(pages if self.chance(0.95) else PAGES)}
-        tree["outside"] = outside + outside[:1] * self.chance(0.1)
-        tree["frame"] = [self.frame(id, ids, targets, wild, closed) for id in ids]
-        return tree
+        targets = [page for page in pages if FrameId(page, "a") in ids] + outside
+        entry = self.pick(pages if self.chance(0.95) else PAGES)
+        outside += outside[:1] * self.chance(0.1)
+        return {"entry": entry, "outside": outside, "frame": [self.frame(id, ids, targets, wild, closed) for id in ids]}
 
-    def odd(self, field):
+    def odd(self, field: str) -> object:
         """A value that is wrong for the field, or at its limits."""
         return self.pick(ODD_VALUES if self.chance(0.3) else ODD_FIELDS[field])
 
-    def break_frame(self, frames):
+    def break_frame(self, frames: list[Table]) -> None:
         index = self.random.randrange(len(frames))
         table, share = frames[index], self.random.random()
         if share < 0.6:
@@ -127,69 +142,53 @@ class Inputs:
         elif share < 0.8:
             frames.append(dict(table))
         elif share < 0.9:
-            table["routes"] = {**table.get("routes", {}), self.pick(["0", "9", "10", "x", ""]): self.pick(ODD_VALUES)}
+            routes = cast(Table, table.get("routes", {}))
+            table["routes"] = {**routes, self.pick(["0", "9", "10", "x", ""]): self.pick(ODD_VALUES)}
         else:
             table["id"], table["next"] = f"{self.pick(PAGES)}z", True
 
-    def break_tree(self, tree):
+    def break_tree(self, right: BaseTable) -> None:
+        tree, frames = cast(Table, right), right["frame"]
         if self.chance(0.7):
-            self.break_frame(tree["frame"])
+            self.break_frame(cast(list[Table], frames))
         elif self.chance(0.3):
-            tree["outside"] = tree["outside"] + [int(tree["frame"][0]["id"][:-1])]
+            tree["outside"] = right["outside"] + [int(frames[0]["id"][:-1])]
         elif self.chance(0.7):
             field = self.pick(["entry", "outside", "frame", "name"])
             tree[field] = self.odd(field)
         else:
             del tree[self.pick(list(tree))]
 
-    def string(self, text):
-        return '"' + "".join(self.character(c) for c in text) + '"'
-
-    def character(self, c):
-        is_plain = " " <= c <= "~" and c not in '"\\'
-        return c if is_plain or (c > "\x7f" and self.chance(0.5)) else f"\\U{ord(c):08X}"
-
-    def value(self, value):
-        if isinstance(value, bool):
-            return str(value).lower()
-        if isinstance(value, str):
-            return self.string(value)
-        if isinstance(value, list):
-            return "[" + ", ".join(self.value(part) for part in value) + "]"
-        if isinstance(value, dict):
-            return "{ " + ", ".join(self.member(key, part) for key, part in value.items()) + " }"
-        return str(value)
-
-    def member(self, key, value):
-        return f"{self.string(key)} = {self.value(value)}"
-
-    def text(self, tree):
+    def text(self, base: BaseTable) -> bytes:
         """The TOML text of the tree; now and then with a byte that spoils it."""
+        tree = cast(Table, base)
         tables = tree.get("frame")
-        is_listed = isinstance(tables, list) and all(isinstance(table, dict) for table in tables) and self.chance(0.8)
-        lines = [self.member(key, value) for key, value in tree.items() if not (is_listed and key == "frame")]
-        for table in tables if is_listed else []:
-            lines.append("[[frame]]")
-            lines += [self.member(key, value) for key, value in table.items()]
+        are_tables = isinstance(tables, list) and all(isinstance(table, dict) for table in tables)
+        is_listed = are_tables and self.chance(0.8)
+        pen = PlainPen(self.random)
+        lines = [pen.pair((key,), value, ()) for key, value in tree.items() if not (is_listed and key == "frame")]
+        for table in cast(list[Table], tables) if is_listed else []:
+            lines += ["[[frame]]", *(pen.pair((key,), value, ()) for key, value in table.items())]
         text = bytearray("\n".join([*lines, ""]).encode())
         if self.chance(0.03):
             text[self.random.randrange(len(text))] = self.pick(b"\x00\xff\xc3\"'=.")
         return bytes(text)
 
-    def base_text(self):
+    def base_text(self) -> bytes:
         tree = self.tree()
         if self.chance(0.4):
             self.break_tree(tree)
         return self.text(tree)
 
-    def next_tree(self, tree):
-        """The next edition of a base: the same, or with a few things changed as a provider would, some of them wrong."""
-        tree = {**tree, "frame": [{**table, "routes": dict(table.get("routes", {}))} for table in tree["frame"]]}
+    def next_tree(self, tree: BaseTable) -> BaseTable:
+        """The next edition of a base: the same, or with a few changes as a provider makes them, some of them wrong."""
+        frames = [cast(FrameTable, {**table, "routes": dict(table.get("routes", {}))}) for table in tree["frame"]]
+        tree = {"entry": tree["entry"], "outside": tree["outside"], "frame": frames}
         for _ in range(self.pick([0, 1, 1, 2, 3])):
             self.change_tree(tree)
         return tree
 
-    def change_tree(self, tree):
+    def change_tree(self, tree: BaseTable) -> None:
         frames, share = tree["frame"], self.random.random()
         table = self.pick(frames)
         if share < 0.25:
@@ -200,12 +199,12 @@ class Inputs:
         elif share < 0.6 and len(frames) > 1:
             frames.remove(table)
             if self.chance(0.8):
-                self.forget(frames, *id_in(table["id"]))
+                self.forget(frames, table["id"])
         elif share < 0.72:
             page = self.pick(PAGES)
             if page not in tree["outside"] and not any(old["id"] == f"{page}a" for old in frames):
                 frames.append({"id": f"{page}a", "routes": {"0": tree["entry"]}, "rows": ["NEW"]})
-                table["routes"][self.pick("0123456789")] = page
+                table["routes"][self.pick(DIGITS)] = page
         elif share < 0.8:
             table["group"] = self.pick(GROUPS)
         elif share < 0.9:
@@ -213,82 +212,100 @@ class Inputs:
         else:
             table["routes"] = {}
 
-    def forget(self, frames, page, letter):
+    def forget(self, frames: list[FrameTable], id: str) -> None:
         """No route and no `next` leads to the frame any more."""
         for table in frames:
-            if letter == "a":
-                table["routes"] = {digit: to for digit, to in table["routes"].items() if to != page}
-            if table["id"] == f"{page}{chr(ord(letter) - 1)}":
+            table["routes"] = {digit: to for digit, to in table["routes"].items() if f"{to}a" != id}
+            if (other := id_in(table["id"])) and str(other.following) == id:
                 table["next"] = False
 
-    def safe_tree(self, groups):
+    def safe_tree(self, groups: Groups) -> BaseTable:
         """A base that is safe for a caller of these groups, if one comes up soon."""
         for _ in range(8):
             tree = self.tree()
-            try:
-                if outcome(base_of(self.text(tree)), (9_999, 65_535, groups))[1] == 0:
-                    break
-            except Refused:
-                pass
+            if audit(self.text(tree), asked_by(groups)).status == 0:
+                break
         return tree
 
-    def editions(self, groups):
-        """Two bases, the second of which takes the place of the first."""
+    def editions(self, groups: Groups) -> list[Texts]:
+        """Two bases with certificates, the second of which takes the place of the first."""
         tree = self.safe_tree(groups)
         old, new = self.text(tree), self.text(self.next_tree(tree))
-        return old, self.base_text() if self.chance(0.05) else new
+        bases = [old, self.base_text() if self.chance(0.05) else new]
+        return [Texts(base, self.own_certificate(base, groups)) for base in bases]
 
-    def crossed_keys(self):
+    def own_certificate(self, text: bytes, groups: Groups) -> bytes:
+        """The audit's own certificate if there is one; else what comes near to one."""
+        done = audit(text, asked_by(groups))
+        return done.stdout.encode() if done.status == 0 and self.chance(0.95) else self.certificate_for(text, groups)
+
+    def crossed_keys(self) -> list[list[str]]:
         return [[self.pick(KEYS) for _ in range(self.random.randrange(15))] for _ in range(2)]
 
-    def keys(self):
+    def keys(self) -> str:
         words = [self.pick(KEYS) for _ in range(self.random.randrange(40))]
         if self.chance(0.1):
             words.insert(self.random.randrange(len(words) + 1), self.pick(["*", "x", "*0", "*1", "\xe9", " "]))
         return "".join(words)
 
-    def policy(self, ceilings, keyings):
-        return self.pick(ceilings), self.pick(keyings)
+    def asked(self, groups: Groups, ceilings: Sequence[int] = (9_999,), keyings: Sequence[int] = (65_535,)) -> Asked:
+        """Limits, and the word of `--groups` for these groups, now and then a wrong one."""
+        return Asked(self.pick(ceilings), self.pick(keyings), self.option(groups))
 
-    def groups(self):
+    def view(self, text: bytes) -> View:
+        """What a map of a base shows, or a page that it lacks."""
+        side = self.pick(VIEWS)
+        if side is None:
+            return View()
+        pages = {1, 123}
+        try:
+            pages.update(id.page for id in base_of(text).frames if id.letter == "a")
+        except Refused:
+            pass
+        return View(side, self.pick(sorted(pages)), self.pick([None, 0, 1, 2, 3]))
+
+    def groups(self) -> Groups:
         """A caller's groups: often none, or those of all frames."""
         if self.chance(0.05):
-            return MANY
-        return sorted(self.random.sample(GROUPS, self.pick([0, 0, 0, 1, 2, 3, 4, 4, 4])))
+            return tuple(MANY)
+        return tuple(sorted(self.random.sample(GROUPS, self.pick([0, 0, 0, 1, 2, 3, 4, 4, 4]))))
 
-    def option(self, groups):
+    def option(self, groups: Groups) -> str | None:
         """The word of `--groups` for these groups, now and then a wrong one; None where it isn't given."""
         if self.chance(0.05):
             return self.pick([",".join(self.pick(ODD_LISTS)), "7 9", "7, 9", "7,9 "])
-        return ",".join(map(str, groups)) or None
+        return word_of(groups)
 
-    def row(self, base, id, rank):
+    def row(self, base: Base, id: FrameId, rank: int | None) -> str:
         """The row of a frame; where it has none of its own, one that comes near."""
         frame = base.frames[id]
-        return f"{id_text(id)} {self.pick([1, 9]) if rank is None else rank} {paint(frame.keep, frame.body)[0] or 's80'}"
+        return f"{id} {self.pick([1, 9]) if rank is None else rank} {paint(frame.keep, frame.body).cursor or 's80'}"
 
-    def head(self, base, groups, count):
+    def head(self, base: Base, groups: Groups, count: int) -> list[str]:
         """The lines before that many rows."""
-        first, more = ("PBC2", [f"groups {' '.join(map(str, groups))}"]) if groups else ("PBC1", [])
-        return [first, f"entry {base.entry}", f"ceiling {self.pick([9_999, 50])}", "keyings 9", *more, f"rows {count}"]
+        more = [f"groups {' '.join(map(str, groups))}"] if groups else []
+        return [
+            "PBC2" if groups else "PBC1",
+            f"entry {base.entry}",
+            f"ceiling {self.pick([9_999, 50])}",
+            "keyings 9",
+            *more,
+            f"rows {count}",
+        ]
 
-    def certificate_lines(self, base, groups):
+    def certificate_lines(self, base: Base, groups: Groups) -> list[str]:
         """A certificate of the frames that can be reached: the audit's own, or what comes nearest to one.
 
         Now and then the frames are those that others can reach.
         """
         others = self.groups() if self.chance(0.1) else groups
-        if unopened(base, others):
-            return [*self.head(base, groups, 0), "end"]
-        printed, status = outcome(base, (9_999, 65_535, groups))
-        if status == 0 and others == groups:
-            return printed.splitlines()
-        ids = discover(base, others)
-        ranks = ranks_of(base, ids)
-        rows = [self.row(base, id, ranks.get(id)) for id in sorted(ids)]
+        survey = Survey(base, Policy(groups=others))
+        if others == groups and not survey.faults():
+            return survey.certificate_text().splitlines()
+        rows = [self.row(base, id, survey.ranks.get(id)) for id in sorted(survey.scripts)]
         return [*self.head(base, groups, len(rows)), *rows, "end"]
 
-    def change_row(self, lines, index):
+    def change_row(self, lines: list[str], index: int) -> None:
         parts = lines[index].split(" ")
         if len(parts) != 3:
             return
@@ -299,23 +316,25 @@ class Inputs:
             parts[place] = self.pick(PARTS[place])
         lines[index] = " ".join(parts)
 
-    def change_head(self, lines):
+    def change_head(self, lines: list[str]) -> None:
         """Another line in the place of the one that begins alike."""
         line = self.pick(HEAD_LINES)
         place = next((place for place, old in enumerate(lines[:6]) if old[:3] == line[:3]), 0)
         lines[place] = line
 
-    def change_groups(self, lines):
+    def change_groups(self, lines: list[str]) -> None:
         """Other groups after the fourth line, or none; line 1 mostly fits them."""
-        groups = self.pick([*([group] for group in GROUPS), [7, 9], GROUPS, MANY, *[ODD_LISTS] * 7])
-        words = self.pick(groups) if groups is ODD_LISTS else map(str, groups)
-        line = self.pick(["groups ", "groups ", "groups ", "groups ", "groups", "groups  ", "Groups "]) + " ".join(words)
+        right = [*([group] for group in GROUPS), [7, 9], GROUPS, MANY]
+        words = self.pick(ODD_LISTS) if self.chance(0.5) else [*map(str, self.pick(right))]
+        line = self.pick(["groups ", "groups ", "groups ", "groups ", "groups", "groups  ", "Groups "]) + " ".join(
+            words
+        )
         is_kept = self.chance(0.8)
         lines[4 : 5 if lines[4][:6] == "groups" else 4] = [line] if is_kept else []
         if self.chance(0.8):
             lines[0] = "PBC2" if is_kept else "PBC1"
 
-    def change_lines(self, lines, names):
+    def change_lines(self, lines: list[str], names: list[str]) -> None:
         """One thing wrong with the lines of a certificate, as their number, order, words or rows."""
         index, share = self.random.randrange(len(lines)), self.random.random()
         first = 6 if lines[4][:6] == "groups" else 5
@@ -327,7 +346,7 @@ class Inputs:
             lines[first - 1] = f"rows {len(lines) - first - 1}"
         elif share < 0.55 and is_long:
             rows = [*lines[first:-1], f"{self.pick(names)} 1 s80"]
-            lines[first:-1] = sorted(rows, key=lambda line: id_in(line.split(" ")[0]) or (0, ""))
+            lines[first:-1] = sorted(rows, key=lambda line: id_in(line.split(" ")[0]) or FrameId(0, ""))
             lines[first - 1] = f"rows {len(lines) - first - 1}"
         elif share < 0.65:
             self.change_groups(lines)
@@ -342,11 +361,16 @@ class Inputs:
             other = self.random.randrange(len(lines))
             lines[index], lines[other] = lines[other], lines[index]
 
-    def certificate_text(self, base, groups):
+    def certificate_for(self, text: bytes, groups: Groups) -> bytes:
+        """A certificate of a base, often with a few things wrong; of one that is refused a certificate without rows."""
+        try:
+            base = base_of(text)
+        except Refused:
+            return NO_ROWS
         lines = self.certificate_lines(base, groups)
         for _ in range(self.pick([0, 1, 1, 1, 2])):
-            self.change_lines(lines, [*map(id_text, base.frames), "0z", "999999999z"])
-        text = "".join(f"{line}\n" for line in lines).encode("latin-1")
+            self.change_lines(lines, [*map(str, base.frames), "0z", "999999999z"])
+        certificate = "".join(f"{line}\n" for line in lines).encode("latin-1")
         if self.chance(0.03):
-            return text[: self.random.randrange(len(text) + 1)]
-        return text + b"X" * self.chance(0.03)
+            return certificate[: self.random.randrange(len(certificate) + 1)]
+        return certificate + b"X" * self.chance(0.03)

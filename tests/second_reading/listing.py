@@ -1,55 +1,58 @@
 """The list of a base's frames."""
 
 import json
+from collections.abc import Iterator
+from typing import Literal
 
-from .audit import discover, ranks_of
-from .base import BAD_GROUPS, Refused, base_of, caller_of, id_text
-from .session import unopened
+from .audit import Survey
+from .base import Answer, Asked, Frame, answers
+from .faults import base_of
+
+Form = Literal["line", "json"]
 
 
-def dash(value):
+def dash(value: object) -> object:
     return "-" if value in (None, "") else value
 
 
-def terms(frame):
+def terms(frame: Frame) -> str:
     return f"PRICE {frame.price} GROUP {dash(frame.group)}"
 
 
-def lines(base, groups):
+def lines(survey: Survey) -> Iterator[str]:
     """A line for each frame: those that are reached as they are discovered, and then the others by id."""
-    scripts = discover(base, groups)
-    ranks = ranks_of(base, scripts)
-    for id, script in scripts.items():
-        yield f"FRAME {id_text(id)} RANK {dash(ranks.get(id))} {terms(base.frames[id])} SCRIPT {dash(script)}\n"
-    for id in sorted(base.frames.keys() - scripts.keys()):
-        yield f"UNREACHED {id_text(id)} {terms(base.frames[id])}\n"
+    frames = survey.base.frames
+    for id, script in survey.scripts.items():
+        yield f"FRAME {id} RANK {dash(survey.ranks.get(id))} {terms(frames[id])} SCRIPT {dash(script)}\n"
+    for id in survey.unreached:
+        yield f"UNREACHED {id} {terms(frames[id])}\n"
 
 
-def line_of(**columns):
+def line_of(**columns: object) -> str:
     return json.dumps(columns, separators=(",", ":")) + "\n"
 
 
-def objects(base, groups):
+def objects(survey: Survey) -> Iterator[str]:
     """The same as objects of JSON."""
-    scripts = discover(base, groups)
-    ranks = ranks_of(base, scripts)
-    for id in [*scripts, *sorted(base.frames.keys() - scripts.keys())]:
-        frame = base.frames[id]
-        yield line_of(
-            frame=id_text(id), reached=id in scripts, rank=ranks.get(id), price=frame.price, group=frame.group, script=scripts.get(id)
-        )
+    scripts, ranks = survey.scripts, survey.ranks
+    for id in [*scripts, *survey.unreached]:
+        frame = survey.base.frames[id]
+        found = {
+            "reached": id in scripts,
+            "rank": ranks.get(id),
+            "price": frame.price,
+            "group": frame.group,
+            "script": scripts.get(id),
+        }
+        yield line_of(frame=str(id), **found)
 
 
-def listing(text, option=None, form="line"):
-    """Standard output, standard error and status of `list`, with the word of `--groups` if it is given, in a form."""
-    groups = caller_of(option)
-    if groups is None:
-        return BAD_GROUPS
-    try:
-        base = base_of(text)
-    except Refused as fault:
-        return "", f"base: {fault}\n", 3
-    if line := unopened(base, groups):
+@answers
+def listing(text: bytes, asked: Asked, form: Form = "line") -> Answer:
+    """What `list` answers in a form."""
+    policy = asked.policy
+    survey = Survey(base_of(text), policy)
+    if line := survey.unopened:
         word, id = line.split()
-        return line if form == "line" else line_of(frame=id, fault=word), "", 1
-    return "".join((lines if form == "line" else objects)(base, groups)), "", 0
+        return Answer(1, line if form == "line" else line_of(frame=id, fault=word))
+    return Answer(0, "".join((lines if form == "line" else objects)(survey)))

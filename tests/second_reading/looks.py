@@ -1,13 +1,15 @@
 """How the cells of a screen look, by the rules of CEPT T/CD 6-1, profile 3.
 
-A screen is 24 rows of 40 codes, 20 to 7F and 80 to 9F. Attributes count from their own cell on (at) or from the next one on
-(after). Colours are 0 to 7: black, red, green, yellow, blue, magenta, cyan, white.
+A screen is 24 rows of 40 codes, 20 to 7F and 80 to 9F. Attributes count from their own cell on (at) or from the next
+one on (after). Colours are 0 to 7: black, red, green, yellow, blue, magenta, cyan, white.
 """
 
-from dataclasses import dataclass, replace
+from typing import Literal, NamedTuple
 
 ROWS, COLUMNS = 24, 40
 SPACE = " "
+NOTHING: tuple[str | int, bool] = SPACE, False
+Height = Literal["single", "upper", "lower"]
 # ASCII, save these
 CHARACTERS = {
     0x23: "£", 0x5B: "←", 0x5C: "½", 0x5D: "→", 0x5E: "↑", 0x5F: "#",
@@ -16,15 +18,14 @@ CHARACTERS = {
 HALVES = {0: SPACE, 21: "▌", 42: "▐", 63: "█"}
 
 
-def block_character(blocks):
+def block_character(blocks: int) -> str:
     """The character of six blocks: U+1FB00 and on leave out those that are in HALVES."""
     if blocks in HALVES:
         return HALVES[blocks]
     return chr(0x1FB00 + blocks - sum(known < blocks for known in HALVES))
 
 
-@dataclass(frozen=True)
-class Look:
+class Look(NamedTuple):
     """A cell: a character, or a number of blocks from 1 to 63."""
 
     holds: str | int
@@ -33,47 +34,47 @@ class Look:
     flash: bool
     concealed: bool
     separated: bool
-    height: str  # single, upper or lower
+    height: Height
 
-    def shown(self):
+    def shown(self) -> "int | Look":
         """What one sees: of a concealed or blank cell the background alone."""
         return self.background if self.concealed or self.holds == SPACE else self
 
-    def character(self):
+    def character(self) -> str:
         """In a text: lower halves are spaces."""
         if self.shown() is not self or self.height == "lower":
             return SPACE
         return self.holds if isinstance(self.holds, str) else block_character(self.holds)
 
-    def beneath(self):
+    def beneath(self) -> "Look":
         if self.height == "upper":
-            return replace(self, height="lower")
-        return replace(self, holds=SPACE, separated=False, height="single")
+            return self._replace(height="lower")
+        return self._replace(holds=SPACE, separated=False, height="single")
 
 
 class Row:
     """The attributes at a place of a row."""
 
-    def __init__(self, has_double_heights):
+    def __init__(self, has_double_heights: bool) -> None:
         self.has_double_heights = has_double_heights
         self.foreground, self.background = 7, 0
         self.flash = self.concealed = self.mosaics = self.separated = self.hold = self.double = False
-        self.forget()
+        self.held: tuple[str | int, bool] = NOTHING
 
-    def forget(self):
-        self.held = SPACE, False
+    def forget(self) -> None:
+        self.held = NOTHING
 
-    def to_height(self, double):
+    def to_height(self, double: bool) -> None:
         if self.double != double:
             self.forget()
         self.double = double
 
-    def to_colour(self, colour, mosaics):
+    def to_colour(self, colour: int, mosaics: bool) -> None:
         if self.mosaics != mosaics:
             self.forget()
         self.foreground, self.mosaics, self.concealed = colour, mosaics, False
 
-    def at(self, code):
+    def at(self, code: int) -> None:
         match code:
             case 0x89:
                 self.flash = False
@@ -90,7 +91,7 @@ class Row:
             case 0x9E:
                 self.hold = True
 
-    def after(self, code):
+    def after(self, code: int) -> None:
         match code:
             case 0x88:
                 self.flash = True
@@ -101,31 +102,32 @@ class Row:
             case _ if 0x81 <= code <= 0x87 or 0x91 <= code <= 0x97:
                 self.to_colour(code & 7, code >= 0x90)
 
-    def read(self, code):
+    def read(self, code: int) -> tuple[str | int, bool]:
         """What a cell that is no attribute holds, and whether it is separated."""
         if not self.mosaics or 0x40 <= code <= 0x5F:
             return CHARACTERS.get(code, chr(code)), False
         blocks = (code & 0x1F) + (code & 0x40) // 2
-        self.held = (blocks, self.separated) if blocks else (SPACE, False)
+        self.held = (blocks, self.separated) if blocks else NOTHING
         return self.held
 
-    def cell(self, code):
+    def cell(self, code: int) -> Look:
         is_attribute = code >= 0x80
         if is_attribute:
             self.at(code)
-            holds, separated = self.held if self.mosaics and self.hold else (SPACE, False)
+            holds, separated = self.held if self.mosaics and self.hold else NOTHING
         else:
             holds, separated = self.read(code)
-        height = "upper" if self.double else "single"
+        height: Height = "upper" if self.double else "single"
         look = Look(holds, self.foreground, self.background, self.flash, self.concealed, separated, height)
         if is_attribute:
             self.after(code)
         return look
 
 
-def looks(cells, row_type=Row):
+def looks(cells: bytes, row_type: type[Row] = Row) -> list[list[Look]]:
     """The looks of a screen's 960 codes, row by row. Double height counts in rows 1 to 22."""
-    rows, is_covered = [], False
+    rows: list[list[Look]] = []
+    is_covered, above = False, list[Look]()
     for number in range(ROWS):
         codes = cells[COLUMNS * number : COLUMNS * (number + 1)]
         state = row_type(1 <= number <= 22)
@@ -136,6 +138,6 @@ def looks(cells, row_type=Row):
     return rows
 
 
-def text(cells):
+def text(cells: bytes) -> str:
     """The form text of a screen."""
     return "".join("".join(look.character() for look in row).rstrip(SPACE) + "\n" for row in looks(cells))

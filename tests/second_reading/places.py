@@ -1,200 +1,154 @@
-"""The expressions of a TOML text, each with the place at which it begins and with its spelling in TOML 1.0.
-
-An expression is a header, or a key with its value. The program reads TOML 1.1 and keeps a CR LF inside a string; Python
-reads TOML 1.0 and makes it an LF. So these are spelled anew: line ends, comments and a last comma in inline tables, the
-escapes `e` and `xHH`, and a CR LF inside a string. What isn't TOML is refused here or left to Python to refuse.
-"""
+"""Where a base's text has what a finding is about, as spans."""
 
 import re
-import tomllib
-from bisect import bisect_right
+from collections.abc import Iterator
 from dataclasses import dataclass
+from enum import Enum, auto
+from typing import NamedTuple
 
-MOST_NESTED = 80
-COMMENT = r"#[^\x00-\x08\n-\x1f\x7f]*"
-BLANK = re.compile(rf"(?:[ \t\n]|\r\n|{COMMENT})*")
-SPACE = re.compile(r"[ \t]*")
-BARE = re.compile(r"[A-Za-z0-9_-]+")
-SCALAR = re.compile(r"[^#\r\n]+")
-STRING = re.compile(r'"""(?:[^\\]|\\.)*?"{3,5}|' r"'''.*?'{3,5}|" r'"(?:[^"\\\n]|\\.)*"|' r"'[^'\n]*'", re.DOTALL)
-TOKEN = re.compile(rf"(?:[ \t\n]|\r\n)+|{COMMENT}|[\[\]{{}},=]|[^\s#\[\]{{}},=\"']+")
-# What may have to be spelled anew in a basic string; a backslash that ends a line is kept with the blanks after it.
-PIECE = re.compile(r"\\[ \t]*\r?\n[ \t\r\n]*|\\x[0-9A-Fa-f]{2}|\\.|\r\n", re.DOTALL)
-ILLEGAL = re.compile(r"[\x00-\x08\x0b\x0c\x0e-\x1f\x7f]|\r(?!\n)")
+from .toml import Expression, Span, Value
 
 
-class NotToml(ValueError):
-    """No expression can be read."""
+class What(Enum):
+    LINE_ONE = auto()
+    HEADER = auto()
+    KEY = auto()
+    LATER_KEY = auto()
+    VALUE = auto()
+    PAIR = auto()
+
+
+class Piece(NamedTuple):
+    """A thing of a base's text: of a frame, which is known by its index, or of the top.
+
+    The keys are in one another; of a later key they are those of which it is written last. The indexes are those of
+    elements, in one another, and of a character of a string.
+    """
+
+    what: What
+    frame: int | None = None
+    keys: tuple[str, ...] = ()
+    indexes: tuple[int, ...] = ()
 
 
 @dataclass
-class Expression:
-    """The offset of its first character, all its keys, whether it is a header in two brackets, and its text."""
+class Spot:
+    """A part of the key of an expression."""
 
-    at: int
-    path: tuple
-    is_element: bool
-    text: str
+    expression: Expression
+    part: int
 
+    @property
+    def key(self) -> Span:
+        """The key as it is written, with its quotation marks."""
+        return Span(*self.expression.parts[self.part][1:])
 
-def escaped(text):
-    """A basic string on one line."""
-    return '"' + "".join(c if " " <= c != "\x7f" and c not in '"\\' else f"\\U{ord(c):08X}" for c in text) + '"'
+    @property
+    def value(self) -> Span:
+        """The value; of a table that headers or dotted keys make the header or the key."""
+        expression = self.expression
+        if expression.value is None:
+            return expression.span
+        if self.part + 1 < len(expression.parts):
+            return Span(self.key.begin, expression.parts[-1].end)
+        return expression.value.span
 
+    @property
+    def pair(self) -> Span:
+        """The key and its value; of a table that a header makes the header."""
+        return self.expression.span if self.expression.value is None else Span(self.key.begin, self.expression.span.end)
 
-def old_piece(found):
-    piece = found[0]
-    if piece == "\\e":
-        return "\\u001B"
-    if re.match(r"\\x..", piece):
-        return f"\\u00{piece[2:]}"
-    return "\\r\n" if piece == "\r\n" else piece
-
-
-def old_string(token):
-    """The spelling of a string in TOML 1.0."""
-    quotes = token[:3] if token[:3] in ('"""', "'''") else token[0]
-    inside = token[len(quotes) : -len(quotes)]
-    if len(quotes) == 3:
-        inside = re.sub(r"\A\r?\n", "", inside)
-    if quotes[0] == '"':
-        inside = PIECE.sub(old_piece, inside)
-        return f'"""\n{inside}"""' if len(quotes) == 3 else f'"{inside}"'
-    if "\r\n" not in inside:
-        return token
-    if ILLEGAL.search(inside):
-        raise NotToml
-    return escaped(inside)
+    def inside(self, indexes: tuple[int, ...]) -> Span:
+        """An element of the array, or a character of the string, at this key."""
+        value = self.expression.value
+        assert value is not None
+        *elements, last = indexes
+        for index in elements:
+            value = value.elements[index]
+        return Span(*value.characters[last][1:]) if value.characters else value.elements[last].span
 
 
-def drop_last_comma(pieces):
-    """Takes away the comma after the last member of an inline table, if one is there."""
-    last = [at for at in range(max(0, len(pieces) - 4), len(pieces)) if not pieces[at].isspace()]
-    if len(last) > 1 and pieces[last[-1]] == "," and pieces[last[-2]] not in ("{", ","):
-        del pieces[last[-1]]
+class Entry(NamedTuple):
+    """An expression with the keys of the table that it is in. The parts that are skipped lead to that table."""
+
+    path: tuple[str, ...]
+    expression: Expression
+    skipped: int = 0
+
+    def below(self) -> Iterator["Entry"]:
+        """The entry, and those of the pairs of the inline tables in it."""
+        yield self
+        inside = self.path + self.expression.names[self.skipped :]
+        for pair in self.expression.value.pairs if self.expression.value else []:
+            yield from Entry(inside, pair).below()
 
 
-class Reader:
-    """Reads from an offset on; each reading moves it."""
+class Places:
+    """The spans of a base's text by its expressions."""
 
-    def __init__(self, text):
+    def __init__(self, text: str, found: list[Expression]) -> None:
         self.text = text
-        self.at = 0
-
-    def has(self, *words):
-        return self.text.startswith(words, self.at)
-
-    def take(self, pattern):
-        found = pattern.match(self.text, self.at)
-        if not found:
-            raise NotToml
-        self.at = found.end()
-        return found[0]
-
-    def word(self, word):
-        if not self.has(word):
-            raise NotToml
-        self.at += len(word)
-
-    def simple_key(self):
-        if not self.has('"', "'"):
-            return self.take(BARE)
-        if self.has('"""', "'''"):
-            raise NotToml
-        return tomllib.loads(f"key = {old_string(self.take(STRING))}")["key"]
-
-    def key(self):
-        """The parts of a key that may have dots, with the blanks around it."""
-        parts = []
-        while len(parts) < MOST_NESTED:
-            self.take(SPACE)
-            parts.append(self.simple_key())
-            self.take(SPACE)
-            if not self.has("."):
-                return tuple(parts)
-            self.word(".")
-        raise NotToml
-
-    def value(self):
-        """The spelling of a value in TOML 1.0."""
-        if self.has('"', "'"):
-            return old_string(self.take(STRING))
-        return self.nested() if self.has("[", "{") else self.take(SCALAR)
-
-    def nested(self):
-        """The spelling of an array or of an inline table in TOML 1.0."""
-        opened, pieces, blank = [], [], ""
-        while opened or not pieces:
-            token = old_string(self.take(STRING)) if self.has('"', "'") else self.take(TOKEN)
-            if token[0] == "#" or token.isspace():
-                blank += token
+        self.top: list[Entry] = []
+        self.frames: list[list[Entry]] = []
+        self.headers: list[Span] = []
+        self.is_inline = False
+        section: tuple[str, ...] = ()
+        frame = None
+        for expression in found:
+            if expression.value:
+                self.table(frame).extend(Entry(section, expression).below())
                 continue
-            if blank:
-                # A line may end beside the members of an inline table, and not inside one.
-                is_beside = opened[-1] == "{" and (pieces[-1] in ("{", ",") or token in (",", "}"))
-                pieces.append(" " if is_beside else blank)
-                blank = ""
-            if token in ("[", "{"):
-                opened.append(token)
-                if len(opened) > MOST_NESTED:
-                    raise NotToml
-            elif token in ("]", "}"):
-                opened.pop()
-                if token == "}":
-                    drop_last_comma(pieces)
-            pieces.append(token)
-        return "".join(pieces)
+            names, frame = expression.names, None
+            if names == ("frame",) and expression.is_element:
+                self.frames.append([])
+                self.headers.append(expression.span)
+            if names[:1] == ("frame",) and self.frames:
+                frame = len(self.frames) - 1
+            section = names if frame is None else names[1:]
+            self.table(frame).append(Entry((), expression, 0 if frame is None else 1))
+        self.inline_frames()
 
-    def expression(self, section):
-        """The next expression, and the section that it leaves."""
-        at = self.at
-        for opening, closing in ("[[", "]]"), ("[", "]"):
-            if self.has(opening):
-                self.word(opening)
-                path = self.key()
-                self.word(closing)
-                name = ".".join(map(escaped, path))
-                return Expression(at, path, opening == "[[", f"{opening}{name}{closing}"), path
-        path = self.key()
-        self.word("=")
-        self.take(SPACE)
-        return Expression(at, section + path, False, f"{'.'.join(map(escaped, path))} = {self.value()}"), section
+    def table(self, frame: int | None) -> list[Entry]:
+        return self.top if frame is None else self.frames[frame]
 
-    def expressions(self):
-        section = ()
-        if self.has("\ufeff"):
-            self.word("\ufeff")
-        self.take(BLANK)
-        while self.at < len(self.text):
-            expression, section = self.expression(section)
-            yield expression
-            self.take(SPACE)
-            if self.at < len(self.text) and not self.has("#", "\n", "\r\n"):
-                raise NotToml
-            self.take(BLANK)
+    def inline_frames(self) -> None:
+        """The frames of `frame = [ { .. } ]`."""
+        spot = self.spot(None, "frame")
+        if self.frames or spot is None or spot.expression.value is None:
+            return
+        self.is_inline = True
+        for element in spot.expression.value.elements:
+            self.headers.append(element.span)
+            self.frames.append([entry for pair in element.pairs for entry in Entry((), pair).below()])
 
+    def spot(self, frame: int | None, *keys: str) -> Spot | None:
+        """Where the last of these keys is first written, or None."""
+        for path, expression, skipped in self.table(frame):
+            names = path + expression.names[skipped:]
+            if names[: len(keys)] == keys and len(path) < len(keys):
+                return Spot(expression, len(keys) - 1 - len(path) + skipped)
+        return None
 
-def expressions(text):
-    """The expressions of a text; ValueError where one can't be read."""
-    return list(Reader(text).expressions())
+    def value(self, frame: int | None, *keys: str) -> Value | None:
+        """The value at the last of these keys, if it is written as one."""
+        spot = self.spot(frame, *keys)
+        return spot.expression.value if spot else None
 
+    def find(self, piece: Piece) -> Span:
+        """The span of a piece that the text has."""
+        if piece.what == What.LINE_ONE:
+            end = re.search(r"\r?\n|\Z", self.text)
+            return Span(0, end.start() if end else 0)
+        if piece.what == What.HEADER:
+            return self.headers[piece.frame or 0]
+        if piece.what == What.LATER_KEY:
+            return max(self.find(Piece(What.KEY, piece.frame, (key,))) for key in piece.keys)
+        spot = self.spot(piece.frame, *piece.keys)
+        assert spot is not None
+        if piece.indexes:
+            return spot.inside(piece.indexes)
+        return {What.KEY: spot.key, What.VALUE: spot.value, What.PAIR: spot.pair}[piece.what]
 
-def old_text(found):
-    """A text of TOML 1.0 that gives the same tree, if it is TOML."""
-    return "\n".join(expression.text for expression in found)
-
-
-def tree_of(found):
-    """The tree of the expressions; ValueError if they aren't TOML together."""
-    return tomllib.loads(old_text(found))
-
-
-class Lines:
-    """The lines of a text: each offset has a line and a column, both from 1."""
-
-    def __init__(self, text):
-        self.starts = [0, *(found.end() for found in re.finditer("\n", text))]
-
-    def place(self, at):
-        line = bisect_right(self.starts, at)
-        return line, at - self.starts[line - 1] + 1
+    def line_of_frame(self, frame: int) -> int:
+        """Where the id of a frame is written; of a frame in a list, its table."""
+        return self.headers[frame].begin if self.is_inline else self.find(Piece(What.KEY, frame, ("id",))).begin

@@ -1,8 +1,12 @@
-"""Saved screens as a base, from the words of the rules: what a file is, its id and price, and the frame that is made of it."""
+"""Saved screens as a base, from the words of the rules: what a file is, its id and price, and the frame that is made of
+it.
+"""
 
 import re
+from collections.abc import Iterable
+from typing import NamedTuple
 
-from .base import MOST_BYTES, MOST_LISTED
+from .base import MOST_BYTES, MOST_LISTED, Answer, FrameId
 from .looks import looks
 from .screens import cells_after_bytes
 
@@ -13,18 +17,28 @@ PRICE = re.compile(r"(0|[1-9][0-9]{0,3})p")
 ESCAPED = {ord('"'): '\\"', ord("\\"): "\\\\"}
 
 
+class Screen(NamedTuple):
+    """The frame of a file: its path, its price if it shows one, and its 960 codes."""
+
+    path: str
+    price: int | None
+    cells: bytes
+
+
 class NoScreen(Exception):
     """What is said of a file after its path and a colon."""
 
 
-def saved(byte):
-    """The code of a byte of a saved screen: the first 32 are attributes as teletext stores them, the last 96 characters."""
+def saved(byte: int) -> int:
+    """The code of a byte of a saved screen: the first 32 are attributes as teletext stores them, the last 96
+    characters.
+    """
     if byte < 0x20:
         return byte + 0x80
     return byte if byte < 0xA0 else byte & 0x7F
 
 
-def cells_of(data, stream):
+def cells_of(data: bytes, stream: bool) -> bytes:
     """The 960 codes of a file."""
     if len(data) > MOST_BYTES:
         raise NoScreen("more than 16,777,216 bytes")
@@ -40,12 +54,12 @@ def cells_of(data, stream):
     raise NoScreen(f"size {len(data)}; a screen has 960, 1000, 1024 or 880 bytes; --stream reads what a line carried")
 
 
-def id_of(word):
+def id_of(word: str) -> FrameId | None:
     found = ID.fullmatch(word)
-    return (int(found[1]), found[2]) if found else None
+    return FrameId(int(found[1]), found[2]) if found else None
 
 
-def head(cells):
+def head(cells: bytes) -> tuple[FrameId | None, int | None]:
     """The id and the price that row 0 shows. The price ends in its last column, alone or right after an id."""
     row = "".join(chr(code) if code < 0x80 else " " for code in cells[:ROW])
     price = None
@@ -58,21 +72,21 @@ def head(cells):
     return ids[-1] if ids else None, price
 
 
-def frame_of(path, data, stream):
-    """The id, price and cells of a file's frame."""
+def frame_of(path: str, data: bytes, stream: bool) -> tuple[FrameId, Screen]:
+    """The id of a file's frame, and its screen."""
     cells = cells_of(data, stream)
-    id, price = head(cells)
-    id = id_of(path.split("/")[-1].split(".")[0]) or id
+    shown, price = head(cells)
+    id = id_of(path.split("/")[-1].split(".")[0]) or shown
     if not id:
         raise NoScreen("no frame id in the name, and row 0 shows none")
-    return id, price, cells
+    return id, Screen(path, price, cells)
 
 
-def row_of(cells, number):
+def row_of(cells: bytes, number: int) -> bytes:
     return cells[ROW * number : ROW * (number + 1)].rstrip(b" ")
 
 
-def rows_of(cells):
+def rows_of(cells: bytes) -> list[bytes]:
     """Rows 1 to 22, up to the last that isn't blank."""
     rows = [row_of(cells, number) for number in range(1, 23)]
     while rows and not rows[-1]:
@@ -80,9 +94,9 @@ def rows_of(cells):
     return rows
 
 
-def keys_shown(cells):
+def keys_shown(cells: bytes) -> str:
     """The digits that begin a word: a run of characters that show, no mosaics."""
-    found = set()
+    found: set[str] = set()
     for row in looks(cells)[1:23]:
         before = None
         for look in row:
@@ -93,24 +107,28 @@ def keys_shown(cells):
     return "".join(f" {digit}" for digit in sorted(found))
 
 
-def comment(cells, number):
+def comment(cells: bytes, number: int) -> str:
     """What a row shows; attributes and 7F are spaces."""
     row = "".join(chr(code) if code < 0x7F else " " for code in cells[ROW * number : ROW * (number + 1)]).rstrip(" ")
     return f"# {row}\n" if row else ""
 
 
-def row_line(row):
-    return '    "' + "".join(ESCAPED.get(code) or (chr(code) if code < 0x7F else f"\\u{code:04X}") for code in row) + '",\n'
+def row_line(row: bytes) -> str:
+    return (
+        '    "'
+        + "".join(ESCAPED.get(code) or (chr(code) if code < 0x7F else f"\\u{code:04X}") for code in row)
+        + '",\n'
+    )
 
 
-def frame_text(id, price, cells, leads_on):
-    keys = keys_shown(cells)
+def frame_text(id: FrameId, screen: Screen, leads_on: bool) -> str:
+    cells, keys = screen.cells, keys_shown(screen.cells)
     return "".join(
         [
             "\n[[frame]]\n",
             comment(cells, 0),
-            f'id = "{id[0]}{id[1]}"\n',
-            "" if price is None else f"price = {price}\n",
+            f'id = "{id}"\n',
+            "" if screen.price is None else f"price = {screen.price}\n",
             "next = true\n" if leads_on else "",
             "routes = { }" + (f" # keys shown:{keys}" if keys else "") + "\n",
             "rows = [\n" + "".join(map(row_line, rows_of(cells))) + "]\n",
@@ -119,36 +137,37 @@ def frame_text(id, price, cells, leads_on):
     )
 
 
-def base_lines(frames, entry):
+def base_lines(frames: dict[FrameId, Screen], entry: int | None) -> Answer:
     """The text of a base: the file of the first frame that ends too late has its line instead."""
-    text = f"entry = {min(id[0] for id in frames) if entry is None else entry}\n"
+    text = f"entry = {min(id.page for id in frames) if entry is None else entry}\n"
     for id in sorted(frames):
-        path, price, cells = frames[id]
-        text += frame_text(id, price, cells, (id[0], chr(ord(id[1]) + 1)) in frames)
+        text += frame_text(id, frames[id], id.following in frames)
         if len(text) > MOST_BYTES:
-            return "", f"{path}: with this frame the base is longer than 16,777,216 bytes\n", 3
-    return text, "", 0
+            return Answer(3, "", f"{frames[id].path}: with this frame the base is longer than 16,777,216 bytes\n")
+    return Answer(0, text)
 
 
-def left_out(data):
+def left_out(data: bytes) -> int:
     """How many screens of a stream are cleared before the last: those of which a code above the space came."""
     pieces = bytes(byte % 0x80 for byte in data).split(b"\f")
     return sum(any(code > 0x20 for code in piece) for piece in pieces[:-1])
 
 
-def left_line(path, data):
+def left_line(path: str, data: bytes) -> str:
     count = left_out(data)
     return f"{path}: {count} earlier screen{' is' if count == 1 else 's are'} left out\n" if count else ""
 
 
-def imported(files, stream=False, entry=None):
+def imported(files: Iterable[tuple[str, bytes | str]], stream: bool = False, entry: int | None = None) -> Answer:
     """What `import` answers to files, each a path and its bytes or the reason why it can't be read."""
-    lines, notes, frames, twins = [], "", {}, {}
+    lines, notes = list[str](), ""
+    frames: dict[FrameId, Screen] = {}
+    twins: dict[FrameId, list[str]] = {}
     for path, data in files:
         try:
             if isinstance(data, str):
                 raise NoScreen(data)
-            id, price, cells = frame_of(path, data, stream)
+            id, screen = frame_of(path, data, stream)
         except NoScreen as why:
             lines.append(f"{path}: {why}\n")
             continue
@@ -157,11 +176,11 @@ def imported(files, stream=False, entry=None):
             continue
         notes += left_line(path, data) if stream else ""
         if id in frames:
-            twins.setdefault(id, [frames[id][0]]).append(path)
+            twins.setdefault(id, [frames[id].path]).append(path)
         else:
-            frames[id] = path, price, cells
+            frames[id] = screen
     for id in sorted(twins):
         first, *others = twins[id]
-        lines += [f"{other}: frame {id[0]}{id[1]} is in {first} too\n" for other in others]
-    text, fault, status = ("", "".join(lines), 3) if lines else base_lines(frames, entry)
-    return text, notes + fault, status
+        lines += [f"{other}: frame {id} is in {first} too\n" for other in others]
+    answer = Answer(3, "", "".join(lines)) if lines else base_lines(frames, entry)
+    return answer._replace(stderr=notes + answer.stderr)

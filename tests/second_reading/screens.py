@@ -1,16 +1,34 @@
-"""Which screen is shown, as its 960 codes: frames sent to a new terminal, and the rows that the centre paints over it."""
+"""Which screen is shown, as its 960 codes: frames sent to a new terminal, and the rows that the centre paints on it."""
 
-from .audit import discover
-from .base import BAD_GROUPS, MOST_PAGE, Refused, base_of, caller_of, id_in, id_text, is_numeral, keys_in
-from .screen import CELLS, CLEAR, step
-from .session import Session, unopened
+from collections.abc import Iterable
+
+from .audit import Survey
+from .base import (
+    MOST_PAGE,
+    Answer,
+    Asked,
+    Base,
+    Frame,
+    FrameId,
+    Groups,
+    Key,
+    Policy,
+    Refused,
+    answers,
+    id_in,
+    is_numeral,
+    keys_in,
+)
+from .faults import base_of
+from .screen import CELLS, State, lead, step
+from .session import Session
 
 BLANK = 0x20
 
 
-def cells_after_bytes(data):
+def cells_after_bytes(data: bytes) -> bytes:
     """The cells of a new terminal after some bytes."""
-    state, cells = (0, False), [BLANK] * CELLS
+    state, cells = State(0, False), [BLANK] * CELLS
     for byte in data:
         state, written = step(state, byte)
         for at, code in written:
@@ -18,33 +36,33 @@ def cells_after_bytes(data):
     return bytes(cells)
 
 
-def cells_after(frames):
+def cells_after(frames: Iterable[Frame]) -> bytes:
     """The cells of a new terminal after the lead and body of each frame."""
-    return cells_after_bytes(b"".join((b"" if frame.keep else CLEAR) + frame.body for frame in frames))
+    return cells_after_bytes(b"".join(lead(frame.keep) + frame.body for frame in frames))
 
 
-def codes(base, ids):
+def codes(base: Base, ids: list[FrameId]) -> bytes:
     """The codes with the centre's rows: the last frame's id ends at column 34, its price at column 39."""
     cells = cells_after([base.frames[id] for id in ids])
     price = f"{base.frames[ids[-1]].price}p"
-    top = f"{id_text(ids[-1]):>35}{price:>5}"
+    top = f"{str(ids[-1]):>35}{price:>5}"
     return top.encode() + cells[40:920] + bytes([BLANK] * 40)
 
 
-def sent(base, groups, words):
-    """The frames that are sent to a caller who presses keys, or the page for which the caller leaves."""
+def sent(base: Base, groups: Groups, words: list[Key]) -> list[FrameId]:
+    """The frames that are sent to a caller who presses keys; Refused with the page for which the caller leaves."""
     session = Session(base, groups)
-    ids = [session.at]
+    ids = [base.entry_id]
     for word in words:
         reply = session.key(word)
         if reply.startswith("GONE"):
-            return None, reply
-        if reply.startswith(("SHOWN", "AGAIN")):
+            raise Refused(reply, 1)
+        if reply.startswith(("SHOWN", "AGAIN")) and session.at:
             ids.append(session.at)
-    return ids, None
+    return ids
 
 
-def steps_between(a, b):
+def steps_between(a: str, b: str) -> int:
     """How many characters are put in, taken out, changed or swapped with the next to make one text the other."""
     rows = [list(range(len(b) + 1))]
     for i, one in enumerate(a, 1):
@@ -58,54 +76,48 @@ def steps_between(a, b):
     return rows[-1][-1]
 
 
-def no_frame(base, id):
+def no_frame(base: Base, id: FrameId) -> Refused:
     """The line about a frame that the base lacks, with the first of the nearest if one is near."""
-    text = id_text(id)
-    near = [(steps_between(text, id_text(other)), other) for other in sorted(base.frames)]
-    near = [(steps, other) for steps, other in near if steps < min(3, len(id_text(other)))]
-    meant = f"; did you mean {id_text(min(near)[1])}?" if near else ""
-    return f"error: the base has no frame {text}{meant}\n"
+    every = [(steps_between(str(id), str(other)), other) for other in sorted(base.frames)]
+    near = [(steps, other) for steps, other in every if steps < min(3, len(str(other)))]
+    meant = f"; did you mean {min(near)[1]}?" if near else ""
+    return Refused(f"error: the base has no frame {id}{meant}", 2)
 
 
-def named(word):
+def named(word: str) -> FrameId | None:
     """The frame that a word names: an id, or a page for its frame a."""
     if is_numeral(word) and int(word) <= MOST_PAGE:
-        return (int(word), "a")
+        return FrameId(int(word), "a")
     return id_in(word)
 
 
-def frames_of(base, groups, id, words):
-    """The frames whose screen is shown, or what is printed in its place on standard error, and the status."""
-    if words is not None:
-        if line := unopened(base, groups):
-            return None, line, 1
-        ids, gone = sent(base, groups, words)
-        return (ids, "", 0) if ids else (None, f"{gone}\n", 1)
-    entry = base.entry_frame()
+def frames_after_keys(base: Base, groups: Groups, words: list[Key]) -> list[FrameId]:
+    """The frames that are sent to a caller who presses keys; Refused if no session is opened or the caller leaves."""
+    if line := base.unopened(groups):
+        raise Refused(line.strip(), 1)
+    return sent(base, groups, words)
+
+
+def frames_of(base: Base, groups: Groups, id: FrameId | None) -> list[FrameId]:
+    """The frames that are sent before a frame is shown, without an id the entry frame; Refused if there is none."""
     if id is None:
-        return ([entry], "", 0) if entry in base.frames else (None, f"ENTRYMISSING {id_text(entry)}\n", 1)
+        if base.entry_id not in base.frames:
+            raise Refused(f"ENTRYMISSING {base.entry_id}", 1)
+        return [base.entry_id]
     if id not in base.frames:
-        return None, no_frame(base, id), 2
-    scripts = {} if unopened(base, groups) else discover(base, groups)
-    if id not in scripts:
-        return [id], "", 0
-    return sent(base, groups, keys_in(scripts[id])[0])[0], "", 0
+        raise no_frame(base, id)
+    script = Survey(base, Policy(groups=groups)).scripts.get(id)
+    return [id] if script is None else sent(base, groups, keys_in(script))
 
 
-def show(text, frame=None, keys=None, option=None):
-    """Standard output, standard error and status of `show --as cells`: of the frame that a word names, or after keys."""
-    groups = caller_of(option)
-    if groups is None:
-        return b"", *BAD_GROUPS[1:]
+@answers
+def show(text: bytes, frame: str | None, keys: str | None, asked: Asked) -> Answer:
+    """What `show --as cells` answers: of the frame that a word names, or after keys."""
+    groups = asked.groups
     id = None if frame is None else named(frame)
     if frame is not None and id is None:
-        return b"", f"error: '{frame}' is no frame and no page\n", 2
-    words, offset = (None, None) if keys is None else keys_in(keys)
-    if offset is not None:
-        return b"", f"keys: I3 BadKey {offset}\n", 2
-    try:
-        base = base_of(text)
-    except Refused as fault:
-        return b"", f"base: {fault}\n", 3
-    ids, line, status = frames_of(base, groups, id, words)
-    return (codes(base, ids) if ids else b""), line, status
+        raise Refused(f"error: '{frame}' is no frame and no page", 2)
+    words = None if keys is None else keys_in(keys)
+    base = base_of(text)
+    ids = frames_of(base, groups, id) if words is None else frames_after_keys(base, groups, words)
+    return Answer(0, codes(base, ids).decode("utf-8", "surrogateescape"))

@@ -1,50 +1,45 @@
 """A caller's session, by the table of keys."""
 
-from .base import BAD_GROUPS, Refused, base_of, caller_of, id_text, keys_in
+from .base import Answer, Asked, Base, Found, FrameId, Groups, Key, answers, keys_in
+from .faults import base_of
 
 
 class Session:
     """A caller inside: `base` is the edition of the moment, which may be exchanged between two keys."""
 
-    def __init__(self, base, groups):
+    def __init__(self, base: Base, groups: Groups) -> None:
         self.base = base
         self.groups = groups
-        self.at = base.entry_frame()
-        self.remembered = []
+        self.at: FrameId | None = base.entry_id
+        self.remembered: list[FrameId] = []
 
-    def shown(self, id):
-        return f"SHOWN {id_text(id)} {self.base.frames[id].price}"
+    def shown(self, id: FrameId) -> str:
+        return f"SHOWN {id} {self.base.frames[id].price}"
 
-    def refused(self, id):
-        """The reply where the frame isn't found, or None."""
-        sought = self.base.seek(id, self.groups)
-        return None if sought == "FOUND" else f"{sought} {id_text(id)}"
+    def refused(self, id: FrameId) -> str | None:
+        """The reply if the frame isn't found, or None."""
+        found = self.base.seek(id, self.groups)
+        return None if found == Found.FOUND else f"{found.value} {id}"
 
-    def forward(self, id):
+    def forward(self, at: FrameId, id: FrameId) -> str:
         if line := self.refused(id):
             return line
-        self.remembered = [self.at, *self.remembered][:3]
+        self.remembered = [at, *self.remembered][:3]
         self.at = id
         return self.shown(id)
 
-    def route(self, digit):
-        frame = self.base.frames.get(self.at)
-        page = frame and frame.routes.get(digit)
-        if page is None:
+    def offered(self, at: FrameId, key: Key) -> str:
+        """The reply to a digit or #."""
+        frame = self.base.frames.get(at)
+        to = frame.sought(key) if frame else None
+        if to is None:
             return "NOTOFFERED"
-        if page in self.base.outside and self.base.seek((page, "a"), self.groups) == "MISSING":
+        if key != "#" and to.page in self.base.outside and self.base.seek(to, self.groups) == Found.MISSING:
             self.at = None
-            return f"GONE {page}"
-        return self.forward((page, "a"))
+            return f"GONE {to.page}"
+        return self.forward(at, to)
 
-    def next(self):
-        page, letter = self.at
-        frame = self.base.frames.get(self.at)
-        if not (frame and frame.next):
-            return "NOTOFFERED"
-        return self.forward((page, chr(ord(letter) + 1)))
-
-    def previous(self):
+    def previous(self) -> str:
         if not self.remembered:
             return "NOTOFFERED"
         if line := self.refused(self.remembered[0]):
@@ -52,38 +47,22 @@ class Session:
         self.at = self.remembered.pop(0)
         return self.shown(self.at)
 
-    def key(self, word):
+    def key(self, word: Key) -> str:
         if self.at is None:
             return "NOTOFFERED"
         if word == "*00":
-            return f"AGAIN {id_text(self.at)}"
+            return f"AGAIN {self.at}"
         if word == "*09":
             return self.refused(self.at) or self.shown(self.at)
-        if word == "*#":
-            return self.previous()
-        return self.next() if word == "#" else self.route(word)
+        return self.previous() if word == "*#" else self.offered(self.at, word)
 
 
-def unopened(base, groups):
-    """The line of a session that can't be opened by a caller of these groups, or None."""
-    sought = base.seek(base.entry_frame(), groups)
-    return None if sought == "FOUND" else f"ENTRY{sought} {id_text(base.entry_frame())}\n"
-
-
-def walk(text, keys, option=None):
-    """Standard output, standard error and status of `walk`, with the word of `--groups` where it is given."""
-    groups = caller_of(option)
-    if groups is None:
-        return BAD_GROUPS
-    words, offset = keys_in(keys)
-    if words is None:
-        return "", f"keys: I3 BadKey {offset}\n", 2
-    try:
-        base = base_of(text)
-    except Refused as fault:
-        return "", f"base: {fault}\n", 3
-    if line := unopened(base, groups):
-        return line, "", 1
+@answers
+def walk(text: bytes, keys: str, asked: Asked) -> Answer:
+    """What `walk` answers."""
+    groups, words, base = asked.groups, keys_in(keys), base_of(text)
+    if line := base.unopened(groups):
+        return Answer(1, line)
     session = Session(base, groups)
-    replies = [session.shown(base.entry_frame()), *(session.key(word) for word in words)]
-    return "".join(f"{reply}\n" for reply in replies), "", 0
+    replies = [session.shown(base.entry_id), *(session.key(word) for word in words)]
+    return Answer(0, "".join(f"{reply}\n" for reply in replies))

@@ -3,7 +3,7 @@
 import datetime
 
 LONGEST = 40
-KINDS = [
+KINDS: list[tuple[type | tuple[type, ...], str]] = [
     (bool, "true or false"),
     (int, "a whole number"),
     (float, "a decimal number"),
@@ -14,15 +14,11 @@ KINDS = [
 ]
 
 
-def counted(number):
-    return f"{number:,}"
+def number_of(number: int, one: str, more: str) -> str:
+    return f"{number:,} {one if number == 1 else more}"
 
 
-def number_of(number, one, more):
-    return f"{counted(number)} {one if number == 1 else more}"
-
-
-def quoted(text):
+def quoted(text: str) -> str:
     """A text of the file between quotation marks."""
     shown = ""
     for c in text[:LONGEST]:
@@ -33,11 +29,11 @@ def quoted(text):
     return f'"{shown}..."' if len(text) > LONGEST else f'"{shown}"'
 
 
-def code(c):
+def code(c: str) -> str:
     """A character and its code point."""
     point = f"U+{ord(c):04X}"
     return f"{c} ({point})" if "!" <= c <= "~" or c >= "\xa1" else point
 
 
-def kind(value):
+def kind(value: object) -> str:
     return next(words for types, words in KINDS if isinstance(value, types))

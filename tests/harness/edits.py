@@ -1,0 +1,151 @@
+"""The functions of the crates, and their edits: what tests/contracts, tests/plain-edits and tests/must-fail-goals
+share.
+"""
+
+import itertools
+import re
+from collections.abc import Iterable, Mapping
+from dataclasses import dataclass, field
+from pathlib import Path
+
+from harness.places import TOP
+
+CRATES = TOP / "crates"
+
+OWNER = re.compile(r"(?:pub )?(?:impl(?:<.*?>)? (?:(?P<trait>\w+).* for )?|trait )(?P<type>\w+)")
+FUNCTION = re.compile(r'( *)(pub )?(?:pub\(crate\) )?(?:extern "C" )?fn (\w+)')
+CLAUSE = re.compile(r" *ensures (?:(\w+) )?\{ (.*)")
+WORD = re.compile(r'"(?:\\.|[^"\\])*"|//.*|\w+|\S')
+
+
+@dataclass
+class Function:
+    """A function: its module, the trait and type that it belongs to, its first and last line, and its clauses."""
+
+    module: str
+    trait: str
+    owner: str
+    name: str
+    is_pub: bool
+    begin: int
+    end: int = 0
+    clauses: list[tuple[str | None, str]] = field(default_factory=list)
+    doc: str = ""
+    is_empty: bool = False
+
+    @property
+    def title(self) -> str:
+        return f"{self.owner}::{self.name}" if self.owner else self.name
+
+    def is_law(self) -> bool:
+        """Whether it does nothing, but for calling other laws."""
+        return self.is_empty or self.module.endswith("laws")
+
+    @property
+    def path(self) -> str:
+        """The end of its name as rt has it: a type's module needn't be the one of its methods."""
+        if self.owner:
+            return f"{self.owner}+{self.trait}::{self.name}" if self.trait else self.title
+        return self.name if self.module == "lib" else f"{self.module}::{self.name}"
+
+
+def doc_above(lines: list[str]) -> str:
+    """The documentation that the lines end with, as one line."""
+    above = list(itertools.takewhile(lambda line: re.match(r" *(///|#)", line), reversed(lines)))
+    return " ".join(line.strip()[4:] for line in reversed(above) if line.strip().startswith("///"))
+
+
+def clause_text(lines: Iterable[str]) -> str:
+    """The text of the clause that begins in the first line, whose braces may end some lines below."""
+    text = ""
+    for line in lines:
+        text = f"{text} {line.strip()}".strip()
+        if text.count("{") <= text.count("}"):
+            break
+    return CLAUSE.sub(r"\2", text).removesuffix("}").rstrip()
+
+
+def functions(path: Path) -> list[Function]:
+    """The functions of a file, in their order."""
+    lines = path.read_text("utf-8").split("\n")
+    found: list[Function] = []
+    owner = "", ""
+    for number, line in enumerate(lines):
+        if named := OWNER.match(line):
+            owner = named["trait"] or "", named["type"]
+        elif line == "}":
+            owner = "", ""
+        if header := FUNCTION.match(line):
+            found.append(Function(path.stem, *(owner if header[1] else ("", "")), header[3], bool(header[2]), number))
+            found[-1].doc = doc_above(lines[:number])
+        elif found and (clause := CLAUSE.match(line)):
+            found[-1].clauses.append((clause[1], clause_text(lines[number:])))
+    for one, end in zip(found, [*(other.begin for other in found[1:]), len(lines)]):
+        one.end = end
+        one.is_empty = "{}" in map(str.strip, lines[one.begin : one.end])
+    return found
+
+
+@dataclass
+class Change:
+    """One text of a file of a crate, and the text in its place."""
+
+    path: Path
+    old: str
+    new: str
+
+    def places(self) -> list[Function | None]:
+        """Where the old text is: in a function, or None outside of all."""
+        source, found = self.path.read_text("utf-8"), functions(self.path)
+        lines = [source.count("\n", 0, place.start()) for place in re.finditer(re.escape(self.old), source)]
+        return [next((one for one in found if one.begin <= line < one.end), None) for line in lines]
+
+    def says_the_same(self) -> bool:
+        """Whether both texts have the same words, blanks and comments aside."""
+        old, new = ([word for word in WORD.findall(text) if not word.startswith("//")] for text in (self.old, self.new))
+        return old == new
+
+
+@dataclass
+class Edit:
+    """A wrong change of a crate, and its file."""
+
+    path: Path
+    changes: list[Change]
+
+    @property
+    def name(self) -> str:
+        return self.path.stem
+
+    def functions(self) -> list[Function | None]:
+        """The functions that it changes, None for what is outside of all."""
+        return [place for change in self.changes for place in change.places()]
+
+    def applied(self, texts: Mapping[Path, str]) -> dict[Path, str] | None:
+        """The texts of files with the change made too, or None if an old text isn't there once."""
+        made = dict(texts)
+        for change in self.changes:
+            text = made.get(change.path) or change.path.read_text("utf-8")
+            if text.count(change.old) != 1:
+                return None
+            made[change.path] = text.replace(change.old, change.new)
+        return made
+
+
+def edit_of(path: Path) -> Edit:
+    crate = file = path.parents[1]
+    old, changes = "", list[Change]()
+    for line in path.read_text("utf-8").split("\n"):
+        word, _, rest = line.partition(":")
+        if word == "file":
+            file = crate / rest.strip()
+        elif word == "old":
+            old = rest[1:]
+        elif word == "new":
+            changes.append(Change(file, old, rest[1:]))
+    return Edit(path, changes)
+
+
+def edits(crate: str, folder: str = "must-fail") -> list[Edit]:
+    """The edits of a folder of a crate."""
+    return [edit_of(path) for path in sorted((CRATES / crate / folder).glob("*.edit"))]

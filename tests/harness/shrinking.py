@@ -1,0 +1,145 @@
+"""Makes a case that fails smaller before it is printed: frames, rows, keys, routes and lines are left out as long as it
+fails.
+
+It is delta debugging: of a list of parts halves are left out, then quarters, down to single parts. The same case
+becomes the same small one. All cases of a script share a number of tries and a time; once they are over, a case is
+printed as it is.
+"""
+
+import re
+import time
+import tomllib
+from collections.abc import Callable, Sequence
+from dataclasses import dataclass
+from random import Random
+from typing import TypeVar
+
+from harness.writing import FirstPen
+
+Case = TypeVar("Case")
+Part = TypeVar("Part")
+Fails = Callable[[Case], bool]
+# Makes a case smaller that fails by a judgement.
+Cut = Callable[[Case, Fails[Case]], Case]
+
+SPACE = 0x20
+
+
+@dataclass
+class Budget:
+    """How many smaller cases are tried, and for how long."""
+
+    tries: int = 3_000
+    seconds: float = 30.0
+
+    def limited(self, fails: Fails[Case]) -> Fails[Case]:
+        """A judgement by which nothing fails once the budget is over, nor what can't be judged."""
+
+        def fails_in_time(case: Case) -> bool:
+            if self.tries <= 0 or self.seconds <= 0:
+                return False
+            self.tries -= 1
+            begun = time.monotonic()
+            try:
+                return fails(case)
+            except Exception:
+                return False
+            finally:
+                self.seconds -= time.monotonic() - begun
+
+        return fails_in_time
+
+
+OF_SCRIPT = Budget()
+
+
+def shrunk(case: Case, fails: Fails[Case], *cuts: Cut[Case], budget: Budget = OF_SCRIPT) -> Case:
+    """The smallest case that fails: each cut is made in turn, until none makes it smaller."""
+    limited = budget.limited(fails)
+    before = None
+    while case != before:
+        before = case
+        for cut in cuts:
+            case = cut(case, limited)
+    return case
+
+
+def fewest(parts: Sequence[Part], fails: Fails[list[Part]]) -> list[Part]:
+    """As few of the parts, in their order, as still fail."""
+    kept = list(parts)
+    size = len(kept)
+    while size:
+        at = 0
+        while at < len(kept):
+            rest = kept[:at] + kept[at + size :]
+            if fails(rest):
+                kept = rest
+            else:
+                at += size
+        size //= 2
+    return kept
+
+
+def fewest_characters(text: str, fails: Fails[str]) -> str:
+    return "".join(fewest(text, lambda kept: fails("".join(kept))))
+
+
+def smallest_text(data: bytes, fails: Fails[bytes]) -> bytes:
+    """As few frames, then lines, then words and characters, as still fail."""
+    for pattern in rb"\[\[frame\]\].*?(?=\[\[frame\]\]|\Z)|.+?(?=\[\[frame\]\]|\Z)", rb".*?\n|.+", rb"\w+|.":
+        data = b"".join(fewest(re.findall(pattern, data, re.DOTALL), lambda kept: fails(b"".join(kept))))
+    return data
+
+
+def smallest_value(value: object, fails: Fails[object]) -> object:
+    """As few members, elements and characters of a tree as still fail."""
+    if isinstance(value, str):
+        return fewest_characters(value, fails)
+    if isinstance(value, list):
+        parts = fewest(value, fails)
+        for at in range(len(parts)):
+            parts[at] = smallest_value(parts[at], lambda one: fails([*parts[:at], one, *parts[at + 1 :]]))
+        return parts
+    if isinstance(value, dict):
+        members = dict(fewest(list(value.items()), lambda kept: fails(dict(kept))))
+        for key in members:
+            members[key] = smallest_value(members[key], lambda one: fails({**members, key: one}))
+        return members
+    return value
+
+
+def base_text(tree: object) -> bytes:
+    """The plain text of a base's tree."""
+    assert isinstance(tree, dict)
+    frames = tree.get("frame")
+    tables = frames if isinstance(frames, list) and all(isinstance(frame, dict) for frame in frames) else []
+    top = {key: value for key, value in tree.items() if not (tables and key == "frame")}
+    pen = FirstPen(Random(0))
+    texts = ("".join(f"{pen.pair((key,), table[key], ())}\n" for key in table) for table in [top, *tables])
+    return "[[frame]]\n".join(texts).encode()
+
+
+def smallest_base(data: bytes, fails: Fails[bytes]) -> bytes:
+    """The smallest text of a base: by its tree if its plain text fails too, or as a text."""
+    try:
+        tree: object = tomllib.loads(data.decode())
+        is_plain = fails(base_text(tree))
+    except ValueError:
+        is_plain = False
+    if is_plain:
+        return base_text(smallest_value(tree, lambda tree: fails(base_text(tree))))
+    return smallest_text(data, fails)
+
+
+def smallest_cells(data: bytes, fails: Fails[bytes]) -> bytes:
+    """A screen with as few rows, then cells, as still fail; the others are blank."""
+    for width in 40, 1:
+        starts = range(0, len(data), width)
+
+        def kept(some: list[int]) -> bytes:
+            return b"".join(
+                data[at : at + width] if at in some else bytes([SPACE] * len(data[at : at + width])) for at in starts
+            )
+
+        data = kept(fewest(starts, lambda some: fails(kept(some))))
+    return data
