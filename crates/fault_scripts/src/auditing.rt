@@ -103,7 +103,11 @@ fn outcome_found(alloc: Global, survey: &Survey, policy: &Policy) -> Result<Outc
 }
 
 /// The outcome for a base whose frames a survey found for the policy's groups, as [`audit`] gives it.
-pub fn audit_surveyed(alloc: Global, survey: &Survey, policy: &Policy) -> Result<Outcome, AllocError>
+pub fn audit_surveyed(
+    alloc: Global,
+    survey: &Survey,
+    policy: &Policy,
+) -> Result<Outcome, AllocError>
     requires groups { survey.now.groups ≡ policy.now.groups }
     requires finding { IsFinding policy.now.groups survey.now.base survey.now.found }
     ensures is { IfOk result (IsOutcome survey.now.base policy.now) }
