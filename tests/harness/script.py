@@ -52,6 +52,13 @@ def chosen(cases: Mapping[str, Case], word: str) -> dict[str, Case]:
     return {name: case for name, case in cases.items() if word in (name, *name.split(": "))}
 
 
+def some_of(cases: Mapping[str, Case], words: list[str], parser: argparse.ArgumentParser) -> Mapping[str, Case]:
+    """The cases that words choose, each of which has to choose one; without words all."""
+    if unknown := [word for word in words if not chosen(cases, word)]:
+        parser.error(f"no case is called {' or '.join(unknown)}")
+    return {name: case for word in words for name, case in chosen(cases, word).items()} or cases
+
+
 def parser_of(script: Mapping[str, Any], cases: Iterable[str], count: int, has_files: bool) -> argparse.ArgumentParser:
     parser = argparse.ArgumentParser(
         description=script["__doc__"],
@@ -106,9 +113,7 @@ def main(
     if words.about:
         print(json.dumps(asdict(about)))
         sys.exit(0)
-    some = {name: case for word in words.names for name, case in chosen(every, word).items()} or every
-    if unknown := [word for word in words.names if not chosen(every, word)]:
-        parser.error(f"no case is called {' or '.join(unknown)}")
+    some = some_of(every, words.names, parser)
     if isinstance(sys.stdout, io.TextIOWrapper):
         sys.stdout.reconfigure(errors="backslashreplace")
     test = Test(options=words)
