@@ -86,6 +86,12 @@ def compare(files: Files, test: Test, *_: object) -> None:
         test.check(is_there, f"{path.relative_to(TOP)} isn't what {os.path.relpath(sys.argv[0], TOP)} --write writes")
 
 
+def print_any() -> None:
+    """Has print take any text, also of bytes that are no UTF-8."""
+    if isinstance(sys.stdout, io.TextIOWrapper):
+        sys.stdout.reconfigure(errors="backslashreplace")
+
+
 def main(
     script: Mapping[str, Any],
     *,
@@ -104,6 +110,7 @@ def main(
     of its own, `files` are compared, and with --write written. A whole case has one result. So many run at once; 0 is
     one a processor.
     """
+    print_any()
     every = dict(cases if cases is not None else cases_of(script))
     if files:
         every["files"] = partial(compare, files)
@@ -114,8 +121,6 @@ def main(
         print(json.dumps(asdict(about)))
         sys.exit(0)
     some = some_of(every, words.names, parser)
-    if isinstance(sys.stdout, io.TextIOWrapper):
-        sys.stdout.reconfigure(errors="backslashreplace")
     test = Test(options=words)
 
     def judge(inner: Test, name: str) -> None:
