@@ -28,7 +28,7 @@ def parts() -> list[str]:
 
 
 def scripts() -> dict[str, Path]:
-    """The executable files of tests/ and tools/ by their names: that of tools/ if both have it."""
+    """The executable files of tests/ and tools/ by their names."""
     files = [path for folder in ("tests", "tools") for path in sorted((TOP / folder).iterdir()) if path.is_file()]
     return {path.name: path for path in files if os.access(path, os.X_OK)}
 
