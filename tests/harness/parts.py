@@ -28,9 +28,9 @@ def parts() -> list[str]:
 
 
 def scripts() -> dict[str, Path]:
-    """The executable files of tools/ and tests/ by their names; that of a link is what it leads to."""
-    files = [path for folder in ("tools", "tests") for path in sorted((TOP / folder).iterdir()) if path.is_file()]
-    return {path.name: path.resolve() for path in files if os.access(path, os.X_OK)}
+    """The executable files of tests/ and tools/ by their names."""
+    files = [path for folder in ("tests", "tools") for path in sorted((TOP / folder).iterdir()) if path.is_file()]
+    return {path.name: path for path in files if os.access(path, os.X_OK)}
 
 
 def faults() -> Iterator[str | None]:

@@ -1,4 +1,4 @@
--- The fixed parts of the file: written by tests/base-page from page/.
+-- The fixed parts of the file: written by tools/base-page from page/.
 use Rattle.std.specs.Prelude.{ℕ, List, codes}
 
 -- all up to the header, with the style

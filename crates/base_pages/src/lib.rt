@@ -6,7 +6,7 @@
 //!
 //! The file is a fixed head with a policy that forbids all loading, and the style; a header with a name, the verdict of the audit
 //! and the policy; the fixed views and keypad; a section for each frame in the order of ids, with its picture, its text, its
-//! price, its ways and its faults; and the fixed script. `page/` has the fixed parts, of which `tests/base-page` makes `shell.rt`.
+//! price, its ways and its faults; and the fixed script. `page/` has the fixed parts, of which `tools/base-page` makes `shell.rt`.
 //! What a base contains gets into the file as ids, numbers and characters for markup alone.
 //!
 //! - [`write_pages`], [`PagesStatus`], [`PagesFault`]: the file of a view of a base.

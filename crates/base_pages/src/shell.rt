@@ -1,4 +1,4 @@
-//! The fixed parts of the file: written by tests/base-page from page/.
+//! The fixed parts of the file: written by tools/base-page from page/.
 
 ghost use Rattle.std.specs.Prelude.{◌≡◌};
 ghost use Rattle.base_pages.specs.Shell as spec;

@@ -1,4 +1,4 @@
--- The words that have a text: written by tests/explain-words from docs/CODES.md.
+-- The words that have a text: written by tools/explain-words from docs/CODES.md.
 use Rattle.std.specs.Prelude.{ℕ, List, [], ◌∷◌, codes}
 
 -- each word, in the order of the page

@@ -13,7 +13,7 @@
 //! - [`overview`]: all words, a line for each text.
 //! - [`nearest`]: the word of the list that was probably meant.
 //!
-//! `tests/explain-words` writes the words and their texts, and compares them with the page.
+//! `tools/explain-words` writes the words and their texts, and compares them with the page.
 #![tactic(auto)]
 
 mod cursor;

@@ -1,4 +1,4 @@
-//! The words and the paragraphs of their texts: written by tests/explain-words from docs/CODES.md.
+//! The words and the paragraphs of their texts: written by tools/explain-words from docs/CODES.md.
 
 /// Each word; its place is that of its paragraphs.
 pub static WORDS: [&str; 133] = [

@@ -6,7 +6,7 @@
 //! bases of full size, else a sixteenth. `run_bench find` measures the finder alone, and `run_bench paint` painting. Without
 //! any word all are measured, with a sixteenth, to show in seconds that each result is right. The figures go to standard
 //! error: the least processor times of some runs in turns. `ok` is printed if each result was right. `run_bench show FILE`
-//! only makes the screens of all frames of a base as texts, for `tests/speeds`, which measures the program's commands.
+//! only makes the screens of all frames of a base as texts, for `tools/speeds`, which measures the program's commands.
 #![tactic(auto)]
 
 mod auditing;
