@@ -23,7 +23,7 @@ others.
 - calls.py, call_cases.py: the program of single calls. refusing.py, peaks.py: runs with refused memory, and their
 peaks.
 - edits.py, promises.py, tried.py: the functions of the crates, what their promises reach, and their edits.
-- written_bases.py, written_spans.py: random texts whose faults and spans are known.
+- writing.py, written_bases.py, breaking.py: random texts whose faults and spans are known, and broken ones.
 """
 
 from harness.places import CALLS, CC, EMULATOR, IS_ARM64, PROGRAM, TOP

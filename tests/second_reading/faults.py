@@ -322,3 +322,10 @@ def base_of(data: bytes) -> Base:
     for fault in text_faults(tree):
         raise Refused(fault.refusal)
     return base_in(tree)
+
+
+def right_base(data: bytes) -> Base | None:
+    try:
+        return base_of(data)
+    except Refused:
+        return None
