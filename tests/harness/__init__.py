@@ -23,28 +23,10 @@ others.
 - calls.py, call_cases.py: the program of single calls. refusing.py, peaks.py: runs with refused memory, and their
 peaks.
 - edits.py, promises.py, tried.py: the functions of the crates, what their promises reach, and their edits.
-- written_bases.py, written_spans.py: random texts whose faults and spans are known.
+- writing.py, written_bases.py, breaking.py: random texts whose faults and spans are known, and broken ones.
 """
 
 from harness.places import CALLS, CC, EMULATOR, IS_ARM64, PROGRAM, TOP
 from harness.running import Done, compiled, program, run, scratch
 from harness.results import Counts, Test
 from harness.script import About, main
-
-__all__ = [
-    "CALLS",
-    "CC",
-    "EMULATOR",
-    "IS_ARM64",
-    "PROGRAM",
-    "TOP",
-    "About",
-    "Counts",
-    "Done",
-    "Test",
-    "compiled",
-    "main",
-    "program",
-    "run",
-    "scratch",
-]

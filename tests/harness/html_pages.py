@@ -1,8 +1,5 @@
 """The HTML files that the program writes, taken apart by html5lib."""
 
-import os
-import sys
-from importlib.util import find_spec
 from typing import Any, NamedTuple
 
 from second_reading.html import Section, Way
@@ -10,7 +7,6 @@ from second_reading.html import Section, Way
 # An element of html5lib's tree, which has no types.
 Element = Any
 FORBIDDEN = {"b", "i", "form", "link", "img", "base", "object", "embed", "iframe"}
-DEBIAN = "/usr/bin/python3"
 
 
 class Page(NamedTuple):
@@ -22,15 +18,6 @@ class Page(NamedTuple):
     faults: list[str]
     sections: list[Section]
     wrong: list[str]
-
-
-def has(module: str) -> bool:
-    """Whether Python has a module of a Debian package; Debian's Python takes over if only it has it."""
-    if find_spec(module):
-        return True
-    if os.path.realpath(sys.executable) != os.path.realpath(DEBIAN) and os.access(DEBIAN, os.X_OK):
-        os.execv(DEBIAN, [DEBIAN, *sys.argv])
-    return False
 
 
 def plain(element: Element) -> str:
@@ -83,7 +70,7 @@ def section(element: Element) -> Section:
 
 
 def page_of(text: str) -> Page:
-    import html5lib  # type: ignore[import]
+    import html5lib
 
     parser = html5lib.HTMLParser()
     root = parser.parse(text)

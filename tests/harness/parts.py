@@ -9,16 +9,8 @@ from pathlib import Path
 from harness.places import TOP
 
 # Scripts that aren't parts of ./test: what measures, and what './test CRATE', a part or no gate runs.
-NO_PARTS = {
-    "call-times",
-    "line-counts",
-    "must-fail-goals",
-    "own-system",
-    "plain-edits",
-    "speeds",
-    "time-gate",
-    "without-toolchain",
-}
+NO_PARTS = {"call-times", "line-counts", "must-fail-goals", "own-system", "plain-edits", "speeds", "time-gate"}
+NO_PARTS |= {"without-toolchain"}
 
 
 def parts() -> list[str]:
@@ -28,9 +20,9 @@ def parts() -> list[str]:
 
 
 def scripts() -> dict[str, Path]:
-    """The executable files of tools/ and tests/ by their names; that of a link is what it leads to."""
-    files = [path for folder in ("tools", "tests") for path in sorted((TOP / folder).iterdir()) if path.is_file()]
-    return {path.name: path.resolve() for path in files if os.access(path, os.X_OK)}
+    """The executable files of tests/ and tools/ by their names."""
+    files = [path for folder in ("tests", "tools") for path in sorted((TOP / folder).iterdir()) if path.is_file()]
+    return {path.name: path for path in files if os.access(path, os.X_OK)}
 
 
 def faults() -> Iterator[str | None]:

@@ -124,8 +124,8 @@ class Test:
     # Cases in cases
 
     def case(self, name: str, judge: Callable[[Test], None], whole: bool = False) -> Counts:
-        """Judges a case with results of its own and adds them; of a whole one the one result that there are some and all
-        are right.
+        """Judges a case with results of its own and adds them; of a whole one the one result that there are some and
+        all are right.
         """
         inner = Test(name, self.options, self._show)
         with inner.of_case():

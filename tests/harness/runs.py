@@ -7,9 +7,10 @@ from dataclasses import dataclass, replace
 from pathlib import Path
 from typing import Literal
 
-from harness.results import Test
+from harness import shrinking
+from harness.results import Test, difference
 from harness.running import Done, program
-from harness.shrinking import OF_SCRIPT, Budget, Fails, fewest_characters, shrunk, smallest_base, smallest_text
+from harness.shrinking import Cut, Fails, fewest_characters, of_field, smallest_base, smallest_text
 from second_reading.audit import audit
 from second_reading.base import Answer, Asked, with_advice
 from second_reading.certificate import check
@@ -30,7 +31,8 @@ class Run:
     base: bytes
     asked: Asked
     certificate: bytes = b""
-    new: Texts = Texts(b"", b"")
+    new_base: bytes = b""
+    new_certificate: bytes = b""
     keys: str | None = None
     frame: str | None = None
     form: Form = "line"
@@ -48,12 +50,15 @@ class Run:
 
     def words(self, folder: Path) -> list[str]:
         """The words of the program, whose files are in a folder."""
-        files = {"base.toml": self.base, "base.cert": self.certificate}
-        files |= {"new.toml": self.new.base, "new.cert": self.new.certificate}
-        names = list(files)[: {"check": 2, "change": 4}.get(self.command, 1)]
-        for name in names:
-            (folder / name).write_bytes(files[name])
-        return [self.command, *(str(folder / name) for name in names), *self.options]
+        count = {"check": 2, "change": 4}.get(self.command, 1)
+        files = [folder / name for name in ("base.toml", "base.cert", "new.toml", "new.cert")[:count]]
+        for file, text in zip(files, self.texts):
+            file.write_bytes(text)
+        return [self.command, *map(str, files), *self.options]
+
+    @property
+    def texts(self) -> list[bytes]:
+        return [self.base, self.certificate, self.new_base, self.new_certificate]
 
     @property
     def options(self) -> list[str]:
@@ -75,12 +80,8 @@ class Run:
         """What the program answers with its files in a folder."""
         return program(*self.words(folder))
 
-    def smallest(self, fails: Fails["Run"], budget: Budget = OF_SCRIPT) -> "Run":
-        """The smallest run that fails."""
-        return shrunk(self, fails, cut_asked, cut_bases, cut_certificates, cut_keys, budget=budget)
-
     def __str__(self) -> str:
-        texts = [text.decode("utf-8", "backslashreplace") for text in (self.base, self.certificate, *self.new)]
+        texts = [text.decode("utf-8", "backslashreplace") for text in self.texts]
         return "\n".join([f"{self.command} {self.options}", *filter(None, texts)])
 
 
@@ -90,7 +91,7 @@ ANSWERS: dict[Command, Callable[[Run], Answer]] = {
     "audit": lambda run: audit(run.base, run.asked),
     "check": lambda run: check(run.base, run.certificate, run.asked),
     "map": lambda run: draw(run.base, run.asked, run.view),
-    "change": lambda run: change(Texts(run.base, run.certificate), run.new, run.asked),
+    "change": lambda run: change(Texts(*run.texts[:2]), Texts(*run.texts[2:]), run.asked),
     "show": lambda run: show(run.base, run.frame, run.keys, run.asked),
 }
 
@@ -103,26 +104,14 @@ def cut_asked(run: Run, fails: Fails[Run]) -> Run:
     return next((less for less in every if less != run and fails(less)), run)
 
 
-def cut_bases(run: Run, fails: Fails[Run]) -> Run:
-    def with_new(base: bytes) -> Run:
-        return replace(run, new=run.new._replace(base=base))
-
-    run = replace(run, base=smallest_base(run.base, lambda base: fails(replace(run, base=base))))
-    return with_new(smallest_base(run.new.base, lambda base: fails(with_new(base)))) if run.new.base else run
-
-
-def cut_certificates(run: Run, fails: Fails[Run]) -> Run:
-    def with_new(text: bytes) -> Run:
-        return replace(run, new=run.new._replace(certificate=text))
-
-    run = replace(run, certificate=smallest_text(run.certificate, lambda text: fails(replace(run, certificate=text))))
-    return with_new(smallest_text(run.new.certificate, lambda text: fails(with_new(text))))
-
-
-def cut_keys(run: Run, fails: Fails[Run]) -> Run:
-    if not run.keys:
-        return run
-    return replace(run, keys=fewest_characters(run.keys, lambda keys: fails(replace(run, keys=keys))))
+CUTS: list[Cut[Run]] = [
+    cut_asked,
+    of_field("base", smallest_base),
+    of_field("new_base", smallest_base),
+    of_field("certificate", smallest_text),
+    of_field("new_certificate", smallest_text),
+    of_field("keys", fewest_characters),
+]
 
 
 def with_seconds(usual: int) -> Callable[[ArgumentParser], object]:
@@ -141,14 +130,12 @@ def numbers(test: Test) -> Iterator[int]:
         yield number
 
 
+def fault(run: Run, folder: Path) -> str | None:
+    """What the program answers in a folder other than it has to, or None."""
+    found, wanted = run.found(folder), run.wanted(folder)
+    return None if found == wanted else difference(found, wanted)
+
+
 def judge(test: Test, run: Run, name: str) -> None:
-    """Counts whether the program answers what it has to. A run that it doesn't is made smaller before it is printed."""
-
-    def differs(run: Run) -> bool:
-        return run.found(test.folder) != run.wanted(test.folder)
-
-    if not differs(run):
-        test.check(True)
-        return
-    small = run.smallest(differs)
-    test.equal(small.found(test.folder), small.wanted(test.folder), f"{name}, made smaller: {small}")
+    """Counts whether the program answers what it has to."""
+    shrinking.judge(test, name, run, lambda run: fault(run, test.folder), *CUTS)

@@ -52,6 +52,13 @@ def chosen(cases: Mapping[str, Case], word: str) -> dict[str, Case]:
     return {name: case for name, case in cases.items() if word in (name, *name.split(": "))}
 
 
+def some_of(cases: Mapping[str, Case], words: list[str], parser: argparse.ArgumentParser) -> Mapping[str, Case]:
+    """The cases that words choose, each of which has to choose one; without words all."""
+    if unknown := [word for word in words if not chosen(cases, word)]:
+        parser.error(f"no case is called {' or '.join(unknown)}")
+    return {name: case for word in words for name, case in chosen(cases, word).items()} or cases
+
+
 def parser_of(script: Mapping[str, Any], cases: Iterable[str], count: int, has_files: bool) -> argparse.ArgumentParser:
     parser = argparse.ArgumentParser(
         description=script["__doc__"],
@@ -79,6 +86,12 @@ def compare(files: Files, test: Test, *_: object) -> None:
         test.check(is_there, f"{path.relative_to(TOP)} isn't what {os.path.relpath(sys.argv[0], TOP)} --write writes")
 
 
+def print_any() -> None:
+    """Has print take any text, also of bytes that are no UTF-8."""
+    if isinstance(sys.stdout, io.TextIOWrapper):
+        sys.stdout.reconfigure(errors="backslashreplace")
+
+
 def main(
     script: Mapping[str, Any],
     *,
@@ -97,6 +110,7 @@ def main(
     of its own, `files` are compared, and with --write written. A whole case has one result. So many run at once; 0 is
     one a processor.
     """
+    print_any()
     every = dict(cases if cases is not None else cases_of(script))
     if files:
         every["files"] = partial(compare, files)
@@ -106,11 +120,7 @@ def main(
     if words.about:
         print(json.dumps(asdict(about)))
         sys.exit(0)
-    some = {name: case for word in words.names for name, case in chosen(every, word).items()} or every
-    if unknown := [word for word in words.names if not chosen(every, word)]:
-        parser.error(f"no case is called {' or '.join(unknown)}")
-    if isinstance(sys.stdout, io.TextIOWrapper):
-        sys.stdout.reconfigure(errors="backslashreplace")
+    some = some_of(every, words.names, parser)
     test = Test(options=words)
 
     def judge(inner: Test, name: str) -> None:

@@ -10,10 +10,11 @@ import re
 import time
 import tomllib
 from collections.abc import Callable, Sequence
-from dataclasses import dataclass
+from dataclasses import dataclass, replace
 from random import Random
 from typing import TypeVar
 
+from harness.results import Test
 from harness.writing import FirstPen
 
 Case = TypeVar("Case")
@@ -62,6 +63,29 @@ def shrunk(case: Case, fails: Fails[Case], *cuts: Cut[Case], budget: Budget = OF
         for cut in cuts:
             case = cut(case, limited)
     return case
+
+
+def of_field(name: str, smallest: Cut[Part]) -> Cut[Case]:
+    """Makes a field of a dataclass smaller, unless it is empty."""
+
+    def cut(case: Case, fails: Fails[Case]) -> Case:
+        def with_part(part: Part) -> Case:
+            return replace(case, **{name: part})
+
+        part = getattr(case, name)
+        return with_part(smallest(part, lambda part: fails(with_part(part)))) if part else case
+
+    return cut
+
+
+def judge(test: Test, name: str, case: Case, fault: Callable[[Case], object], *cuts: Cut[Case]) -> None:
+    """Counts whether nothing is at fault in a case; one that fails is made smaller before it is printed."""
+    wrong = fault(case)
+    if wrong:
+        case = shrunk(case, lambda case: bool(fault(case)), *cuts)
+        wrong = fault(case) or wrong
+    shown = case.decode("utf-8", "backslashreplace") if isinstance(case, bytes) else case
+    test.check(not wrong, wrong and f"{name}: {wrong}\nmade smaller: {shown}")
 
 
 def fewest(parts: Sequence[Part], fails: Fails[list[Part]]) -> list[Part]:

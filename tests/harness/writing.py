@@ -59,7 +59,8 @@ class Pen(Chance):
 
     def character(self, name: Name, at: int, spelled: str, text: str) -> str:
         """A character of a text, marked by its index, if the text isn't long."""
-        return self.mark(spelled, name, at, "character") if len(text) < LONG else spelled
+        is_marked = self.has_marks and len(text) < LONG
+        return self.mark(spelled, name, at, "character") if is_marked else spelled
 
     def number(self, value: int) -> str:
         forms = [str(value)]
@@ -92,15 +93,20 @@ class Pen(Chance):
     def string(self, text: str, name: Name) -> str:
         # A line end right after the marks isn't of the text.
         first = self.eol if text[:1] in ("\r", "\n") else self.pick(["", self.eol])
-        literal = "".join(self.character(name, at, c, text) for at, c in enumerate(text))
-        forms = [f'"{self.escaped(text, name)}"']
+        forms = ["basic"]
         if self.is_odd and not text.startswith("\n"):
-            forms += [f'"""{first}{self.escaped(text, name, in_lines=True)}"""'] * (3 if "\n" in text else 1)
+            forms += ["long basic"] * (3 if "\n" in text else 1)
         if self.is_odd and LITERAL.fullmatch(text):
-            forms.append(f"'{literal}'")
+            forms.append("literal")
         if self.is_odd and LITERAL_LINES.fullmatch(text):
-            forms += [f"'''{first}{literal}'''"] * (3 if "\n" in text else 1)
-        return self.pick(forms)
+            forms += ["long literal"] * (3 if "\n" in text else 1)
+        form = self.pick(forms)
+        is_long, mark = form.startswith("long"), "'" if form.endswith("literal") else '"'
+        if mark == '"':
+            inside = self.escaped(text, name, is_long)
+        else:
+            inside = "".join(self.character(name, at, c, text) for at, c in enumerate(text))
+        return f"{mark * 3}{first}{inside}{mark * 3}" if is_long else f"{mark}{inside}{mark}"
 
     def key(self, text: str) -> str:
         is_bare = re.fullmatch("[A-Za-z0-9_-]+", text)
@@ -201,16 +207,17 @@ class Sheet:
     def put(self, text: str) -> None:
         """Writes a text without its marks, and notes where they were."""
         begun: dict[str, int] = {}
-        at = 0
+        pieces, at, length = [self.text], 0, len(self.text)
         for found in MARK.finditer(text):
-            self.text += text[at : found.start()]
+            pieces.append(text[at : found.start()])
+            length += found.start() - at
             at = found.end()
             if found[1] == "\ue000":
-                begun[found[2]] = len(self.text)
+                begun[found[2]] = length
             else:
                 high, low = (ord(c) - 0xF0000 for c in found[2])
-                self.spans.setdefault(self.pen.names[high * 60_000 + low], (begun[found[2]], len(self.text)))
-        self.text += text[at:]
+                self.spans.setdefault(self.pen.names[high * 60_000 + low], (begun[found[2]], length))
+        self.text = "".join([*pieces, text[at:]])
 
     def expression(self, text: str) -> None:
         pen = self.pen

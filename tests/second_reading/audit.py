@@ -3,8 +3,8 @@
 from collections.abc import Iterable, Iterator
 from functools import cached_property
 
-from .base import Answer, Asked, Base, Found, Frame, FrameId, Policy, answers
-from .certificate import KEYS
+from .base import Answer, Asked, Base, Found, Frame, FrameId, Policy, answers, lines_text
+from .certificate import KEYS, Certificate, Row
 from .faults import base_of
 from .screen import paint
 
@@ -85,19 +85,12 @@ class Survey:
             return [self.unopened.strip()]
         return [fault for id in self.scripts for fault in self.frame_faults(id)]
 
-    def certificate_text(self) -> str:
+    def certificate(self) -> Certificate:
         """The certificate of a base without a fault."""
         frames = [self.base.frames[id] for id in sorted(self.scripts)]
-        head = [
-            "PBC2" if self.groups else "PBC1",
-            f"entry {self.base.entry}",
-            f"ceiling {max(frame.price for frame in frames)}",
-            f"keyings {max(self.ranks[frame.id] for frame in frames)}",
-            *([" ".join(["groups", *map(str, self.groups)])] if self.groups else []),
-            f"rows {len(frames)}",
-        ]
-        rows = [f"{frame.id} {self.ranks[frame.id]} {paint(frame.keep, frame.body).cursor}" for frame in frames]
-        return "".join(f"{line}\n" for line in [*head, *rows, "end"])
+        rows = [Row(frame.id, self.ranks[frame.id], paint(frame.keep, frame.body).cursor) for frame in frames]
+        ceiling, keyings = max(frame.price for frame in frames), max(row.rank for row in rows)
+        return Certificate(self.base.entry, ceiling, keyings, self.groups, rows)
 
 
 @answers
@@ -106,5 +99,5 @@ def audit(text: bytes, asked: Asked) -> Answer:
     policy = asked.policy
     survey = Survey(base_of(text), policy)
     if faults := survey.faults():
-        return Answer(1, "".join(f"{line}\n" for line in [f"FAULTS {len(faults)}", *faults]))
-    return Answer(0, survey.certificate_text())
+        return Answer(1, lines_text([f"FAULTS {len(faults)}", *faults]))
+    return Answer(0, lines_text(survey.certificate().lines()))

@@ -1,6 +1,6 @@
 """Ids, keys, a caller's groups, frames and the base that they make; what a run asks, and what it answers."""
 
-from collections.abc import Callable
+from collections.abc import Callable, Iterable
 from dataclasses import dataclass
 from enum import Enum
 from functools import wraps
@@ -46,6 +46,10 @@ def answers(judge: Callable[Parameters, Answer]) -> Callable[Parameters, Answer]
             return fault.answer
 
     return answer
+
+
+def lines_text(lines: Iterable[str]) -> str:
+    return "".join(f"{line}\n" for line in lines)
 
 
 def with_advice(answer: Answer, file: object) -> Answer:

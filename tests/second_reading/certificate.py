@@ -44,6 +44,13 @@ class Certificate:
     def ranks(self) -> dict[FrameId, int]:
         return {row.id: row.rank for row in self.rows}
 
+    def lines(self) -> list[str]:
+        """The lines of its text."""
+        groups = [f"groups {' '.join(map(str, self.groups))}"] if self.groups else []
+        numbers = [f"entry {self.entry}", f"ceiling {self.ceiling}", f"keyings {self.keyings}"]
+        rows = [f"{id} {rank} {cursor}" for id, rank, cursor in self.rows]
+        return ["PBC2" if groups else "PBC1", *numbers, *groups, f"rows {len(rows)}", *rows, "end"]
+
 
 class Line(NamedTuple):
     """A line: its number, its text, and the offset after its end."""

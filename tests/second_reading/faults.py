@@ -1,13 +1,14 @@
 """Every fault of a base's text, in the order of judging; and of a text without a fault the base."""
 
 import re
+import tomllib
 from collections.abc import Iterable, Iterator
 from functools import lru_cache
 from typing import NamedTuple, TypedDict, cast
 
 from .base import DIGITS, MOST_BYTES, MOST_GROUP, MOST_LISTED, MOST_PAGE, Base, Frame, FrameId, Refused, id_in
 from .places import Piece, What
-from .toml import Table, is_integer, parsed
+from .toml import Table, fits_64_bits, is_integer, parsed
 from .words import code, kind, number_of, quoted
 
 TOP_KEYS = ["entry", "outside", "frame"]
@@ -300,13 +301,31 @@ def base_in(tree: Table) -> Base:
     return Base(table["entry"], set(table.get("outside", [])), {frame.id: frame for frame in frames})
 
 
+def tree_in(data: bytes) -> Table | None:
+    """The tree of the bytes, which Python reads alone if they are TOML 1.0 and have no line end that it changes."""
+    try:
+        tree = None if b"\r" in data else tomllib.loads(data.decode())
+    except (ValueError, RecursionError):
+        tree = None
+    if tree is not None and fits_64_bits(tree):
+        return tree
+    return read.tree if (read := parsed(data)) else None
+
+
 @lru_cache(maxsize=8)
 def base_of(data: bytes) -> Base:
     """The base of the bytes; Refused with the first fault."""
     if len(data) > MOST_BYTES:
         raise Refused("base: X1 TooLong")
-    if (read := parsed(data)) is None:
+    if (tree := tree_in(data)) is None:
         raise Refused("base: X2 NotToml")
-    for fault in text_faults(read.tree):
+    for fault in text_faults(tree):
         raise Refused(fault.refusal)
-    return base_in(read.tree)
+    return base_in(tree)
+
+
+def right_base(data: bytes) -> Base | None:
+    try:
+        return base_of(data)
+    except Refused:
+        return None

@@ -6,9 +6,10 @@ from typing import Literal, cast
 from harness.writing import Chance, PlainPen
 
 from .audit import Survey, audit
-from .base import DIGITS, Asked, Base, FrameId, Groups, Policy, Refused, id_in
+from .base import DIGITS, Asked, Base, FrameId, Groups, Policy, id_in, lines_text
+from .certificate import Certificate, Row
 from .change import Texts
-from .faults import BaseTable, FrameTable, base_of
+from .faults import BaseTable, FrameTable, right_base
 from .map import View
 from .screen import paint
 from .toml import Table
@@ -257,11 +258,8 @@ class Inputs(Chance):
         side = self.pick(VIEWS)
         if side is None:
             return View()
-        pages = {1, 123}
-        try:
-            pages.update(id.page for id in base_of(text).frames if id.letter == "a")
-        except Refused:
-            pass
+        base = right_base(text)
+        pages = {1, 123} | {id.page for id in (base.frames if base else []) if id.letter == "a"}
         return View(side, self.pick(sorted(pages)), self.pick([None, 0, 1, 2, 3]))
 
     def groups(self) -> Groups:
@@ -276,22 +274,11 @@ class Inputs(Chance):
             return self.pick([",".join(self.pick(ODD_LISTS)), "7 9", "7, 9", "7,9 "])
         return word_of(groups)
 
-    def row(self, base: Base, id: FrameId, rank: int | None) -> str:
-        """The row of a frame; where it has none of its own, one that comes near."""
-        frame = base.frames[id]
-        return f"{id} {self.pick([1, 9]) if rank is None else rank} {paint(frame.keep, frame.body).cursor or 's80'}"
-
-    def head(self, base: Base, groups: Groups, count: int) -> list[str]:
-        """The lines before that many rows."""
-        more = [f"groups {' '.join(map(str, groups))}"] if groups else []
-        return [
-            "PBC2" if groups else "PBC1",
-            f"entry {base.entry}",
-            f"ceiling {self.pick([9_999, 50])}",
-            "keyings 9",
-            *more,
-            f"rows {count}",
-        ]
+    def row(self, survey: Survey, id: FrameId) -> Row:
+        """The row of a frame; if it has none of its own, one that comes near."""
+        frame, rank = survey.base.frames[id], survey.ranks.get(id)
+        cursor = paint(frame.keep, frame.body).cursor or "s80"
+        return Row(id, self.pick([1, 9]) if rank is None else rank, cursor)
 
     def certificate_lines(self, base: Base, groups: Groups) -> list[str]:
         """A certificate of the frames that can be reached: the audit's own, or what comes nearest to one.
@@ -301,9 +288,9 @@ class Inputs(Chance):
         others = self.groups() if self.chance(0.1) else groups
         survey = Survey(base, Policy(groups=others))
         if others == groups and not survey.faults():
-            return survey.certificate_text().splitlines()
-        rows = [self.row(base, id, survey.ranks.get(id)) for id in sorted(survey.scripts)]
-        return [*self.head(base, groups, len(rows)), *rows, "end"]
+            return survey.certificate().lines()
+        rows = [self.row(survey, id) for id in sorted(survey.scripts)]
+        return Certificate(base.entry, self.pick([9_999, 50]), 9, groups, rows).lines()
 
     def change_row(self, lines: list[str], index: int) -> None:
         parts = lines[index].split(" ")
@@ -363,14 +350,12 @@ class Inputs(Chance):
 
     def certificate_for(self, text: bytes, groups: Groups) -> bytes:
         """A certificate of a base, often with a few things wrong; of one that is refused a certificate without rows."""
-        try:
-            base = base_of(text)
-        except Refused:
+        if not (base := right_base(text)):
             return NO_ROWS
         lines = self.certificate_lines(base, groups)
         for _ in range(self.pick([0, 1, 1, 1, 2])):
             self.change_lines(lines, [*map(str, base.frames), "0z", "999999999z"])
-        certificate = "".join(f"{line}\n" for line in lines).encode("latin-1")
+        certificate = lines_text(lines).encode("latin-1")
         if self.chance(0.03):
             return certificate[: self.random.randrange(len(certificate) + 1)]
         return certificate + b"X" * self.chance(0.03)

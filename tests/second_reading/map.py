@@ -5,7 +5,7 @@ from collections.abc import Iterator
 from typing import Literal, NamedTuple
 
 from .audit import Survey
-from .base import Answer, Asked, Base, Found, Frame, FrameId, Groups, Key, Refused, answers
+from .base import Answer, Asked, Base, Found, Frame, FrameId, Groups, Key, Refused, answers, lines_text
 from .certificate import KEYS
 from .faults import base_of
 from .looks import CHARACTERS
@@ -119,4 +119,4 @@ def draw(text: bytes, asked: Asked, view: View = View()) -> Answer:
     """What `map` answers."""
     policy, base = asked.policy, base_of(text)
     drawing = Drawing(Survey(base, policy), part_of(base, policy.groups, view), view.side is None)
-    return Answer(0, "".join(f"{line}\n" for line in drawing.lines()))
+    return Answer(0, lines_text(drawing.lines()))

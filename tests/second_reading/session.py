@@ -1,6 +1,6 @@
 """A caller's session, by the table of keys."""
 
-from .base import Answer, Asked, Base, Found, FrameId, Groups, Key, answers, keys_in
+from .base import Answer, Asked, Base, Found, FrameId, Groups, Key, answers, keys_in, lines_text
 from .faults import base_of
 
 
@@ -65,4 +65,4 @@ def walk(text: bytes, keys: str, asked: Asked) -> Answer:
         return Answer(1, line)
     session = Session(base, groups)
     replies = [session.shown(base.entry_id), *(session.key(word) for word in words)]
-    return Answer(0, "".join(f"{reply}\n" for reply in replies))
+    return Answer(0, lines_text(replies))
