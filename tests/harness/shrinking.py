@@ -23,8 +23,6 @@ Fails = Callable[[Case], bool]
 # Makes a case smaller that fails by a judgement.
 Cut = Callable[[Case, Fails[Case]], Case]
 
-SPACE = 0x20
-
 
 @dataclass
 class Budget:
@@ -161,9 +159,8 @@ def smallest_cells(data: bytes, fails: Fails[bytes]) -> bytes:
         starts = range(0, len(data), width)
 
         def kept(some: list[int]) -> bytes:
-            return b"".join(
-                data[at : at + width] if at in some else bytes([SPACE] * len(data[at : at + width])) for at in starts
-            )
+            parts = ((data[at : at + width], at in some) for at in starts)
+            return b"".join(part if is_kept else b" " * len(part) for part, is_kept in parts)
 
         data = kept(fewest(starts, lambda some: fails(kept(some))))
     return data

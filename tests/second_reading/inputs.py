@@ -313,9 +313,8 @@ class Inputs(Chance):
         """Other groups after the fourth line, or none; line 1 mostly fits them."""
         right = [*([group] for group in GROUPS), [7, 9], GROUPS, MANY]
         words = self.pick(ODD_LISTS) if self.chance(0.5) else [*map(str, self.pick(right))]
-        line = self.pick(["groups ", "groups ", "groups ", "groups ", "groups", "groups  ", "Groups "]) + " ".join(
-            words
-        )
+        word = self.pick(["groups ", "groups ", "groups ", "groups ", "groups", "groups  ", "Groups "])
+        line = word + " ".join(words)
         is_kept = self.chance(0.8)
         lines[4 : 5 if lines[4][:6] == "groups" else 4] = [line] if is_kept else []
         if self.chance(0.8):
