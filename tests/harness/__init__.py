@@ -30,21 +30,3 @@ from harness.places import CALLS, CC, EMULATOR, IS_ARM64, PROGRAM, TOP
 from harness.running import Done, compiled, program, run, scratch
 from harness.results import Counts, Test
 from harness.script import About, main
-
-__all__ = [
-    "CALLS",
-    "CC",
-    "EMULATOR",
-    "IS_ARM64",
-    "PROGRAM",
-    "TOP",
-    "About",
-    "Counts",
-    "Done",
-    "Test",
-    "compiled",
-    "main",
-    "program",
-    "run",
-    "scratch",
-]

@@ -70,7 +70,7 @@ def section(element: Element) -> Section:
 
 
 def page_of(text: str) -> Page:
-    import html5lib  # type: ignore[import]
+    import html5lib
 
     parser = html5lib.HTMLParser()
     root = parser.parse(text)

@@ -9,16 +9,8 @@ from pathlib import Path
 from harness.places import TOP
 
 # Scripts that aren't parts of ./test: what measures, and what './test CRATE', a part or no gate runs.
-NO_PARTS = {
-    "call-times",
-    "line-counts",
-    "must-fail-goals",
-    "own-system",
-    "plain-edits",
-    "speeds",
-    "time-gate",
-    "without-toolchain",
-}
+NO_PARTS = {"call-times", "line-counts", "must-fail-goals", "own-system", "plain-edits", "speeds", "time-gate"}
+NO_PARTS |= {"without-toolchain"}
 
 
 def parts() -> list[str]:

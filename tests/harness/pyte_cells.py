@@ -7,7 +7,7 @@ import json
 import sys
 from collections.abc import Iterator
 
-import pyte  # type: ignore[import]
+import pyte
 
 NAMES = ["black", "red", "green", "brown", "blue", "magenta", "cyan", "white"]
 

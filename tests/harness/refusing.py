@@ -39,7 +39,7 @@ class Run:
     library: Path
     command: list[Word]
     folder: Path = TOP
-    device: str | None = None
+    device: str = ""
     only_call: bool = False
 
     def answer(self, refused_at: int) -> tuple[Done, int]:
