@@ -133,12 +133,7 @@ def smallest_value(value: object, fails: Fails[object]) -> object:
 def base_text(tree: object) -> bytes:
     """The plain text of a base's tree."""
     assert isinstance(tree, dict)
-    frames = tree.get("frame")
-    tables = frames if isinstance(frames, list) and all(isinstance(frame, dict) for frame in frames) else []
-    top = {key: value for key, value in tree.items() if not (tables and key == "frame")}
-    pen = FirstPen(Random(0))
-    texts = ("".join(f"{pen.pair((key,), table[key], ())}\n" for key in table) for table in [top, *tables])
-    return "[[frame]]\n".join(texts).encode()
+    return FirstPen(Random(0)).base(tree)
 
 
 def smallest_base(data: bytes, fails: Fails[bytes]) -> bytes:

@@ -162,15 +162,7 @@ class Inputs(Chance):
 
     def text(self, base: BaseTable) -> bytes:
         """The TOML text of the tree; now and then with a byte that spoils it."""
-        tree = cast(Table, base)
-        tables = tree.get("frame")
-        are_tables = isinstance(tables, list) and all(isinstance(table, dict) for table in tables)
-        is_listed = are_tables and self.chance(0.8)
-        pen = PlainPen(self.random)
-        lines = [pen.pair((key,), value, ()) for key, value in tree.items() if not (is_listed and key == "frame")]
-        for table in cast(list[Table], tables) if is_listed else []:
-            lines += ["[[frame]]", *(pen.pair((key,), value, ()) for key, value in table.items())]
-        text = bytearray("\n".join([*lines, ""]).encode())
+        text = bytearray(PlainPen(self.random).base(base, self.chance(0.8)))
         if self.chance(0.03):
             text[self.random.randrange(len(text))] = self.pick(b"\x00\xff\xc3\"'=.")
         return bytes(text)
