@@ -150,7 +150,7 @@ def audit_cases() -> Iterator[Case]:
         yield Case(f"find {name} -", debug_found(ids))
     yield Case("find no_entry -", debug_found([]))
     yield Case("nearest demo 1321a", f"Some({debug_id('1231a')})\n")
-    for call in "audit", "faults", "judge_base":
+    for call in "audit", "faults":
         yield Case(f"{call} demo 4 0 -", TEXTS["STRICT"])
         for name, faults in FAULTS.items():
             yield Case(f"{call} {name} 50 3 -", faults)
@@ -298,7 +298,6 @@ def large_cases(files: Mapping[str, str]) -> Iterator[Case]:
         Case("audit large 9 9 7", cert),
         Case("audit large 4 2 -", faults),
         Case("faults large 4 2 -", faults),
-        Case("judge_base large 4 2 -", faults),
     ]
 
 

@@ -1,20 +1,10 @@
 -- A text on its way to a sink, line by line.
 use Rattle.std.proofs.Common.{◌≡◌, ◌∙◌, ◌+◌, ℕ, zero, suc, List, [], ◌++◌, sym, ap, append_assoc, arith}
 use Rattle.std.proofs.lemmas.List.{append-nil}
-use Rattle.devices.specs.Devices.{Seen, IsOnItsWay}
 use Rattle.frame_records.specs.Bases.{BaseView}
 use Rattle.finder.specs.declared.found.Discovered.{Discovered}
 use Rattle.audit_report.specs.declared.list_form.ListForm.{ListForm}
 use Rattle.audit_report.specs.Listing.{reached_line, reached_lines}
-
--- one more line is kept
-pub kept_more : (old now : Seen) (kept more : List ℕ) (wrote : ℕ) (text line : List ℕ) → more ≡ kept ++ line → IsOnItsWay old now kept wrote text → IsOnItsWay old now more wrote (text ++ line)
-kept_more old now kept more wrote text line is way = record {
-  front = way.front;
-  all = ap (λ xs. xs ++ line) way.all ∙ append_assoc way.front kept line ∙ ap (λ xs. way.front ++ xs) (sym is);
-  counted = way.counted;
-  took = way.took;
-}
 
 module _ (form : ListForm) (base : BaseView) (found : List Discovered) where
   -- one line more

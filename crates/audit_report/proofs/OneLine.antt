@@ -1,10 +1,10 @@
 -- A frame is one line, in each form of a list.
-use Rattle.std.proofs.Common.{◌≡◌, ◌∙◌, ℕ, zero, suc, ◌+◌, ◌/◌, ◌%◌, ◌<◌, arith, refl, Bool, true, false, List, [], ◌∷◌, ◌++◌, ◌==◌, nat_lt, Option, Some, None, codes, decimal, if◌then◌else◌}
+use Rattle.std.proofs.Common.{◌≡◌, ◌∙◌, ℕ, ◌+◌, arith, refl, true, false, List, [], ◌∷◌, ◌++◌, ◌==◌, Option, Some, None, codes, decimal}
 use Rattle.std.specs.List.{list_all}
-use Rattle.std.specs.Fmt.{digits, digits_onto, digit_glyph}
 use Rattle.std.proofs.lemmas.Bool.Decides.{nat_tests}
 use Rattle.std.proofs.lemmas.List.Folds.{list_all-append}
 use Rattle.page_ids.specs.Ids.{Id, IsLetter, frame_text}
+use Rattle.page_ids.proofs.Digits.{all_decimal}
 use Rattle.page_ids.specs.Keys.{key_word, keys_text}
 use Rattle.page_ids.specs.declared.key.Key.{Key}
 use Rattle.page_ids.specs.declared.key.Key.TheVariants.{Route, Next, Prev, Reprint, Update}
@@ -13,7 +13,7 @@ use Rattle.audit_report.specs.Lines.{line, with_id}
 use Rattle.audit_report.specs.ReportLines.{script_text}
 use Rattle.audit_report.specs.declared.list_form.ListForm.{ListForm}
 use Rattle.audit_report.specs.declared.list_form.ListForm.TheVariants.{Line, Json}
-use Rattle.audit_report.specs.Listing.{or_dash, with_or_dash, price_and_group, or_null, with_or_null, price_and_group_members, script_member, frame_line, unreached_line, is_in_line, IsOneLine, AreOneLines}
+use Rattle.audit_report.specs.Listing.{with_or_dash, price_and_group, with_or_null, price_and_group_members, script_member, frame_line, unreached_line, is_in_line, IsOneLine, AreOneLines}
 
 abbrev InLine : List ℕ → Type 0
 InLine bs = list_all is_in_line bs ≡ true
@@ -21,25 +21,8 @@ InLine bs = list_all is_in_line bs ≡ true
 joined : (xs ys : List ℕ) → InLine xs → InLine ys → InLine (xs ++ ys)
 joined xs ys h k = list_all-append is_in_line xs ys ∙ rw (h, k) refl
 
-one_more : (d : ℕ) (acc : List ℕ) → d < 10 → InLine acc → InLine (digit_glyph false d ∷ acc)
-one_more d acc lt h =
-    let small : nat_lt d 10 ≡ true = grind (arith, nat_tests) in
-    let a : (48 + d == 10) ≡ false = grind (arith, nat_tests) in
-    rw (small, a, h) refl
-
-either : (b : Bool) (xs ys : List ℕ) → InLine xs → InLine ys → InLine (if b then xs else ys)
-either true xs ys h k = h
-either false xs ys h k = k
-
-in_digits : (k n : ℕ) (acc : List ℕ) → InLine acc → InLine (digits_onto k 10 false n acc)
-in_digits zero n acc h = h
-in_digits (suc k) n acc h =
-    let more : InLine (digit_glyph false (n % 10) ∷ acc) = one_more (n % 10) acc (omega arith) h in
-    either (n / 10 == 0) _ _ more (in_digits k (n / 10) (digit_glyph false (n % 10) ∷ acc) more)
-
 in_decimal : (n : ℕ) → InLine (decimal n)
-unfolding digits
-in_decimal n = in_digits 64 n [] refl
+in_decimal n = all_decimal is_in_line (λ d lt. let a : (48 + d == 10) ≡ false = grind (arith, nat_tests) in rw a refl) n
 
 in_id : (words : List ℕ) (id : Id) → InLine words → IsLetter id.letter → InLine (with_id words id)
 in_id words id h is = joined words (frame_text id) h (joined (decimal id.page) (id.letter ∷ []) (in_decimal id.page) last) where

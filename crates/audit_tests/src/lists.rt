@@ -4,7 +4,8 @@ use crate::bases::base_of;
 use crate::policies::policy;
 use audit_report::report;
 use cert_text::cert_read;
-use fault_scripts::{Outcome, faults, judge_base};
+use fault_scripts::{Outcome, faults, faults_surveyed};
+use finder::Survey;
 use page_ids::PageNo;
 use std::alloc::{AllocError, Global};
 use std::test::Fail;
@@ -27,16 +28,15 @@ fn the_faults_alone_are_those_of_the_audit(rt: HostRuntime) -> Result<(), Fail> 
     Ok(())
 }
 
-// The frames that are reached go with the faults: of the three of the demo, or of none.
+// One survey gives the frames that are reached, of the three of the demo or of none, and the faults.
 #[test]
-fn a_base_is_judged_with_the_frames_that_are_reached(rt: HostRuntime) -> Result<(), Fail> {
+fn a_survey_is_judged(rt: HostRuntime) -> Result<(), Fail> {
     let policy = policy(50, 3)?;
     for (text, faults, reached) in [(DEMO, 0, 3), ("entry = 0\n", 1, 0)] {
-        let judgement = judge_base(rt.alloc(), &base_of(rt.alloc(), text)?, &policy)?;
-        let counts = (
-            judgement.faults.as_slice().len(),
-            judgement.found.as_slice().len(),
-        );
+        let base = base_of(rt.alloc(), text)?;
+        let survey = Survey::of(rt.alloc(), &base, &policy.groups)?;
+        let found = faults_surveyed(rt.alloc(), &survey, &policy)?;
+        let counts = (found.as_slice().len(), survey.found().as_slice().len());
         same_in(text, counts, (faults, reached))?;
     }
     Ok(())

@@ -1,5 +1,5 @@
 -- What the edges of a map are.
-use Rattle.std.proofs.Common.{◌≡◌, ◌∙◌, sym, ap, ℕ, true, List, [], Option, Some, None, Contains, refl, subst}
+use Rattle.std.proofs.Common.{◌≡◌, ◌∙◌, sym, ap, ℕ, true, List, [], Option, Some, None, Contains, subst}
 use Rattle.std.specs.Prelude.{filter}
 use Rattle.std.specs.Option.{option_eq}
 use Rattle.std.specs.List.{filter_map}
@@ -8,7 +8,6 @@ use Rattle.page_ids.specs.Ids.{Id, id_eq}
 use Rattle.page_ids.specs.IdLaws.{id_eq_same, id_eq_refl}
 use Rattle.page_ids.specs.WayLaws.{ways_length, ways_at}
 use Rattle.page_ids.specs.declared.way.Way.{Way}
-use Rattle.page_ids.specs.declared.way.Way.TheVariants.{Route, Next}
 use Rattle.page_ids.specs.Ways.{way_key, way_place, ways}
 use Rattle.frame_records.specs.declared.frame.Frame.{Frame}
 use Rattle.frame_records.specs.declared.base.Sought.TheVariants as found
@@ -20,6 +19,7 @@ use Rattle.frame_records.specs.declared.ways.Destination.TheVariants as destinat
 use Rattle.base_map.specs.Edges.{targets_of, seeks, keys_to}
 use Rattle.finder.specs.Finds.{has_id}
 use Rattle.base_map.specs.Map.{EdgesAreWays}
+use Rattle.finder.proofs.Listed.{same_way}
 use Rattle.base_map.proofs.Among.{among_map, map_among, among_filter, filter_among, among_filter_map, filter_map_among}
 use Rattle.base_map.proofs.Distinct.{all_once, none_twice}
 use Rattle.finder.proofs.Inserts.{has_all}
@@ -28,12 +28,6 @@ one_way : (f : Frame) (way : Way) (to : Id) → sought f way ≡ Some to → Con
 one_way f way to e =
     let p = offered_place f way to e in
     (way_place way, rw ways_length p.0, ways_at (way_place way) way p.0 ∙ p.1)
-
-same_way : (a b : Way) → way_key a ≡ way_key b → a ≡ b
-same_way (Route d) (Route e) h = cc
-same_way (Route d) Next h = absurd cc
-same_way Next (Route e) h = absurd cc
-same_way Next Next h = refl
 
 it_seeks : (f : Frame) (to : Id) (way : Way) → seeks f to way ≡ true → sought f way ≡ Some to
 it_seeks f to way = by (sought f way) where

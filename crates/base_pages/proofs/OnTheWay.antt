@@ -19,15 +19,6 @@ use Rattle.base_pages.specs.Pages.{StoppedWithin, IsPagesFault, IsPartWritten, I
 use Rattle.base_pages.specs.Loops.{IsStopped}
 use Rattle.base_pages.specs.Sections.{BookView, section, sections}
 
--- more of the text is kept
-pub kept_more : (old now : Seen) (kept more : List ℕ) (wrote : ℕ) (text line : List ℕ) → more ≡ kept ++ line → IsOnItsWay old now kept wrote text → IsOnItsWay old now more wrote (text ++ line)
-kept_more old now kept more wrote text line is way = record {
-  front = way.front;
-  all = ap (λ xs. xs ++ line) way.all ∙ append_assoc way.front kept line ∙ ap (λ xs. way.front ++ xs) (sym is);
-  counted = way.counted;
-  took = way.took;
-}
-
 -- what was taken is the front of any text that goes on
 pub stopped : (old now : Seen) (kept : List ℕ) (wrote : ℕ) (text rest : List ℕ) → IsOnItsWay old now kept wrote text → StoppedWithin old now (text ++ rest)
 stopped old now kept wrote text rest way = record {

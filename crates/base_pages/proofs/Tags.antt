@@ -1,11 +1,12 @@
 -- The tags of the file.
-use Rattle.std.proofs.Common.{◌≡◌, ℕ, zero, suc, ◌+◌, ◌/◌, ◌%◌, ◌<◌, arith, refl, sym, ap, ◌∙◌, Bool, true, false, not, ◌&&◌, ◌||◌, List, [], ◌∷◌, ◌++◌, ◌==◌, nat_lt, Option, Some, None, option_map, map, filter, codes, decimal, length, append_assoc, append-nil, if◌then◌else◌}
+use Rattle.std.proofs.Common.{◌≡◌, ℕ, ◌+◌, ◌/◌, ◌<◌, arith, refl, sym, ap, ◌∙◌, Bool, true, false, not, ◌&&◌, ◌||◌, List, [], ◌∷◌, ◌++◌, ◌==◌, nat_lt, Option, Some, None, option_map, map, filter, codes, decimal, length, append_assoc, append-nil, if◌then◌else◌}
 use Rattle.std.specs.List.{list_all, flat_map}
-use Rattle.std.specs.Fmt.{digits, digits_onto, digit_glyph}
+use Rattle.std.proofs.lemmas.Bool.{and_parts, cond_both, or_parts}
 use Rattle.std.proofs.lemmas.Bool.Decides.{nat_tests}
 use Rattle.std.proofs.lemmas.List.Elements.{All-head, All-tail}
 use Rattle.page_ids.specs.Ids.{Id, frame_text, IsLetter, first_frame}
 use Rattle.page_ids.specs.Keys.{key_word}
+use Rattle.page_ids.proofs.Digits.{PassesDigits, all_decimal}
 use Rattle.page_ids.specs.declared.key.Key.{Key}
 use Rattle.page_ids.specs.declared.way.Way.{Way}
 use Rattle.page_ids.specs.declared.way.Way.TheVariants.{Route, Next}
@@ -33,9 +34,9 @@ use Rattle.screen_texts.specs.Writing.{written}
 use Rattle.screen_texts.specs.Text.{text}
 use Rattle.screen_texts.specs.Svg.{Piece, piece, piece_bytes, markup, svg_pieces, svg}
 use Rattle.std.specs.Str.{chars}
-use Rattle.screen_texts.specs.Laws.{reading, tags_of, is_harmless}
-use Rattle.screen_texts.proofs.Safe.{choice, all_append, harmless}
-use Rattle.screen_texts.proofs.Tags.{is_inner, Inner, Outer, has_inner, Tags, svg_tags, first_of, rest_of, first_false, second_false, first_inner, other_inner}
+use Rattle.screen_texts.specs.Laws.{reading, is_harmless}
+use Rattle.screen_texts.proofs.Safe.{all_append, harmless, first_of, rest_of}
+use Rattle.screen_texts.proofs.Tags.{is_inner, Inner, Outer, has_inner, Tags, svg_tags}
 use Rattle.base_pages.specs.Faults.{item, items, list_begin, listed, fault_list, faults_about, entry_faults, touched_cell}
 use Rattle.base_pages.specs.Ways.{link, marked, way_text}
 use Rattle.base_pages.specs.Screens.{is_reached, screen_of}
@@ -43,7 +44,7 @@ use Rattle.base_pages.specs.Sections.{BookView, class_of, opening, section_begin
 use Rattle.base_pages.specs.Head.{name_line, counted, ceiling_text, keyings_text, ceiling_asked, keyings_asked, certified_begin, certified, faulty_begin, faulty, verdict_text, groups_text, policy_line, faults_in, header_begin, header_end, header}
 use Rattle.base_pages.specs.Shell.{head, middle, foot}
 use Rattle.base_pages.specs.Tags.{tag_list, class_tag, begin_tags, link_tags, marked_tags, way_tags, over_tags, item_tags, fault_tags, end_tags, picture_tags, section_tags, verdict_tags, header_tags, page_tags, HasLetter, HaveLetters}
-use Rattle.base_pages.specs.Pages.{page, front}
+use Rattle.base_pages.specs.Pages.{page}
 
 -- The reader that knows only tags: from a text that begins outside of tags, or inside of one after these bytes.
 
@@ -94,7 +95,7 @@ after i j k t u v bs cs ts us h g rest =
 inside : (t bs : List ℕ) → Inner bs → Step true t bs [] true (t ++ bs)
 inside t [] h rest = ap (λ (u : List ℕ). tags_from true u rest) (sym (append-nil t))
 inside t (b ∷ bs) h rest =
-    let here : (b == 0x3E) ≡ false = second_false (b == 0x3C) (b == 0x3E) (first_of (b == 0x3C || b == 0x3E) (list_all is_inner bs) h) in
+    let here : (b == 0x3E) ≡ false = (or_parts (b == 0x3C) (b == 0x3E) (first_of (b == 0x3C || b == 0x3E) (list_all is_inner bs) h)).1 in
     let later : Inner bs = rest_of (b == 0x3C || b == 0x3E) (list_all is_inner bs) h in
     rw here (inside (t ++ b ∷ []) bs later rest ∙ ap (λ (u : List ℕ). tags_from true u rest) (append_assoc t (b ∷ []) bs))
 
@@ -102,7 +103,7 @@ inside t (b ∷ bs) h rest =
 outside : (bs : List ℕ) → Outer bs → Step false [] bs [] false []
 outside [] h rest = refl
 outside (b ∷ bs) h rest =
-    let here : (b == 0x3C) ≡ false = first_false (b == 0x3C) (b == 0x3E || (b == 0x22 || b == 0x27)) (first_of (b == 0x3C || (b == 0x3E || (b == 0x22 || b == 0x27))) (list_all is_harmless bs) h) in
+    let here : (b == 0x3C) ≡ false = (or_parts (b == 0x3C) (b == 0x3E || (b == 0x22 || b == 0x27)) (first_of (b == 0x3C || (b == 0x3E || (b == 0x22 || b == 0x27))) (list_all is_harmless bs) h)).0 in
     let later : Outer bs = rest_of (b == 0x3C || (b == 0x3E || (b == 0x22 || b == 0x27))) (list_all is_harmless bs) h in
     rw here (outside bs later rest)
 
@@ -111,24 +112,15 @@ quiet cs = outside (written Markup cs) (harmless cs)
 
 -- Numbers, ids and keys.
 
-one_more : (d : ℕ) (acc : List ℕ) → d < 10 → Outer acc → Outer (digit_glyph false d ∷ acc)
-one_more d acc lt h =
-    let small : nat_lt d 10 ≡ true = grind (arith, nat_tests) in
-    let a : (48 + d == 0x3C) ≡ false = grind (arith, nat_tests) in
-    let b : (48 + d == 0x3E) ≡ false = grind (arith, nat_tests) in
-    let c : (48 + d == 0x22) ≡ false = grind (arith, nat_tests) in
-    let e : (48 + d == 0x27) ≡ false = grind (arith, nat_tests) in
-    rw (small, a, b, c, e, h) refl
-
-outer_digits : (k n : ℕ) (acc : List ℕ) → Outer acc → Outer (digits_onto k 10 false n acc)
-outer_digits zero n acc h = h
-outer_digits (suc k) n acc h =
-    let more : Outer (digit_glyph false (n % 10) ∷ acc) = one_more (n % 10) acc (omega arith) h in
-    choice Outer (n / 10 == 0) _ _ (λ e. more) (λ e. outer_digits k (n / 10) (digit_glyph false (n % 10) ∷ acc) more)
-
 outer_decimal : (n : ℕ) → Outer (decimal n)
-unfolding digits
-outer_decimal n = outer_digits 64 n [] refl
+outer_decimal n = all_decimal is_harmless harmless_digit n where
+  harmless_digit : PassesDigits is_harmless
+  harmless_digit d lt =
+      let a : (48 + d == 0x3C) ≡ false = grind (arith, nat_tests) in
+      let b : (48 + d == 0x3E) ≡ false = grind (arith, nat_tests) in
+      let c : (48 + d == 0x22) ≡ false = grind (arith, nat_tests) in
+      let e : (48 + d == 0x27) ≡ false = grind (arith, nat_tests) in
+      rw (a, b, c, e) refl
 
 outer_id : (id : Id) → IsLetter id.letter → Outer (frame_text id)
 outer_id id is = all_append is_harmless (decimal id.page) (id.letter ∷ []) (outer_decimal id.page) last where
@@ -199,7 +191,7 @@ MayHaveLetter None = Unit {0}
 MayHaveLetter (Some id) = IsLetter id.letter
 
 missing_letter : (base : BaseView) (way : Way) (to : Id) → IsLetter to.letter → LeadsToLetter (missing_by base way to)
-missing_letter base (Route digit) to is = choice LeadsToLetter (lists_outside base to.page) (Outside to.page) (Missing to) (λ e. tt) (λ e. is)
+missing_letter base (Route digit) to is = cond_both (lists_outside base to.page) (Outside to.page) (Missing to) LeadsToLetter (λ e. tt) (λ e. is)
 missing_letter base Next to is = is
 
 sought_letter : (base : BaseView) (way : Way) (to : Id) (result : seeking.Sought) → IsLetter to.letter → LeadsToLetter (sought_by base way to result)
@@ -217,22 +209,18 @@ route_letter (Some page) = (omega arith, omega arith)
 
 following_letter : (letter : ℕ) (offers : Bool) → IsLetter letter → (offers && nat_lt letter 122) ≡ true → IsLetter (letter + 1)
 following_letter letter offers is e =
-    let test : nat_lt letter 122 ≡ true = other_inner offers (nat_lt letter 122) e in
+    let test : nat_lt letter 122 ≡ true = (and_parts offers (nat_lt letter 122) e).1 in
     let less : letter < 122 = grind (arith, nat_tests) in
     (omega arith, omega arith)
 
 sought_id_letter : (f : Frame) → IsLetter f.id.letter → (way : Way) → MayHaveLetter (sought f way)
 sought_id_letter f is (Route digit) = route_letter (route_of f digit)
-sought_id_letter f is Next = choice MayHaveLetter (f.next && nat_lt f.id.letter 122) _ _ (λ e. following_letter f.id.letter f.next is e) (λ e. tt)
+sought_id_letter f is Next = cond_both (f.next && nat_lt f.id.letter 122) _ _ MayHaveLetter (λ e. following_letter f.id.letter f.next is e) (λ e. tt)
 
 way_letter : (caller : List ℕ) (base : BaseView) (f : Frame) → IsLetter f.id.letter → (way : Way) → LeadsToLetter (destination_of caller base f way)
 way_letter caller base f is way = offered_letter caller base way (sought f way) (sought_id_letter f is way)
 
 -- Ways.
-
--- the text of a way, between its tags
-ending_step : (tag text : List ℕ) (last : List ℕ) → Outer text → Step true tag (codes ">" ++ text) (tag ∷ []) false []
-ending_step tag text last h = after true false false tag [] [] (codes ">") text (tag ∷ []) [] (λ rest. refl) (outside text h)
 
 link_step : (to : Id) (key : Key) → IsLetter to.letter → Inner (key_word key) → Step false [] (link to key) (link_tags to key) false []
 link_step to key is k =
@@ -408,7 +396,7 @@ unfolding markup
 pieces_step [] h = λ rest. refl
 pieces_step (p ∷ ps) h =
     after false false false [] [] [] (piece_bytes p) (flat_map piece_bytes ps) (p.tag ∷ []) (map tag_of ps)
-    (piece_step p (first_inner (has_inner p) (list_all has_inner ps) h)) (pieces_step ps (other_inner (has_inner p) (list_all has_inner ps) h))
+    (piece_step p (and_parts (has_inner p) (list_all has_inner ps) h).0) (pieces_step ps (and_parts (has_inner p) (list_all has_inner ps) h).1)
 
 regroup : (a b c d : List ℕ) → a ++ (b ++ c ++ d) ≡ a ++ b ++ c ++ d
 regroup a b c d = simp append_assoc
@@ -448,7 +436,7 @@ sections_step : (b : BookView) (fs : List Frame) → HaveLetters b.part fs → S
 sections_step b [] h = λ rest. refl
 sections_step b (f ∷ fs) h =
     let later = sections_step b fs (All-tail (HasLetter b.part) f fs h) in
-    choice (λ (gs : List Frame). Step false [] (flat_map (section b) gs) (flat_map (section_tags b) gs) false []) (shows b.part f.id) (f ∷ shown b fs) (shown b fs)
+    cond_both (shows b.part f.id) (f ∷ shown b fs) (shown b fs) (λ (gs : List Frame). Step false [] (flat_map (section b) gs) (flat_map (section_tags b) gs) false [])
     (λ e. after false false false [] [] [] (section b f) (sections b fs) (section_tags b f) (flat_map (section_tags b) (shown b fs)) (section_step b f (All-head (HasLetter b.part) f fs h e)) later)
     (λ e. later)
 
@@ -479,10 +467,10 @@ outer_keyings n =
     (outer_joined (codes ", at most ") (counted n (codes "key")) refl (outer_counted n (codes "key") refl)) refl
 
 outer_ceiling_asked : (n : ℕ) → Outer (ceiling_asked n)
-outer_ceiling_asked n = choice Outer (n == 9999) [] (ceiling_text n) (λ e. refl) (λ e. outer_ceiling n)
+outer_ceiling_asked n = cond_both (n == 9999) [] (ceiling_text n) Outer (λ e. refl) (λ e. outer_ceiling n)
 
 outer_keyings_asked : (n : ℕ) → Outer (keyings_asked n)
-outer_keyings_asked n = choice Outer (n == 65535) [] (keyings_text n) (λ e. refl) (λ e. outer_keyings n)
+outer_keyings_asked n = cond_both (n == 65535) [] (keyings_text n) Outer (λ e. refl) (λ e. outer_keyings n)
 
 outer_spaced : (groups : List ℕ) → Outer (spaced groups)
 outer_spaced [] = refl
@@ -490,7 +478,7 @@ outer_spaced (group ∷ groups) = outer_joined (decimal group) (spaced groups) (
 
 outer_groups : (groups : List ℕ) → Outer (groups_text groups)
 unfolding groups_text
-outer_groups groups = choice Outer (length groups == 0) _ _ (λ e. refl) (λ e. outer_joined (codes "groups") (spaced groups) refl (outer_spaced groups))
+outer_groups groups = cond_both (length groups == 0) _ _ Outer (λ e. refl) (λ e. outer_joined (codes "groups") (spaced groups) refl (outer_spaced groups))
 
 -- a paragraph of three texts, from its beginning on
 paragraph_step : (begin : List ℕ) (t : List ℕ) (ts : List (List ℕ)) (a b c : List ℕ) → Step false [] begin (t ∷ ts) false [] → Outer a → Outer b → Outer c

@@ -18,7 +18,8 @@ use crate::shell::{foot, head, middle};
 use audit_report::Sink;
 use base_map::{Part, View, part_of};
 use checker::Policy;
-use fault_scripts::{Outcome, audit};
+use fault_scripts::{Outcome, audit_surveyed};
+use finder::Survey;
 use frame_records::{Base, Frame};
 use frame_screens::Gallery;
 use std::alloc::{AllocError, Global};
@@ -186,9 +187,10 @@ fn prepare<'a>(
 ) -> Result<Prepared<'a>, AllocError>
     ensures { IfOk result (IsPrepared base.now policy.now) }
 {
-    let outcome = audit(alloc, base, policy)?;
+    let survey = Survey::of(alloc, base, &policy.groups)?;
+    let outcome = audit_surveyed(alloc, &survey, policy)?;
     let index = FaultIndex::of(alloc, faults_in(&outcome))?;
-    let gallery = Gallery::of(alloc, base, &policy.groups)?;
+    let gallery = Gallery::over(alloc, survey)?;
     Ok(Prepared {
         outcome,
         index,

@@ -1,9 +1,9 @@
 -- Facts that hold between the turns of loops, and what functions that aren't exported say. No promise rests on them.
-use Rattle.std.specs.Prelude.{List, Result, Ok, Err, Vec, ◌≡◌, ℕ, Option, Some, None, [], ◌∷◌, option_map, ◌⊎◌}
+use Rattle.std.specs.Prelude.{List, Result, Ok, Err, Vec, ◌≡◌, ℕ, Option, Some, None, [], ◌∷◌, map, option_map, ◌⊎◌}
 use Rattle.std.specs.declared.alloc.Global.{Global}
 use Rattle.base_text.specs.Details.{Read, KeptView, with_all, kept, cause_of}
 use Rattle.base_text.specs.declared.detail.Detail.{Detail}
-use Rattle.base_text.specs.Drafts.{TopView, base_fault, element_faults, elements_faults, elements_frames}
+use Rattle.base_text.specs.Drafts.{TopView, base_fault, element_faults, elements_faults, elements_placed, framed}
 use Rattle.base_text.specs.declared.fault.BaseFault.{BaseFault}
 use Rattle.base_text.specs.Frames.{fault_in, ElementView, top_fault}
 use denote.Ref.{Bor}
@@ -64,5 +64,5 @@ IsFrame i e (Err fault) = (fault ≡ top_fault Memory) ⊎ IsFirst (element_faul
 
 -- the frames of elements that have no fault, or the first fault
 abbrev pub AreListed : Items → Result (List Frame) BaseFault → Type 0
-AreListed ds (Ok frames) = (elements_faults 0 ds ≡ []) × (frames ≡ elements_frames ds)
+AreListed ds (Ok frames) = (elements_faults 0 ds ≡ []) × (frames ≡ map framed (elements_placed 0 ds))
 AreListed ds (Err fault) = (fault ≡ top_fault Memory) ⊎ IsFirst (elements_faults 0 ds) fault

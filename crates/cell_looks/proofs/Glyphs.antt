@@ -1,6 +1,7 @@
 -- What the cells of a screen hold.
 use Rattle.std.proofs.Common.{◌≡◌, ◌==◌, ℕ, ◌-◌, ◌<◌, arith, refl, Bool, true, false, ◌&&◌, List, [], ◌∷◌, nat_le, nat_lt, if◌then◌else◌, map, Option, Some, None}
 use Rattle.std.specs.Prelude as P
+use Rattle.std.proofs.lemmas.Bool.{cond_both}
 use Rattle.std.proofs.lemmas.Bool.Decides.{nat_tests}
 use Rattle.std.proofs.lemmas.List.Elements.{All-nil, All-cons, All-head, All-tail}
 use Rattle.cell_looks.specs.declared.look.Glyph.TheVariants.{Char}
@@ -14,11 +15,6 @@ use Rattle.cell_looks.specs.declared.row.State.{State}
 use Rattle.cell_looks.specs.Table.{colour_of, block, is_mosaic, six, mosaic_of, six_of, start, at, after, seen, with_double, with_mosaics, glyph_of, look_of}
 use Rattle.cell_looks.specs.Looks.{step, row_looks, below_of, below, can_stretch, row_of, is_covered, own_looks, looks_at}
 use Rattle.cell_looks.specs.Laws.{IsOfTables}
-
--- what holds of both choices holds of the choice
-choice : {A : Type 0} (P : A → Type 0) (b : Bool) (x y : A) → (b ≡ true → P x) → P y → P (if b then x else y)
-choice P true x y p q = p refl
-choice P false x y p q = q
 
 -- the six bits of a mosaic, if there is one
 abbrev IsHeld : Option Mosaic → Type 0
@@ -41,34 +37,34 @@ abbrev Holds : State → Type 0
 Holds s = IsHeld s.held
 
 holds_double : (d : Bool) (s : State) → Holds s → Holds (with_double d s)
-holds_double true s h = choice Holds s.double _ _ (λ e. h) tt
-holds_double false s h = choice Holds s.double _ _ (λ e. tt) h
+holds_double true s h = cond_both s.double _ _ Holds (λ e. h) (λ e. tt)
+holds_double false s h = cond_both s.double _ _ Holds (λ e. tt) (λ e. h)
 
 holds_mosaics : (m : Bool) (k : Colour) (s : State) → Holds s → Holds (with_mosaics m k s)
-holds_mosaics true k s h = choice IsHeld s.mosaics s.held None (λ e. h) tt
-holds_mosaics false k s h = choice IsHeld s.mosaics None s.held (λ e. tt) h
+holds_mosaics true k s h = cond_both s.mosaics s.held None IsHeld (λ e. h) (λ e. tt)
+holds_mosaics false k s h = cond_both s.mosaics None s.held IsHeld (λ e. tt) (λ e. h)
 
 holds_at : (s : State) (c : ℕ) → Holds s → Holds (at s c)
 holds_at s c h =
-    choice Holds (c == 0x89) _ _ (λ e. h)
-    (choice Holds (c == 0x8C) _ _ (λ e. holds_double false s h)
-    (choice Holds (c == 0x98) _ _ (λ e. h)
-    (choice Holds (c == 0x99) _ _ (λ e. h)
-    (choice Holds (c == 0x9A) _ _ (λ e. h)
-    (choice Holds (c == 0x9C) _ _ (λ e. h)
-    (choice Holds (c == 0x9D) _ _ (λ e. h)
-    (choice Holds (c == 0x9E) _ _ (λ e. h) h)))))))
+    cond_both (c == 0x89) _ _ Holds (λ e. h)
+    (λ e. cond_both (c == 0x8C) _ _ Holds (λ e. holds_double false s h)
+    (λ e. cond_both (c == 0x98) _ _ Holds (λ e. h)
+    (λ e. cond_both (c == 0x99) _ _ Holds (λ e. h)
+    (λ e. cond_both (c == 0x9A) _ _ Holds (λ e. h)
+    (λ e. cond_both (c == 0x9C) _ _ Holds (λ e. h)
+    (λ e. cond_both (c == 0x9D) _ _ Holds (λ e. h)
+    (λ e. cond_both (c == 0x9E) _ _ Holds (λ e. h) (λ e. h))))))))
 
 holds_seen : (s : State) (c : ℕ) → Holds s → Holds (seen s c)
-holds_seen s c h = choice Holds (s.mosaics && is_mosaic c) _ _ (λ e. is_held c s.separated) h
+holds_seen s c h = cond_both (s.mosaics && is_mosaic c) _ _ Holds (λ e. is_held c s.separated) (λ e. h)
 
 holds_after : (s : State) (c : ℕ) → Holds s → Holds (after s c)
 holds_after s c h =
-    choice Holds (nat_le 0x81 c && nat_le c 0x87) _ _ (λ e. holds_mosaics false (colour_of (c - 0x80)) s h)
-    (choice Holds (nat_le 0x91 c && nat_le c 0x97) _ _ (λ e. holds_mosaics true (colour_of (c - 0x90)) s h)
-    (choice Holds (c == 0x88) _ _ (λ e. h)
-    (choice Holds (c == 0x8D) _ _ (λ e. choice Holds s.can_stretch _ _ (λ f. holds_double true s h) h)
-    (choice Holds (c == 0x9F) _ _ (λ e. h) h))))
+    cond_both (nat_le 0x81 c && nat_le c 0x87) _ _ Holds (λ e. holds_mosaics false (colour_of (c - 0x80)) s h)
+    (λ e. cond_both (nat_le 0x91 c && nat_le c 0x97) _ _ Holds (λ e. holds_mosaics true (colour_of (c - 0x90)) s h)
+    (λ e. cond_both (c == 0x88) _ _ Holds (λ e. h)
+    (λ e. cond_both (c == 0x8D) _ _ Holds (λ e. cond_both s.can_stretch _ _ Holds (λ f. holds_double true s h) (λ e. h))
+    (λ e. cond_both (c == 0x9F) _ _ Holds (λ e. h) (λ e. h)))))
 
 holds_step : (s : State) (c : ℕ) → Holds s → Holds (step s c)
 holds_step s c h = holds_after (seen (at s c) c) c (holds_seen (at s c) c (holds_at s c h))
@@ -84,8 +80,8 @@ of_block (Some m) h = h
 
 of_glyph : (s : State) (c : ℕ) → Holds s → IsOfTables (glyph_of s c)
 of_glyph s c h =
-    choice IsOfTables (nat_le 0x80 c) _ _ (λ e. choice IsOfTables (s.mosaics && s.hold) _ _ (λ f. of_block s.held h) of_space)
-    (choice IsOfTables (s.mosaics && is_mosaic c) _ _ (λ e. of_block (mosaic_of c s.separated) (is_held c s.separated)) (c, refl))
+    cond_both (nat_le 0x80 c) _ _ IsOfTables (λ e. cond_both (s.mosaics && s.hold) _ _ IsOfTables (λ f. of_block s.held h) (λ e. of_space))
+    (λ e. cond_both (s.mosaics && is_mosaic c) _ _ IsOfTables (λ e. of_block (mosaic_of c s.separated) (is_held c s.separated)) (λ e. (c, refl)))
 
 abbrev IsFine : Look → Type 0
 IsFine a = IsOfTables a.glyph
@@ -106,4 +102,4 @@ fine_below (a ∷ row) h =
 
 pub glyphs_are_of_tables : (cells : List ℕ) (r : ℕ) → P.All (λ a. IsOfTables a.glyph) (looks_at cells r)
 glyphs_are_of_tables cells r =
-    choice (P.All IsFine) (is_covered cells r) _ _ (λ e. fine_below (own_looks cells (r - 1)) (fine_row (start (can_stretch (r - 1))) (row_of cells (r - 1)) tt)) (fine_row (start (can_stretch r)) (row_of cells r) tt)
+    cond_both (is_covered cells r) _ _ (P.All IsFine) (λ e. fine_below (own_looks cells (r - 1)) (fine_row (start (can_stretch (r - 1))) (row_of cells (r - 1)) tt)) (λ e. fine_row (start (can_stretch r)) (row_of cells r) tt)

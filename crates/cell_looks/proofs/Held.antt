@@ -67,9 +67,6 @@ free_step s c =
 alike_step : (s t : State) (c : ℕ) → free s ≡ free t → free (step s c) ≡ free (step t c)
 alike_step s t c e = free_step s c ∙ (ap (λ (u : State). free (step u c)) e ∙ sym (free_step t c))
 
-bare_look : (s : State) (c : ℕ) → bare (look_of s c) ≡ bare (look_of (free s) c)
-bare_look s c = refl
-
 bare_cell : (s t : State) (c : ℕ) → free s ≡ free t → bare (look_of (at s c) c) ≡ bare (look_of (at t c) c)
 bare_cell s t c e =
     ap (λ (u : State). bare (look_of u c)) (free_at s c ∙ (ap (λ (u : State). free (at u c)) e ∙ sym (free_at t c)))

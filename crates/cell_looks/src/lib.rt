@@ -12,6 +12,7 @@
 //! ```
 //!
 //! - [`screen_looks`]: the [`Looks`] of a screen.
+//! - [`row_codes`]: the codes of a row.
 //! - [`hides_text`]: whether a double height hides text of the row beneath.
 //! - [`Look`]: how a cell looks. [`Glyph`], [`Mosaic`], [`Sextants`], [`Colour`], [`Height`]: its parts. [`Shown`]: what one
 //!   sees of it.
@@ -33,4 +34,4 @@ pub use laws::{
 };
 pub use look::{Colour, Glyph, Height, Look, Shown};
 pub use mosaic::{Mosaic, Sextants};
-pub use screen::{Looks, hides_text, screen_looks};
+pub use screen::{Looks, hides_text, row_codes, screen_looks};

@@ -44,8 +44,8 @@ fn can_stretch(row: usize) -> bool
     row >= 1 && row <= 22
 }
 
-// The codes of a row.
-fn row_codes(cells: &[u8; 960], row: usize) -> &[u8]
+/// The codes of a row, from 0.
+pub fn row_codes(cells: &[u8; 960], row: usize) -> &[u8]
     requires { row < 24 }
     ensures value { result.now ≡ spec.row_of cells.now row }
     ensures size { length result.now ≡ 40 }

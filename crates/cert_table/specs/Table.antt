@@ -87,9 +87,13 @@ abbrev pub unless_fault : Option TableFault → CertView → Result CertView Tab
 unless_fault None cert = Ok cert
 unless_fault (Some fault) cert = Err fault
 
--- the certificate of these parts, or the refusal of its rows
+-- the certificate of these parts
+abbrev pub cert_of : ℕ → ℕ → ℕ → List ℕ → List Row → CertView
+cert_of entry ceiling keyings groups rows = record { entry = entry; ceiling = ceiling; keyings = keyings; groups = groups; rows = rows }
+
+-- the same, or the refusal of its rows
 abbrev pub built : ℕ → ℕ → ℕ → List ℕ → List Row → Result CertView TableFault
-built entry ceiling keyings groups rows = unless_fault (table_fault rows) (record { entry = entry; ceiling = ceiling; keyings = keyings; groups = groups; rows = rows })
+built entry ceiling keyings groups rows = unless_fault (table_fault rows) (cert_of entry ceiling keyings groups rows)
 
 -- no refusal applies if and only if the rows are a table on the screen
 abbrev pub FaultsAreExact : Type 0

@@ -1,6 +1,6 @@
-ghost use Rattle.std.specs.Prelude.{◌≡◌};
+ghost use Rattle.std.specs.Prelude.{◌≡◌, None};
 ghost use Rattle.std.specs.Option.{option_copied};
-ghost use Rattle.cert_table.specs.Table.{AreRows, AreOnScreen, is_on_screen, comes_after, row_fault, table_fault, built, FaultsAreExact};
+ghost use Rattle.cert_table.specs.Table.{AreRows, AreOnScreen, is_on_screen, comes_after, row_fault, table_fault, cert_of, built, FaultsAreExact};
 
 use crate::cover::Cover;
 use crate::limits::MOST_ROWS;
@@ -110,6 +110,26 @@ pub fn faults_are_exact()
 {}
 
 impl<C: Cover + Drop> Certificate<C> {
+    /// The certificate of parts whose rows aren't refused. Takes no memory.
+    pub fn of(
+        entry: PageNo,
+        ceiling: Pence,
+        keyings: u16,
+        groups: Groups,
+        rows: Vec<Row>,
+    ) -> Certificate<C>
+        requires { table_fault rows.items ≡ None }
+        ensures { result ≡ cert_of entry ceiling keyings groups rows.items }
+    {
+        Certificate {
+            entry,
+            ceiling,
+            keyings,
+            groups,
+            cover: C::of(rows),
+        }
+    }
+
     /// The certificate of these parts, whose rows are in the order of their ids.
     ///
     /// Takes no memory. C2, then for each row in order C3, C1; after a refusal the rows are dropped.
@@ -124,13 +144,7 @@ impl<C: Cover + Drop> Certificate<C> {
     {
         match table_fault(rows.as_slice()) {
             Some(fault) => Err(fault),
-            None => Ok(Certificate {
-                entry,
-                ceiling,
-                keyings,
-                groups,
-                cover: C::of(rows),
-            }),
+            None => Ok(Certificate::of(entry, ceiling, keyings, groups, rows)),
         }
     }
 

@@ -24,7 +24,8 @@ use Rattle.abstract_paint.specs.Paint.{OnScreen}
 use Rattle.cert_text.specs.Grammar.{place_text, pend_text, cursor_text, row_line, IsRow}
 use Rattle.page_ids.specs.Parts.{parts_of}
 use Rattle.cert_text.specs.Lines.{number_or_cause, line_number, number_after, place_in, pend_in, without_pend, cursor_in, row_of, row_in}
-use Rattle.page_ids.proofs.Truths.{both}
+use Rattle.std.proofs.lemmas.Bool.{and_parts}
+use Rattle.page_ids.proofs.Digits.{all_decimal}
 use Rattle.page_ids.proofs.Numbers.{number_again, decimal_digits}
 use Rattle.cert_table.specs.Table.{comes_after}
 
@@ -55,9 +56,9 @@ place_again (Spot c) is = rw (number_again 959 c (omega arith) (omega (arith, is
 ends_number : (c : ℕ) (ds : List ℕ) (k : ℕ) → list_all is_ascii_digit ds ≡ true → k < length ds
     → is_ascii_digit (get_or (c ∷ ds) (suc k) 0) ≡ true
 ends_number c [] k all lt = absurd (omega arith)
-ends_number c (d ∷ ds) zero all lt = (both (is_ascii_digit d) (list_all is_ascii_digit ds) all).0
+ends_number c (d ∷ ds) zero all lt = (and_parts (is_ascii_digit d) (list_all is_ascii_digit ds) all).0
 ends_number c (d ∷ ds) (suc k) all lt =
-    ends_number d ds k (both (is_ascii_digit d) (list_all is_ascii_digit ds) all).1 (omega arith)
+    ends_number d ds k (and_parts (is_ascii_digit d) (list_all is_ascii_digit ds) all).1 (omega arith)
 
 no_pend : (d : ℕ) → is_ascii_digit d ≡ true → (eqb d 43 ≡ false) × (eqb d 63 ≡ false)
 no_pend d h = (grind (arith, nat_tests), grind (arith, nat_tests))
@@ -69,7 +70,7 @@ number_no_pend c n small =
     let last : get_or (c ∷ decimal n) (length (c ∷ decimal n) - 1) 0
     ≡ get_or (c ∷ decimal n) (suc (length (decimal n) - 1)) 0 = ap (λ (k : ℕ). get_or (c ∷ decimal n) k 0) place in
     let digit =
-    ends_number c (decimal n) (length (decimal n) - 1) (decimal_digits n (omega arith)) (omega (arith, some)) in
+    ends_number c (decimal n) (length (decimal n) - 1) (decimal_digits n) (omega (arith, some)) in
     let no = no_pend (get_or (c ∷ decimal n) (suc (length (decimal n) - 1)) 0) digit in
     rw (last, no.0, no.1) refl
 
@@ -106,7 +107,7 @@ AllAbove m bytes = AllByRecursion (λ b. m ≤ b) bytes
 pub above_all : (m : ℕ) (xs : List ℕ) → list_all (λ b. leb m b) xs ≡ true → AllAbove m xs
 above_all m [] h = tt
 above_all m (x ∷ xs) h =
-    let b = both (leb m x) (list_all (λ b. leb m b) xs) h in (above m x b.0, above_all m xs b.1) where
+    let b = and_parts (leb m x) (list_all (λ b. leb m b) xs) h in (above m x b.0, above_all m xs b.1) where
       above : (m x : ℕ) → leb m x ≡ true → m ≤ x
       above m x h = grind (arith, nat_tests)
 
@@ -118,25 +119,18 @@ pub above_less : (m n : ℕ) (xs : List ℕ) → n ≤ m → AllAbove m xs → A
 above_less m n [] le p = tt
 above_less m n (x ∷ xs) le p = (omega (arith, p.0), above_less m n xs le p.1)
 
-above_digits : (ds : List ℕ) → list_all is_ascii_digit ds ≡ true → AllAbove 33 ds
-above_digits [] h = tt
-above_digits (d ∷ ds) h =
-    let b = both (is_ascii_digit d) (list_all is_ascii_digit ds) h in (digit_above d b.0, above_digits ds b.1) where
-      digit_above : (d : ℕ) → is_ascii_digit d ≡ true → 33 ≤ d
-      digit_above d h = grind (arith, nat_tests)
-
-pub above_decimal : (n : ℕ) → n ≤ 999999999 → AllAbove 33 (decimal n)
-above_decimal n small = above_digits (decimal n) (decimal_digits n (omega arith))
+pub above_decimal : (n : ℕ) → AllAbove 33 (decimal n)
+above_decimal n = above_all 33 (decimal n) (all_decimal (λ b. leb 33 b) (λ d lt. grind (arith, nat_tests)) n)
 
 pub above_id : (i : Id) → IsFrameId i → AllAbove 33 (frame_text i)
 above_id i is =
     let letter : 33 ≤ i.letter = omega (arith, is.letter.0) in above_append 33 (decimal i.page) (i.letter ∷ [])
-    (above_decimal i.page is.page) (letter, tt)
+    (above_decimal i.page) (letter, tt)
 
 above_place : (p : Place) → OnScreen p → AllAbove 33 (place_text p)
 above_place Any is = (omega arith, (omega arith, (omega arith, tt)))
-above_place (Col c) is = (omega arith, above_decimal c (omega (arith, is)))
-above_place (Spot c) is = (omega arith, above_decimal c (omega (arith, is)))
+above_place (Col c) is = (omega arith, above_decimal c)
+above_place (Spot c) is = (omega arith, above_decimal c)
 
 above_pend : (d : Pend) → AllAbove 33 (pend_text d)
 above_pend No = tt
@@ -183,7 +177,7 @@ unfolding row_in
 row_again rows r is after =
     rw (
       parts_again (frame_text r.id) (decimal r.rank) (cursor_text r.cursor) (above_id r.id is.id)
-          (above_decimal r.rank (omega (arith, is.rank))) (above_cursor r.cursor is.place),
+          (above_decimal r.rank) (above_cursor r.cursor is.place),
       row_of_again r is,
       after,
     ) refl

@@ -8,7 +8,8 @@ use Rattle.cert_text.specs.declared.stage.Stage.TheVariants.{Magic, Head, Groups
 use Rattle.cert_text.specs.declared.stage.Field.TheVariants.{Entry, Ceiling, Keyings, Count}
 use Rattle.frame_records.specs.Steps.{◌>>=◌}
 use Rattle.cert_text.specs.Reading.{Said, Reading, Fault, start, number_of, judge, lengthen, is_over, take_byte, step, run, ended, reading, line_ends}
-use Rattle.cert_text.proofs.Spelled.{bind_ok, needs, lacks, ok_is}
+use Rattle.cert_text.proofs.Spelled.{bind_ok}
+use Rattle.page_ids.proofs.Truths.{needs, lacks, ok_is}
 use Rattle.page_ids.proofs.KeyTexts.{chosen}
 use Rattle.cert_text.proofs.Found.{Holds, holds_step, holds_start, holds_run, took_line, at_line_ok}
 use Rattle.cert_text.proofs.Only.{longer, run_append}

@@ -19,11 +19,11 @@ use Rattle.cert_text.specs.Grammar.{has_groups, first_line, groups_lines, entry_
 use Rattle.frame_records.specs.Steps.{◌>>=◌}
 use Rattle.cert_text.specs.Lines.{number_after, groups_after, row_in}
 use Rattle.cert_text.specs.Reading.{Said, Reading, IsSound, Fault, nothing, begins, start, number_of, word_of, most_of, put, stage_after, judge, judge_at, judge_magic, judge_groups, judge_row, judge_end, lengthen, is_over, take_byte, at_line, step, run, ended, certificate_of, reading}
-use Rattle.cert_text.proofs.Spelled.{bind_ok, ok_is, needs, lacks, number_after_found, row_found}
+use Rattle.cert_text.proofs.Spelled.{bind_ok, number_after_found, row_found}
 use Rattle.page_ids.proofs.KeyTexts.{chosen}
 use Rattle.cert_text.proofs.Sound.{with_grouped, with_groups, most_small, put_sound, grouped_sound, groups_sound, row_sound}
 use Rattle.cert_text.proofs.GroupLines.{one_line, has_some, groups_found}
-use Rattle.page_ids.proofs.Truths.{clash}
+use Rattle.page_ids.proofs.Truths.{clash, ok_is, needs, lacks}
 use Rattle.frame_records.proofs.GroupTexts.{no_groups}
 
 -- the lines before the rows

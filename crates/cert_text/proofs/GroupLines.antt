@@ -1,3 +1,4 @@
+use Rattle.page_ids.proofs.Truths.{needs, ok_is}
 -- The line of the groups.
 use Rattle.std.proofs.Common.{◌≡◌, ◌≢◌, ℕ, ◌*◌, ◌≤◌, true, List, [], ◌∷◌, ◌++◌, length, take, drop, Result, Ok, Err, refl, sym, ap, ◌∙◌, arith, length-append}
 use Rattle.std.specs.Prelude.{codes}
@@ -17,7 +18,6 @@ use Rattle.frame_records.proofs.GroupTexts.{texts_found, texts_only}
 use Rattle.cert_text.specs.declared.fault.LineCause.TheVariants.{Word}
 use Rattle.cert_text.specs.Grammar.{has_groups, spaced, groups_line, groups_lines}
 use Rattle.cert_text.specs.Lines.{groups_or_cause, groups_after}
-use Rattle.cert_text.proofs.Spelled.{needs, ok_is}
 use Rattle.cert_text.proofs.Again.{AllAbove, IsLine, above_all, above_append, above_less, above_decimal, bytes_same}
 
 -- ---- what it says
@@ -90,7 +90,7 @@ groups_again g gs valid =
 spaced_above : (groups : List ℕ) → AllByRecursion IsGroup groups → AllAbove 11 (spaced groups)
 spaced_above [] each = tt
 spaced_above (g ∷ gs) each =
-    let number = above_less 33 11 (decimal g) (omega arith) (above_decimal g (omega (arith, each.0))) in
+    let number = above_less 33 11 (decimal g) (omega arith) (above_decimal g) in
     (omega arith, above_append 11 (decimal g) (spaced gs) number (spaced_above gs each.1))
 
 spaced_short : (groups : List ℕ) → AllByRecursion IsGroup groups → length (spaced groups) ≤ 6 * length groups

@@ -13,7 +13,8 @@ use Rattle.cert_text.specs.declared.stage.Field.TheVariants.{Entry, Ceiling, Key
 use Rattle.cert_text.specs.Grammar.{has_groups, groups_lines, rows_line, row_line}
 use Rattle.frame_records.specs.Steps.{◌>>=◌}
 use Rattle.cert_text.specs.Reading.{Said, Reading, Fault, start, number_of, judge, lengthen, is_over, take_byte, step, run, run_on, ended, HasNoEnd, line_ends, judged}
-use Rattle.cert_text.proofs.Spelled.{bind_ok, needs, lacks, ok_is}
+use Rattle.cert_text.proofs.Spelled.{bind_ok}
+use Rattle.page_ids.proofs.Truths.{needs, lacks, ok_is}
 use Rattle.page_ids.proofs.KeyTexts.{chosen}
 use Rattle.cert_text.proofs.Found.{head_of, lines_before, HaveCome, Holds, holds_step, holds_start, took_line, at_line_ok}
 use Rattle.cert_text.proofs.GroupLines.{counted}

@@ -30,8 +30,9 @@ use Rattle.cert_text.specs.declared.stage.Field.TheVariants.{Entry, Ceiling, Key
 use Rattle.cert_text.specs.Grammar.{has_groups, first_line, groups_line, groups_lines, entry_line, ceiling_line, keyings_line, rows_line, row_line, place_text, pend_text, cursor_text, text_of, certificate_text, IsRow, IsCertificate, IsCertificateText}
 use Rattle.frame_records.specs.Steps.{◌>>=◌}
 use Rattle.cert_text.specs.Reading.{Said, Reading, Fault, nothing, begins, start, number_of, word_of, most_of, put, stage_after, judge, judge_at, is_over, at_line, step, run, ended, reading}
+use Rattle.page_ids.proofs.Truths.{ok_is}
 use Rattle.page_ids.proofs.Numbers.{decimal_digits}
-use Rattle.page_ids.proofs.Truths.{both}
+use Rattle.std.proofs.lemmas.Bool.{and_parts}
 use Rattle.std.proofs.lemmas.List.Elements.{recursion_from_All}
 use Rattle.cert_text.proofs.Again.{IsLine, AllAbove, above_all, above_append, above_less, above_decimal, above_id, above_cursor, number_after_again, row_again}
 use Rattle.cert_text.proofs.GroupLines.{groups_again, groups_is_line}
@@ -115,7 +116,7 @@ short_word Count = omega arith
 word_number : (word : List ℕ) (n : ℕ) → AllAbove 11 word → length word ≤ 10 → n ≤ 999999999 → IsLine (word ++ decimal n)
 word_number word n above short small =
     let len : length (decimal n) ≤ 9 = length-decimal-le 9 n (omega arith) (omega arith) (omega arith) in
-    let digits = above_less 33 11 (decimal n) (omega arith) (above_decimal n small) in
+    let digits = above_less 33 11 (decimal n) (omega arith) (above_decimal n) in
     record {
       above = above_append 11 word (decimal n) above digits;
       short = omega (arith, length-append word (decimal n), len);
@@ -162,7 +163,7 @@ pend_short Maybe = omega arith
 row_is_line : (r : Row) → IsRow r → IsLine (row_line r)
 row_is_line r is =
     let a = above_less 33 11 (frame_text r.id) (omega arith) (above_id r.id is.id) in
-    let b = above_less 33 11 (decimal r.rank) (omega arith) (above_decimal r.rank (omega (arith, is.rank))) in
+    let b = above_less 33 11 (decimal r.rank) (omega arith) (above_decimal r.rank) in
     let c = above_less 33 11 (cursor_text r.cursor) (omega arith) (above_cursor r.cursor is.place) in
     let space : 11 ≤ 32 = omega arith in
     let la : length (decimal r.id.page) ≤ 9 =
@@ -186,7 +187,7 @@ not_end : (ds x y : List ℕ) → 0 < length ds → list_all is_ascii_digit ds �
     → bytes_eq ((ds ++ x) ++ y) (codes "end") ≡ false
 not_end [] x y some all = absurd (omega arith)
 not_end (d ∷ ds) x y some all =
-    let first = both (is_ascii_digit d) (list_all is_ascii_digit ds) all in
+    let first = and_parts (is_ascii_digit d) (list_all is_ascii_digit ds) all in
     let no : eqb d 101 ≡ false = digit_no d first.0 in
     rw no refl where
       digit_no : (d : ℕ) → is_ascii_digit d ≡ true → eqb d 101 ≡ false
@@ -195,7 +196,7 @@ not_end (d ∷ ds) x y some all =
 row_not_end : (r : Row) → IsRow r → bytes_eq (row_line r) (codes "end") ≡ false
 row_not_end r is =
     not_end (decimal r.id.page) (r.id.letter ∷ []) (32 ∷ (decimal r.rank ++ (32 ∷ cursor_text r.cursor)))
-    (decimal_nonempty r.id.page (omega (arith, is.id.page))) (decimal_digits r.id.page (omega (arith, is.id.page)))
+    (decimal_nonempty r.id.page (omega (arith, is.id.page))) (decimal_digits r.id.page)
 
 abbrev Ascend : List Row → Type 0
 Ascend rows = AllAdjacentBelow (λ r t. id_cmp r.id t.id ≡ Less) rows (length rows)
@@ -287,16 +288,10 @@ run_certificate c is =
 pub only : (c : CertView) → IsCertificate c → reading (certificate_text c) ≡ Ok c
 only c is = ap (λ (r : Result Reading Fault). r >>= ended) (run_certificate c is)
 
-abbrev done : CertView → Result CertView Fault
-done c = Ok c
-
-done_is : (c d : CertView) → done c ≡ done d → c ≡ d
-done_is c d e = cc
-
 -- a text has one certificate
 pub one_certificate : (bytes : List ℕ) (c d : CertView) → IsCertificateText bytes c → IsCertificateText bytes d → c ≡ d
 one_certificate bytes c d p q =
-    done_is c d (sym (only c p.valid) ∙ ap reading (sym p.spelled ∙ q.spelled) ∙ only d q.valid)
+    ok_is c d (sym (only c p.valid) ∙ ap reading (sym p.spelled ∙ q.spelled) ∙ only d q.valid)
 
 -- after the last line each byte is too many
 step_over : (s : Said) (b : ℕ) → step (begins After s) b ≡ Err (number_of After s, causes.Tail)

@@ -10,6 +10,7 @@ use Rattle.std.proofs.lemmas.List.{take-append-drop, append-nil}
 use Rattle.std.proofs.lemmas.List.Splits.{join_with_byte-slice_split}
 use Rattle.std.specs.Option.{ok_or}
 use Rattle.page_ids.proofs.KeyTexts.{chosen}
+use Rattle.page_ids.proofs.Truths.{ok_is, needs}
 use Rattle.page_ids.proofs.IdTexts.{split_end, id_found}
 use Rattle.page_ids.specs.Ids.{Id, frame_text}
 use Rattle.page_ids.specs.declared.number.NumberFault.{NumberFault}
@@ -38,20 +39,6 @@ bind_ok (Err d) f y e = absurd cc
 
 abbrev done : {A : Type 0} → A → Result A LineCause
 done x = Ok x
-
-pub ok_is : {A : Type 0} (x y : A) → done x ≡ done y → x ≡ y
-ok_is x y e = cc
-
--- tests that did not fail
-pub needs : {A : Type 0} (b : Bool) (d : LineCause) (r : Result A LineCause) (y : A) → cond b r (Err d) ≡ Ok y
-    → (b ≡ true) × (r ≡ Ok y)
-needs true d r y e = (refl, e)
-needs false d r y e = absurd cc
-
-pub lacks : {A : Type 0} (b : Bool) (d : LineCause) (r : Result A LineCause) (y : A) → cond b (Err d) r ≡ Ok y
-    → (b ≡ false) × (r ≡ Ok y)
-lacks true d r y e = absurd cc
-lacks false d r y e = (refl, e)
 
 number_ok : (r : Result ℕ NumberFault) (n : ℕ) → number_or_cause r ≡ Ok n → r ≡ Ok n
 number_ok (Ok m) n e = let same : m ≡ n = ok_is m n e in ap Ok same

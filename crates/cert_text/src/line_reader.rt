@@ -2,7 +2,7 @@
 
 ghost use Rattle.std.specs.Prelude.{◌≡◌, IfErr};
 ghost use Rattle.cert_text.specs.declared.fault.ReadFault.TheVariants.{Memory};
-ghost use Rattle.cert_text.specs.Reading.{start, judge, lengthen, is_over, take_byte, step, run, ended, Gives};
+ghost use Rattle.cert_text.specs.Reading.{start, number_of, judge, lengthen, is_over, at_line, step, run, ended, Gives};
 ghost use Rattle.cert_text.specs.Loops.{Turns, Reads};
 
 use crate::fault::{LineCause, LineFault, ReadFault};
@@ -42,8 +42,14 @@ impl LineReader {
         }
     }
 
-    // A whole line has come.
-    fn take_line(&mut self) -> Result<(), LineFault>
+    // The number of the line that is due.
+    fn number(&self) -> u32
+        ensures { result ≡ number_of self.now.stage self.now.said }
+    {
+        self.said.number(self.stage)
+    }
+
+    fn judge_line(&mut self) -> Result<(), LineFault>
         ensures { Turns result self.new (judge self.old) }
     {
         let line = mem::replace(&mut self.line, ArrayVec::new());
@@ -51,15 +57,27 @@ impl LineReader {
         Ok(())
     }
 
+    // A whole line has come.
+    fn take_line(&mut self) -> Result<(), ReadFault>
+        ensures { Reads result self.new (at_line (number_of self.old.stage self.old.said) (judge self.old)) }
+    {
+        let number = self.number();
+        match self.judge_line() {
+            Ok(()) => Ok(()),
+            Err(LineFault::Memory) => Err(ReadFault::Memory),
+            Err(LineFault::Says(cause)) => Err(ReadFault::Line(number, cause)),
+        }
+    }
+
     // A byte that ends no line.
-    fn lengthen(&mut self, byte: u8) -> Result<(), LineFault>
-        ensures { Turns result self.new (lengthen self.old byte) }
+    fn lengthen(&mut self, byte: u8) -> Result<(), ReadFault>
+        ensures { Reads result self.new (at_line (number_of self.old.stage self.old.said) (lengthen self.old byte)) }
     {
         if self.line.len() < 128 {
             self.line.push(byte);
             Ok(())
         } else {
-            Err(LineFault::Says(LineCause::Word))
+            Err(ReadFault::Line(self.number(), LineCause::Word))
         }
     }
 
@@ -70,29 +88,18 @@ impl LineReader {
         matches!(self.stage, Stage::After)
     }
 
-    fn take_byte(&mut self, byte: u8) -> Result<(), LineFault>
-        ensures { Turns result self.new (take_byte self.old byte) }
-    {
-        if self.is_over() {
-            return Err(LineFault::Says(LineCause::Tail));
-        }
-        if byte == b'\n' {
-            self.take_line()
-        } else {
-            self.lengthen(byte)
-        }
-    }
-
     // One byte; a fault is that of the line that was due.
     #[tactic(auto, unfolding(crate::specs::Reading::step))]
     fn step(&mut self, byte: u8) -> Result<(), ReadFault>
         ensures { Reads result self.new (step self.old byte) }
     {
-        let number = self.said.number(self.stage);
-        match self.take_byte(byte) {
-            Ok(()) => Ok(()),
-            Err(LineFault::Memory) => Err(ReadFault::Memory),
-            Err(LineFault::Says(cause)) => Err(ReadFault::Line(number, cause)),
+        if self.is_over() {
+            return Err(ReadFault::Line(self.number(), LineCause::Tail));
+        }
+        if byte == b'\n' {
+            self.take_line()
+        } else {
+            self.lengthen(byte)
         }
     }
 
@@ -114,8 +121,7 @@ impl LineReader {
         if self.is_over() {
             Ok(self.said.build())
         } else {
-            let number = self.said.number(self.stage);
-            Err(ReadFault::Line(number, LineCause::Truncated))
+            Err(ReadFault::Line(self.number(), LineCause::Truncated))
         }
     }
 }

@@ -172,13 +172,8 @@ impl SoFar {
     pub fn build(self) -> Certificate
         ensures { result ≡ certificate_of self }
     {
-        let (Some(entry), Some(ceiling)) = (PageNo::new(self.entry), Pence::new(self.ceiling))
-        else {
-            unreachable!()
-        };
-        match Certificate::build(entry, ceiling, self.keyings, self.groups, self.rows) {
-            Ok(cert) => cert,
-            Err(_) => unreachable!(),
-        }
+        let entry = PageNo::of(self.entry);
+        let ceiling = Pence::of(self.ceiling);
+        Certificate::of(entry, ceiling, self.keyings, self.groups, self.rows)
     }
 }

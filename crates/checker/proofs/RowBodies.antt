@@ -15,7 +15,7 @@ use Rattle.abstract_paint.specs.Paint.{calm, paint_from, paint_of, is_cell_code,
 use Rattle.abstract_paint.proofs.Codes.{goes_on, code_touches, codes_go_on}
 use Rattle.abstract_paint.proofs.Exact.{is_exact}
 use Rattle.checker.specs.Laws.{has_double_height, row_22, RowsAreClean}
-use Rattle.page_ids.proofs.Truths.{both}
+use Rattle.std.proofs.lemmas.Bool.{and_parts}
 use Rattle.abstract_paint.proofs.Codes.{same_paint}
 
 cell : (c : ℕ) → is_row_code c ≡ true → is_cell_code c ≡ true
@@ -33,7 +33,7 @@ serves_22 p c false e lo hi = grind (arith, nat_tests)
 fits : (p : ℕ) (cs : List ℕ) → are_row_codes cs ≡ true → 40 ≤ p → p + length cs ≤ 880 → codes_fit p cs ≡ true
 fits p [] h lo hi = refl
 fits p (c ∷ cs) h lo hi =
-    let b = both (is_row_code c) (are_row_codes cs) h in
+    let b = and_parts (is_row_code c) (are_row_codes cs) h in
     let s = inside p c lo (omega arith) in
     rw (cell c b.0) (rw s (fits (p + 1) cs b.1 (omega arith) (omega arith)))
 
@@ -45,7 +45,7 @@ neither false b = refl
 fits_22 : (p : ℕ) (cs : List ℕ) → are_row_codes cs ≡ true → 880 ≤ p → p + length cs ≤ 920 → codes_fit p cs ≡ not (has_double_height cs)
 fits_22 p [] h lo hi = refl
 fits_22 p (c ∷ cs) h lo hi =
-    let b = both (is_row_code c) (are_row_codes cs) h in
+    let b = and_parts (is_row_code c) (are_row_codes cs) h in
     let s = serves_22 p c (c == 141) refl lo (omega arith) in
     rw (cell c b.0) (rw s (rw (fits_22 (p + 1) cs b.1 (omega arith) (omega arith)) (neither (c == 141) (has_double_height cs))))
 
@@ -53,7 +53,7 @@ fits_22 p (c ∷ cs) h lo hi =
 codes_touch : (cs rest : List ℕ) (p i : ℕ) → are_row_codes cs ≡ true → codes_fit p cs ≡ false → (j : ℕ) × (paint_from (calm (Spot p)) i (cs ++ rest) ≡ Touches j)
 codes_touch [] rest p i h f = cc
 codes_touch (c ∷ cs) rest p i h f =
-    let b = both (is_row_code c) (are_row_codes cs) h in
+    let b = and_parts (is_row_code c) (are_row_codes cs) h in
     by_test (cell c b.0) (λ more. codes_touch cs rest (p + 1) (i + 1) b.1 more) (is_service p c) refl where
       by_test : is_cell_code c ≡ true → (codes_fit (p + 1) cs ≡ false → (j : ℕ) × (paint_from (calm (Spot (p + 1))) (i + 1) (cs ++ rest) ≡ Touches j)) → (r : Bool) → is_service p c ≡ r → (j : ℕ) × (paint_from (calm (Spot p)) i (c ∷ cs ++ rest) ≡ Touches j)
       by_test is later true e = (i, code_touches c (cs ++ rest) p i is e)

@@ -66,12 +66,7 @@ pub fn check_bytes(
     // If the answer is Cleared, the headline holds of the two texts.
     ensures headline { result ≡ Ok Verdict.Cleared → Headline base.now cert.now policy.now }
 {
-    let base = match base_of(alloc, base) {
-        Ok(base) => base,
-        Err(fault) => return Err(fault),
-    };
-    match cert_of(alloc, cert) {
-        Ok(cert) => Ok(check(&base, policy, &cert)),
-        Err(fault) => Err(fault),
-    }
+    let base = base_of(alloc, base)?;
+    let cert = cert_of(alloc, cert)?;
+    Ok(check(&base, policy, &cert))
 }

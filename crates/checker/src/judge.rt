@@ -10,7 +10,7 @@ ghost use Rattle.session_machine.specs.Sessions.{opening};
 ghost use Rattle.session_machine.specs.Runs.{state_after};
 ghost use Rattle.checker.specs.Good.{Good};
 ghost use Rattle.checker.specs.Safe.{Safe, HasRows};
-ghost use Rattle.checker.specs.Verdict.{verdict, verdict_of, same_cursor, on_head, on_frame, on_painting, on_ways, on_frame_of_row, on_row, on_rows};
+ghost use Rattle.checker.specs.Verdict.{verdict, verdict_of, on_head, on_frame, on_painting, on_ways, on_frame_of_row, on_row, on_rows};
 
 use crate::count::{Count, together};
 use crate::cover::seek_row;
@@ -18,7 +18,7 @@ use crate::policy::Policy;
 use crate::rank::ways_cause;
 use crate::verdict::{Cause, Verdict};
 use crate::ways::over_ways;
-use abstract_paint::{AbsCursor, Painted, paint};
+use abstract_paint::{Painted, paint};
 use cert_table::{Certificate, Cover, Row};
 use frame_records::{Base, Frame};
 
@@ -39,12 +39,6 @@ fn judge_frame<C: Cover + Drop>(cert: &Certificate<C>, row: &Row, frame: &Frame)
     None
 }
 
-fn is_same_cursor(a: AbsCursor, b: AbsCursor) -> bool
-    ensures { result ≡ same_cursor a b }
-{
-    a == b
-}
-
 // K9 and K10: the frame's painting. The body is painted once.
 fn judge_painting(row: &Row, frame: &Frame) -> Option<Cause>
     ensures { result ≡ (on_painting row.now frame.now).first_cause }
@@ -52,7 +46,7 @@ fn judge_painting(row: &Row, frame: &Frame) -> Option<Cause>
     let id = row.id;
     match paint(frame.lead, frame.body.as_slice()) {
         Painted::Touches(offset) => Some(Cause::Touches(id, offset)),
-        Painted::Clean(cursor) if is_same_cursor(cursor, row.cursor) => None,
+        Painted::Clean(cursor) if cursor == row.cursor => None,
         Painted::Clean(_) => Some(Cause::CursorDiffers(id)),
     }
 }

@@ -51,6 +51,15 @@ module _ (a b c : Seen) (xs ys : List ℕ) (first : TookAll a b xs) where
         flushed = next.flushed ∙ ap (λ m. if n == length ys then one_more m else m) first.unflushed ∙ ap (λ t. if t then one_more a.flushes else a.flushes) same;
       }
 
+-- more of the text is kept
+pub kept_more : (old now : Seen) (kept more : List ℕ) (wrote : ℕ) (text line : List ℕ) → more ≡ kept ++ line → IsOnItsWay old now kept wrote text → IsOnItsWay old now more wrote (text ++ line)
+kept_more old now kept more wrote text line is way = record {
+  front = way.front;
+  all = ap (λ xs. xs ++ line) way.all ∙ append_assoc way.front kept line ∙ ap (λ xs. way.front ++ xs) (sym is);
+  counted = way.counted;
+  took = way.took;
+}
+
 -- facts about one text
 module _ (start now new : Seen) (kept : List ℕ) (wrote : ℕ) (text : List ℕ) (way : IsOnItsWay start now kept wrote text) where
   pub taken_on : TookAll now new kept → (n : ℕ) → n ≡ wrote + length kept → IsOnItsWay start new [] n text

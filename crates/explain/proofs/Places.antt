@@ -1,6 +1,6 @@
 -- Places in a list of names.
-use Rattle.std.proofs.Common.{◌≡◌, ℕ, ◌+◌, ◌<◌, List, [], ◌∷◌, ◌&&◌, length, get_or, arith, subst, Bool, true, false, nat_lt, refl, sym, ap, ◌∙◌}
-use Rattle.std.proofs.lemmas.Bool.{false≢true}
+use Rattle.std.proofs.Common.{◌≡◌, ℕ, ◌+◌, ◌<◌, List, [], ◌∷◌, length, get_or, arith, subst, Bool, true, false, nat_lt, refl, sym, ap, ◌∙◌}
+use Rattle.std.proofs.lemmas.Bool.{and_parts, false≢true}
 use Rattle.std.proofs.lemmas.Bool.Decides.{nat_tests}
 use Rattle.std.specs.Borrow.{Bor}
 use Rattle.std.proofs.lemmas.List.{get_or-map}
@@ -42,19 +42,15 @@ pub not_word : (names : List (Bor (List ℕ))) (sought : Sought) (line : List �
 not_word names sought line at place d below differs e =
     false≢true (sym differs ∙ (ap (is_word sought line at) (sym (text_at names place d below)) ∙ e))
 
-right : (a b : Bool) → (a && b) ≡ true → b ≡ true
-right true b e = e
-right false b e = absurd (false≢true e)
-
 -- a code and a word with a capital letter are words
 any_word : (sought : Sought) (line : List ℕ) (at : ℕ) (name : List ℕ) → is_word sought line at name ≡ true → is_word Any line at name ≡ true
 any_word Any line at name e = e
 any_word Code line at [] e = absurd (false≢true e)
 any_word Code line at (a ∷ []) e = absurd (false≢true e)
-any_word Code line at (a ∷ b ∷ rest) e = right (is_code (a ∷ b ∷ rest)) (is_word_at line at (a ∷ b ∷ rest)) e
+any_word Code line at (a ∷ b ∷ rest) e = (and_parts (is_code (a ∷ b ∷ rest)) (is_word_at line at (a ∷ b ∷ rest)) e).1
 any_word Capital line at [] e = absurd (false≢true e)
 any_word Capital line at (a ∷ []) e = absurd (false≢true e)
-any_word Capital line at (a ∷ b ∷ rest) e = right (is_capital (a ∷ b ∷ rest)) (is_word_at line at (a ∷ b ∷ rest)) e
+any_word Capital line at (a ∷ b ∷ rest) e = (and_parts (is_capital (a ∷ b ∷ rest)) (is_word_at line at (a ∷ b ∷ rest)) e).1
 
 -- the same of other names and another line, which are the same
 pub has_word : (sought : Sought) (names others : List (List ℕ)) (bytes line : List ℕ) → names ≡ others → bytes ≡ line

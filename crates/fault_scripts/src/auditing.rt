@@ -7,7 +7,7 @@ ghost use Rattle.fault_scripts.specs.Outcomes.{AreAllFaults, IsOutcome, DecidesS
 
 use crate::fault::{Fault, FaultKind, FaultList};
 use crate::frames::{Judge, judge_all};
-use crate::outcome::{Judgement, Outcome};
+use crate::outcome::Outcome;
 use crate::table::GatheredRows;
 use cert_table::Certificate;
 use checker::Policy;
@@ -50,70 +50,73 @@ fn certificate_of(base: &Base, groups: &Groups, table: GatheredRows) -> Certific
 {
     let mut rows = table.rows;
     rows.sort_unstable_by_key(|row| row.id);
-    match Certificate::build(
+    Certificate::of(
         base.entry(),
         table.ceiling,
         table.keyings,
         groups.copy(),
         rows,
-    ) {
-        Ok(cert) => cert,
-        Err(_) => unreachable!(),
+    )
+}
+
+/// The faults of a base whose frames a survey found for the policy's groups, as [`faults`] finds them.
+pub fn faults_surveyed(
+    alloc: Global,
+    survey: &Survey,
+    policy: &Policy,
+) -> Result<FaultList, AllocError>
+    requires groups { survey.now.groups ≡ policy.now.groups }
+    requires finding { IsFinding policy.now.groups survey.now.base survey.now.found }
+    ensures { IfOk result (AreFaults survey.now.base policy.now) }
+{
+    match entry_fault(alloc, survey.base(), policy)? {
+        Some(faults) => Ok(faults),
+        None => Ok(FaultList::of(judged(alloc, survey, policy)?.reporter.faults)),
     }
 }
 
-// The outcome of a base whose entry frame is found.
-fn audit_found(alloc: Global, base: &Base, policy: &Policy) -> Result<Outcome, AllocError>
-    requires valid { IsBase base.now }
-    requires found { EntryIsFound policy.now.groups base.now }
-    ensures { IfOk result (IsOutcome base.now policy.now) }
+/// Every fault of a base, for a caller who is in the policy's groups and no others.
+///
+/// The faults are in the order of the discovery of their frames, and within a frame Price, Touches, Missing and Closed by key
+/// (`0` to `9`, `#`), NoReturn. If the entry frame is missing or closed, that is the one fault.
+pub fn faults(alloc: Global, base: &Base, policy: &Policy) -> Result<FaultList, AllocError>
+    ensures { IfOk result (AreFaults base.now policy.now) }
 {
     let survey = Survey::of(alloc, base, &policy.groups)?;
-    let judge = judged(alloc, &survey, policy)?;
+    faults_surveyed(alloc, &survey, policy)
+}
+
+// The outcome of a base whose entry frame is found.
+fn outcome_found(alloc: Global, survey: &Survey, policy: &Policy) -> Result<Outcome, AllocError>
+    requires valid { IsBase survey.now.base }
+    requires found { EntryIsFound policy.now.groups survey.now.base }
+    requires groups { survey.now.groups ≡ policy.now.groups }
+    requires finding { IsFinding policy.now.groups survey.now.base survey.now.found }
+    ensures { IfOk result (IsOutcome survey.now.base policy.now) }
+{
+    let judge = judged(alloc, survey, policy)?;
     if judge.reporter.faults.as_slice().is_empty() {
-        Ok(Outcome::Certified(certificate_of(base, &policy.groups, judge.table)))
+        Ok(Outcome::Certified(certificate_of(survey.base(), &policy.groups, judge.table)))
     } else {
         Ok(Outcome::Faulty(FaultList::of(judge.reporter.faults)))
     }
 }
 
-// The outcome: a certificate, or the faults.
-fn outcome_of(alloc: Global, base: &Base, policy: &Policy) -> Result<Outcome, AllocError>
-    ensures is { IfOk result (IsOutcome base.now policy.now) }
-    ensures valid { IsBase base.now }
+/// The outcome for a base whose frames a survey found for the policy's groups, as [`audit`] gives it.
+pub fn audit_surveyed(
+    alloc: Global,
+    survey: &Survey,
+    policy: &Policy,
+) -> Result<Outcome, AllocError>
+    requires groups { survey.now.groups ≡ policy.now.groups }
+    requires finding { IsFinding policy.now.groups survey.now.base survey.now.found }
+    ensures is { IfOk result (IsOutcome survey.now.base policy.now) }
+    ensures valid { IsBase survey.now.base }
 {
-    match entry_fault(alloc, base, policy)? {
+    match entry_fault(alloc, survey.base(), policy)? {
         Some(faults) => Ok(Outcome::Faulty(faults)),
-        None => audit_found(alloc, base, policy),
+        None => outcome_found(alloc, survey, policy),
     }
-}
-
-/// Every fault of a base, for a caller who is in the policy's groups and no others, and the frames that this caller can
-/// reach, each looked for once.
-///
-/// The faults are in the order of the discovery of their frames, and within a frame Price, Touches, Missing and Closed by key
-/// (`0` to `9`, `#`), NoReturn. If the entry frame is missing or closed, that is the one fault, and no frame is reached.
-pub fn judge_base(alloc: Global, base: &Base, policy: &Policy) -> Result<Judgement, AllocError>
-    ensures faults { IfOk result (λ j. AreFaults base.now policy.now j.faults) }
-    ensures found { IfOk result (λ j. IsFinding policy.now.groups base.now j.found) }
-{
-    let survey = Survey::of(alloc, base, &policy.groups)?;
-    let faults = match entry_fault(alloc, base, policy)? {
-        Some(faults) => faults,
-        None => FaultList::of(judged(alloc, &survey, policy)?.reporter.faults),
-    };
-    Ok(Judgement {
-        faults,
-        found: survey.into_found(),
-    })
-}
-
-/// The faults alone.
-pub fn faults(alloc: Global, base: &Base, policy: &Policy) -> Result<FaultList, AllocError>
-    ensures { IfOk result (AreFaults base.now policy.now) }
-{
-    let Judgement { faults, .. } = judge_base(alloc, base, policy)?;
-    Ok(faults)
 }
 
 /// Audits a base for a caller of exactly the policy's groups: a certificate if and only if every session is
@@ -126,5 +129,6 @@ pub fn audit(alloc: Global, base: &Base, policy: &Policy) -> Result<Outcome, All
     ensures safety { IfOk result (DecidesSafety base.now policy.now) }
     ensures shown { IfOk result (AreShown base.now policy.now) }
 {
-    outcome_of(alloc, base, policy)
+    let survey = Survey::of(alloc, base, &policy.groups)?;
+    audit_surveyed(alloc, &survey, policy)
 }

@@ -44,16 +44,6 @@ pub struct Fault {
     pub price: Pence,
 }
 
-// The price of a fault that isn't about one.
-pub fn no_price() -> Pence
-    ensures { result ≡ 0 }
-{
-    match Pence::new(0) {
-        Some(price) => price,
-        None => unreachable!(),
-    }
-}
-
 // The keys, as a list of its own.
 fn copied(alloc: Global, keys: &[Key]) -> Result<KeyList, AllocError>
     ensures { IfOk result (λ list. list ≡ keys.now) }
@@ -91,7 +81,7 @@ impl Fault {
             sought: None,
             script,
             start: None,
-            price: no_price(),
+            price: Pence::FREE,
         })
     }
 
@@ -143,7 +133,7 @@ impl Fault {
             sought: Some(to),
             script,
             start: None,
-            price: no_price(),
+            price: Pence::FREE,
         })
     }
 }

@@ -2,7 +2,7 @@ ghost use Rattle.std.specs.Prelude.{◌≡◌, ◌<◌, ◌≤◌, ◌+◌, IfOk
 ghost use Rattle.finder.specs.Finds.{IsFinding};
 ghost use Rattle.fault_scripts.specs.Loops.{IsJudged};
 
-use crate::reporter::{Reporter, discovered_at};
+use crate::reporter::Reporter;
 use crate::table::GatheredRows;
 use abstract_paint::paint;
 use checker::Policy;
@@ -30,7 +30,7 @@ impl Judge {
         requires judged { IsJudged survey.now.base policy.now survey.now.found index self.old }
         ensures { OnOk result (IsJudged survey.now.base policy.now survey.now.found (index + 1) self.new) }
     {
-        let discovered = discovered_at(survey, index);
+        let discovered = survey.discovered_at(index);
         let frame = survey.frame(index as usize);
         let painted = paint(frame.lead, frame.body.as_slice());
         self.reporter

@@ -9,8 +9,8 @@
 //! ```
 //!
 //! - [`audit`], [`Outcome`]: the certificate of the frames that can be reached, or the faults.
-//! - [`judge_base`], [`Judgement`], [`FaultList`], [`Fault`], [`FaultKind`]: what is wrong with a base, frame by frame in the
-//!   order of discovery, and the frames that were discovered. [`faults`]: the former alone.
+//! - [`faults`], [`FaultList`], [`Fault`], [`FaultKind`]: what is wrong with a base, frame by frame in the order of discovery.
+//! - [`audit_surveyed`], [`faults_surveyed`]: the same of a survey that the caller has made.
 //! - [`replay`], [`Replayed`]: the result of a session of a fault's keys.
 //! - [`faults_are_due`], [`faults_are_one`], [`faults_are_shown`], [`none_is_safe`]: the list is complete, it is the only such
 //!   list, each fault is borne out by its script, and there is none if and only if the base is safe.
@@ -26,8 +26,8 @@ mod replaying;
 mod reporter;
 mod table;
 
-pub use auditing::{audit, faults, judge_base};
+pub use auditing::{audit, audit_surveyed, faults, faults_surveyed};
 pub use fault::{Fault, FaultKind, FaultList};
 pub use laws::{faults_are_due, faults_are_one, faults_are_shown, none_is_safe};
-pub use outcome::{Judgement, Outcome};
+pub use outcome::Outcome;
 pub use replaying::{Replayed, replay};

@@ -1,6 +1,5 @@
 use crate::fault::FaultList;
 use cert_table::Certificate;
-use finder::Found;
 
 /// The result of the audit of a base.
 #[derive(Drop)]
@@ -9,11 +8,4 @@ pub enum Outcome {
     Certified(Certificate),
     /// It isn't; every fault, of which there is at least one.
     Faulty(FaultList),
-}
-
-/// The faults of a base, and the frames that a caller can reach.
-#[derive(Drop)]
-pub struct Judgement {
-    pub faults: FaultList,
-    pub found: Found,
 }

@@ -1,4 +1,4 @@
-ghost use Rattle.std.specs.Prelude.{◌≡◌, ◌<◌, ◌*◌, ◌+◌, ◌++◌, [], None, Some, OnOk, length, slice_get, option_map};
+ghost use Rattle.std.specs.Prelude.{◌≡◌, ◌<◌, ◌*◌, ◌+◌, ◌++◌, [], None, Some, OnOk, length, option_map};
 ghost use Rattle.std.specs.Option.{option_to_list};
 ghost use Rattle.abstract_paint.specs.Paint.{paint_of};
 ghost use Rattle.finder.specs.Finds.{ScriptsExtend, script};
@@ -9,7 +9,7 @@ use crate::fault::Fault;
 use crate::frame_fault::{FrameFault, over_price, return_fault, touch_start, way_fault};
 use abstract_paint::Painted;
 use checker::Policy;
-use finder::{Discovered, Found, Survey, script_to};
+use finder::{Found, Survey, script_to};
 use frame_records::Frame;
 use page_ids::{FrameId, Key, Way};
 use std::alloc::{AllocError, Global};
@@ -22,14 +22,6 @@ pub struct Reporter {
     pub at: Option<u32>,
     pub keys: Vec<Key>,
     pub faults: Vec<Fault>,
-}
-
-// The discovered frame at an index of the list.
-pub fn discovered_at<'a>(survey: &'a Survey, index: u32) -> &'a Discovered
-    requires { index < length survey.now.found }
-    ensures { slice_get survey.now.found index ≡ Some result.now }
-{
-    &survey.found().as_slice()[index as usize]
 }
 
 // The keys that lead to the frame at an index, looked for anew.
@@ -138,7 +130,7 @@ impl Reporter {
         requires reporting { IsReporting survey.now.base policy.now survey.now.found (index * 14) self.old }
         ensures { OnOk result (IsReporting survey.now.base policy.now survey.now.found ((index + 1) * 14) self.new) }
     {
-        let discovered = discovered_at(survey, index);
+        let discovered = survey.discovered_at(index);
         let id = discovered.id;
         self.report(
             alloc,

@@ -1,7 +1,6 @@
 ghost use Rattle.std.specs.Prelude.{◌≡◌, ◌++◌, [], OnOk, max, unwrap_or};
 ghost use Rattle.fault_scripts.specs.Loops.{row_of};
 
-use crate::fault::no_price;
 use abstract_paint::Painted;
 use cert_table::Row;
 use frame_records::Pence;
@@ -60,7 +59,7 @@ impl GatheredRows {
     {
         GatheredRows {
             rows: Vec::new(alloc),
-            ceiling: no_price(),
+            ceiling: Pence::FREE,
             keyings: 0,
         }
     }

@@ -17,7 +17,7 @@ row_of : (p q : Pair) → IsBefore p q → p.0 < q.0 + 1
 row_of p q before = ⊎_elim (λ less. omega (arith, less)) (λ same. omega (arith, same.0)) before
 
 -- a key has one way
-same_way : (v w : Way) → way_key v ≡ way_key w → v ≡ w
+pub same_way : (v w : Way) → way_key v ≡ way_key w → v ≡ w
 same_way (Route d) (Route e) h = cc
 same_way (Route d) Next h = absurd cc
 same_way Next (Route e) h = absurd cc

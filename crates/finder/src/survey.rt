@@ -8,7 +8,7 @@ ghost use Rattle.finder.specs.Survey.{IsFrameAt};
 
 use crate::direction::Direction;
 use crate::discover::{Discovery, discover};
-use crate::found::Found;
+use crate::found::{Discovered, Found};
 use crate::graph::Graph;
 use crate::notes::Notes;
 use crate::table::WayTable;
@@ -99,6 +99,20 @@ impl<'a> Survey<'a> {
         Survey::of_graph(alloc, graph)
     }
 
+    /// The base.
+    pub fn base(&self) -> &'a Base
+        ensures { result.now ≡ self.now.base }
+    {
+        self.table.base
+    }
+
+    /// The caller's groups.
+    pub fn groups(&self) -> &'a Groups
+        ensures { result.now ≡ self.now.groups }
+    {
+        self.table.groups
+    }
+
     /// The list alone.
     pub fn into_found(self) -> Found
         ensures { result ≡ self.entry.found }
@@ -111,6 +125,14 @@ impl<'a> Survey<'a> {
         ensures { result.now ≡ self.now.found }
     {
         &self.found
+    }
+
+    /// The discovered frame at an index of the list.
+    pub fn discovered_at(&self, index: u32) -> &Discovered
+        requires { index < length self.now.found }
+        ensures { slice_get self.now.found index ≡ Some result.now }
+    {
+        &self.found.as_slice()[index as usize]
     }
 
     /// The record of the discovered frame at an index of the list.

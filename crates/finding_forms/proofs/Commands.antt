@@ -1,5 +1,6 @@
 -- Commands without a control character.
 use Rattle.std.proofs.Common.{◌≡◌, ℕ, ◌<◌, ◌≤◌, ◌^◌, Bool, true, false, not, ◌==◌, if◌then◌else◌, List, [], ◌∷◌, ◌++◌, codes, decimal, chars, refl, sym, subst, append-nil, arith, Option, Some, None, IfSome}
+use Rattle.std.proofs.lemmas.Bool.{and_from, and_parts}
 use Rattle.std.specs.Prelude.{nat_lt}
 use Rattle.std.specs.List.{flat_map, list_all}
 use Rattle.std.specs.Char.{is_control}
@@ -10,7 +11,7 @@ use Rattle.std.proofs.lemmas.Str.{encodes-chars, scalars-chars}
 use Rattle.lint_words.specs.declared.code.Code.{Code}
 use Rattle.lint_words.specs.Lines.{IsLine}
 use Rattle.lint_words.specs.WordsOf.{WordsView}
-use Rattle.lint_words.proofs.LineParts.{first_of, second_of, both, IsLine-append, IsLine-plain, IsLine-encodes}
+use Rattle.lint_words.proofs.LineParts.{IsLine-append, IsLine-plain, IsLine-encodes}
 use Rattle.lint.specs.declared.finding.Level.{Level}
 use Rattle.toml_places.specs.declared.text_lines.Extent.{Extent}
 use Rattle.finding_forms.specs.declared.github_form.Slot.{Slot}
@@ -32,7 +33,7 @@ low_one c low = grind (arith, nat_tests)
 
 IsLine-one : (c : ℕ) → scalar c ≡ true → not (is_control c) ≡ true → IsLine (encode c)
 IsLine-one c s p =
-    subst IsLine (append-nil (encode c)) (IsLine-encodes (c ∷ []) (both (scalar c) true s refl) (both (not (is_control c)) true p refl))
+    subst IsLine (append-nil (encode c)) (IsLine-encodes (c ∷ []) (and_from (scalar c) true s refl) (and_from (not (is_control c)) true p refl))
 
 message_low : (c : ℕ) (percent : Bool) → IsLine (c ∷ []) → IsLine (if percent then codes "%25" else c ∷ [])
 message_low c true is = IsLine-plain (codes "%25") refl
@@ -59,9 +60,9 @@ chars_line : (s : Slot) (cs : List ℕ) → scalars cs ≡ true → list_all (λ
     → IsLine (flat_map (escaped_byte s) (encodes cs))
 chars_line s [] are printable = IsLine-plain [] refl
 chars_line s (c ∷ cs) are printable =
-    let shows = first_of (not (is_control c)) (list_all (λ d. not (is_control d)) cs) printable in
-    let one = char_line s c (nat_lt c 128) refl (IsLine-one c (first_of (scalar c) (scalars cs) are) shows) in
-    let more = chars_line s cs (second_of (scalar c) (scalars cs) are) (second_of (not (is_control c)) (list_all (λ d. not (is_control d)) cs) printable) in
+    let shows = (and_parts (not (is_control c)) (list_all (λ d. not (is_control d)) cs) printable).0 in
+    let one = char_line s c (nat_lt c 128) refl (IsLine-one c (and_parts (scalar c) (scalars cs) are).0 shows) in
+    let more = chars_line s cs (and_parts (scalar c) (scalars cs) are).1 (and_parts (not (is_control c)) (list_all (λ d. not (is_control d)) cs) printable).1 in
     subst IsLine (sym (flat_map-append (escaped_byte s) (encode c) (encodes cs))) (IsLine-append _ _ one more)
 
 IsLine-escaped : (s : Slot) (bytes : List ℕ) → IsLine bytes → IsLine (escaped s bytes)

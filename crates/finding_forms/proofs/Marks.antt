@@ -1,11 +1,11 @@
 -- Characters and their marks, one by one.
 use Rattle.std.proofs.Common.{◌≡◌, ℕ, ◌+◌, true, List, [], ◌∷◌, ◌++◌, length, replicate, chars, IsUtf8, refl, ap, sym, ◌∙◌, append_assoc, append-nil, arith}
+use Rattle.std.proofs.lemmas.Bool.{and_from}
 use Rattle.std.proofs.Math.Utf8.{encode, encodes, scalar, scalars}
 use Rattle.std.proofs.lemmas.List.{replicate-append-replicate}
 use Rattle.std.proofs.lemmas.Str.{chars-encodes, chars-nil, utf8_lossy-IsUtf8}
 use Rattle.std.specs.List.{flat_map}
 use Rattle.lint_words.specs.Lines.{shown_char, shown_chars, line_of}
-use Rattle.lint_words.proofs.LineParts.{both}
 
 -- one more of the same
 pub one_more : (old : List ℕ) (n a : ℕ) → (old ++ replicate n a) ++ (a ∷ []) ≡ old ++ replicate (n + 1) a
@@ -14,7 +14,7 @@ one_more old n a = append_assoc old (replicate n a) (a ∷ []) ∙ ap (λ (x : L
 -- the line of one character
 pub line_of-char : (c : ℕ) → scalar c ≡ true → line_of (encode c) ≡ encodes (shown_char c)
 line_of-char c s =
-    let are : scalars (c ∷ []) ≡ true = both (scalar c) true s refl in
+    let are : scalars (c ∷ []) ≡ true = and_from (scalar c) true s refl in
     let utf8 : IsUtf8 (encodes (c ∷ [])) = (c ∷ [], (are, refl)) in
     ap line_of (sym (append-nil (encode c)))
     ∙ (ap (λ (bs : List ℕ). encodes (shown_chars (chars bs))) (utf8_lossy-IsUtf8 (encodes (c ∷ [])) utf8)

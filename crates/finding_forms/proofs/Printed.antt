@@ -1,5 +1,6 @@
 -- Lines that are printed of findings.
 use Rattle.std.proofs.Common.{◌≡◌, ℕ, suc, ◌+◌, ◌<◌, ◌^◌, true, not, ◌==◌, if◌then◌else◌, List, [], ◌∷◌, ◌++◌, codes, decimal, chars, length, refl, ap, ◌∙◌, arith, Option, Some, None, IfSome, Result, Ok, Err, OnOk}
+use Rattle.std.proofs.lemmas.Bool.{and_from, and_parts}
 use Rattle.std.specs.Prelude.{count_by}
 use Rattle.std.specs.List.{list_all}
 use Rattle.std.specs.Char.{is_control, digit_value}
@@ -14,7 +15,7 @@ use Rattle.lint_words.specs.declared.code.Code.{Code}
 use Rattle.lint_words.specs.declared.code.Code.TheVariants as code
 use Rattle.lint_words.specs.Lines.{IsLine}
 use Rattle.lint_words.specs.WordsOf.{WordsView}
-use Rattle.lint_words.proofs.LineParts.{both, first_of, second_of, is_plain, IsLine-append, IsLine-plain}
+use Rattle.lint_words.proofs.LineParts.{is_plain, IsLine-append, IsLine-plain}
 use Rattle.lint.specs.declared.finding.Level.{Level}
 use Rattle.lint.specs.declared.finding.Level.TheVariants as level
 use Rattle.lint.specs.Findings.{FindingView}
@@ -31,7 +32,7 @@ digit_plain d h = grind (arith, nat_tests)
 
 digits_plain : (ds : List ℕ) → AllDigits 10 ds → list_all is_plain ds ≡ true
 digits_plain [] h = refl
-digits_plain (d ∷ ds) h = both (is_plain d) (list_all is_plain ds) (digit_plain d h.0) (digits_plain ds h.1)
+digits_plain (d ∷ ds) h = and_from (is_plain d) (list_all is_plain ds) (digit_plain d h.0) (digits_plain ds h.1)
 
 pub IsLine-decimal : (n : ℕ) → n < 2 ^ 64 → IsLine (decimal n)
 IsLine-decimal n fits = IsLine-plain (decimal n) (digits_plain (decimal n) (decimal_is_IsNumeral n fits).0.1)
@@ -112,8 +113,8 @@ feeds_char c p = grind (arith, nat_tests)
 feeds_chars : (cs : List ℕ) → list_all (λ c. not (is_control c)) cs ≡ true → feeds (encodes cs) ≡ 0
 feeds_chars [] p = refl
 feeds_chars (c ∷ cs) p =
-    let one = feeds_char c (first_of (not (is_control c)) (list_all (λ c. not (is_control c)) cs) p) in
-    let more = feeds_chars cs (second_of (not (is_control c)) (list_all (λ c. not (is_control c)) cs) p) in
+    let one = feeds_char c (and_parts (not (is_control c)) (list_all (λ c. not (is_control c)) cs) p).0 in
+    let more = feeds_chars cs (and_parts (not (is_control c)) (list_all (λ c. not (is_control c)) cs) p).1 in
     rw (feeds-append (encode c) (encodes cs), one, more) refl
 
 feeds_line : (line : List ℕ) → IsLine line → feeds line ≡ 0

@@ -1,5 +1,6 @@
 -- The bytes of a line that are taken, one by one.
-use Rattle.std.proofs.Common.{◌≡◌, ℕ, zero, suc, ◌+◌, ◌-◌, ◌<◌, Bool, true, false, not, ◌&&◌, ◌||◌, nat_lt, nat_le, List, length, slice_index, refl, ap, ◌∙◌, arith}
+use Rattle.std.proofs.Common.{◌≡◌, ℕ, zero, suc, ◌+◌, ◌-◌, ◌<◌, true, false, not, ◌||◌, nat_lt, nat_le, List, length, slice_index, refl, ap, ◌∙◌, arith}
+use Rattle.std.proofs.lemmas.Bool.{and_parts, not-true, or_parts}
 use Rattle.std.proofs.lemmas.Bool.Decides.{nat_tests}
 use Rattle.toml_places.specs.Strings.{starts_char}
 use Rattle.finding_forms.specs.Excerpts.{left_after, goes_back, goes_ahead, ends_at, begin_before, end_within, end_ahead}
@@ -17,18 +18,10 @@ back_step text left (suc at) goes =
     let same : suc at - 1 ≡ at = omega arith in
     rw (goes, same) refl
 
-not-both : (a b : Bool) → (not a && b) ≡ true → a ≡ false
-not-both true b goes = absurd cc
-not-both false b goes = refl
-
-neither : (a b : Bool) → (a || b) ≡ false → a ≡ false
-neither true b stops = absurd cc
-neither false b stops = refl
-
 pub ahead_room : (text : List ℕ) (left at : ℕ) → goes_ahead text left at ≡ true → at < length text
 ahead_room text left at goes =
-    let inside : ends_at text at ≡ false = not-both (ends_at text at) (nat_lt 0 left || not (starts_char (slice_index text at))) goes in
-    let short : nat_le (length text) at ≡ false = neither (nat_le (length text) at) _ inside in
+    let inside : ends_at text at ≡ false = not-true (ends_at text at) (and_parts (not (ends_at text at)) (nat_lt 0 left || not (starts_char (slice_index text at))) goes).0 in
+    let short : nat_le (length text) at ≡ false = (or_parts (nat_le (length text) at) _ inside).0 in
     grind (arith, nat_tests, short)
 
 within_stop : (text : List ℕ) (bytes left at : ℕ) → goes_ahead text left at ≡ false → end_within text bytes left at ≡ at

@@ -1,12 +1,12 @@
 //! The characters of a line, and what is below them.
 
 ghost use Rattle.std.specs.Prelude.{◌≡◌, ◌++◌, ◌∷◌, [], replicate, length, IfOk, OnOk};
-ghost use Rattle.std.specs.Char.{encode_utf8};
 ghost use Rattle.std.specs.Str.{encode_utf8_all};
 ghost use Rattle.lint_words.specs.Lines.{shown_char, line_of};
 ghost use Rattle.finding_forms.specs.FullForm as spec;
 
 use lint_words::Line;
+use page_ids::push_utf8;
 use std::alloc::{AllocError, Global};
 
 // How characters are drawn.
@@ -18,13 +18,6 @@ pub enum Drawing {
     Blank,
     // As a caret for each of their columns.
     Carets,
-}
-
-fn push_utf8(out: &mut Vec<u8>, c: char) -> Result<(), AllocError>
-    ensures { OnOk result (out.new.items ≡ out.old.items ++ encode_utf8 c) }
-{
-    let mut bytes = [0; 4];
-    out.extend_from_slice(c.encode_utf8(&mut bytes).as_bytes())
 }
 
 // A character as a line.

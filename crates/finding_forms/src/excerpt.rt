@@ -3,11 +3,10 @@
 ghost use Rattle.std.specs.Prelude.{◌≡◌, ◌+◌, ◌≤◌, length};
 ghost use Rattle.std.specs.List.{count_by};
 ghost use Rattle.toml_places.specs.Strings as strings;
-ghost use Rattle.toml_places.specs.Extents as extents;
 ghost use Rattle.finding_forms.specs.Excerpts as spec;
 
 use toml_parser::bytes::byte_at;
-use toml_places::Span;
+use toml_places::{Span, is_marked, starts_char};
 
 // A line of more characters is cut.
 const LONGEST: usize = 120;
@@ -28,19 +27,6 @@ pub struct Excerpt {
     // Whether the line has more before it and after it.
     pub goes_before: bool,
     pub goes_on: bool,
-}
-
-// In UTF-8 a character begins with any byte but 80 to BF.
-fn starts_char(byte: u8) -> bool
-    ensures { result ≡ strings.starts_char byte }
-{
-    byte < 0x80 || byte >= 0xC0
-}
-
-fn is_marked(text: &[u8]) -> bool
-    ensures { result ≡ extents.is_marked text.now }
-{
-    byte_at(text, 0) == 0xEF && byte_at(text, 1) == 0xBB && byte_at(text, 2) == 0xBF
 }
 
 // The length of a text's byte order mark, or 0.

@@ -1,5 +1,5 @@
 -- Groups are read from just their own texts.
-use Rattle.std.proofs.Common.{◌≡◌, ◌≢◌, ℕ, ◌<◌, ◌≤◌, Bool, true, false, true≢false, ◌&&◌, cond, ltb, eqb, List, [], ◌∷◌, ◌++◌, length, get_or, map, All, Result, Ok, Err, refl, sym, ap, subst, ◌∙◌, length-append, arith}
+use Rattle.std.proofs.Common.{◌≡◌, ◌≢◌, ℕ, ◌<◌, ◌≤◌, Bool, true, false, true≢false, ◌&&◌, ltb, eqb, List, [], ◌∷◌, ◌++◌, length, get_or, map, All, Result, Ok, Err, refl, sym, ap, subst, ◌∙◌, length-append, arith}
 use Rattle.std.specs.List.{join_with_byte}
 use Rattle.std.specs.Fmt.{decimal}
 use Rattle.std.specs.Char.{is_ascii_digit}
@@ -14,6 +14,7 @@ use Rattle.std.proofs.Math.Seq.{get_or-append_seam}
 use Rattle.page_ids.specs.declared.number.NumberFault.{NumberFault}
 use Rattle.page_ids.specs.declared.number.NumberFault.TheVariants.{NotNumeral, AboveLimit}
 use Rattle.page_ids.specs.Texts.{number_in}
+use Rattle.page_ids.proofs.Truths.{needs, ok_is}
 use Rattle.page_ids.proofs.Numbers.{number_found, number_again, decimal_digits}
 use Rattle.frame_records.specs.declared.groups.GroupFault.{GroupFault}
 use Rattle.frame_records.specs.declared.groups.GroupFault.TheVariants.{Range, Order}
@@ -28,25 +29,15 @@ record Fits (groups : List ℕ) (n : ℕ) : Type 0 where
   room : length groups < 16
   below : are_below groups n ≡ true
 
-abbrev good : ℕ → Result ℕ GroupFault
-good n = Ok n
-
-by_order : (b : Bool) (m n : ℕ) → cond b (good m) (Err Order) ≡ Ok n → (b ≡ true) × (m ≡ n)
-by_order true m n e = let same : m ≡ n = cc in (refl, same)
-by_order false m n e = absurd cc
-
-by_range : (b : Bool) (r : Result ℕ GroupFault) (n : ℕ) → cond b r (Err Range) ≡ Ok n → (b ≡ true) × (r ≡ Ok n)
-by_range true r n e = (refl, e)
-by_range false r n e = cc
-
 numbered_found : (groups : List ℕ) (m n : ℕ) → m ≤ 65535 → numbered groups m ≡ Ok n → (m ≡ n) × Fits groups n
 numbered_found groups m n small e =
-    let a = by_range (ltb 0 m && ltb (length groups) 16) _ n e in
-    let b = by_order (are_below groups m) m n a.1 in
+    let a = needs (ltb 0 m && ltb (length groups) 16) Range _ n e in
+    let b = needs (are_below groups m) Order (Ok m) n a.1 in
+    let same = ok_is m n b.1 in
     let both = and_parts (ltb 0 m) (ltb (length groups) 16) a.0 in
     let some : 1 ≤ m = grind (arith, nat_tests, both.0) in
     let room : length groups < 16 = grind (arith, nat_tests, both.1) in
-    (b.1, subst (Fits groups) b.1 (record { group = (some, small); room = room; below = b.0 }))
+    (same, subst (Fits groups) same (record { group = (some, small); room = room; below = b.0 }))
 
 group_found : (groups word : List ℕ) (r : Result ℕ NumberFault) (n : ℕ) → number_in 65535 word ≡ r → group_of groups r ≡ Ok n → (word ≡ decimal n) × Fits groups n
 group_found groups word (Ok m) n number e =
@@ -133,7 +124,7 @@ other_byte b c false e digit other = refl
 digits_alone : (c n : ℕ) → is_ascii_digit c ≡ false → n ≤ 65535 → HasNone c (decimal n)
 digits_alone c n other small = λ k d lt.
     let b = get_or (decimal n) k d in
-    other_byte b c (eqb b c) refl (AllPass-from_list_all is_ascii_digit (decimal n) (decimal_digits n (omega arith)) k d lt) other
+    other_byte b c (eqb b c) refl (AllPass-from_list_all is_ascii_digit (decimal n) (decimal_digits n) k d lt) other
 
 none_has : (c : ℕ) (groups : List ℕ) → is_ascii_digit c ≡ false → All IsGroup groups → All (HasNone c) (map decimal groups)
 none_has c [] other each = All-nil (HasNone c)

@@ -1,5 +1,5 @@
 -- Two lists make one base.
-use Rattle.std.proofs.Common.{◌≡◌, ℕ, zero, suc, ◌<◌, List, [], ◌∷◌, length, get_or, ◌⊎◌, inl, inr, refl, sym, ap, ◌∙◌, arith, subst}
+use Rattle.std.proofs.Common.{◌≡◌, ℕ, zero, suc, ◌<◌, List, [], ◌∷◌, length, get_or, ◌⊎◌, inl, inr, refl, sym, ap, ◌∙◌, arith}
 use Rattle.std.specs.Prelude.{Contains, IsPermutation}
 use Rattle.std.specs.List.{AllByRecursion}
 use Rattle.std.specs.List.Sorted.{IsStrictlySortedBy}
@@ -8,6 +8,7 @@ use Rattle.std.specs.declared.cmp.Ordering.{Ordering}
 use Rattle.std.specs.declared.cmp.Ordering.TheVariants.{Less}
 use Rattle.std.proofs.lemmas.Cmp.{on_total}
 use Rattle.std.proofs.lemmas.Bool.Decides.{nat_tests}
+use Rattle.std.proofs.lemmas.List.Elements.{All-contains, All-from_recursion}
 use Rattle.std.proofs.lemmas.List.Sorted.{IsPermutation-sym, Contains-permutation}
 use Rattle.std.proofs.lemmas.Map.Keys.{sorted_from_strictly_increasing, sorted_from_all_adjacent}
 use Rattle.page_ids.specs.Ids.{Id, id_cmp}
@@ -15,22 +16,21 @@ use Rattle.page_ids.specs.IdLaws.{id_cmp_total}
 use Rattle.frame_records.specs.declared.frame.Frame.{Frame}
 use Rattle.frame_records.specs.Bases.{BaseView, IsAscending, BasesAreOne}
 
-first_in : {A : Type 0} (x : A) (xs : List A) → Contains (x ∷ xs) x
+pub first_in : {A : Type 0} (x : A) (xs : List A) → Contains (x ∷ xs) x
 first_in x xs = (0, omega arith, refl)
 
-later_in : {A : Type 0} (x : A) (xs : List A) (z : A) → Contains xs z → Contains (x ∷ xs) z
+pub later_in : {A : Type 0} (x : A) (xs : List A) (z : A) → Contains xs z → Contains (x ∷ xs) z
 later_in x xs z h = (suc h.0, omega (arith, h.1), h.2)
 
 by_place : {A : Type 0} (x : A) (xs : List A) (z : A) (k : ℕ) → k < length (x ∷ xs) → get_or (x ∷ xs) k z ≡ z → (x ≡ z) ⊎ Contains xs z
 by_place x xs z zero lt at = inl at
 by_place x xs z (suc k) lt at = inr (k, omega arith, at)
 
-first_or_later : {A : Type 0} (x : A) (xs : List A) (z : A) → Contains (x ∷ xs) z → (x ≡ z) ⊎ Contains xs z
+pub first_or_later : {A : Type 0} (x : A) (xs : List A) (z : A) → Contains (x ∷ xs) z → (x ≡ z) ⊎ Contains xs z
 first_or_later x xs z h = by_place x xs z h.0 h.1 h.2
 
-all_at : {A : Type 0} (P : A → Type 0) (xs : List A) (z : A) → AllByRecursion P xs → Contains xs z → P z
-all_at P [] z all h = absurd (omega (arith, h.1))
-all_at P (x ∷ xs) z all h = elim (first_or_later x xs z h) [ inl e ↦ subst P e all.0 | inr later ↦ all_at P xs z all.1 later ]
+pub all_at : {A : Type 0} (P : A → Type 0) (xs : List A) (z : A) → AllByRecursion P xs → Contains xs z → P z
+all_at P xs z all h = All-contains P xs z (All-from_recursion P xs all) h
 
 -- after the first element that two such lists share, one has what the other has
 kept : {A : Type 0} (c : A → A → Ordering) → ((a b : A) → c a b ≡ Less → c b a ≡ Less → ⊥) → (x y : A) (xs ys : List A) (z : A) → x ≡ y → AllByRecursion (λ w. c x w ≡ Less) xs → Contains xs z → Contains (y ∷ ys) z → Contains ys z

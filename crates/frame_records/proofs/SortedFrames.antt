@@ -3,7 +3,7 @@ use Rattle.std.proofs.Common.{◌≡◌, ℕ, ◌+◌, ◌<◌, ◌≤◌, Bool,
 use Rattle.std.specs.Prelude.{find, option_map, Result, Ok, Err}
 use Rattle.std.specs.Ordering.{nat_cmp, is_lt}
 use Rattle.std.specs.Result.{is_ok}
-use Rattle.std.specs.List.{AllAdjacentBelow}
+use Rattle.std.specs.List.{AllAdjacentBelow, list_any}
 use Rattle.std.specs.List.Sorted.{IsSortedByKey, IsBinarySearchResult, IsSearchInRange}
 use Rattle.std.specs.declared.cmp.Ordering.TheVariants.{Less, Equal, Greater}
 use Rattle.std.proofs.lemmas.Bool.{cases_lt}
@@ -15,7 +15,7 @@ use Rattle.std.proofs.lemmas.List.{get_or_default}
 use Rattle.page_ids.specs.Ids.{Id, id_cmp, id_eq}
 use Rattle.page_ids.specs.IdLaws.{id_cmp_total, id_eq_same, id_eq_refl, before_of}
 use Rattle.frame_records.specs.declared.frame.Frame.{Frame}
-use Rattle.frame_records.specs.Bases.{IsAscending, frame_among, has_page, NoFrame, IsLeastId, IsLeastTwice, NoneTwice, frames_with}
+use Rattle.frame_records.specs.Bases.{IsAscending, frame_among, NoFrame, IsLeastId, IsLeastTwice, NoneTwice, frames_with}
 use Rattle.frame_records.proofs.Finds.{first_found, none_found, find_first, IsPlace, two_places, count_two}
 use Rattle.page_ids.specs.IdLaws.{not_after}
 
@@ -113,7 +113,7 @@ page_le a b e = grind (arith, nat_tests)
 no_less : (a b : ℕ) → a ≤ b → is_lt (nat_cmp b a) ≡ false
 no_less a b le = grind (arith, nat_tests)
 
-pages_sorted : (xs : List Frame) → IsAscending xs → IsSortedByKey (λ f. f.id.page) nat_cmp xs
+pub pages_sorted : (xs : List Frame) → IsAscending xs → IsSortedByKey (λ f. f.id.page) nat_cmp xs
 pages_sorted xs up k d low lt = no_less (get_or xs k d).id.page (get_or xs (k + 1) d).id.page (page_le (get_or xs k d).id (get_or xs (k + 1) d).id (not_after (get_or xs k d).id (get_or xs (k + 1) d).id (up k d lt)))
 
 pub equal_page : (a b : ℕ) → nat_cmp a b ≡ Equal → eqb a b ≡ true
@@ -125,22 +125,23 @@ less_page a b e = grind (arith, nat_tests)
 pub greater_page : (a b : ℕ) → nat_cmp a b ≡ Greater → eqb a b ≡ false
 greater_page a b e = grind (arith, nat_tests)
 
-page_at : (xs : List Frame) (page i : ℕ) → i < length xs → IsBinarySearchResult (λ f. nat_cmp f.id.page page) xs (Ok i) → has_page xs page ≡ true
-page_at [] page i lt h = absurd (omega arith)
-page_at (f ∷ fs) page i lt h = list_any_at (λ g. eqb g.id.page page) (f ∷ fs) i f lt (equal_page (get_or (f ∷ fs) i f).id.page page (h f))
+module _ {A : Type 0} (key : A → ℕ) (n : ℕ) where
+  key_at : (xs : List A) (i : ℕ) → i < length xs → IsBinarySearchResult (λ a. nat_cmp (key a) n) xs (Ok i) → list_any (λ a. eqb (key a) n) xs ≡ true
+  key_at [] i lt h = absurd (omega arith)
+  key_at (a ∷ xs) i lt h = list_any_at (λ b. eqb (key b) n) (a ∷ xs) i a lt (equal_page (key (get_or (a ∷ xs) i a)) n (h a))
 
-page_missing : (xs : List Frame) (page i : ℕ) → IsAscending xs → IsBinarySearchResult (λ f. nat_cmp f.id.page page) xs (Err i) → has_page xs page ≡ false
-page_missing xs page i up h =
-    let p = h (searchable_from_sorted nat_cmp_total (λ (f : Frame). f.id.page) xs page (pages_sorted xs up)) in
-    list_any_none (λ g. eqb g.id.page page) xs (λ k d lt. elim (cases_lt k i) [
-      | inl before ↦ less_page (get_or xs k d).id.page page (p.0 k d (omega arith) before)
-      | inr from ↦ greater_page (get_or xs k d).id.page page (p.1 k d from lt)
-    ])
+  key_missing : (xs : List A) (i : ℕ) → IsSortedByKey key nat_cmp xs → IsBinarySearchResult (λ a. nat_cmp (key a) n) xs (Err i) → list_any (λ a. eqb (key a) n) xs ≡ false
+  key_missing xs i up h =
+      let p = h (searchable_from_sorted nat_cmp_total key xs n up) in
+      list_any_none (λ a. eqb (key a) n) xs (λ k d lt. elim (cases_lt k i) [
+        | inl before ↦ less_page (key (get_or xs k d)) n (p.0 k d (omega arith) before)
+        | inr from ↦ greater_page (key (get_or xs k d)) n (p.1 k d from lt)
+      ])
 
--- a binary search decides whether a page has a frame
-pub page_found : (xs : List Frame) (page : ℕ) (r : Result ℕ ℕ) → IsAscending xs → IsSearchInRange r (length xs) → IsBinarySearchResult (λ f. nat_cmp f.id.page page) xs r → is_ok r ≡ has_page xs page
-page_found xs page (Ok i) up within h = sym (page_at xs page i within h)
-page_found xs page (Err i) up within h = sym (page_missing xs page i up h)
+  -- a binary search by a number decides whether one has it
+  pub key_found : (xs : List A) (r : Result ℕ ℕ) → IsSortedByKey key nat_cmp xs → IsSearchInRange r (length xs) → IsBinarySearchResult (λ a. nat_cmp (key a) n) xs r → is_ok r ≡ list_any (λ a. eqb (key a) n) xs
+  key_found xs (Ok i) up within h = sym (key_at xs i within h)
+  key_found xs (Err i) up within h = sym (key_missing xs i up h)
 
 -- neighbours of two ids ascend
 pub rises : (xs : List Frame) (j i : ℕ) (x y d : Frame) → i ≡ j + 1 → i < length xs → IsSortedById xs → id_eq (get_or xs j x).id (get_or xs i y).id ≡ false → id_cmp (get_or xs j d).id (get_or xs i d).id ≡ Less

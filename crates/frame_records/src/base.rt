@@ -65,6 +65,20 @@ impl Base {
         }
     }
 
+    /// The base of outside pages and frames that are in order and of which none is refused. Takes no memory.
+    pub fn of_sorted(entry: PageNo, outside: Vec<PageNo>, frames: Vec<Frame>) -> Base
+        requires { IsBase (record { entry = entry; outside = outside.items; frames = frames.items }) }
+        ensures entry { result.entry ≡ entry }
+        ensures outside { result.outside ≡ outside.items }
+        ensures frames { result.frames ≡ frames.items }
+    {
+        Base {
+            entry,
+            outside,
+            frames,
+        }
+    }
+
     /// The frame of an id; `None` if the base lacks it.
     pub fn find(&self, id: FrameId) -> Option<&Frame>
         ensures { option_copied result ≡ frame_at self.now id }

@@ -35,13 +35,13 @@ pub fn are_too_many(outside: &[PageNo], frames: &[Frame]) -> bool
     frames.len() > MOST_LISTED || outside.len() > MOST_LISTED
 }
 
-fn is_body_long(frame: &Frame) -> bool
+pub fn is_body_long(frame: &Frame) -> bool
     ensures { result ≡ is_body_long frame.now }
 {
     frame.body.as_slice().len() > MOST_BODY
 }
 
-fn is_next_after_z(frame: &Frame) -> bool
+pub fn is_next_after_z(frame: &Frame) -> bool
     ensures { result ≡ is_next_after_z frame.now }
 {
     frame.next && frame.id.letter.get() == b'z'

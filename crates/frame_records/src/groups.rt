@@ -151,11 +151,12 @@ impl Groups {
     pub fn copy(&self) -> Groups
         ensures { result ≡ self.now }
     {
+        let held = self.numbers.as_slice();
         let mut numbers = ArrayVec::new();
-        match numbers.try_extend_from_slice(self.numbers.as_slice()) {
-            Ok(()) => Groups { numbers },
-            Err(_) => unreachable!(),
+        for number in held {
+            numbers.push(*number);
         }
+        Groups { numbers }
     }
 
     /// Whether a group is among them.
@@ -178,10 +179,7 @@ impl Groups {
         requires { i < length self.now }
         ensures { slice_get self.now i ≡ Some result }
     {
-        let Some(group) = GroupNo::new(self.numbers[i]) else {
-            unreachable!()
-        };
-        group
+        GroupNo::of(self.numbers[i])
     }
 
     /// Whether these are the same groups.

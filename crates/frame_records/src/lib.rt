@@ -29,7 +29,7 @@ mod sorted;
 mod ways;
 
 pub use base::{Base, Sought, bases_are_one};
-pub use build::BuildFault;
+pub use build::{BuildFault, is_body_long, is_next_after_z};
 pub use frame::{Body, Frame, Lead};
 pub use groups::{GroupFault, Groups, GroupsFault, groups_are_texts};
 pub use limits::{MOST_BODY, MOST_GROUP, MOST_GROUPS, MOST_LISTED, MOST_PENCE};

@@ -25,6 +25,9 @@ impl Model for Pence {
 }
 
 impl Pence {
+    /// Free of charge.
+    pub const FREE: Pence = Pence { number: 0 };
+
     /// The price of a number of pence; `None` above 9,999.
     pub fn new(number: u16) -> Option<Pence>
         ensures { SomeIff result (IsPrice number) number }
@@ -34,6 +37,14 @@ impl Pence {
         } else {
             None
         }
+    }
+
+    /// The price of a number that is in range.
+    pub fn of(number: u16) -> Pence
+        requires { IsPrice number }
+        ensures { result ≡ number }
+    {
+        Pence { number }
     }
 
     /// The number of pence.
@@ -75,6 +86,14 @@ impl GroupNo {
         } else {
             None
         }
+    }
+
+    /// The group of a number that is in range.
+    pub fn of(number: u16) -> GroupNo
+        requires { IsGroup number }
+        ensures { result ≡ number }
+    {
+        GroupNo { number }
     }
 
     /// The number.

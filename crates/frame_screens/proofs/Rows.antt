@@ -2,7 +2,7 @@
 use Rattle.std.proofs.Common.{◌≡◌, ◌≢◌, ◌∙◌, ◌<◌, ◌≤◌, ℕ, suc, Bool, true, false, ◌||◌, ◌&&◌, List, [], ◌∷◌, ◌++◌, Option, Some, None, refl, sym, ap, subst, inl, inr, length, get_or, set, take, cond, arith, get_or-set_other, get_or-set_same, slice_index, nat_lt}
 use Rattle.std.proofs.lemmas.List.{length-set, length-replicate, get_or-replicate, get_or_past}
 use Rattle.std.proofs.lemmas.List.Folds.{list_any-append}
-use Rattle.std.proofs.lemmas.Bool.{cases_eq, or_parts}
+use Rattle.std.proofs.lemmas.Bool.{cases_eq, false_from_ne_true, or_from, or_parts}
 use Rattle.std.proofs.lemmas.Bool.Decides.{nat_tests}
 use Rattle.std.proofs.lemmas.List.{append-nil}
 use Rattle.std.specs.List.{AllByRecursion}
@@ -72,21 +72,14 @@ above_stored (w ∷ ws) cells p lt quiet inside before =
 
 -- A clean body.
 
-never : (b : Bool) → (b ≡ true → ⊥) → b ≡ false
-never true h = absurd (h refl)
-never false h = refl
-
-or_false : (a b : Bool) → a ≡ false → b ≡ false → (a || b) ≡ false
-or_false a b e f = cc
-
 body_quiet : (t : Screen) (body : List ℕ) → ((i : ℕ) → i < length body → has_service (writes (run t (take i body)) (slice_index body i ∷ [])) ≡ true → ⊥) → has_service (writes t body) ≡ false
 body_quiet t [] h = refl
 body_quiet t (b ∷ bs) h =
     let one = byte_writes (caret_of t) b in
     let lt : 0 < suc (length bs) = omega arith in
-    let first : has_service one ≡ false = never (has_service one) (λ e. h 0 lt (ap has_service (append-nil one) ∙ e)) in
+    let first : has_service one ≡ false = false_from_ne_true (has_service one) (λ e. h 0 lt (ap has_service (append-nil one) ∙ e)) in
     let rest : has_service (writes (byte_step t b) bs) ≡ false = body_quiet (byte_step t b) bs (λ i small e. h (suc i) (omega arith) e) in
-    list_any-append (λ (w : ℕ × ℕ). is_service w.0 w.1) one (writes (byte_step t b) bs) ∙ or_false (has_service one) (has_service (writes (byte_step t b) bs)) first rest
+    list_any-append (λ (w : ℕ × ℕ). is_service w.0 w.1) one (writes (byte_step t b) bs) ∙ or_from (has_service one) (has_service (writes (byte_step t b) bs)) first rest
 
 clean_quiet : (lead : Lead) (body : List ℕ) (t : Screen) → IsClean lead body → IsScreen t → has_service (writes (run t (lead_codes lead)) body) ≡ false
 clean_quiet lead body t clean v =
@@ -107,9 +100,6 @@ blank_cell p = blank_by p (nat_lt p 960) refl
 after_lead : (lead : Lead) (t : Screen) (p : ℕ) → cell (run t (lead_codes lead)) p ≡ cond (is_clearing lead) 32 (cell t p)
 after_lead Clear t p = blank_cell p
 after_lead Keep t p = refl
-
-single_blank : is_double_height 32 ≡ false
-single_blank = refl
 
 above_lead : (lead : Lead) (t : Screen) (p : ℕ) → is_double_height (cell t p) ≡ false → is_double_height (cell (run t (lead_codes lead)) p) ≡ false
 above_lead Clear t p before = ap is_double_height (blank_cell p)

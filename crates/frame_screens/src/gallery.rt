@@ -38,13 +38,12 @@ impl<'a> Model for Gallery<'a> {
 }
 
 impl<'a> Gallery<'a> {
-    /// The screens of a base's frames, for a caller of these groups.
-    pub fn of(alloc: Global, base: &'a Base, groups: &'a Groups) -> Result<Gallery<'a>, AllocError>
-        ensures base { IfOk result (λ gallery. gallery.base ≡ base.now) }
-        ensures groups { IfOk result (λ gallery. gallery.groups ≡ groups.now) }
-        ensures found { IfOk result (λ gallery. IsFinding groups.now base.now gallery.found) }
+    /// The screens of the frames of the base that was surveyed, for its caller.
+    pub fn over(alloc: Global, survey: Survey<'a>) -> Result<Gallery<'a>, AllocError>
+        requires { IsFinding survey.groups survey.base survey.found }
+        ensures { IfOk result (λ gallery. gallery ≡ survey.entry) }
     {
-        let survey = Survey::of(alloc, base, groups)?;
+        let base = survey.base();
         let places = Places::of(alloc, &survey)?;
         let painter = Painter::of(alloc, survey)?;
         Ok(Gallery {
@@ -52,6 +51,16 @@ impl<'a> Gallery<'a> {
             places,
             painter,
         })
+    }
+
+    /// The screens of a base's frames, for a caller of these groups.
+    pub fn of(alloc: Global, base: &'a Base, groups: &'a Groups) -> Result<Gallery<'a>, AllocError>
+        ensures base { IfOk result (λ gallery. gallery.base ≡ base.now) }
+        ensures groups { IfOk result (λ gallery. gallery.groups ≡ groups.now) }
+        ensures found { IfOk result (λ gallery. IsFinding groups.now base.now gallery.found) }
+    {
+        let survey = Survey::of(alloc, base, groups)?;
+        Gallery::over(alloc, survey)
     }
 
     // Where a frame is in the list of those that are reached.

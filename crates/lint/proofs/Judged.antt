@@ -9,16 +9,17 @@ use Rattle.checker.specs.declared.policy.Policy.{Policy}
 use Rattle.base_text.specs.declared.limits.TheConstants.{MOST_TEXT}
 use Rattle.base_text.specs.declared.detail.TextFault.{TextFault}
 use Rattle.base_text.specs.declared.whole_fault.WholeFault.{WholeFault}
-use Rattle.base_text.specs.Drafts.{DraftView, draft_of, text_faults, BeginAlike}
+use Rattle.base_text.specs.declared.listed.Listed.{Listed}
+use Rattle.base_text.specs.Drafts.{DraftView, framed, draft_of, text_faults, BeginAlike}
 use Rattle.base_text.specs.Whole.{PartsView, tree_of, parts_of}
 use Rattle.base_text.specs.WholeFaults.{AreWholeFaults}
-use Rattle.frame_records.specs.Bases.{BaseView}
+use Rattle.frame_records.specs.Bases.{BaseView, IsBaseOf}
 use Rattle.toml_places.specs.Places.{marks}
 use Rattle.lint.specs.Findings.{FindingView}
 use Rattle.base_text.proofs.KeptDetails.{begin_alike}
+use Rattle.base_text.proofs.SoundFrames as lemmas
 use Rattle.lint.specs.Lint.{Subject, Length, Toml, finding_of, faulty, text_finding, whole_finding, tables_of, tree_tables, AreSubjects, AreSubjectsIf, AreTreeSubjects, AreAuditFindings, IsJudgedBy, IsJudged}
-use Rattle.lint.specs.Loops.{IsNotToml, IsDraftOf, IsListed, IsRefused}
-use Rattle.lint.proofs.Readings.{nothing, something}
+use Rattle.lint.specs.Loops.{IsNotToml, IsDraftOf, IsFaultyDraft, sound_draft}
 
 -- what is wrong with a text that isn't too long is what is wrong with its tree
 pub in_tree : (text : List ℕ) (tree : Option Members) (subjects : List Subject) → nat_lt MOST_TEXT (length text) ≡ false → tree_of text ≡ tree
@@ -51,44 +52,59 @@ each_subject text [] [] = refl
 each_subject text [] (w ∷ ws) = ap (λ fs. whole_finding text (marks text) w ∷ fs) (each_subject text [] ws)
 each_subject text (t ∷ ts) whole = ap (λ fs. text_finding text (marks text) t ∷ fs) (each_subject text ts whole)
 
--- what was done with a draft whose base is audited, and with one that has none
-pub record HasBase (text : List ℕ) (policy : Policy) (findings : List FindingView) (base : BaseView) (d : DraftView) : Type 0 where
-  pub whole : List WholeFault
-  pub are : AreWholeFaults d.outside d.frames d.tables whole
-  pub listed : IsListed d.faults d.entry d.outside d.frames base
-  pub audited : AreAuditFindings text (marks text) (tables_of d.frames d.tables) base policy findings
-
-pub record HasNone (text : List ℕ) (findings : List FindingView) (d : DraftView) : Type 0 where
-  pub whole : List WholeFault
-  pub are : AreWholeFaults d.outside d.frames d.tables whole
-  pub refused : IsRefused d.faults d.entry d.outside d.frames
-  pub are_findings : findings ≡ map (text_finding text (marks text)) d.faults ++ map (whole_finding text (marks text)) whole
-
 module _ (text : List ℕ) (policy : Policy) (findings : List FindingView) where
   parts : (ms : Members) (e : ℕ) → nat_lt MOST_TEXT (length text) ≡ false → tree_of text ≡ Some ms → (draft_of ms).faults ≡ [] → (draft_of ms).entry ≡ Some e
-      → parts_of text ≡ Ok (record { entry = e; outside = (draft_of ms).outside; frames = (draft_of ms).frames })
+      → parts_of text ≡ Ok (record { entry = e; outside = (draft_of ms).outside; frames = map framed (draft_of ms).frames })
   parts ms e short tree sound entry = rw (short, tree, none (draft_of ms).faults (text_faults ms) (begin_alike ms) sound, entry) refl where
     none : (listed all : List TextFault) → BeginAlike listed all → listed ≡ [] → all ≡ []
     none [] [] alike e = refl
     none [] (u ∷ us) alike e = absurd alike
     none (t ∷ ts) all alike e = absurd cc
 
-  pub of_base : (base : BaseView) (draft : DraftView) → IsDraftOf text draft → HasBase text policy findings base draft → IsJudged text policy findings
-  of_base base draft is has =
-      let ms = is.0 in
-      let h = subst (HasBase text policy findings base) is.3 has in
-      let l = h.listed in
-      let none = nothing ms h.whole h.are l.0 l.1 base l.3 in
-      let p : PartsView = record { entry = l.1; outside = (draft_of ms).outside; frames = (draft_of ms).frames } in
-      let tables = subst (λ t. AreAuditFindings text (marks text) (tree_tables t) base policy findings) (sym is.2) h.audited in
-      ([], in_tree text (Some ms) [] is.1 is.2 (h.whole, h.are, sym none), (base, (p, parts ms l.1 is.1 is.2 l.0 l.2, l.3), tables))
+  -- a draft without a fault, whose base is audited
+  module _ (entry : ℕ) (outside : List ℕ) (frames : List Listed) (is : IsDraftOf text (sound_draft entry outside frames)) where
+    abbrev ms : Members
+    ms = is.0
 
-  pub of_faults : (draft : DraftView) → IsDraftOf text draft → HasNone text findings draft → IsJudged text policy findings
-  of_faults draft is has =
+    abbrev d : DraftView
+    d = draft_of ms
+
+    same : sound_draft entry outside frames ≡ d
+    same = is.3
+
+    pub of_base : (base : BaseView) → IsBaseOf entry outside (map framed frames) base → AreWholeFaults outside frames []
+        → AreAuditFindings text (marks text) (tables_of frames) base policy findings → IsJudged text policy findings
+    of_base base is_base are audited =
+        let p : PartsView = record { entry = entry; outside = d.outside; frames = map framed d.frames } in
+        let base_is = subst (λ (v : DraftView). IsBaseOf entry v.outside (map framed v.frames) base) same is_base in
+        let whole = subst (λ (v : DraftView). AreWholeFaults v.outside v.frames []) same are in
+        let none = subst (λ (v : DraftView). [] ≡ faulty v.faults []) same refl in
+        let known = subst (λ t. AreAuditFindings text (marks text) (tree_tables t) base policy findings) (sym is.2)
+        (subst (λ (v : DraftView). AreAuditFindings text (marks text) (tables_of v.frames) base policy findings) same audited) in
+        ([], in_tree text (Some ms) [] is.1 is.2 ([], whole, none), (base, (p, parts ms entry is.1 is.2 (sym (ap (λ (v : DraftView). v.faults) same)) (sym (ap (λ (v : DraftView). v.entry) same)), base_is), known))
+
+  -- a draft of which something is wrong
+  pub of_faults : (d : DraftView) (whole : List WholeFault) → IsDraftOf text d → AreWholeFaults d.outside d.frames whole → (faulty d.faults whole ≡ [] → ⊥)
+      → findings ≡ map (text_finding text (marks text)) d.faults ++ map (whole_finding text (marks text)) whole → IsJudged text policy findings
+  of_faults d whole is are some found =
       let ms = is.0 in
-      let h = subst (HasNone text findings) is.3 has in
-      let subjects = faulty (draft_of ms).faults h.whole in
-      (subjects, in_tree text (Some ms) subjects is.1 is.2 (h.whole, h.are, refl), of_some text policy findings subjects (something ms h.whole h.are h.refused) (h.are_findings ∙ each_subject text (draft_of ms).faults h.whole))
+      let subjects = faulty d.faults whole in
+      let whole_are = subst (λ (v : DraftView). (ws : List WholeFault) × AreWholeFaults v.outside v.frames ws × (subjects ≡ faulty v.faults ws)) is.3 (whole, are, refl) in
+      (subjects, in_tree text (Some ms) subjects is.1 is.2 whole_are, of_some text policy findings subjects some (found ∙ each_subject text d.faults whole))
+
+-- faults of the whole alone are some
+pub whole_some : (whole : List WholeFault) → (whole ≡ [] → ⊥) → faulty [] whole ≡ [] → ⊥
+whole_some [] some e = some refl
+whole_some (w ∷ ws) some e = absurd cc
+
+-- a draft with a fault or without an entry page has some
+pub faulty_some : (text outside : List ℕ) (frames : List Listed) (faults : List TextFault) (whole : List WholeFault) → IsFaultyDraft text outside frames faults → faulty faults whole ≡ [] → ⊥
+faulty_some text outside frames [] whole is e =
+    let d : DraftView = record { entry = is.0; outside = outside; frames = frames; faults = [] } in
+    let same : d ≡ draft_of is.1.0 = is.1.3 in
+    let has = lemmas.entry is.1.0 (sym (ap (λ (v : DraftView). v.faults) same)) in
+    is.2 refl has.0 (ap (λ (v : DraftView). v.entry) same ∙ has.1)
+faulty_some text outside frames (t ∷ ts) whole is e = absurd cc
 
 pub parsed : (bs : List ℕ) (ms : Members) → tree_of bs ≡ Some ms → parse_document bs ≡ Some ms
 parsed bs ms e = on_test (is_utf8 bs) refl where

@@ -8,7 +8,3 @@ pub one_more : {X : Type 0} (later new : Option X) (b : Bool) (x : X) (old : Opt
 one_more (Some y) new b x old h = refl
 one_more None new true x old h = sym h
 one_more None new false x old h = sym h
-
-pub or_none : {X : Type 0} (o : Option X) → option_or o None ≡ o
-or_none None = refl
-or_none (Some x) = refl

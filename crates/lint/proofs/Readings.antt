@@ -11,16 +11,14 @@ use Rattle.base_text.specs.declared.fault.Cause.{Cause}
 use Rattle.base_text.specs.declared.fault.Cause.TheVariants as cause
 use Rattle.base_text.specs.declared.detail.TextFault.{TextFault}
 use Rattle.base_text.specs.declared.whole_fault.WholeFault.{WholeFault}
-use Rattle.base_text.specs.Drafts.{DraftView, draft_of, text_faults, BeginAlike, base_fault}
+use Rattle.base_text.specs.Drafts.{DraftView, framed, draft_of, text_faults, BeginAlike, base_fault}
 use Rattle.base_text.specs.Frames.{top_fault}
 use Rattle.base_text.specs.Whole.{PartsView, parts_or, parts_of, table_parts, tree_parts, tree_of, build_cause, IsWholeCause, IsFaultOf}
 use Rattle.base_text.specs.WholeFaults.{AreWholeFaults, Agrees, build_fault, whole_cause}
-use Rattle.base_text.proofs.DraftTables.{tables_of_frames}
 use Rattle.base_text.proofs.KeptDetails.{begin_alike}
 use Rattle.base_text.proofs.SoundFrames as lemmas
 use Rattle.base_text.proofs.WholeAgreements.{all_agree}
 use Rattle.lint.specs.Lint.{Subject, Length, Toml, Text, Whole, faulty, AreTreeSubjects, AreSubjects}
-use Rattle.lint.specs.Loops.{IsRefused}
 use Rattle.lint.specs.Laws.{IsAnswer, answer_of}
 
 -- the refusal of a whole that has the cause
@@ -67,10 +65,10 @@ module _ (ms : Members) (whole : List WholeFault) where
   abbrev d : DraftView
   d = draft_of ms
 
-  module _ (are : AreWholeFaults d.outside d.frames d.tables whole) where
+  module _ (are : AreWholeFaults d.outside d.frames whole) where
     -- what Base::build answers for what the draft lists
-    built : (entry : ℕ) (r : Result BaseView BuildFault) → IsBuilt entry d.outside d.frames r → Agrees build_fault r whole
-    built entry r is = all_agree entry d.outside d.frames d.tables whole r (tables_of_frames ms) are is
+    built : (entry : ℕ) (r : Result BaseView BuildFault) → IsBuilt entry d.outside (map framed d.frames) r → Agrees build_fault r whole
+    built entry r is = all_agree entry d.outside d.frames whole r are is
 
     first_of_whole : (fault : BaseFault) (b : BuildFault) (ws : List WholeFault) → build_cause b ≡ fault.cause → fault.frame ≡ None
         → Agrees {A = BaseView} build_fault (Err b) ws → Agrees {A = BaseView} answer_of (Err fault) (map Whole ws)
@@ -78,10 +76,10 @@ module _ (ms : Members) (whole : List WholeFault) where
     first_of_whole fault b (w ∷ ws) same top h = at_top fault (whole_cause w) (ap build_cause h ∙ same) top
 
     -- a text that is sound by itself
-    of_listed : (entry : ℕ) (answer : Result BaseView BaseFault) → IsAnswerTo (Ok (record { entry = entry; outside = d.outside; frames = d.frames })) answer
+    of_listed : (entry : ℕ) (answer : Result BaseView BaseFault) → IsAnswerTo (Ok (record { entry = entry; outside = d.outside; frames = map framed d.frames })) answer
         → Agrees answer_of answer (map Whole whole)
     of_listed entry (Ok base) a =
-        let p : PartsView = record { entry = entry; outside = d.outside; frames = d.frames } in
+        let p : PartsView = record { entry = entry; outside = d.outside; frames = map framed d.frames } in
         let same : a.0 ≡ p = same_parts a.0 p (sym a.1) in
         ap (map Whole) (built entry (Ok base) (subst (λ (q : PartsView). IsBaseOf q.entry q.outside q.frames base) same a.2)) where
           listed : PartsView → Result PartsView BaseFault
@@ -90,7 +88,7 @@ module _ (ms : Members) (whole : List WholeFault) where
           same_parts : (p q : PartsView) → listed p ≡ listed q → p ≡ q
           same_parts p q e = cc
     of_listed entry (Err fault) a =
-        let r = refusal d.outside d.frames fault.cause a.1 in
+        let r = refusal d.outside (map framed d.frames) fault.cause a.1 in
         first_of_whole fault r.fault whole r.same a.0 (built entry (Err r.fault) r.is)
 
     of_draft : (answer : Result BaseView BaseFault) → IsAnswerTo (table_parts ms) answer → Agrees answer_of answer (faulty d.faults whole)
@@ -105,25 +103,6 @@ module _ (ms : Members) (whole : List WholeFault) where
       on [] (u ∷ us) e alike b = absurd alike
       on (t ∷ ts) [] e alike b = absurd alike
       on (t ∷ ts) (u ∷ us) e alike b = of_itself (base_fault u) (Text t) _ answer alike b
-
-    -- a base leaves nothing wrong, and a refusal something
-    pub nothing : d.faults ≡ [] → (entry : ℕ) (base : BaseView) → IsBaseOf entry d.outside d.frames base → faulty d.faults whole ≡ []
-    nothing sound entry base is = rw (sound, built entry (Ok base) is) refl
-
-    pub something : IsRefused d.faults d.entry d.outside d.frames → faulty d.faults whole ≡ [] → ⊥
-    something refused none = on d.faults refl (lemmas.entry ms) where
-      some : (ws : List WholeFault) (b : BuildFault) → Agrees {A = BaseView} build_fault (Err b) ws → map Whole ws ≡ [] → ⊥
-      some [] b h e = h
-      some (w ∷ ws) b h e = cc
-
-      on : (faults : List TextFault) → d.faults ≡ faults → (d.faults ≡ [] → (e : ℕ) × (d.entry ≡ Some e)) → ⊥
-      on [] e has =
-          let entry = has e in
-          let r = refused e entry.0 entry.1 in
-          some whole r.0 (built entry.0 (Err r.0) r.1) (subst (λ fs. faulty fs whole ≡ []) e none)
-      on (t ∷ ts) e has = absurd (clash (subst (λ fs. faulty fs whole ≡ []) e none)) where
-        clash : {s : Subject} {ss : List Subject} → s ∷ ss ≡ [] → ⊥
-        clash e = cc
 
 of_tree : (text : List ℕ) (tree : Option Members) (subjects : List Subject) (answer : Result BaseView BaseFault) → AreTreeSubjects text tree subjects
     → IsAnswerTo (tree_parts tree) answer → Agrees answer_of answer subjects

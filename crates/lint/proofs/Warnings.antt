@@ -25,7 +25,8 @@ use Rattle.lint.specs.Looks.{looks_of}
 use Rattle.lint.specs.Lint.{ranks_of, finds_none, is_unreached, unreached, ids_of, warning, none_reached, unreached_findings, look_findings, fault_finding, text_tables}
 use Rattle.lint.specs.Laws.{IsCutOff, AreOfAudit, WarnsOfCutOff, LintWarnsOfUnreached}
 use Rattle.lint.proofs.Meanings.{follows}
-use Rattle.page_ids.proofs.Truths.{both, not_so, not_true}
+use Rattle.std.proofs.lemmas.Bool.{and_parts}
+use Rattle.page_ids.proofs.Truths.{not_so, not_true}
 
 -- what passes a test is kept
 module _ {X : Type 0} (p : X → Bool) (xs : List X) (x : X) where
@@ -78,7 +79,7 @@ module _ (groups : List ℕ) (base : BaseView) (found : List Discovered) (finds 
   kept_is_cut_off : EntryIsFound groups base → (f : Frame) → Contains (unreached groups (ranks_of found) base.frames) f → IsCutOff groups base f
   kept_is_cut_off entry f c =
       let k = kept_from (is_unreached groups (ranks_of found)) base.frames f c in
-      let b = both (is_open groups f) (is_none (value_of (ranks_of found) f.id)) k.1 in
+      let b = and_parts (is_open groups f) (is_none (value_of (ranks_of found) f.id)) k.1 in
       record { entry = entry; listed = k.0; opens = b.0; unreached = λ r. not_true (list_any (λ d. id_eq d.id f.id) found) (sym (unranked found f.id) ∙ b.1) (listed f.id r) }
 
   cut_off_is_kept : (f : Frame) → IsCutOff groups base f → Contains (unreached groups (ranks_of found) base.frames) f

@@ -1,5 +1,5 @@
 -- Every finding of a text.
-use Rattle.std.specs.Prelude.{◌≡◌, ◌≤◌, ℕ, ◌==◌, Bool, true, false, ◌&&◌, List, [], ◌∷◌, ◌++◌, map, flat_map, if◌then◌else◌, Option, Some, None, unwrap_or, is_none, option_and_then, nat_lt, length, zip, filter}
+use Rattle.std.specs.Prelude.{◌≡◌, ◌≤◌, ℕ, ◌==◌, Bool, true, false, ◌&&◌, List, [], ◌∷◌, ◌++◌, map, flat_map, if◌then◌else◌, Option, Some, None, unwrap_or, is_none, option_and_then, nat_lt, length, filter}
 use Rattle.page_ids.specs.Ids.{Id}
 use Rattle.frame_records.specs.declared.frame.Frame.{Frame}
 use Rattle.frame_records.specs.Bases.{BaseView, frame_at}
@@ -24,6 +24,7 @@ use Rattle.lint.specs.Looks.{looks_of}
 use Rattle.lint.specs.Outside.{page_at, element_of}
 use Rattle.lint.specs.Spots.{has_rows, row_span, entry_span, line_end_at, single_at, detail_span, whole_table, whole_span, kind_table, audit_span}
 use Rattle.base_text.specs.declared.detail.TextFault.{TextFault}
+use Rattle.base_text.specs.declared.listed.Listed.{Listed}
 use Rattle.base_text.specs.declared.whole_fault.WholeFault.{WholeFault}
 use Rattle.base_text.specs.declared.whole_fault.WholeFault.TheVariants.{Duplicate}
 use Rattle.toml_places.specs.Skips.{place_at}
@@ -158,7 +159,7 @@ faulty faults whole = map Text faults ++ map Whole whole
 
 abbrev pub AreDraftSubjects : DraftView → List Subject → Type 0
 AreDraftSubjects draft subjects =
-    (whole : List WholeFault) × AreWholeFaults draft.outside draft.frames draft.tables whole × (subjects ≡ faulty draft.faults whole)
+    (whole : List WholeFault) × AreWholeFaults draft.outside draft.frames whole × (subjects ≡ faulty draft.faults whole)
 
 -- the span begins and ends in the text
 pub record IsWithin (text : List ℕ) (span : Span) : Type 0 where
@@ -182,12 +183,12 @@ AreSubjects text subjects = AreSubjectsIf (nat_lt MOST_TEXT (length text)) text 
 -- What lint finds in a text.
 
 -- the frames of a draft by their ids, each with the index of its table
-abbrev pub tables_of : List Frame → List ℕ → List (Id × ℕ)
-tables_of frames tables = map (λ p. (p.0.id, p.1)) (zip frames tables)
+abbrev pub tables_of : List Listed → List (Id × ℕ)
+tables_of frames = map (λ p. (p.frame.id, p.table)) frames
 
 abbrev pub tree_tables : Option Members → List (Id × ℕ)
 tree_tables None = []
-tree_tables (Some ms) = tables_of (draft_of ms).frames (draft_of ms).tables
+tree_tables (Some ms) = tables_of (draft_of ms).frames
 
 abbrev pub text_tables : List ℕ → List (Id × ℕ)
 text_tables text = tree_tables (tree_of text)

@@ -1,6 +1,6 @@
 -- Facts that hold between the turns of loops, and what functions that aren't exported say. No promise rests on them.
 use Rattle.std.specs.Prelude.{◌≡◌, List, Bool, true, false, [], ℕ, ◌∷◌, map, Option, Some, nat_lt, length, nat_eq, None, slice_get}
-use Rattle.frame_records.specs.Bases.{BaseView, IsBaseOf, IsBuildFault}
+use Rattle.frame_records.specs.Bases.{BaseView}
 use Rattle.checker.specs.declared.policy.Policy.{Policy}
 use Rattle.finder.specs.declared.found.Discovered.{Discovered}
 use Rattle.finder.specs.Finds.{FindsReached, RanksAreLeast}
@@ -17,9 +17,8 @@ use Rattle.lint.specs.declared.audit_findings.Sources.{Sources}
 use Rattle.lint.specs.Tables.{TableView, key_spot, dotted_spot, table_at, whole, inline_marks, frame_element}
 use Rattle.toml_places.specs.declared.spans.Span.{Span}
 use Rattle.lint.specs.Findings.{FindingView}
-use Rattle.frame_records.specs.declared.frame.Frame.{Frame}
 use Rattle.base_text.specs.declared.detail.TextFault.{TextFault}
-use Rattle.frame_records.specs.declared.build.BuildFault.{BuildFault}
+use Rattle.base_text.specs.declared.listed.Listed.{Listed}
 use Rattle.toml.specs.Data.{Members}
 use Rattle.base_text.specs.declared.limits.TheConstants.{MOST_TEXT}
 use Rattle.base_text.specs.Whole.{tree_of}
@@ -132,14 +131,16 @@ abbrev pub IsNotToml : List ℕ → List FindingView → Type 0
 IsNotToml text findings =
     (span : Span) × (message : List ℕ) × IsWithin text span × (findings ≡ map (finding_of text) (Toml span message ∷ []))
 
--- the base of what a draft without a fault lists
-abbrev pub IsListed : List TextFault → Option ℕ → List ℕ → List Frame → BaseView → Type 0
-IsListed faults entry outside frames base = (faults ≡ []) × (e : ℕ) × (entry ≡ Some e) × IsBaseOf e outside frames base
-
--- if a draft has no fault, what it lists is refused as a whole
-abbrev pub IsRefused : List TextFault → Option ℕ → List ℕ → List Frame → Type 0
-IsRefused faults entry outside frames = faults ≡ [] → (e : ℕ) → entry ≡ Some e → (fault : BuildFault) × IsBuildFault outside frames fault
-
 -- the draft of the TOML of a text that isn't too long
 abbrev pub IsDraftOf : List ℕ → DraftView → Type 0
 IsDraftOf text draft = (ms : Members) × (nat_lt MOST_TEXT (length text) ≡ false) × (tree_of text ≡ Some ms) × (draft ≡ draft_of ms)
+
+-- a draft without a fault
+abbrev pub sound_draft : ℕ → List ℕ → List Listed → DraftView
+sound_draft entry outside frames = record { entry = Some entry; outside = outside; frames = frames; faults = [] }
+
+-- what the draft of a text lists, if it has a fault or no entry page
+abbrev pub IsFaultyDraft : List ℕ → List ℕ → List Listed → List TextFault → Type 0
+IsFaultyDraft text outside frames faults =
+    (entry : Option ℕ) × IsDraftOf text (record { entry = entry; outside = outside; frames = frames; faults = faults })
+    × (faults ≡ [] → (e : ℕ) → entry ≡ Some e → ⊥)

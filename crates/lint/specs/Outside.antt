@@ -1,17 +1,14 @@
 -- Which element of `outside` a page is.
-use Rattle.std.specs.Prelude.{ℕ, zero, suc, ◌+◌, ℤ, pos, Bool, false, ◌==◌, nat_le, if◌then◌else◌, List, Option, Some, None, option_and_then}
+use Rattle.std.specs.Prelude.{ℕ, zero, suc, ◌+◌, ℤ, pos, Bool, false, ◌==◌, nat_le, if◌then◌else◌, List, Option, Some, None}
 use Rattle.std.specs.Option.{option_or}
 use Rattle.page_ids.specs.declared.limits.TheConstants.{MOST_PAGE}
 use Rattle.frame_records.specs.declared.limits.TheConstants.{MOST_LISTED}
 use Rattle.base_text.specs.declared.whole_fault.WholeFault.{WholeFault}
 use Rattle.base_text.specs.declared.whole_fault.WholeFault.TheVariants.{OutsideInside}
+use Rattle.toml_places.specs.Steps.{◌>>=◌}
 use Rattle.toml_places.specs.declared.spans.Span.{Span}
 use Rattle.toml_places.specs.Spans.{integer_at}
 use Rattle.lint.specs.Tables.{TableView}
-
-infixl 10 ◌>>=◌
-abbrev ◌>>=◌ : {A B : Type 0} → Option A → (A → Option B) → Option B
-o >>= f = option_and_then f o
 
 abbrev pub page_of : Option ℤ → Option ℕ
 page_of (Some (pos n)) = if nat_le n MOST_PAGE then Some n else None

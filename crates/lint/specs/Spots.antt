@@ -1,6 +1,6 @@
 -- The span of a fault: of the smallest piece of a text that is at fault. If that can't be found, it is that of a larger one, up to
 -- the whole table.
-use Rattle.std.specs.Prelude.{ℕ, ◌-◌, ◌==◌, ◌&&◌, nat_lt, Bool, true, false, if◌then◌else◌, List, slice_get, codes, Option, Some, None, is_some, unwrap_or, option_map, option_and_then}
+use Rattle.std.specs.Prelude.{ℕ, ◌-◌, ◌==◌, ◌&&◌, nat_lt, Bool, true, false, if◌then◌else◌, List, slice_get, codes, Option, Some, None, is_some, unwrap_or, option_map}
 use Rattle.std.specs.Option.{option_or}
 use Rattle.page_ids.specs.declared.key.Key.{Key}
 use Rattle.page_ids.specs.declared.key.Key.TheVariants as key
@@ -20,14 +20,11 @@ use Rattle.fault_scripts.specs.declared.fault.FaultKind.{FaultKind}
 use Rattle.fault_scripts.specs.declared.fault.FaultKind.TheVariants as fault_kind
 use Rattle.lint_words.specs.declared.warning_words.LineEnd.{LineEnd}
 use Rattle.lint_words.specs.declared.warning_words.LineEnd.TheVariants.{Feed, Return}
+use Rattle.toml_places.specs.Steps.{◌>>=◌}
 use Rattle.toml_places.specs.declared.spans.Span.{Span}
 use Rattle.toml_places.specs.declared.spans.Spot.{Spot}
 use Rattle.toml_places.specs.Spans.{key_span, pair_span, char_span}
 use Rattle.lint.specs.Tables.{TableView, value_at}
-
-infixl 10 ◌>>=◌
-abbrev ◌>>=◌ : {A B : Type 0} → Option A → (A → Option B) → Option B
-o >>= f = option_and_then f o
 
 -- The pieces of a table.
 

@@ -14,8 +14,8 @@ use crate::spots::{
 };
 use crate::tables::{TableSpots, TextTables};
 use checker::Policy;
-use fault_scripts::{Fault, FaultList, Judgement, judge_base};
-use finder::Discovered;
+use fault_scripts::{Fault, FaultList, faults_surveyed};
+use finder::{Discovered, Survey};
 use frame_records::{Base, Frame, GroupNo, Groups};
 use lint_words::{
     Judged, LineEnd, audit_fault_words, escape_words, hidden_words, line_end_words,
@@ -86,9 +86,11 @@ impl Audit {
     pub fn of(alloc: Global, base: &Base, policy: &Policy) -> Result<Audit, AllocError>
         ensures { IfOk result (loops.IsAudit base.now policy.now) }
     {
-        let Judgement { faults, found } = judge_base(alloc, base, policy)?;
-        let ranks = Lookup::of(alloc, ranks_of(alloc, found.as_slice())?.as_slice())?;
-        let finds_none = finds_none(found.as_slice());
+        let survey = Survey::of(alloc, base, &policy.groups)?;
+        let faults = faults_surveyed(alloc, &survey, policy)?;
+        let found = survey.found().as_slice();
+        let ranks = Lookup::of(alloc, ranks_of(alloc, found)?.as_slice())?;
+        let finds_none = finds_none(found);
         let unreached = unreached(alloc, &ranks, &policy.groups, base.frames())?;
         let looks = looks_of(alloc, base.frames())?;
         Ok(Audit {

@@ -1,10 +1,8 @@
-ghost use Rattle.std.specs.Prelude.{◌≡◌, ◌++◌, ◌∷◌, [], ℕ, List, map, IfOk, IfErr, OnOk, OnErr, MatchOption, Some, None};
-ghost use Rattle.std.specs.Str.{IsUtf8};
+ghost use Rattle.std.specs.Prelude.{◌≡◌, ◌++◌, ◌∷◌, [], ℕ, List, map, IfOk, Some, None};
 ghost use Rattle.toml.specs.Data.{Members};
 ghost use Rattle.toml.specs.Errors.{IsWithin as IsWithinText};
 ghost use Rattle.toml.specs.Parse.{parse_document};
-ghost use Rattle.toml.specs.View.{table_view};
-ghost use Rattle.base_text.specs.Whole.{tree_of};
+ghost use Rattle.checker.specs.declared.policy.Policy.{Policy};
 ghost use Rattle.toml_places.specs.Places.{marks};
 ghost use Rattle.lint.specs.Findings.{error_at};
 ghost use Rattle.lint.specs.Laws.{FollowsBaseRead, DecidesSafety, WarnsOfUnreached, SpansLieIn};
@@ -17,13 +15,14 @@ use crate::lookup::Lookup;
 use crate::order::put_in_order;
 use crate::tables::TextTables;
 use crate::text_findings::{add_text_findings, add_whole_findings};
-use base_text::{Draft, MOST_TEXT, TextFault, WholeFault, draft_of, whole_faults};
+use base_text::{
+    Draft, Listed, MOST_TEXT, TextFault, WholeFault, draft_of, judge, tree, whole_faults,
+};
 use checker::Policy;
-use frame_records::{Base, Frame};
+use frame_records::Base;
 use lint_words::{Words, not_toml_words, too_long_words};
 use page_ids::{FrameId, PageNo};
 use std::alloc::{AllocError, Global};
-use toml::Table;
 use toml::de::Error;
 use toml_places::{Places, Span, TextLines};
 
@@ -122,34 +121,47 @@ fn audited(
 }
 
 // The frames of a text by their ids, each with the index of its table.
-fn tables_of(
-    alloc: Global,
-    frames: &[Frame],
-    tables: &[usize],
-) -> Result<Vec<(FrameId, usize)>, AllocError>
-    ensures { IfOk result (λ pairs. pairs.items ≡ spec.tables_of frames.now tables.now) }
+fn tables_of(alloc: Global, frames: &[Listed]) -> Result<Vec<(FrameId, usize)>, AllocError>
+    ensures { IfOk result (λ pairs. pairs.items ≡ spec.tables_of frames.now) }
 {
     frames
         .iter()
-        .zip(tables)
-        .map(|(frame, table)| (frame.id, *table))
+        .map(|listed| (listed.frame.id, listed.table))
         .collect(alloc)
 }
 
-// The base of what a draft lists, if the draft has no fault and the base isn't refused as a whole.
-fn base_of(
-    faults: &[TextFault],
-    entry: Option<PageNo>,
+// The findings of a draft without a fault.
+fn judged_sound(
+    alloc: Global,
+    text: &str,
+    entry: PageNo,
     outside: Vec<PageNo>,
-    frames: Vec<Frame>,
-) -> Option<Base>
-    ensures { MatchOption result (loops.IsRefused faults.now entry outside.items frames.items)
-        (loops.IsListed faults.now entry outside.items frames.items) }
+    frames: Vec<Listed>,
+    policy: &Policy,
+) -> Result<Vec<Finding>, AllocError>
+    requires { loops.IsDraftOf text.now (loops.sound_draft entry outside.items frames.items) }
+    ensures { IfOk result (λ fs. spec.IsJudged text.now policy.now fs.items) }
 {
-    match (faults, entry) {
-        ([], Some(entry)) => Base::build(entry, outside, frames).ok(),
-        _ => None,
+    let tables = tables_of(alloc, frames.as_slice())?;
+    match judge(alloc, entry, outside, frames)? {
+        Ok(base) => audited(alloc, text, tables.as_slice(), &base, policy),
+        Err(whole) => faulty(alloc, text, &[], whole.as_slice()),
     }
+}
+
+// The findings of a draft with faults.
+fn judged_faulty(
+    alloc: Global,
+    text: &str,
+    mut outside: Vec<PageNo>,
+    mut frames: Vec<Listed>,
+    faults: &[TextFault],
+) -> Result<Vec<Finding>, AllocError>
+    requires { loops.IsFaultyDraft text.now outside.items frames.items faults.now }
+    ensures { IfOk result (λ fs. (policy : Policy) → spec.IsJudged text.now policy fs.items) }
+{
+    let whole = whole_faults(alloc, &mut outside, &mut frames)?;
+    faulty(alloc, text, faults, whole.as_slice())
 }
 
 fn judged_draft(
@@ -161,37 +173,15 @@ fn judged_draft(
     requires { loops.IsDraftOf text.now draft }
     ensures { IfOk result (λ fs. spec.IsJudged text.now policy.now fs.items) }
 {
-    let whole = whole_faults(alloc, &draft)?;
-    let tables = tables_of(alloc, draft.frames.as_slice(), draft.tables.as_slice())?;
     let Draft {
         entry,
         outside,
         frames,
         faults,
-        ..
     } = draft;
-    match base_of(faults.as_slice(), entry, outside, frames) {
-        Some(base) => audited(alloc, text, tables.as_slice(), &base, policy),
-        None => faulty(alloc, text, faults.as_slice(), whole.as_slice()),
-    }
-}
-
-// The text's TOML, or toml's error.
-fn tree(alloc: Global, text: &[u8]) -> Result<Result<Table, Error>, AllocError>
-    ensures ok { IfOk result (λ read. IfOk read (λ table. tree_of text.now ≡ Some (table_view table))) }
-    ensures utf8 { IfOk result (λ read. OnOk read (IsUtf8 text.now)) }
-    ensures refused { IfOk result (λ read. OnErr read (tree_of text.now ≡ None)) }
-    ensures span { IfOk result (λ read. IfErr read (IsWithinText text.now)) }
-{
-    match toml::table_from_slice(alloc, text) {
-        Ok(table) => Ok(Ok(table)),
-        Err(error) => {
-            if error.is_memory() {
-                Err(AllocError)
-            } else {
-                Ok(Err(error))
-            }
-        }
+    match (faults.as_slice(), entry) {
+        ([], Some(entry)) => judged_sound(alloc, text, entry, outside, frames, policy),
+        _ => judged_faulty(alloc, text, outside, frames, faults.as_slice()),
     }
 }
 

@@ -1,10 +1,9 @@
 //! What may be wrong with what frames show, by their codes alone; how the text writes it decides.
 
 ghost use Rattle.std.specs.Prelude.{◌≡◌, ◌++◌, ◌<◌, length, IfOk, OnOk};
-ghost use Rattle.cell_looks.specs.Looks.{row_of};
 ghost use Rattle.lint.specs.Looks as spec;
 
-use cell_looks::hides_text;
+use cell_looks::{hides_text, row_codes};
 use frame_records::Frame;
 use lint_words::LineEnd;
 use page_ids::FrameId;
@@ -43,14 +42,6 @@ fn holds_escape(codes: &[u8]) -> bool
         [] => false,
         [_, rest @ ..] => begins_escape(codes) || holds_escape(rest),
     }
-}
-
-// The codes of a row.
-fn row_codes(cells: &[u8; 960], row: usize) -> &[u8]
-    requires { row < 24 }
-    ensures { result.now ≡ row_of cells.now row }
-{
-    &cells[40 * row..40 * row + 40]
 }
 
 fn add_hidden(

@@ -16,7 +16,7 @@ fn faults_of_the_whole_come_by_id(rt: HostRuntime) -> Result<(), Fail> {
     let table = toml::table_from_str(rt.alloc(), text.as_str())
         .ok()
         .ok_or("TOML")?;
-    let draft = draft_of(rt.alloc(), table)?;
+    let mut draft = draft_of(rt.alloc(), table)?;
     let [one, two, three] = [
         FrameId::read("1a")?,
         FrameId::read("2z")?,
@@ -46,7 +46,7 @@ fn faults_of_the_whole_come_by_id(rt: HostRuntime) -> Result<(), Fail> {
         },
         WholeFault::OutsideInside(PageNo::read("2")?),
     ];
-    let faults = whole_faults(rt.alloc(), &draft)?;
+    let faults = whole_faults(rt.alloc(), &mut draft.outside, &mut draft.frames)?;
     let first = faults.as_slice().first().map(|fault| fault.cause());
     same(faults.as_slice(), wanted.as_slice())?;
     same(first, Some(Cause::BodyTooLong(three)))

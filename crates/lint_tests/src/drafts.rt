@@ -57,26 +57,36 @@ Some(2) 1c RowCode(2, 4, 'é')
     same(faults(rt.alloc(), FIVE)?.as_str(), wanted)
 }
 
-// The entry page, the outside pages, the indices of the tables of the frames, and how many faults there are.
-fn kept(draft: &Draft) -> (Option<u32>, usize, &[usize], usize) {
+// The entry page, how many outside pages there are, and how many faults.
+fn kept(draft: &Draft) -> (Option<u32>, usize, usize) {
     (
         draft.entry.map(|page| page.get()),
         draft.outside.len(),
-        draft.tables.as_slice(),
         draft.faults.len(),
     )
+}
+
+// The indices of the tables of the frames.
+fn tables(alloc: Global, draft: &Draft) -> Result<Vec<usize>, AllocError> {
+    draft
+        .frames
+        .iter()
+        .map(|listed| listed.table)
+        .collect(alloc)
 }
 
 #[test]
 fn what_has_no_fault_is_kept(rt: HostRuntime) -> Result<(), Fail> {
     let five = draft(rt.alloc(), FIVE)?;
-    same(kept(&five), (Some(1), 1, [1].as_slice(), 5))?;
-    let frame = five.frames.as_slice().first().ok_or("a frame")?;
-    same(frame.body.as_slice(), b"two".as_slice())?;
+    same(kept(&five), (Some(1), 1, 5))?;
+    same(tables(rt.alloc(), &five)?.as_slice(), [1].as_slice())?;
+    let listed = five.frames.as_slice().first().ok_or("a frame")?;
+    same(listed.frame.body.as_slice(), b"two".as_slice())?;
     let text =
         "entry = 1\noutside = [5, 5]\nframe = [{ id = '1a', rows = [] }, { id = '1a', body = '\u{FF}' }]";
     let whole = draft(rt.alloc(), text)?;
-    same(kept(&whole), (Some(1), 2, [0, 1].as_slice(), 0))
+    same(kept(&whole), (Some(1), 2, 0))?;
+    same(tables(rt.alloc(), &whole)?.as_slice(), [0, 1].as_slice())
 }
 
 // Ten refused characters of a row, with their numbers, as a draft shows them.

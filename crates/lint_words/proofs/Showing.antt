@@ -1,5 +1,6 @@
 -- A text that is shown as a line.
 use Rattle.std.proofs.Common.{◌≡◌, ℕ, ◌/◌, ◌%◌, ◌<◌, Bool, true, false, not, nat_lt, if◌then◌else◌, List, [], ◌∷◌, ◌++◌, codes, arith, refl, append_assoc}
+use Rattle.std.proofs.lemmas.Bool.{and_from, and_parts}
 use Rattle.std.proofs.Math.Utf8.{encodes, scalar, scalars}
 use Rattle.std.proofs.lemmas.Bool.Decides.{nat_tests}
 use Rattle.std.proofs.lemmas.List.Folds.{list_all-append}
@@ -7,7 +8,7 @@ use Rattle.std.proofs.lemmas.Str.{encodes-append}
 use Rattle.std.specs.Char.{is_control, digit_char}
 use Rattle.std.specs.List.{list_all}
 use Rattle.lint_words.specs.Lines.{IsLine, control_digits, shown_char, shown_chars}
-use Rattle.lint_words.proofs.LineParts.{both, first_of, second_of, are_printable, is_plain, plain_scalars, plain_printables, IsLine-encodes}
+use Rattle.lint_words.proofs.LineParts.{are_printable, is_plain, plain_scalars, plain_printables, IsLine-encodes}
 
 digit_plain : (d : ℕ) → d < 16 → is_plain (digit_char d) ≡ true
 digit_plain d r = grind (arith, nat_tests)
@@ -17,9 +18,9 @@ control_small c p = grind (arith, nat_tests)
 
 digits_plain : (c : ℕ) (small : Bool) → c < 256
     → list_all is_plain ((if small then [] else digit_char (c / 16) ∷ []) ++ digit_char (c % 16) ∷ [] ++ codes "}") ≡ true
-digits_plain c true r = both _ _ (digit_plain (c % 16) (omega arith)) refl
+digits_plain c true r = and_from _ _ (digit_plain (c % 16) (omega arith)) refl
 digits_plain c false r =
-    both _ _ (digit_plain (c / 16) (omega arith)) (both _ _ (digit_plain (c % 16) (omega arith)) refl)
+    and_from _ _ (digit_plain (c / 16) (omega arith)) (and_from _ _ (digit_plain (c % 16) (omega arith)) refl)
 
 -- what is written for one character
 record Fits (cs : List ℕ) : Type 0 where
@@ -32,20 +33,20 @@ one_fits c true p s =
     rw p record { scalar = plain_scalars (codes "\\u{" ++ control_digits c ++ codes "}") plain; printable = plain_printables (codes "\\u{" ++ control_digits c ++ codes "}") plain }
 one_fits c false p s =
     let printable : not (is_control c) ≡ true = rw p refl in
-    rw p record { scalar = both (scalar c) true s refl; printable = both (not (is_control c)) true printable refl }
+    rw p record { scalar = and_from (scalar c) true s refl; printable = and_from (not (is_control c)) true printable refl }
 
 scalars-append : (xs ys : List ℕ) → scalars xs ≡ true → scalars ys ≡ true → scalars (xs ++ ys) ≡ true
 scalars-append [] ys p q = q
-scalars-append (x ∷ xs) ys p q = both _ _ (first_of _ _ p) (scalars-append xs ys (second_of (scalar x) _ p) q)
+scalars-append (x ∷ xs) ys p q = and_from _ _ (and_parts _ _ p).0 (scalars-append xs ys (and_parts (scalar x) _ p).1 q)
 
 all_fit : (cs : List ℕ) → scalars cs ≡ true → Fits (shown_chars cs)
 all_fit [] s = record { scalar = refl; printable = refl }
 all_fit (c ∷ cs) s =
-    let one = one_fits c _ refl (first_of _ _ s) in
-    let more = all_fit cs (second_of (scalar c) _ s) in
+    let one = one_fits c _ refl (and_parts _ _ s).0 in
+    let more = all_fit cs (and_parts (scalar c) _ s).1 in
     record {
       scalar = scalars-append (shown_char c) (shown_chars cs) one.scalar more.scalar;
-      printable = rw (list_all-append (λ c. not (is_control c)) (shown_char c) (shown_chars cs)) (both (are_printable (shown_char c)) (are_printable (shown_chars cs)) one.printable more.printable);
+      printable = rw (list_all-append (λ c. not (is_control c)) (shown_char c) (shown_chars cs)) (and_from (are_printable (shown_char c)) (are_printable (shown_chars cs)) one.printable more.printable);
     }
 
 pub IsLine-shown : (cs : List ℕ) → scalars cs ≡ true → IsLine (encodes (shown_chars cs))

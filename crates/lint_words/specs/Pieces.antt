@@ -3,6 +3,7 @@ use Rattle.std.specs.Prelude.{ℕ, zero, suc, ◌+◌, ◌/◌, ◌%◌, Bool, �
 use Rattle.std.specs.Char.{encode_utf8}
 use Rattle.std.specs.Str.{chars}
 use Rattle.page_ids.specs.Ids.{Id, frame_text}
+use Rattle.page_ids.specs.Texts.{hex_digit}
 use Rattle.page_ids.specs.Keys.{key_word, keys_text}
 use Rattle.page_ids.specs.declared.key.Key.{Key}
 
@@ -19,10 +20,6 @@ with_commas (d ∷ ds) = d ∷ (comma_before ds ++ with_commas ds)
 -- a number in decimal with commas, as 16,777,216
 abbrev pub grouped : ℕ → List ℕ
 grouped n = with_commas (decimal n)
-
--- a digit of base 16: 48 is `0`, 55 + 10 is `A`
-abbrev pub hex_digit : ℕ → ℕ
-hex_digit d = if nat_lt d 10 then 48 + d else 55 + d
 
 -- the last four digits of a number in base 16
 abbrev pub hex4 : ℕ → List ℕ

@@ -1,10 +1,9 @@
-ghost use Rattle.std.specs.Prelude.{◌≡◌, ◌++◌, ◌<◌, OnOk, codes, decimal};
-ghost use Rattle.std.specs.Char.{encode_utf8};
-ghost use Rattle.lint_words.specs.Pieces.{comma_before, with_commas, grouped, hex_digit, hex4, hex_front, code_text, is_control, is_blank, shown_text, char_text, escaped, escaped_up_to, quoted, frame_name};
+ghost use Rattle.std.specs.Prelude.{◌≡◌, ◌++◌, OnOk, codes, decimal};
+ghost use Rattle.lint_words.specs.Pieces.{comma_before, with_commas, grouped, hex4, hex_front, code_text, is_control, is_blank, shown_text, char_text, escaped, escaped_up_to, quoted, frame_name};
 ghost use Rattle.std.specs.Str.{chars};
 
 use itoa::Buffer;
-use page_ids::{FrameId, push_id, push_number};
+use page_ids::{FrameId, hex_digit, push_id, push_number, push_utf8};
 use std::alloc::AllocError;
 
 // How many characters of a text are shown.
@@ -41,26 +40,15 @@ pub fn push_grouped(out: &mut Vec<u8>, number: usize) -> Result<(), AllocError>
     push_with_commas(out, buffer.format(number).as_bytes())
 }
 
-fn hex_digit(digit: u32) -> u8
-    requires { digit < 16 }
-    ensures { result ≡ hex_digit digit }
-{
-    if digit < 10 {
-        b'0' + digit as u8
-    } else {
-        b'A' + (digit as u8 - 10)
-    }
-}
-
 // The last four digits in base 16.
 fn hex4(number: u32) -> [u8; 4]
     ensures { result ≡ hex4 number }
 {
     [
-        hex_digit(number / 4_096 % 16),
-        hex_digit(number / 256 % 16),
-        hex_digit(number / 16 % 16),
-        hex_digit(number % 16),
+        hex_digit((number / 4_096 % 16) as u8),
+        hex_digit((number / 256 % 16) as u8),
+        hex_digit((number / 16 % 16) as u8),
+        hex_digit((number % 16) as u8),
     ]
 }
 
@@ -69,8 +57,8 @@ fn push_hex_front(out: &mut Vec<u8>, number: u32) -> Result<(), AllocError>
     ensures { OnOk result (out.new.items ≡ out.old.items ++ hex_front number) }
 {
     let (first, second) = (
-        hex_digit(number / 1_048_576 % 16),
-        hex_digit(number / 65_536 % 16),
+        hex_digit((number / 1_048_576 % 16) as u8),
+        hex_digit((number / 65_536 % 16) as u8),
     );
     if number < 0x1_0000 {
         Ok(())
@@ -100,14 +88,6 @@ fn is_blank(c: char) -> bool
     ensures { result ≡ is_blank c }
 {
     c == ' ' || c == '\u{A0}'
-}
-
-// A character in UTF-8.
-fn push_utf8(out: &mut Vec<u8>, c: char) -> Result<(), AllocError>
-    ensures { OnOk result (out.new.items ≡ out.old.items ++ encode_utf8 c) }
-{
-    let mut bytes = [0; 4];
-    out.extend_from_slice(c.encode_utf8(&mut bytes).as_bytes())
 }
 
 // A character and its code point.

@@ -1,5 +1,5 @@
 -- Which number, page or id a text spells.
-use Rattle.std.specs.Prelude.{ℕ, ◌-◌, ◌==◌, ◌&&◌, Bool, true, List, length, take, get_or, nat_lt, nat_le, if◌then◌else◌, Option, Some, None, Result, Ok, Err, ◌≡◌, ◌≤◌, decimal}
+use Rattle.std.specs.Prelude.{ℕ, ◌+◌, ◌-◌, ◌==◌, ◌&&◌, Bool, true, List, length, take, get_or, nat_lt, nat_le, if◌then◌else◌, Option, Some, None, Result, Ok, Err, ◌≡◌, ◌≤◌, decimal}
 use Rattle.std.specs.List.{list_all}
 use Rattle.std.specs.Char.{is_ascii_digit}
 use Rattle.std.specs.Str.Parse.{digits_value}
@@ -42,6 +42,10 @@ id_in text =
     if length text == 0
     then None
     else id_with (page_in (take (length text - 1) text)) (letter_in (get_or text (length text - 1) 0))
+
+-- a digit of base 16: 48 is `0`, 55 + 10 is `A`
+abbrev pub hex_digit : ℕ → ℕ
+hex_digit d = if nat_lt d 10 then 48 + d else 55 + d
 
 -- Numbers and ids are read from just their own texts.
 

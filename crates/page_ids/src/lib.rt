@@ -14,7 +14,8 @@
 //! - [`Key`], [`KeyList`], [`keys_read`], [`keys_text`]: the keys of a caller, as `1#*#*00*09`.
 //! - [`Way`]: the ways on from a frame, by a route or by `#`.
 //! - [`number_read`], [`cut`]: decimal numbers up to a limit, and a text cut at a separator, for readers of other texts.
-//! - [`push_number`], [`push_page`], [`push_id`], [`push_key`], [`push_keys`]: for writers of other texts.
+//! - [`push_number`], [`push_page`], [`push_id`], [`push_key`], [`push_keys`], [`push_utf8`],
+//!   [`hex_digit`]: for writers of other texts.
 #![tactic(auto)]
 
 mod fault;
@@ -27,6 +28,7 @@ mod number;
 mod page;
 mod parts;
 mod way;
+mod writing;
 
 pub use fault::IdFault;
 pub use id::{FrameId, ids_are_ordered, ids_are_texts, push_id};
@@ -38,3 +40,4 @@ pub use number::{NumberFault, number_read, numbers_are_texts, push_number};
 pub use page::{PageNo, push_page};
 pub use parts::cut;
 pub use way::Way;
+pub use writing::{hex_digit, push_utf8};

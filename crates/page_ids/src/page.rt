@@ -44,6 +44,14 @@ impl PageNo {
         }
     }
 
+    /// The page of a number that is in range.
+    pub fn of(number: u32) -> PageNo
+        requires { IsPageNumber number }
+        ensures { result ≡ number }
+    {
+        PageNo { number }
+    }
+
     /// The number.
     pub fn get(self) -> u32
         ensures value { result ≡ self }

@@ -34,14 +34,9 @@ fn edition_of(alloc: Global, texts: Texts<'_>) -> Result<Edition, InputFault>
     ensures read { IfOk result (λ e. IsEditionOf (edition texts.entry.base.now texts.entry.cert.now) e.base e.cert) }
     ensures fault { IfErr result (IsInputFault texts.entry.base.now texts.entry.cert.now) }
 {
-    let base = match base_of(alloc, texts.base) {
-        Ok(base) => base,
-        Err(fault) => return Err(fault),
-    };
-    match cert_of(alloc, texts.cert) {
-        Ok(cert) => Ok(Edition { base, cert }),
-        Err(fault) => Err(fault),
-    }
+    let base = base_of(alloc, texts.base)?;
+    let cert = cert_of(alloc, texts.cert)?;
+    Ok(Edition { base, cert })
 }
 
 // The line of a verdict.

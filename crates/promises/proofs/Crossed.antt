@@ -1,14 +1,15 @@
 -- The promise of a change of edition.
-use Rattle.std.proofs.Common.{◌≡◌, ℕ, List, [], subst}
+use Rattle.std.proofs.Common.{ℕ, List, [], subst}
 use Rattle.page_ids.specs.Ids.{Id}
 use Rattle.frame_records.specs.Bases.{BaseView}
 use Rattle.cert_table.specs.Table.{CertView}
 use Rattle.checker.specs.declared.policy.Policy.{Policy}
 use Rattle.checker.specs.Change.{IsFoundFor, AreHeldFound, IsSafeFrom, IsSafeChange}
-use Rattle.session_machine.specs.Sessions.{SessionState, At}
+use Rattle.session_machine.specs.Sessions.{SessionState}
 use Rattle.pageaudit.specs.ChangeRun.{EditionFiles, IsEditionOf, HoldsOfChange}
 use Rattle.promises.specs.Changes.{IsFoundWithin, AreHeld, IsKeptHolding, IsKeptOver, IsEditionRead, HoldsOfFourFiles}
-use Rattle.promises.proofs.Kept.{among, kept, kept_from_entry}
+use Rattle.frame_records.proofs.OneBase.{all_at}
+use Rattle.promises.proofs.Kept.{kept, kept_from_entry}
 use Rattle.promises.proofs.Headlines.{all_of}
 
 found_within : (caller : List ℕ) (base : BaseView) (ceiling : ℕ) (id : Id) → IsFoundFor caller base ceiling id → IsFoundWithin caller base ceiling id
@@ -17,7 +18,7 @@ found_within caller base ceiling id h = (h.price, h.found, h.fair)
 held : (caller : List ℕ) (base : BaseView) (ceiling : ℕ) (state : SessionState) → AreHeldFound caller base ceiling state → AreHeld caller base ceiling state
 held caller base ceiling state h id remembered e =
     let at = subst (AreHeldFound caller base ceiling) e h in
-    (found_within caller base ceiling id at.0, λ one is. found_within caller base ceiling one (among (IsFoundFor caller base ceiling) remembered one at.1 is))
+    (found_within caller base ceiling id at.0, λ one is. found_within caller base ceiling one (all_at (IsFoundFor caller base ceiling) remembered one at.1 is))
 
 holding : (caller : List ℕ) (base : BaseView) (cert : CertView) (from : SessionState) → IsSafeFrom caller base cert.ceiling cert.keyings from → IsKeptHolding caller base cert from
 holding caller base cert from h = record {

@@ -1,26 +1,16 @@
 -- Safe sessions are kept.
-use Rattle.std.proofs.Common.{◌≡◌, ◌<◌, arith, ℕ, zero, suc, List, [], ◌∷◌, refl, subst, inl, inr}
-use Rattle.std.specs.Prelude.{Contains, length, slice_index_or}
+use Rattle.std.proofs.Common.{ℕ, List, refl, subst, inl, inr}
 use Rattle.std.specs.List.{AllByRecursion}
 use Rattle.page_ids.specs.Ids.{Id}
 use Rattle.page_ids.specs.declared.key.Key.{Key}
 use Rattle.page_ids.specs.declared.key.Key.TheVariants.{Route, Next, Prev, Reprint, Update}
-use Rattle.frame_records.specs.declared.frame.Frame.{Frame}
 use Rattle.frame_records.specs.Bases.{BaseView}
-use Rattle.session_machine.specs.declared.reply.Reply.{Reply}
+use Rattle.frame_records.proofs.OneBase.{all_at}
 use Rattle.session_machine.specs.declared.reply.Reply.TheVariants.{Shown, Again, Missing, Closed}
 use Rattle.session_machine.specs.Sessions.{SessionState, At, opening}
 use Rattle.session_machine.specs.Runs.{state_after, replies_to, IsForward, IsFairReply, LeftOrRegains, Regains}
 use Rattle.checker.specs.Safe.{IsCleanAt, IsCleanReply, Safe}
 use Rattle.promises.specs.Kept.{IsShownClean, LeadsOn, LeadsBack, IsKept, IsKeptFromEntry}
-
--- what holds of each element holds of one
-pub among : {X : Type 0} (P : X → Type 0) (xs : List X) (x : X) → AllByRecursion P xs → Contains xs x → P x
-among P [] x all is = absurd (omega (arith, is.1))
-among P (y ∷ ys) x all is = by is.0 is.1 is.2 (λ k within e. among P ys x all.1 (k, within, e)) where
-  by : (k : ℕ) → k < length (y ∷ ys) → slice_index_or (y ∷ ys) k x ≡ x → ((j : ℕ) → j < length ys → slice_index_or ys j x ≡ x → P x) → P x
-  by zero within e rest = subst P e all.0
-  by (suc k) within e rest = rest k (omega (arith, within)) e
 
 pub clean_at : (base : BaseView) (id : Id) → IsCleanAt base id → IsShownClean base id
 clean_at base id h = (h.frame, h.found, λ t i is within touches. h.clean i (t, is, (within, touches)))
@@ -36,7 +26,7 @@ leads_back : (caller : List ℕ) (base : BaseView) (most : ℕ) (state : Session
 leads_back caller base most state h = record {
   keys = h.keys;
   few = h.few;
-  forward = λ key is. leads_on key (among IsForward h.keys key h.forward is);
+  forward = λ key is. leads_on key (all_at IsForward h.keys key h.forward is);
   entry = h.entry;
 }
 
@@ -47,11 +37,11 @@ module _ (caller : List ℕ) (base : BaseView) (ceiling most : ℕ) (from : Sess
     (regains : (keys : List Key) → LeftOrRegains caller base most (state_after caller base from keys)) where
   pub kept : IsKept caller base ceiling most from
   kept = record {
-    never_missing = λ keys id is. among (IsFairReply ceiling) (replies_to caller base from keys) (Missing id) (fair keys) is;
-    never_closed = λ keys id is. among (IsFairReply ceiling) (replies_to caller base from keys) (Closed id) (fair keys) is;
-    fair = λ keys id price is. among (IsFairReply ceiling) (replies_to caller base from keys) (Shown id price) (fair keys) is;
-    clean = λ keys id price is. clean_at base id (among (IsCleanReply base) (replies_to caller base from keys) (Shown id price) (clean keys) is);
-    clean_again = λ keys id is. clean_at base id (among (IsCleanReply base) (replies_to caller base from keys) (Again id) (clean keys) is);
+    never_missing = λ keys id is. all_at (IsFairReply ceiling) (replies_to caller base from keys) (Missing id) (fair keys) is;
+    never_closed = λ keys id is. all_at (IsFairReply ceiling) (replies_to caller base from keys) (Closed id) (fair keys) is;
+    fair = λ keys id price is. all_at (IsFairReply ceiling) (replies_to caller base from keys) (Shown id price) (fair keys) is;
+    clean = λ keys id price is. clean_at base id (all_at (IsCleanReply base) (replies_to caller base from keys) (Shown id price) (clean keys) is);
+    clean_again = λ keys id is. clean_at base id (all_at (IsCleanReply base) (replies_to caller base from keys) (Again id) (clean keys) is);
     back = λ keys id remembered e. leads_back caller base most (At id remembered) (subst (LeftOrRegains caller base most) e (regains keys));
   }
 

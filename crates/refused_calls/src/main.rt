@@ -21,7 +21,7 @@ use audit_report::{RunFault, report};
 use base_text::{base_read, body_of_rows};
 use cert_text::cert_read;
 use checker::check_bytes;
-use fault_scripts::{Outcome, audit, faults, judge_base, replay};
+use fault_scripts::{Outcome, audit, faults, replay};
 use finder::find;
 use frame_screens::{frames_after, nearest, way_to};
 use page_ids::keys_read;
@@ -60,8 +60,6 @@ fn called(rt: &HostRuntime, words: &mut Words) -> Option<()> {
             of_keyed(alloc, frames_after(alloc, &base, &groups, keys.as_slice()));
         nearest(base: base, frame: frame) => shown(alloc, &nearest(alloc, &base, frame)?);
         audit(base: base, policy: policy) => report(alloc, &audit(alloc, &base, &policy)?);
-        judge_base(base: base, policy: policy) =>
-            report(alloc, &Outcome::Faulty(judge_base(alloc, &base, &policy)?.faults));
         faults(base: base, policy: policy) => report(alloc, &Outcome::Faulty(faults(alloc, &base, &policy)?));
         _ => run(rt, name, words)
     }

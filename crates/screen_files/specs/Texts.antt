@@ -3,6 +3,7 @@ use Rattle.std.specs.Prelude.{ℕ, zero, suc, Bool, true, false, List, [], ◌�
 use Rattle.std.specs.List.{flat_map}
 use Rattle.cell_looks.specs.declared.look.Look.{Look}
 use Rattle.page_ids.specs.Ids.{Id, frame_text}
+use Rattle.page_ids.specs.Texts.{hex_digit}
 use Rattle.cell_looks.specs.Looks.{looks}
 use Rattle.screen_files.specs.Keys.{shows_key}
 use Rattle.screen_files.specs.Rows.{trimmed, rows_of}
@@ -10,17 +11,13 @@ use Rattle.screen_files.specs.declared.frame.ScreenFrame.{ScreenFrame}
 
 -- A row.
 
--- a digit of base 16, in capitals
-abbrev pub hex : ℕ → ℕ
-hex d = if nat_lt d 10 then 48 + d else 55 + d
-
 -- `"` (34) and `\` (92) after a backslash, 7F to 9F as `\u007F` to `\u009F`
 abbrev pub code_text : ℕ → List ℕ
 code_text c =
     if c == 34 then codes "\\\""
     else if c == 92 then codes "\\\\"
     else if nat_lt c 0x7F then c ∷ []
-    else codes "\\u00" ++ hex (c / 16) ∷ hex (c % 16) ∷ []
+    else codes "\\u00" ++ hex_digit (c / 16) ∷ hex_digit (c % 16) ∷ []
 
 abbrev pub row_line : List ℕ → List ℕ
 row_line row = (codes "    \"" ++ flat_map code_text row) ++ codes "\",\n"

@@ -171,12 +171,7 @@ pub fn base_text(
     let Some(first) = frames.first() else {
         return Ok(out);
     };
-    match push_entry(&mut out, asked.unwrap_or(first.frame.id.page)) {
-        Ok(()) => {}
-        Err(_) => return Err(BaseTextFault::Memory),
-    }
-    match push_frames(&mut out, frames) {
-        Ok(()) => Ok(out),
-        Err(fault) => Err(fault),
-    }
+    push_entry(&mut out, asked.unwrap_or(first.frame.id.page)).map_err(|_| BaseTextFault::Memory)?;
+    push_frames(&mut out, frames)?;
+    Ok(out)
 }

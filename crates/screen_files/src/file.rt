@@ -96,8 +96,6 @@ fn frame_of(path: &str, codes: [u8; 960]) -> Result<ScreenFrame, ScreenFault>
 pub fn file_frame(kind: FileKind, path: &str, bytes: &[u8]) -> Result<ScreenFrame, ScreenFault>
     ensures { result ≡ spec.file_frame kind path.now bytes.now }
 {
-    match read_codes(kind, bytes) {
-        Ok(codes) => frame_of(path, codes),
-        Err(fault) => Err(fault),
-    }
+    let codes = read_codes(kind, bytes)?;
+    frame_of(path, codes)
 }

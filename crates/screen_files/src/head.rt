@@ -4,7 +4,7 @@ ghost use Rattle.std.specs.Prelude.{◌≡◌, ◌<◌, IfSome, length, map, tak
 ghost use Rattle.page_ids.specs.Parts.{parts_of};
 ghost use Rattle.screen_files.specs.Heads as spec;
 
-use crate::rows::row_codes;
+use crate::rows::row_copy;
 use frame_records::Pence;
 use page_ids::{FrameId, cut};
 
@@ -124,7 +124,7 @@ fn space(codes: &mut [u8])
 fn top_text(codes: &[u8; 960]) -> [u8; 40]
     ensures { result ≡ map spec.spaced (take 40 codes.now) }
 {
-    let mut row = row_codes(codes, 0);
+    let mut row = row_copy(codes, 0);
     space(&mut row);
     row
 }

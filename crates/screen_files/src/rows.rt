@@ -3,13 +3,15 @@
 ghost use Rattle.std.specs.Prelude.{◌≡◌, ◌<◌, ◌≤◌, ◌*◌, take, drop};
 ghost use Rattle.screen_files.specs.Rows as spec;
 
-// The codes of a row of a screen.
-pub fn row_codes(codes: &[u8; 960], row: usize) -> [u8; 40]
+use cell_looks::row_codes;
+
+// A copy of the codes of a row.
+pub fn row_copy(codes: &[u8; 960], row: usize) -> [u8; 40]
     requires { row < 24 }
     ensures { result ≡ take 40 (drop (40 * row) codes.now) }
 {
     let mut cells = [b' '; 40];
-    cells.copy_from_slice(&codes[40 * row..40 * row + 40]);
+    cells.copy_from_slice(row_codes(codes, row));
     cells
 }
 
@@ -28,7 +30,7 @@ pub fn row_of(codes: &[u8; 960], row: usize) -> &[u8]
     requires { row < 24 }
     ensures { result.now ≡ spec.row_of codes.now row }
 {
-    trimmed(&codes[40 * row..40 * row + 40])
+    trimmed(row_codes(codes, row))
 }
 
 // The last of rows 1 to 22 that isn't blank, or 0.

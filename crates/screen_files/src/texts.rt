@@ -2,36 +2,26 @@
 
 ghost use Rattle.std.specs.Prelude.{◌≡◌, ◌++◌, ◌∷◌, [], ◌<◌, ◌/◌, ◌%◌, ◌*◌, OnOk, codes, drop, map, take};
 ghost use Rattle.std.specs.List.{flat_map};
+ghost use Rattle.page_ids.specs.Texts.{hex_digit};
 ghost use Rattle.screen_files.specs.Rows.{rows_of};
 ghost use Rattle.screen_files.specs.Texts as spec;
 
 use crate::frame::ScreenFrame;
 use crate::keys::shows_key;
-use crate::rows::{last_row, row_codes, row_of, trimmed};
+use crate::rows::{last_row, row_copy, row_of, trimmed};
 use arrayvec::ArrayVec;
 use cell_looks::{Looks, screen_looks};
 use frame_records::Pence;
-use page_ids::{FrameId, PageNo, push_id, push_number, push_page};
+use page_ids::{FrameId, PageNo, hex_digit, push_id, push_number, push_page};
 use std::alloc::AllocError;
-
-fn hex(digit: u8) -> u8
-    requires { digit < 16 }
-    ensures { result ≡ spec.hex digit }
-{
-    if digit < 10 {
-        b'0' + digit
-    } else {
-        b'A' - 10 + digit
-    }
-}
 
 #[tactic(auto, using(std::proofs::Common::append_assoc))]
 fn push_escape(out: &mut Vec<u8>, code: u8) -> Result<(), AllocError>
-    ensures { OnOk result (out.new.items ≡ out.old.items ++ (codes "\\u00" ++ spec.hex (code / 16) ∷
-        spec.hex (code % 16) ∷ [])) }
+    ensures { OnOk result (out.new.items ≡ out.old.items ++ (codes "\\u00" ++ hex_digit (code / 16) ∷
+        hex_digit (code % 16) ∷ [])) }
 {
     out.extend_from_slice(b"\\u00")?;
-    out.extend_from_slice(&[hex(code / 16), hex(code % 16)])
+    out.extend_from_slice(&[hex_digit(code / 16), hex_digit(code % 16)])
 }
 
 fn push_code(out: &mut Vec<u8>, code: u8) -> Result<(), AllocError>
@@ -114,7 +104,7 @@ fn comment_text(codes: &[u8; 960], row: usize) -> [u8; 40]
     requires { row < 24 }
     ensures { result ≡ map spec.comment_code (take 40 (drop (40 * row) codes.now)) }
 {
-    let mut text = row_codes(codes, row);
+    let mut text = row_copy(codes, row);
     make_comment(&mut text);
     text
 }

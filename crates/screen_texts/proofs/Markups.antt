@@ -22,11 +22,6 @@ nothing bs = sym (append-nil bs)
 newline_bytes : written Markup newline ≡ 10 ∷ []
 newline_bytes = ap (λ (bs : List ℕ). bs ++ []) (encode_ascii 10 (omega arith))
 
--- a tag, and no characters
-bare_bytes : (tag : List ℕ) → markup (piece tag [] ∷ []) ≡ codes "<" ++ tag ++ codes ">"
-unfolding markup
-bare_bytes tag = append-nil (piece_bytes (piece tag [])) ∙ append-nil (codes "<" ++ tag ++ codes ">")
-
 -- a tag and a newline
 line_bytes : (tag : List ℕ) → markup (piece tag newline ∷ []) ≡ codes "<" ++ tag ++ codes ">\n"
 unfolding markup

@@ -1,18 +1,14 @@
 -- Characters in markup are harmless, and mean themselves.
-use Rattle.std.proofs.Common.{◌≡◌, ℕ, ◌<◌, ◌≤◌, arith, refl, sym, ap, ◌∙◌, Bool, true, false, not, ◌&&◌, List, [], ◌∷◌, ◌++◌, ◌==◌, nat_lt, if◌then◌else◌, None}
+use Rattle.std.proofs.Common.{◌≡◌, ℕ, ◌<◌, ◌≤◌, arith, refl, sym, ap, ◌∙◌, Bool, true, false, not, ◌&&◌, List, [], ◌∷◌, ◌++◌, ◌==◌, nat_lt, None}
 use Rattle.std.specs.List.{list_all}
 use Rattle.std.specs.Char.{encode_utf8}
+use Rattle.std.proofs.lemmas.Bool.{and_parts, cond_both, not-true}
 use Rattle.std.proofs.lemmas.Bool.Decides.{nat_tests}
 use Rattle.std.proofs.lemmas.List.Folds.{list_all-append}
 use Rattle.std.proofs.lemmas.Str.{encode_ascii}
 use Rattle.screen_texts.specs.declared.writing.Writing.TheVariants.{Plain, Markup}
 use Rattle.screen_texts.specs.Writing.{reference, written}
 use Rattle.screen_texts.specs.Laws.{decoding, decoded, is_harmless, IsSafe}
-
--- what holds of both choices holds of the choice
-pub choice : {A : Type 0} (P : A → Type 0) (b : Bool) (x y : A) → (b ≡ true → P x) → (b ≡ false → P y) → P (if b then x else y)
-choice P true x y p q = p refl
-choice P false x y p q = q refl
 
 pub all_append : (p : ℕ → Bool) (xs ys : List ℕ) → list_all p xs ≡ true → list_all p ys ≡ true → list_all p (xs ++ ys) ≡ true
 all_append p xs ys h k = list_all-append p xs ys ∙ rw (h, k) refl
@@ -37,9 +33,9 @@ one_all p a h = rw h refl
 encode_all : (p : ℕ → Bool) (c : ℕ) → PassesHigh p → p c ≡ true → list_all p (encode_utf8 c) ≡ true
 unfolding encode_utf8
 encode_all p c high own =
-    choice (λ (bs : List ℕ). list_all p bs ≡ true) (nat_lt c 128) _ _ (λ e. one_all p c own)
-    (λ e. choice (λ (bs : List ℕ). list_all p bs ≡ true) (nat_lt c 2048) _ _ (λ f. pair_all p _ _ (high _ (omega arith)) (high _ (omega arith)))
-    (λ f. choice (λ (bs : List ℕ). list_all p bs ≡ true) (nat_lt c 65536) _ _ (λ g. triple_all p _ _ _ (high _ (omega arith)) (high _ (omega arith)) (high _ (omega arith)))
+    cond_both (nat_lt c 128) _ _ (λ (bs : List ℕ). list_all p bs ≡ true) (λ e. one_all p c own)
+    (λ e. cond_both (nat_lt c 2048) _ _ (λ (bs : List ℕ). list_all p bs ≡ true) (λ f. pair_all p _ _ (high _ (omega arith)) (high _ (omega arith)))
+    (λ f. cond_both (nat_lt c 65536) _ _ (λ (bs : List ℕ). list_all p bs ≡ true) (λ g. triple_all p _ _ _ (high _ (omega arith)) (high _ (omega arith)) (high _ (omega arith)))
     (λ g. four_all p _ _ _ _ (high _ (omega arith)) (high _ (omega arith)) (high _ (omega arith)) (high _ (omega arith)))))
 
 harmless_high : PassesHigh is_harmless
@@ -55,11 +51,11 @@ Harmless bs = list_all is_harmless bs ≡ true
 
 harmless_reference : (c : ℕ) → Harmless (reference c)
 harmless_reference c =
-    choice Harmless (c == 0x3C) _ _ (λ e. refl)
-    (λ a. choice Harmless (c == 0x3E) _ _ (λ e. refl)
-    (λ b. choice Harmless (c == 0x26) _ _ (λ e. refl)
-    (λ d. choice Harmless (c == 0x22) _ _ (λ e. refl)
-    (λ f. choice Harmless (c == 0x27) _ _ (λ e. refl)
+    cond_both (c == 0x3C) _ _ Harmless (λ e. refl)
+    (λ a. cond_both (c == 0x3E) _ _ Harmless (λ e. refl)
+    (λ b. cond_both (c == 0x26) _ _ Harmless (λ e. refl)
+    (λ d. cond_both (c == 0x22) _ _ Harmless (λ e. refl)
+    (λ f. cond_both (c == 0x27) _ _ Harmless (λ e. refl)
     (λ g. encode_all is_harmless c harmless_high (rw (a, b, f, g) refl))))))
 
 pub harmless : (cs : List ℕ) → Harmless (written Markup cs)
@@ -74,13 +70,11 @@ is_text b = not (b == 0x26)
 text_high : PassesHigh is_text
 text_high b h = let e : (b == 0x26) ≡ false = grind (arith, nat_tests) in rw e refl
 
-first_of : (a b : Bool) → (not a && b) ≡ true → a ≡ false
-first_of true b h = cc
-first_of false b h = refl
+pub first_of : (a b : Bool) → (not a && b) ≡ true → a ≡ false
+first_of a b h = not-true a (and_parts (not a) b h).0
 
-rest_of : (a b : Bool) → (not a && b) ≡ true → b ≡ true
-rest_of true b h = cc
-rest_of false b h = h
+pub rest_of : (a b : Bool) → (not a && b) ≡ true → b ≡ true
+rest_of a b h = (and_parts (not a) b h).1
 
 skips : (bs rest : List ℕ) → list_all is_text bs ≡ true → decoding None (bs ++ rest) ≡ bs ++ decoding None rest
 skips [] rest h = refl
@@ -103,11 +97,11 @@ named c k rest lt e =
 
 reads_reference : (c : ℕ) (rest : List ℕ) → ReadsAs c rest (reference c)
 reads_reference c rest =
-    choice (ReadsAs c rest) (c == 0x3C) _ _ (λ e. named c 0x3C rest (omega arith) e)
-    (λ a. choice (ReadsAs c rest) (c == 0x3E) _ _ (λ e. named c 0x3E rest (omega arith) e)
-    (λ b. choice (ReadsAs c rest) (c == 0x26) _ _ (λ e. named c 0x26 rest (omega arith) e)
-    (λ d. choice (ReadsAs c rest) (c == 0x22) _ _ (λ e. named c 0x22 rest (omega arith) e)
-    (λ f. choice (ReadsAs c rest) (c == 0x27) _ _ (λ e. named c 0x27 rest (omega arith) e)
+    cond_both (c == 0x3C) _ _ (ReadsAs c rest) (λ e. named c 0x3C rest (omega arith) e)
+    (λ a. cond_both (c == 0x3E) _ _ (ReadsAs c rest) (λ e. named c 0x3E rest (omega arith) e)
+    (λ b. cond_both (c == 0x26) _ _ (ReadsAs c rest) (λ e. named c 0x26 rest (omega arith) e)
+    (λ d. cond_both (c == 0x22) _ _ (ReadsAs c rest) (λ e. named c 0x22 rest (omega arith) e)
+    (λ f. cond_both (c == 0x27) _ _ (ReadsAs c rest) (λ e. named c 0x27 rest (omega arith) e)
     (λ g. skips (encode_utf8 c) rest (encode_all is_text c text_high (rw d refl)))))))
 
 decodes : (cs : List ℕ) → decoded (written Markup cs) ≡ written Plain cs

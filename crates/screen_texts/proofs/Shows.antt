@@ -3,7 +3,7 @@ use Rattle.std.proofs.Common.{◌≡◌, ◌≢◌, ℕ, zero, suc, ◌+◌, ◌
 use Rattle.std.specs.Prelude as P
 use Rattle.std.specs.List.{slice_split, range_with_len}
 use Rattle.std.proofs.lemmas.Bool.Decides.{nat_tests}
-use Rattle.std.proofs.lemmas.Bool.{cases_eq}
+use Rattle.std.proofs.lemmas.Bool.{cases_eq, cond_both}
 use Rattle.std.proofs.lemmas.List.Elements.{All-nil, All-cons, All-head, All-tail}
 use Rattle.std.proofs.lemmas.List.Splits.{slice_split_at}
 use Rattle.cell_looks.specs.declared.look.Glyph.{Glyph}
@@ -72,11 +72,6 @@ no_space_ends row front h = trimmed_ends (map seen_char row) front h
 
 -- Characters.
 
--- what holds of both choices holds of the choice
-choice : {A : Type 0} (P : A → Type 0) (b : Bool) (x y : A) → (b ≡ true → P x) → P y → P (if b then x else y)
-choice P true x y p q = p refl
-choice P false x y p q = q
-
 abbrev Fine : ℕ → Type 0
 Fine k = 0x20 ≤ k
 
@@ -89,29 +84,29 @@ far n a b p q = omega arith
 
 fine_sextants : (n : ℕ) → Fine (sextants_char n)
 fine_sextants n =
-    (choice Fine (n == 21) _ _ (λ e. omega arith)
-    (choice Fine (n == 42) _ _ (λ e. omega arith)
-    (choice Fine (n == 63) _ _ (λ e. omega arith)
-    (far n (if nat_lt 21 n then 1 else 0) (if nat_lt 42 n then 1 else 0) (one_at_most (nat_lt 21 n)) (one_at_most (nat_lt 42 n))))))
+    (cond_both (n == 21) _ _ Fine (λ e. omega arith)
+    (λ e. cond_both (n == 42) _ _ Fine (λ e. omega arith)
+    (λ e. cond_both (n == 63) _ _ Fine (λ e. omega arith)
+    (λ e. far n (if nat_lt 21 n then 1 else 0) (if nat_lt 42 n then 1 else 0) (one_at_most (nat_lt 21 n)) (one_at_most (nat_lt 42 n))))))
 
 low_enough : (c : ℕ) → (nat_le 0x20 c && nat_lt c 0x7B) ≡ true → 0x20 ≤ c
 low_enough c h = grind (arith, nat_tests)
 
 fine_character : (c : ℕ) → Fine (character c)
 fine_character c =
-    choice Fine (c == 0x23) _ _ (λ e. omega arith)
-    (choice Fine (c == 0x5B) _ _ (λ e. omega arith)
-    (choice Fine (c == 0x5C) _ _ (λ e. omega arith)
-    (choice Fine (c == 0x5D) _ _ (λ e. omega arith)
-    (choice Fine (c == 0x5E) _ _ (λ e. omega arith)
-    (choice Fine (c == 0x5F) _ _ (λ e. omega arith)
-    (choice Fine (c == 0x60) _ _ (λ e. omega arith)
-    (choice Fine (c == 0x7B) _ _ (λ e. omega arith)
-    (choice Fine (c == 0x7C) _ _ (λ e. omega arith)
-    (choice Fine (c == 0x7D) _ _ (λ e. omega arith)
-    (choice Fine (c == 0x7E) _ _ (λ e. omega arith)
-    (choice Fine (c == 0x7F) _ _ (λ e. omega arith)
-    (choice Fine (nat_le 0x20 c && nat_lt c 0x7B) c 0x20 (low_enough c) (omega arith)))))))))))))
+    cond_both (c == 0x23) _ _ Fine (λ e. omega arith)
+    (λ e. cond_both (c == 0x5B) _ _ Fine (λ e. omega arith)
+    (λ e. cond_both (c == 0x5C) _ _ Fine (λ e. omega arith)
+    (λ e. cond_both (c == 0x5D) _ _ Fine (λ e. omega arith)
+    (λ e. cond_both (c == 0x5E) _ _ Fine (λ e. omega arith)
+    (λ e. cond_both (c == 0x5F) _ _ Fine (λ e. omega arith)
+    (λ e. cond_both (c == 0x60) _ _ Fine (λ e. omega arith)
+    (λ e. cond_both (c == 0x7B) _ _ Fine (λ e. omega arith)
+    (λ e. cond_both (c == 0x7C) _ _ Fine (λ e. omega arith)
+    (λ e. cond_both (c == 0x7D) _ _ Fine (λ e. omega arith)
+    (λ e. cond_both (c == 0x7E) _ _ Fine (λ e. omega arith)
+    (λ e. cond_both (c == 0x7F) _ _ Fine (λ e. omega arith)
+    (λ e. cond_both (nat_le 0x20 c && nat_lt c 0x7B) c 0x20 Fine (low_enough c) (λ e. omega arith)))))))))))))
 
 fine_glyph : (g : Glyph) → IsOfTables g → Fine (glyph_char g)
 fine_glyph (Char k) h = subst Fine (sym h.1) (fine_character h.0)
@@ -126,7 +121,7 @@ abbrev IsFineShown : Shown → Type 0
 IsFineShown s = Fine (shown_char s)
 
 fine_char : (a : Look) → IsOfTables a.glyph → Fine (seen_char a)
-fine_char a p = choice IsFineShown (a.concealed || is_space a.glyph) (Ground a.background) (All a) (λ e. omega arith) (fine_half a.height a.glyph (fine_glyph a.glyph p))
+fine_char a p = cond_both (a.concealed || is_space a.glyph) (Ground a.background) (All a) IsFineShown (λ e. omega arith) (λ e. fine_half a.height a.glyph (fine_glyph a.glyph p))
 
 abbrev OfTables : Look → Type 0
 OfTables a = IsOfTables a.glyph
@@ -136,7 +131,7 @@ fine_chars [] h = All-nil Fine
 fine_chars (a ∷ row) h = All-cons Fine (seen_char a) (map seen_char row) (fine_char a (All-head OfTables a row h)) (fine_chars row (All-tail OfTables a row h))
 
 fine_before : (c : ℕ) (cs : List ℕ) → Fine c → P.All Fine cs → P.All Fine (before c cs)
-fine_before c [] p h = choice (P.All Fine) (c == 0x20) [] (c ∷ []) (λ e. All-nil Fine) (All-cons Fine c [] p h)
+fine_before c [] p h = cond_both (c == 0x20) [] (c ∷ []) (P.All Fine) (λ e. All-nil Fine) (λ e. All-cons Fine c [] p h)
 fine_before c (d ∷ ds) p h = All-cons Fine c (d ∷ ds) p h
 
 fine_trimmed : (cs : List ℕ) → P.All Fine cs → P.All Fine (trimmed cs)

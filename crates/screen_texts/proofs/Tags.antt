@@ -1,10 +1,11 @@
 -- A picture read as markup.
-use Rattle.std.proofs.Common.{◌≡◌, ℕ, zero, suc, ◌+◌, ◌*◌, ◌/◌, ◌%◌, ◌<◌, arith, refl, sym, ap, ◌∙◌, Bool, true, false, not, ◌&&◌, ◌||◌, List, [], ◌∷◌, ◌++◌, ◌==◌, nat_lt, Option, Some, None, codes, decimal, map, length, append_assoc, append-nil}
+use Rattle.std.proofs.Common.{◌≡◌, ℕ, ◌+◌, ◌*◌, ◌/◌, ◌%◌, arith, refl, sym, ap, ◌∙◌, Bool, true, false, not, ◌||◌, List, [], ◌∷◌, ◌++◌, ◌==◌, Option, Some, None, codes, decimal, map, length, append_assoc, append-nil}
 use Rattle.std.specs.List.{list_all, flat_map}
-use Rattle.std.specs.Fmt.{digits, digits_onto, digit_glyph}
+use Rattle.std.proofs.lemmas.Bool.{and_parts, cond_both, or_parts}
 use Rattle.std.proofs.lemmas.Bool.Decides.{nat_tests}
 use Rattle.std.proofs.lemmas.List.Folds.{list_all-append}
 use Rattle.page_ids.specs.Ids.{Id}
+use Rattle.page_ids.proofs.Digits.{PassesDigits, all_decimal}
 use Rattle.cell_looks.specs.declared.look.Colour.{Colour}
 use Rattle.cell_looks.specs.declared.look.Colour.TheVariants.{Black, Red, Green, Yellow, Blue, Magenta, Cyan, White}
 use Rattle.cell_looks.specs.declared.look.Glyph.{Glyph}
@@ -24,7 +25,7 @@ use Rattle.screen_texts.specs.Writing.{written}
 use Rattle.screen_texts.specs.Mosaics.{across, down, bits_of, rectangle, rectangles, part_path, mosaic_path, glyph_path, mosaics_path}
 use Rattle.screen_texts.specs.Svg.{Piece, piece, newline, piece_bytes, markup, attribute, corner, extent, rgb, fill, flash_begin, group_end, flashing, ground, mosaics, stretched, spacing, letters_tag, letters, drawn, drawn_in, first_ink, run_pieces, goes_on, row_pieces, layer_pieces, svg_begin, title, blocks_begin, blocks, texts_begin, texts, touched, foot, svg_pieces, svg}
 use Rattle.screen_texts.specs.Laws.{reading, tags_of, is_harmless, raw}
-use Rattle.screen_texts.proofs.Safe.{choice, all_append, harmless}
+use Rattle.screen_texts.proofs.Safe.{all_append, harmless, first_of, rest_of}
 
 -- Tags have no `<` and no `>`.
 
@@ -37,22 +38,13 @@ Inner bs = list_all is_inner bs ≡ true
 joined : (xs ys : List ℕ) → Inner xs → Inner ys → Inner (xs ++ ys)
 joined xs ys h k = all_append is_inner xs ys h k
 
-one_more : (d : ℕ) (acc : List ℕ) → d < 10 → Inner acc → Inner (digit_glyph false d ∷ acc)
-one_more d acc lt h =
-    let small : nat_lt d 10 ≡ true = grind (arith, nat_tests) in
-    let a : (48 + d == 0x3C) ≡ false = grind (arith, nat_tests) in
-    let b : (48 + d == 0x3E) ≡ false = grind (arith, nat_tests) in
-    rw (small, a, b, h) refl
-
-inner_digits : (k n : ℕ) (acc : List ℕ) → Inner acc → Inner (digits_onto k 10 false n acc)
-inner_digits zero n acc h = h
-inner_digits (suc k) n acc h =
-    let more : Inner (digit_glyph false (n % 10) ∷ acc) = one_more (n % 10) acc (omega arith) h in
-    choice Inner (n / 10 == 0) _ _ (λ e. more) (λ e. inner_digits k (n / 10) (digit_glyph false (n % 10) ∷ acc) more)
-
 inner_decimal : (n : ℕ) → Inner (decimal n)
-unfolding digits
-inner_decimal n = inner_digits 64 n [] refl
+inner_decimal n = all_decimal is_inner inner_digit n where
+  inner_digit : PassesDigits is_inner
+  inner_digit d lt =
+      let a : (48 + d == 0x3C) ≡ false = grind (arith, nat_tests) in
+      let b : (48 + d == 0x3E) ≡ false = grind (arith, nat_tests) in
+      rw (a, b) refl
 
 inner_attribute : (name : List ℕ) (n : ℕ) → Inner name → Inner (attribute name n)
 unfolding attribute
@@ -184,7 +176,7 @@ run_tags layer r c run = drawn_in_tags layer r c run (first_ink layer run)
 row_tags : (layer : Layer) (r c : ℕ) (run rest : List Look) → Tags (row_pieces layer r c run rest)
 row_tags layer r c run [] = run_tags layer r c run
 row_tags layer r c run (a ∷ rest) =
-    choice Tags (goes_on layer run a) _ _ (λ e. row_tags layer r c (run ++ a ∷ []) rest)
+    cond_both (goes_on layer run a) _ _ Tags (λ e. row_tags layer r c (run ++ a ∷ []) rest)
     (λ e. both (run_pieces layer r c run) (row_pieces layer r (c + length run) (a ∷ []) rest) (run_tags layer r c run) (row_tags layer r (c + length run) (a ∷ []) rest))
 
 layer_tags : (layer : Layer) (r : ℕ) (rows : List (List Look)) → Tags (layer_pieces layer r rows)
@@ -231,26 +223,10 @@ svg_tags id rows cell =
 
 -- The reader.
 
-pub first_of : (a b : Bool) → (not a && b) ≡ true → a ≡ false
-first_of true b h = cc
-first_of false b h = refl
-
-pub rest_of : (a b : Bool) → (not a && b) ≡ true → b ≡ true
-rest_of true b h = cc
-rest_of false b h = h
-
-pub first_false : (a b : Bool) → (a || b) ≡ false → a ≡ false
-first_false true b h = cc
-first_false false b h = refl
-
-pub second_false : (a b : Bool) → (a || b) ≡ false → b ≡ false
-second_false true b h = cc
-second_false false b h = h
-
 in_tag : (tag since front rest : List ℕ) → Inner front → reading true tag since (front ++ 0x3E ∷ rest) ≡ reading false (tag ++ front) [] rest
 in_tag tag since [] rest h = ap (λ (t : List ℕ). reading false t [] rest) (sym (append-nil tag))
 in_tag tag since (b ∷ bs) rest h =
-    let here : (b == 0x3E) ≡ false = second_false (b == 0x3C) (b == 0x3E) (first_of (b == 0x3C || b == 0x3E) (list_all is_inner bs) h) in
+    let here : (b == 0x3E) ≡ false = (or_parts (b == 0x3C) (b == 0x3E) (first_of (b == 0x3C || b == 0x3E) (list_all is_inner bs) h)).1 in
     let later : Inner bs = rest_of (b == 0x3C || b == 0x3E) (list_all is_inner bs) h in
     rw here (in_tag (tag ++ b ∷ []) since bs rest later ∙ ap (λ (t : List ℕ). reading false t [] rest) (append_assoc tag (b ∷ []) bs))
 
@@ -258,7 +234,7 @@ abbrev pub Outer : List ℕ → Type 0
 Outer bs = list_all is_harmless bs ≡ true
 
 not_open : (b : ℕ) (bs : List ℕ) → Outer (b ∷ bs) → (b == 0x3C) ≡ false
-not_open b bs h = first_false (b == 0x3C) (b == 0x3E || (b == 0x22 || b == 0x27)) (first_of (b == 0x3C || (b == 0x3E || (b == 0x22 || b == 0x27))) (list_all is_harmless bs) h)
+not_open b bs h = (or_parts (b == 0x3C) (b == 0x3E || (b == 0x22 || b == 0x27)) (first_of (b == 0x3C || (b == 0x3E || (b == 0x22 || b == 0x27))) (list_all is_harmless bs) h)).0
 
 outer_rest : (b : ℕ) (bs : List ℕ) → Outer (b ∷ bs) → Outer bs
 outer_rest b bs h = rest_of (b == 0x3C || (b == 0x3E || (b == 0x22 || b == 0x27))) (list_all is_harmless bs) h
@@ -281,23 +257,15 @@ begins : (p : Piece) (rest : List ℕ) → Inner p.tag → tags_of (piece_bytes 
 begins p rest h =
     ap (reading true [] []) (regroup p.tag (written Markup p.chars) rest) ∙ in_tag [] [] p.tag (written Markup p.chars ++ rest) h
 
-pub first_inner : (a b : Bool) → (a && b) ≡ true → a ≡ true
-first_inner true b h = refl
-first_inner false b h = cc
-
-pub other_inner : (a b : Bool) → (a && b) ≡ true → b ≡ true
-other_inner true b h = h
-other_inner false b h = cc
-
 reads : (p : Piece) (ps : List Piece) → Tags (p ∷ ps) → tags_of (markup (p ∷ ps)) ≡ raw p ∷ map raw ps
 unfolding markup
 reads p [] h =
-    begins p [] (first_inner (has_inner p) true h)
+    begins p [] (and_parts (has_inner p) true h).0
     ∙ (ap (reading false p.tag []) (append-nil (written Markup p.chars)) ∙ out_end p.tag [] (written Markup p.chars) (harmless p.chars))
 reads p (q ∷ qs) h =
-    begins p (markup (q ∷ qs)) (first_inner (has_inner p) (list_all has_inner (q ∷ qs)) h)
+    begins p (markup (q ∷ qs)) (and_parts (has_inner p) (list_all has_inner (q ∷ qs)) h).0
     ∙ (out_tag p.tag [] (written Markup p.chars) _ (harmless p.chars)
-    ∙ ap (λ (later : List Piece). raw p ∷ later) (reads q qs (other_inner (has_inner p) (list_all has_inner (q ∷ qs)) h)))
+    ∙ ap (λ (later : List Piece). raw p ∷ later) (reads q qs (and_parts (has_inner p) (list_all has_inner (q ∷ qs)) h).1))
 
 reads_all : (ps : List Piece) → Tags ps → tags_of (markup ps) ≡ map raw ps
 unfolding markup

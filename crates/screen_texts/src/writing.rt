@@ -1,9 +1,9 @@
 //! Characters as bytes.
 
 ghost use Rattle.std.specs.Prelude.{◌≡◌, ◌++◌, OnOk};
-ghost use Rattle.std.specs.Char.{encode_utf8};
 ghost use Rattle.screen_texts.specs.Writing as spec;
 
+use page_ids::push_utf8;
 use std::alloc::AllocError;
 
 /// How characters are written.
@@ -13,13 +13,6 @@ pub enum Writing {
     Plain,
     /// The same, but `<`, `>`, `&`, `"` and `'` as references, for XML and HTML.
     Markup,
-}
-
-fn push_utf8(out: &mut Vec<u8>, c: char) -> Result<(), AllocError>
-    ensures { OnOk result (out.new.items ≡ out.old.items ++ encode_utf8 c) }
-{
-    let mut bytes = [0; 4];
-    out.extend_from_slice(c.encode_utf8(&mut bytes).as_bytes())
 }
 
 fn push_markup(out: &mut Vec<u8>, c: char) -> Result<(), AllocError>

@@ -1,15 +1,11 @@
 -- The codes that cells hold.
-use Rattle.std.proofs.Common.{◌≡◌, ℕ, ◌+◌, ◌-◌, ◌<◌, ◌≤◌, arith, refl, Bool, true, false, ◌&&◌, List, [], ◌∷◌, Option, Some, None, ◌==◌, nat_lt, nat_le, if◌then◌else◌, replicate, zero, suc}
+use Rattle.std.proofs.Common.{◌≡◌, ℕ, ◌+◌, ◌-◌, ◌<◌, ◌≤◌, arith, Bool, true, false, ◌&&◌, List, [], ◌∷◌, Option, Some, None, ◌==◌, nat_lt, nat_le, replicate, zero, suc}
 use Rattle.std.specs.Prelude as P
+use Rattle.std.proofs.lemmas.Bool.{cond_both}
 use Rattle.std.proofs.lemmas.Bool.Decides.{nat_tests}
 use Rattle.std.proofs.lemmas.List.Elements.{All-nil, All-cons, All-head, All-tail, All-set}
 use Rattle.terminal_codes.specs.Screen.{Screen, attribute_of, letter_of, high_code_of, code_of, control_step, with_code, byte_step, run}
 use Rattle.terminal_codes.specs.Writes.{IsCode}
-
--- what holds of both choices holds of the choice
-choice : {A : Type 0} (P : A → Type 0) (b : Bool) (x y : A) → (b ≡ true → P x) → (b ≡ false → P y) → P (if b then x else y)
-choice P true x y p q = p refl
-choice P false x y p q = q refl
 
 abbrev Fits : Option ℕ → Type 0
 Fits None = Unit {0}
@@ -22,7 +18,7 @@ between b h =
     (omega arith, omega arith)
 
 fits_attribute : (b : ℕ) → Fits (attribute_of b)
-fits_attribute b = choice Fits (nat_le 64 b && nat_lt b 96) (Some (b + 64)) None (between b) (λ e. tt)
+fits_attribute b = cond_both (nat_le 64 b && nat_lt b 96) (Some (b + 64)) None Fits (between b) (λ e. tt)
 
 fits_letter : (pending : Bool) (b : ℕ) → 32 ≤ b → b < 128 → Fits (letter_of pending b)
 fits_letter true b ge lt = fits_attribute b
@@ -36,13 +32,13 @@ from b n h = grind (arith, nat_tests)
 
 fits_high : (pending : Bool) (b : ℕ) → 32 ≤ b → b < 256 → Fits (high_code_of pending b)
 fits_high pending b ge lt =
-    choice Fits (nat_lt b 128) _ _ (λ e. fits_letter pending b ge (below b 128 e))
+    cond_both (nat_lt b 128) _ _ Fits (λ e. fits_letter pending b ge (below b 128 e))
     (λ e. let high : 128 ≤ b = from b 128 e in
-    choice Fits (nat_lt b 160) (Some b) (Some (b - 128)) (λ f. let low : b < 160 = below b 160 f in (omega arith, low))
+    cond_both (nat_lt b 160) (Some b) (Some (b - 128)) Fits (λ f. let low : b < 160 = below b 160 f in (omega arith, low))
     (λ f. let higher : 160 ≤ b = from b 160 f in (omega arith, omega arith)))
 
 fits_code : (pending : Bool) (b : ℕ) → b < 256 → Fits (code_of pending b)
-fits_code pending b lt = choice Fits (nat_lt b 32) _ _ (λ e. tt) (λ e. fits_high pending b (from b 32 e) lt)
+fits_code pending b lt = cond_both (nat_lt b 32) _ _ Fits (λ e. tt) (λ e. fits_high pending b (from b 32 e) lt)
 
 abbrev HoldsCodes : Screen → Type 0
 HoldsCodes t = P.All IsCode t.cells
@@ -56,10 +52,10 @@ all_blank (suc n) = All-cons IsCode 32 (replicate n 32) blank (all_blank n)
 
 codes_of_control : (t : Screen) (b : ℕ) → HoldsCodes t → HoldsCodes (control_step t b)
 codes_of_control t b h =
-    choice HoldsCodes (b == 27) _ _ (λ e. h)
-    (λ e. choice HoldsCodes (b == 12) _ _ (λ f. all_blank 960)
-    (λ f. choice HoldsCodes (b == 17) _ _ (λ g. h)
-    (λ g. choice HoldsCodes (b == 20) _ _ (λ i. h) (λ i. h))))
+    cond_both (b == 27) _ _ HoldsCodes (λ e. h)
+    (λ e. cond_both (b == 12) _ _ HoldsCodes (λ f. all_blank 960)
+    (λ f. cond_both (b == 17) _ _ HoldsCodes (λ g. h)
+    (λ g. cond_both (b == 20) _ _ HoldsCodes (λ i. h) (λ i. h))))
 
 codes_of_code : (t : Screen) (code : Option ℕ) → Fits code → HoldsCodes t → HoldsCodes (with_code t code)
 codes_of_code t None f h = h
@@ -67,7 +63,7 @@ codes_of_code t (Some c) f h = All-set IsCode t.cells t.at c f h
 
 codes_of_step : (t : Screen) (b : ℕ) → b < 256 → HoldsCodes t → HoldsCodes (byte_step t b)
 codes_of_step t b lt h =
-    choice HoldsCodes (nat_lt b 32) _ _ (λ e. codes_of_control t b h) (λ e. codes_of_code t (code_of t.pending b) (fits_code t.pending b lt) h)
+    cond_both (nat_lt b 32) _ _ HoldsCodes (λ e. codes_of_control t b h) (λ e. codes_of_code t (code_of t.pending b) (fits_code t.pending b lt) h)
 
 pub cells_hold_codes : (t : Screen) (bytes : List ℕ) → P.All (λ b. b < 256) bytes → P.All IsCode t.cells → P.All IsCode (run t bytes).cells
 cells_hold_codes t [] bound h = h

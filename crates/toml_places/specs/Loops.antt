@@ -1,7 +1,8 @@
 -- Facts that hold between the turns of loops, and what functions that aren't exported say. No promise rests on them.
 use Rattle.toml_parser.specs.Reading.{key_view, path_view}
+use Rattle.toml_places.specs.Steps.{◌>>=◌}
 use Rattle.toml_places.specs.declared.lines.Line as code_line
-use Rattle.std.specs.Prelude.{Option, option_and_then, ℕ, List, option_map, ◌==◌, if◌then◌else◌, ◌&&◌, drop, slice_index, Some, None, length, ◌≡◌, ◌<◌, true, Bool, false, ◌+◌, Result, MatchResult, IsSome}
+use Rattle.std.specs.Prelude.{ℕ, List, option_map, ◌==◌, if◌then◌else◌, ◌&&◌, drop, slice_index, Some, None, length, ◌≡◌, ◌<◌, true, Bool, false, ◌+◌, Result, MatchResult, IsSome}
 use Rattle.toml_parser.specs.Strings.{Key, recursion_limit}
 use Rattle.toml_places.specs.declared.lines.Sort.{Sort}
 use Rattle.toml_parser.specs.Lexical.{Read, right_bracket, left_bracket, first, skip_ws}
@@ -38,10 +39,6 @@ abbrev pub section_view : ℕ → code_section.Section → Section
 section_view frames s = record { frames = frames; in_frame = s.in_frame; path = path_view s.path.items }
 
 -- The text after an expression.
-
-infixl 10 ◌>>=◌
-abbrev ◌>>=◌ : {A B : Type 0} → Option A → (A → Option B) → Option B
-o >>= f = option_and_then f o
 
 -- a header in double brackets
 unfoldable pub array_header : List ℕ → Read Line

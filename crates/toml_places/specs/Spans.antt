@@ -1,19 +1,16 @@
 -- The spans of a text: where a key, a value, a header, an element or a character is written in it.
-use Rattle.std.specs.Prelude.{ℕ, ℤ, ◌-◌, Bool, ◌&&◌, ◌==◌, nat_le, if◌then◌else◌, List, length, drop, slice_index, Option, Some, None, option_map, option_and_then}
+use Rattle.std.specs.Prelude.{ℕ, ℤ, ◌-◌, Bool, ◌&&◌, ◌==◌, nat_le, if◌then◌else◌, List, length, drop, slice_index, Option, Some, None, option_map}
 use Rattle.toml_parser.specs.Lexical.{left_bracket, right_bracket, dot, first, skip_ws}
 use Rattle.toml_parser.specs.Strings.{recursion_limit}
 use Rattle.toml_parser.specs.Numbers.{unquoted}
 use Rattle.toml_parser.specs.declared.scalar.Scalar.{Scalar}
 use Rattle.toml_parser.specs.declared.scalar.Scalar.TheVariants.{Integer}
 use Rattle.toml.specs.Parse.{after_byte}
+use Rattle.toml_places.specs.Steps.{◌>>=◌}
 use Rattle.toml_places.specs.declared.spans.Span.{Span}
 use Rattle.toml_places.specs.declared.spans.Spot.{Spot}
 use Rattle.toml_places.specs.Strings.{Piece, starts_char, after_part, part_from, after_key, value_from, string_char}
 use Rattle.toml_places.specs.Values.{after_value, element}
-
-infixl 10 ◌>>=◌
-abbrev ◌>>=◌ : {A B : Type 0} → Option A → (A → Option B) → Option B
-o >>= f = option_and_then f o
 
 -- the text from an offset on, if a character begins there or it is the end
 unfoldable pub from_offset : ℕ → List ℕ → Option (List ℕ)

@@ -1,16 +1,13 @@
 -- Strings and keys, of which only the ends of what they are written with are wanted.
-use Rattle.std.specs.Prelude.{ℕ, zero, suc, ◌+◌, ◌-◌, Bool, true, false, not, ◌&&◌, ◌||◌, ◌==◌, nat_lt, nat_le, if◌then◌else◌, List, length, take, drop, slice_index, Option, Some, None, is_some, option_map, option_and_then}
+use Rattle.std.specs.Prelude.{ℕ, zero, suc, ◌+◌, ◌-◌, Bool, true, false, not, ◌&&◌, ◌||◌, ◌==◌, nat_lt, nat_le, if◌then◌else◌, List, length, take, drop, slice_index, Option, Some, None, is_some, option_map}
 use Rattle.std.specs.List.{prefix_len, list_all}
 use Rattle.std.specs.Char.{is_digit}
 use Rattle.toml_parser.specs.Lexical.{Read, backslash, dot, equals, first, starts_newline, split_while, skip_ws, skip_lines, is_bare}
 use Rattle.toml_parser.specs.Strings.{is_plain, simple_escape, hex_len, trim_newline, starts_string}
 use Rattle.toml.specs.Parse.{after_byte}
+use Rattle.toml_places.specs.Steps.{◌>>=◌}
 use Rattle.toml_places.specs.declared.strings.Step.{Step}
 use Rattle.toml_places.specs.declared.strings.Step.TheVariants.{End, Cut, Char}
-
-infixl 10 ◌>>=◌
-abbrev ◌>>=◌ : {A B : Type 0} → Option A → (A → Option B) → Option B
-o >>= f = option_and_then f o
 
 -- In UTF-8 a character begins with any byte but 80 to BF.
 abbrev pub starts_char : ℕ → Bool

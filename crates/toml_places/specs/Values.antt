@@ -1,15 +1,12 @@
 -- Values, of which only the ends are wanted, and what arrays and inline tables hold.
-use Rattle.std.specs.Prelude.{ℕ, zero, suc, ◌==◌, if◌then◌else◌, List, [], ◌∷◌, ◌++◌, length, drop, Option, Some, None, option_map, option_and_then}
+use Rattle.std.specs.Prelude.{ℕ, zero, suc, ◌==◌, if◌then◌else◌, List, [], ◌∷◌, ◌++◌, length, drop, Option, Some, None, option_map}
 use Rattle.std.specs.Option.{option_map_or}
 use Rattle.toml_parser.specs.Lexical.{left_bracket, right_bracket, left_brace, right_brace, first, skip_blank}
 use Rattle.toml_parser.specs.Strings.{Key, starts_string, recursion_limit}
 use Rattle.toml_parser.specs.Numbers.{word_len}
 use Rattle.toml.specs.Parse.{after_element, key_equals}
+use Rattle.toml_places.specs.Steps.{◌>>=◌}
 use Rattle.toml_places.specs.Strings.{Piece, after_string, value_from}
-
-infixl 10 ◌>>=◌
-abbrev ◌>>=◌ : {A B : Type 0} → Option A → (A → Option B) → Option B
-o >>= f = option_and_then f o
 
 -- after a boolean, a number or a date-time, of whatever value
 unfoldable pub after_word : List ℕ → Option (List ℕ)

@@ -46,5 +46,6 @@ pub use places::Places;
 pub use spans::{
     Span, Spot, char_span, element_spans, frame_span, integer_at, key_span, pair_span, value_span,
 };
+pub use strings::starts_char;
 pub use tables::TablePlaces;
-pub use text_lines::{Extent, TextLines, place_in};
+pub use text_lines::{Extent, TextLines, is_marked, place_in};

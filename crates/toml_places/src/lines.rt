@@ -6,6 +6,7 @@ ghost use Rattle.toml.specs.Parse as toml;
 ghost use Rattle.toml_places.specs.Loops as loops;
 ghost use Rattle.toml_places.specs.Loops.{line_view};
 
+use crate::text_lines::is_marked;
 use crate::values::{after_value, key_equals};
 use std::alloc::Global;
 use toml_parser::text::{byte_at, first, skip, skip_ws};
@@ -32,7 +33,7 @@ pub fn skip_bom(text: &str) -> &str
     ensures rest { result.now ≡ toml.skip_bom text.now }
     ensures within { length result.now ≤ length text.now }
 {
-    if first(text) == 0xEF && byte_at(text, 1) == 0xBB && byte_at(text, 2) == 0xBF {
+    if is_marked(text.as_bytes()) {
         &text[3..]
     } else {
         text

@@ -41,6 +41,7 @@ fn is_plain(byte: u8, delim: u8, multi: bool) -> bool
         && (is_non_eol(byte) || (multi && byte == b'\n'))
 }
 
+/// Whether a character begins with the byte: in UTF-8, with any but 80 to BF.
 pub fn starts_char(byte: u8) -> bool
     ensures { result ≡ spec.starts_char byte }
 {

@@ -42,7 +42,8 @@ impl<'a> Model for TextLines<'a> {
     ghost invariant = { λ l. ArePlaces l.text.now l.places.items };
 }
 
-fn is_marked(text: &[u8]) -> bool
+/// Whether a text begins with a byte order mark, of three bytes.
+pub fn is_marked(text: &[u8]) -> bool
     ensures { result ≡ extents.is_marked text.now }
 {
     byte_at(text, 0) == 0xEF && byte_at(text, 1) == 0xBB && byte_at(text, 2) == 0xBF

@@ -2,7 +2,7 @@ use Rattle.std.proofs.Common.{rules, ◌≡◌, ◌∙◌, ◌+◌, ◌++◌, �
 use Rattle.std.proofs.lemmas.List.{drop_more, drop_all, append-nil}
 use Rattle.devices.specs.Devices.{WrotePart, IsOnItsWay}
 use Rattle.audit_report.specs.Listing.{unreached_lines}
-use Rattle.audit_report.proofs.OnTheWay.{kept_more}
+use Rattle.devices.proofs.OnTheWay.{kept_more}
 use Rattle.audit_report.proofs.Others.{first_line}
 use Rattle.audit_report.proofs.listing.write_others.Goals as goal
 

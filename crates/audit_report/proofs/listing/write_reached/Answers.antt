@@ -1,7 +1,8 @@
 use Rattle.std.proofs.Common.{rules, ◌≡◌, ◌∙◌, ◌+◌, ◌-◌, ◌++◌, sym, ap, subst, arith, append_assoc, length}
 use Rattle.devices.specs.Devices.{WrotePart, IsOnItsWay}
 use Rattle.audit_report.specs.Listing.{reached_line, reached_lines}
-use Rattle.audit_report.proofs.OnTheWay.{kept_more, next, split}
+use Rattle.devices.proofs.OnTheWay.{kept_more}
+use Rattle.audit_report.proofs.OnTheWay.{next, split}
 use Rattle.audit_report.proofs.listing.write_reached.Goals as goal
 
 pub returns-in-Err-clause-part : goal.returns-in-Err-clause-part

@@ -1,7 +1,7 @@
 use Rattle.std.proofs.Common.{◌++◌, ◌∷◌, []}
 use Rattle.base_pages.specs.Sections.{sections}
 use Rattle.base_pages.specs.Loops.{book_view}
-use Rattle.base_pages.proofs.OnTheWay.{kept_more}
+use Rattle.devices.proofs.OnTheWay.{kept_more}
 use Rattle.base_pages.proofs.pages.write_section.Goals as goal
 
 pub returns-in-Ok-clause-taken : goal.returns-in-Ok-clause-taken

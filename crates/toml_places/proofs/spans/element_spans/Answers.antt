@@ -1,4 +1,5 @@
-use Rattle.std.proofs.Common.{◌≡◌, ◌∙◌, ◌==◌, ℕ, true, false, List, [], drop, Some, Result, Ok, Err, option_map, IfOk, slice_get, sym, ap}
+use Rattle.std.proofs.Common.{◌≡◌, ◌∙◌, ◌==◌, ℕ, true, false, List, [], drop, Some, option_map, slice_get, sym, ap}
+use Rattle.std.proofs.lemmas.Result.{IfOk-weaker}
 use Rattle.std.proofs.lemmas.Bool.Decides.{nat_tests}
 use Rattle.std.proofs.Common.{arith}
 use Rattle.toml_parser.specs.Lexical.{first}
@@ -6,10 +7,6 @@ use Rattle.toml_places.specs.declared.spans.Span.{Span}
 use Rattle.toml_places.specs.Values.{element, element_from}
 use Rattle.toml_places.specs.Spans.{from_offset, span_in, element_span}
 use Rattle.toml_places.proofs.spans.element_spans.Goals as goal
-
-weaken : {A E : Type 0} {P Q : A → Type 0} (r : Result A E) → ((a : A) → P a → Q a) → IfOk r P → IfOk r Q
-weaken (Ok a) f p = f a p
-weaken (Err e) f p = tt
 
 of_array : (text array : List ℕ) (at k : ℕ) → Some array ≡ from_offset at text → (first array == 91) ≡ true
     → option_map (span_in text) (element_from k (drop 1 array)) ≡ element_span k at text
@@ -24,7 +21,7 @@ no_array text array at k spans is other none = rw (none, sym is, other)
 pub returns-then-first-eq91 : goal.returns-then-first-eq91
 returns-then-first-eq91 c =
     let opens : (first c.in-Some.array.now == 91) ≡ true = grind (arith, nat_tests, c.if-first-eq91.true) in
-    weaken c.spans_from.result (λ spans are k. are k ∙ ap (λ rest. option_map (span_in c.args.text.now) (element_from k rest)) c.skip.ensures.rest
+    IfOk-weaker c.spans_from.result _ _ (λ spans are k. are k ∙ ap (λ rest. option_map (span_in c.args.text.now) (element_from k rest)) c.skip.ensures.rest
     ∙ of_array c.args.text.now c.in-Some.array.now c.args.at k c.in-Some.ensures.value opens) c.spans_from.ensures
 
 pub returns-else-first-eq91 : goal.returns-else-first-eq91

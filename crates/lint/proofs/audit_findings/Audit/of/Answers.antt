@@ -5,7 +5,7 @@ use Rattle.lint.proofs.audit_findings.Audit.of.Goals as goal
 
 pub returns : goal.returns
 returns c =
-    let found = c.in_ok-faults.found in
+    let found = c.in_ok-survey.survey.found in
     let known : Knows (ranks_of found) c.in_ok-ranks.ranks = search rules in
     record {
       found = found;

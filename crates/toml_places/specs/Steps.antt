@@ -1,0 +1,7 @@
+-- Readings that may find nothing.
+use Rattle.std.specs.Prelude.{Option, option_and_then}
+
+-- one reading, and then another of what it found
+infixl 10 ◌>>=◌
+abbrev pub ◌>>=◌ : {A B : Type 0} → Option A → (A → Option B) → Option B
+o >>= f = option_and_then f o
