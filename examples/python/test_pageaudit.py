@@ -152,20 +152,16 @@ class Audit(unittest.TestCase):
         self.assertEqual(pageaudit.audit(BROKEN, POLICY), pageaudit.Audit(None, tuple(report[1:])))
 
     def test_gives_a_certificate_longer_than_its_first_buffer(self) -> None:
-        frames = (
-            f'[[frame]]\nid = "{page}a"\nrows = []\nroutes = {{ 0 = 1000, 1 = {page + 1} }}\n'
-            for page in range(1_000, 9_000)
-        )
+        frame = '[[frame]]\nid = "{}a"\nrows = []\nroutes = {{ 0 = 1000, 1 = {} }}\n'
+        frames = (frame.format(page, page + 1) for page in range(1_000, 9_000))
         base = f"entry = 1000\noutside = [9000]\n{''.join(frames)}".encode()
         certificate = pageaudit.audit(base, Policy(0, 65_535)).certificate or b""
         self.assertGreater(len(certificate), 1 << 16)
         self.assertTrue(pageaudit.check(base, certificate, Policy(0, 65_535)).cleared)
 
     def test_gives_a_report_of_two_megabytes(self) -> None:
-        frames = (
-            f'[[frame]]\nid = "{page}a"\nprice = 21\nrows = []\nroutes = {{ 1 = {page + 1} }}\n'
-            for page in range(1_000, 2_500)
-        )
+        frame = '[[frame]]\nid = "{}a"\nprice = 21\nrows = []\nroutes = {{ 1 = {} }}\n'
+        frames = (frame.format(page, page + 1) for page in range(1_000, 2_500))
         faults = pageaudit.audit(f"entry = 1000\noutside = [2500]\n{''.join(frames)}".encode(), POLICY).faults
         self.assertEqual((len(faults), faults[-1]), (2_999, f"NORETURN 2499a SCRIPT {'1' * 1_499}"))
 

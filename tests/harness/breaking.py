@@ -11,11 +11,22 @@ NUMBERS = [
 ]
 # Of any text, of TOML, of a base, and of a certificate.
 PIECES = [
-    *(b"a", b"z", b"#", b" ", b"\t", b"\n", b"\r\n", b"\r", b"0", b"1", b"_", b"-", b"+", b"?", b"\x00", b"\xff"),
-    *(b"\xc3\xa9", b"\xe2\x82\xac", b"\xef\xbb\xbf", b'"', b"'", b'"""', b"'''", b"\\", b"\\\n", b"\\e", b"\\x41"),
+    *(b"a", b"z", b"#", b" ", b"\t", b"\n", b"\r\n", b"\r", b"0", b"1", b"_", b"-", b"+", b"?", b"\x00", b"\xff", b"="),
     *(
-        b"=",
+        b"\xc3\xa9",
+        b"\xe2\x82\xac",
+        b"\xef\xbb\xbf",
+        b'"',
+        b"'",
+        b'"""',
+        b"'''",
+        b"\\",
+        b"\\\n",
+        b"\\e",
+        b"\\x41",
         b".",
+    ),
+    *(
         b",",
         b"},",
         b"[",
@@ -28,19 +39,11 @@ PIECES = [
         b"\\u001B",
         b"\\u008D",
         b"\\u000C",
-    ),
-    *(
         b"\\u00FF",
-        b"\\u20ac",
-        b"[[frame]]\n",
-        b"[frame]\n",
-        b"[frame.routes]\n",
-        b"[x]\n",
-        b'id = "1a"\n',
-        b"price = -1\n",
     ),
-    *(b"next = true\n", b"group = 7\n", b"group = 9\n", b"routes.1 = 2\n", b'lead = "keep"\n', b"rows = []\n", b"any"),
-    *(b"s959", b"c39", b"c40", b"PBC1\n", b"PBC2\n", b"groups 7\n", b"groups 7 9\n", b" 9", b"rows 0\n", b"end\n"),
+    *(b"\\u20ac", b"[[frame]]\n", b"[frame]\n", b"[frame.routes]\n", b"[x]\n", b'id = "1a"\n', b"price = -1\n", b"any"),
+    *(b"next = true\n", b"group = 7\n", b"group = 9\n", b"routes.1 = 2\n", b'lead = "keep"\n', b"rows = []\n", b" 9"),
+    *(b"s959", b"c39", b"c40", b"PBC1\n", b"PBC2\n", b"groups 7\n", b"groups 7 9\n", b"rows 0\n", b"end\n"),
 ]
 
 

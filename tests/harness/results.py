@@ -25,6 +25,8 @@ Item = TypeVar("Item")
 
 # So many lines of a difference are shown, each so long.
 LINES, WIDTH = 20, 300
+# A longer value is one line: to lay it out would take long.
+LONG = 20_000
 
 
 @dataclass(frozen=True)
@@ -57,7 +59,7 @@ def lines_of(value: object) -> list[str]:
         return value.splitlines()
     if isinstance(value, tuple):
         return [line for part in value for line in lines_of(part)]
-    return pformat(value, width=WIDTH).splitlines()
+    return pformat(value, width=WIDTH).splitlines() if len(repr(value)) < LONG else [repr(value)]
 
 
 def difference(found: object, wanted: object) -> str:

@@ -23,8 +23,6 @@ Fails = Callable[[Case], bool]
 # Makes a case smaller that fails by a judgement.
 Cut = Callable[[Case, Fails[Case]], Case]
 
-SPACE = 0x20
-
 
 @dataclass
 class Budget:
@@ -135,12 +133,7 @@ def smallest_value(value: object, fails: Fails[object]) -> object:
 def base_text(tree: object) -> bytes:
     """The plain text of a base's tree."""
     assert isinstance(tree, dict)
-    frames = tree.get("frame")
-    tables = frames if isinstance(frames, list) and all(isinstance(frame, dict) for frame in frames) else []
-    top = {key: value for key, value in tree.items() if not (tables and key == "frame")}
-    pen = FirstPen(Random(0))
-    texts = ("".join(f"{pen.pair((key,), table[key], ())}\n" for key in table) for table in [top, *tables])
-    return "[[frame]]\n".join(texts).encode()
+    return FirstPen(Random(0)).base(tree)
 
 
 def smallest_base(data: bytes, fails: Fails[bytes]) -> bytes:
@@ -161,9 +154,8 @@ def smallest_cells(data: bytes, fails: Fails[bytes]) -> bytes:
         starts = range(0, len(data), width)
 
         def kept(some: list[int]) -> bytes:
-            return b"".join(
-                data[at : at + width] if at in some else bytes([SPACE] * len(data[at : at + width])) for at in starts
-            )
+            parts = ((data[at : at + width], at in some) for at in starts)
+            return b"".join(part if is_kept else b" " * len(part) for part, is_kept in parts)
 
         data = kept(fewest(starts, lambda some: fails(kept(some))))
     return data

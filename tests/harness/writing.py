@@ -1,7 +1,7 @@
 """Spells keys and values in the ways of TOML, and knows where each was written."""
 
 import re
-from collections.abc import Iterator, Sequence
+from collections.abc import Iterator, Mapping, Sequence
 from random import Random
 from typing import TypeVar
 
@@ -182,6 +182,15 @@ class PlainPen(Pen):
     def __init__(self, random: Random) -> None:
         super().__init__(random)
         self.eol, self.is_odd = "\n", False
+
+    def base(self, tree: Mapping[str, object], in_tables: bool = True) -> bytes:
+        """The text of a base's tree, whose frames are tables of their own if they can be."""
+        frames = tree.get("frame")
+        is_listed = in_tables and isinstance(frames, list) and all(isinstance(frame, dict) for frame in frames)
+        tables = frames if is_listed and isinstance(frames, list) else []
+        top = {key: value for key, value in tree.items() if not (tables and key == "frame")}
+        texts = ("".join(f"{self.pair((key,), table[key], ())}\n" for key in table) for table in [top, *tables])
+        return "[[frame]]\n".join(texts).encode()
 
 
 class FirstPen(PlainPen):

@@ -5,7 +5,7 @@ Nothing of tests/second_reading is used here: a place is where the writer was wh
 
 import datetime
 import re
-from collections.abc import Callable, Iterator, Mapping
+from collections.abc import Iterator
 from random import Random
 from typing import NamedTuple, cast
 
@@ -32,26 +32,9 @@ TEXTS = [
     *(("9" * 40, f'"{"9" * 40}"'), ("9" * 41, f'"{"9" * 40}..."'), ('"' * 45, '"' + '\\"' * 40 + '..."')),
 ]
 # Codes that no row may have, and how they are shown.
-CODES = [
-    ("\xa3", "\xa3 (U+00A3)"),
-    ("\t", "U+0009"),
-    ("\xa0", "U+00A0"),
-    ("\x07", "U+0007"),
-    ("\x00", "U+0000"),
-    ("\xad", "\xad (U+00AD)"),
-    ("\xff", "\xff (U+00FF)"),
-]
+CODES = [(c, f"U+{ord(c):04X}") for c in "\t\xa0\x07\x00"] + [(c, f"{c} (U+{ord(c):04X})") for c in "\xa3\xad\xff"]
 # Those that no body may have either.
-FAR_CODES = [
-    ("\u2018", "\u2018 (U+2018)"),
-    ("\u2019", "\u2019 (U+2019)"),
-    ("\u201c", "\u201c (U+201C)"),
-    ("\u201d", "\u201d (U+201D)"),
-    ("\u2013", "\u2013 (U+2013)"),
-    ("\u2014", "\u2014 (U+2014)"),
-    ("\u0100", "\u0100 (U+0100)"),
-    ("\U0001f600", "\U0001f600 (U+1F600)"),
-]
+FAR_CODES = [(c, f"{c} (U+{ord(c):04X})") for c in "\u2018\u2019\u201c\u201d\u2013\u2014\u0100\U0001f600"]
 UNKNOWN_OF_A_BASE = ["outsides", "entri", "frames", "fame", "nerty", "zeta", "id"]
 UNKNOWN_OF_A_FRAME = [
     *("pirce", "route", "di", "idd", "row", "led", "groupes", "bday", "rown", "ldea", "os", "nxet"),
@@ -390,13 +373,8 @@ class FaultyText(Written):
     def spoil(self, frame: Frame) -> None:
         """One field of the frame is at fault, if it wasn't before."""
         field = self.pick(JUDGED + ["text", "text", "routes"])
-        spoil: Mapping[str, Callable[[Frame], None]] = {
-            "": self.spoil_keys,
-            "id": self.spoil_id,
-            "routes": self.spoil_routes,
-            "lead": self.spoil_lead,
-            "text": self.spoil_text,
-        }
+        spoils = [self.spoil_keys, self.spoil_id, self.spoil_routes, self.spoil_lead, self.spoil_text]
+        spoil = dict(zip(["", "id", "routes", "lead", "text"], spoils))
         if frame.faults_of(field):
             return
         if field in spoil:

@@ -31,11 +31,8 @@ def ranks_of(base: Base, ids: Iterable[FrameId]) -> Ranks:
     frames = [base.frames[id] for id in ids]
     while True:
         last = max(ranks.values())
-        wave = [
-            frame.id
-            for frame in frames
-            if frame.id not in ranks and any(ranks.get(to) == last for key in KEYS if (to := frame.sought(key)))
-        ]
+        ends = {frame.id: [frame.sought(key) for key in KEYS] for frame in frames if frame.id not in ranks}
+        wave = [id for id, every in ends.items() if any(to and ranks.get(to) == last for to in every)]
         if not wave:
             return ranks
         ranks.update((id, last + 1) for id in wave)

@@ -81,9 +81,8 @@ def unknown_keys(
     table: Table, known: Iterable[str], frame: int | None, outer: tuple[str, ...], words: str
 ) -> Iterator[Fault]:
     for key in sorted(set(table) - set(known), key=str.encode):
-        yield Fault(
-            "X3 UnknownKey", "", f"{quoted(key)} is not a key of {words}", Piece(What.KEY, frame, (*outer, key))
-        )
+        piece = Piece(What.KEY, frame, (*outer, key))
+        yield Fault("X3 UnknownKey", "", f"{quoted(key)} is not a key of {words}", piece)
 
 
 def top_faults(tree: Table) -> Iterator[Fault]:
@@ -96,9 +95,8 @@ def top_faults(tree: Table) -> Iterator[Fault]:
     if not isinstance(outside, list):
         yield wrong_kind(whole, '"outside"', outside, "a list of whole numbers")
     for index, page in enumerate(outside if isinstance(outside, list) else []):
-        yield from number_faults(
-            whole._replace(indexes=(index,)), f'item {index + 1:,} of "outside"', page, 0, MOST_PAGE
-        )
+        piece = whole._replace(indexes=(index,))
+        yield from number_faults(piece, f'item {index + 1:,} of "outside"', page, 0, MOST_PAGE)
     if not isinstance(frames := tree.get("frame", []), list):
         yield wrong_kind(Piece(What.VALUE, None, ("frame",)), '"frame"', frames, "an array of tables")
 
@@ -287,11 +285,9 @@ def frame_of(table: FrameTable) -> Frame:
     """The frame of a table without a fault."""
     id = id_in(table["id"])
     assert id is not None
-    body = body_of_rows(table["rows"]) if "rows" in table else table["body"]
-    keep, routes = table.get("lead") == "keep", table.get("routes", {})
-    return Frame(
-        id, table.get("price", 0), table.get("group"), table.get("next", False), routes, keep, body.encode("latin-1")
-    )
+    body = (body_of_rows(table["rows"]) if "rows" in table else table["body"]).encode("latin-1")
+    keep, routes, leads_on = table.get("lead") == "keep", table.get("routes", {}), table.get("next", False)
+    return Frame(id, table.get("price", 0), table.get("group"), leads_on, routes, keep, body)
 
 
 def base_in(tree: Table) -> Base:

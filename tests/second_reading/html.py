@@ -77,9 +77,8 @@ class Pages:
         screen = text(codes(self.base, frames_of(self.base, self.survey.groups, id)))
         ways = [way for key in KEYS if (way := self.way(frame, key))]
         faults = list(self.survey.frame_faults(id)) if is_reached else []
-        return Section(
-            str(id), not is_reached, screen, f"{frame.price}p", frame.keep, ways, faults, touched(frame, faults)
-        )
+        at, price = touched(frame, faults), f"{frame.price}p"
+        return Section(str(id), not is_reached, screen, price, frame.keep, ways, faults, at)
 
     def sections(self) -> list[Section]:
         return [self.section(id) for id in sorted(self.shown)]
@@ -102,6 +101,5 @@ def asked_for(policy: Policy) -> str:
 def verdict(base: Base, policy: Policy) -> Verdict:
     survey = Survey(base, policy)
     faults = survey.faults()
-    return Verdict(
-        faults if survey.unopened else [], counted(len(faults), "fault") if faults else "CERTIFIED", asked_for(policy)
-    )
+    words = counted(len(faults), "fault") if faults else "CERTIFIED"
+    return Verdict(faults if survey.unopened else [], words, asked_for(policy))

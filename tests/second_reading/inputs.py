@@ -162,15 +162,7 @@ class Inputs(Chance):
 
     def text(self, base: BaseTable) -> bytes:
         """The TOML text of the tree; now and then with a byte that spoils it."""
-        tree = cast(Table, base)
-        tables = tree.get("frame")
-        are_tables = isinstance(tables, list) and all(isinstance(table, dict) for table in tables)
-        is_listed = are_tables and self.chance(0.8)
-        pen = PlainPen(self.random)
-        lines = [pen.pair((key,), value, ()) for key, value in tree.items() if not (is_listed and key == "frame")]
-        for table in cast(list[Table], tables) if is_listed else []:
-            lines += ["[[frame]]", *(pen.pair((key,), value, ()) for key, value in table.items())]
-        text = bytearray("\n".join([*lines, ""]).encode())
+        text = bytearray(PlainPen(self.random).base(base, self.chance(0.8)))
         if self.chance(0.03):
             text[self.random.randrange(len(text))] = self.pick(b"\x00\xff\xc3\"'=.")
         return bytes(text)
@@ -313,9 +305,8 @@ class Inputs(Chance):
         """Other groups after the fourth line, or none; line 1 mostly fits them."""
         right = [*([group] for group in GROUPS), [7, 9], GROUPS, MANY]
         words = self.pick(ODD_LISTS) if self.chance(0.5) else [*map(str, self.pick(right))]
-        line = self.pick(["groups ", "groups ", "groups ", "groups ", "groups", "groups  ", "Groups "]) + " ".join(
-            words
-        )
+        word = self.pick(["groups ", "groups ", "groups ", "groups ", "groups", "groups  ", "Groups "])
+        line = word + " ".join(words)
         is_kept = self.chance(0.8)
         lines[4 : 5 if lines[4][:6] == "groups" else 4] = [line] if is_kept else []
         if self.chance(0.8):

@@ -90,10 +90,8 @@ class Audited:
         """What is at fault in a frame, and the words; for a way the id that it seeks."""
         match word:
             case "PRICE":
-                return (
-                    self.piece(id, What.VALUE, "price"),
-                    f"frame {id} costs {rest[0]}, the ceiling is {self.policy.ceiling}",
-                )
+                words = f"frame {id} costs {rest[0]}, the ceiling is {self.policy.ceiling}"
+                return self.piece(id, What.VALUE, "price"), words
             case "TOUCHES":
                 return self.touches(id, int(rest[1]), rest[3])
             case "NORETURN":
@@ -103,12 +101,10 @@ class Audited:
         return self.piece(id, What.PAIR, *keys), f"key {key} of frame {id} leads to {self.lost(word, sought)}"
 
     def lost(self, word: str, sought: str) -> str:
+        if word == "MISSING" and sought[-1] == "a":
+            return f"page {sought[:-1]}, which has no frame a"
         if word == "MISSING":
-            return (
-                f"page {sought[:-1]}, which has no frame a"
-                if sought[-1] == "a"
-                else f"frame {sought}, which the base lacks"
-            )
+            return f"frame {sought}, which the base lacks"
         id = id_in(sought)
         assert id is not None
         return f"frame {id}, which is closed to these callers; {self.belongs(id)}"
@@ -158,10 +154,8 @@ class Audited:
             for index, row in enumerate(self.tables[id].get("rows", [])):
                 piece = self.piece(id, What.VALUE, "rows", indexes=(index,))
                 if "\\u00" in row and self.places.text[self.places.find(piece).begin] == "'":
-                    words = (
-                        f"row {index + 1} of frame {id} has \\u00 in single quotation marks, which is shown as it is"
-                    )
-                    yield piece, f"ESCAPE: {words}"
+                    has = "has \\u00 in single quotation marks, which is shown as it is"
+                    yield piece, f"ESCAPE: row {index + 1} of frame {id} {has}"
 
     def line_ends(self) -> Iterator[tuple[Piece, str]]:
         """In each body the first line end of each kind, if the file writes it as one, before text."""
@@ -187,12 +181,10 @@ def findings(tree: Table, places: Places, lines: Lines, policy: Policy) -> Itera
         return (Finding(places.find(piece), level, words) for piece, words in every)
 
     if faults := list(text_faults(tree)):
-        firsts = [
-            "" if fault.first is None else str(lines.place(places.line_of_frame(fault.first))[0]) for fault in faults
-        ]
-        yield from found(
-            "error", ((fault.piece, f"{fault.name}: {fault.words}{line}") for fault, line in zip(faults, firsts))
-        )
+        firsts = (None if fault.first is None else places.line_of_frame(fault.first) for fault in faults)
+        ends = ("" if first is None else str(lines.place(first)[0]) for first in firsts)
+        told = ((fault.piece, f"{fault.name}: {fault.words}{end}") for fault, end in zip(faults, ends))
+        yield from found("error", told)
         return
     audited = Audited(tree, places, policy)
     yield from found("error", audited.faults())

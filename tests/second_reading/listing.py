@@ -37,14 +37,8 @@ def objects(survey: Survey) -> Iterator[str]:
     scripts, ranks = survey.scripts, survey.ranks
     for id in [*scripts, *survey.unreached]:
         frame = survey.base.frames[id]
-        found = {
-            "reached": id in scripts,
-            "rank": ranks.get(id),
-            "price": frame.price,
-            "group": frame.group,
-            "script": scripts.get(id),
-        }
-        yield line_of(frame=str(id), **found)
+        terms = {"price": frame.price, "group": frame.group}
+        yield line_of(frame=str(id), reached=id in scripts, rank=ranks.get(id), **terms, script=scripts.get(id))
 
 
 @answers

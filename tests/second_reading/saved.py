@@ -114,11 +114,8 @@ def comment(cells: bytes, number: int) -> str:
 
 
 def row_line(row: bytes) -> str:
-    return (
-        '    "'
-        + "".join(ESCAPED.get(code) or (chr(code) if code < 0x7F else f"\\u{code:04X}") for code in row)
-        + '",\n'
-    )
+    text = "".join(ESCAPED.get(code) or (chr(code) if code < 0x7F else f"\\u{code:04X}") for code in row)
+    return f'    "{text}",\n'
 
 
 def frame_text(id: FrameId, screen: Screen, leads_on: bool) -> str:

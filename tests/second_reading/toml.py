@@ -207,9 +207,8 @@ class Walk:
             return Value(self.span_from(begin), string("".join(c.text for c in characters)), characters)
         if self.has("["):
             elements = self.members("[", "]", self.value)
-            return Value(
-                self.span_from(begin), f"[{', '.join(element.spelled for element in elements)}]", elements=elements
-            )
+            inside = ", ".join(element.spelled for element in elements)
+            return Value(self.span_from(begin), f"[{inside}]", elements=elements)
         if self.has("{"):
             pairs = self.members("{", "}", self.pair)
             return Value(self.span_from(begin), f"{{{', '.join(pair.spelled for pair in pairs)}}}", pairs=pairs)
