@@ -4,6 +4,7 @@ import time
 from argparse import ArgumentParser
 from collections.abc import Callable, Iterator
 from dataclasses import dataclass, replace
+from functools import cached_property
 from pathlib import Path
 from typing import Literal
 
@@ -38,7 +39,7 @@ class Run:
     form: Form = "line"
     view: View = View()
 
-    @property
+    @cached_property
     def answer(self) -> Answer:
         """What it has to answer, but for the name of a file."""
         return ANSWERS[self.command](self)

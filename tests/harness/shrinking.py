@@ -3,7 +3,7 @@ fails.
 
 It is delta debugging: of a list of parts halves are left out, then quarters, down to single parts. The same case
 becomes the same small one. All cases of a script share a number of tries and a time; once they are over, a case is
-printed as it is.
+printed as small as it is then.
 """
 
 import re
@@ -24,6 +24,10 @@ Fails = Callable[[Case], bool]
 Cut = Callable[[Case, Fails[Case]], Case]
 
 
+class Over(Exception):
+    """The tries or the time are over."""
+
+
 @dataclass
 class Budget:
     """How many smaller cases are tried, and for how long."""
@@ -31,36 +35,41 @@ class Budget:
     tries: int = 3_000
     seconds: float = 30.0
 
-    def limited(self, fails: Fails[Case]) -> Fails[Case]:
-        """A judgement by which nothing fails once the budget is over, nor what can't be judged."""
-
-        def fails_in_time(case: Case) -> bool:
-            if self.tries <= 0 or self.seconds <= 0:
-                return False
-            self.tries -= 1
-            begun = time.monotonic()
-            try:
-                return fails(case)
-            except Exception:
-                return False
-            finally:
-                self.seconds -= time.monotonic() - begun
-
-        return fails_in_time
+    def spend(self, case: Case, fails: Fails[Case]) -> bool:
+        """Whether a case fails; what can't be judged doesn't."""
+        if self.tries <= 0 or self.seconds <= 0:
+            raise Over
+        self.tries -= 1
+        begun = time.monotonic()
+        try:
+            return fails(case)
+        except Exception:
+            return False
+        finally:
+            self.seconds -= time.monotonic() - begun
 
 
 OF_SCRIPT = Budget()
 
 
 def shrunk(case: Case, fails: Fails[Case], *cuts: Cut[Case], budget: Budget = OF_SCRIPT) -> Case:
-    """The smallest case that fails: each cut is made in turn, until none makes it smaller."""
-    limited = budget.limited(fails)
-    before = None
-    while case != before:
-        before = case
-        for cut in cuts:
-            case = cut(case, limited)
-    return case
+    """The smallest case found that fails: each cut is made in turn, until none makes it smaller."""
+    smallest, before = case, None
+
+    def is_smaller(other: Case) -> bool:
+        nonlocal smallest
+        has_failed = budget.spend(other, fails)
+        smallest = other if has_failed else smallest
+        return has_failed
+
+    try:
+        while smallest != before:
+            before = smallest
+            for cut in cuts:
+                cut(smallest, is_smaller)
+    except Over:
+        pass
+    return smallest
 
 
 def of_field(name: str, smallest: Cut[Part]) -> Cut[Case]:
