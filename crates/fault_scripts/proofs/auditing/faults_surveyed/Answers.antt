@@ -1,6 +1,6 @@
 use Rattle.std.proofs.Common.{subst, sym}
 use Rattle.std.specs.Prelude.{MatchOption}
-use Rattle.frame_records.specs.Bases.{BaseView, IsBase}
+use Rattle.frame_records.specs.Bases.{BaseView}
 use Rattle.finder.specs.Finds.{EntryIsFound}
 use Rattle.fault_scripts.specs.Faults.{AreFaultsAlong}
 use Rattle.fault_scripts.specs.Outcomes.{AreAllFaults}

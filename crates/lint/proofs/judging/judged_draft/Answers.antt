@@ -1,4 +1,4 @@
-use Rattle.std.proofs.Common.{◌≡◌, ◌∙◌, ℕ, List, Option, ap, rules}
+use Rattle.std.proofs.Common.{◌∙◌, ℕ, List, Option, ap, rules}
 use Rattle.base_text.specs.declared.detail.TextFault.{TextFault}
 use Rattle.base_text.specs.declared.listed.Listed.{Listed}
 use Rattle.base_text.specs.Drafts.{DraftView}

@@ -1,8 +1,7 @@
-use Rattle.std.proofs.Common.{◌≡◌, ◌∙◌, ◌++◌, [], map, ap, sym, subst, rules}
-use Rattle.std.specs.Prelude.{IfOk, IfErr}
+use Rattle.std.proofs.Common.{◌≡◌, ◌∙◌, map, ap, subst, rules}
 use Rattle.page_ids.proofs.Truths.{weaken}
 use Rattle.toml_places.specs.Places.{marks}
-use Rattle.lint.specs.Lint.{text_finding, whole_finding, tables_of, AreAuditFindings}
+use Rattle.lint.specs.Lint.{whole_finding, tables_of, AreAuditFindings}
 use Rattle.lint.specs.Loops.{sound_draft}
 use Rattle.lint.proofs.Judged.{parsed, of_base, of_faults, whole_some}
 use Rattle.lint.proofs.judging.judged_sound.Goals as goal
