@@ -6,7 +6,7 @@ use Rattle.page_ids.specs.Ids.{id_eq, frame_text, page_text}
 use Rattle.frame_records.specs.declared.frame.Frame.{Frame}
 use Rattle.frame_records.specs.Seek.{entry_of, is_open}
 use Rattle.finder.specs.Finds.{has_id}
-use Rattle.cell_looks.specs.Table.{character}
+use Rattle.screens.specs.Table.{character}
 use Rattle.base_map.specs.Edges.{MapView}
 
 -- a body without its escapes, after the first code of one or not: an escape is 1B and the byte after it

@@ -5,8 +5,7 @@ ghost use Rattle.std.specs.List.{list_any};
 ghost use Rattle.std.specs.Char.{is_ascii_alphabetic};
 ghost use Rattle.base_map.specs.Nodes as spec;
 
-use cell_looks::character;
-use screen_texts::{Writing, push_char};
+use screens::{Writing, character, push_char};
 use std::alloc::{AllocError, Global};
 
 // The code that begins an escape, with one more byte.

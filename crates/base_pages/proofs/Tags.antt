@@ -28,15 +28,15 @@ use Rattle.fault_scripts.specs.declared.outcome.Outcome.{Outcome}
 use Rattle.fault_scripts.specs.declared.outcome.Outcome.TheVariants.{Certified, Faulty}
 use Rattle.audit_report.specs.ReportLines.{words_as}
 use Rattle.base_map.specs.Edges.{shows}
-use Rattle.cell_looks.specs.declared.look.Look.{Look}
-use Rattle.screen_texts.specs.declared.writing.Writing.TheVariants.{Markup}
-use Rattle.screen_texts.specs.Writing.{written}
-use Rattle.screen_texts.specs.Text.{text}
-use Rattle.screen_texts.specs.Svg.{Piece, piece, piece_bytes, markup, svg_pieces, svg}
+use Rattle.screens.specs.declared.look.Look.{Look}
+use Rattle.screens.specs.declared.writing.Writing.TheVariants.{Markup}
+use Rattle.screens.specs.Writing.{written}
+use Rattle.screens.specs.Text.{text}
+use Rattle.screens.specs.Svg.{Piece, piece, piece_bytes, markup, svg_pieces, svg}
 use Rattle.std.specs.Str.{chars}
-use Rattle.screen_texts.specs.Laws.{reading, is_harmless}
-use Rattle.screen_texts.proofs.Safe.{all_append, harmless, first_of, rest_of}
-use Rattle.screen_texts.proofs.Tags.{is_inner, Inner, Outer, has_inner, Tags, svg_tags}
+use Rattle.screens.specs.Laws.{reading, is_harmless}
+use Rattle.screens.proofs.Safe.{all_append, harmless, first_of, rest_of}
+use Rattle.screens.proofs.Tags.{is_inner, Inner, Outer, has_inner, Tags, svg_tags}
 use Rattle.base_pages.specs.Faults.{item, items, list_begin, listed, fault_list, faults_about, entry_faults, touched_cell}
 use Rattle.base_pages.specs.Ways.{link, marked, way_text}
 use Rattle.base_pages.specs.Screens.{is_reached, screen_of}

@@ -11,8 +11,8 @@ use Rattle.fault_scripts.specs.declared.fault.Fault.{Fault}
 use Rattle.fault_scripts.specs.declared.fault.FaultKind.{FaultKind}
 use Rattle.fault_scripts.specs.declared.fault.FaultKind.TheVariants.{EntryMissing, EntryClosed, Price, Touches, Missing, Closed, NoReturn}
 use Rattle.audit_report.specs.ReportLines.{words_as}
-use Rattle.screen_texts.specs.declared.writing.Writing.TheVariants.{Markup}
-use Rattle.screen_texts.specs.Writing.{written}
+use Rattle.screens.specs.declared.writing.Writing.TheVariants.{Markup}
+use Rattle.screens.specs.Writing.{written}
 
 -- the fault is that the entry frame isn't found
 abbrev pub is_entry_kind : FaultKind → Bool

@@ -12,8 +12,8 @@ use Rattle.checker.specs.declared.policy.Policy.{Policy}
 use Rattle.fault_scripts.specs.declared.fault.Fault.{Fault}
 use Rattle.fault_scripts.specs.declared.outcome.Outcome.{Outcome}
 use Rattle.fault_scripts.specs.declared.outcome.Outcome.TheVariants.{Certified, Faulty}
-use Rattle.screen_texts.specs.declared.writing.Writing.TheVariants.{Markup}
-use Rattle.screen_texts.specs.Writing.{written}
+use Rattle.screens.specs.declared.writing.Writing.TheVariants.{Markup}
+use Rattle.screens.specs.Writing.{written}
 use Rattle.base_pages.specs.Faults.{entry_faults, fault_list}
 
 unfoldable pub name_line : List ℕ → List ℕ

@@ -3,8 +3,8 @@ use Rattle.std.specs.Prelude.{ℕ, Bool, List, is_some}
 use Rattle.page_ids.specs.Ids.{Id}
 use Rattle.frame_records.specs.Bases.{BaseView}
 use Rattle.finder.specs.declared.found.Discovered.{Discovered}
-use Rattle.cell_looks.specs.declared.look.Look.{Look}
-use Rattle.cell_looks.specs.Looks.{looks}
+use Rattle.screens.specs.declared.look.Look.{Look}
+use Rattle.screens.specs.Looks.{looks}
 use Rattle.frame_screens.specs.Frames.{way_by, place_of}
 use Rattle.frame_screens.specs.Screens.{screen_codes}
 

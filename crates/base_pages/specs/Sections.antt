@@ -9,11 +9,11 @@ use Rattle.frame_records.specs.Bases.{BaseView}
 use Rattle.finder.specs.declared.found.Discovered.{Discovered}
 use Rattle.fault_scripts.specs.declared.fault.Fault.{Fault}
 use Rattle.base_map.specs.Edges.{shows}
-use Rattle.cell_looks.specs.declared.look.Look.{Look}
-use Rattle.screen_texts.specs.declared.writing.Writing.TheVariants.{Markup}
-use Rattle.screen_texts.specs.Writing.{written}
-use Rattle.screen_texts.specs.Text.{text}
-use Rattle.screen_texts.specs.Svg.{svg}
+use Rattle.screens.specs.declared.look.Look.{Look}
+use Rattle.screens.specs.declared.writing.Writing.TheVariants.{Markup}
+use Rattle.screens.specs.Writing.{written}
+use Rattle.screens.specs.Text.{text}
+use Rattle.screens.specs.Svg.{svg}
 use Rattle.base_pages.specs.Ways.{ways_text}
 use Rattle.base_pages.specs.Faults.{faults_about, fault_list, touched_cell}
 use Rattle.base_pages.specs.Screens.{is_reached, screen_of}

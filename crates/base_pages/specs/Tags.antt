@@ -17,8 +17,8 @@ use Rattle.fault_scripts.specs.declared.fault.Fault.{Fault}
 use Rattle.fault_scripts.specs.declared.outcome.Outcome.{Outcome}
 use Rattle.fault_scripts.specs.declared.outcome.Outcome.TheVariants.{Certified, Faulty}
 use Rattle.base_map.specs.Edges.{shows}
-use Rattle.screen_texts.specs.Svg.{svg_pieces}
-use Rattle.screen_texts.specs.Laws.{tags_of}
+use Rattle.screens.specs.Svg.{svg_pieces}
+use Rattle.screens.specs.Laws.{tags_of}
 use Rattle.base_pages.specs.Faults.{entry_faults, faults_about, items, touched_cell}
 use Rattle.base_pages.specs.Screens.{is_reached, screen_of}
 use Rattle.base_pages.specs.Sections.{BookView}

@@ -2,7 +2,7 @@
 
 ghost use Rattle.std.specs.Prelude.{◌≡◌, ◌++◌, OnOk};
 ghost use Rattle.page_ids.specs.Ids.{IsLetter, frame_text};
-ghost use Rattle.cell_looks.specs.Looks.{looks};
+ghost use Rattle.screens.specs.Looks.{looks};
 ghost use Rattle.base_pages.specs.Sections as spec;
 ghost use Rattle.base_pages.specs.Loops.{IsReady, book_view, picked};
 
@@ -10,12 +10,11 @@ use crate::faults::{push_faults, touched_cell};
 use crate::index::FaultIndex;
 use crate::ways::push_ways;
 use base_map::Part;
-use cell_looks::screen_looks;
 use fault_scripts::Fault;
 use frame_records::{Base, Frame, Groups, Lead, Pence};
 use frame_screens::Gallery;
 use page_ids::{FrameId, push_id, push_number, push_page};
-use screen_texts::{Writing, push_svg, push_text};
+use screens::{Writing, push_svg, push_text, screen_looks};
 use std::alloc::{AllocError, Global};
 
 // What the sections are written of.

@@ -1,8 +1,8 @@
 //! Lists of faults, and the cell that a frame wrongly writes.
 
 ghost use Rattle.std.specs.Prelude.{◌≡◌, ◌++◌, ◌∷◌, [], OnOk};
-ghost use Rattle.screen_texts.specs.declared.writing.Writing.TheVariants.{Markup};
-ghost use Rattle.screen_texts.specs.Writing.{written};
+ghost use Rattle.screens.specs.declared.writing.Writing.TheVariants.{Markup};
+ghost use Rattle.screens.specs.Writing.{written};
 ghost use Rattle.base_pages.specs.Faults as spec;
 ghost use Rattle.base_pages.specs.Loops.{picked, numbered_item, numbered_items, entry_item, entry_items, numbered_start, first_numbered_start};
 
@@ -11,7 +11,7 @@ use abstract_paint::Start;
 use audit_report::push_fault;
 use fault_scripts::Fault;
 use frame_records::Frame;
-use screen_texts::{Writing, push_char};
+use screens::{Writing, push_char};
 use std::alloc::{AllocError, Global};
 use terminal_codes::{Caret, lead_bytes};
 

@@ -2,8 +2,8 @@
 
 ghost use Rattle.std.specs.Prelude.{◌≡◌, ◌++◌, OnOk, length};
 ghost use Rattle.std.specs.Str.{chars};
-ghost use Rattle.screen_texts.specs.declared.writing.Writing.TheVariants.{Markup};
-ghost use Rattle.screen_texts.specs.Writing.{written};
+ghost use Rattle.screens.specs.declared.writing.Writing.TheVariants.{Markup};
+ghost use Rattle.screens.specs.Writing.{written};
 ghost use Rattle.cert_text.specs.Grammar.{spaced};
 ghost use Rattle.base_pages.specs.Head as spec;
 
@@ -13,7 +13,7 @@ use checker::Policy;
 use fault_scripts::{Fault, Outcome};
 use frame_records::{Base, Groups, MOST_PENCE, Pence};
 use page_ids::{FrameId, push_id, push_number};
-use screen_texts::{Writing, push_char};
+use screens::{Writing, push_char};
 use std::alloc::{AllocError, Global};
 
 // Characters, written for markup.

@@ -5,7 +5,7 @@ use Rattle.page_ids.specs.Ids.{Id}
 use Rattle.frame_records.specs.declared.frame.Frame.{Frame}
 use Rattle.terminal_codes.specs.Screen.{Screen, CaretView, run}
 use Rattle.terminal_codes.specs.Writes.{caret_step}
-use Rattle.cell_looks.specs.Looks.{row_of, hides_text}
+use Rattle.screens.specs.Looks.{row_of, hides_text}
 use Rattle.lint_words.specs.declared.warning_words.LineEnd.{LineEnd}
 use Rattle.lint_words.specs.declared.warning_words.LineEnd.TheVariants.{Feed, Return}
 use Rattle.lint.specs.declared.looks.Look.{Look}

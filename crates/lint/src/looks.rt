@@ -3,10 +3,10 @@
 ghost use Rattle.std.specs.Prelude.{◌≡◌, ◌++◌, ◌<◌, length, IfOk, OnOk};
 ghost use Rattle.lint.specs.Looks as spec;
 
-use cell_looks::{hides_text, row_codes};
 use frame_records::Frame;
 use lint_words::LineEnd;
 use page_ids::FrameId;
+use screens::{hides_text, row_codes};
 use std::alloc::{AllocError, Global};
 use terminal_codes::{Caret, Terminal};
 

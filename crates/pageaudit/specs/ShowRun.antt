@@ -11,13 +11,13 @@ use Rattle.frame_screens.specs.declared.keyed.NoScreen.TheVariants as none
 use Rattle.frame_screens.specs.Frames.{IsWay, keyed_frames, ids_of, last_of}
 use Rattle.near_words.specs.Near.{nearest}
 use Rattle.frame_screens.specs.Screens.{screen_codes}
-use Rattle.cell_looks.specs.declared.look.Look.{Look}
-use Rattle.cell_looks.specs.Looks.{looks}
-use Rattle.screen_texts.specs.declared.writing.Writing.TheVariants.{Plain}
-use Rattle.screen_texts.specs.Writing.{written}
-use Rattle.screen_texts.specs.Text.{text}
-use Rattle.screen_texts.specs.Ansi.{ansi}
-use Rattle.screen_texts.specs.Svg.{svg}
+use Rattle.screens.specs.declared.look.Look.{Look}
+use Rattle.screens.specs.Looks.{looks}
+use Rattle.screens.specs.declared.writing.Writing.TheVariants.{Plain}
+use Rattle.screens.specs.Writing.{written}
+use Rattle.screens.specs.Text.{text}
+use Rattle.screens.specs.Ansi.{ansi}
+use Rattle.screens.specs.Svg.{svg}
 use Rattle.audit_report.specs.declared.run_fault.RunFault.{RunFault}
 use Rattle.pageaudit.specs.declared.show_run.Target.{Target}
 use Rattle.pageaudit.specs.declared.show_run.Target.TheVariants as target

@@ -10,11 +10,10 @@ use crate::file_fault::base_fault;
 use crate::input::read_base;
 use crate::status::status_of;
 use audit_report::{RunFault, Sink, Source, write_whole};
-use cell_looks::screen_looks;
 use frame_records::{Base, Groups};
 use frame_screens::{FrameList, NoScreen, frames_after, nearest, screen, way_to};
 use page_ids::{FrameId, Key, KeyList, PageNo};
-use screen_texts::{Writing, push_ansi, push_svg, push_text};
+use screens::{Writing, push_ansi, push_svg, push_text, screen_looks};
 use std::alloc::{AllocError, Global};
 
 /// What is shown.

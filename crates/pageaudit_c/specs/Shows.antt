@@ -10,13 +10,13 @@ use Rattle.frame_records.specs.Seek.{entry_of}
 use Rattle.base_text.specs.Whole.{IsTextBase}
 use Rattle.frame_screens.specs.Frames.{IsWay}
 use Rattle.frame_screens.specs.Screens.{screen_codes}
-use Rattle.cell_looks.specs.declared.look.Glyph.{Glyph}
-use Rattle.cell_looks.specs.declared.look.Glyph.TheVariants.{Char, Block}
-use Rattle.cell_looks.specs.declared.look.Height.{Height}
-use Rattle.cell_looks.specs.declared.look.Height.TheVariants.{Single, Upper, Lower}
-use Rattle.cell_looks.specs.declared.look.Look.{Look}
-use Rattle.cell_looks.specs.Table.{six, sextants_char, colour_number}
-use Rattle.cell_looks.specs.Looks.{looks}
+use Rattle.screens.specs.declared.look.Glyph.{Glyph}
+use Rattle.screens.specs.declared.look.Glyph.TheVariants.{Char, Block}
+use Rattle.screens.specs.declared.look.Height.{Height}
+use Rattle.screens.specs.declared.look.Height.TheVariants.{Single, Upper, Lower}
+use Rattle.screens.specs.declared.look.Look.{Look}
+use Rattle.screens.specs.Table.{six, sextants_char, colour_number}
+use Rattle.screens.specs.Looks.{looks}
 use Rattle.pageaudit_c.specs.declared.showing.CellLook.{CellLook}
 use Rattle.pageaudit_c.specs.declared.showing.Shown.{Shown}
 use Rattle.pageaudit_c.specs.declared.status.Status.{Status}

@@ -8,11 +8,11 @@ ghost use Rattle.pageaudit_c.specs.Shows as spec;
 use crate::answer::{Answer, bad_policy, fault_answer, lay_over, out_of_memory};
 use crate::policy::groups_of;
 use crate::status::Status;
-use cell_looks::{Glyph, Height, Look, screen_looks};
 use checker::base_of;
 use frame_records::{Base, Groups};
 use frame_screens::{screen, way_to};
 use page_ids::{FrameId, PageNo};
+use screens::{Glyph, Height, Look, screen_looks};
 use std::alloc::{AllocError, Global};
 
 /// How a cell of a screen looks, as C has it.

@@ -12,5 +12,5 @@ mod findings;
 mod lists;
 mod looks;
 mod runs;
-mod screens;
+mod shown;
 mod texts;

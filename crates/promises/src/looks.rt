@@ -1,13 +1,13 @@
 //! What the laws of looks, of texts and of printed forms say.
 
 ghost use Rattle.std.specs.Prelude.{◌≡◌, ◌++◌, ◌∷◌, ◌<◌, ◌⊎◌, ℕ, Bool, List, [], All, get_or, length, map, true};
-ghost use Rattle.cell_looks.specs.declared.look.Glyph.TheVariants.{Char};
-ghost use Rattle.cell_looks.specs.declared.look.Look.{Look};
-ghost use Rattle.cell_looks.specs.declared.look.Shown.TheVariants.{Ground};
-ghost use Rattle.cell_looks.specs.Table.{start};
-ghost use Rattle.cell_looks.specs.Looks.{row_looks, shown, looks_at};
-ghost use Rattle.cell_looks.specs.Laws.{RowsDecide, plain_look, ChangesGlyphs, IsOfTables};
-ghost use Rattle.screen_texts.specs.Text.{seen_char, line};
+ghost use Rattle.screens.specs.declared.look.Glyph.TheVariants.{Char};
+ghost use Rattle.screens.specs.declared.look.Look.{Look};
+ghost use Rattle.screens.specs.declared.look.Shown.TheVariants.{Ground};
+ghost use Rattle.screens.specs.Table.{start};
+ghost use Rattle.screens.specs.Looks.{row_looks, shown, looks_at};
+ghost use Rattle.screens.specs.Laws.{RowsDecide, plain_look, ChangesGlyphs, IsOfTables};
+ghost use Rattle.screens.specs.Text.{seen_char, line};
 ghost use Rattle.checker.specs.declared.policy.Policy.{Policy};
 ghost use Rattle.fault_scripts.specs.declared.outcome.Outcome.{Outcome};
 ghost use Rattle.base_pages.specs.Sections.{BookView};
@@ -19,11 +19,11 @@ ghost use Rattle.finding_forms.specs.Forms.{ArePrinted, is_one_line};
 ghost use Rattle.finding_forms.specs.Laws.{AreWholeLines};
 
 use base_pages::file_has_its_tags;
-use cell_looks::{
-    characters_change_glyphs, each_row_decides, glyphs_are_of_tables, ground_shows, plain_before,
-};
 use finding_forms::findings_are_whole_lines;
-use screen_texts::lines_show;
+use screens::{
+    characters_change_glyphs, each_row_decides, glyphs_are_of_tables, ground_shows, lines_show,
+    plain_before,
+};
 
 fn rows_decide()
     ensures { (cells others : List ℕ) (r : ℕ) → RowsDecide cells others r }

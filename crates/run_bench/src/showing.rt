@@ -2,11 +2,10 @@
 
 use crate::edition::read_base;
 use anyhow::{Result, bail};
-use cell_looks::screen_looks;
 use finder::Survey;
 use frame_records::{Base, Groups};
 use frame_screens::Painter;
-use screen_texts::{Writing, push_text};
+use screens::{Writing, push_text, screen_looks};
 use std::alloc::{AllocError, Global};
 use std::fs;
 

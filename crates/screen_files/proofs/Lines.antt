@@ -4,7 +4,7 @@ use Rattle.std.proofs.lemmas.Grind.{flat_map-append}
 use Rattle.std.proofs.lemmas.List.{append-nil}
 use Rattle.std.proofs.lemmas.List.FromFn.{map-range_with_len_more}
 use Rattle.std.specs.List.{flat_map}
-use Rattle.cell_looks.specs.declared.look.Look.{Look}
+use Rattle.screens.specs.declared.look.Look.{Look}
 use Rattle.screen_files.specs.Keys.{shows_key}
 use Rattle.screen_files.specs.Rows.{row_of, rows_to}
 use Rattle.screen_files.specs.Texts.{keys_from, row_line}

@@ -2,12 +2,12 @@
 use Rattle.std.specs.Prelude.{ℕ, Bool, false, not, List, [], ◌∷◌, Option, Some, None, ◌+◌, ◌==◌, ◌&&◌, ◌||◌, drop, take}
 use Rattle.std.specs.List.{list_any}
 use Rattle.std.specs.Option.{is_some}
-use Rattle.cell_looks.specs.declared.look.Glyph.{Glyph}
-use Rattle.cell_looks.specs.declared.look.Glyph.TheVariants.{Char, Block}
-use Rattle.cell_looks.specs.declared.look.Look.{Look}
-use Rattle.cell_looks.specs.declared.look.Shown.{Shown}
-use Rattle.cell_looks.specs.declared.look.Shown.TheVariants.{Ground, All}
-use Rattle.cell_looks.specs.Looks.{shown}
+use Rattle.screens.specs.declared.look.Glyph.{Glyph}
+use Rattle.screens.specs.declared.look.Glyph.TheVariants.{Char, Block}
+use Rattle.screens.specs.declared.look.Look.{Look}
+use Rattle.screens.specs.declared.look.Shown.{Shown}
+use Rattle.screens.specs.declared.look.Shown.TheVariants.{Ground, All}
+use Rattle.screens.specs.Looks.{shown}
 
 -- the character of a cell of a word: what shows, but no mosaic
 abbrev pub glyph_letter : Glyph → Option ℕ

@@ -1,10 +1,10 @@
 -- The text of a frame that shows a screen.
 use Rattle.std.specs.Prelude.{ℕ, zero, suc, Bool, true, false, List, [], ◌∷◌, ◌++◌, Option, Some, None, ◌+◌, ◌*◌, ◌/◌, ◌%◌, ◌==◌, length, nat_lt, map, take, drop, codes, decimal, if◌then◌else◌}
 use Rattle.std.specs.List.{flat_map}
-use Rattle.cell_looks.specs.declared.look.Look.{Look}
+use Rattle.screens.specs.declared.look.Look.{Look}
 use Rattle.page_ids.specs.Ids.{Id, frame_text}
 use Rattle.page_ids.specs.Texts.{hex_digit}
-use Rattle.cell_looks.specs.Looks.{looks}
+use Rattle.screens.specs.Looks.{looks}
 use Rattle.screen_files.specs.Keys.{shows_key}
 use Rattle.screen_files.specs.Rows.{trimmed, rows_of}
 use Rattle.screen_files.specs.declared.frame.ScreenFrame.{ScreenFrame}

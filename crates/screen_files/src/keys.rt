@@ -3,7 +3,7 @@
 ghost use Rattle.std.specs.Prelude.{◌≡◌, ◌<◌, false};
 ghost use Rattle.screen_files.specs.Keys as spec;
 
-use cell_looks::{Glyph, Look, Looks, Shown};
+use screens::{Glyph, Look, Looks, Shown};
 
 // The character of a cell of a word.
 fn letter(look: &Look) -> Option<char>

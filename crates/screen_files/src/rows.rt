@@ -3,7 +3,7 @@
 ghost use Rattle.std.specs.Prelude.{◌≡◌, ◌<◌, ◌≤◌, ◌*◌, take, drop};
 ghost use Rattle.screen_files.specs.Rows as spec;
 
-use cell_looks::row_codes;
+use screens::row_codes;
 
 // A copy of the codes of a row.
 pub fn row_copy(codes: &[u8; 960], row: usize) -> [u8; 40]

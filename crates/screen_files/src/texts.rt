@@ -10,9 +10,9 @@ use crate::frame::ScreenFrame;
 use crate::keys::shows_key;
 use crate::rows::{last_row, row_copy, row_of, trimmed};
 use arrayvec::ArrayVec;
-use cell_looks::{Looks, screen_looks};
 use frame_records::Pence;
 use page_ids::{FrameId, PageNo, hex_digit, push_id, push_number, push_page};
+use screens::{Looks, screen_looks};
 use std::alloc::AllocError;
 
 #[tactic(auto, using(std::proofs::Common::append_assoc))]

@@ -1,4 +1,4 @@
-//! Tests of `near_words`, `cell_looks`, `screen_texts`, `screen_files`, `frame_screens` and `base_pages`.
+//! Tests of `near_words`, `screens`, `screen_files`, `frame_screens` and `base_pages`.
 #![tactic(auto)]
 
 #[cfg(test)]

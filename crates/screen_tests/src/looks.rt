@@ -1,5 +1,5 @@
 use crate::notation::notation;
-use cell_looks::{hides_text, screen_looks};
+use screens::{hides_text, screen_looks};
 use std::test::Fail;
 use test_support::same_in;
 

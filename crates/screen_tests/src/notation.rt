@@ -1,6 +1,6 @@
 //! The looks of a row in few characters.
 
-use cell_looks::{Glyph, Height, Look};
+use screens::{Glyph, Height, Look};
 use std::alloc::{AllocError, Global};
 use std::fmt::Write;
 

@@ -1,4 +1,4 @@
-use cell_looks::{Colour, Glyph, Height, Look, Mosaic, Sextants, Shown, character};
+use screens::{Colour, Glyph, Height, Look, Mosaic, Sextants, Shown, character};
 use std::test::Fail;
 use test_support::{same, same_in};
 

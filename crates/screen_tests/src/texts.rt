@@ -1,6 +1,5 @@
-use cell_looks::{Looks, screen_looks};
 use page_ids::FrameId;
-use screen_texts::{Writing, push_ansi, push_svg, push_text};
+use screens::{Looks, Writing, push_ansi, push_svg, push_text, screen_looks};
 use std::test::Fail;
 use test_support::{same, same_in};
 

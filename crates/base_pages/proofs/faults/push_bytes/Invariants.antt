@@ -1,6 +1,6 @@
 use Rattle.std.proofs.Common.{◌≡◌, ◌++◌, drop}
-use Rattle.screen_texts.specs.declared.writing.Writing.TheVariants.{Markup}
-use Rattle.screen_texts.specs.Writing.{written}
+use Rattle.screens.specs.declared.writing.Writing.TheVariants.{Markup}
+use Rattle.screens.specs.Writing.{written}
 use Rattle.base_pages.proofs.faults.push_bytes.Given as goal
 
 abbrev pub invariant-loop-byte : goal.invariant-loop-byte

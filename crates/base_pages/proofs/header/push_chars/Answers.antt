@@ -1,8 +1,8 @@
 use Rattle.std.proofs.Common.{◌≡◌, ◌∙◌, ◌++◌, ◌∷◌, [], ℕ, List, ap, append-nil, append_assoc, chars, length, arith}
 use Rattle.std.specs.Str.Iter.{chars_rest}
 use Rattle.std.proofs.lemmas.Str.{IsUtf8-past_char, chars_past_char, chars-nil}
-use Rattle.screen_texts.specs.declared.writing.Writing.TheVariants.{Markup}
-use Rattle.screen_texts.specs.Writing.{written, reference}
+use Rattle.screens.specs.declared.writing.Writing.TheVariants.{Markup}
+use Rattle.screens.specs.Writing.{written, reference}
 use Rattle.base_pages.proofs.header.push_chars.Goals as goal
 
 empty : (bs : List ℕ) → length bs ≡ 0 → chars bs ≡ []

@@ -2,7 +2,7 @@ use Rattle.std.proofs.Common.{◌≡◌, ◌∙◌, ◌++◌, ℕ, Bool, List, a
 use Rattle.std.specs.Prelude.{OnOk}
 use Rattle.frame_records.specs.Bases.{BaseView}
 use Rattle.fault_scripts.specs.declared.fault.Fault.{Fault}
-use Rattle.cell_looks.specs.Looks.{looks}
+use Rattle.screens.specs.Looks.{looks}
 use Rattle.frame_screens.specs.Frames.{place_of, way_by}
 use Rattle.frame_screens.specs.Screens.{screen_codes}
 use Rattle.base_pages.specs.Faults.{faults_about}

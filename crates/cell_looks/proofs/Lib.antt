@@ -1,4 +1,0 @@
-pub mod Rows
-pub mod Plain
-pub mod Held
-pub mod Glyphs

@@ -1,5 +1,0 @@
-use Rattle.screen_texts.proofs.Shows.{text_is_its_lines}
-use Rattle.screen_texts.proofs.laws.text_is_its_lines.Goals as goal
-
-pub returns : goal.returns
-returns c = text_is_its_lines

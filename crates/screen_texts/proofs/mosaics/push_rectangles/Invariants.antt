@@ -1,7 +1,0 @@
-use Rattle.std.proofs.Common.{◌≡◌, ◌++◌, drop}
-use Rattle.std.specs.List.{flat_map}
-use Rattle.screen_texts.specs.Mosaics.{rectangle}
-use Rattle.screen_texts.proofs.mosaics.push_rectangles.Given as goal
-
-abbrev pub invariant-loop-span : goal.invariant-loop-span
-invariant-loop-span l = l.out.items ++ flat_map (λ w. rectangle l.x l.y w l.high) (drop l.span-index l.wide) ≡ l.fn.out.items ++ flat_map (λ w. rectangle l.x l.y w l.high) l.wide

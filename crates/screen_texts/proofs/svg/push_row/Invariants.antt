@@ -1,9 +1,0 @@
-use Rattle.std.proofs.Common.{◌≡◌, ◌++◌, ◌≤◌, ◌-◌, [], drop, take}
-use Rattle.screen_texts.specs.Svg.{markup, row_pieces}
-use Rattle.screen_texts.proofs.svg.push_row.Given as goal
-
-abbrev pub invariant-loop-column : goal.invariant-loop-column
-invariant-loop-column l = record {
-  rest : l.out.items ++ markup (row_pieces l.layer l.row l.from (take (l.column - l.from) (drop l.from l.looks)) (drop l.column l.looks)) ≡ l.fn.out.items ++ markup (row_pieces l.layer l.row 0 [] l.looks);
-  behind : l.from ≤ l.column;
-}

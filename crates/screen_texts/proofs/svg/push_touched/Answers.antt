@@ -1,8 +1,0 @@
-use Rattle.std.proofs.Common.{◌≡◌, ◌++◌, sym, subst, ℕ, Option}
-use Rattle.screen_texts.specs.Svg.{markup, touched}
-use Rattle.screen_texts.proofs.Markups.{no_touch}
-use Rattle.screen_texts.proofs.svg.push_touched.Goals as goal
-
-pub returns-in-None : goal.returns-in-None
-returns-in-None c =
-    subst (λ (cell : Option ℕ). c.args.out.now.items ≡ c.args.out.now.items ++ markup (touched cell)) (sym c.in-None.is) (no_touch c.args.out.now.items)

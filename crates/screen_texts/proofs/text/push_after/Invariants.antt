@@ -1,6 +1,0 @@
-use Rattle.std.proofs.Common.{◌≡◌, ◌++◌, replicate}
-use Rattle.screen_texts.specs.Writing.{written}
-use Rattle.screen_texts.proofs.text.push_after.Given as goal
-
-abbrev pub invariant-loop : goal.invariant-loop
-invariant-loop l = l.out.items ≡ l.initial.out.items ++ written l.writing (replicate l.counter 0x20)

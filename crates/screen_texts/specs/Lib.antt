@@ -1,6 +1,0 @@
-pub mod Writing
-pub mod Text
-pub mod Ansi
-pub mod Mosaics
-pub mod Svg
-pub mod Laws

@@ -1,0 +1,10 @@
+pub mod Rows
+pub mod Plain
+pub mod Held
+pub mod Glyphs
+pub mod Lines
+pub mod Markups
+pub mod Runs
+pub mod Shows
+pub mod Safe
+pub mod Tags

@@ -1,0 +1,24 @@
+-- Which rows are covered, and the rows of a screen one after another.
+use Rattle.std.proofs.Common.{◌≡◌, ℕ, zero, suc, ◌+◌, ◌<◌, arith, refl, sym, ap, ◌∙◌, true, List, [], ◌∷◌, ◌++◌, ◌&&◌, not, add-one, map, take, set, length}
+use Rattle.std.specs.List.{range_with_len}
+use Rattle.std.proofs.lemmas.List.{take_more_set, take_all}
+use Rattle.std.proofs.lemmas.List.FromFn.{map-range_with_len_more}
+use Rattle.screens.specs.declared.look.Look.{Look}
+use Rattle.screens.specs.Looks.{has_double, is_covered, looks_at, looks}
+
+-- no row covers the first
+pub covered_row : (cells : List ℕ) (r : ℕ) → is_covered cells r ≡ true → 0 < r
+covered_row cells zero h = cc
+covered_row cells (suc r) h = omega arith
+
+pub covered_next : (cells : List ℕ) (r : ℕ) → is_covered cells (r + 1) ≡ (has_double cells r && not (is_covered cells r))
+covered_next cells r = rw add-one refl
+
+pub looks_more : (cells : List ℕ) (rows : List (List Look)) (r : ℕ) (row : List Look) → take r rows ≡ map (looks_at cells) (range_with_len 0 r) → r < length rows → row ≡ looks_at cells r → take (r + 1) (set rows r row) ≡ map (looks_at cells) (range_with_len 0 (r + 1))
+looks_more cells rows r row done lt e =
+    take_more_set rows r row lt ∙ (ap (λ (front : List (List Look)). front ++ row ∷ []) done ∙ (ap (λ (last : List Look). map (looks_at cells) (range_with_len 0 r) ++ last ∷ []) e ∙ sym (map-range_with_len_more (looks_at cells) 0 r r (omega arith))))
+
+pub looks_done : (cells : List ℕ) (rows : List (List Look)) (n : ℕ) → take n rows ≡ map (looks_at cells) (range_with_len 0 n) → length rows ≡ 24 → n ≡ 24 → rows ≡ looks cells
+unfolding looks
+looks_done cells rows n done size e =
+    sym (take_all n rows (omega arith)) ∙ (done ∙ ap (λ (k : ℕ). map (looks_at cells) (range_with_len 0 k)) e)
