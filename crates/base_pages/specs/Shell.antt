@@ -3,12 +3,12 @@ use Rattle.std.specs.Prelude.{ℕ, List, codes}
 
 -- all up to the header, with the style
 unfoldable pub head : List ℕ
-head = codes "<!DOCTYPE html>\n<html lang=\"en\">\n<head>\n<meta charset=\"utf-8\">\n<meta name=\"viewport\" content=\"width=device-width, initial-scale=1\">\n<meta http-equiv=\"Content-Security-Policy\" content=\"default-src 'none'; script-src 'sha256-eiE+matG332VAP0l4B80A9QenX0eURAGdGGb7VsBSAQ='; style-src 'sha256-VFxtioqb9Q8auXAA/hgVa8t24dOHlju1F0KK9gSxIEA='; base-uri 'none'; form-action 'none'\">\n<title>A page base</title>\n<style>\n:root{color-scheme:light dark;--paper:#f4f2eb;--ink:#1e1d1b;--soft:#69655c;--line:#d9d4c7;--card:#fffefa;--edge:#cfc9ba;--good:#12703c;--bad:#c41230;--link:#0a569f;--case:#26231f;--glow:0 1.1rem 2.4rem #0003}\n@media (prefers-color-scheme:dark){:root{--paper:#131315;--ink:#edebe6;--soft:#a5a198;--line:#303036;--card:#1d1d21;--edge:#45454d;--good:#62d592;--bad:#ff7373;--link:#82c6ff;--case:#000;--glow:0 0 0 1px #34343b,0 1.1rem 2.4rem #000}}\n*{box-sizing:border-box}\nbody{margin:0 auto;padding:0 1rem 3rem;max-width:78rem;background:var(--paper);color:var(--ink);font:1rem/1.45 system-ui,\"Segoe UI\",Roboto,\"DejaVu Sans\",sans-serif}\nheader{display:flex;flex-wrap:wrap;align-items:baseline;gap:.1rem .9rem;padding:.9rem 0 .6rem}\nh1{margin:0;font-size:1.25rem;overflow-wrap:anywhere}\nheader p{margin:0;color:var(--soft);font-size:.875rem}\nheader .verdict{padding:.05rem .6rem;border:1px solid;border-radius:1rem;font-weight:600;letter-spacing:.02em}\n.certified{color:var(--good)!important}\n.faulty.verdict{color:var(--bad)!important}\n.views,.pad,.meter,.hint,#reply,.lines{display:none}\na{color:var(--link)}\na:focus-visible,button:focus-visible,section:focus-visible{outline:3px solid var(--link);outline-offset:2px}\nsection{margin:0 0 1.5rem;padding:1rem;border:1px solid var(--line);border-radius:.8rem;background:var(--card);content-visibility:auto;contain-intrinsic-size:auto 20rem}\nsection svg{display:block;width:100%;max-width:40rem;height:auto;aspect-ratio:5/4;background:#000;border-radius:.25rem}\nh2{margin:0 0 .5rem;font-size:1.125rem}\npre{position:absolute;width:1px;height:1px;margin:0;overflow:hidden;clip-path:inset(50%);white-space:pre}\n.price{margin:.5rem 0}\n.ways{display:flex;flex-wrap:wrap;gap:.4rem;margin:0}\n.ways>*{display:flex;align-items:center;gap:.5rem;min-height:2.75rem;padding:.15rem .8rem .15rem .2rem;border:1px solid var(--line);border-radius:.6rem;background:var(--card);color:inherit;text-decoration:none;font-variant-numeric:tabular-nums}\n.ways>*::before{content:attr(data-key);min-width:2.2rem;padding:.2rem 0;text-align:center;font-weight:700;border-right:1px solid var(--line);color:var(--link)}\n.ways a:hover{border-color:var(--link)}\n.ways .missing,.ways .closed,.ways .outside,.ways .elsewhere{color:var(--soft);border-style:dashed}\n.ways .missing{color:var(--bad);border-color:var(--bad)}\n.ways .missing::after{content:\"missing\"}\n.ways .closed::after{content:\"closed\"}\n.ways .outside::after{content:\"outside\"}\n.ways .elsewhere::after{content:\"not in this file\"}\n.ways span::after{font-size:.8125rem}\n.over{margin:.5rem 0;color:var(--soft);font-size:.875rem}\n.faults{margin:.6rem 0 0;padding:0;list-style:none;color:var(--bad);font:600 .875rem/1.5 ui-monospace,\"DejaVu Sans Mono\",monospace;overflow-wrap:anywhere}\n.faults li{padding:.15rem .6rem;border-left:3px solid}\n.unreached h2::after{content:\" no key leads here\";font-weight:400;font-size:.875rem;color:var(--soft)}\nhtml:not(.js) main:has(:target) section:not(:target){display:none}\n.js .views{display:flex;gap:.3rem;margin:0 0 1rem;border-bottom:1px solid var(--line)}\n.views button{min-height:2.75rem;padding:.3rem 1rem;border:0;border-bottom:3px solid transparent;background:none;color:var(--soft);font:inherit;cursor:pointer}\n.views button[aria-pressed=true]{border-color:var(--link);color:var(--ink);font-weight:600}\n.js body>.faults{margin:0 0 1rem}\n[data-view=caller] main{display:grid;grid-template-columns:minmax(0,1fr);gap:.8rem;max-width:40rem;margin:0 auto}\n[data-view=caller] section{display:none}\n[data-view=caller] section.at{display:contents}\n[data-view=caller] section.at>svg,[data-view=caller] #reply{grid-area:1/1}\n[data-view=caller] section.at>svg{max-width:none;border-radius:0;box-shadow:0 0 0 .4rem #000,0 0 0 .9rem var(--case),var(--glow);margin:.9rem 0}\n[data-view=caller] .pad{display:grid;grid-row:2}\n[data-view=caller] section.at>h2,[data-view=caller] section.at>.price{grid-row:3;grid-column:1;margin:0;align-self:baseline}\n[data-view=caller] section.at>.price{justify-self:end}\n[data-view=caller] .meter{display:grid;grid-row:4}\n[data-view=caller] .hint{display:block;grid-row:9;grid-column:1;margin:0;color:var(--soft);font-size:.9375rem}\n[data-view=caller] section.at>*{grid-column:1}\n[data-view=caller] section.at>pre{grid-area:1/1}\n#reply{align-self:end;z-index:1;margin:0 0 .9rem;padding:0 .4rem;min-height:4.1667%;font:600 clamp(.75rem,2.2vw,1.0625rem)/1.5 ui-monospace,\"DejaVu Sans Mono\",monospace;color:#bdf;-webkit-text-stroke:.35em #000;paint-order:stroke fill;pointer-events:none;overflow-wrap:anywhere}\n[data-view=caller] #reply{display:block}\n#reply.bad{color:#ff5c5c}\n#reply.no{color:#ffe45c}\n.pad{grid-template-columns:repeat(3,1fr);gap:.5rem;width:100%;max-width:24rem;margin:.4rem auto 0}\n.pad button{min-height:3.25rem;border:1px solid var(--edge);border-bottom-width:3px;border-radius:.7rem;background:var(--card);color:var(--ink);font-family:inherit;font-size:1.375rem;font-weight:600;line-height:1.1;cursor:pointer;touch-action:manipulation}\n.pad button:active{transform:translateY(1px);border-bottom-width:1px}\n.pad small{display:block;font-size:.75rem;font-weight:400;color:var(--soft)}\n.pad .again{display:none;grid-column:1/-1;border-color:var(--link)}\n.gone .pad .again{display:block}\n.meter{grid-template-columns:auto minmax(0,1fr);gap:.15rem .9rem;margin:0;padding:.6rem .8rem;border:1px solid var(--line);border-radius:.7rem;background:var(--card)}\n.meter dt{color:var(--soft)}\n.meter dd{margin:0;font-variant-numeric:tabular-nums;overflow-wrap:anywhere}\n#keys{font-family:ui-monospace,\"DejaVu Sans Mono\",monospace;user-select:all;-webkit-user-select:all;max-height:6rem;overflow:auto}\n#note{grid-column:1/-1;color:var(--soft);font-size:.875rem}\n#note:empty{display:none}\n@media (min-width:56rem){\n[data-view=caller] main{grid-template-columns:minmax(0,calc((100vh - 17.75rem)*1.25)) minmax(17rem,1fr);grid-template-rows:auto auto auto auto auto 1fr auto;column-gap:2.4rem;max-width:none;justify-content:center}\n[data-view=caller] section.at>svg,[data-view=caller] #reply,[data-view=caller] section.at>pre{grid-area:1/1/7/2}\n[data-view=caller] section.at>svg{align-self:start}\n[data-view=caller] #reply{align-self:start;aspect-ratio:5/4;display:flex;flex-direction:column;justify-content:flex-end;margin:.9rem 0 0}\n[data-view=caller] section.at>*{grid-column:2}\n[data-view=caller] section.at>h2,[data-view=caller] section.at>.price{grid-area:1/2;margin-top:.9rem}\n[data-view=caller] .meter{grid-area:2/2}\n[data-view=caller] section.at>.ways{grid-area:3/2}\n[data-view=caller] section.at>.over{grid-area:4/2}\n[data-view=caller] section.at>.faults{grid-area:5/2;max-height:14rem;overflow:auto}\n[data-view=caller] .hint{grid-area:7/2;align-self:center}\n[data-view=caller] .pad{grid-area:7/1;grid-template-columns:repeat(12,1fr);max-width:none;gap:.35rem;margin:.2rem 0 0}\n.pad button{min-height:2.75rem;font-size:1.125rem}\n.pad .word{grid-column:span 4}\n}\n[data-view=frames] main{display:grid;grid-template-columns:repeat(auto-fill,minmax(9.4rem,1fr));gap:.5rem}\n[data-view=frames] section{margin:0;padding:.35rem;border-radius:.5rem;cursor:pointer;contain-intrinsic-size:9.4rem 10rem}\n[data-view=frames] section:hover{border-color:var(--link)}\n[data-view=frames] section.opens{margin-left:0;border-left:4px solid var(--link)}\n[data-view=frames] section h2,[data-view=frames] section .price{display:inline-block;margin:.25rem .2rem 0;font-size:.8125rem}\n[data-view=frames] section .price{float:right;color:var(--soft)}\n[data-view=frames] section h2::after{content:none}\n[data-view=frames] section>svg{order:-1}\n[data-view=frames] pre,[data-view=frames] .ways,[data-view=frames] .over,[data-view=frames] section .faults{display:none}\n[data-view=frames] section.unreached{border-style:dashed;opacity:.75}\n[data-view=frames] section.faulty{border:2px solid var(--bad);background:color-mix(in srgb,var(--bad) 12%,var(--card))}\n[data-view=frames] section.faulty h2{color:var(--bad)}\n[data-view=frames] section.at{outline:3px solid var(--link)}\n[data-view=faults] main{display:none}\n[data-view=faults] .lines{display:block;margin:0;padding:0;list-style:none;font:.9375rem/1.5 ui-monospace,\"DejaVu Sans Mono\",monospace}\n.lines li{margin:0 0 .35rem;overflow-wrap:anywhere}\n.lines a,.lines span{display:block;padding:.5rem .8rem;border:1px solid var(--line);border-left:4px solid var(--bad);border-radius:.4rem;background:var(--card);color:var(--ink);text-decoration:none}\n.lines a:hover{border-color:var(--bad)}\n.lines a::after{content:\"press these keys\";float:right;padding-left:1rem;color:var(--link);font-family:system-ui,\"DejaVu Sans\",sans-serif;font-size:.875rem}\n.lines .none{border-left-color:var(--good);font-family:inherit}\n@media (prefers-reduced-motion:reduce){.flash{visibility:visible!important}.pad button:active{transform:none}}\n@media print{\n@page{margin:12mm}\n:root{color-scheme:light}\nbody{max-width:none;padding:0;background:#fff;color:#000;font-size:9pt}\nheader{padding:0 0 3mm}\nheader p{color:#444}\n.views,.pad,.meter,.hint,#reply,.lines{display:none!important}\nmain{display:block!important;max-width:none!important}\nsection,section.at{display:grid!important;grid-template:auto auto auto auto 1fr/auto 1fr!important;column-gap:6mm;width:auto!important;min-height:78mm;margin:0 0 2mm!important;padding:2mm!important;break-inside:avoid;border:1px solid #999;border-radius:2mm;background:#fff!important;opacity:1!important;outline:0!important;content-visibility:visible;print-color-adjust:exact;-webkit-print-color-adjust:exact}\nsection.faulty{border-color:#c41230!important}\nsection>svg{grid-area:1/1/6/2!important;height:73mm!important;width:91.25mm!important;margin:0!important;box-shadow:none!important}\nsection>*{grid-column:2!important;grid-row:auto!important;justify-self:start!important;display:block!important;float:none!important;max-height:none!important;margin:0 0 1mm!important}\nsection>.ways{display:flex!important}\nsection>pre{display:none!important}\n.ways>*{min-height:0;padding:0 1.5mm 0 0;gap:1mm;color:#000!important}\n.ways>*::before{min-width:5mm;padding:0}\nhtml main:has(:target) section:not(:target){display:grid!important}\n}\n</style>\n</head>\n<body>\n"
+head = codes "<!DOCTYPE html>\n<html lang=\"en\">\n<head>\n<meta charset=\"utf-8\">\n<meta name=\"viewport\" content=\"width=device-width, initial-scale=1\">\n<meta http-equiv=\"Content-Security-Policy\" content=\"default-src 'none'; script-src 'sha256-VBHkNemPY1QcM5e60Sjc2URT/dbkkbxDAtAN8WoZx8s='; style-src 'sha256-HAR2e2dvgEc8POSBpMdyk+8F2mfvqlwnhY4oN/y4JJ0='; base-uri 'none'; form-action 'none'\">\n<title>A page base</title>\n<style>@layer page,views,narrow,still,print;@layer page{:root{color-scheme:light dark;--paper:#f4f2eb;--ink:#1e1d1b;--soft:#625e55;--line:#d9d4c7;--card:#fffefa;--edge:#cfc9ba;--good:#12703c;--bad:#b80f2c;--link:#0a569f;--case:#26231f;--glow:0 1.1rem 2.2rem #0003;--mono:ui-monospace,\"DejaVu Sans Mono\",monospace;--chrome:11.5rem}@media (prefers-color-scheme:dark){:root{--paper:#131315;--ink:#edebe6;--soft:#a5a198;--line:#303036;--card:#1d1d21;--edge:#45454d;--good:#62d592;--bad:#ff8585;--link:#82c6ff;--case:#08080a;--glow:0 0 0 1px #3a3a42,0 1.1rem 2.2rem #000}}*{box-sizing:border-box}body{max-width:84rem;margin:0 auto;padding:0 1rem 0.5rem;background:var(--paper);color:var(--ink);font:1rem/1.45 system-ui,\"Segoe UI\",Roboto,\"DejaVu Sans\",sans-serif}header{display:flex;flex-wrap:wrap;align-items:center;gap:0.1rem 0.9rem;padding:0.7rem 0}h1{margin:0;font-size:1.25rem;line-height:1.2;overflow-wrap:anywhere}header p{margin:0;color:var(--soft);font-size:0.875rem}header .verdict{padding:0.05rem 0.6rem;border:1px solid;border-radius:1rem;font-weight:600;letter-spacing:0.02em}header .certified{color:var(--good)}header .faulty{color:var(--bad)}.views,#away,#said,.pad,.meter,.tools,.hint,.finder,.lines{display:none}a{color:var(--link)}:focus-visible{outline:3px solid var(--link);outline-offset:2px}kbd{padding:0 0.3em;border:1px solid var(--edge);border-radius:0.25rem;font:0.875em var(--mono)}section{margin:0 0 1.5rem;padding:1rem;border:1px solid var(--line);border-radius:0.8rem;background:var(--card);content-visibility:auto;contain-intrinsic-size:auto 20rem}section>svg{display:block;width:100%;max-width:40rem;height:auto;aspect-ratio:5/4;border-radius:0.25rem;background:#000}h2{margin:0 0 0.5rem;font-size:1.125rem}h2::after{content:attr(data-title);padding-left:0.6em;font-weight:400}.unreached h2::after{content:attr(data-title) \" (no key leads here)\";color:var(--soft)}pre{position:absolute;width:1px;height:1px;margin:0;overflow:hidden;clip-path:inset(50%);white-space:pre}.price{margin:0.5rem 0}.ways{display:flex;flex-wrap:wrap;gap:0.3rem;margin:0}.ways>*{display:flex;align-items:center;gap:0.5rem;min-width:0;min-height:2.1rem;padding:0.15rem 0.7rem 0.15rem 0.2rem;border:1px solid var(--line);border-radius:0.6rem;background:var(--card);color:var(--soft);font-variant-numeric:tabular-nums;text-decoration:none}.ways>*::before{content:attr(data-key);order:-2;flex:none;width:2.1rem;padding:0.1rem 0;border-right:1px solid var(--line);color:var(--link);font-weight:700;text-align:center}.ways>*::after{content:attr(data-title);order:-1;flex:1;min-width:0;overflow:hidden;color:var(--ink);text-overflow:ellipsis;white-space:nowrap}.ways a:hover{border-color:var(--link)}.ways span{border-style:dashed}.ways span::after{color:inherit}.ways .missing{border-color:var(--bad);color:var(--bad)}.ways .missing::after{content:\"missing\"}.ways .closed::after{content:\"closed\"}.ways .outside::after{content:\"outside\"}.ways .elsewhere::after{content:\"not in this file\"}.over{margin:0.5rem 0;color:var(--soft);font-size:0.875rem}.faults{margin:0.6rem 0 0;padding:0;color:var(--bad);font:600 0.875rem/1.5 var(--mono);list-style:none;overflow-wrap:anywhere}.faults li{padding:0.15rem 0.6rem;border-left:3px solid}html:not(.js) main:has(:target) section:not(:target){display:none}button,input{min-height:2.5rem;border:1px solid var(--edge);border-radius:0.6rem;background:var(--card);color:var(--ink);font:inherit}button{cursor:pointer;touch-action:manipulation}button:hover{border-color:var(--link)}}@layer views{.js body{display:grid;grid-template-columns:minmax(0,1fr) auto;column-gap:1.5rem}.js body>:is(main,ol,ul){grid-column:1/-1}.js body>.faults{margin:0.6rem 0 0}.js .views{display:flex;gap:0.3rem}.views a{display:flex;align-items:center;padding:0.2rem 1rem 0;border-bottom:3px solid transparent;color:var(--soft);text-decoration:none;white-space:pre}.views a:hover{border-color:var(--edge)}.views [aria-current]{border-color:var(--link);color:var(--ink);font-weight:600}.js header,.js .views{min-height:3.25rem}.js main{padding-top:0.9rem;border-top:1px solid var(--line)}[data-view=\"caller\"] main{display:grid;grid-template-columns:minmax(0,calc((100dvh - var(--chrome)) * 1.25)) minmax(22rem,1fr);grid-template-rows:repeat(5,auto) 1fr auto auto;column-gap:1.75rem;align-items:start;justify-content:center}[data-view=\"caller\"] section{display:none}[data-view=\"caller\"] section.at{display:contents}[data-view=\"caller\"] section.at>*{grid-column:2}[data-view=\"caller\"] section.at>:is(svg,pre),.gone[data-view=\"caller\"] #away{grid-area:1/1/7/2}[data-view=\"caller\"] section.at>svg,.gone[data-view=\"caller\"] #away{width:calc(100% - 2rem);max-width:none;margin:1rem 1rem 0;border-radius:0;box-shadow:0 0 0 0.35rem #000,0 0 0 1rem var(--case),var(--glow)}.gone[data-view=\"caller\"] #away{display:flex;flex-direction:column;gap:1.5rem;align-items:center;justify-content:center;aspect-ratio:5/4;background:#000;color:#fff;font:1.25rem/1.4 var(--mono);text-align:center}#away p{margin:0 1rem}#again{padding:0 1.2rem;border-color:#fff;background:#000;color:#ffe45c;font-weight:600}.gone[data-view=\"caller\"] section.at{display:none}[data-view=\"caller\"] section.dim>svg>*{opacity:0.4}[data-view=\"caller\"] #said{display:flex;flex-wrap:wrap;gap:0 1rem;align-items:center;grid-area:7/1;min-height:2.6rem;margin:0.35rem 0 0;padding:0.4rem 1rem 0.3rem;border-radius:0 0 0.5rem 0.5rem;background:var(--case);color:#bdf;font:600 1rem/1.4 var(--mono);overflow-wrap:anywhere}#reply.bad{color:#ff8a8a}#reply.no{color:#ffe45c}#reply.typed{color:#fff}#reply.typed::after{content:\"_\"}#offer{color:#bdf}[data-view=\"caller\"] .pad{display:grid;grid-area:8/1;grid-template-columns:repeat(12,1fr) repeat(3,1.5fr);gap:0.3rem;margin-top:0.7rem}.pad button{min-width:0;min-height:2.75rem;padding:0;border-bottom-width:3px;font-size:1.125rem;font-weight:600;line-height:1.1}.pad button:active{border-bottom-width:1px;transform:translateY(1px)}.pad .word{font-size:1rem}.pad small{display:block;color:var(--soft);font-size:0.75rem;font-weight:400}[data-view=\"caller\"] section.at>:is(h2,.price){grid-row:1;margin:0.2rem 0 0.6rem}[data-view=\"caller\"] section.at>h2{margin-right:4.5rem}[data-view=\"caller\"] section.at>.price{justify-self:end}[data-view=\"caller\"] .meter{display:grid;grid-area:2/2;grid-template-columns:auto minmax(0,1fr);gap:0.15rem 0.9rem;margin:0 0 0.7rem;padding:0.6rem 0.8rem;border:1px solid var(--line);border-radius:0.7rem;background:var(--card)}.meter dt{color:var(--soft)}.meter dd{margin:0;font-variant-numeric:tabular-nums;overflow-wrap:anywhere}#keys{max-height:4.4rem;overflow:auto;font-family:var(--mono);-webkit-user-select:all;user-select:all}#note{grid-column:1/-1;color:var(--soft);font-size:0.875rem}#note:empty{display:none}[data-view=\"caller\"] section.at>.ways{display:grid;grid-row:3;grid-template-columns:repeat(auto-fill,minmax(min(100%,15rem),1fr))}[data-view=\"caller\"] section.at>.over{grid-row:4}[data-view=\"caller\"] section.at>.faults{grid-row:5;max-height:9rem;overflow:auto}[data-view=\"caller\"] .tools{display:flex;flex-wrap:wrap;gap:0.4rem;grid-area:7/2;align-self:end;margin:0.7rem 0 0}.tools button{padding:0 0.9rem}[data-view=\"caller\"] .hint{display:block;grid-area:8/2;align-self:center;margin:0.6rem 0 0;color:var(--soft);font-size:0.8125rem;line-height:1.35}[data-view=\"frames\"] main{display:grid;grid-template-columns:repeat(auto-fill,minmax(10rem,1fr));gap:0.6rem}[data-view=\"frames\"] .finder{display:flex;flex-wrap:wrap;gap:0.5rem 1rem;grid-column:1/-1;align-items:center}#search{flex:1 1 14rem;min-width:0;max-width:24rem;padding:0 0.8rem}#found{color:var(--soft);font-size:0.875rem}.legend{display:flex;flex-wrap:wrap;gap:0.2rem 1rem;margin:0 0 0 auto;padding:0;color:var(--soft);font-size:0.875rem;list-style:none}.legend li{display:flex;gap:0.5rem;align-items:center}.legend li::before{content:\"\";width:1.1rem;height:0.95rem;border:1px solid var(--edge);border-radius:0.2rem;background:var(--card)}[data-view=\"frames\"] section{display:grid;grid-template-columns:minmax(0,1fr) auto;align-content:start;margin:0;padding:0.4rem;border-width:2px;border-radius:0.5rem;contain-intrinsic-size:auto 12rem;cursor:pointer}[data-view=\"frames\"] section>svg{grid-area:1/1/2/3;max-width:none}[data-view=\"frames\"] section>:is(h2,.price){grid-row:2;margin:0.3rem 0.15rem 0;font-size:0.8125rem}[data-view=\"frames\"] section>h2{grid-column:1/3}[data-view=\"frames\"] section>.price{grid-column:2;color:var(--soft)}[data-view=\"frames\"] h2::after{content:attr(data-title);display:block;min-height:1.45em;padding:0;overflow:hidden;text-overflow:ellipsis;white-space:nowrap}[data-view=\"frames\"] section>:is(pre,.ways,.over,.faults),[data-view=\"frames\"] section.out{display:none}[data-view=\"frames\"] section:hover{border-color:var(--link)}[data-view=\"frames\"] section.opens,.legend .opens::before{box-shadow:inset 4px 0 var(--link)}[data-view=\"frames\"] section.unreached,.legend .unreached::before{border:2px dashed var(--soft)}[data-view=\"frames\"] section.unreached>svg>*{opacity:0.5}[data-view=\"frames\"] section.faulty,.legend .faulty::before{border:2px solid var(--bad);background:color-mix(in srgb,var(--bad) 10%,var(--card))}[data-view=\"frames\"] section.faulty h2{color:var(--bad)}[data-view=\"frames\"] section.at,.legend .here::before{outline:3px solid var(--link);outline-offset:0}[data-view=\"faults\"] main{display:none}[data-view=\"faults\"] .lines{display:block;margin:0;padding:0.9rem 0 0;border-top:1px solid var(--line);list-style:none}.lines li{margin:0 0 0.4rem}.line{display:flex;flex-wrap:wrap;gap:0.2rem 1rem;align-items:baseline;justify-content:space-between;padding:0.55rem 0.9rem;border:1px solid var(--line);border-left:4px solid var(--bad);border-radius:0.5rem;background:var(--card);color:var(--ink);text-decoration:none}.line code{font:0.9375rem/1.5 var(--mono);overflow-wrap:anywhere}.line.none{border-left-color:var(--good)}.line .go{max-width:100%;color:var(--link);font-size:0.875rem;font-weight:600;overflow-wrap:anywhere}a.line:hover{border-color:var(--bad)}.full[data-view=\"caller\"] body>:is(header,.views,.faults),.full[data-view=\"caller\"] main>:is(.pad,.meter,.tools,.hint),.full[data-view=\"caller\"] section.at>:not(svg,pre){display:none}.full[data-view=\"caller\"] body{display:block;max-width:none;padding:0;background:#000}.full[data-view=\"caller\"] main{grid-template-columns:min(100vw,(100dvh - 3rem) * 1.25);grid-template-rows:auto auto;justify-content:center;padding:0;border:0}.full[data-view=\"caller\"] section.at>:is(svg,pre),.full.gone[data-view=\"caller\"] #away{grid-area:1/1;width:100%;margin:0;box-shadow:none}.full[data-view=\"caller\"] #said{grid-area:2/1;margin:0;border-radius:0;background:#000}}@layer narrow{@media (max-width:56rem){[data-view=\"caller\"] main{grid-template-columns:minmax(0,1fr);grid-template-rows:none;max-width:40rem;margin:0 auto}[data-view=\"caller\"] section.at>*,[data-view=\"caller\"] main>*{grid-column:1}[data-view=\"caller\"] section.at>:is(svg,pre),.gone[data-view=\"caller\"] #away{grid-area:1/1}[data-view=\"caller\"] #said{grid-row:2}.ways>*{min-height:2.75rem}[data-view=\"caller\"] .pad{grid-row:3;grid-template-columns:repeat(12,1fr);width:100%;max-width:26rem;margin:0.7rem auto 1rem;gap:0.4rem}.pad button{grid-column:span 4;min-height:2.9rem;font-size:1.25rem}[data-view=\"caller\"] section.at>:is(h2,.price){grid-row:4}[data-view=\"caller\"] .meter{grid-row:5}[data-view=\"caller\"] section.at>.ways{grid-row:6}[data-view=\"caller\"] section.at>.over{grid-row:7}[data-view=\"caller\"] section.at>.faults{grid-row:8}[data-view=\"caller\"] .tools{grid-row:9}[data-view=\"caller\"] .hint{grid-row:10}.legend{margin:0}}@media (max-width:44rem){.js body{display:block}.js header{min-height:0;padding-bottom:0}.views a{flex:1;justify-content:center;padding:0 0.5rem}.js .views{min-height:2.75rem}}@media (max-width:30rem){.js body{padding:0 0.6rem 0.5rem}[data-view=\"frames\"] main{grid-template-columns:repeat(auto-fill,minmax(8.5rem,1fr))}}}@layer still{@media (prefers-reduced-motion:reduce){.flash{visibility:visible!important}.pad button:active{transform:none}}}@layer print{@media print{@page{margin:12mm}:root{color-scheme:light}html body{display:block;max-width:none;padding:0;background:#fff;color:#000;font-size:9pt}html header{min-height:0;padding:0 0 3mm}header p{color:#444}html body>:is(.views,.lines),html main>:is(#away,#said,.pad,.meter,.tools,.hint,.finder){display:none}html main{display:block;max-width:none;padding:0;border:0}html section,html section.at,html.gone section.at,html section.out,html main:has(:target) section:not(:target){display:grid;grid-template:repeat(4,auto) 1fr/91.25mm 1fr;column-gap:6mm;min-height:78mm;margin:0 0 2mm;padding:2mm;border:1px solid #999;border-radius:2mm;outline:0;box-shadow:none;background:#fff;break-inside:avoid;content-visibility:visible;-webkit-print-color-adjust:exact;print-color-adjust:exact}html section.faulty{border-color:#b80f2c}html section>*,html section.at>*{display:block;grid-row:auto;grid-column:2;justify-self:start;max-height:none;margin:0 0 1mm}html section>svg,html section.at>svg{grid-area:1/1/6/2;width:91.25mm;height:73mm;margin:0;box-shadow:none}html section>svg>*,html section.dim>svg>*{opacity:1}html section>h2,html section.at>h2{color:#000;font-size:1.125rem}html section>h2::after{display:inline;padding-left:0.6em;white-space:normal}html section>.price{color:#000}html section>.ways,html section.at>.ways{display:flex}html section>pre,html section.at>pre{display:none}.ways>*{min-height:0;padding:0 1.5mm 0 0;gap:1mm;color:#000}.ways>*::before{width:5mm;padding:0}}}</style>\n</head>\n<body>\n"
 
--- the views and the keypad
+-- the views, the keypad and what else is of no base
 unfoldable pub middle : List ℕ
-middle = codes "<nav class=\"views\" aria-label=\"Views\">\n<button type=\"button\" value=\"caller\" aria-pressed=\"true\">Caller</button>\n<button type=\"button\" value=\"frames\" aria-pressed=\"false\">Frames</button>\n<button type=\"button\" value=\"faults\" aria-pressed=\"false\">Faults</button>\n</nav>\n<main>\n<p id=\"reply\" role=\"status\" aria-live=\"polite\"></p>\n<div class=\"pad\" role=\"group\" aria-label=\"Keypad\">\n<button type=\"button\" value=\"1\">1</button>\n<button type=\"button\" value=\"2\">2</button>\n<button type=\"button\" value=\"3\">3</button>\n<button type=\"button\" value=\"4\">4</button>\n<button type=\"button\" value=\"5\">5</button>\n<button type=\"button\" value=\"6\">6</button>\n<button type=\"button\" value=\"7\">7</button>\n<button type=\"button\" value=\"8\">8</button>\n<button type=\"button\" value=\"9\">9</button>\n<button type=\"button\" value=\"*\">*</button>\n<button type=\"button\" value=\"0\">0</button>\n<button type=\"button\" value=\"#\">#</button>\n<button type=\"button\" class=\"word\" value=\"*#\">*#<small>back</small></button>\n<button type=\"button\" class=\"word\" value=\"*00\">*00<small>redraw</small></button>\n<button type=\"button\" class=\"word\" value=\"*09\">*09<small>update</small></button>\n<button type=\"button\" class=\"again\" id=\"again\" value=\"again\">Back</button>\n</div>\n<dl class=\"meter\">\n<dt>Charged</dt><dd id=\"sum\">0p</dd>\n<dt>Keys</dt><dd id=\"keys\"></dd>\n<dd id=\"note\"></dd>\n</dl>\n<p class=\"hint\">Press the keys that the screen names, on your keyboard or on this pad: a digit follows a route, # turns to the next frame, *# goes back. Frames shows the whole base at once, Faults what the audit found.</p>\n"
+middle = codes "<nav class=\"views\" aria-label=\"Views\">\n<a href=\"#caller\" data-view=\"caller\" aria-current=\"page\">Caller</a>\n<a href=\"#frames\" data-view=\"frames\">Frames</a>\n<a href=\"#faults\" data-view=\"faults\">Faults<span id=\"count\"></span></a>\n</nav>\n<main>\n<div id=\"away\">\n<p id=\"page\"></p>\n<button type=\"button\" id=\"again\">Back</button>\n</div>\n<p id=\"said\"><span id=\"reply\" role=\"status\"></span> <a id=\"offer\" href=\"#\"></a></p>\n<div class=\"pad\" role=\"group\" aria-label=\"Keypad\">\n<button type=\"button\" value=\"1\">1</button>\n<button type=\"button\" value=\"2\">2</button>\n<button type=\"button\" value=\"3\">3</button>\n<button type=\"button\" value=\"4\">4</button>\n<button type=\"button\" value=\"5\">5</button>\n<button type=\"button\" value=\"6\">6</button>\n<button type=\"button\" value=\"7\">7</button>\n<button type=\"button\" value=\"8\">8</button>\n<button type=\"button\" value=\"9\">9</button>\n<button type=\"button\" value=\"*\" aria-label=\"star\">*</button>\n<button type=\"button\" value=\"0\">0</button>\n<button type=\"button\" value=\"#\" aria-label=\"hash\">#</button>\n<button type=\"button\" class=\"word\" value=\"*#\">*#<small>back</small></button>\n<button type=\"button\" class=\"word\" value=\"*00\">*00<small>redraw</small></button>\n<button type=\"button\" class=\"word\" value=\"*09\">*09<small>update</small></button>\n</div>\n<dl class=\"meter\">\n<dt>Charged</dt>\n<dd id=\"sum\">0p</dd>\n<dt>Keys</dt>\n<dd id=\"keys\" tabindex=\"0\" aria-label=\"Keys\"></dd>\n<dd id=\"note\"></dd>\n</dl>\n<p class=\"tools\">\n<button type=\"button\" id=\"copy\">Copy as text</button>\n<button type=\"button\" id=\"full\">Full screen <kbd>f</kbd></button>\n</p>\n<p class=\"hint\">Type the keys that the screen names: a digit follows a route, <kbd>#</kbd> or <kbd>Enter</kbd> leads to the next frame, <kbd>*#</kbd> or <kbd>Backspace</kbd> back.</p>\n<div class=\"finder\">\n<input type=\"search\" id=\"search\" placeholder=\"Search ids and texts\" aria-label=\"Search ids and texts\" autocomplete=\"off\" spellcheck=\"false\">\n<span id=\"found\" role=\"status\"></span>\n<ul class=\"legend\" aria-label=\"Legend\">\n<li class=\"here\">the caller is here</li>\n<li class=\"opens\">first of a page</li>\n<li class=\"faulty\">has faults</li>\n<li class=\"unreached\">no key leads here</li>\n</ul>\n</div>\n"
 
 -- all after the sections, with the script
 unfoldable pub foot : List ℕ
-foot = codes "</main>\n<ol class=\"lines\"></ol>\n<script>\n\"use strict\";\n(function () {\n  const root = document.documentElement;\n  const byId = function (id) { return document.getElementById(id); };\n  const entry = document.querySelector(\"header\").dataset.entry;\n  const reply = byId(\"reply\");\n  const first = document.querySelector(\"section\");\n  let at, remembered, left, sum, keys, line, faithful;\n  let pending = \"\", timer = 0, parents = null;\n\n  const frame = function (id) {\n    const found = byId(id);\n    return found && found.localName === \"section\" ? found : null;\n  };\n  const price = function (id) { return parseInt(frame(id).querySelector(\".price\").textContent, 10); };\n  const keeps = function (id) { return frame(id).querySelector(\".over\") !== null; };\n  const way = function (id, key) {\n    for (const found of frame(id).querySelectorAll(\"[data-key]\")) if (found.dataset.key === key) return found;\n    return null;\n  };\n\n  // Each frame that keys lead to, with the frame before it and the key: the shortest way from the entry frame.\n  const ways = function () {\n    if (parents) return parents;\n    parents = new Map();\n    if (!frame(entry) || frame(entry).classList.contains(\"unreached\")) return parents;\n    parents.set(entry, null);\n    for (const id of parents.keys()) {\n      for (const link of frame(id).querySelectorAll(\"a[data-key]\")) {\n        if (!parents.has(link.textContent)) parents.set(link.textContent, [id, link.dataset.key]);\n      }\n    }\n    return parents;\n  };\n  const script = function (id) {\n    const words = [];\n    for (let step = ways().get(id); step; step = ways().get(step[0])) words.unshift(step[1]);\n    return ways().has(id) ? words.join(\"\") : null;\n  };\n\n  // The picture is that of the shortest keys. After other keys a frame that keeps what is on the screen may look otherwise.\n  const arrive = function (id, before) {\n    if (!keeps(id)) faithful = true;\n    else if (before === null) faithful = ways().get(id) === null;\n    else {\n      const step = ways().get(id);\n      faithful = faithful && Boolean(step) && step[0] === before;\n    }\n  };\n  const say = function (text, kind) { line = { text: text, kind: kind || \"\" }; };\n\n  const draw = function () {\n    for (const old of document.querySelectorAll(\"section.at\")) old.classList.remove(\"at\");\n    if (!at) return;\n    const here = frame(at);\n    here.classList.add(\"at\");\n    root.classList.toggle(\"gone\", left !== null);\n    if (reply.textContent !== line.text) reply.textContent = line.text;\n    reply.className = line.kind;\n    byId(\"sum\").textContent = sum + \"p\";\n    byId(\"keys\").textContent = (keys === null ? \"no keys lead here\" : keys || \"none yet\") + (pending ? \" \" + pending + \" ..\" : \"\");\n    byId(\"note\").textContent = faithful ? \"\" : \"After these keys the screen looks otherwise: this frame is painted over what was there. The picture shows it after the shortest keys.\";\n    document.title = at + \" - \" + document.querySelector(\"h1\").textContent;\n  };\n  const remember = function (push) {\n    const state = { at: at, remembered: remembered, left: left, sum: sum, keys: keys, line: line, faithful: faithful };\n    try {\n      if (push) history.pushState(state, \"\", \"#\" + at);\n      else history.replaceState(state, \"\", \"#\" + at);\n    } catch (fault) { }\n  };\n  const restore = function (state) {\n    at = state.at; remembered = state.remembered; left = state.left; sum = state.sum;\n    keys = state.keys; line = state.line; faithful = state.faithful;\n  };\n\n  // A session begins at a frame, after the shortest keys that lead there.\n  const begin = function (id) {\n    at = id; remembered = []; left = null; pending = \"\"; sum = price(id);\n    keys = id === entry ? \"\" : script(id);\n    faithful = true;\n    if (id === entry || keys === null) {\n      say(\"SHOWN \" + id + \" \" + price(id));\n      return;\n    }\n    const all = keys;\n    at = entry; sum = price(entry); keys = \"\";\n    for (const key of all) press(key);\n  };\n  const show = function (id) {\n    sum += price(id);\n    arrive(id, at);\n    at = id;\n    say(\"SHOWN \" + id + \" \" + price(id));\n  };\n  const go = function (key) {\n    const found = way(at, key);\n    if (!found) return say(\"NOTOFFERED\", \"no\");\n    const to = found.textContent;\n    if (found.localName === \"a\") {\n      remembered = [at].concat(remembered).slice(0, 3);\n      return show(to);\n    }\n    if (found.className === \"missing\") return say(\"MISSING \" + to, \"bad\");\n    if (found.className === \"closed\") return say(\"CLOSED \" + to, \"no\");\n    if (found.className === \"elsewhere\") return say(to + \" is not in this file\", \"no\");\n    left = to;\n    say(\"GONE \" + to, \"no\");\n  };\n  const previous = function () {\n    if (!remembered.length) return say(\"NOTOFFERED\", \"no\");\n    const to = remembered[0];\n    remembered = remembered.slice(1);\n    show(to);\n  };\n  const again = function () {\n    if (keeps(at)) faithful = false;\n    say(\"AGAIN \" + at);\n  };\n  const update = function () {\n    sum += price(at);\n    if (keeps(at)) faithful = false;\n    say(\"SHOWN \" + at + \" \" + price(at));\n  };\n  // A key of the session: a digit, #, *#, *00 or *09.\n  const press = function (key) {\n    if (keys !== null) keys += key;\n    if (left !== null) return say(\"NOTOFFERED\", \"no\");\n    if (key === \"*#\") previous();\n    else if (key === \"*00\") again();\n    else if (key === \"*09\") update();\n    else go(key);\n  };\n  // A key of the pad: * waits for the rest of its word; what continues no word drops both.\n  const type = function (key) {\n    const word = pending + key;\n    if (word === \"*\" || word === \"*0\") { pending = word; return false; }\n    pending = \"\";\n    if (word.length === 1 || word === \"*#\" || word === \"*00\" || word === \"*09\") { press(word); return true; }\n    return false;\n  };\n  const typed = function (text) {\n    if (!at) return;\n    const was = at;\n    let pressed = false;\n    for (const key of text) pressed = type(key) || pressed;\n    draw();\n    if (pressed) remember(at !== was);\n  };\n  const start = function (id) {\n    begin(id);\n    draw();\n    remember(false);\n  };\n  const stop = function () { clearInterval(timer); timer = 0; };\n\n  const view = function (name) {\n    root.dataset.view = name;\n    for (const tab of document.querySelectorAll(\".views button\")) tab.setAttribute(\"aria-pressed\", String(tab.value === name));\n    if (name === \"frames\") arrange();\n    if (name === \"faults\") list();\n  };\n  // The frames, page by page.\n  let arranged = false;\n  const arrange = function () {\n    if (arranged) return;\n    arranged = true;\n    let page = \"\";\n    for (const here of document.querySelectorAll(\"section\")) {\n      const number = here.id.slice(0, -1);\n      if (number !== page) here.classList.add(\"opens\");\n      page = number;\n      here.tabIndex = 0;\n    }\n    for (const faults of document.querySelectorAll(\"section > .faults\")) faults.parentNode.classList.add(\"faulty\");\n  };\n  // The lines of the audit, each a link that goes to its frame key by key.\n  const lines = document.querySelector(\".lines\");\n  const list = function () {\n    if (lines.childElementCount) return;\n    const found = document.querySelectorAll(\"ul.faults li\");\n    for (const fault of found) {\n      const item = document.createElement(\"li\");\n      const words = / SCRIPT ([0-9#*-]+)$/.exec(fault.textContent);\n      const link = document.createElement(words && frame(entry) ? \"a\" : \"span\");\n      link.textContent = fault.textContent;\n      if (link.localName === \"a\") {\n        link.setAttribute(\"href\", \"#\" + fault.closest(\"section\").id);\n        link.dataset.script = words[1] === \"-\" ? \"\" : words[1];\n      }\n      item.append(link);\n      lines.append(item);\n    }\n    if (!found.length) {\n      const item = document.createElement(\"li\");\n      const none = document.createElement(\"span\");\n      none.className = \"none\";\n      none.textContent = \"No faults.\";\n      item.append(none);\n      lines.append(item);\n    }\n  };\n  const replay = function (words) {\n    stop();\n    view(\"caller\");\n    start(entry);\n    const all = Array.from(words);\n    const still = matchMedia(\"(prefers-reduced-motion: reduce)\").matches;\n    if (still || all.length > 60) return typed(words);\n    timer = setInterval(function () {\n      if (!all.length) return stop();\n      typed(all.shift());\n    }, 450);\n  };\n  const open = function (id) {\n    stop();\n    view(\"caller\");\n    if (id === at) return draw();\n    begin(id);\n    draw();\n    remember(true);\n    scrollTo(0, 0);\n  };\n\n  document.addEventListener(\"click\", function (event) {\n    const target = event.target;\n    if (event.ctrlKey || event.metaKey || event.shiftKey) return;\n    const tab = target.closest(\".views button\");\n    if (tab) { stop(); return view(tab.value); }\n    const key = target.closest(\".pad button\");\n    if (key) {\n      stop();\n      if (key.className === \"again\") start(frame(entry) ? entry : first.id);\n      else typed(key.value);\n      return;\n    }\n    const line = target.closest(\".lines a\");\n    if (line) { event.preventDefault(); return replay(line.dataset.script); }\n    const here = target.closest(\"section\");\n    if (root.dataset.view === \"frames\" && here) { event.preventDefault(); return open(here.id); }\n    const link = target.closest(\"a[data-key]\");\n    if (link) { event.preventDefault(); stop(); pending = \"\"; typed(link.dataset.key); }\n  });\n  document.addEventListener(\"keydown\", function (event) {\n    if (event.ctrlKey || event.metaKey || event.altKey) return;\n    const here = document.activeElement;\n    if (root.dataset.view === \"frames\" && event.key === \"Enter\" && here.localName === \"section\") { event.preventDefault(); return open(here.id); }\n    if (event.key === \"Escape\") { stop(); return view(\"caller\"); }\n    if (root.dataset.view !== \"caller\") return;\n    if (/^[0-9#*]$/.test(event.key)) { event.preventDefault(); stop(); typed(event.key); }\n    if (event.key === \"Backspace\") { event.preventDefault(); stop(); pending = \"\"; typed(\"*#\"); }\n  });\n  addEventListener(\"popstate\", function (event) {\n    stop();\n    pending = \"\";\n    if (event.state) restore(event.state);\n    else if (frame(location.hash.slice(1))) begin(location.hash.slice(1));\n    draw();\n  });\n\n  root.classList.add(\"js\");\n  view(\"caller\");\n  const named = frame(location.hash.slice(1));\n  if (history.state && history.state.at && frame(history.state.at) && location.hash === \"#\" + history.state.at) { restore(history.state); draw(); }\n  else if (named || frame(entry) || first) {\n    start((named || frame(entry) || first).id);\n    const closed = document.querySelector(\"body > .faults li\");\n    if (closed && !named) { say(closed.textContent, \"bad\"); draw(); }\n  }\n  const faults = document.querySelectorAll(\"ul.faults li\").length;\n  if (faults) document.querySelector(\".views [value=faults]\").textContent = \"Faults \" + faults;\n  byId(\"again\").textContent = \"Back to \" + (frame(entry) ? entry : first ? first.id : \"\");\n})();\n</script>\n</body>\n</html>\n"
+foot = codes "</main>\n<ol class=\"lines\" aria-label=\"Faults\"></ol>\n<script>\"use strict\";(()=>{const root=document.documentElement;const byId=(id)=>document.getElementById(id);const name=document.querySelector(\"h1\").textContent;const entry=document.querySelector(\"header\").dataset.entry;const VIEWS=[\"frames\",\"faults\"];const COMMANDS=[\"*#\",\"*00\",\"*09\"];const REMEMBERED=3;const PAUSE=450;const MOST_SHOWN=60;class Frame{constructor(section){this.section=section;this.id=section.id;}\nstatic of(id){const found=byId(id);return found&&found.localName===\"section\"?new Frame(found):null;}\nstatic first(){const found=document.querySelector(\"section\");return found?new Frame(found):null;}\nstatic start(){return Frame.of(entry)||Frame.first();}\nget price(){return parseInt(this.section.querySelector(\".price\").textContent,10);}\nget keeps(){return this.section.querySelector(\".over\")!==null;}\nget isUnreached(){return this.section.classList.contains(\"unreached\");}\nget isClosed(){if(!this.isUnreached)return false;return Array.from(document.querySelectorAll(\".ways .closed\")).some((way)=>way.textContent===this.id);}\nget lines(){return this.section.querySelector(\"pre\").textContent;}\nget title(){const words=this.lines.split(\"\\n\").slice(1).flatMap((line)=>line.replace(/[^ -\\u2190]+/g,\"  \").split(/ {2,}/));return(words.find((word)=>word.trim().length>=3&&/[a-z]/i.test(word))||\"\").trim();}\nget links(){return this.section.querySelectorAll(\"a[data-key]\");}\nway(key){return Array.from(this.section.querySelectorAll(\"[data-key]\")).find((way)=>way.dataset.key===key);}\nlabel(){const heading=this.section.querySelector(\"h2\");if(heading.dataset.title!==undefined)return;heading.dataset.title=this.title;this.section.querySelector(\"svg\").setAttribute(\"aria-hidden\",\"true\");}\nlabelWays(){for(const link of this.links)link.dataset.title=Frame.of(link.textContent).title;}}\nconst steps=(()=>{let found=null;return()=>{if(found)return found;found=new Map();const begin=Frame.of(entry);if(!begin||begin.isUnreached)return found;found.set(entry,null);for(const id of found.keys()){for(const link of Frame.of(id).links){if(!found.has(link.textContent))found.set(link.textContent,{from:id,key:link.dataset.key});}}\nreturn found;};})();const keysTo=(id)=>{if(!steps().has(id))return null;const keys=[];for(let step=steps().get(id);step;step=steps().get(step.from))keys.unshift(step.key);return keys;};class Session{constructor(id){this.at=id;this.remembered=[];this.left=null;this.sum=Frame.of(id).price;this.keys=\"\";this.command=\"\";this.offer=\"\";this.faithful=true;this.say(`SHOWN ${id} ${this.sum}`);}\nstatic to(id){const keys=keysTo(id);if(keys)return keys.reduce((session,key)=>session.press(key),new Session(entry));const session=new Session(id);session.keys=id===entry?\"\":null;if(session.frame.isClosed){session.sum=0;session.say(`CLOSED ${id}`,\"no\");}\nreturn session;}\nstatic of(state){const ids=state?[state.at,...state.remembered]:[null];return ids.every((id)=>Frame.of(id))?Object.assign(Object.create(Session.prototype),state):null;}\nget frame(){return Frame.of(this.at);}\nsay(reply,kind=\"ok\"){this.reply=reply;this.kind=kind;return this;}\narrive(id){const next=Frame.of(id);const step=steps().get(id);this.faithful=!next.keeps||(this.faithful&&Boolean(step)&&step.from===this.at);this.sum+=next.price;this.at=id;return this.say(`SHOWN ${id} ${next.price}`);}\nfollow(key){const way=this.frame.way(key);if(!way)return this.say(\"NOTOFFERED\",\"no\");const to=way.textContent;if(way.localName===\"a\"){this.remembered=[this.at,...this.remembered].slice(0,REMEMBERED);return this.arrive(to);}\nif(way.className===\"missing\")return this.say(`MISSING ${to}`,\"bad\");if(way.className===\"closed\")return this.say(`CLOSED ${to}`,\"no\");if(way.className===\"elsewhere\")return this.say(`${to} is not in this file`,\"no\");this.left=to;return this.say(`GONE ${to}`,\"no\");}\nback(){if(!this.remembered.length)return this.say(\"NOTOFFERED\",\"no\");return this.arrive(this.remembered.shift());}\nredraw(){if(this.frame.keeps)this.faithful=false;return this.say(`AGAIN ${this.at}`);}\nupdate(){const{price,keeps}=this.frame;this.sum+=price;if(keeps)this.faithful=false;return this.say(`SHOWN ${this.at} ${price}`);}\npress(key){this.offer=\"\";if(this.keys!==null)this.keys+=key;if(this.left!==null)return this.say(\"NOTOFFERED\",\"no\");if(key===\"*#\")return this.back();if(key===\"*00\")return this.redraw();if(key===\"*09\")return this.update();return this.follow(key);}\ntype(key){if(key===\"*\")this.command=key;else if(!this.command)this.press(key);else{this.command+=key;if(COMMANDS.includes(this.command)||key===\"#\")this.obey();}\nreturn this;}\nobey(){const command=this.command;this.command=\"\";if(COMMANDS.includes(command))return this.press(command);const id=`${command.slice(1, -1)}a`;this.offer=Frame.of(id)?id:\"\";return this.say(\"page numbers aren't part of this file's walk\",\"no\");}\nget shownKeys(){if(this.keys!==null)return this.keys||\"none yet\";return this.frame.isUnreached?\"no keys lead here\":\"the way here isn't in this file\";}\nget note(){if(this.faithful)return\"\";return\"After these keys the screen looks otherwise: this frame is painted over what was there. The picture shows it after the shortest keys.\";}}\nlet session=null;let timer=0;let view=\"caller\";const put=(id,text)=>{const element=byId(id);if(element.textContent!==text)element.textContent=text;};const drawFrame=()=>{for(const old of document.querySelectorAll(\"section.at\"))old.classList.remove(\"at\",\"dim\");const{frame}=session;frame.label();frame.labelWays();frame.section.classList.add(\"at\");frame.section.classList.toggle(\"dim\",frame.isClosed);root.classList.toggle(\"gone\",session.left!==null);put(\"page\",session.left===null?\"\":`page ${session.left}: another provider`);};const drawReply=()=>{put(\"reply\",session.command||session.reply);byId(\"reply\").className=session.command?\"typed\":session.kind;byId(\"offer\").href=`#${session.offer}`;put(\"offer\",session.offer&&!session.command?`open ${session.offer}`:\"\");};const heading=()=>{if(view!==\"caller\")return view===\"frames\"?\"Frames\":\"Faults\";return session.left===null?session.at:`page ${session.left}`;};const draw=()=>{root.dataset.view=view;for(const link of document.querySelectorAll(\".views a\")){if(link.dataset.view===view)link.setAttribute(\"aria-current\",\"page\");else link.removeAttribute(\"aria-current\");}\nif(view===\"frames\")arrange();if(view===\"faults\")list();if(!session)return;drawFrame();drawReply();put(\"sum\",`${session.sum}p`);put(\"keys\",session.shownKeys);put(\"note\",session.note);document.title=`${heading()} - ${name}`;};const arrange=()=>{if(root.classList.contains(\"arranged\"))return;root.classList.add(\"arranged\");let page=\"\";for(const section of document.querySelectorAll(\"section\")){const frame=new Frame(section);const number=frame.id.slice(0,-1);section.classList.toggle(\"opens\",number!==page);section.classList.toggle(\"faulty\",section.querySelector(\".faults\")!==null);page=number;frame.label();section.tabIndex=0;section.setAttribute(\"role\",\"link\");section.setAttribute(\"aria-label\",`${frame.id} ${frame.title}`);}\nsearch();};const search=()=>{const words=byId(\"search\").value.toLowerCase().split(/\\s+/);const sections=Array.from(document.querySelectorAll(\"section\"));const shown=sections.filter((section)=>{const text=`${section.id} ${new Frame(section).lines}`.toLowerCase();section.classList.toggle(\"out\",!words.every((word)=>text.includes(word)));return!section.classList.contains(\"out\");});const all=`${sections.length} frame${sections.length === 1 ? \"\" : \"s\"}`;put(\"found\",shown.length===sections.length?all:`${shown.length} of ${all}`);};const made=(tag,kind,text)=>{const element=document.createElement(tag);element.className=kind;element.textContent=text;return element;};const lineOf=(fault)=>{const keys=/ SCRIPT ([0-9#*-]+)$/.exec(fault.textContent);const section=fault.closest(\"section\");const line=made(keys&&section&&Frame.of(entry)?\"a\":\"span\",\"line\",\"\");line.append(made(\"code\",\"\",fault.textContent));if(line.localName===\"a\"){line.href=`#${section.id}`;line.dataset.script=keys[1]===\"-\"?\"\":keys[1];line.append(made(\"span\",\"go\",line.dataset.script?`press ${line.dataset.script}`:\"open\"));}\nconst item=document.createElement(\"li\");item.append(line);return item;};const list=()=>{const lines=document.querySelector(\".lines\");if(lines.childElementCount)return;lines.append(...Array.from(document.querySelectorAll(\"ul.faults li\"),lineOf));if(lines.childElementCount)return;const none=document.createElement(\"li\");none.append(made(\"span\",\"line none\",\"No faults.\"));lines.append(none);};const stop=()=>{clearInterval(timer);timer=0;};const remember=(isNew)=>{const address=`#${view === \"caller\" ? session.at : view}`;try{history[isNew?\"pushState\":\"replaceState\"]({view,session:{...session}},\"\",address);}catch(fault){}};const typed=(keys)=>{if(!session)return;const{at}=session;for(const key of keys)session.type(key);draw();remember(session.at!==at);};const begin=(id,isNew)=>{stop();view=\"caller\";session=Session.to(id);draw();remember(isNew);scrollTo(0,0);};const turnTo=(next)=>{stop();if(next===view)return;view=next;draw();if(session)remember(true);scrollTo(0,0);};const open=(id)=>{if(session.at===id&&session.left===null)turnTo(\"caller\");else begin(id,true);};const replay=(script)=>{begin(entry,true);const keys=Array.from(script);if(keys.length>MOST_SHOWN||matchMedia(\"(prefers-reduced-motion: reduce)\").matches){typed(keys);return;}\ntimer=setInterval(()=>{if(keys.length)typed(keys.shift());else stop();},PAUSE);};const leaveFull=()=>{root.classList.remove(\"full\");if(document.fullscreenElement)document.exitFullscreen();};const turnFull=()=>{if(root.classList.contains(\"full\")){leaveFull();return;}\nroot.classList.add(\"full\");if(root.requestFullscreen)root.requestFullscreen().catch(()=>{});};let copied=\"\";const copy=()=>{copied=session.frame.lines;const done=()=>{put(\"copy\",\"Copied\");setTimeout(()=>put(\"copy\",\"Copy as text\"),1500);};const instead=()=>document.execCommand(\"copy\")&&done();if(navigator.clipboard)navigator.clipboard.writeText(copied).then(done,instead);else instead();};const selected=()=>{const range=getSelection().rangeCount?getSelection().getRangeAt(0):null;const within=range&&range.commonAncestorContainer;const svg=within&&(within.closest?within:within.parentNode).closest(\"section > svg\");if(!svg||range.collapsed)return\"\";const rows=[];for(const text of svg.querySelectorAll(\"text\")){if(!range.intersectsNode(text))continue;const node=text.firstChild;const from=node===range.startContainer?range.startOffset:0;const to=node===range.endContainer?range.endOffset:node.data.length;const row=(text.getAttribute(\"y\")-16)/(text.hasAttribute(\"transform\")?10:20);rows[row]=(rows[row]||\"\").padEnd(text.getAttribute(\"x\")/12+from)+node.data.slice(from,to);}\nreturn Array.from(rows.slice(rows.findIndex((row)=>row)),(row)=>row||\"\").join(\"\\n\");};document.addEventListener(\"copy\",(event)=>{const text=copied||selected();copied=\"\";if(!text)return;event.preventDefault();event.clipboardData.setData(\"text/plain\",text);});const pressPad=(button,byMouse)=>{stop();if(byMouse)button.blur();typed(button.value);};document.addEventListener(\"click\",(event)=>{if(event.ctrlKey||event.metaKey||event.shiftKey)return;const clicked=(selector)=>event.target.closest(selector);const button=clicked(\".pad button\");const link=clicked(\"a\");const section=clicked(\"section\");if(button)pressPad(button,event.detail>0);else if(clicked(\"#again\"))begin(Frame.start().id,true);else if(clicked(\"#copy\"))copy();else if(clicked(\"#full\"))turnFull();else if(view===\"frames\"&&section){event.preventDefault();open(section.id);}else if(link){event.preventDefault();if(link.dataset.view)turnTo(link.dataset.view);else if(link.dataset.script!==undefined)replay(link.dataset.script);else if(link.id===\"offer\")begin(link.hash.slice(1),true);else{stop();session.command=\"\";typed(link.dataset.key);}}});const escape=()=>{stop();leaveFull();if(session)session.command=\"\";if(view===\"caller\")draw();else turnTo(\"caller\");};const erase=()=>{stop();if(!session.command){typed(\"*#\");return;}\nsession.command=session.command.slice(0,-1);draw();};const inCaller=(key,on)=>{if(/^[0-9#*]$/.test(key)){stop();typed(key);}else if(key===\"Enter\"&&!on.closest(\"a, button\")){stop();typed(\"#\");}else if(key===\"Backspace\")erase();else if(key===\"f\")turnFull();else return false;return true;};const inFrames=(key,on)=>{const section=on.closest(\"section\");if(key===\"Enter\"&&section)open(section.id);else if(key===\"Enter\"&&on.id===\"search\"){const found=document.querySelector(\"section:not(.out)\");if(found)open(found.id);}else if(key===\"/\"&&on.id!==\"search\")byId(\"search\").focus();else return false;return true;};document.addEventListener(\"keydown\",(event)=>{if(event.ctrlKey||event.metaKey||event.altKey||!session)return;const{key,target}=event;const act={caller:inCaller,frames:inFrames}[view];if(key===\"Escape\")escape();else if(act&&act(key,target))event.preventDefault();});addEventListener(\"beforeprint\",()=>{for(const section of document.querySelectorAll(\"section\")){const frame=new Frame(section);frame.label();frame.labelWays();}});document.addEventListener(\"fullscreenchange\",()=>{if(!document.fullscreenElement)root.classList.remove(\"full\");});byId(\"search\").addEventListener(\"input\",search);const visit=(state)=>{const address=location.hash.slice(1);const isView=[\"\",\"caller\",...VIEWS].includes(address);const earlier=Session.of(state&&state.session);view=VIEWS.includes(address)?address:\"caller\";if(earlier&&(isView||address===earlier.at))session=earlier;else if(Frame.of(address))session=Session.to(address);else session=session||Session.to(Frame.start().id);if(!isView&&!Frame.of(address))session.say(`no frame ${address} in this file`,\"bad\");};addEventListener(\"popstate\",(event)=>{if(!session)return;stop();visit(event.state);draw();remember(false);});const faults=document.querySelectorAll(\"ul.faults li\").length;root.classList.add(\"js\");put(\"count\",faults?` ${faults}`:\"\");if(Frame.first()){const unopened=document.querySelector(\"body > .faults li\");const named=Frame.of(location.hash.slice(1));visit(history.state);if(unopened&&!named)session.say(unopened.textContent,\"bad\");put(\"again\",`Back to ${Frame.start().id}`);remember(false);}\ndraw();})();</script>\n</body>\n</html>\n"
