@@ -430,19 +430,24 @@
     if (root.requestFullscreen) root.requestFullscreen().catch(() => {});
   };
 
-  // What is on the clipboard after a copy: the lines of the screen, or those of what is selected in it.
+  // What the next copy puts on the clipboard, in place of what is selected.
   let copied = "";
   const copy = () => {
-    copied = session.frame.lines;
+    const { lines } = session.frame;
     const done = () => {
       put("copy", "Copied");
       setTimeout(() => put("copy", "Copy as text"), 1500);
     };
-    const instead = () => document.execCommand("copy") && done();
-    if (navigator.clipboard) navigator.clipboard.writeText(copied).then(done, instead);
+    const instead = () => {
+      copied = lines;
+      if (document.execCommand("copy")) done();
+      copied = "";
+    };
+    if (navigator.clipboard) navigator.clipboard.writeText(lines).then(done, instead);
     else instead();
   };
 
+  // The lines of what is selected in a picture, in which each word is a text of its own.
   const selected = () => {
     const range = getSelection().rangeCount ? getSelection().getRangeAt(0) : null;
     const within = range && range.commonAncestorContainer;
@@ -462,7 +467,6 @@
 
   document.addEventListener("copy", (event) => {
     const text = copied || selected();
-    copied = "";
     if (!text) return;
     event.preventDefault();
     event.clipboardData.setData("text/plain", text);
@@ -480,6 +484,7 @@
     const clicked = (selector) => event.target.closest(selector);
     const button = clicked(".pad button");
     const link = clicked("a");
+    const way = clicked("[data-key]");
     const section = clicked("section");
     if (button) pressPad(button, event.detail > 0);
     else if (clicked("#again")) begin(Frame.start().id, true);
@@ -488,16 +493,16 @@
     else if (view === "frames" && section) {
       event.preventDefault();
       open(section.id);
+    } else if (way) {
+      event.preventDefault();
+      stop();
+      session.command = "";
+      typed(way.dataset.key);
     } else if (link) {
       event.preventDefault();
       if (link.dataset.view) turnTo(link.dataset.view);
-      else if (link.dataset.script !== undefined) replay(link.dataset.script);
       else if (link.id === "offer") begin(link.hash.slice(1), true);
-      else {
-        stop();
-        session.command = "";
-        typed(link.dataset.key);
-      }
+      else replay(link.dataset.script);
     }
   });
 
