@@ -2,8 +2,8 @@
 use Rattle.std.specs.Prelude.{ℕ, List, [], ◌++◌, Option, Some, None, codes, decimal}
 use Rattle.page_ids.specs.Ids.{page_text}
 use Rattle.base_text.specs.declared.fault.BaseFault.{BaseFault}
-use Rattle.base_text.specs.declared.fault.Cause.{Cause}
-use Rattle.base_text.specs.declared.fault.Cause.TheVariants as cause
+use Rattle.base_text.specs.declared.fault.BaseCause.{BaseCause}
+use Rattle.base_text.specs.declared.fault.BaseCause.TheVariants as cause
 use Rattle.base_text.specs.Fields.{field_name}
 use Rattle.cert_text.specs.declared.fault.LineCause.{LineCause}
 use Rattle.cert_text.specs.declared.fault.LineCause.TheVariants as line_cause
@@ -11,10 +11,10 @@ use Rattle.cert_text.specs.declared.fault.ReadFault.{ReadFault}
 use Rattle.cert_text.specs.declared.fault.ReadFault.TheVariants as read
 use Rattle.audit_report.specs.declared.run_fault.RunFault.{RunFault}
 use Rattle.audit_report.specs.declared.run_fault.RunFault.TheVariants as run
-use Rattle.audit_report.specs.Lines.{line, with_id}
+use Rattle.audit_report.specs.Lines.{ended_line, with_id}
 
 -- why a text is no base: code, name and argument
-abbrev pub base_cause_text : Cause → List ℕ
+abbrev pub base_cause_text : BaseCause → List ℕ
 base_cause_text cause.TooLong = codes "X1 TooLong"
 base_cause_text cause.NotToml = codes "X2 NotToml"
 base_cause_text cause.UnknownKey = codes "X3 UnknownKey"
@@ -55,7 +55,7 @@ base_fault_text edition fault = edition ++ (base_place_text fault.frame ++ base_
 
 -- what is wrong with a certificate's text, after the same
 abbrev pub cert_fault_text : List ℕ → ReadFault → List ℕ
-cert_fault_text edition (read.Line n c) = edition ++ ((codes "certificate: line " ++ decimal n) ++ (codes ": " ++ line_cause_text c))
+cert_fault_text edition (read.Line n c) = edition ++ ((codes "certificate: ended_line " ++ decimal n) ++ (codes ": " ++ line_cause_text c))
 cert_fault_text edition read.Failed = edition ++ codes "certificate: failed"
 cert_fault_text edition read.Memory = codes "memory refused"
 
@@ -75,4 +75,4 @@ fault_words run.Memory = codes "memory refused"
 
 -- the one line that reports a fault
 abbrev pub fault_text : RunFault → List ℕ
-fault_text fault = line (fault_words fault)
+fault_text fault = ended_line (fault_words fault)

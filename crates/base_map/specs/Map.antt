@@ -5,7 +5,7 @@ use Rattle.page_ids.specs.Ids.{Id, id_eq}
 use Rattle.frame_records.specs.declared.frame.Frame.{Frame}
 use Rattle.frame_records.specs.Bases.{BaseView, frame_at}
 use Rattle.finder.specs.Finds.{IsReached, has_id}
-use Rattle.base_map.specs.Edges.{edge_lines_of, lost_lines, MapView, shown, targets_of, keys_to}
+use Rattle.base_map.specs.Edges.{edge_lines_of, lost_lines, MapView, frames_shown, targets_of, keys_to}
 use Rattle.base_map.specs.Nodes.{cluster_lines}
 use Rattle.page_ids.specs.declared.way.Way.{Way}
 use Rattle.page_ids.specs.Ways.{way_key}
@@ -18,16 +18,16 @@ pub record AreReached (caller : List ℕ) (base : BaseView) (ids : List Id) : Ty
   pub each : (id : Id) → IsReached caller base id ↔ (has_id ids id ≡ true)
 
 -- what comes before all nodes
-abbrev pub head : List ℕ
-head = codes "digraph {\n  rankdir=LR\n  newrank=true\n  node [shape=box]\n"
+abbrev pub map_head : List ℕ
+map_head = codes "digraph {\n  rankdir=LR\n  newrank=true\n  node [shape=box]\n"
 
 -- the head, the nodes of frames by pages, the nodes of what the base lacks, the edges, and the end
 abbrev pub lines_of : MapView → List Frame → List ℕ
-lines_of m frames = head ++ cluster_lines m None frames ++ lost_lines m frames ++ flat_map (edge_lines_of m) frames ++ codes "}\n"
+lines_of m frames = map_head ++ cluster_lines m None frames ++ lost_lines m frames ++ flat_map (edge_lines_of m) frames ++ codes "}\n"
 
 -- of the frames that are shown
 abbrev pub map_lines : MapView → List ℕ
-map_lines m = lines_of m (shown m m.base.frames)
+map_lines m = lines_of m (frames_shown m m.base.frames)
 
 -- a map of the part of a base, for a caller
 pub record IsMap (base : BaseView) (caller : List ℕ) (part : Option (List Id)) (text : List ℕ) : Type 0 where

@@ -2,10 +2,10 @@
 
 ghost use Rattle.std.specs.Prelude.{◌≡◌, ◌++◌, true, OnOk};
 ghost use Rattle.std.specs.List.{flat_map};
-ghost use Rattle.base_map.specs.Edges.{shown};
+ghost use Rattle.base_map.specs.Edges.{frames_shown};
 ghost use Rattle.base_map.specs.Edges as spec;
 
-use crate::drawing::Drawing;
+use crate::drawing::MapDrawing;
 use crate::lost::push_name;
 use crate::targets::targets_of;
 use frame_records::Frame;
@@ -14,7 +14,7 @@ use std::alloc::{AllocError, Global};
 
 // The keys of a frame's ways that seek an id, with a space between them.
 fn push_keys_to(out: &mut Vec<u8>, frame: &Frame, to: FrameId) -> Result<(), AllocError>
-    ensures { OnOk result (out.new.items ≡ out.old.items ++ spec.spaced true (spec.keys_to frame.now to)) }
+    ensures { OnOk result (out.new.items ≡ out.old.items ++ spec.spaced_keys true (spec.keys_to frame.now to)) }
 {
     let mut is_first = true;
     for place in 0..Way::COUNT {
@@ -29,7 +29,7 @@ fn push_keys_to(out: &mut Vec<u8>, frame: &Frame, to: FrameId) -> Result<(), All
     Ok(())
 }
 
-impl<'a> Drawing<'a> {
+impl<'a> MapDrawing<'a> {
     fn push_edge(&self, out: &mut Vec<u8>, frame: &Frame, to: FrameId) -> Result<(), AllocError>
         ensures { OnOk result (out.new.items ≡ out.old.items ++ spec.edge_line self.now frame.now to) }
     {
@@ -78,7 +78,7 @@ impl<'a> Drawing<'a> {
         frames: &[Frame],
     ) -> Result<(), AllocError>
         ensures { OnOk result (out.new.items ≡ out.old.items
-            ++ flat_map (spec.edge_lines_of self.now) (shown self.now frames.now)) }
+            ++ flat_map (spec.edge_lines_of self.now) (frames_shown self.now frames.now)) }
     {
         for frame in frames {
             if self.part.shows(frame.id) {

@@ -4,10 +4,10 @@ ghost use Rattle.std.specs.Prelude.{◌≡◌, ◌++◌, OnOk, IfOk, filter};
 ghost use Rattle.std.specs.List.{flat_map};
 ghost use Rattle.indexmap.specs.IndexSet.{insert_all};
 ghost use Rattle.page_ids.specs.Ids.{id_eq};
-ghost use Rattle.base_map.specs.Edges.{is_lacked, shown};
+ghost use Rattle.base_map.specs.Edges.{is_lacked, frames_shown};
 ghost use Rattle.base_map.specs.Edges as spec;
 
-use crate::drawing::Drawing;
+use crate::drawing::MapDrawing;
 use crate::targets::targets_of;
 use frame_records::{Base, Frame};
 use indexmap::IndexSet;
@@ -57,7 +57,7 @@ fn push_lost_nodes(out: &mut Vec<u8>, base: &Base, ids: &[FrameId]) -> Result<()
     Ok(())
 }
 
-impl<'a> Drawing<'a> {
+impl<'a> MapDrawing<'a> {
     fn add_lost(&self, targets: &[FrameId], lost: &mut IndexSet<FrameId>) -> Result<(), AllocError>
         ensures { OnOk result
             (lost.new.keys ≡ insert_all id_eq lost.old.keys (filter (is_lacked self.now.base) targets.now)) }
@@ -91,7 +91,7 @@ impl<'a> Drawing<'a> {
         first: IndexSet<FrameId>,
     ) -> Result<IndexSet<FrameId>, AllocError>
         ensures { IfOk result (λ lost. lost.keys ≡
-            insert_all id_eq first.keys (flat_map (spec.lost_of self.now.base) (shown self.now frames.now))) }
+            insert_all id_eq first.keys (flat_map (spec.lost_of self.now.base) (frames_shown self.now frames.now))) }
     {
         let mut lost = first;
         for frame in frames {
@@ -104,7 +104,7 @@ impl<'a> Drawing<'a> {
 
     // The entry frame, and what ways seek.
     fn lost(&self, alloc: Global, frames: &[Frame]) -> Result<IndexSet<FrameId>, AllocError>
-        ensures { IfOk result (λ lost. lost.keys ≡ spec.lost self.now (shown self.now frames.now)) }
+        ensures { IfOk result (λ lost. lost.keys ≡ spec.lost self.now (frames_shown self.now frames.now)) }
     {
         let first = self.lost_entry(alloc)?;
         self.with_lost(alloc, frames, first)
@@ -117,7 +117,7 @@ impl<'a> Drawing<'a> {
         out: &mut Vec<u8>,
         frames: &[Frame],
     ) -> Result<(), AllocError>
-        ensures { OnOk result (out.new.items ≡ out.old.items ++ spec.lost_lines self.now (shown self.now frames.now)) }
+        ensures { OnOk result (out.new.items ≡ out.old.items ++ spec.lost_lines self.now (frames_shown self.now frames.now)) }
     {
         let lost = self.lost(alloc, frames)?;
         push_lost_nodes(out, self.base, lost.as_slice())

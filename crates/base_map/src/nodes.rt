@@ -1,10 +1,10 @@
 //! The nodes of frames, by pages.
 
 ghost use Rattle.std.specs.Prelude.{◌≡◌, ◌++◌, OnOk, Some, None};
-ghost use Rattle.base_map.specs.Edges.{shown};
+ghost use Rattle.base_map.specs.Edges.{frames_shown};
 ghost use Rattle.base_map.specs.Nodes as spec;
 
-use crate::drawing::Drawing;
+use crate::drawing::MapDrawing;
 use crate::title::push_title;
 use frame_records::Frame;
 use page_ids::{PageNo, push_id, push_number, push_page};
@@ -45,7 +45,7 @@ fn push_close(out: &mut Vec<u8>, page: Option<PageNo>) -> Result<(), AllocError>
 
 // Ends the cluster of a page, and begins that of the next, if it is another.
 fn push_turn(out: &mut Vec<u8>, before: Option<PageNo>, page: PageNo) -> Result<(), AllocError>
-    ensures { OnOk result (out.new.items ≡ out.old.items ++ spec.turned before page) }
+    ensures { OnOk result (out.new.items ≡ out.old.items ++ spec.page_turned before page) }
 {
     if before == Some(page) {
         return Ok(());
@@ -54,11 +54,11 @@ fn push_turn(out: &mut Vec<u8>, before: Option<PageNo>, page: PageNo) -> Result<
     push_open(out, page)
 }
 
-impl<'a> Drawing<'a> {
+impl<'a> MapDrawing<'a> {
     // How a frame's node is drawn: the entry frame has two lines round it, what is closed is red, what isn't reached is
     // dashed.
     fn push_marks(&self, out: &mut Vec<u8>, frame: &Frame) -> Result<(), AllocError>
-        ensures { OnOk result (out.new.items ≡ out.old.items ++ spec.marks self.now frame.now) }
+        ensures { OnOk result (out.new.items ≡ out.old.items ++ spec.node_marks self.now frame.now) }
     {
         if frame.id == self.base.entry_frame() {
             out.extend_from_slice(b" peripheries=2")?;
@@ -92,7 +92,7 @@ impl<'a> Drawing<'a> {
         frames: &[Frame],
     ) -> Result<(), AllocError>
         ensures { OnOk result (out.new.items ≡ out.old.items
-            ++ spec.cluster_lines self.now None (shown self.now frames.now)) }
+            ++ spec.cluster_lines self.now None (frames_shown self.now frames.now)) }
     {
         let mut page = None;
         for frame in frames {

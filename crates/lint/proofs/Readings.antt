@@ -7,27 +7,27 @@ use Rattle.frame_records.specs.declared.build.BuildFault.TheVariants as build
 use Rattle.frame_records.specs.Bases.{BaseView, IsBaseOf, IsBuildFault, IsBuilt}
 use Rattle.base_text.specs.declared.limits.TheConstants.{MOST_TEXT}
 use Rattle.base_text.specs.declared.fault.BaseFault.{BaseFault}
-use Rattle.base_text.specs.declared.fault.Cause.{Cause}
-use Rattle.base_text.specs.declared.fault.Cause.TheVariants as cause
+use Rattle.base_text.specs.declared.fault.BaseCause.{BaseCause}
+use Rattle.base_text.specs.declared.fault.BaseCause.TheVariants as cause
 use Rattle.base_text.specs.declared.detail.TextFault.{TextFault}
 use Rattle.base_text.specs.declared.whole_fault.WholeFault.{WholeFault}
-use Rattle.base_text.specs.Drafts.{DraftView, framed, draft_of, text_faults, BeginAlike, base_fault}
+use Rattle.base_text.specs.Drafts.{DraftView, framed, draft_of, text_faults, BeginAlike, draft_fault}
 use Rattle.base_text.specs.Frames.{top_fault}
-use Rattle.base_text.specs.Whole.{PartsView, parts_or, parts_of, table_parts, tree_parts, tree_of, build_cause, IsWholeCause, IsFaultOf}
+use Rattle.base_text.specs.Whole.{PartsView, parts_or, listed_parts, table_parts, tree_parts, tree_of, build_cause, IsWholeCause, IsFaultOf}
 use Rattle.base_text.specs.WholeFaults.{AreWholeFaults, Agrees, build_fault, whole_cause}
 use Rattle.base_text.proofs.KeptDetails.{begin_alike}
 use Rattle.base_text.proofs.SoundFrames as lemmas
 use Rattle.base_text.proofs.WholeAgreements.{all_agree}
 use Rattle.lint.specs.Lint.{Subject, Length, Toml, Text, Whole, faulty, AreTreeSubjects, AreSubjects}
-use Rattle.lint.specs.Laws.{IsAnswer, answer_of}
+use Rattle.lint.specs.Laws.{IsReadAnswer, answer_of}
 
 -- the refusal of a whole that has the cause
-pub record IsRefusal (outside : List ℕ) (frames : List Frame) (c : Cause) : Type 0 where
+pub record IsRefusal (outside : List ℕ) (frames : List Frame) (c : BaseCause) : Type 0 where
   pub fault : BuildFault
   pub same : build_cause fault ≡ c
   pub is : IsBuildFault outside frames fault
 
-pub refusal : (outside : List ℕ) (frames : List Frame) (c : Cause) → IsWholeCause outside frames c → IsRefusal outside frames c
+pub refusal : (outside : List ℕ) (frames : List Frame) (c : BaseCause) → IsWholeCause outside frames c → IsRefusal outside frames c
 refusal outside frames cause.TooMany h = record { fault = build.TooMany; same = refl; is = h }
 refusal outside frames (cause.BodyTooLong id) h = record { fault = build.BodyTooLong id; same = refl; is = h }
 refusal outside frames (cause.NextAfterZ id) h = record { fault = build.NextAfterZ id; same = refl; is = h }
@@ -45,7 +45,7 @@ refusal outside frames cause.RowTooLong h = absurd h
 refusal outside frames cause.RowCode h = absurd h
 refusal outside frames cause.BadFrame h = absurd h
 
-at_top : (fault : BaseFault) (c : Cause) → c ≡ fault.cause → fault.frame ≡ None → top_fault c ≡ fault
+at_top : (fault : BaseFault) (c : BaseCause) → c ≡ fault.cause → fault.frame ≡ None → top_fault c ≡ fault
 at_top fault c same top = ap top_fault same ∙ ap (λ (frame : Option ℕ). record { frame = frame; cause = fault.cause }) (sym top)
 
 -- what base_read answers for what a text lists, or for its own first fault
@@ -102,7 +102,7 @@ module _ (ms : Members) (whole : List WholeFault) where
       on [] [] e alike b = entered d.entry refl (lemmas.entry ms e) b
       on [] (u ∷ us) e alike b = absurd alike
       on (t ∷ ts) [] e alike b = absurd alike
-      on (t ∷ ts) (u ∷ us) e alike b = of_itself (base_fault u) (Text t) _ answer alike b
+      on (t ∷ ts) (u ∷ us) e alike b = of_itself (draft_fault u) (Text t) _ answer alike b
 
 of_tree : (text : List ℕ) (tree : Option Members) (subjects : List Subject) (answer : Result BaseView BaseFault) → AreTreeSubjects text tree subjects
     → IsAnswerTo (tree_parts tree) answer → Agrees answer_of answer subjects
@@ -110,13 +110,13 @@ of_tree text None subjects answer are a = subst (Agrees answer_of answer) (sym a
 of_tree text (Some ms) subjects answer are a = subst (Agrees answer_of answer) (sym are.2) (of_draft ms are.0 are.1 answer a)
 
 -- nothing is wrong with a text if base_read answers a base; else the first is what it answers
-pub agreed : (text : List ℕ) (subjects : List Subject) (answer : Result BaseView BaseFault) → AreSubjects text subjects → IsAnswer text answer
+pub agreed : (text : List ℕ) (subjects : List Subject) (answer : Result BaseView BaseFault) → AreSubjects text subjects → IsReadAnswer text answer
     → Agrees answer_of answer subjects
 agreed text subjects answer are a = on (nat_lt MOST_TEXT (length text)) refl (as_parts answer a) where
-  as_parts : (r : Result BaseView BaseFault) → IsAnswer text r → IsAnswerTo (parts_of text) r
+  as_parts : (r : Result BaseView BaseFault) → IsReadAnswer text r → IsAnswerTo (listed_parts text) r
   as_parts (Ok base) b = b
   as_parts (Err fault) b = b
 
-  on : (long : Bool) → nat_lt MOST_TEXT (length text) ≡ long → IsAnswerTo (parts_of text) answer → Agrees answer_of answer subjects
+  on : (long : Bool) → nat_lt MOST_TEXT (length text) ≡ long → IsAnswerTo (listed_parts text) answer → Agrees answer_of answer subjects
   on true e b = subst (Agrees answer_of answer) (sym (rw e at are)) (of_itself (top_fault cause.TooLong) Length [] answer refl (rw e at b))
   on false e b = of_tree text (tree_of text) subjects answer (rw e at are) (rw e at b)

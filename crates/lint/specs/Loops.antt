@@ -8,7 +8,7 @@ use Rattle.fault_scripts.specs.Faults.{AreFaults}
 use Rattle.lint.specs.declared.audit_findings.Audit.{Audit}
 use Rattle.lint.specs.Lookups.{value_of}
 use Rattle.lint.specs.Looks.{looks_of}
-use Rattle.lint.specs.Lint.{Toml, ranks_of, unreached, finds_none, ids_of, finding_of, IsWithin}
+use Rattle.lint.specs.Lint.{Toml, ranks_of, unreached, finds_none, frame_ids, finding_of, IsSpanWithin}
 use Rattle.page_ids.specs.Ids.{Id, id_eq}
 use Rattle.fault_scripts.specs.declared.fault.Fault.{Fault}
 use Rattle.lint.specs.declared.looks.Look.{Look}
@@ -27,7 +27,7 @@ use Rattle.indexmap.specs.IndexMap.{get}
 use Rattle.lint.specs.declared.lookup.Lookup.{Lookup}
 use Rattle.lint.specs.declared.outside.OutsidePages.{OutsidePages}
 use Rattle.lint.specs.Outside.{page_at}
-use Rattle.toml_places.specs.declared.spans.Spot.{Spot}
+use Rattle.toml_places.specs.declared.spans.KeyPlace.{KeyPlace}
 use Rattle.toml_places.specs.declared.places.Places.{Places}
 use Rattle.std.specs.Option.{option_or}
 use Rattle.lint.specs.declared.tables.TableKeys.{TableKeys}
@@ -38,16 +38,16 @@ use Rattle.lint.specs.declared.tables.TextTables.{TextTables}
 -- What a lookup knows.
 
 -- these values are known
-abbrev pub Knows : {V : Type 0} → List (Id × V) → Lookup V → Type 0
-Knows pairs known = (id : Id) → get id_eq known.map id ≡ value_of pairs id
+abbrev pub KnowsValues : {V : Type 0} → List (Id × V) → Lookup V → Type 0
+KnowsValues pairs known = (id : Id) → get id_eq known.map id ≡ value_of pairs id
 
 -- What the code knows of a text's tables.
 
 -- where the keys of a table are first written, and those of its `routes` that are dotted keys or headers
 pub record KeysView : Type 0 where
   pub frame : Option ℕ
-  pub key : List ℕ → Option Spot
-  pub dotted : List ℕ → Option Spot
+  pub key : List ℕ → Option KeyPlace
+  pub dotted : List ℕ → Option KeyPlace
 
 -- the keys of a table of the text
 abbrev pub keys_of : List ℕ → List Mark → Option ℕ → KeysView
@@ -58,7 +58,7 @@ abbrev pub IsTable : List ℕ → List Mark → TableView → Type 0
 IsTable text ms t = t ≡ table_at text ms t.frame
 
 -- the key below `routes` that the places keep; the top has none
-abbrev pub route_kept : Places → Option ℕ → List ℕ → Option Spot
+abbrev pub route_kept : Places → Option ℕ → List ℕ → Option KeyPlace
 route_kept p None key = None
 route_kept p (Some k) key = kept_route p k key
 
@@ -71,8 +71,8 @@ seen_keys t = record {
 }
 
 -- a table of the code
-abbrev pub seen : TableSpots → TableView
-seen t = record {
+abbrev pub table_seen : TableSpots → TableView
+table_seen t = record {
   text = t.text.now;
   frame = t.keys.frame;
   whole = t.whole;
@@ -94,12 +94,12 @@ pub record KnowsTables (ms : List Mark) (t : TextTables) : Type 0 where
 -- What the code knows of the elements of `outside`.
 
 -- the element that is kept of a page
-abbrev pub listed : OutsidePages → ℕ → Option Span
-listed pages page = get nat_eq pages.spans page
+abbrev pub element_kept : OutsidePages → ℕ → Option Span
+element_kept pages page = get nat_eq pages.spans page
 
 -- it is the first that the text has
 abbrev pub Lists : TableView → OutsidePages → Type 0
-Lists t pages = (page : ℕ) → listed pages page ≡ page_at t page
+Lists t pages = (page : ℕ) → element_kept pages page ≡ page_at t page
 
 -- What an audit has found, and what is known of the text beside it.
 
@@ -109,9 +109,9 @@ pub record IsAudit (base : BaseView) (policy : Policy) (audit : Audit) : Type 0 
   pub faults : AreFaults base policy audit.faults
   pub reached : FindsReached policy.groups base found
   pub least : RanksAreLeast policy.groups base found
-  pub known : Knows (ranks_of found) audit.ranks
+  pub known : KnowsValues (ranks_of found) audit.ranks
   pub finds_none : audit.finds_none ≡ finds_none found
-  pub unreached : audit.unreached.items ≡ ids_of (unreached policy.groups (ranks_of found) base.frames)
+  pub unreached : audit.unreached.items ≡ frame_ids (unreached policy.groups (ranks_of found) base.frames)
   pub looks : audit.looks.items ≡ looks_of base.frames
 
 -- nothing was found
@@ -122,14 +122,14 @@ is_clear faults ids looks = false
 -- what the sources know
 pub record AreKnown (ms : List Mark) (tables : List (Id × ℕ)) (sources : Sources) : Type 0 where
   pub places : KnowsTables ms sources.text.now
-  pub knows : Knows tables sources.tables
+  pub knows : KnowsValues tables sources.tables
 
 -- What the steps of lint say.
 
 -- the one finding of a text that isn't TOML
 abbrev pub IsNotToml : List ℕ → List FindingView → Type 0
 IsNotToml text findings =
-    (span : Span) × (message : List ℕ) × IsWithin text span × (findings ≡ map (finding_of text) (Toml span message ∷ []))
+    (span : Span) × (message : List ℕ) × IsSpanWithin text span × (findings ≡ map (finding_of text) (Toml span message ∷ []))
 
 -- the draft of the TOML of a text that isn't too long
 abbrev pub IsDraftOf : List ℕ → DraftView → Type 0

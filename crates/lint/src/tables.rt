@@ -5,10 +5,10 @@ ghost use Rattle.std.specs.List.{prefix_len};
 ghost use Rattle.toml_places.specs.Places.{Mark, Keeps, key_in, route_in};
 ghost use Rattle.lint.specs.Tables as spec;
 ghost use Rattle.lint.specs.Loops as loops;
-ghost use Rattle.lint.specs.Loops.{InlineKeeps, KnowsTables, IsTable, seen_keys, seen};
+ghost use Rattle.lint.specs.Loops.{InlineKeeps, KnowsTables, IsTable, seen_keys, table_seen};
 
 use std::alloc::{AllocError, Global};
-use toml_places::{Places, Span, Spot, TablePlaces, element_spans, frame_span, value_span};
+use toml_places::{KeyPlace, Places, Span, TablePlaces, element_spans, frame_span, value_span};
 
 // The keys of a table: of the top, or of the frame of an index.
 #[derive(Drop)]
@@ -61,14 +61,14 @@ fn line_one(text: &str) -> Span
     Span { begin: 0, end }
 }
 
-fn value_at(text: &str, spot: Option<Spot>) -> Option<Span>
+fn value_at(text: &str, spot: Option<KeyPlace>) -> Option<Span>
     ensures { result ≡ spec.value_at text.now spot }
 {
     value_span(text, spot?)
 }
 
 // The elements of the array at a key.
-fn elements_at(alloc: Global, text: &str, spot: Option<Spot>) -> Result<Vec<Span>, AllocError>
+fn elements_at(alloc: Global, text: &str, spot: Option<KeyPlace>) -> Result<Vec<Span>, AllocError>
     ensures { IfOk result (λ spans. (k : ℕ) → slice_get spans.items k ≡ spec.element_at text.now spot k) }
 {
     match value_at(text, spot) {
@@ -91,7 +91,7 @@ fn inline_table(
     }
 }
 
-fn key_in(table: &Option<TablePlaces>, key: &str) -> Option<Spot>
+fn key_in(table: &Option<TablePlaces>, key: &str) -> Option<KeyPlace>
     ensures { result ≡ key_in table.now key.now }
 {
     match table {
@@ -100,7 +100,7 @@ fn key_in(table: &Option<TablePlaces>, key: &str) -> Option<Spot>
     }
 }
 
-fn route_in(table: &Option<TablePlaces>, key: &str) -> Option<Spot>
+fn route_in(table: &Option<TablePlaces>, key: &str) -> Option<KeyPlace>
     ensures { result ≡ route_in table.now key.now }
 {
     match table {
@@ -109,7 +109,7 @@ fn route_in(table: &Option<TablePlaces>, key: &str) -> Option<Spot>
     }
 }
 
-fn route_kept(places: &Places, frame: Option<usize>, key: &str) -> Option<Spot>
+fn route_kept(places: &Places, frame: Option<usize>, key: &str) -> Option<KeyPlace>
     ensures { result ≡ loops.route_kept places.now frame key.now }
 {
     match frame {
@@ -119,7 +119,7 @@ fn route_kept(places: &Places, frame: Option<usize>, key: &str) -> Option<Spot>
 }
 
 impl<'a> TableKeys<'a> {
-    fn key(&self, key: &str) -> Option<Spot>
+    fn key(&self, key: &str) -> Option<KeyPlace>
         ensures { result ≡ (seen_keys self.now).key key.now }
     {
         self.places
@@ -128,7 +128,7 @@ impl<'a> TableKeys<'a> {
     }
 
     // Where a key below `routes` is first written as a dotted key or a header.
-    fn dotted(&self, key: &str) -> Option<Spot>
+    fn dotted(&self, key: &str) -> Option<KeyPlace>
         ensures { result ≡ (seen_keys self.now).dotted key.now }
     {
         route_kept(self.places, self.frame, key).or(route_in(&self.inline, key))
@@ -143,41 +143,41 @@ impl<'a> TableKeys<'a> {
 
 impl<'a> TableSpots<'a> {
     pub fn text(&self) -> &str
-        ensures { result.now ≡ (seen self.now).text }
+        ensures { result.now ≡ (table_seen self.now).text }
     {
         self.text
     }
 
     // The frame of the table, by its index; none is the top.
     pub fn frame(&self) -> Option<usize>
-        ensures { result ≡ (seen self.now).frame }
+        ensures { result ≡ (table_seen self.now).frame }
     {
         self.keys.frame()
     }
 
     // The table as a whole: of the top line 1, of a frame its header or its braces.
     pub fn whole(&self) -> Span
-        ensures { result ≡ (seen self.now).whole }
+        ensures { result ≡ (table_seen self.now).whole }
     {
         self.whole
     }
 
-    pub fn key(&self, key: &str) -> Option<Spot>
-        ensures { result ≡ (seen self.now).key key.now }
+    pub fn key(&self, key: &str) -> Option<KeyPlace>
+        ensures { result ≡ (table_seen self.now).key key.now }
     {
         self.keys.key(key)
     }
 
     // Where a key below `routes` is first written.
-    pub fn route(&self, key: &str) -> Option<Spot>
-        ensures { result ≡ (seen self.now).route key.now }
+    pub fn route(&self, key: &str) -> Option<KeyPlace>
+        ensures { result ≡ (table_seen self.now).route key.now }
     {
         self.keys.dotted(key).or(key_in(&self.routes, key))
     }
 
     // An element of its list, by its index.
     pub fn item(&self, index: usize) -> Option<Span>
-        ensures { result ≡ (seen self.now).item index }
+        ensures { result ≡ (table_seen self.now).item index }
     {
         self.items.get(index).copied()
     }
@@ -267,7 +267,7 @@ impl<'a> TextTables<'a> {
 
     // The top, or the table of a frame.
     pub fn table(&self, alloc: Global, frame: Option<usize>) -> Result<TableSpots<'a>, AllocError>
-        ensures { IfOk result (λ table. (ms : List Mark) → KnowsTables ms self.now → seen table
+        ensures { IfOk result (λ table. (ms : List Mark) → KnowsTables ms self.now → table_seen table
             ≡ spec.table_at self.now.text.now ms frame) }
     {
         let keys = self.keys(alloc, frame)?;
@@ -290,8 +290,8 @@ impl<'a> TextTables<'a> {
         frame: Option<usize>,
     ) -> Result<(), AllocError>
         ensures turned { OnOk result ((ms : List Mark) → KnowsTables ms self.now
-            → IsTable self.now.text.now ms (seen table.old)
-            → seen table.new ≡ spec.table_at self.now.text.now ms frame) }
+            → IsTable self.now.text.now ms (table_seen table.old)
+            → table_seen table.new ≡ spec.table_at self.now.text.now ms frame) }
     {
         if table.frame() != frame {
             *table = self.table(alloc, frame)?;

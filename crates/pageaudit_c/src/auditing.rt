@@ -2,11 +2,11 @@ ghost use Rattle.std.specs.Prelude.{◌≡◌, ◌⊎◌};
 ghost use Rattle.base_text.specs.Whole.{IsTextBase};
 ghost use Rattle.audit_report.specs.Statuses.{status_of_outcome};
 ghost use Rattle.pageaudit_c.specs.Calls.{IsOutOfMemory, asked, IsAskedAnswer, IsCall, buffer};
-ghost use Rattle.pageaudit_c.specs.Audits.{IsReported, IsAuditAnswer};
+ghost use Rattle.pageaudit_c.specs.Audits.{IsAuditReported, IsAuditAnswer};
 
 use crate::answer::{Answer, bad_policy, fault_answer, lay_over, out_of_memory};
 use crate::policy::policy_of;
-use crate::status::Status;
+use crate::status::CallStatus;
 use audit_report::report;
 use checker::{Policy, base_of};
 use fault_scripts::audit;
@@ -16,7 +16,7 @@ use std::alloc::Global;
 // The report of the base of a text.
 fn reported(alloc: Global, base: &Base, policy: &Policy, text: &[u8]) -> Answer
     requires { IsTextBase text.now base.now }
-    ensures { IsReported text.now policy.now result.status result.text.items ⊎
+    ensures { IsAuditReported text.now policy.now result.status result.text.items ⊎
         IsOutOfMemory result.status result.text.items }
 {
     let outcome = match audit(alloc, base, policy) {
@@ -25,7 +25,7 @@ fn reported(alloc: Global, base: &Base, policy: &Policy, text: &[u8]) -> Answer
     };
     match report(alloc, &outcome) {
         Ok(text) => Answer {
-            status: Status::of(audit_report::Status::of_outcome(&outcome)),
+            status: CallStatus::of(audit_report::Status::of_outcome(&outcome)),
             text,
         },
         Err(_) => out_of_memory(alloc),

@@ -17,14 +17,14 @@ use Rattle.screens.specs.Table.{six}
 use Rattle.screens.specs.declared.layer.Ink.{Ink}
 use Rattle.screens.specs.declared.layer.Layer.{Layer}
 use Rattle.screens.specs.declared.layer.Layer.TheVariants.{Grounds, Mosaics, Letters}
-use Rattle.screens.specs.declared.mosaics.Part.{Part}
-use Rattle.screens.specs.declared.mosaics.Part.TheVariants.{Top, Middle, Bottom}
-use Rattle.screens.specs.declared.mosaics.Span.{Span}
+use Rattle.screens.specs.declared.mosaics.Third.{Third}
+use Rattle.screens.specs.declared.mosaics.Third.TheVariants.{Top, Middle, Bottom}
+use Rattle.screens.specs.declared.mosaics.Units.{Units}
 use Rattle.screens.specs.declared.writing.Writing.TheVariants.{Markup}
 use Rattle.screens.specs.Writing.{written}
 use Rattle.screens.specs.Mosaics.{across, down, bits_of, rectangle, rectangles, part_path, mosaic_path, glyph_path, mosaics_path}
-use Rattle.screens.specs.Svg.{Piece, piece, newline, piece_bytes, markup, attribute, corner, extent, rgb, fill, flash_begin, group_end, flashing, ground, mosaics, stretched, spacing, letters_tag, letters, drawn, drawn_in, first_ink, run_pieces, goes_on, row_pieces, layer_pieces, svg_begin, title, blocks_begin, blocks, texts_begin, texts, touched, foot, svg_pieces, svg}
-use Rattle.screens.specs.Laws.{reading, tags_of, is_harmless, raw}
+use Rattle.screens.specs.Svg.{Piece, piece, newline, piece_bytes, markup, attribute, corner, svg_extent, rgb, fill, flash_begin, group_end, flashing, ground, mosaics, stretched, spacing, letters_tag, letters, drawn, drawn_in, first_ink, run_pieces, run_goes_on, row_pieces, layer_pieces, svg_begin, svg_title, blocks_begin, blocks, texts_begin, texts, touch_mark, svg_foot, svg_pieces, svg}
+use Rattle.screens.specs.Laws.{tags_reading, tags_of, is_harmless, raw}
 use Rattle.screens.proofs.Safe.{all_append, harmless, first_of, rest_of}
 
 -- Tags have no `<` and no `>`.
@@ -69,15 +69,15 @@ inner_corner : (x y : ℕ) → Inner (corner x y)
 unfolding corner
 inner_corner x y = joined (attribute (codes "x") x) (attribute (codes "y") y) (inner_attribute (codes "x") x refl) (inner_attribute (codes "y") y refl)
 
-inner_extent : (n : ℕ) → Inner (extent n)
-unfolding extent
+inner_extent : (n : ℕ) → Inner (svg_extent n)
+unfolding svg_extent
 inner_extent n = joined (attribute (codes "width") (12 * n)) (codes " height=\"20\"") (inner_attribute (codes "width") (12 * n) refl) refl
 
 -- a literal before a number
 put_number : (front : List ℕ) (n : ℕ) (last : List ℕ) → Inner front → Inner last → Inner (front ++ decimal n ++ last)
 put_number front n last h k = joined (front ++ decimal n) last (joined front (decimal n) h (inner_decimal n)) k
 
-inner_rectangle : (x y : ℕ) (wide high : Span) → Inner (rectangle x y wide high)
+inner_rectangle : (x y : ℕ) (wide high : Units) → Inner (rectangle x y wide high)
 inner_rectangle x y wide high =
     put_number (codes "M" ++ decimal (x + wide.start) ++ codes " " ++ decimal (y + high.start) ++ codes "h" ++ decimal wide.size ++ codes "v" ++ decimal high.size ++ codes "h-") wide.size (codes "z")
     (put_number (codes "M" ++ decimal (x + wide.start) ++ codes " " ++ decimal (y + high.start) ++ codes "h" ++ decimal wide.size ++ codes "v") high.size (codes "h-")
@@ -85,15 +85,15 @@ inner_rectangle x y wide high =
     (put_number (codes "M" ++ decimal (x + wide.start) ++ codes " ") (y + high.start) (codes "h")
     (put_number (codes "M") (x + wide.start) (codes " ") refl refl) refl) refl) refl) refl
 
-inner_wide : (x y : ℕ) (wide : List Span) (high : Span) → Inner (flat_map (λ w. rectangle x y w high) wide)
+inner_wide : (x y : ℕ) (wide : List Units) (high : Units) → Inner (flat_map (λ w. rectangle x y w high) wide)
 inner_wide x y [] high = refl
 inner_wide x y (w ∷ wide) high = joined (rectangle x y w high) (flat_map (λ v. rectangle x y v high) wide) (inner_rectangle x y w high) (inner_wide x y wide high)
 
-inner_rectangles : (x y : ℕ) (wide : List Span) (high : Option Span) → Inner (rectangles x y wide high)
+inner_rectangles : (x y : ℕ) (wide : List Units) (high : Option Units) → Inner (rectangles x y wide high)
 inner_rectangles x y wide None = refl
 inner_rectangles x y wide (Some high) = inner_wide x y wide high
 
-inner_part : (x y : ℕ) (height : Height) (m : Mosaic) (part : Part) → Inner (part_path x y height m part)
+inner_part : (x y : ℕ) (height : Height) (m : Mosaic) (part : Third) → Inner (part_path x y height m part)
 inner_part x y height m part = inner_rectangles x y (across m.separated (bits_of part (six m.sextants))) (down m.separated height part)
 
 inner_mosaic : (x y : ℕ) (height : Height) (m : Mosaic) → Inner (mosaic_path x y height m)
@@ -133,7 +133,7 @@ alone tag cs h = rw h refl
 ground_tags : (r c : ℕ) (run : List Look) (i : Ink) → Tags (ground r c run i)
 unfolding ground
 ground_tags r c run i =
-    alone (codes "rect" ++ corner (12 * c) (20 * r) ++ extent (length run) ++ fill i.colour ++ codes "/") newline (joined (codes "rect" ++ corner (12 * c) (20 * r) ++ extent (length run) ++ fill i.colour) (codes "/") (joined (codes "rect" ++ corner (12 * c) (20 * r) ++ extent (length run)) (fill i.colour) (joined (codes "rect" ++ corner (12 * c) (20 * r)) (extent (length run)) (joined (codes "rect") (corner (12 * c) (20 * r)) refl (inner_corner (12 * c) (20 * r))) (inner_extent (length run))) (inner_fill i.colour)) refl)
+    alone (codes "rect" ++ corner (12 * c) (20 * r) ++ svg_extent (length run) ++ fill i.colour ++ codes "/") newline (joined (codes "rect" ++ corner (12 * c) (20 * r) ++ svg_extent (length run) ++ fill i.colour) (codes "/") (joined (codes "rect" ++ corner (12 * c) (20 * r) ++ svg_extent (length run)) (fill i.colour) (joined (codes "rect" ++ corner (12 * c) (20 * r)) (svg_extent (length run)) (joined (codes "rect") (corner (12 * c) (20 * r)) refl (inner_corner (12 * c) (20 * r))) (inner_extent (length run))) (inner_fill i.colour)) refl)
 
 mosaics_tags : (r c : ℕ) (run : List Look) (i : Ink) → Tags (mosaics r c run i)
 unfolding mosaics
@@ -176,7 +176,7 @@ run_tags layer r c run = drawn_in_tags layer r c run (first_ink layer run)
 row_tags : (layer : Layer) (r c : ℕ) (run rest : List Look) → Tags (row_pieces layer r c run rest)
 row_tags layer r c run [] = run_tags layer r c run
 row_tags layer r c run (a ∷ rest) =
-    cond_both (goes_on layer run a) _ _ Tags (λ e. row_tags layer r c (run ++ a ∷ []) rest)
+    cond_both (run_goes_on layer run a) _ _ Tags (λ e. row_tags layer r c (run ++ a ∷ []) rest)
     (λ e. both (run_pieces layer r c run) (row_pieces layer r (c + length run) (a ∷ []) rest) (run_tags layer r c run) (row_tags layer r (c + length run) (a ∷ []) rest))
 
 layer_tags : (layer : Layer) (r : ℕ) (rows : List (List Look)) → Tags (layer_pieces layer r rows)
@@ -187,8 +187,8 @@ svg_begin_tags : Tags svg_begin
 unfolding svg_begin
 svg_begin_tags = refl
 
-title_tags : (id : Id) → Tags (title id)
-unfolding title
+title_tags : (id : Id) → Tags (svg_title id)
+unfolding svg_title
 title_tags id = refl
 
 blocks_begin_tags : Tags blocks_begin
@@ -199,8 +199,8 @@ texts_begin_tags : Tags texts_begin
 unfolding texts_begin
 texts_begin_tags = refl
 
-foot_tags : Tags foot
-unfolding foot
+foot_tags : Tags svg_foot
+unfolding svg_foot
 foot_tags = refl
 
 blocks_tags : (rows : List (List Look)) → Tags (blocks rows)
@@ -211,24 +211,24 @@ texts_tags : (rows : List (List Look)) → Tags (texts rows)
 texts_tags rows =
     both (texts_begin ++ layer_pieces Letters 0 rows) group_end (both texts_begin (layer_pieces Letters 0 rows) texts_begin_tags (layer_tags Letters 0 rows)) group_tags
 
-touched_tags : (cell : Option ℕ) → Tags (touched cell)
-unfolding touched
+touched_tags : (cell : Option ℕ) → Tags (touch_mark cell)
+unfolding touch_mark
 touched_tags None = refl
 touched_tags (Some p) =
-    alone (codes "rect class=\"touched\"" ++ corner (12 * (p % 40)) (20 * (p / 40)) ++ codes " width=\"12\" height=\"20\" fill=\"none\" stroke=\"#f00\" stroke-width=\"2\"/") newline (joined (codes "rect class=\"touched\"" ++ corner (12 * (p % 40)) (20 * (p / 40))) (codes " width=\"12\" height=\"20\" fill=\"none\" stroke=\"#f00\" stroke-width=\"2\"/") (joined (codes "rect class=\"touched\"") (corner (12 * (p % 40)) (20 * (p / 40))) refl (inner_corner (12 * (p % 40)) (20 * (p / 40)))) refl)
+    alone (codes "rect class=\"touch_mark\"" ++ corner (12 * (p % 40)) (20 * (p / 40)) ++ codes " width=\"12\" height=\"20\" fill=\"none\" stroke=\"#f00\" stroke-width=\"2\"/") newline (joined (codes "rect class=\"touch_mark\"" ++ corner (12 * (p % 40)) (20 * (p / 40))) (codes " width=\"12\" height=\"20\" fill=\"none\" stroke=\"#f00\" stroke-width=\"2\"/") (joined (codes "rect class=\"touch_mark\"") (corner (12 * (p % 40)) (20 * (p / 40))) refl (inner_corner (12 * (p % 40)) (20 * (p / 40)))) refl)
 
 pub svg_tags : (id : Id) (rows : List (List Look)) (cell : Option ℕ) → Tags (svg_pieces id rows cell)
 svg_tags id rows cell =
-    both (svg_begin ++ title id ++ blocks rows ++ texts rows ++ touched cell) foot (both (svg_begin ++ title id ++ blocks rows ++ texts rows) (touched cell) (both (svg_begin ++ title id ++ blocks rows) (texts rows) (both (svg_begin ++ title id) (blocks rows) (both svg_begin (title id) svg_begin_tags (title_tags id)) (blocks_tags rows)) (texts_tags rows)) (touched_tags cell)) foot_tags
+    both (svg_begin ++ svg_title id ++ blocks rows ++ texts rows ++ touch_mark cell) svg_foot (both (svg_begin ++ svg_title id ++ blocks rows ++ texts rows) (touch_mark cell) (both (svg_begin ++ svg_title id ++ blocks rows) (texts rows) (both (svg_begin ++ svg_title id) (blocks rows) (both svg_begin (svg_title id) svg_begin_tags (title_tags id)) (blocks_tags rows)) (texts_tags rows)) (touched_tags cell)) foot_tags
 
 -- The reader.
 
-in_tag : (tag since front rest : List ℕ) → Inner front → reading true tag since (front ++ 0x3E ∷ rest) ≡ reading false (tag ++ front) [] rest
-in_tag tag since [] rest h = ap (λ (t : List ℕ). reading false t [] rest) (sym (append-nil tag))
+in_tag : (tag since front rest : List ℕ) → Inner front → tags_reading true tag since (front ++ 0x3E ∷ rest) ≡ tags_reading false (tag ++ front) [] rest
+in_tag tag since [] rest h = ap (λ (t : List ℕ). tags_reading false t [] rest) (sym (append-nil tag))
 in_tag tag since (b ∷ bs) rest h =
     let here : (b == 0x3E) ≡ false = (or_parts (b == 0x3C) (b == 0x3E) (first_of (b == 0x3C || b == 0x3E) (list_all is_inner bs) h)).1 in
     let later : Inner bs = rest_of (b == 0x3C || b == 0x3E) (list_all is_inner bs) h in
-    rw here (in_tag (tag ++ b ∷ []) since bs rest later ∙ ap (λ (t : List ℕ). reading false t [] rest) (append_assoc tag (b ∷ []) bs))
+    rw here (in_tag (tag ++ b ∷ []) since bs rest later ∙ ap (λ (t : List ℕ). tags_reading false t [] rest) (append_assoc tag (b ∷ []) bs))
 
 abbrev pub Outer : List ℕ → Type 0
 Outer bs = list_all is_harmless bs ≡ true
@@ -239,12 +239,12 @@ not_open b bs h = (or_parts (b == 0x3C) (b == 0x3E || (b == 0x22 || b == 0x27)) 
 outer_rest : (b : ℕ) (bs : List ℕ) → Outer (b ∷ bs) → Outer bs
 outer_rest b bs h = rest_of (b == 0x3C || (b == 0x3E || (b == 0x22 || b == 0x27))) (list_all is_harmless bs) h
 
-out_tag : (tag since front rest : List ℕ) → Outer front → reading false tag since (front ++ 0x3C ∷ rest) ≡ piece tag (since ++ front) ∷ reading true [] [] rest
-out_tag tag since [] rest h = ap (λ (cs : List ℕ). piece tag cs ∷ reading true [] [] rest) (sym (append-nil since))
+out_tag : (tag since front rest : List ℕ) → Outer front → tags_reading false tag since (front ++ 0x3C ∷ rest) ≡ piece tag (since ++ front) ∷ tags_reading true [] [] rest
+out_tag tag since [] rest h = ap (λ (cs : List ℕ). piece tag cs ∷ tags_reading true [] [] rest) (sym (append-nil since))
 out_tag tag since (b ∷ bs) rest h =
-    rw (not_open b bs h) (out_tag tag (since ++ b ∷ []) bs rest (outer_rest b bs h) ∙ ap (λ (cs : List ℕ). piece tag cs ∷ reading true [] [] rest) (append_assoc since (b ∷ []) bs))
+    rw (not_open b bs h) (out_tag tag (since ++ b ∷ []) bs rest (outer_rest b bs h) ∙ ap (λ (cs : List ℕ). piece tag cs ∷ tags_reading true [] [] rest) (append_assoc since (b ∷ []) bs))
 
-out_end : (tag since front : List ℕ) → Outer front → reading false tag since front ≡ piece tag (since ++ front) ∷ []
+out_end : (tag since front : List ℕ) → Outer front → tags_reading false tag since front ≡ piece tag (since ++ front) ∷ []
 out_end tag since [] h = ap (λ (cs : List ℕ). piece tag cs ∷ []) (sym (append-nil since))
 out_end tag since (b ∷ bs) h =
     rw (not_open b bs h) (out_end tag (since ++ b ∷ []) bs (outer_rest b bs h) ∙ ap (λ (cs : List ℕ). piece tag cs ∷ []) (append_assoc since (b ∷ []) bs))
@@ -253,15 +253,15 @@ out_end tag since (b ∷ bs) h =
 regroup : (tag cs rest : List ℕ) → tag ++ codes ">" ++ cs ++ rest ≡ tag ++ (0x3E ∷ (cs ++ rest))
 regroup tag cs rest = append_assoc (tag ++ codes ">") cs rest ∙ append_assoc tag (codes ">") (cs ++ rest)
 
-begins : (p : Piece) (rest : List ℕ) → Inner p.tag → tags_of (piece_bytes p ++ rest) ≡ reading false p.tag [] (written Markup p.chars ++ rest)
+begins : (p : Piece) (rest : List ℕ) → Inner p.tag → tags_of (piece_bytes p ++ rest) ≡ tags_reading false p.tag [] (written Markup p.chars ++ rest)
 begins p rest h =
-    ap (reading true [] []) (regroup p.tag (written Markup p.chars) rest) ∙ in_tag [] [] p.tag (written Markup p.chars ++ rest) h
+    ap (tags_reading true [] []) (regroup p.tag (written Markup p.chars) rest) ∙ in_tag [] [] p.tag (written Markup p.chars ++ rest) h
 
 reads : (p : Piece) (ps : List Piece) → Tags (p ∷ ps) → tags_of (markup (p ∷ ps)) ≡ raw p ∷ map raw ps
 unfolding markup
 reads p [] h =
     begins p [] (and_parts (has_inner p) true h).0
-    ∙ (ap (reading false p.tag []) (append-nil (written Markup p.chars)) ∙ out_end p.tag [] (written Markup p.chars) (harmless p.chars))
+    ∙ (ap (tags_reading false p.tag []) (append-nil (written Markup p.chars)) ∙ out_end p.tag [] (written Markup p.chars) (harmless p.chars))
 reads p (q ∷ qs) h =
     begins p (markup (q ∷ qs)) (and_parts (has_inner p) (list_all has_inner (q ∷ qs)) h).0
     ∙ (out_tag p.tag [] (written Markup p.chars) _ (harmless p.chars)

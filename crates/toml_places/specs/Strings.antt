@@ -13,12 +13,12 @@ use Rattle.toml_places.specs.declared.strings.Step.TheVariants.{End, Cut, Char}
 abbrev pub starts_char : ℕ → Bool
 starts_char byte = nat_lt byte 0x80 || nat_le 0xC0 byte
 
-abbrev pub goes_on : ℕ → Bool
-goes_on byte = not (starts_char byte)
+abbrev pub string_goes_on : ℕ → Bool
+string_goes_on byte = not (starts_char byte)
 
 -- after the first byte and those that go on with its character
 unfoldable pub after_char : List ℕ → List ℕ
-after_char text = drop (1 + prefix_len goes_on (drop 1 text)) text
+after_char text = drop (1 + prefix_len string_goes_on (drop 1 text)) text
 
 -- after this many hex digits
 unfoldable pub after_hex : ℕ → List ℕ → Option (List ℕ)
@@ -69,17 +69,17 @@ after_content delim multi zero text = None
 after_content delim multi (suc n) text = next_step delim multi text >>= (λ s. after_step (after_content delim multi n) s.0 s.1)
 
 -- a piece of a text: the text from it on, and the text after it
-abbrev pub Piece : Type 0
-Piece = List ℕ × List ℕ
+abbrev pub TextPart : Type 0
+TextPart = List ℕ × List ℕ
 
 -- the k-th character of the rest of a string, of fewer than n steps
-abbrev pub char_step : (ℕ → List ℕ → Option Piece) → ℕ → List ℕ → Step → List ℕ → Option Piece
+abbrev pub char_step : (ℕ → List ℕ → Option TextPart) → ℕ → List ℕ → Step → List ℕ → Option TextPart
 char_step more k text s rest =
     if is_end s then None
     else if is_char s && k == 0 then Some (text, rest)
     else more (k - (if is_char s then 1 else 0)) rest
 
-unfoldable pub content_char : ℕ → Bool → ℕ → ℕ → List ℕ → Option Piece
+unfoldable pub content_char : ℕ → Bool → ℕ → ℕ → List ℕ → Option TextPart
 content_char delim multi zero k text = None
 content_char delim multi (suc n) k text = next_step delim multi text >>= (λ s. char_step (content_char delim multi n) k text s.0 s.1)
 
@@ -96,7 +96,7 @@ unfoldable pub after_string : List ℕ → Option (List ℕ)
 after_string text = after_content (first text) (is_multi text) (length text) (content text)
 
 -- its k-th character as it is written
-unfoldable pub string_char : ℕ → List ℕ → Option Piece
+unfoldable pub string_char : ℕ → List ℕ → Option TextPart
 string_char k text = if starts_string text then content_char (first text) (is_multi text) (length text) k (content text) else None
 
 -- after a part of a key

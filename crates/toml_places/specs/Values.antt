@@ -6,7 +6,7 @@ use Rattle.toml_parser.specs.Strings.{Key, starts_string, recursion_limit}
 use Rattle.toml_parser.specs.Numbers.{word_len}
 use Rattle.toml.specs.Parse.{after_element, key_equals}
 use Rattle.toml_places.specs.Steps.{◌>>=◌}
-use Rattle.toml_places.specs.Strings.{Piece, after_string, value_from}
+use Rattle.toml_places.specs.Strings.{TextPart, after_string, value_from}
 
 -- after a boolean, a number or a date-time, of whatever value
 unfoldable pub after_word : List ℕ → Option (List ℕ)
@@ -39,23 +39,23 @@ after_value (suc depth) text =
     else after_atom text
 
 -- the next element of an array as it is written, and the text from the one after it on
-unfoldable pub next_element : List ℕ → Option (Piece × List ℕ)
+unfoldable pub next_element : List ℕ → Option (TextPart × List ℕ)
 next_element text =
     let start = skip_blank text in
     if first start == right_bracket then None
     else after_value recursion_limit start >>= (λ rest. option_map (λ next. ((start, rest), next)) (after_element right_bracket rest))
 
 -- the k-th element from here on
-unfoldable pub element_from : ℕ → List ℕ → Option Piece
+unfoldable pub element_from : ℕ → List ℕ → Option TextPart
 element_from zero text = option_map (λ e. e.0) (next_element text)
 element_from (suc k) text = next_element text >>= (λ e. element_from k e.1)
 
 -- the k-th element of an array
-unfoldable pub element : ℕ → List ℕ → Option Piece
+unfoldable pub element : ℕ → List ℕ → Option TextPart
 element k text = if first text == left_bracket then element_from k (drop 1 text) else None
 
 -- a pair of an inline table: all parts of its key, and the text from it on
-pub record Pair : Type 0 where
+pub record TablePair : Type 0 where
   pub path : List (List ℕ)
   pub start : List ℕ
 
@@ -63,20 +63,20 @@ pub record Pair : Type 0 where
 unfoldable pub pair_after : List ℕ → Option (List ℕ)
 pair_after text = after_value recursion_limit text >>= after_element right_brace
 
-abbrev pub pair_at : Key → List ℕ → List ℕ → Option (Pair × List ℕ)
+abbrev pub pair_at : Key → List ℕ → List ℕ → Option (TablePair × List ℕ)
 pair_at key start value = option_map (λ next. (record { path = key.0 ++ key.1 ∷ []; start = start }, next)) (pair_after value)
 
 -- the next pair, and the text from the one after it on
-unfoldable pub next_pair : List ℕ → Option (Pair × List ℕ)
+unfoldable pub next_pair : List ℕ → Option (TablePair × List ℕ)
 next_pair text =
     let start = skip_blank text in
     if first start == right_brace then None else key_equals start >>= (λ k. pair_at k.0 start k.1)
 
 -- the pairs from here on, fewer than n
-unfoldable pub pairs_from : ℕ → List ℕ → List Pair
+unfoldable pub pairs_from : ℕ → List ℕ → List TablePair
 pairs_from zero text = []
 pairs_from (suc n) text = option_map_or (λ p. p.0 ∷ pairs_from n p.1) (next_pair text) []
 
 -- the pairs of an inline table
-unfoldable pub pairs : List ℕ → List Pair
+unfoldable pub pairs : List ℕ → List TablePair
 pairs text = if first text == left_brace then pairs_from (length text) (drop 1 text) else []
