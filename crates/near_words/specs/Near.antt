@@ -27,15 +27,15 @@ abbrev pub is_nearer : SearchView → List ℕ → Bool
 is_nearer s name = is_below s.below s.word name
 
 -- the search once a name was offered
-abbrev pub after : SearchView → List ℕ → SearchView
-after s name = record { word = s.word; below = if is_nearer s name then distance s.word name else s.below }
+abbrev pub offered : SearchView → List ℕ → SearchView
+offered s name = record { word = s.word; below = if is_nearer s name then distance s.word name else s.below }
 
 module _ {A : Type 0} (name_of : A → List ℕ) where
   -- what is found once these were offered in turn
   abbrev pub found_after : SearchView → Option A → List A → Option A
   found_after s found [] = found
   found_after s found (x ∷ xs) =
-      found_after (after s (name_of x)) (if is_nearer s (name_of x) then Some x else found) xs
+      found_after (offered s (name_of x)) (if is_nearer s (name_of x) then Some x else found) xs
 
   abbrev pub nearest : List ℕ → List A → Option A
   nearest word xs = found_after (search_of word) None xs
