@@ -33,7 +33,8 @@ fn reached(alloc: Global, base: &Base, groups: &Groups) -> Result<IndexSet<Frame
 impl<'a> MapDrawing<'a> {
     // Writes the map, all of whose base's frames these are.
     fn push_map(&self, alloc: Global, out: &mut Vec<u8>, frames: &[Frame]) -> Result<(), AllocError>
-        ensures { OnOk result (out.new.items ≡ out.old.items ++ spec.lines_of self.now (frames_shown self.now frames.now)) }
+        ensures { OnOk result (out.new.items
+            ≡ out.old.items ++ spec.lines_of self.now (frames_shown self.now frames.now)) }
     {
         out.extend_from_slice(b"digraph {\n  rankdir=LR\n  newrank=true\n  node [shape=box]\n")?;
         self.push_clusters(alloc, out, frames)?;

@@ -31,7 +31,8 @@ struct Edition {
 }
 
 fn edition_of(alloc: Global, texts: Texts<'_>) -> Result<Edition, InputFault>
-    ensures read { IfOk result (λ e. IsEditionOfTexts (edition_texts texts.entry.base.now texts.entry.cert.now) e.base e.cert) }
+    ensures read { IfOk result (λ e.
+        IsEditionOfTexts (edition_texts texts.entry.base.now texts.entry.cert.now) e.base e.cert) }
     ensures fault { IfErr result (IsInputFault texts.entry.base.now texts.entry.cert.now) }
 {
     let base = base_of(alloc, texts.base)?;
