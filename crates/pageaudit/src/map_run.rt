@@ -7,7 +7,8 @@ use crate::input::read_base;
 use crate::output::write_text;
 use crate::status::status_of;
 use audit_report::{RunFault, Sink, Source};
-use base_map::{View, map_view};
+use base_map::map_view;
+use finder::View;
 use frame_records::Groups;
 use std::alloc::Global;
 

@@ -6,9 +6,9 @@ use crate::file_fault::base_fault;
 use crate::input::read_base;
 use crate::status::status_of;
 use audit_report::{RunFault, Sink, Source};
-use base_map::View;
 use base_pages::{PagesFault, PagesStatus, write_pages};
 use checker::Policy;
+use finder::View;
 use std::alloc::Global;
 
 // A fault of the file as one of the run.
