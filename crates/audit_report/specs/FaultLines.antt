@@ -2,8 +2,8 @@
 use Rattle.std.specs.Prelude.{ℕ, List, [], ◌++◌, Option, Some, None, codes, decimal}
 use Rattle.page_ids.specs.Ids.{page_text}
 use Rattle.base_text.specs.declared.fault.BaseFault.{BaseFault}
-use Rattle.base_text.specs.declared.fault.Cause.{Cause}
-use Rattle.base_text.specs.declared.fault.Cause.TheVariants as cause
+use Rattle.base_text.specs.declared.fault.BaseCause.{BaseCause}
+use Rattle.base_text.specs.declared.fault.BaseCause.TheVariants as cause
 use Rattle.base_text.specs.Fields.{field_name}
 use Rattle.cert_text.specs.declared.fault.LineCause.{LineCause}
 use Rattle.cert_text.specs.declared.fault.LineCause.TheVariants as line_cause
@@ -14,7 +14,7 @@ use Rattle.audit_report.specs.declared.run_fault.RunFault.TheVariants as run
 use Rattle.audit_report.specs.Lines.{line, with_id}
 
 -- why a text is no base: code, name and argument
-abbrev pub base_cause_text : Cause → List ℕ
+abbrev pub base_cause_text : BaseCause → List ℕ
 base_cause_text cause.TooLong = codes "X1 TooLong"
 base_cause_text cause.NotToml = codes "X2 NotToml"
 base_cause_text cause.UnknownKey = codes "X3 UnknownKey"

@@ -4,7 +4,7 @@ ghost use Rattle.audit_report.specs.FaultLines.{base_cause_text, base_place_text
 
 use crate::push::{push_words_id, push_words_number, push_words_page};
 use crate::run_fault::RunFault;
-use base_text::{BaseFault, Cause, Field};
+use base_text::{BaseFault, BaseCause, Field};
 use cert_text::{LineCause, ReadFault};
 use page_ids::push_number;
 use std::alloc::{AllocError, Global};
@@ -18,26 +18,26 @@ fn push_field(out: &mut Vec<u8>, words: &[u8], field: Field) -> Result<(), Alloc
     Ok(())
 }
 
-fn push_base_cause(out: &mut Vec<u8>, cause: Cause) -> Result<(), AllocError>
+fn push_base_cause(out: &mut Vec<u8>, cause: BaseCause) -> Result<(), AllocError>
     ensures { OnOk result (out.new.items ≡ out.old.items ++ base_cause_text cause) }
 {
     match cause {
-        Cause::TooLong => out.extend_from_slice(b"X1 TooLong"),
-        Cause::NotToml => out.extend_from_slice(b"X2 NotToml"),
-        Cause::UnknownKey => out.extend_from_slice(b"X3 UnknownKey"),
-        Cause::Absent(field) => push_field(out, b"X4 Absent ", field),
-        Cause::WrongKind(field) => push_field(out, b"X5 WrongKind ", field),
-        Cause::Range(field) => push_field(out, b"X6 Range ", field),
-        Cause::BodyAndRows => out.extend_from_slice(b"X7 BodyAndRows"),
-        Cause::RowTooLong => out.extend_from_slice(b"X8 RowTooLong"),
-        Cause::RowCode => out.extend_from_slice(b"X9 RowCode"),
-        Cause::BadFrame => out.extend_from_slice(b"I2 BadFrame"),
-        Cause::TooMany => out.extend_from_slice(b"B4 TooMany"),
-        Cause::BodyTooLong(id) => push_words_id(out, b"B5 BodyTooLong ", id),
-        Cause::NextAfterZ(id) => push_words_id(out, b"B3 NextAfterZ ", id),
-        Cause::Duplicate(id) => push_words_id(out, b"B1 Duplicate ", id),
-        Cause::OutsideInside(page) => push_words_page(out, b"B2 OutsideInside ", page),
-        Cause::Memory => out.extend_from_slice(b"memory refused"),
+        BaseCause::TooLong => out.extend_from_slice(b"X1 TooLong"),
+        BaseCause::NotToml => out.extend_from_slice(b"X2 NotToml"),
+        BaseCause::UnknownKey => out.extend_from_slice(b"X3 UnknownKey"),
+        BaseCause::Absent(field) => push_field(out, b"X4 Absent ", field),
+        BaseCause::WrongKind(field) => push_field(out, b"X5 WrongKind ", field),
+        BaseCause::Range(field) => push_field(out, b"X6 Range ", field),
+        BaseCause::BodyAndRows => out.extend_from_slice(b"X7 BodyAndRows"),
+        BaseCause::RowTooLong => out.extend_from_slice(b"X8 RowTooLong"),
+        BaseCause::RowCode => out.extend_from_slice(b"X9 RowCode"),
+        BaseCause::BadFrame => out.extend_from_slice(b"I2 BadFrame"),
+        BaseCause::TooMany => out.extend_from_slice(b"B4 TooMany"),
+        BaseCause::BodyTooLong(id) => push_words_id(out, b"B5 BodyTooLong ", id),
+        BaseCause::NextAfterZ(id) => push_words_id(out, b"B3 NextAfterZ ", id),
+        BaseCause::Duplicate(id) => push_words_id(out, b"B1 Duplicate ", id),
+        BaseCause::OutsideInside(page) => push_words_page(out, b"B2 OutsideInside ", page),
+        BaseCause::Memory => out.extend_from_slice(b"memory refused"),
     }
 }
 

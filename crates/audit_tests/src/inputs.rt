@@ -1,6 +1,6 @@
 //! Texts that are read one by one.
 
-use base_text::{BaseFault, Cause, Field};
+use base_text::{BaseFault, BaseCause, Field};
 use cert_table::Cover;
 use cert_text::{LineCause, ReadFault};
 use checker::{InputFault, base_of, cert_of};
@@ -21,7 +21,7 @@ fn a_text_is_a_base_or_a_certificate(rt: HostRuntime) -> Result<(), Fail> {
     );
     let kind = BaseFault {
         frame: Some(1),
-        cause: Cause::WrongKind(Field::Id),
+        cause: BaseCause::WrongKind(Field::Id),
     };
     let line = ReadFault::Line(1, LineCause::Magic);
     let wanted = (Some(InputFault::Base(kind)), Some(InputFault::Cert(line)));

@@ -10,14 +10,14 @@ use std::marker::Model;
 
 // What a map is drawn of. Contracts see the base, the caller's groups, the frames that the caller reaches, and the part.
 #[derive(Drop)]
-pub struct Drawing<'a> {
+pub struct MapDrawing<'a> {
     pub base: &'a Base,
     pub groups: &'a Groups,
     pub reached: IndexSet<FrameId>,
     pub part: &'a Part,
 }
 
-impl<'a> Model for Drawing<'a> {
+impl<'a> Model for MapDrawing<'a> {
     ghost use Rattle.base_map.specs.Edges.{MapView};
 
     ghost Value = { MapView };
@@ -25,7 +25,7 @@ impl<'a> Model for Drawing<'a> {
     ghost view = { λ d. record { base = d.base.now; caller = d.groups.now; reached = d.reached.keys; part = d.part.now } };
 }
 
-impl<'a> Drawing<'a> {
+impl<'a> MapDrawing<'a> {
     // Whether the caller reaches a frame.
     pub fn reaches(&self, id: FrameId) -> bool
         ensures { result ≡ has_id self.now.reached id }

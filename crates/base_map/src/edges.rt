@@ -5,7 +5,7 @@ ghost use Rattle.std.specs.List.{flat_map};
 ghost use Rattle.base_map.specs.Edges.{shown};
 ghost use Rattle.base_map.specs.Edges as spec;
 
-use crate::drawing::Drawing;
+use crate::drawing::MapDrawing;
 use crate::lost::push_name;
 use crate::targets::targets_of;
 use frame_records::Frame;
@@ -29,7 +29,7 @@ fn push_keys_to(out: &mut Vec<u8>, frame: &Frame, to: FrameId) -> Result<(), All
     Ok(())
 }
 
-impl<'a> Drawing<'a> {
+impl<'a> MapDrawing<'a> {
     fn push_edge(&self, out: &mut Vec<u8>, frame: &Frame, to: FrameId) -> Result<(), AllocError>
         ensures { OnOk result (out.new.items ≡ out.old.items ++ spec.edge_line self.now frame.now to) }
     {

@@ -7,7 +7,7 @@ ghost use Rattle.page_ids.specs.Ids.{id_eq};
 ghost use Rattle.base_map.specs.Edges.{is_lacked, shown};
 ghost use Rattle.base_map.specs.Edges as spec;
 
-use crate::drawing::Drawing;
+use crate::drawing::MapDrawing;
 use crate::targets::targets_of;
 use frame_records::{Base, Frame};
 use indexmap::IndexSet;
@@ -57,7 +57,7 @@ fn push_lost_nodes(out: &mut Vec<u8>, base: &Base, ids: &[FrameId]) -> Result<()
     Ok(())
 }
 
-impl<'a> Drawing<'a> {
+impl<'a> MapDrawing<'a> {
     fn add_lost(&self, targets: &[FrameId], lost: &mut IndexSet<FrameId>) -> Result<(), AllocError>
         ensures { OnOk result
             (lost.new.keys ≡ insert_all id_eq lost.old.keys (filter (is_lacked self.now.base) targets.now)) }

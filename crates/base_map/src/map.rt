@@ -3,7 +3,7 @@ ghost use Rattle.base_map.specs.Map as spec;
 ghost use Rattle.base_map.specs.Loops as loops;
 ghost use Rattle.base_map.specs.Edges.{shown};
 
-use crate::drawing::Drawing;
+use crate::drawing::MapDrawing;
 use crate::part::Part;
 use finder::{Discovered, find};
 use frame_records::{Base, Frame, Groups};
@@ -30,7 +30,7 @@ fn reached(alloc: Global, base: &Base, groups: &Groups) -> Result<IndexSet<Frame
     ids_of(alloc, found.as_slice())
 }
 
-impl<'a> Drawing<'a> {
+impl<'a> MapDrawing<'a> {
     // Writes the map, all of whose base's frames these are.
     fn push_map(&self, alloc: Global, out: &mut Vec<u8>, frames: &[Frame]) -> Result<(), AllocError>
         ensures { OnOk result (out.new.items ≡ out.old.items ++ spec.lines_of self.now (shown self.now frames.now)) }
@@ -57,7 +57,7 @@ pub fn map_text(
 ) -> Result<Vec<u8>, AllocError>
     ensures { IfOk result (λ text. spec.IsMap base.now groups.now part.now text.items) }
 {
-    let drawing = Drawing {
+    let drawing = MapDrawing {
         base,
         groups,
         reached: reached(alloc, base, groups)?,

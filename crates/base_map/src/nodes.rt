@@ -4,7 +4,7 @@ ghost use Rattle.std.specs.Prelude.{◌≡◌, ◌++◌, OnOk, Some, None};
 ghost use Rattle.base_map.specs.Edges.{shown};
 ghost use Rattle.base_map.specs.Nodes as spec;
 
-use crate::drawing::Drawing;
+use crate::drawing::MapDrawing;
 use crate::title::push_title;
 use frame_records::Frame;
 use page_ids::{PageNo, push_id, push_number, push_page};
@@ -54,7 +54,7 @@ fn push_turn(out: &mut Vec<u8>, before: Option<PageNo>, page: PageNo) -> Result<
     push_open(out, page)
 }
 
-impl<'a> Drawing<'a> {
+impl<'a> MapDrawing<'a> {
     // How a frame's node is drawn: the entry frame has two lines round it, what is closed is red, what isn't reached is
     // dashed.
     fn push_marks(&self, out: &mut Vec<u8>, frame: &Frame) -> Result<(), AllocError>

@@ -10,7 +10,7 @@ use denote.Ref.{Bor}
 use Rattle.toml.specs.Data.{Data, Items}
 use Rattle.toml.specs.View.{view}
 use Rattle.toml.specs.declared.value.Value.{Value}
-use Rattle.base_text.specs.declared.fault.Cause.TheVariants.{Memory}
+use Rattle.base_text.specs.declared.fault.BaseCause.TheVariants.{Memory}
 use Rattle.base_text.specs.declared.detail.TextFault.{TextFault}
 use Rattle.frame_records.specs.declared.frame.Frame.{Frame}
 

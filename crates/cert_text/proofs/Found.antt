@@ -13,8 +13,8 @@ use Rattle.cert_text.specs.declared.fault.LineCause.TheVariants as causes
 use Rattle.cert_text.specs.declared.fault.LineCause.{LineCause}
 use Rattle.cert_text.specs.declared.stage.Stage.{Stage}
 use Rattle.cert_text.specs.declared.stage.Stage.TheVariants.{Magic, Head, Groups, Rows, After}
-use Rattle.cert_text.specs.declared.stage.Field.{Field}
-use Rattle.cert_text.specs.declared.stage.Field.TheVariants.{Entry, Ceiling, Keyings, Count}
+use Rattle.cert_text.specs.declared.stage.NumberLine.{NumberLine}
+use Rattle.cert_text.specs.declared.stage.NumberLine.TheVariants.{Entry, Ceiling, Keyings, Count}
 use Rattle.cert_text.specs.Grammar.{has_groups, first_line, groups_lines, entry_line, ceiling_line, keyings_line, rows_line, row_line, text_of, IsRow, IsCertificateText}
 use Rattle.frame_records.specs.Steps.{◌>>=◌}
 use Rattle.cert_text.specs.Lines.{number_after, groups_after, row_in}
@@ -79,7 +79,7 @@ keyings_lines : (q : Bool) (s : Said) → s.groups ≡ []
 keyings_lines true s none = refl
 keyings_lines false s none = ap (λ (gs : List ℕ). lines_before (Head Count) (record s { groups = gs })) none
 
-put_lines : (f : Field) (n : ℕ) (s : Said) → HaveCome (Head f) s
+put_lines : (f : NumberLine) (n : ℕ) (s : Said) → HaveCome (Head f) s
     → lines_before (stage_after f s.grouped) (put f n s) ≡ lines_before (Head f) s ++ ((word_of f ++ decimal n) ∷ [])
 put_lines Entry n s come = refl
 put_lines Ceiling n s come = refl
@@ -91,13 +91,13 @@ keyings_come : (q : Bool) (s : Said) → s.grouped ≡ q → AreNone s → HaveC
 keyings_come true s is none = (is, none)
 keyings_come false s is none = (is ∙ sym (ap has_groups none.0), none.1)
 
-put_come : (f : Field) (n : ℕ) (s : Said) → HaveCome (Head f) s → HaveCome (stage_after f s.grouped) (put f n s)
+put_come : (f : NumberLine) (n : ℕ) (s : Said) → HaveCome (Head f) s → HaveCome (stage_after f s.grouped) (put f n s)
 put_come Entry n s come = come
 put_come Ceiling n s come = come
 put_come Keyings n s come = keyings_come s.grouped (put Keyings n s) refl come
 put_come Count n s come = (come.0, omega (arith, ap length come.1))
 
-took_number : (f : Field) (s : Said) (line : List ℕ) (t : Reading) → HaveCome (Head f) s → IsSound s
+took_number : (f : NumberLine) (s : Said) (line : List ℕ) (t : Reading) → HaveCome (Head f) s → IsSound s
     → judge_at (Head f) s line ≡ Ok t
     → Took (Head f) s line t
 took_number f s line t come is e =

@@ -9,7 +9,7 @@ use Rattle.std.proofs.lemmas.List.Elements.{recursion_from_All}
 use Rattle.cert_text.specs.declared.fault.LineCause.TheVariants as causes
 use Rattle.cert_text.specs.declared.stage.Stage.{Stage}
 use Rattle.cert_text.specs.declared.stage.Stage.TheVariants.{Magic, Head, Groups, Rows, After}
-use Rattle.cert_text.specs.declared.stage.Field.TheVariants.{Entry, Ceiling, Keyings, Count}
+use Rattle.cert_text.specs.declared.stage.NumberLine.TheVariants.{Entry, Ceiling, Keyings, Count}
 use Rattle.cert_text.specs.Grammar.{has_groups, groups_lines, rows_line, row_line}
 use Rattle.frame_records.specs.Steps.{◌>>=◌}
 use Rattle.cert_text.specs.Reading.{Said, Reading, Fault, start, number_of, judge, lengthen, is_over, take_byte, step, run, run_on, ended, HasNoEnd, line_ends, judged}

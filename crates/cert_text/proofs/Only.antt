@@ -25,8 +25,8 @@ use Rattle.cert_text.specs.declared.fault.LineCause.TheVariants as causes
 use Rattle.cert_text.specs.declared.fault.LineCause.{LineCause}
 use Rattle.cert_text.specs.declared.stage.Stage.{Stage}
 use Rattle.cert_text.specs.declared.stage.Stage.TheVariants.{Magic, Head, Groups, Rows, After}
-use Rattle.cert_text.specs.declared.stage.Field.{Field}
-use Rattle.cert_text.specs.declared.stage.Field.TheVariants.{Entry, Ceiling, Keyings, Count}
+use Rattle.cert_text.specs.declared.stage.NumberLine.{NumberLine}
+use Rattle.cert_text.specs.declared.stage.NumberLine.TheVariants.{Entry, Ceiling, Keyings, Count}
 use Rattle.cert_text.specs.Grammar.{has_groups, first_line, groups_line, groups_lines, entry_line, ceiling_line, keyings_line, rows_line, row_line, place_text, pend_text, cursor_text, text_of, certificate_text, IsRow, IsCertificate, IsCertificateText}
 use Rattle.frame_records.specs.Steps.{◌>>=◌}
 use Rattle.cert_text.specs.Reading.{Said, Reading, Fault, nothing, begins, start, number_of, word_of, most_of, put, stage_after, judge, judge_at, is_over, at_line, step, run, ended, reading}
@@ -101,13 +101,13 @@ line_read g s t line rest going is ok =
     run_line (begins g s) line rest going (no_ends line is.above) (omega (arith, is.short))
     ∙ ap (λ (r : Result Reading LineCause). at_line (number_of g s) r >>= λ u. run u rest) ok
 
-above_word : (f : Field) → AllAbove 11 (word_of f)
+above_word : (f : NumberLine) → AllAbove 11 (word_of f)
 above_word Entry = above_all 11 (codes "entry ") refl
 above_word Ceiling = above_all 11 (codes "ceiling ") refl
 above_word Keyings = above_all 11 (codes "keyings ") refl
 above_word Count = above_all 11 (codes "rows ") refl
 
-short_word : (f : Field) → length (word_of f) ≤ 10
+short_word : (f : NumberLine) → length (word_of f) ≤ 10
 short_word Entry = omega arith
 short_word Ceiling = omega arith
 short_word Keyings = omega arith
@@ -122,7 +122,7 @@ word_number word n above short small =
       short = omega (arith, length-append word (decimal n), len);
     }
 
-field_read : (f : Field) (s : Said) (n : ℕ) (rest : List ℕ) → n ≤ most_of f
+field_read : (f : NumberLine) (s : Said) (n : ℕ) (rest : List ℕ) → n ≤ most_of f
     → run (begins (Head f) s) ((word_of f ++ decimal n) ++ (10 ∷ rest))
     ≡ run (begins (stage_after f s.grouped) (put f n s)) rest
 field_read f s n rest le =

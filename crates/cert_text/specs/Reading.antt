@@ -15,8 +15,8 @@ use Rattle.cert_text.specs.declared.fault.LineCause.{LineCause}
 use Rattle.cert_text.specs.declared.fault.LineCause.TheVariants as causes
 use Rattle.cert_text.specs.declared.stage.Stage.{Stage}
 use Rattle.cert_text.specs.declared.stage.Stage.TheVariants.{Magic, Head, Groups, Rows, After}
-use Rattle.cert_text.specs.declared.stage.Field.{Field}
-use Rattle.cert_text.specs.declared.stage.Field.TheVariants.{Entry, Ceiling, Keyings, Count}
+use Rattle.cert_text.specs.declared.stage.NumberLine.{NumberLine}
+use Rattle.cert_text.specs.declared.stage.NumberLine.TheVariants.{Entry, Ceiling, Keyings, Count}
 use Rattle.frame_records.specs.Steps.{◌>>=◌}
 use Rattle.cert_text.specs.Lines.{number_after, groups_after, row_in}
 use Rattle.cert_text.specs.declared.fault.ReadFault.{ReadFault}
@@ -78,25 +78,25 @@ abbrev pub Fault : Type 0
 Fault = ℕ × LineCause
 
 -- the lines of a word and a number: the word with its space, the greatest number, what it says, and the next stage
-abbrev pub word_of : Field → List ℕ
+abbrev pub word_of : NumberLine → List ℕ
 word_of Entry = codes "entry "
 word_of Ceiling = codes "ceiling "
 word_of Keyings = codes "keyings "
 word_of Count = codes "rows "
 
-abbrev pub most_of : Field → ℕ
+abbrev pub most_of : NumberLine → ℕ
 most_of Entry = MOST_PAGE
 most_of Ceiling = MOST_PENCE
 most_of Keyings = MOST_RANK
 most_of Count = MOST_ROWS
 
-abbrev pub put : Field → ℕ → Said → Said
+abbrev pub put : NumberLine → ℕ → Said → Said
 put Entry n s = record s { entry = n }
 put Ceiling n s = record s { ceiling = n }
 put Keyings n s = record s { keyings = n }
 put Count n s = record s { count = n }
 
-abbrev pub stage_after : Field → Bool → Stage
+abbrev pub stage_after : NumberLine → Bool → Stage
 stage_after Entry grouped = Head Ceiling
 stage_after Ceiling grouped = Head Keyings
 stage_after Keyings grouped = if grouped then Groups else Head Count

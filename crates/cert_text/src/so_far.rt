@@ -7,7 +7,7 @@ ghost use Rattle.cert_text.specs.Loops.{Says};
 
 use crate::fault::{LineCause, LineFault};
 use crate::line::{groups_after, number_after, row_in};
-use crate::stage::{Field, Stage};
+use crate::stage::{NumberLine, Stage};
 use cert_table::{Certificate, Row};
 use frame_records::{Groups, Pence};
 use page_ids::PageNo;
@@ -78,26 +78,26 @@ impl SoFar {
         let groups = u32::from(self.grouped);
         match stage {
             Stage::Magic => 1,
-            Stage::Head(Field::Entry) => 2,
-            Stage::Head(Field::Ceiling) => 3,
-            Stage::Head(Field::Keyings) => 4,
+            Stage::Head(NumberLine::Entry) => 2,
+            Stage::Head(NumberLine::Ceiling) => 3,
+            Stage::Head(NumberLine::Keyings) => 4,
             Stage::Groups => 5,
-            Stage::Head(Field::Count) => groups + 5,
+            Stage::Head(NumberLine::Count) => groups + 5,
             Stage::Rows => rows + groups + 6,
             Stage::After => rows + groups + 7,
         }
     }
 
     // Keeps a number of the head.
-    fn put(&mut self, field: Field, number: u32)
+    fn put(&mut self, field: NumberLine, number: u32)
         requires { number ≤ most_of field }
         ensures { self.new ≡ put field number self.old }
     {
         match field {
-            Field::Entry => self.entry = number,
-            Field::Ceiling => self.ceiling = number as u16,
-            Field::Keyings => self.keyings = number as u16,
-            Field::Count => self.count = number as u16,
+            NumberLine::Entry => self.entry = number,
+            NumberLine::Ceiling => self.ceiling = number as u16,
+            NumberLine::Keyings => self.keyings = number as u16,
+            NumberLine::Count => self.count = number as u16,
         }
     }
 
@@ -112,10 +112,10 @@ impl SoFar {
         } else {
             return Err(LineFault::Says(LineCause::Magic));
         }
-        Ok(Stage::Head(Field::Entry))
+        Ok(Stage::Head(NumberLine::Entry))
     }
 
-    fn take_number(&mut self, field: Field, line: &[u8]) -> Result<Stage, LineFault>
+    fn take_number(&mut self, field: NumberLine, line: &[u8]) -> Result<Stage, LineFault>
         ensures { Says result self.new (judge_at (Head field) self.old line.now) }
     {
         let number = number_after(field.word(), field.most(), line)?;
@@ -127,7 +127,7 @@ impl SoFar {
         ensures { Says result self.new (judge_groups self.old line.now) }
     {
         self.groups = groups_after(b"groups ", line)?;
-        Ok(Stage::Head(Field::Count))
+        Ok(Stage::Head(NumberLine::Count))
     }
 
     fn take_row(&mut self, line: &[u8]) -> Result<Stage, LineFault>

@@ -11,7 +11,7 @@ pub enum Stage {
     /// `PBC1`, or `PBC2` if a line of groups comes.
     Magic,
     /// A word and a number.
-    Head(Field),
+    Head(NumberLine),
     /// The groups, after the keyings.
     Groups,
     /// A row, or `end` after the last.
@@ -22,7 +22,7 @@ pub enum Stage {
 
 /// What a line of a word and a number says.
 #[derive(Clone, Copy)]
-pub enum Field {
+pub enum NumberLine {
     /// The entry page.
     Entry,
     /// The ceiling.
@@ -33,16 +33,16 @@ pub enum Field {
     Count,
 }
 
-impl Field {
+impl NumberLine {
     // Its word, with a space.
     pub fn word(self) -> &'static [u8]
         ensures { result.now ≡ word_of self }
     {
         match self {
-            Field::Entry => b"entry ",
-            Field::Ceiling => b"ceiling ",
-            Field::Keyings => b"keyings ",
-            Field::Count => b"rows ",
+            NumberLine::Entry => b"entry ",
+            NumberLine::Ceiling => b"ceiling ",
+            NumberLine::Keyings => b"keyings ",
+            NumberLine::Count => b"rows ",
         }
     }
 
@@ -51,10 +51,10 @@ impl Field {
         ensures { result ≡ most_of self }
     {
         match self {
-            Field::Entry => MOST_PAGE,
-            Field::Ceiling => MOST_PENCE as u32,
-            Field::Keyings => MOST_RANK as u32,
-            Field::Count => MOST_ROWS as u32,
+            NumberLine::Entry => MOST_PAGE,
+            NumberLine::Ceiling => MOST_PENCE as u32,
+            NumberLine::Keyings => MOST_RANK as u32,
+            NumberLine::Count => MOST_ROWS as u32,
         }
     }
 
@@ -63,11 +63,11 @@ impl Field {
         ensures { result ≡ stage_after self grouped }
     {
         match self {
-            Field::Entry => Stage::Head(Field::Ceiling),
-            Field::Ceiling => Stage::Head(Field::Keyings),
-            Field::Keyings if grouped => Stage::Groups,
-            Field::Keyings => Stage::Head(Field::Count),
-            Field::Count => Stage::Rows,
+            NumberLine::Entry => Stage::Head(NumberLine::Ceiling),
+            NumberLine::Ceiling => Stage::Head(NumberLine::Keyings),
+            NumberLine::Keyings if grouped => Stage::Groups,
+            NumberLine::Keyings => Stage::Head(NumberLine::Count),
+            NumberLine::Count => Stage::Rows,
         }
     }
 }

@@ -2,7 +2,7 @@
 use Rattle.std.specs.Prelude.{◌≡◌, ◌≤◌, ℕ, List, Some, Result, Ok, Err}
 use Rattle.frame_records.specs.Bases.{BaseView}
 use Rattle.base_text.specs.declared.fault.BaseFault.{BaseFault}
-use Rattle.base_text.specs.declared.fault.Cause.TheVariants as base_cause
+use Rattle.base_text.specs.declared.fault.BaseCause.TheVariants as base_cause
 use Rattle.base_text.specs.Whole.{IsTextBase, IsFirstFault}
 use Rattle.cert_table.specs.Table.{CertView}
 use Rattle.cert_text.specs.declared.fault.ReadFault.{ReadFault}

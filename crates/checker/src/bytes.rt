@@ -4,7 +4,7 @@ ghost use Rattle.checker.specs.Headline.{IsBaseInput, IsCertInput, IsChecked, He
 use crate::judge::check;
 use crate::policy::Policy;
 use crate::verdict::Verdict;
-use base_text::{BaseFault, Cause, base_read};
+use base_text::{BaseFault, BaseCause, base_read};
 use cert_table::Certificate;
 use cert_text::{ReadFault, cert_read};
 use frame_records::Base;
@@ -33,7 +33,7 @@ pub fn base_of(alloc: Global, text: &[u8]) -> Result<Base, InputFault>
         Ok(base) => Ok(base),
         Err(
             BaseFault {
-                cause: Cause::Memory,
+                cause: BaseCause::Memory,
                 ..
             },
         ) => Err(InputFault::Memory),

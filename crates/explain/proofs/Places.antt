@@ -6,8 +6,8 @@ use Rattle.std.specs.Borrow.{Bor}
 use Rattle.std.proofs.lemmas.List.{get_or-map}
 use Rattle.explain.specs.Words.{IsSame, IsAmong}
 use Rattle.explain.specs.Loops.{texts_of}
-use Rattle.explain.specs.declared.line.Sought.{Sought}
-use Rattle.explain.specs.declared.line.Sought.TheVariants.{Code, Capital, Any}
+use Rattle.explain.specs.declared.line.WordKind.{WordKind}
+use Rattle.explain.specs.declared.line.WordKind.TheVariants.{Code, Capital, Any}
 use Rattle.explain.specs.Lines.{is_code, is_capital, is_word_at, is_word, HasWord}
 
 -- the text at a place is that of the text there
@@ -37,13 +37,13 @@ none_yet P n before here j below = on (nat_lt j n) refl where
   on false e = let same : j ≡ n = grind (arith, nat_tests, e, below) in λ p. here (subst P same p)
 
 -- the text at a place isn't a word there, if the name isn't
-pub not_word : (names : List (Bor (List ℕ))) (sought : Sought) (line : List ℕ) (at place : ℕ) (d : Bor (List ℕ)) → place < length names
+pub not_word : (names : List (Bor (List ℕ))) (sought : WordKind) (line : List ℕ) (at place : ℕ) (d : Bor (List ℕ)) → place < length names
     → is_word sought line at (get_or names place d).now ≡ false → ¬ (is_word sought line at (get_or (texts_of names) place []) ≡ true)
 not_word names sought line at place d below differs e =
     false≢true (sym differs ∙ (ap (is_word sought line at) (sym (text_at names place d below)) ∙ e))
 
 -- a code and a word with a capital letter are words
-any_word : (sought : Sought) (line : List ℕ) (at : ℕ) (name : List ℕ) → is_word sought line at name ≡ true → is_word Any line at name ≡ true
+any_word : (sought : WordKind) (line : List ℕ) (at : ℕ) (name : List ℕ) → is_word sought line at name ≡ true → is_word Any line at name ≡ true
 any_word Any line at name e = e
 any_word Code line at [] e = absurd (false≢true e)
 any_word Code line at (a ∷ []) e = absurd (false≢true e)
@@ -53,7 +53,7 @@ any_word Capital line at (a ∷ []) e = absurd (false≢true e)
 any_word Capital line at (a ∷ b ∷ rest) e = (and_parts (is_capital (a ∷ b ∷ rest)) (is_word_at line at (a ∷ b ∷ rest)) e).1
 
 -- the same of other names and another line, which are the same
-pub has_word : (sought : Sought) (names others : List (List ℕ)) (bytes line : List ℕ) → names ≡ others → bytes ≡ line
+pub has_word : (sought : WordKind) (names others : List (List ℕ)) (bytes line : List ℕ) → names ≡ others → bytes ≡ line
     → HasWord sought names bytes → HasWord Any others line
 has_word sought names others bytes line same is h =
     subst (λ (ns : List (List ℕ)). HasWord Any ns line) same

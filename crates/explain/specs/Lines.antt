@@ -2,8 +2,8 @@
 use Rattle.std.specs.Prelude.{◌≡◌, ℕ, ◌<◌, ◌-◌, List, [], ◌∷◌, length, drop, get_or, slice_get, eqb, ◌==◌, ◌&&◌, ◌||◌, not, Bool, true, false, Option, Some, None}
 use Rattle.std.specs.Char.{is_ascii_digit, is_ascii_alphabetic, is_ascii_uppercase}
 use Rattle.std.specs.List.{starts_with}
-use Rattle.explain.specs.declared.line.Sought.{Sought}
-use Rattle.explain.specs.declared.line.Sought.TheVariants.{Code, Capital, Any}
+use Rattle.explain.specs.declared.line.WordKind.{WordKind}
+use Rattle.explain.specs.declared.line.WordKind.TheVariants.{Code, Capital, Any}
 
 -- digits and letters
 abbrev pub is_word_byte : ℕ → Bool
@@ -42,18 +42,18 @@ abbrev pub is_long : List ℕ → Bool
 is_long (a ∷ b ∷ rest) = true
 is_long _ = false
 
-abbrev pub is_sought : Sought → List ℕ → Bool
+abbrev pub is_sought : WordKind → List ℕ → Bool
 is_sought Code name = is_code name
 is_sought Capital name = is_capital name
 is_sought Any name = is_long name
 
-abbrev pub is_word : Sought → List ℕ → ℕ → List ℕ → Bool
+abbrev pub is_word : WordKind → List ℕ → ℕ → List ℕ → Bool
 is_word sought line at name = is_sought sought name && is_word_at line at name
 
 -- the line has one of the names at this place
-abbrev pub HasWordAt : Sought → List (List ℕ) → List ℕ → ℕ → Type 0
+abbrev pub HasWordAt : WordKind → List (List ℕ) → List ℕ → ℕ → Type 0
 HasWordAt sought names line at = (place : ℕ) × (place < length names) × (is_word sought line at (get_or names place []) ≡ true)
 
 -- or anywhere
-abbrev pub HasWord : Sought → List (List ℕ) → List ℕ → Type 0
+abbrev pub HasWord : WordKind → List (List ℕ) → List ℕ → Type 0
 HasWord sought names line = (at : ℕ) × (at < length line) × HasWordAt sought names line at

@@ -6,7 +6,7 @@ ghost use Rattle.explain.specs.Lines.{is_word_byte, is_edge, is_start, is_word_a
 
 // Which words are sought, of two bytes at least.
 #[derive(Debug, Clone, Copy)]
-pub enum Sought {
+pub enum WordKind {
     // Those of a capital letter and a digit, as K7.
     Code,
     // Those with a capital letter first.
@@ -73,18 +73,18 @@ fn is_long(name: &[u8]) -> bool
     }
 }
 
-fn is_sought(sought: Sought, name: &[u8]) -> bool
+fn is_sought(sought: WordKind, name: &[u8]) -> bool
     ensures { result ≡ is_sought sought name.now }
 {
     match sought {
-        Sought::Code => is_code(name),
-        Sought::Capital => is_capital(name),
-        Sought::Any => is_long(name),
+        WordKind::Code => is_code(name),
+        WordKind::Capital => is_capital(name),
+        WordKind::Any => is_long(name),
     }
 }
 
 // Whether a name is sought and the line has it at this place.
-fn is_word(sought: Sought, line: &[u8], at: usize, name: &[u8]) -> bool
+fn is_word(sought: WordKind, line: &[u8], at: usize, name: &[u8]) -> bool
     requires { at ≤ length line.now }
     ensures { result ≡ is_word sought line.now at name.now }
 {
@@ -92,7 +92,7 @@ fn is_word(sought: Sought, line: &[u8], at: usize, name: &[u8]) -> bool
 }
 
 // The first of some names that the line has at a place.
-fn word_at(sought: Sought, names: &[&'static str], line: &[u8], at: usize) -> Option<usize>
+fn word_at(sought: WordKind, names: &[&'static str], line: &[u8], at: usize) -> Option<usize>
     requires { at ≤ length line.now }
     ensures { IsSome result ↔ HasWordAt sought (texts_of names.now) line.now at }
 {
@@ -105,7 +105,7 @@ fn word_at(sought: Sought, names: &[&'static str], line: &[u8], at: usize) -> Op
 }
 
 /// The place of the first name that a line has as a whole word, in its own case of letters.
-pub fn first_word(sought: Sought, names: &[&'static str], line: &[u8]) -> Option<usize>
+pub fn first_word(sought: WordKind, names: &[&'static str], line: &[u8]) -> Option<usize>
     ensures { IsSome result ↔ HasWord sought (texts_of names.now) line.now }
 {
     for at in 0..line.len() {

@@ -1,14 +1,14 @@
 //! The text of a word.
 
 ghost use Rattle.std.specs.Prelude.{◌≡◌, ◌↔◌, ◌⊎◌, true, IsSome};
-ghost use Rattle.explain.specs.declared.line.Sought.TheVariants.{Any};
+ghost use Rattle.explain.specs.declared.line.WordKind.TheVariants.{Any};
 ghost use Rattle.explain.specs.Lines.{HasWord};
 ghost use Rattle.explain.specs.Listed.{listed};
 ghost use Rattle.explain.specs.Words.{is_cursor, names_in_lines, IsAmong, IsListed};
 ghost use Rattle.explain.specs.Loops.{texts_of};
 
 use crate::cursor::is_cursor;
-use crate::line::{Sought, first_word};
+use crate::line::{WordKind, first_word};
 use crate::pages::{CURSOR, OVERVIEW, WORDS, paragraphs_at};
 
 /// The words of the list.
@@ -35,13 +35,13 @@ fn place_in_line(line: &str) -> Option<usize>
     ensures { IsSome result ↔ HasWord Any listed line.now }
 {
     let bytes = line.as_bytes();
-    if let Some(place) = first_word(Sought::Code, words(), bytes) {
+    if let Some(place) = first_word(WordKind::Code, words(), bytes) {
         return Some(place);
     }
-    if let Some(place) = first_word(Sought::Capital, words(), bytes) {
+    if let Some(place) = first_word(WordKind::Capital, words(), bytes) {
         return Some(place);
     }
-    first_word(Sought::Any, words(), bytes)
+    first_word(WordKind::Any, words(), bytes)
 }
 
 /// What is printed for a word, in paragraphs that a blank line parts: the text of its section, or of both that it is in, each

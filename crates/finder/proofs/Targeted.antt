@@ -1,11 +1,11 @@
 -- The result of a way, by the look-up of the frame that it seeks.
 use Rattle.std.proofs.Common.{◌≡◌, ◌+◌, ℕ, List, Some, slice_get, refl, sym, ◌∙◌, ap, ⊎_elim, arith, ◌<◌, ◌≤◌, ◌*◌, Bool, true, false, [], ◌∷◌, None, Option, option_map, if◌then◌else◌, get_or, subst, length, length-append}
-use Rattle.finder.proofs.Words.{cases_lt, same_Some, slice_get_within, get_or-set_at, get_or-set_other, get_or_append_left, get_or_push, length-set, Id, Way, way_at, Frame, IsAscending, BaseView, frame_at, frame_among, is_open, sought_of, sought, missing_by, sought_by, offered_by, destination_of, Target, IsSeen, IsSought, target_at, IsTarget, AreTargets, NotOffered, Closed, Missing, Outside, aim_of, aim_at, node_of}
+use Rattle.finder.proofs.Words.{cases_lt, same_Some, slice_get_within, get_or-set_at, get_or-set_other, get_or_append_left, get_or_push, length-set, Id, Way, way_at, Frame, IsAscending, BaseView, frame_at, frame_among, is_open, sought_of, sought, missing_by, sought_by, offered_by, destination_of, WayTarget, IsSeen, IsSought, target_at, IsTarget, AreTargets, NotOffered, Closed, Missing, Outside, aim_of, aim_at, node_of}
 use Rattle.frame_records.specs.declared.base.Sought.TheVariants as seeking
 use Rattle.frame_records.specs.declared.ways.Destination.TheVariants as destination
 use Rattle.finder.specs.declared.aim.Aim.TheVariants as aim
 use Rattle.finder.specs.declared.table.Targets.{Targets}
-use Rattle.finder.specs.declared.target.Target.TheVariants.{Found}
+use Rattle.finder.specs.declared.target.WayTarget.TheVariants.{Found}
 use Rattle.finder.specs.Loops.WayTargets.{IsFoundAt, IsTargetBy, IsAdded}
 use Rattle.finder.proofs.Nodes.{frame_here, id_there}
 use Rattle.finder.proofs.Lists.{mapped}
@@ -32,7 +32,7 @@ seen_frame caller frames id node admitted up s =
 
 module _ (caller : List ℕ) (base : BaseView) (f : Frame) (way : Way) (to : Id) (seeks : Some to ≡ sought f way) where
   -- the base has the frame
-  pub targeted : (target : Target) → IsAscending base.frames → IsSought caller base.frames to (Some target)
+  pub targeted : (target : WayTarget) → IsAscending base.frames → IsSought caller base.frames to (Some target)
       → IsTarget caller base f way target
   targeted target up s = rw s.3 (by s.1 g.admits) where
     g : SeenFrame caller base.frames to s.0 s.1
@@ -50,14 +50,14 @@ module _ (caller : List ℕ) (base : BaseView) (f : Frame) (way : Way) (to : Id)
     by false e = record { aim = ap aim_of (sym (comes false e)); found = λ node is. absurd cc }
 
   -- it lacks the frame
-  pub missed : (target : Target) → frame_at base to ≡ None → aim_at target ≡ aim_of (missing_by base way to)
+  pub missed : (target : WayTarget) → frame_at base to ≡ None → aim_at target ≡ aim_of (missing_by base way to)
       → node_of target ≡ None → IsTarget caller base f way target
   missed target none is nowhere = record {
     aim = is ∙ ap aim_of (sym (ap (offered_by caller base way) (sym seeks) ∙ ap (λ o. sought_by base way to (sought_of caller o)) none));
     found = λ node some. let no = sym nowhere ∙ some in absurd cc;
   }
 
-not_found : (t : Target) → node_of t ≡ None → aim_at t ≡ aim.Found → ⊥
+not_found : (t : WayTarget) → node_of t ≡ None → aim_at t ≡ aim.Found → ⊥
 not_found NotOffered none e = absurd cc
 not_found (Found node) none e = absurd cc
 not_found Closed none e = absurd cc
@@ -65,7 +65,7 @@ not_found Missing none e = absurd cc
 not_found Outside none e = absurd cc
 
 -- one more way
-module _ (caller : List ℕ) (base : BaseView) (node way : ℕ) (f : Frame) (target : Target) (old new : Targets) (small : way < 11) (few : length base.frames ≤ 65535) (at : slice_get base.frames node ≡ Some f) (is : IsTarget caller base f (way_at way) target) (added : IsAdded old new target) (are : AreTargets caller base (node * 11 + way) old) where
+module _ (caller : List ℕ) (base : BaseView) (node way : ℕ) (f : Frame) (target : WayTarget) (old new : Targets) (small : way < 11) (few : length base.frames ≤ 65535) (at : slice_get base.frames node ≡ Some f) (is : IsTarget caller base f (way_at way) target) (added : IsAdded old new target) (are : AreTargets caller base (node * 11 + way) old) where
   abbrev last : ℕ
   last = length old.nodes.items
 

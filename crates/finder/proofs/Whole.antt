@@ -1,6 +1,6 @@
 -- What a survey says.
 use Rattle.std.proofs.Common.{◌≡◌, ℕ, Bool, true, false, List, Some, None, if◌then◌else◌, length, refl, sym, ◌∙◌, ap, ◌<◌, [], slice_get, arith, ◌≤◌}
-use Rattle.finder.proofs.Words.{same_Some, slice_get_within, Frame, BaseView, IsAscending, frame_at, entry_of, seek_entry, is_open, sought_of, Target, IsEntryNode, IsSought, target_at, node_of, Discovered, AreNamed, FindsReached, RanksAreLeast, IsFinding, EntryIsFound}
+use Rattle.finder.proofs.Words.{same_Some, slice_get_within, Frame, BaseView, IsAscending, frame_at, entry_of, seek_entry, is_open, sought_of, WayTarget, IsEntryNode, IsSought, target_at, node_of, Discovered, AreNamed, FindsReached, RanksAreLeast, IsFinding, EntryIsFound}
 use Rattle.frame_records.specs.declared.base.Sought.TheVariants as sought_is
 use Rattle.finder.proofs.Nodes.{frame_here, id_there}
 use Rattle.finder.proofs.Marked.{frame_listed}
@@ -12,7 +12,7 @@ module _ (caller : List ℕ) (base : BaseView) where
   pub entry_missing : frame_at base (entry_of base) ≡ None → IsEntryNode caller base None
   entry_missing none entry = let gone = sym (ap (sought_of caller) none) ∙ entry.1 in absurd cc
 
-  pub entry_by : (target : Target) → IsAscending base.frames → IsSought caller base.frames (entry_of base) (Some target)
+  pub entry_by : (target : WayTarget) → IsAscending base.frames → IsSought caller base.frames (entry_of base) (Some target)
       → IsEntryNode caller base (node_of target)
   entry_by target up s = rw s.3 (by s.1 g.admits) where
     g : SeenFrame caller base.frames (entry_of base) s.0 s.1

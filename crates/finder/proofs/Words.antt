@@ -34,5 +34,5 @@ pub use Rattle.finder.specs.declared.found.Discovered.{Discovered}
 pub use Rattle.finder.specs.declared.direction.Direction.{Direction}
 pub use Rattle.finder.specs.declared.direction.Direction.TheVariants.{From, To}
 pub use Rattle.finder.specs.declared.graph.Graph.{Graph}
-pub use Rattle.finder.specs.declared.target.Target.{Target}
-pub use Rattle.finder.specs.declared.target.Target.TheVariants.{Closed, Missing, NotOffered, Outside}
+pub use Rattle.finder.specs.declared.target.WayTarget.{WayTarget}
+pub use Rattle.finder.specs.declared.target.WayTarget.TheVariants.{Closed, Missing, NotOffered, Outside}

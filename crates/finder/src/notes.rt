@@ -9,7 +9,7 @@ ghost use Rattle.finder.specs.Loops.Noted.{target_at, IsOf, AreNotes, IsSought};
 ghost use Rattle.finder.specs.Loops.WayTargets.{aim_of, aim_at, node_of, IsTarget};
 ghost use Rattle.finder.specs.Survey.{id_at};
 
-use crate::target::Target;
+use crate::target::WayTarget;
 use frame_records::{Base, Frame, Groups};
 use page_ids::{FrameId, Way};
 use std::alloc::{AllocError, Global};
@@ -58,13 +58,13 @@ impl Note {
     }
 
     // The result of seeking its frame.
-    fn target(&self) -> Target
+    fn target(&self) -> WayTarget
         ensures { result ≡ target_at self.now.node self.now.is_open }
     {
         if self.is_open {
-            Target::Found(self.node)
+            WayTarget::Found(self.node)
         } else {
-            Target::Closed
+            WayTarget::Closed
         }
     }
 }
@@ -138,7 +138,7 @@ impl<'a> Notes<'a> {
 
     // The target of an id, if it is noted in a slot.
     #[inline(always)]
-    fn target_in(&self, slot: usize, id: &FrameId) -> Option<Target>
+    fn target_in(&self, slot: usize, id: &FrameId) -> Option<WayTarget>
         ensures { IfSome result (λ t. IsSought self.now.groups.now self.now.base.now.frames id.now (Some t)) }
     {
         let note = self.notes.get(slot)?;
@@ -150,7 +150,7 @@ impl<'a> Notes<'a> {
     }
 
     // The target of an id, if it is noted near its slot.
-    fn noted_target(&self, id: &FrameId) -> Option<Target>
+    fn noted_target(&self, id: &FrameId) -> Option<WayTarget>
         ensures { IfSome result (λ t. IsSought self.now.groups.now self.now.base.now.frames id.now (Some t)) }
     {
         let first = slot_of(id, self.notes.len());
@@ -179,7 +179,7 @@ impl<'a> Notes<'a> {
 
     // The target of an id, by binary search.
     #[cold]
-    fn searched_target(&self, id: &FrameId) -> Option<Target>
+    fn searched_target(&self, id: &FrameId) -> Option<WayTarget>
         ensures { IsSought self.now.groups.now self.now.base.now.frames id.now result }
     {
         let node = self.node_by_id(id)?;
@@ -190,7 +190,7 @@ impl<'a> Notes<'a> {
     // The target of an id that isn't noted in its own slot.
     #[cold]
     #[inline(never)]
-    fn further_target(&self, id: &FrameId) -> Option<Target>
+    fn further_target(&self, id: &FrameId) -> Option<WayTarget>
         ensures { IsSought self.now.groups.now self.now.base.now.frames id.now result }
     {
         match self.noted_target(id) {
@@ -201,7 +201,7 @@ impl<'a> Notes<'a> {
 
     // The target of an id; `None` if the base lacks it.
     #[inline(always)]
-    pub fn target_by_id(&self, id: &FrameId) -> Option<Target>
+    pub fn target_by_id(&self, id: &FrameId) -> Option<WayTarget>
         ensures { IsSought self.now.groups.now self.now.base.now.frames id.now result }
     {
         match self.target_in(slot_of(id, self.notes.len()), id) {
@@ -211,22 +211,22 @@ impl<'a> Notes<'a> {
     }
 
     // A frame that a way seeks and the base lacks.
-    fn missing(&self, way: &Way, id: &FrameId) -> Target
+    fn missing(&self, way: &Way, id: &FrameId) -> WayTarget
         ensures aim { aim_at result ≡ aim_of (missing_by self.now.base.now way.now id.now) }
         ensures nowhere { node_of result ≡ None }
     {
         match way {
-            Way::Route(_) if self.base.is_outside(id.page) => Target::Outside,
-            _ => Target::Missing,
+            Way::Route(_) if self.base.is_outside(id.page) => WayTarget::Outside,
+            _ => WayTarget::Missing,
         }
     }
 
     // The result of a way of a frame.
-    pub fn target_of(&self, frame: &Frame, way: Way) -> Target
+    pub fn target_of(&self, frame: &Frame, way: Way) -> WayTarget
         ensures { IsTarget self.now.groups.now self.now.base.now frame.now way result }
     {
         let Some(id) = frame.sought(way) else {
-            return Target::NotOffered;
+            return WayTarget::NotOffered;
         };
         match self.target_by_id(&id) {
             Some(target) => target,

@@ -15,12 +15,12 @@ pub struct Ranked {
 
 // The ranked nodes in the order of their ranks, and the rank of each node that has one.
 #[derive(Drop)]
-struct Search {
+struct Ranking {
     queue: Vec<Ranked>,
     ranks: Vec<Option<u16>>,
 }
 
-impl Search {
+impl Ranking {
     // Whether a node has a rank.
     fn is_ranked(&self, node: u16) -> bool
         requires { node < length self.now.ranks.items }
@@ -87,7 +87,7 @@ impl Search {
     }
 
     // The node alone at which the search starts.
-    fn new(alloc: Global, graph: &Graph<'_>) -> Result<Search, AllocError>
+    fn new(alloc: Global, graph: &Graph<'_>) -> Result<Ranking, AllocError>
         ensures { IfOk result (λ s. IsSearch graph.now 0 s.queue.items s.ranks.items) }
     {
         let mut ranks = vec![in alloc; None; graph.table.count as usize]?;
@@ -97,7 +97,7 @@ impl Search {
             node: graph.start,
             rank: 0,
         })?;
-        Ok(Search { queue, ranks })
+        Ok(Ranking { queue, ranks })
     }
 }
 
@@ -115,7 +115,7 @@ pub fn ranks_of(alloc: Global, graph: &Graph<'_>) -> Result<Vec<Option<u16>>, Al
     ensures ranks { IfOk result (λ ranks. (f : ℕ) → IsNodeRank graph.now f (get_or ranks.items f None)) }
 {
     let neighbours = Neighbours::of(alloc, graph)?;
-    let mut search = Search::new(alloc, graph)?;
+    let mut search = Ranking::new(alloc, graph)?;
     for done in 0..graph.table.count {
         let Some(to) = search.waiting(graph, done) else {
             return Ok(search.ranks);

@@ -9,7 +9,7 @@ ghost use Rattle.finder.specs.Loops.WayTargets.{lost_to, AreTargets, IsAdded};
 
 use crate::aim::Aim;
 use crate::notes::Notes;
-use crate::target::Target;
+use crate::target::WayTarget;
 use frame_records::{Base, Destination, Groups};
 use page_ids::{FrameId, Way};
 use std::alloc::{AllocError, Global};
@@ -59,7 +59,7 @@ fn lost_to(aim: Aim, sought: Option<FrameId>) -> Destination
 
 impl Targets {
     // Adds the result of the next way.
-    fn add(&mut self, target: Target) -> Result<(), AllocError>
+    fn add(&mut self, target: WayTarget) -> Result<(), AllocError>
         requires { length self.old.nodes.items < length self.old.aims.items }
         ensures { OnOk result (IsAdded self.old self.new target) }
     {

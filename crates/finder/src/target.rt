@@ -5,7 +5,7 @@ use crate::aim::Aim;
 
 /// The result of a way of a frame; a frame that is found is named by its node, its position in the base.
 #[derive(Clone, Copy)]
-pub enum Target {
+pub enum WayTarget {
     NotOffered,
     Found(u16),
     Closed,
@@ -13,17 +13,17 @@ pub enum Target {
     Outside,
 }
 
-impl Target {
+impl WayTarget {
     // The target without its node.
     pub fn aim(self) -> Aim
         ensures { result ≡ aim_at self }
     {
         match self {
-            Target::NotOffered => Aim::NotOffered,
-            Target::Found(_) => Aim::Found,
-            Target::Closed => Aim::Closed,
-            Target::Missing => Aim::Missing,
-            Target::Outside => Aim::Outside,
+            WayTarget::NotOffered => Aim::NotOffered,
+            WayTarget::Found(_) => Aim::Found,
+            WayTarget::Closed => Aim::Closed,
+            WayTarget::Missing => Aim::Missing,
+            WayTarget::Outside => Aim::Outside,
         }
     }
 
@@ -32,7 +32,7 @@ impl Target {
         ensures { result ≡ node_of self }
     {
         match self {
-            Target::Found(node) => Some(node),
+            WayTarget::Found(node) => Some(node),
             _ => None,
         }
     }

@@ -10,7 +10,7 @@ ghost use Rattle.frame_screens.specs.Screens.{screen_codes};
 use crate::header::screen;
 use crate::list::FrameList;
 use crate::painter::Painter;
-use crate::places::Places;
+use crate::places::FramePlaces;
 use finder::Survey;
 use frame_records::{Base, Groups};
 use page_ids::FrameId;
@@ -22,7 +22,7 @@ use std::marker::Model;
 #[derive(Drop)]
 pub struct Gallery<'a> {
     base: &'a Base,
-    places: Places,
+    places: FramePlaces,
     painter: Painter<'a>,
 }
 
@@ -44,7 +44,7 @@ impl<'a> Gallery<'a> {
         ensures { IfOk result (λ gallery. gallery ≡ survey.entry) }
     {
         let base = survey.base();
-        let places = Places::of(alloc, &survey)?;
+        let places = FramePlaces::of(alloc, &survey)?;
         let painter = Painter::of(alloc, survey)?;
         Ok(Gallery {
             base,

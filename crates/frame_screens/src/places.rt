@@ -13,13 +13,13 @@ use std::alloc::{AllocError, Global};
 
 // The places of the frames that are reached, by their ids.
 #[derive(Drop)]
-pub struct Places {
+pub struct FramePlaces {
     map: IndexMap<FrameId, usize>,
 }
 
-impl Places {
+impl FramePlaces {
     // The places of the frames that a survey found.
-    pub fn of(alloc: Global, survey: &Survey) -> Result<Places, AllocError>
+    pub fn of(alloc: Global, survey: &Survey) -> Result<FramePlaces, AllocError>
         requires { FindsReached survey.now.groups survey.now.base survey.now.found }
         ensures { IfOk result (λ places. (id : Id) → place_held places id ≡ place_of survey.now.found id) }
     {
@@ -28,7 +28,7 @@ impl Places {
         for (place, discovered) in found.iter().enumerate() {
             map.insert(discovered.id, place)?;
         }
-        Ok(Places { map })
+        Ok(FramePlaces { map })
     }
 
     // The place of a frame; `None` if no key reaches it.

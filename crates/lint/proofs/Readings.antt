@@ -7,8 +7,8 @@ use Rattle.frame_records.specs.declared.build.BuildFault.TheVariants as build
 use Rattle.frame_records.specs.Bases.{BaseView, IsBaseOf, IsBuildFault, IsBuilt}
 use Rattle.base_text.specs.declared.limits.TheConstants.{MOST_TEXT}
 use Rattle.base_text.specs.declared.fault.BaseFault.{BaseFault}
-use Rattle.base_text.specs.declared.fault.Cause.{Cause}
-use Rattle.base_text.specs.declared.fault.Cause.TheVariants as cause
+use Rattle.base_text.specs.declared.fault.BaseCause.{BaseCause}
+use Rattle.base_text.specs.declared.fault.BaseCause.TheVariants as cause
 use Rattle.base_text.specs.declared.detail.TextFault.{TextFault}
 use Rattle.base_text.specs.declared.whole_fault.WholeFault.{WholeFault}
 use Rattle.base_text.specs.Drafts.{DraftView, framed, draft_of, text_faults, BeginAlike, base_fault}
@@ -22,12 +22,12 @@ use Rattle.lint.specs.Lint.{Subject, Length, Toml, Text, Whole, faulty, AreTreeS
 use Rattle.lint.specs.Laws.{IsAnswer, answer_of}
 
 -- the refusal of a whole that has the cause
-pub record IsRefusal (outside : List ℕ) (frames : List Frame) (c : Cause) : Type 0 where
+pub record IsRefusal (outside : List ℕ) (frames : List Frame) (c : BaseCause) : Type 0 where
   pub fault : BuildFault
   pub same : build_cause fault ≡ c
   pub is : IsBuildFault outside frames fault
 
-pub refusal : (outside : List ℕ) (frames : List Frame) (c : Cause) → IsWholeCause outside frames c → IsRefusal outside frames c
+pub refusal : (outside : List ℕ) (frames : List Frame) (c : BaseCause) → IsWholeCause outside frames c → IsRefusal outside frames c
 refusal outside frames cause.TooMany h = record { fault = build.TooMany; same = refl; is = h }
 refusal outside frames (cause.BodyTooLong id) h = record { fault = build.BodyTooLong id; same = refl; is = h }
 refusal outside frames (cause.NextAfterZ id) h = record { fault = build.NextAfterZ id; same = refl; is = h }
@@ -45,7 +45,7 @@ refusal outside frames cause.RowTooLong h = absurd h
 refusal outside frames cause.RowCode h = absurd h
 refusal outside frames cause.BadFrame h = absurd h
 
-at_top : (fault : BaseFault) (c : Cause) → c ≡ fault.cause → fault.frame ≡ None → top_fault c ≡ fault
+at_top : (fault : BaseFault) (c : BaseCause) → c ≡ fault.cause → fault.frame ≡ None → top_fault c ≡ fault
 at_top fault c same top = ap top_fault same ∙ ap (λ (frame : Option ℕ). record { frame = frame; cause = fault.cause }) (sym top)
 
 -- what base_read answers for what a text lists, or for its own first fault

@@ -27,8 +27,8 @@ use Rattle.fault_scripts.specs.declared.fault.FaultKind.{FaultKind}
 use Rattle.fault_scripts.specs.declared.fault.FaultKind.TheVariants as fault_kind
 use Rattle.toml.specs.Data.{Members}
 use Rattle.toml_places.specs.declared.spans.Span.{Span}
-use Rattle.toml_places.specs.declared.spans.Spot.{Spot}
-use Rattle.toml_places.specs.Strings.{Piece}
+use Rattle.toml_places.specs.declared.spans.KeyPlace.{KeyPlace}
+use Rattle.toml_places.specs.Strings.{Cut}
 use Rattle.toml_places.specs.Spans.{at_offset, key_piece, value_piece, pair_piece, frame_piece, key_span, value_span, pair_span, element_span, char_span}
 use Rattle.toml_places.specs.Strings.{string_char}
 use Rattle.toml_places.specs.Values.{element}
@@ -84,24 +84,24 @@ later_lies text None b x y = y
 later_lies text (Some s) None x y = x
 later_lies text (Some s) (Some r) x y = if_lies text (nat_lt s.begin r.begin) (Some r) (Some s) y x
 
-piece_lies : (piece : List ℕ → Option Piece) → Stand piece → (text : List ℕ) (at : ℕ) → Lies text (at_offset piece at text)
+piece_lies : (piece : List ℕ → Option Cut) → Stand piece → (text : List ℕ) (at : ℕ) → Lies text (at_offset piece at text)
 piece_lies piece stand text at = on (at_offset piece at text) refl where
   on : (o : Option Span) → at_offset piece at text ≡ o → Lies text o
   on None e = tt
   on (Some s) e = let t = stand text at s e in record { ascends = t.2.ascends; within = t.2.within }
 
-value_lies : (text : List ℕ) (spot : Option Spot) → Lies text (value_at text spot)
+value_lies : (text : List ℕ) (spot : Option KeyPlace) → Lies text (value_at text spot)
 value_lies text spot = then_lies text spot (λ s. value_span s text) (λ s. piece_lies (value_piece s.part) (spans_stand.values s.part) text s.at)
 
-element_lies : (text : List ℕ) (spot : Option Spot) (k : ℕ) → Lies text (element_at text spot k)
+element_lies : (text : List ℕ) (spot : Option KeyPlace) (k : ℕ) → Lies text (element_at text spot k)
 element_lies text spot k = then_lies text (value_at text spot) (λ v. element_span k v.begin text) (λ v. piece_lies (element k) (spans_stand.elements k) text v.begin)
 
 -- a table whose items lie in its text
 module _ (t : TableView) (items : (k : ℕ) → Lies t.text (t.item k)) where
-  key_at_lies : (spot : Option Spot) → Lies t.text (key_at t.text spot)
+  key_at_lies : (spot : Option KeyPlace) → Lies t.text (key_at t.text spot)
   key_at_lies spot = then_lies t.text spot (λ s. key_span s t.text) (λ s. piece_lies (key_piece s.part) (spans_stand.keys s.part) t.text s.at)
 
-  pair_at_lies : (spot : Option Spot) → Lies t.text (pair_at t.text spot)
+  pair_at_lies : (spot : Option KeyPlace) → Lies t.text (pair_at t.text spot)
   pair_at_lies spot = then_lies t.text spot (λ s. pair_span s t.text) (λ s. piece_lies (pair_piece s.part) (spans_stand.pairs s.part) t.text s.at)
 
   value_of_lies : (key : List ℕ) → Lies t.text (value_of t key)

@@ -4,7 +4,7 @@ use Rattle.frame_records.specs.declared.frame.Frame.{Frame}
 use Rattle.frame_records.specs.Bases.{BaseView}
 use Rattle.frame_records.specs.Seek.{is_open}
 use Rattle.base_text.specs.declared.fault.BaseFault.{BaseFault}
-use Rattle.base_text.specs.declared.fault.Cause.TheVariants.{TooLong, NotToml}
+use Rattle.base_text.specs.declared.fault.BaseCause.TheVariants.{TooLong, NotToml}
 use Rattle.base_text.specs.Drafts.{base_fault}
 use Rattle.base_text.specs.Frames.{top_fault}
 use Rattle.base_text.specs.Whole.{IsTextBase, IsFaultOf, parts_of}

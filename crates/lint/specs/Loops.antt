@@ -27,7 +27,7 @@ use Rattle.indexmap.specs.IndexMap.{get}
 use Rattle.lint.specs.declared.lookup.Lookup.{Lookup}
 use Rattle.lint.specs.declared.outside.OutsidePages.{OutsidePages}
 use Rattle.lint.specs.Outside.{page_at}
-use Rattle.toml_places.specs.declared.spans.Spot.{Spot}
+use Rattle.toml_places.specs.declared.spans.KeyPlace.{KeyPlace}
 use Rattle.toml_places.specs.declared.places.Places.{Places}
 use Rattle.std.specs.Option.{option_or}
 use Rattle.lint.specs.declared.tables.TableKeys.{TableKeys}
@@ -46,8 +46,8 @@ Knows pairs known = (id : Id) → get id_eq known.map id ≡ value_of pairs id
 -- where the keys of a table are first written, and those of its `routes` that are dotted keys or headers
 pub record KeysView : Type 0 where
   pub frame : Option ℕ
-  pub key : List ℕ → Option Spot
-  pub dotted : List ℕ → Option Spot
+  pub key : List ℕ → Option KeyPlace
+  pub dotted : List ℕ → Option KeyPlace
 
 -- the keys of a table of the text
 abbrev pub keys_of : List ℕ → List Mark → Option ℕ → KeysView
@@ -58,7 +58,7 @@ abbrev pub IsTable : List ℕ → List Mark → TableView → Type 0
 IsTable text ms t = t ≡ table_at text ms t.frame
 
 -- the key below `routes` that the places keep; the top has none
-abbrev pub route_kept : Places → Option ℕ → List ℕ → Option Spot
+abbrev pub route_kept : Places → Option ℕ → List ℕ → Option KeyPlace
 route_kept p None key = None
 route_kept p (Some k) key = kept_route p k key
 

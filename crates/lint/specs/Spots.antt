@@ -22,16 +22,16 @@ use Rattle.lint_words.specs.declared.warning_words.LineEnd.{LineEnd}
 use Rattle.lint_words.specs.declared.warning_words.LineEnd.TheVariants.{Feed, Return}
 use Rattle.toml_places.specs.Steps.{◌>>=◌}
 use Rattle.toml_places.specs.declared.spans.Span.{Span}
-use Rattle.toml_places.specs.declared.spans.Spot.{Spot}
+use Rattle.toml_places.specs.declared.spans.KeyPlace.{KeyPlace}
 use Rattle.toml_places.specs.Spans.{key_span, pair_span, char_span}
 use Rattle.lint.specs.Tables.{TableView, value_at}
 
 -- The pieces of a table.
 
-abbrev pub key_at : List ℕ → Option Spot → Option Span
+abbrev pub key_at : List ℕ → Option KeyPlace → Option Span
 key_at text spot = spot >>= (λ s. key_span s text)
 
-abbrev pub pair_at : List ℕ → Option Spot → Option Span
+abbrev pub pair_at : List ℕ → Option KeyPlace → Option Span
 pair_at text spot = spot >>= (λ s. pair_span s text)
 
 -- a key of the table as it is written, its value, and both

@@ -4,7 +4,7 @@ use Rattle.std.specs.List.{prefix_len}
 use Rattle.std.specs.Option.{option_or}
 use Rattle.toml_places.specs.Steps.{◌>>=◌}
 use Rattle.toml_places.specs.declared.spans.Span.{Span}
-use Rattle.toml_places.specs.declared.spans.Spot.{Spot}
+use Rattle.toml_places.specs.declared.spans.KeyPlace.{KeyPlace}
 use Rattle.toml_places.specs.Places.{Mark, first_at, first_spot, frame_key, routes_key, header_place, table_marks}
 use Rattle.toml_places.specs.Spans.{value_span, frame_span, element_span}
 
@@ -20,8 +20,8 @@ pub record TableView : Type 0 where
   pub text : List ℕ
   pub frame : Option ℕ
   pub whole : Span
-  pub key : List ℕ → Option Spot
-  pub route : List ℕ → Option Spot
+  pub key : List ℕ → Option KeyPlace
+  pub route : List ℕ → Option KeyPlace
   pub item : ℕ → Option Span
 
 -- Where they are, with these marks.
@@ -35,11 +35,11 @@ abbrev pub line_one : List ℕ → Span
 line_one text = record { begin = 0; end = prefix_len is_in_line text }
 
 -- the value of the key at a spot
-abbrev pub value_at : List ℕ → Option Spot → Option Span
+abbrev pub value_at : List ℕ → Option KeyPlace → Option Span
 value_at text spot = spot >>= (λ s. value_span s text)
 
 -- an element of it
-abbrev pub element_at : List ℕ → Option Spot → ℕ → Option Span
+abbrev pub element_at : List ℕ → Option KeyPlace → ℕ → Option Span
 element_at text spot k = value_at text spot >>= (λ v. element_span k v.begin text)
 
 -- what the pairs of the inline table of a span write
@@ -63,16 +63,16 @@ abbrev pub whole : List ℕ → List Mark → Option ℕ → Span
 whole text ms None = line_one text
 whole text ms (Some k) = frame_whole text ms k
 
-abbrev pub key_spot : List ℕ → List Mark → Option ℕ → List ℕ → Option Spot
+abbrev pub key_spot : List ℕ → List Mark → Option ℕ → List ℕ → Option KeyPlace
 key_spot text ms frame key =
     option_or (first_spot ms frame (key ∷ [])) (first_spot (inline_marks text (frame_element text ms frame)) None (key ∷ []))
 
 -- of keys below `routes` of the top none is sought
-abbrev pub route_among : List Mark → Option ℕ → List ℕ → Option Spot
+abbrev pub route_among : List Mark → Option ℕ → List ℕ → Option KeyPlace
 route_among ms None key = None
 route_among ms (Some k) key = first_spot ms (Some k) (routes_key ∷ key ∷ [])
 
-abbrev pub dotted_spot : List ℕ → List Mark → Option ℕ → List ℕ → Option Spot
+abbrev pub dotted_spot : List ℕ → List Mark → Option ℕ → List ℕ → Option KeyPlace
 dotted_spot text ms frame key =
     option_or (route_among ms frame key) (first_spot (inline_marks text (frame_element text ms frame)) None (routes_key ∷ key ∷ []))
 
@@ -80,7 +80,7 @@ dotted_spot text ms frame key =
 abbrev pub routes_marks : List ℕ → List Mark → Option ℕ → List Mark
 routes_marks text ms frame = inline_marks text (value_at text (key_spot text ms frame routes_key))
 
-abbrev pub route_spot : List ℕ → List Mark → Option ℕ → List ℕ → Option Spot
+abbrev pub route_spot : List ℕ → List Mark → Option ℕ → List ℕ → Option KeyPlace
 route_spot text ms frame key = option_or (dotted_spot text ms frame key) (first_spot (routes_marks text ms frame) None (key ∷ []))
 
 abbrev pub list_key : Option ℕ → List ℕ
@@ -98,7 +98,7 @@ table_at text ms frame = record {
 }
 
 -- where the id of a frame is written, or its table in an array
-abbrev pub offset_or : Option Spot → ℕ → ℕ
+abbrev pub offset_or : Option KeyPlace → ℕ → ℕ
 offset_or None at = at
 offset_or (Some s) at = s.at
 

@@ -8,7 +8,7 @@ ghost use Rattle.lint.specs.Loops as loops;
 ghost use Rattle.lint.specs.Loops.{InlineKeeps, KnowsTables, IsTable, seen_keys, seen};
 
 use std::alloc::{AllocError, Global};
-use toml_places::{Places, Span, Spot, TablePlaces, element_spans, frame_span, value_span};
+use toml_places::{Places, Span, KeyPlace, TablePlaces, element_spans, frame_span, value_span};
 
 // The keys of a table: of the top, or of the frame of an index.
 #[derive(Drop)]
@@ -61,14 +61,14 @@ fn line_one(text: &str) -> Span
     Span { begin: 0, end }
 }
 
-fn value_at(text: &str, spot: Option<Spot>) -> Option<Span>
+fn value_at(text: &str, spot: Option<KeyPlace>) -> Option<Span>
     ensures { result ≡ spec.value_at text.now spot }
 {
     value_span(text, spot?)
 }
 
 // The elements of the array at a key.
-fn elements_at(alloc: Global, text: &str, spot: Option<Spot>) -> Result<Vec<Span>, AllocError>
+fn elements_at(alloc: Global, text: &str, spot: Option<KeyPlace>) -> Result<Vec<Span>, AllocError>
     ensures { IfOk result (λ spans. (k : ℕ) → slice_get spans.items k ≡ spec.element_at text.now spot k) }
 {
     match value_at(text, spot) {
@@ -91,7 +91,7 @@ fn inline_table(
     }
 }
 
-fn key_in(table: &Option<TablePlaces>, key: &str) -> Option<Spot>
+fn key_in(table: &Option<TablePlaces>, key: &str) -> Option<KeyPlace>
     ensures { result ≡ key_in table.now key.now }
 {
     match table {
@@ -100,7 +100,7 @@ fn key_in(table: &Option<TablePlaces>, key: &str) -> Option<Spot>
     }
 }
 
-fn route_in(table: &Option<TablePlaces>, key: &str) -> Option<Spot>
+fn route_in(table: &Option<TablePlaces>, key: &str) -> Option<KeyPlace>
     ensures { result ≡ route_in table.now key.now }
 {
     match table {
@@ -109,7 +109,7 @@ fn route_in(table: &Option<TablePlaces>, key: &str) -> Option<Spot>
     }
 }
 
-fn route_kept(places: &Places, frame: Option<usize>, key: &str) -> Option<Spot>
+fn route_kept(places: &Places, frame: Option<usize>, key: &str) -> Option<KeyPlace>
     ensures { result ≡ loops.route_kept places.now frame key.now }
 {
     match frame {
@@ -119,7 +119,7 @@ fn route_kept(places: &Places, frame: Option<usize>, key: &str) -> Option<Spot>
 }
 
 impl<'a> TableKeys<'a> {
-    fn key(&self, key: &str) -> Option<Spot>
+    fn key(&self, key: &str) -> Option<KeyPlace>
         ensures { result ≡ (seen_keys self.now).key key.now }
     {
         self.places
@@ -128,7 +128,7 @@ impl<'a> TableKeys<'a> {
     }
 
     // Where a key below `routes` is first written as a dotted key or a header.
-    fn dotted(&self, key: &str) -> Option<Spot>
+    fn dotted(&self, key: &str) -> Option<KeyPlace>
         ensures { result ≡ (seen_keys self.now).dotted key.now }
     {
         route_kept(self.places, self.frame, key).or(route_in(&self.inline, key))
@@ -162,14 +162,14 @@ impl<'a> TableSpots<'a> {
         self.whole
     }
 
-    pub fn key(&self, key: &str) -> Option<Spot>
+    pub fn key(&self, key: &str) -> Option<KeyPlace>
         ensures { result ≡ (seen self.now).key key.now }
     {
         self.keys.key(key)
     }
 
     // Where a key below `routes` is first written.
-    pub fn route(&self, key: &str) -> Option<Spot>
+    pub fn route(&self, key: &str) -> Option<KeyPlace>
         ensures { result ≡ (seen self.now).route key.now }
     {
         self.keys.dotted(key).or(key_in(&self.routes, key))

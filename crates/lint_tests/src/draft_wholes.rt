@@ -1,6 +1,6 @@
 //! The faults of bases as a whole.
 
-use base_text::{Cause, WholeFault, draft_of, whole_faults};
+use base_text::{BaseCause, WholeFault, draft_of, whole_faults};
 use page_ids::{FrameId, PageNo};
 use std::test::Fail;
 use test_support::same;
@@ -49,5 +49,5 @@ fn faults_of_the_whole_come_by_id(rt: HostRuntime) -> Result<(), Fail> {
     let faults = whole_faults(rt.alloc(), &mut draft.outside, &mut draft.frames)?;
     let first = faults.as_slice().first().map(|fault| fault.cause());
     same(faults.as_slice(), wanted.as_slice())?;
-    same(first, Some(Cause::BodyTooLong(three)))
+    same(first, Some(BaseCause::BodyTooLong(three)))
 }

@@ -4,7 +4,7 @@ use std::alloc::Global;
 use std::test::Fail;
 use test_support::same_in;
 use toml_places::{
-    Extent, Places, Span, Spot, TablePlaces, TextLines, char_span, element_spans, frame_span,
+    Extent, Places, Span, KeyPlace, TablePlaces, TextLines, char_span, element_spans, frame_span,
     integer_at, key_span, pair_span, value_span,
 };
 
@@ -17,7 +17,7 @@ fn shown(text: &str, span: Option<Span>) -> &str {
 }
 
 // A key as it is written, its value and the pair of both.
-fn written<'a>(text: &'a str, spot: Option<Spot>) -> (&'a str, &'a str, &'a str) {
+fn written<'a>(text: &'a str, spot: Option<KeyPlace>) -> (&'a str, &'a str, &'a str) {
     match spot {
         Some(spot) => (
             shown(text, key_span(text, spot)),

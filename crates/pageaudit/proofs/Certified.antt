@@ -12,7 +12,7 @@ use Rattle.frame_records.specs.Bases.{BaseView, NoFrame, IsLeastId, IsBuildFault
 use Rattle.base_text.specs.declared.fault.BaseFault.{BaseFault}
 use Rattle.base_text.specs.declared.limits.TheConstants.{MOST_TEXT}
 use Rattle.base_text.specs.Frames.{top_fault}
-use Rattle.base_text.specs.declared.fault.Cause.TheVariants.{TooLong}
+use Rattle.base_text.specs.declared.fault.BaseCause.TheVariants.{TooLong}
 use Rattle.base_text.specs.Whole.{PartsView, IsTextBase, IsFirstFault, IsFaultOf, parts_of, tree_parts, tree_of}
 use Rattle.base_text.proofs.OneText.{one_text_base}
 use Rattle.lint.proofs.Readings.{refusal}

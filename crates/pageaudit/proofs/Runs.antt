@@ -24,8 +24,8 @@ use Rattle.pageaudit.specs.declared.show_run.Target.{Target}
 use Rattle.pageaudit.specs.declared.show_run.Form.{Form}
 use Rattle.pageaudit.specs.declared.show_run.ShowStatus.{ShowStatus}
 use Rattle.pageaudit.specs.declared.show_run.ShowStatus.TheVariants.{Shown}
-use Rattle.pageaudit.specs.declared.show_run.Answer.{Answer}
-use Rattle.pageaudit.specs.declared.show_run.Answer.TheVariants as answer
+use Rattle.pageaudit.specs.declared.show_run.ShowAnswer.{ShowAnswer}
+use Rattle.pageaudit.specs.declared.show_run.ShowAnswer.TheVariants as answer
 use Rattle.pageaudit.specs.ShowRun.{IsShown, IsAnswerWritten, IsShowRun}
 use Rattle.lint.specs.declared.counts.Counts.{Counts}
 use Rattle.lint.specs.Findings.{FindingView}
@@ -87,7 +87,7 @@ module _ (base_file out : Device) (base : BaseView) (read : IsBaseOfFile base_fi
   map_run caller view None is (Ok s) w = record { base = base; base_read = read; written = record { map = None; is = is; written = w } }
   map_run caller view None is (Err fault) w = absurd (cc (w.0))
 
-  pub show_run : (caller : List ℕ) (what : Target) (f : Form) (shown : Answer) → IsShown caller what f base shown
+  pub show_run : (caller : List ℕ) (what : Target) (f : Form) (shown : ShowAnswer) → IsShown caller what f base shown
       → (r : Result ShowStatus RunFault) → IsAnswerWritten out shown r → IsShowRun base_file out caller what f r
   show_run caller what f (answer.Screen text) is r w =
       text_run _ _ text.items Shown (λ none. none) (λ r w. record { shown = answer.Screen text; is = is; written = w }) r w

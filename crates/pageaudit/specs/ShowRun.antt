@@ -25,8 +25,8 @@ use Rattle.pageaudit.specs.declared.show_run.Form.{Form}
 use Rattle.pageaudit.specs.declared.show_run.Form.TheVariants as form
 use Rattle.pageaudit.specs.declared.show_run.ShowStatus.{ShowStatus}
 use Rattle.pageaudit.specs.declared.show_run.ShowStatus.TheVariants.{Shown, EntryMissing, EntryClosed, Gone, NoFrame}
-use Rattle.pageaudit.specs.declared.show_run.Answer.{Answer}
-use Rattle.pageaudit.specs.declared.show_run.Answer.TheVariants as answer
+use Rattle.pageaudit.specs.declared.show_run.ShowAnswer.{ShowAnswer}
+use Rattle.pageaudit.specs.declared.show_run.ShowAnswer.TheVariants as answer
 use Rattle.pageaudit.specs.Files.{Device, IsUntouched, IsTextWritten, IsBaseRun}
 use Rattle.pageaudit.specs.Status.{fault_number}
 
@@ -45,39 +45,39 @@ screen_text form.Cells base ids = screen_codes base ids
 -- What is answered: a screen in a form, or why there is none.
 
 -- the screen of these frames
-abbrev pub IsScreenOf : Form → BaseView → List Id → Answer → Type 0
+abbrev pub IsScreenOf : Form → BaseView → List Id → ShowAnswer → Type 0
 IsScreenOf f base ids (answer.Screen text) = text.items ≡ screen_text f base ids
 IsScreenOf f base ids (answer.Nothing status) = ⊥
 
 -- the entry frame alone, by its record; a closed one is shown
-abbrev pub IsEntryAnswer : Form → BaseView → Option Frame → Answer → Type 0
+abbrev pub IsEntryAnswer : Form → BaseView → Option Frame → ShowAnswer → Type 0
 IsEntryAnswer f base None shown = shown ≡ answer.Nothing (EntryMissing (entry_of base))
 IsEntryAnswer f base (Some frame) shown = IsScreenOf f base (entry_of base ∷ []) shown
 
 -- the frames on the way to a frame
-pub record IsWayAnswer (caller : List ℕ) (f : Form) (base : BaseView) (id : Id) (shown : Answer) : Type 0 where
+pub record IsWayAnswer (caller : List ℕ) (f : Form) (base : BaseView) (id : Id) (shown : ShowAnswer) : Type 0 where
   pub frames : List Id
   pub way : IsWay caller base id frames
   pub screen : IsScreenOf f base frames shown
 
 -- a frame, by its record; the nearest id if there is none
-abbrev pub IsFrameAnswer : List ℕ → Form → BaseView → Id → Option Frame → Answer → Type 0
+abbrev pub IsFrameAnswer : List ℕ → Form → BaseView → Id → Option Frame → ShowAnswer → Type 0
 IsFrameAnswer caller f base id None shown = shown ≡ answer.Nothing (NoFrame (nearest frame_text (frame_text id) (ids_of base)))
 IsFrameAnswer caller f base id (Some frame) shown = IsWayAnswer caller f base id shown
 
 -- why there is no screen after keys
-abbrev pub IsLostAnswer : BaseView → NoScreen → Answer → Type 0
+abbrev pub IsLostAnswer : BaseView → NoScreen → ShowAnswer → Type 0
 IsLostAnswer base none.EntryMissing shown = shown ≡ answer.Nothing (EntryMissing (entry_of base))
 IsLostAnswer base none.EntryClosed shown = shown ≡ answer.Nothing (EntryClosed (entry_of base))
 IsLostAnswer base (none.Gone page) shown = shown ≡ answer.Nothing (Gone page)
 IsLostAnswer base none.Memory shown = ⊥
 
 -- the frames that a session's keys show, or how it ended
-abbrev pub IsKeyedAnswer : Form → BaseView → Result (List Id) NoScreen → Answer → Type 0
+abbrev pub IsKeyedAnswer : Form → BaseView → Result (List Id) NoScreen → ShowAnswer → Type 0
 IsKeyedAnswer f base (Ok frames) shown = IsScreenOf f base frames shown
 IsKeyedAnswer f base (Err fault) shown = IsLostAnswer base fault shown
 
-abbrev pub IsShown : List ℕ → Target → Form → BaseView → Answer → Type 0
+abbrev pub IsShown : List ℕ → Target → Form → BaseView → ShowAnswer → Type 0
 IsShown caller target.Entry f base shown = IsEntryAnswer f base (frame_at base (entry_of base)) shown
 IsShown caller (target.Frame id) f base shown = IsFrameAnswer caller f base id (frame_at base id) shown
 IsShown caller (target.Keys keys) f base shown = IsKeyedAnswer f base (keyed_frames caller base keys) shown
@@ -85,12 +85,12 @@ IsShown caller (target.Keys keys) f base shown = IsKeyedAnswer f base (keyed_fra
 -- What is written.
 
 -- the screen was written; without one nothing was
-abbrev pub IsAnswerWritten : Device → Answer → Result ShowStatus RunFault → Type 0
+abbrev pub IsAnswerWritten : Device → ShowAnswer → Result ShowStatus RunFault → Type 0
 IsAnswerWritten out (answer.Screen text) run = IsTextWritten out text.items Shown run
 IsAnswerWritten out (answer.Nothing status) run = (run ≡ Ok status) × IsUntouched out
 
 pub record IsShowWritten (out : Device) (caller : List ℕ) (what : Target) (f : Form) (base : BaseView) (run : Result ShowStatus RunFault) : Type 0 where
-  pub shown : Answer
+  pub shown : ShowAnswer
   pub is : IsShown caller what f base shown
   pub written : IsAnswerWritten out shown run
 

@@ -57,7 +57,7 @@ pub enum ShowStatus {
 
 // A screen in its form, or why there is none.
 #[derive(Drop)]
-enum Answer {
+enum ShowAnswer {
     Screen(Vec<u8>),
     Nothing(ShowStatus),
 }
@@ -83,15 +83,15 @@ fn screen_text(
 }
 
 // The entry frame alone.
-fn entry_answer(alloc: Global, base: &Base, form: Form) -> Result<Answer, AllocError>
+fn entry_answer(alloc: Global, base: &Base, form: Form) -> Result<ShowAnswer, AllocError>
     ensures { IfOk result (IsEntryAnswer form base.now (frame_at base.now (entry_of base.now))) }
 {
     let entry = base.entry_frame();
     let Some(_) = base.find(entry) else {
-        return Ok(Answer::Nothing(ShowStatus::EntryMissing(entry)));
+        return Ok(ShowAnswer::Nothing(ShowStatus::EntryMissing(entry)));
     };
     let frames = FrameList::of(alloc, entry)?;
-    Ok(Answer::Screen(screen_text(alloc, base, &frames, form)?))
+    Ok(ShowAnswer::Screen(screen_text(alloc, base, &frames, form)?))
 }
 
 // The screen of a frame, over those on the way to it.
@@ -101,11 +101,11 @@ fn way_answer(
     groups: &Groups,
     id: FrameId,
     form: Form,
-) -> Result<Answer, AllocError>
+) -> Result<ShowAnswer, AllocError>
     ensures { IfOk result (IsWayAnswer groups.now form base.now id) }
 {
     let frames = way_to(alloc, base, groups, id)?;
-    Ok(Answer::Screen(screen_text(alloc, base, &frames, form)?))
+    Ok(ShowAnswer::Screen(screen_text(alloc, base, &frames, form)?))
 }
 
 // The same, if the base has the frame.
@@ -115,23 +115,23 @@ fn frame_answer(
     groups: &Groups,
     id: FrameId,
     form: Form,
-) -> Result<Answer, AllocError>
+) -> Result<ShowAnswer, AllocError>
     ensures { IfOk result (IsFrameAnswer groups.now form base.now id (frame_at base.now id)) }
 {
     match base.find(id) {
         Some(_) => way_answer(alloc, base, groups, id, form),
-        None => Ok(Answer::Nothing(ShowStatus::NoFrame(nearest(alloc, base, id)?))),
+        None => Ok(ShowAnswer::Nothing(ShowStatus::NoFrame(nearest(alloc, base, id)?))),
     }
 }
 
 // Why there is no screen after keys.
-fn lost_answer(base: &Base, none: &NoScreen) -> Result<Answer, AllocError>
+fn lost_answer(base: &Base, none: &NoScreen) -> Result<ShowAnswer, AllocError>
     ensures { IfOk result (IsLostAnswer base.now none.now) }
 {
     match none {
-        NoScreen::EntryMissing => Ok(Answer::Nothing(ShowStatus::EntryMissing(base.entry_frame()))),
-        NoScreen::EntryClosed => Ok(Answer::Nothing(ShowStatus::EntryClosed(base.entry_frame()))),
-        NoScreen::Gone(page) => Ok(Answer::Nothing(ShowStatus::Gone(*page))),
+        NoScreen::EntryMissing => Ok(ShowAnswer::Nothing(ShowStatus::EntryMissing(base.entry_frame()))),
+        NoScreen::EntryClosed => Ok(ShowAnswer::Nothing(ShowStatus::EntryClosed(base.entry_frame()))),
+        NoScreen::Gone(page) => Ok(ShowAnswer::Nothing(ShowStatus::Gone(*page))),
         NoScreen::Memory => Err(AllocError),
     }
 }
@@ -143,11 +143,11 @@ fn keyed_answer(
     groups: &Groups,
     keys: &[Key],
     form: Form,
-) -> Result<Answer, AllocError>
+) -> Result<ShowAnswer, AllocError>
     ensures { IfOk result (IsKeyedAnswer form base.now (keyed_frames groups.now base.now keys.now)) }
 {
     match frames_after(alloc, base, groups, keys) {
-        Ok(frames) => Ok(Answer::Screen(screen_text(alloc, base, &frames, form)?)),
+        Ok(frames) => Ok(ShowAnswer::Screen(screen_text(alloc, base, &frames, form)?)),
         Err(none) => lost_answer(base, &none),
     }
 }
@@ -158,7 +158,7 @@ fn answer_of(
     groups: &Groups,
     target: &Target,
     form: Form,
-) -> Result<Answer, AllocError>
+) -> Result<ShowAnswer, AllocError>
     ensures { IfOk result (IsShown groups.now target.now form base.now) }
 {
     match target {
@@ -169,13 +169,13 @@ fn answer_of(
 }
 
 // Writes a screen, if there is one.
-fn write_answer<O: Sink>(out: &mut O, answer: Answer) -> Result<ShowStatus, RunFault>
+fn write_answer<O: Sink>(out: &mut O, answer: ShowAnswer) -> Result<ShowStatus, RunFault>
     requires { (O.seen out.old).failed ≡ false }
     ensures { IsAnswerWritten (device O.seen out.old out.new) answer result }
 {
     match answer {
-        Answer::Nothing(status) => Ok(status),
-        Answer::Screen(text) => match write_whole(out, text.as_slice()) {
+        ShowAnswer::Nothing(status) => Ok(status),
+        ShowAnswer::Screen(text) => match write_whole(out, text.as_slice()) {
             Ok(()) => Ok(ShowStatus::Shown),
             Err(fault) => Err(RunFault::Write(fault.wrote)),
         },

@@ -4,8 +4,8 @@ use Rattle.checker.specs.declared.bytes.InputFault.{InputFault}
 use Rattle.checker.specs.declared.bytes.InputFault.TheVariants as input
 use Rattle.audit_report.specs.declared.run_fault.RunFault.TheVariants as run
 use Rattle.audit_report.specs.FaultLines.{fault_text}
-use Rattle.pageaudit_c.specs.declared.status.Status.{Status}
-use Rattle.pageaudit_c.specs.declared.status.Status.TheVariants.{BadText, OutOfMemory, BadPolicy}
+use Rattle.pageaudit_c.specs.declared.status.CallStatus.{CallStatus}
+use Rattle.pageaudit_c.specs.declared.status.CallStatus.TheVariants.{BadText, OutOfMemory, BadPolicy}
 use Rattle.frame_records.specs.declared.groups.GroupFault.{GroupFault}
 use Rattle.frame_records.specs.Bases.{IsPrice}
 use Rattle.frame_records.specs.Groups.{groups_in}
@@ -15,21 +15,21 @@ use Rattle.pageaudit_c.specs.Status.{number_of}
 -- The answer of a call: a status, and the text that the program prints.
 
 -- memory was refused; there is no text
-abbrev pub IsOutOfMemory : Status → List ℕ → Type 0
+abbrev pub IsOutOfMemory : CallStatus → List ℕ → Type 0
 IsOutOfMemory status text = (status ≡ OutOfMemory) × (text ≡ [])
 
 -- this status and this text, or memory was refused
-abbrev pub IsAnswer : Status → List ℕ → Status → List ℕ → Type 0
+abbrev pub IsAnswer : CallStatus → List ℕ → CallStatus → List ℕ → Type 0
 IsAnswer due printed status text = ((status ≡ due) × (text ≡ printed)) ⊎ IsOutOfMemory status text
 
 -- the line of a fault in the only edition's texts, or the old one's
-abbrev pub IsFaultAnswer : InputFault → Status → List ℕ → Type 0
+abbrev pub IsFaultAnswer : InputFault → CallStatus → List ℕ → Type 0
 IsFaultAnswer (input.Base fault) status text = IsAnswer BadText (fault_text (run.Base fault)) status text
 IsFaultAnswer (input.Cert fault) status text = IsAnswer BadText (fault_text (run.Cert fault)) status text
 IsFaultAnswer input.Memory status text = IsOutOfMemory status text
 
 -- the line of a fault in the new edition's texts
-abbrev pub IsNewFaultAnswer : InputFault → Status → List ℕ → Type 0
+abbrev pub IsNewFaultAnswer : InputFault → CallStatus → List ℕ → Type 0
 IsNewFaultAnswer (input.Base fault) status text = IsAnswer BadText (fault_text (run.NewBase fault)) status text
 IsNewFaultAnswer (input.Cert fault) status text = IsAnswer BadText (fault_text (run.NewCert fault)) status text
 IsNewFaultAnswer input.Memory status text = IsOutOfMemory status text
@@ -90,19 +90,19 @@ pub record IsCopied (text : List ℕ) (b : Buffer) : Type 0 where
   pub whole : b.stored ≡ length text
 
 -- the answer for the policy, if there is one
-abbrev pub IsAnswered : (Policy → Status → List ℕ → Type 0) → Option Policy → Status → List ℕ → Type 0
+abbrev pub IsAnswered : (Policy → CallStatus → List ℕ → Type 0) → Option Policy → CallStatus → List ℕ → Type 0
 IsAnswered Answers (Some policy) status text = Answers policy status text
 IsAnswered Answers None status text = (status ≡ BadPolicy) × (text ≡ [])
 
 -- the answer for the policy that is passed
-pub record IsAskedAnswer (Answers : Policy → Status → List ℕ → Type 0) (a : Asked) (status : Status) (text : List ℕ) : Type 0 where
+pub record IsAskedAnswer (Answers : Policy → CallStatus → List ℕ → Type 0) (a : Asked) (status : CallStatus) (text : List ℕ) : Type 0 where
   pub policy : Option Policy
   pub read : IsPolicyRead a policy
   pub answered : IsAnswered Answers policy status text
 
 -- a call: the number of its status is returned, and its text was copied
-pub record IsCall (Answers : Policy → Status → List ℕ → Type 0) (a : Asked) (b : Buffer) (number : ℕ) : Type 0 where
-  pub status : Status
+pub record IsCall (Answers : Policy → CallStatus → List ℕ → Type 0) (a : Asked) (b : Buffer) (number : ℕ) : Type 0 where
+  pub status : CallStatus
   pub text : List ℕ
   pub answer : IsAskedAnswer Answers a status text
   pub copied : IsCopied text b

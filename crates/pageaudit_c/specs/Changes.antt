@@ -9,7 +9,7 @@ use Rattle.checker.specs.declared.bytes.InputFault.{InputFault}
 use Rattle.checker.specs.Change.{change_verdict, IsSafeChange}
 use Rattle.checker.specs.Headline.{IsInputFault}
 use Rattle.audit_report.specs.Lines.{change_text}
-use Rattle.pageaudit_c.specs.declared.status.Status.{Status}
+use Rattle.pageaudit_c.specs.declared.status.CallStatus.{CallStatus}
 use Rattle.audit_report.specs.Statuses.{status_of_change}
 use Rattle.pageaudit_c.specs.Status.{of_judged}
 use Rattle.pageaudit_c.specs.Calls.{IsAnswer, IsFaultAnswer, IsNewFaultAnswer}
@@ -28,7 +28,7 @@ pub record IsEditionOf (texts : EditionTexts) (base : BaseView) (cert : CertView
   pub of_cert : IsCertificateText texts.cert cert
 
 -- the line of the verdict on two editions
-pub record IsVerdictAnswer (old_texts new_texts : EditionTexts) (policy : Policy) (status : Status) (text : List ℕ) : Type 0 where
+pub record IsVerdictAnswer (old_texts new_texts : EditionTexts) (policy : Policy) (status : CallStatus) (text : List ℕ) : Type 0 where
   pub old : BaseView
   pub old_cert : CertView
   pub new : BaseView
@@ -38,13 +38,13 @@ pub record IsVerdictAnswer (old_texts new_texts : EditionTexts) (policy : Policy
   pub answer : IsAnswer (of_judged (status_of_change (change_verdict policy old old_cert new new_cert))) (change_text (change_verdict policy old old_cert new new_cert)) status text
 
 -- the line of the first fault in the old edition's texts
-pub record IsOldFaultAnswer (old_texts : EditionTexts) (status : Status) (text : List ℕ) : Type 0 where
+pub record IsOldFaultAnswer (old_texts : EditionTexts) (status : CallStatus) (text : List ℕ) : Type 0 where
   pub fault : InputFault
   pub is : IsInputFault old_texts.base old_texts.cert fault
   pub answer : IsFaultAnswer fault status text
 
 -- the line of the first fault in the new edition's texts, after a whole old edition
-pub record IsAfterOldAnswer (old_texts new_texts : EditionTexts) (status : Status) (text : List ℕ) : Type 0 where
+pub record IsAfterOldAnswer (old_texts new_texts : EditionTexts) (status : CallStatus) (text : List ℕ) : Type 0 where
   pub old : BaseView
   pub old_cert : CertView
   pub of_old : IsEditionOf old_texts old old_cert
@@ -53,7 +53,7 @@ pub record IsAfterOldAnswer (old_texts new_texts : EditionTexts) (status : Statu
   pub answer : IsNewFaultAnswer fault status text
 
 -- the answer of the check of a change between two editions
-abbrev pub IsChangeAnswer : EditionTexts → EditionTexts → Policy → Status → List ℕ → Type 0
+abbrev pub IsChangeAnswer : EditionTexts → EditionTexts → Policy → CallStatus → List ℕ → Type 0
 IsChangeAnswer old_texts new_texts policy status text =
     IsVerdictAnswer old_texts new_texts policy status text
     ⊎ (IsOldFaultAnswer old_texts status text ⊎ IsAfterOldAnswer old_texts new_texts status text)

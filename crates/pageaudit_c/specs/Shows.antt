@@ -18,9 +18,9 @@ use Rattle.screens.specs.declared.look.Look.{Look}
 use Rattle.screens.specs.Table.{six, sextants_char, colour_number}
 use Rattle.screens.specs.Looks.{looks}
 use Rattle.pageaudit_c.specs.declared.showing.CellLook.{CellLook}
-use Rattle.pageaudit_c.specs.declared.showing.Shown.{Shown}
-use Rattle.pageaudit_c.specs.declared.status.Status.{Status}
-use Rattle.pageaudit_c.specs.declared.status.Status.TheVariants.{Clear, Faulty, BadPolicy, OutOfMemory}
+use Rattle.pageaudit_c.specs.declared.showing.ShownScreen.{ShownScreen}
+use Rattle.pageaudit_c.specs.declared.status.CallStatus.{CallStatus}
+use Rattle.pageaudit_c.specs.declared.status.CallStatus.TheVariants.{Clear, Faulty, BadPolicy, OutOfMemory}
 use Rattle.pageaudit_c.specs.Audits.{IsBaseFault}
 use Rattle.pageaudit_c.specs.Calls.{Buffer, IsCopied, laid_over}
 use Rattle.pageaudit_c.specs.Status.{number_of}
@@ -68,10 +68,10 @@ pub record IsScreen (caller : List ℕ) (base : BaseView) (id : Id) (codes : Lis
   pub looks_are : cells ≡ cell_looks (screen_codes base frames)
 
 -- a status without a text and without a screen
-abbrev pub IsNoScreen : Status → Shown → Type 0
+abbrev pub IsNoScreen : CallStatus → ShownScreen → Type 0
 IsNoScreen status s = (s.status ≡ status) × (s.text.items ≡ []) × (s.codes.items ≡ []) × (s.looks.items ≡ [])
 
-pub record IsFrameScreen (caller : List ℕ) (base : BaseView) (id : Id) (s : Shown) : Type 0 where
+pub record IsFrameScreen (caller : List ℕ) (base : BaseView) (id : Id) (s : ShownScreen) : Type 0 where
   pub status_is : s.status ≡ Clear
   pub no_text : s.text.items ≡ []
   pub screen : IsScreen caller base id s.codes.items s.looks.items
@@ -87,31 +87,31 @@ named base [] = Some (entry_of base)
 named base (b ∷ bs) = of_page_or_id (page_in (b ∷ bs)) (id_in (b ∷ bs))
 
 -- a frame, by its record
-abbrev pub IsRecordShown : List ℕ → BaseView → Id → Option Frame → Shown → Type 0
+abbrev pub IsRecordShown : List ℕ → BaseView → Id → Option Frame → ShownScreen → Type 0
 IsRecordShown caller base id (Some frame) s = IsFrameScreen caller base id s ⊎ IsNoScreen OutOfMemory s
 IsRecordShown caller base id None s = IsNoScreen Faulty s
 
-abbrev pub IsNamedShown : List ℕ → BaseView → Option Id → Shown → Type 0
+abbrev pub IsNamedShown : List ℕ → BaseView → Option Id → ShownScreen → Type 0
 IsNamedShown caller base (Some id) s = IsRecordShown caller base id (frame_at base id) s
 IsNamedShown caller base None s = IsNoScreen Faulty s
 
 -- the text is that of a base
-pub record IsBaseShown (base_text : List ℕ) (caller word : List ℕ) (s : Shown) : Type 0 where
+pub record IsBaseShown (base_text : List ℕ) (caller word : List ℕ) (s : ShownScreen) : Type 0 where
   pub base : BaseView
   pub of_base : IsTextBase base_text base
   pub shown : IsNamedShown caller base (named base word) s
 
 -- the text is that of no base
-pub record IsFaultShown (base_text : List ℕ) (s : Shown) : Type 0 where
+pub record IsFaultShown (base_text : List ℕ) (s : ShownScreen) : Type 0 where
   pub fault : IsBaseFault base_text s.status s.text.items
   pub no_codes : s.codes.items ≡ []
   pub no_looks : s.looks.items ≡ []
 
-abbrev pub IsShowAnswer : List ℕ → List ℕ → List ℕ → Shown → Type 0
+abbrev pub IsShowAnswer : List ℕ → List ℕ → List ℕ → ShownScreen → Type 0
 IsShowAnswer base_text word caller s = IsBaseShown base_text caller word s ⊎ (IsFaultShown base_text s ⊎ IsNoScreen OutOfMemory s)
 
 -- for the groups that are passed, if they are a list
-abbrev pub IsAskedShow : List ℕ → List ℕ → Result (List ℕ) GroupFault → Shown → Type 0
+abbrev pub IsAskedShow : List ℕ → List ℕ → Result (List ℕ) GroupFault → ShownScreen → Type 0
 IsAskedShow base_text word (Ok caller) s = IsShowAnswer base_text word caller s
 IsAskedShow base_text word (Err fault) s = IsNoScreen BadPolicy s
 
@@ -124,7 +124,7 @@ pub record Arrays : Type 0 where
 
 -- a call: what is shown was copied, and the number of its status is returned
 pub record IsShowCall (base_text word : List ℕ) (caller : Result (List ℕ) GroupFault) (a : Arrays) (line : Buffer) (number : ℕ) : Type 0 where
-  pub s : Shown
+  pub s : ShownScreen
   pub is : IsAskedShow base_text word caller s
   pub codes_are : a.codes_after ≡ laid_over s.codes.items a.codes
   pub looks_are : a.looks_after ≡ laid_over s.looks.items a.looks

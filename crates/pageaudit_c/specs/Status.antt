@@ -2,16 +2,16 @@
 use Rattle.std.specs.Prelude.{◌==◌, ℕ, if◌then◌else◌, List, [], codes}
 use Rattle.audit_report.specs.declared.status.Status.{Status as Judged}
 use Rattle.audit_report.specs.declared.status.Status.TheVariants as judged
-use Rattle.pageaudit_c.specs.declared.status.Status.{Status}
-use Rattle.pageaudit_c.specs.declared.status.Status.TheVariants.{Clear, Faulty, BadPolicy, BadText, OutOfMemory}
+use Rattle.pageaudit_c.specs.declared.status.CallStatus.{CallStatus}
+use Rattle.pageaudit_c.specs.declared.status.CallStatus.TheVariants.{Clear, Faulty, BadPolicy, BadText, OutOfMemory}
 
 -- the status of a judgment
-abbrev pub of_judged : Judged → Status
+abbrev pub of_judged : Judged → CallStatus
 of_judged judged.Clear = Clear
 of_judged judged.Faulty = Faulty
 
 -- the program's exit status for the same texts
-abbrev pub number_of : Status → ℕ
+abbrev pub number_of : CallStatus → ℕ
 number_of Clear = 0
 number_of Faulty = 1
 number_of BadPolicy = 2

@@ -1,9 +1,9 @@
 ghost use Rattle.std.specs.Prelude.{◌≡◌, [], length};
 ghost use Rattle.audit_report.specs.FaultLines.{fault_text};
-ghost use Rattle.pageaudit_c.specs.declared.status.Status.TheVariants.{BadText, BadPolicy};
+ghost use Rattle.pageaudit_c.specs.declared.status.CallStatus.TheVariants.{BadText, BadPolicy};
 ghost use Rattle.pageaudit_c.specs.Calls.{IsOutOfMemory, IsAnswer, IsFaultAnswer, IsNewFaultAnswer, laid_over};
 
-use crate::status::Status;
+use crate::status::CallStatus;
 use audit_report::{RunFault, fault_text};
 use checker::InputFault;
 use std::alloc::{AllocError, Global};
@@ -11,7 +11,7 @@ use std::alloc::{AllocError, Global};
 /// A status and the text that the program prints.
 #[derive(Drop)]
 pub struct Answer {
-    pub status: Status,
+    pub status: CallStatus,
     pub text: Vec<u8>,
 }
 
@@ -26,7 +26,7 @@ pub fn lay_over(text: &[u8], buffer: &mut [u8]) -> usize
 }
 
 // An answer without a text.
-fn without_text(alloc: Global, status: Status) -> Answer
+fn without_text(alloc: Global, status: CallStatus) -> Answer
     ensures status { result.status ≡ status }
     ensures text { result.text.items ≡ [] }
 {
@@ -39,14 +39,14 @@ fn without_text(alloc: Global, status: Status) -> Answer
 pub fn out_of_memory(alloc: Global) -> Answer
     ensures { IsOutOfMemory result.status result.text.items }
 {
-    without_text(alloc, Status::OutOfMemory)
+    without_text(alloc, CallStatus::OutOfMemory)
 }
 
 pub fn bad_policy(alloc: Global) -> Answer
     ensures status { result.status ≡ BadPolicy }
     ensures text { result.text.items ≡ [] }
 {
-    without_text(alloc, Status::BadPolicy)
+    without_text(alloc, CallStatus::BadPolicy)
 }
 
 // The line of a fault in a text.
@@ -55,7 +55,7 @@ fn bad_text(alloc: Global, fault: &RunFault) -> Answer
 {
     match fault_text(alloc, fault) {
         Ok(text) => Answer {
-            status: Status::BadText,
+            status: CallStatus::BadText,
             text,
         },
         Err(_) => out_of_memory(alloc),

@@ -6,7 +6,7 @@ ghost use Rattle.pageaudit_c.specs.Audits.{IsReported, IsAuditAnswer};
 
 use crate::answer::{Answer, bad_policy, fault_answer, lay_over, out_of_memory};
 use crate::policy::policy_of;
-use crate::status::Status;
+use crate::status::CallStatus;
 use audit_report::report;
 use checker::{Policy, base_of};
 use fault_scripts::audit;
@@ -25,7 +25,7 @@ fn reported(alloc: Global, base: &Base, policy: &Policy, text: &[u8]) -> Answer
     };
     match report(alloc, &outcome) {
         Ok(text) => Answer {
-            status: Status::of(audit_report::Status::of_outcome(&outcome)),
+            status: CallStatus::of(audit_report::Status::of_outcome(&outcome)),
             text,
         },
         Err(_) => out_of_memory(alloc),

@@ -2,14 +2,14 @@ ghost use Rattle.std.specs.Prelude.{◌≡◌, IfOk, IfErr};
 ghost use Rattle.checker.specs.Headline.{IsInputFault};
 ghost use Rattle.audit_report.specs.Lines.{change_text};
 ghost use Rattle.audit_report.specs.Statuses.{status_of_change};
-ghost use Rattle.pageaudit_c.specs.declared.status.Status.TheVariants.{Clear};
+ghost use Rattle.pageaudit_c.specs.declared.status.CallStatus.TheVariants.{Clear};
 ghost use Rattle.pageaudit_c.specs.Status.{of_judged};
 ghost use Rattle.pageaudit_c.specs.Calls.{IsAnswer, asked, HoldsForPolicy, IsAskedAnswer, IsCall, buffer};
 ghost use Rattle.pageaudit_c.specs.Changes.{edition, IsEditionOf, IsVerdictAnswer, IsChangeAnswer, IsSafeChangeOf};
 
 use crate::answer::{Answer, bad_policy, fault_answer, lay_over, new_fault_answer, out_of_memory};
 use crate::policy::policy_of;
-use crate::status::Status;
+use crate::status::CallStatus;
 use audit_report::change_text;
 use cert_table::Certificate;
 use checker::{ChangeVerdict, InputFault, Policy, base_of, cert_of, check_change};
@@ -47,7 +47,7 @@ fn verdict_answer(alloc: Global, verdict: &ChangeVerdict) -> Answer
 {
     match change_text(alloc, verdict) {
         Ok(text) => Answer {
-            status: Status::of(audit_report::Status::of_change(verdict)),
+            status: CallStatus::of(audit_report::Status::of_change(verdict)),
             text,
         },
         Err(_) => out_of_memory(alloc),

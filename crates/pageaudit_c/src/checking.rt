@@ -2,14 +2,14 @@ ghost use Rattle.std.specs.Prelude.{◌≡◌};
 ghost use Rattle.checker.specs.Headline.{Headline};
 ghost use Rattle.audit_report.specs.Lines.{verdict_text};
 ghost use Rattle.audit_report.specs.Statuses.{status_of_verdict};
-ghost use Rattle.pageaudit_c.specs.declared.status.Status.TheVariants.{Clear};
+ghost use Rattle.pageaudit_c.specs.declared.status.CallStatus.TheVariants.{Clear};
 ghost use Rattle.pageaudit_c.specs.Status.{of_judged};
 ghost use Rattle.pageaudit_c.specs.Calls.{IsAnswer, asked, HoldsForPolicy, IsAskedAnswer, IsCall, buffer};
 ghost use Rattle.pageaudit_c.specs.Checks.{IsResultAnswer, IsCheckAnswer};
 
 use crate::answer::{Answer, bad_policy, fault_answer, lay_over, out_of_memory};
 use crate::policy::policy_of;
-use crate::status::Status;
+use crate::status::CallStatus;
 use audit_report::verdict_text;
 use checker::{InputFault, Policy, Verdict, check_bytes};
 use std::alloc::Global;
@@ -21,7 +21,7 @@ fn verdict_answer(alloc: Global, verdict: &Verdict) -> Answer
 {
     match verdict_text(alloc, verdict) {
         Ok(text) => Answer {
-            status: Status::of(audit_report::Status::of_verdict(verdict)),
+            status: CallStatus::of(audit_report::Status::of_verdict(verdict)),
             text,
         },
         Err(_) => out_of_memory(alloc),

@@ -11,7 +11,7 @@
 //!   does, of texts in memory.
 //! - [`pageaudit_show`], [`CellLook`]: the screen of a frame, as numbers.
 //! - [`pageaudit_status_text`]: the words for what they return.
-//! - [`Status`]: what they return, by its number.
+//! - [`CallStatus`]: what they return, by its number.
 //!
 //! No call keeps anything, and none ends the program. A slice is a pointer, which is never null, and a length.
 #![tactic(auto)]
@@ -32,4 +32,4 @@ pub use checking::pageaudit_check;
 pub use linting::{pageaudit_lint, pageaudit_lint_json};
 pub use naming::pageaudit_status_text;
 pub use showing::{CellLook, pageaudit_show};
-pub use status::Status;
+pub use status::CallStatus;

@@ -5,20 +5,20 @@ ghost use Rattle.pageaudit_c.specs.Lints.{status_of_findings, IsLintAnswer};
 
 use crate::answer::{Answer, bad_policy, lay_over, out_of_memory};
 use crate::policy::policy_of;
-use crate::status::Status;
+use crate::status::CallStatus;
 use checker::Policy;
 use finding_forms::{Format, findings_text};
 use lint::{Counts, Finding, lint};
 use std::alloc::Global;
 
 // Faulty if and only if there is an error.
-fn status_of_findings(findings: &[Finding]) -> Status
+fn status_of_findings(findings: &[Finding]) -> CallStatus
     ensures { result ≡ status_of_findings findings.now }
 {
     if Counts::of(findings).errors == 0 {
-        Status::Clear
+        CallStatus::Clear
     } else {
-        Status::Faulty
+        CallStatus::Faulty
     }
 }
 

@@ -2,12 +2,12 @@ ghost use Rattle.std.specs.Prelude.{◌≡◌, ◌⊎◌, ◌++◌, [], IfOk, On
 ghost use Rattle.std.specs.List.{flat_map};
 ghost use Rattle.frame_records.specs.Bases.{frame_at};
 ghost use Rattle.pageaudit_c.specs.Calls.{groups_of, laid_over, buffer};
-ghost use Rattle.pageaudit_c.specs.declared.status.Status.TheVariants.{Faulty, OutOfMemory};
+ghost use Rattle.pageaudit_c.specs.declared.status.CallStatus.TheVariants.{Faulty, OutOfMemory};
 ghost use Rattle.pageaudit_c.specs.Shows as spec;
 
 use crate::answer::{Answer, bad_policy, fault_answer, lay_over, out_of_memory};
 use crate::policy::groups_of;
-use crate::status::Status;
+use crate::status::CallStatus;
 use checker::base_of;
 use frame_records::{Base, Groups};
 use frame_screens::{screen, way_to};
@@ -37,8 +37,8 @@ pub struct CellLook {
 
 // A screen, or none, beside a status and a text.
 #[derive(Drop)]
-struct Shown {
-    status: Status,
+struct ShownScreen {
+    status: CallStatus,
     text: Vec<u8>,
     codes: Vec<u8>,
     looks: Vec<CellLook>,
@@ -136,13 +136,13 @@ fn screen_of(alloc: Global, base: &Base, groups: &Groups, id: FrameId) -> Result
     Ok(Screen { codes, looks })
 }
 
-fn without_screen(alloc: Global, answer: Answer) -> Shown
+fn without_screen(alloc: Global, answer: Answer) -> ShownScreen
     ensures status { result.status ≡ answer.status }
     ensures text { result.text.items ≡ answer.text.items }
     ensures codes { result.codes.items ≡ [] }
     ensures looks { result.looks.items ≡ [] }
 {
-    Shown {
+    ShownScreen {
         status: answer.status,
         text: answer.text,
         codes: Vec::new(alloc),
@@ -150,11 +150,11 @@ fn without_screen(alloc: Global, answer: Answer) -> Shown
     }
 }
 
-fn no_frame(alloc: Global) -> Shown
+fn no_frame(alloc: Global) -> ShownScreen
     ensures { spec.IsNoScreen Faulty result }
 {
-    Shown {
-        status: Status::Faulty,
+    ShownScreen {
+        status: CallStatus::Faulty,
         text: Vec::new(alloc),
         codes: Vec::new(alloc),
         looks: Vec::new(alloc),
@@ -175,12 +175,12 @@ fn named(base: &Base, word: &[u8]) -> Option<FrameId>
 }
 
 // A frame that the base has.
-fn frame_shown(alloc: Global, base: &Base, groups: &Groups, id: FrameId) -> Shown
+fn frame_shown(alloc: Global, base: &Base, groups: &Groups, id: FrameId) -> ShownScreen
     ensures { spec.IsFrameScreen groups.now base.now id result ⊎ spec.IsNoScreen OutOfMemory result }
 {
     match screen_of(alloc, base, groups, id) {
-        Ok(screen) => Shown {
-            status: Status::Clear,
+        Ok(screen) => ShownScreen {
+            status: CallStatus::Clear,
             text: Vec::new(alloc),
             codes: screen.codes,
             looks: screen.looks,
@@ -189,7 +189,7 @@ fn frame_shown(alloc: Global, base: &Base, groups: &Groups, id: FrameId) -> Show
     }
 }
 
-fn id_shown(alloc: Global, base: &Base, groups: &Groups, id: FrameId) -> Shown
+fn id_shown(alloc: Global, base: &Base, groups: &Groups, id: FrameId) -> ShownScreen
     ensures { spec.IsRecordShown groups.now base.now id (frame_at base.now id) result }
 {
     match base.find(id) {
@@ -198,7 +198,7 @@ fn id_shown(alloc: Global, base: &Base, groups: &Groups, id: FrameId) -> Shown
     }
 }
 
-fn word_shown(alloc: Global, base: &Base, groups: &Groups, word: &[u8]) -> Shown
+fn word_shown(alloc: Global, base: &Base, groups: &Groups, word: &[u8]) -> ShownScreen
     ensures { spec.IsNamedShown groups.now base.now (spec.named base.now word.now) result }
 {
     match named(base, word) {
@@ -207,7 +207,7 @@ fn word_shown(alloc: Global, base: &Base, groups: &Groups, word: &[u8]) -> Shown
     }
 }
 
-fn base_shown(alloc: Global, text: &[u8], groups: &Groups, word: &[u8]) -> Shown
+fn base_shown(alloc: Global, text: &[u8], groups: &Groups, word: &[u8]) -> ShownScreen
     ensures { spec.IsShowAnswer text.now word.now groups.now result }
 {
     match base_of(alloc, text) {
@@ -217,7 +217,7 @@ fn base_shown(alloc: Global, text: &[u8], groups: &Groups, word: &[u8]) -> Shown
 }
 
 // The answer for the groups that are passed.
-fn show_answer(alloc: Global, text: &[u8], word: &[u8], groups: &[u8]) -> Shown
+fn show_answer(alloc: Global, text: &[u8], word: &[u8], groups: &[u8]) -> ShownScreen
     ensures { spec.IsAskedShow text.now word.now (groups_of groups.now) result }
 {
     match groups_of(groups) {

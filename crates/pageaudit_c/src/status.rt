@@ -1,6 +1,6 @@
 /// What a call answers. Its number is the program's exit status for the same texts.
 #[derive(Debug, Clone, Copy, PartialEq, Eq)]
-pub enum Status {
+pub enum CallStatus {
     /// 0: the certificate or the change is cleared, the audit found no fault, or lint no error.
     Clear,
     /// 1: it is refused, or there are faults or errors.
@@ -13,30 +13,30 @@ pub enum Status {
     OutOfMemory,
 }
 
-impl Status {
+impl CallStatus {
     ghost use Rattle.std.specs.Prelude.{◌≡◌};
     ghost use Rattle.pageaudit_c.specs.Status.{number_of, of_judged};
 
     // The status of a judgment.
-    pub fn of(judged: audit_report::Status) -> Status
+    pub fn of(judged: audit_report::Status) -> CallStatus
         ensures { result ≡ of_judged judged }
     {
         match judged {
-            audit_report::Status::Clear => Status::Clear,
-            audit_report::Status::Faulty => Status::Faulty,
+            audit_report::Status::Clear => CallStatus::Clear,
+            audit_report::Status::Faulty => CallStatus::Faulty,
         }
     }
 
     pub fn number(self) -> u32
         ensures value { result ≡ number_of self }
-        ensures clear { result ≡ 0 → self ≡ Status.Clear }
+        ensures clear { result ≡ 0 → self ≡ CallStatus.Clear }
     {
         match self {
-            Status::Clear => 0,
-            Status::Faulty => 1,
-            Status::BadPolicy => 2,
-            Status::BadText => 3,
-            Status::OutOfMemory => 4,
+            CallStatus::Clear => 0,
+            CallStatus::Faulty => 1,
+            CallStatus::BadPolicy => 2,
+            CallStatus::BadText => 3,
+            CallStatus::OutOfMemory => 4,
         }
     }
 }

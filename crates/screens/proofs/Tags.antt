@@ -17,9 +17,9 @@ use Rattle.screens.specs.Table.{six}
 use Rattle.screens.specs.declared.layer.Ink.{Ink}
 use Rattle.screens.specs.declared.layer.Layer.{Layer}
 use Rattle.screens.specs.declared.layer.Layer.TheVariants.{Grounds, Mosaics, Letters}
-use Rattle.screens.specs.declared.mosaics.Part.{Part}
-use Rattle.screens.specs.declared.mosaics.Part.TheVariants.{Top, Middle, Bottom}
-use Rattle.screens.specs.declared.mosaics.Span.{Span}
+use Rattle.screens.specs.declared.mosaics.Third.{Third}
+use Rattle.screens.specs.declared.mosaics.Third.TheVariants.{Top, Middle, Bottom}
+use Rattle.screens.specs.declared.mosaics.Units.{Units}
 use Rattle.screens.specs.declared.writing.Writing.TheVariants.{Markup}
 use Rattle.screens.specs.Writing.{written}
 use Rattle.screens.specs.Mosaics.{across, down, bits_of, rectangle, rectangles, part_path, mosaic_path, glyph_path, mosaics_path}
@@ -77,7 +77,7 @@ inner_extent n = joined (attribute (codes "width") (12 * n)) (codes " height=\"2
 put_number : (front : List ℕ) (n : ℕ) (last : List ℕ) → Inner front → Inner last → Inner (front ++ decimal n ++ last)
 put_number front n last h k = joined (front ++ decimal n) last (joined front (decimal n) h (inner_decimal n)) k
 
-inner_rectangle : (x y : ℕ) (wide high : Span) → Inner (rectangle x y wide high)
+inner_rectangle : (x y : ℕ) (wide high : Units) → Inner (rectangle x y wide high)
 inner_rectangle x y wide high =
     put_number (codes "M" ++ decimal (x + wide.start) ++ codes " " ++ decimal (y + high.start) ++ codes "h" ++ decimal wide.size ++ codes "v" ++ decimal high.size ++ codes "h-") wide.size (codes "z")
     (put_number (codes "M" ++ decimal (x + wide.start) ++ codes " " ++ decimal (y + high.start) ++ codes "h" ++ decimal wide.size ++ codes "v") high.size (codes "h-")
@@ -85,15 +85,15 @@ inner_rectangle x y wide high =
     (put_number (codes "M" ++ decimal (x + wide.start) ++ codes " ") (y + high.start) (codes "h")
     (put_number (codes "M") (x + wide.start) (codes " ") refl refl) refl) refl) refl) refl
 
-inner_wide : (x y : ℕ) (wide : List Span) (high : Span) → Inner (flat_map (λ w. rectangle x y w high) wide)
+inner_wide : (x y : ℕ) (wide : List Units) (high : Units) → Inner (flat_map (λ w. rectangle x y w high) wide)
 inner_wide x y [] high = refl
 inner_wide x y (w ∷ wide) high = joined (rectangle x y w high) (flat_map (λ v. rectangle x y v high) wide) (inner_rectangle x y w high) (inner_wide x y wide high)
 
-inner_rectangles : (x y : ℕ) (wide : List Span) (high : Option Span) → Inner (rectangles x y wide high)
+inner_rectangles : (x y : ℕ) (wide : List Units) (high : Option Units) → Inner (rectangles x y wide high)
 inner_rectangles x y wide None = refl
 inner_rectangles x y wide (Some high) = inner_wide x y wide high
 
-inner_part : (x y : ℕ) (height : Height) (m : Mosaic) (part : Part) → Inner (part_path x y height m part)
+inner_part : (x y : ℕ) (height : Height) (m : Mosaic) (part : Third) → Inner (part_path x y height m part)
 inner_part x y height m part = inner_rectangles x y (across m.separated (bits_of part (six m.sextants))) (down m.separated height part)
 
 inner_mosaic : (x y : ℕ) (height : Height) (m : Mosaic) → Inner (mosaic_path x y height m)

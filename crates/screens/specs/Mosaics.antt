@@ -8,17 +8,17 @@ use Rattle.screens.specs.declared.look.Height.TheVariants.{Single, Upper, Lower}
 use Rattle.screens.specs.declared.look.Look.{Look}
 use Rattle.screens.specs.declared.mosaic.Mosaic.{Mosaic}
 use Rattle.screens.specs.Table.{six}
-use Rattle.screens.specs.declared.mosaics.Part.{Part}
-use Rattle.screens.specs.declared.mosaics.Part.TheVariants.{Top, Middle, Bottom}
-use Rattle.screens.specs.declared.mosaics.Span.{Span}
+use Rattle.screens.specs.declared.mosaics.Third.{Third}
+use Rattle.screens.specs.declared.mosaics.Third.TheVariants.{Top, Middle, Bottom}
+use Rattle.screens.specs.declared.mosaics.Units.{Units}
 
-abbrev pub span : ℕ → ℕ → Span
+abbrev pub span : ℕ → ℕ → Units
 span start size = record { start = start; size = size }
 
 -- Up and down.
 
 -- contiguous blocks; double height is twice as high, cut between the halves
-abbrev pub contiguous : Height → Part → Option Span
+abbrev pub contiguous : Height → Third → Option Units
 contiguous Single Top = Some (span 0 6)
 contiguous Single Middle = Some (span 6 8)
 contiguous Single Bottom = Some (span 14 6)
@@ -30,7 +30,7 @@ contiguous Lower Middle = Some (span 0 8)
 contiguous Lower Bottom = Some (span 8 12)
 
 -- separated blocks lose a unit above and below, at double height two
-abbrev pub separated : Height → Part → Option Span
+abbrev pub separated : Height → Third → Option Units
 separated Single Top = Some (span 1 4)
 separated Single Middle = Some (span 7 6)
 separated Single Bottom = Some (span 15 4)
@@ -41,19 +41,19 @@ separated Lower Top = None
 separated Lower Middle = Some (span 0 6)
 separated Lower Bottom = Some (span 10 8)
 
-abbrev pub down : Bool → Height → Part → Option Span
+abbrev pub down : Bool → Height → Third → Option Units
 down true height part = separated height part
 down false height part = contiguous height part
 
 -- Across.
 
 -- the left block (1), the right one (2), or both (3); separated ones lose a unit on the left and on the right
-abbrev pub across : Bool → ℕ → List Span
+abbrev pub across : Bool → ℕ → List Units
 across true n = if n == 1 then span 1 4 ∷ [] else if n == 2 then span 7 4 ∷ [] else if n == 3 then span 1 4 ∷ span 7 4 ∷ [] else []
 across false n = if n == 1 then span 0 6 ∷ [] else if n == 2 then span 6 6 ∷ [] else if n == 3 then span 0 12 ∷ [] else []
 
 -- the two bits of a part
-abbrev pub bits_of : Part → ℕ → ℕ
+abbrev pub bits_of : Third → ℕ → ℕ
 bits_of Top n = n % 4
 bits_of Middle n = n / 4 % 4
 bits_of Bottom n = n / 16
@@ -61,16 +61,16 @@ bits_of Bottom n = n / 16
 -- As the path of an SVG picture.
 
 -- a rectangle: its left upper corner, along, down, back and closed
-abbrev pub rectangle : ℕ → ℕ → Span → Span → List ℕ
+abbrev pub rectangle : ℕ → ℕ → Units → Units → List ℕ
 rectangle x y wide high =
     codes "M" ++ decimal (x + wide.start) ++ codes " " ++ decimal (y + high.start) ++ codes "h" ++ decimal wide.size ++ codes "v" ++ decimal high.size ++ codes "h-" ++ decimal wide.size ++ codes "z"
 
-abbrev pub rectangles : ℕ → ℕ → List Span → Option Span → List ℕ
+abbrev pub rectangles : ℕ → ℕ → List Units → Option Units → List ℕ
 rectangles x y wide None = []
 rectangles x y wide (Some high) = flat_map (λ w. rectangle x y w high) wide
 
 -- a part of a mosaic in the cell at x and y
-abbrev pub part_path : ℕ → ℕ → Height → Mosaic → Part → List ℕ
+abbrev pub part_path : ℕ → ℕ → Height → Mosaic → Third → List ℕ
 part_path x y height m part = rectangles x y (across m.separated (bits_of part (six m.sextants))) (down m.separated height part)
 
 abbrev pub mosaic_path : ℕ → ℕ → Height → Mosaic → List ℕ

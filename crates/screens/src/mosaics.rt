@@ -11,7 +11,7 @@ use std::alloc::AllocError;
 
 /// A part of a mosaic, with two blocks side by side.
 #[derive(Debug, Clone, Copy, PartialEq, Eq)]
-pub enum Part {
+pub enum Third {
     Top,
     Middle,
     Bottom,
@@ -19,55 +19,55 @@ pub enum Part {
 
 /// Where something begins in its cell, and how many units it takes.
 #[derive(Debug, Clone, Copy, PartialEq, Eq)]
-pub struct Span {
+pub struct Units {
     pub start: u16,
     pub size: u16,
 }
 
-impl Span {
-    fn new(start: u16, size: u16) -> Span
+impl Units {
+    fn new(start: u16, size: u16) -> Units
         ensures { result ≡ spec.span start size }
     {
-        Span { start, size }
+        Units { start, size }
     }
 }
 
 // The blocks of a part, up and down; half of a cell of double height has two parts.
-fn down(separated: bool, height: Height, part: Part) -> Option<Span>
+fn down(separated: bool, height: Height, part: Third) -> Option<Units>
     ensures { result ≡ spec.down separated height part }
 {
     match (separated, height, part) {
-        (false, Height::Single, Part::Top) => Some(Span::new(0, 6)),
-        (false, Height::Single, Part::Middle) => Some(Span::new(6, 8)),
-        (false, Height::Single, Part::Bottom) => Some(Span::new(14, 6)),
-        (false, Height::Upper, Part::Top) => Some(Span::new(0, 12)),
-        (false, Height::Upper, Part::Middle) => Some(Span::new(12, 8)),
-        (false, Height::Lower, Part::Middle) => Some(Span::new(0, 8)),
-        (false, Height::Lower, Part::Bottom) => Some(Span::new(8, 12)),
-        (true, Height::Single, Part::Top) => Some(Span::new(1, 4)),
-        (true, Height::Single, Part::Middle) => Some(Span::new(7, 6)),
-        (true, Height::Single, Part::Bottom) => Some(Span::new(15, 4)),
-        (true, Height::Upper, Part::Top) => Some(Span::new(2, 8)),
-        (true, Height::Upper, Part::Middle) => Some(Span::new(14, 6)),
-        (true, Height::Lower, Part::Middle) => Some(Span::new(0, 6)),
-        (true, Height::Lower, Part::Bottom) => Some(Span::new(10, 8)),
-        (_, Height::Upper, Part::Bottom) | (_, Height::Lower, Part::Top) => None,
+        (false, Height::Single, Third::Top) => Some(Units::new(0, 6)),
+        (false, Height::Single, Third::Middle) => Some(Units::new(6, 8)),
+        (false, Height::Single, Third::Bottom) => Some(Units::new(14, 6)),
+        (false, Height::Upper, Third::Top) => Some(Units::new(0, 12)),
+        (false, Height::Upper, Third::Middle) => Some(Units::new(12, 8)),
+        (false, Height::Lower, Third::Middle) => Some(Units::new(0, 8)),
+        (false, Height::Lower, Third::Bottom) => Some(Units::new(8, 12)),
+        (true, Height::Single, Third::Top) => Some(Units::new(1, 4)),
+        (true, Height::Single, Third::Middle) => Some(Units::new(7, 6)),
+        (true, Height::Single, Third::Bottom) => Some(Units::new(15, 4)),
+        (true, Height::Upper, Third::Top) => Some(Units::new(2, 8)),
+        (true, Height::Upper, Third::Middle) => Some(Units::new(14, 6)),
+        (true, Height::Lower, Third::Middle) => Some(Units::new(0, 6)),
+        (true, Height::Lower, Third::Bottom) => Some(Units::new(10, 8)),
+        (_, Height::Upper, Third::Bottom) | (_, Height::Lower, Third::Top) => None,
     }
 }
 
 // The blocks of a part, across: contiguous ones, and those that are apart.
-const LEFT: Span = Span { start: 0, size: 6 };
+const LEFT: Units = Units { start: 0, size: 6 };
 
-const RIGHT: Span = Span { start: 6, size: 6 };
+const RIGHT: Units = Units { start: 6, size: 6 };
 
-const BOTH: Span = Span { start: 0, size: 12 };
+const BOTH: Units = Units { start: 0, size: 12 };
 
-const LEFT_APART: Span = Span { start: 1, size: 4 };
+const LEFT_APART: Units = Units { start: 1, size: 4 };
 
-const RIGHT_APART: Span = Span { start: 7, size: 4 };
+const RIGHT_APART: Units = Units { start: 7, size: 4 };
 
 // The blocks of two bits: 1 is the left one, 2 the right one.
-fn across(separated: bool, bits: u8) -> &'static [Span]
+fn across(separated: bool, bits: u8) -> &'static [Units]
     ensures { result.now ≡ spec.across separated bits }
 {
     match (separated, bits) {
@@ -81,13 +81,13 @@ fn across(separated: bool, bits: u8) -> &'static [Span]
     }
 }
 
-fn bits_of(part: Part, number: u8) -> u8
+fn bits_of(part: Third, number: u8) -> u8
     ensures { result ≡ spec.bits_of part number }
 {
     match part {
-        Part::Top => number % 4,
-        Part::Middle => number / 4 % 4,
-        Part::Bottom => number / 16,
+        Third::Top => number % 4,
+        Third::Middle => number / 4 % 4,
+        Third::Bottom => number / 16,
     }
 }
 
@@ -102,8 +102,8 @@ fn push_rectangle(
     out: &mut Vec<u8>,
     x: u16,
     y: u16,
-    wide: Span,
-    high: Span,
+    wide: Units,
+    high: Units,
 ) -> Result<(), AllocError>
     ensures { OnOk result (out.new.items ≡ out.old.items ++ spec.rectangle x y wide high) }
 {
@@ -124,8 +124,8 @@ fn push_rectangles(
     out: &mut Vec<u8>,
     x: u16,
     y: u16,
-    wide: &[Span],
-    high: Span,
+    wide: &[Units],
+    high: Units,
 ) -> Result<(), AllocError>
     ensures { OnOk result (out.new.items ≡ out.old.items ++ flat_map (λ w. spec.rectangle x y w high) wide.now) }
 {
@@ -141,7 +141,7 @@ fn push_part(
     y: u16,
     height: Height,
     mosaic: &Mosaic,
-    part: Part,
+    part: Third,
 ) -> Result<(), AllocError>
     ensures { OnOk result (out.new.items ≡ out.old.items ++ spec.part_path x y height mosaic.now part) }
 {
@@ -162,9 +162,9 @@ fn push_mosaic(
 ) -> Result<(), AllocError>
     ensures { OnOk result (out.new.items ≡ out.old.items ++ spec.mosaic_path x y height mosaic.now) }
 {
-    push_part(out, x, y, height, mosaic, Part::Top)?;
-    push_part(out, x, y, height, mosaic, Part::Middle)?;
-    push_part(out, x, y, height, mosaic, Part::Bottom)
+    push_part(out, x, y, height, mosaic, Third::Top)?;
+    push_part(out, x, y, height, mosaic, Third::Middle)?;
+    push_part(out, x, y, height, mosaic, Third::Bottom)
 }
 
 // Writes the mosaics of neighbouring cells of one row, the first of them at x and y, as one path.

@@ -11,7 +11,7 @@ use Rattle.std.specs.BTreeMap.{get_by_text}
 use Rattle.toml_places.specs.declared.places.Places.{Places}
 use Rattle.toml_places.specs.declared.tables.TablePlaces.{TablePlaces}
 use Rattle.toml_places.specs.Places.{Mark, same_frame, begins, is_under, first_by, first_at, first_spot, spot_of, routes_key, at_if, is_key, NotesTable, header_in, key_in, route_in, Keeps, TableKeeps}
-use Rattle.toml_places.specs.declared.spans.Spot.{Spot}
+use Rattle.toml_places.specs.declared.spans.KeyPlace.{KeyPlace}
 
 pub option_or-none : {A : Type 0} (o : Option A) → option_or o None ≡ o
 option_or-none None = refl
@@ -31,7 +31,7 @@ first_by-one see (n ∷ ms) m frame keys =
     ]
 
 -- the first spot is at the first offset
-pub spots_at : (ms : List Mark) (frame : Option ℕ) (keys : List (List ℕ)) → option_map (λ (s : Spot). s.at) (first_spot ms frame keys) ≡ first_at ms frame keys
+pub spots_at : (ms : List Mark) (frame : Option ℕ) (keys : List (List ℕ)) → option_map (λ (s : KeyPlace). s.at) (first_spot ms frame keys) ≡ first_at ms frame keys
 spots_at [] frame keys = refl
 spots_at (n ∷ ms) frame keys =
     elim (cases_Bool (is_under frame keys n)) [

@@ -15,15 +15,15 @@ use Rattle.toml_places.proofs.Options.{stepped, mapped}
 use Rattle.toml_places.proofs.StringFollows.{content_follows, quoted_follows, ascii_delim}
 use Rattle.toml_places.proofs.SkipTurns.{value_deep}
 use Rattle.toml_places.specs.declared.lines.Sort.TheVariants.{Table}
-use Rattle.toml_places.specs.Strings.{Piece, after_part, next_part, part_from, after_key, value_from}
+use Rattle.toml_places.specs.Strings.{Cut, after_part, next_part, part_from, after_key, value_from}
 use Rattle.toml_places.specs.Values.{after_word, after_atom, after_member, after_members, after_value}
 use Rattle.toml_places.specs.Places.{parts}
 use Rattle.toml_places.specs.Spans.{value_or_key}
 use Rattle.toml_places.specs.Skips.{sort_of}
-use Rattle.toml_places.specs.Loops.{array_header, pair, opening, whole_line, Line}
+use Rattle.toml_places.specs.Loops.{array_header, pair, opening, whole_line, Expression}
 
 -- an expression of toml's, by its key and its kind
-abbrev pub line_of : Expression → Line
+abbrev pub line_of : Expression → Expression
 line_of e = (e.0, sort_of e.1)
 
 part_follows : (text rest part : List ℕ) → simple_key text ≡ Some (part, rest) → after_part text ≡ Some rest
@@ -104,7 +104,7 @@ dotted_next text dotted = rw dotted refl
 
 -- a part that was read
 abbrev PartRead : ℕ → List ℕ → List ℕ → Type 0
-PartRead i text part = (p : Piece) × (part_from i text ≡ Some p.0) × (after_part p.0 ≡ Some p.1) × (simple_key p.0 ≡ Some (part, p.1))
+PartRead i text part = (p : Cut) × (part_from i text ≡ Some p.0) × (after_part p.0 ≡ Some p.1) × (simple_key p.0 ≡ Some (part, p.1))
 
 parts_follow : (n i : ℕ) (path : List (List ℕ)) (text rest part : List ℕ) (k : Key) → key_after n path text ≡ Some (k, rest)
     → slice_get (parts k) (length path + i) ≡ Some part → PartRead i text part
@@ -340,7 +340,7 @@ key_no_header text rest k h =
     ]
 
 -- the pair that a grammar reads under f, and the text that it leaves
-abbrev pub Line_of : Option (Expression × List ℕ) → Read Line → Type 0
+abbrev pub Line_of : Option (Expression × List ℕ) → Read Expression → Type 0
 Line_of read left = (e : Expression) (rest : List ℕ) → read ≡ Some (e, rest) → left ≡ Some (line_of e, rest)
 
 array_follows : (text : List ℕ) → Line_of (option_and_then (λ k. option_map (λ rest. ((k.0, array_table), rest)) (after_byte 93 k.1)) (header_key text)) (array_header text)

@@ -12,7 +12,7 @@ use Rattle.toml_places.specs.Skips.{sort_of}
 use Rattle.std.specs.BTreeMap.{get_by_text}
 use Rattle.toml_places.specs.declared.places.Places.{Places}
 use Rattle.toml_places.specs.declared.tables.TablePlaces.{TablePlaces}
-use Rattle.toml_places.specs.declared.spans.Spot.{Spot}
+use Rattle.toml_places.specs.declared.spans.KeyPlace.{KeyPlace}
 use Rattle.toml_places.specs.Values.{Pair as InlinePair, pairs}
 use Rattle.toml_places.specs.Spans.{from_offset}
 use Rattle.std.specs.List.{count_by}
@@ -123,14 +123,14 @@ first_at ms frame keys = first_by (λ m. m.at) ms frame keys
 
 -- Where an expression at this offset, with this many parts, writes the key of a number, from 0, in a path of this many: the keys
 -- from it on are its last parts.
-abbrev pub spot_at : ℕ → ℕ → ℕ → ℕ → Spot
+abbrev pub spot_at : ℕ → ℕ → ℕ → ℕ → KeyPlace
 spot_at at parts len k = record { at = at; part = parts - (len - k) }
 
-abbrev pub spot_of : ℕ → Mark → Spot
+abbrev pub spot_of : ℕ → Mark → KeyPlace
 spot_of k m = spot_at m.at m.parts (length m.path) k
 
 -- where the last of these keys is first written
-abbrev pub first_spot : List Mark → Option ℕ → List (List ℕ) → Option Spot
+abbrev pub first_spot : List Mark → Option ℕ → List (List ℕ) → Option KeyPlace
 first_spot ms frame keys = first_by (spot_of (length keys - 1)) ms frame keys
 
 abbrev pub routes_key : List ℕ
@@ -158,7 +158,7 @@ is_key None key = false
 is_key (Some part) key = bytes_eq key part
 
 -- a table's places after an expression at this offset, whose path begins with these two keys, which are written at these spots
-pub record NotesTable (old new : TablePlaces) (one two : Option (List ℕ)) (at : ℕ) (first second : Spot) : Type 0 where
+pub record NotesTable (old new : TablePlaces) (one two : Option (List ℕ)) (at : ℕ) (first second : KeyPlace) : Type 0 where
   pub header : new.header ≡ option_or old.header (Some at)
   pub keys : (q : List ℕ) → get_by_text new.keys q ≡ option_or (get_by_text old.keys q) (at_if (is_key one q) first)
   pub routes : (q : List ℕ) → get_by_text new.routes q ≡ option_or (get_by_text old.routes q) (at_if (is_key one routes_key && is_key two q) second)
@@ -168,20 +168,20 @@ abbrev pub header_in : Option TablePlaces → Option ℕ
 header_in None = None
 header_in (Some f) = f.header
 
-abbrev pub key_in : Option TablePlaces → List ℕ → Option Spot
+abbrev pub key_in : Option TablePlaces → List ℕ → Option KeyPlace
 key_in None q = None
 key_in (Some f) q = get_by_text f.keys q
 
-abbrev pub route_in : Option TablePlaces → List ℕ → Option Spot
+abbrev pub route_in : Option TablePlaces → List ℕ → Option KeyPlace
 route_in None q = None
 route_in (Some f) q = get_by_text f.routes q
 
 -- the spot that places have of a key of the top or of a frame, and of one below `routes` of a frame
-abbrev pub kept_key : Places → Option ℕ → List ℕ → Option Spot
+abbrev pub kept_key : Places → Option ℕ → List ℕ → Option KeyPlace
 kept_key p None q = get_by_text p.top q
 kept_key p (Some k) q = key_in (slice_get p.frames.items k) q
 
-abbrev pub kept_route : Places → ℕ → List ℕ → Option Spot
+abbrev pub kept_route : Places → ℕ → List ℕ → Option KeyPlace
 kept_route p k q = route_in (slice_get p.frames.items k) q
 
 -- the places have the first spot of each of these marks

@@ -6,24 +6,24 @@ use Rattle.toml_parser.specs.Strings.{Key, key, simple_key, quoted, starts_strin
 use Rattle.toml.specs.Data.{Data, Items, array, get_item}
 use Rattle.toml.specs.Parse.{val, key_equals}
 use Rattle.toml_places.specs.declared.spans.Span.{Span}
-use Rattle.toml_places.specs.declared.spans.Spot.{Spot}
-use Rattle.toml_places.specs.Strings.{Piece, starts_char, string_char}
+use Rattle.toml_places.specs.declared.spans.KeyPlace.{KeyPlace}
+use Rattle.toml_places.specs.Strings.{Cut, starts_char, string_char}
 use Rattle.toml_places.specs.Values.{element}
 use Rattle.toml_places.specs.Spans.{from_offset, key_start, key_piece, value_piece, pair_piece, frame_piece, at_offset, key_span, value_span, element_span, char_span}
 use Rattle.toml_places.specs.Places.{parts}
 use Rattle.toml_places.specs.Reads.{Writes, IsChar}
 
 -- the span lies in the text, and is this piece of it
-pub record Stands (text : List ℕ) (s : Span) (p : Piece) : Type 0 where
+pub record Stands (text : List ℕ) (s : Span) (p : Cut) : Type 0 where
   pub ascends : s.begin ≤ s.end
   pub within : s.end ≤ length text
   pub begins : p.0 ≡ drop s.begin text
   pub ends : p.1 ≡ drop s.end text
 
 -- the spans of these pieces are those pieces
-abbrev pub Stand : (List ℕ → Option Piece) → Type 0
+abbrev pub Stand : (List ℕ → Option Cut) → Type 0
 Stand piece =
-    (text : List ℕ) (at : ℕ) (s : Span) → at_offset piece at text ≡ Some s → (p : Piece) × (piece (drop at text) ≡ Some p) × Stands text s p
+    (text : List ℕ) (at : ℕ) (s : Span) → at_offset piece at text ≡ Some s → (p : Cut) × (piece (drop at text) ≡ Some p) × Stands text s p
 
 -- Every span lies in the text, and has what the definition of its piece says.
 pub record SpansStand : Type 0 where
@@ -38,7 +38,7 @@ pub record SpansStand : Type 0 where
 abbrev pub IsPlace : ℕ → List ℕ → Type 0
 IsPlace at text = from_offset at text ≡ Some (drop at text)
 
-abbrev pub spot : ℕ → ℕ → Spot
+abbrev pub spot : ℕ → ℕ → KeyPlace
 spot at part = record { at = at; part = part }
 
 -- the span lies in the text, and toml's grammar reads this there, up to its end

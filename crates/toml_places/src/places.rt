@@ -8,9 +8,9 @@ ghost use Rattle.toml_places.specs.Places as spec;
 ghost use Rattle.toml_places.specs.Places.{Keeps, is_key, routes_key, first_at, first_spot, header_place, key_place, route_place, kept_key, kept_route};
 ghost use Rattle.toml_places.specs.Loops.{frame_count, section_view, frames_after, IsOpen, Walks};
 
-use crate::lines::{Line, Sort, read_line, skip_bom};
-use crate::spans::Spot;
-use crate::tables::{Spots, TablePlaces, Written, note, part, parts_of};
+use crate::lines::{Expression, Sort, read_line, skip_bom};
+use crate::spans::KeyPlace;
+use crate::tables::{KeyPlaces, TablePlaces, WrittenKey, note, part, parts_of};
 use std::alloc::{AllocError, Global};
 use std::collections::BTreeMap;
 use toml_parser::ParseError;
@@ -19,7 +19,7 @@ use toml_parser::text::skip_blank;
 /// The places of a base's text: where its keys are first written, frame by frame.
 #[derive(Drop)]
 pub struct Places {
-    top: Spots,
+    top: KeyPlaces,
     frames: Vec<TablePlaces>,
 }
 
@@ -46,7 +46,7 @@ fn is_frame_key(part: Option<&String>) -> bool
     }
 }
 
-fn offset_of(spot: Option<Spot>) -> Option<usize>
+fn offset_of(spot: Option<KeyPlace>) -> Option<usize>
     ensures { result ≡ option_map (λ s. s.at) spot }
 {
     match spot {
@@ -104,7 +104,7 @@ impl Places {
         alloc: Global,
         section: &Section,
         own: &[String],
-        written: Written,
+        written: WrittenKey,
     ) -> Result<(), AllocError>
         requires { IsOpen (section_view (frame_count self.old) section.now) }
         ensures keeps { OnOk result ((ms : List spec.Mark) → Keeps self.old ms
@@ -131,7 +131,7 @@ impl Places {
         &mut self,
         alloc: Global,
         section: &mut Section,
-        line: Line,
+        line: Expression,
         at: usize,
     ) -> Result<(), AllocError>
         requires { IsOpen (section_view (frame_count self.old) section.old) }
@@ -142,10 +142,10 @@ impl Places {
         ensures section { OnOk result (section_view (frame_count self.new) section.new
             ≡ spec.section_after (section_view (frame_count self.old) section.old) (key_view line.key) line.sort) }
     {
-        let Line { key, sort } = line;
+        let Expression { key, sort } = line;
         let path = parts_of(key)?;
         let parts = path.len();
-        let written = Written { at, parts };
+        let written = WrittenKey { at, parts };
         if sort == Sort::Pair {
             return self.note(alloc, section, &path, written);
         }
@@ -197,7 +197,7 @@ impl Places {
     }
 
     // Where a key of a frame is first written.
-    fn frame_key(&self, frame: usize, key: &str) -> Option<Spot>
+    fn frame_key(&self, frame: usize, key: &str) -> Option<KeyPlace>
         ensures spot { (ms : List spec.Mark) → Keeps self.now ms → result ≡ first_spot ms (Some frame) (key.now ∷ []) }
         ensures kept { result ≡ kept_key self.now (Some frame) key.now }
     {
@@ -208,7 +208,7 @@ impl Places {
     }
 
     /// Where a key of a frame that has a header, or of the top, is first written.
-    pub fn key(&self, frame: Option<usize>, key: &str) -> Option<Spot>
+    pub fn key(&self, frame: Option<usize>, key: &str) -> Option<KeyPlace>
         ensures spot { (ms : List spec.Mark) → Keeps self.now ms → result ≡ first_spot ms frame (key.now ∷ []) }
         ensures kept { result ≡ kept_key self.now frame key.now }
     {
@@ -219,7 +219,7 @@ impl Places {
     }
 
     /// Where a key below `routes` of a frame is first written as a dotted key or a header.
-    pub fn route(&self, frame: usize, sub: &str) -> Option<Spot>
+    pub fn route(&self, frame: usize, sub: &str) -> Option<KeyPlace>
         ensures spot { (ms : List spec.Mark) → Keeps self.now ms → result ≡
             first_spot ms (Some frame) (routes_key ∷ sub.now ∷ []) }
         ensures kept { result ≡ kept_route self.now frame sub.now }

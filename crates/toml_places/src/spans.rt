@@ -24,7 +24,7 @@ pub struct Span {
 
 /// Where a key is written: the offset of an expression, a pair or a header, and which part of the expression's key it is, from 0.
 #[derive(Debug, Clone, Copy, PartialEq, Eq)]
-pub struct Spot {
+pub struct KeyPlace {
     pub at: usize,
     pub part: usize,
 }
@@ -105,10 +105,10 @@ fn after_pair(text: &str) -> Option<&str>
 }
 
 // A piece of a text: the text from it on, and the text after it.
-type Piece<'a> = (&'a str, &'a str);
+type Cut<'a> = (&'a str, &'a str);
 
 #[tactic(auto, unfolding(crate::specs::Spans::key_piece))]
-fn key_piece(text: &str, part: usize) -> Option<Piece<'_>>
+fn key_piece(text: &str, part: usize) -> Option<Cut<'_>>
     ensures value { option_map (λ p. (p.0.now, p.1.now)) result ≡ spec.key_piece part text.now }
     ensures within { IfSome result (λ p. (length p.0.now ≤ length text.now) × (length p.1.now ≤ length p.0.now)) }
 {
@@ -118,7 +118,7 @@ fn key_piece(text: &str, part: usize) -> Option<Piece<'_>>
 }
 
 #[tactic(auto, unfolding(crate::specs::Spans::value_or_key))]
-fn value_or_key(text: &str) -> Option<Piece<'_>>
+fn value_or_key(text: &str) -> Option<Cut<'_>>
     ensures value { option_map (λ p. (p.0.now, p.1.now)) result ≡ spec.value_or_key text.now }
     ensures within { IfSome result (λ p. (length p.0.now ≤ length text.now) × (length p.1.now ≤ length p.0.now)) }
 {
@@ -131,7 +131,7 @@ fn value_or_key(text: &str) -> Option<Piece<'_>>
     Some((value, rest))
 }
 
-fn header_piece(text: &str) -> Option<Piece<'_>>
+fn header_piece(text: &str) -> Option<Cut<'_>>
     ensures value { option_map (λ p. (p.0.now, p.1.now)) result ≡ spec.up_to text.now (spec.after_header text.now) }
     ensures within { IfSome result (λ p. (length p.0.now ≤ length text.now) × (length p.1.now ≤ length p.0.now)) }
 {
@@ -140,7 +140,7 @@ fn header_piece(text: &str) -> Option<Piece<'_>>
 }
 
 #[tactic(auto, unfolding(crate::specs::Spans::value_piece))]
-fn value_piece(text: &str, part: usize) -> Option<Piece<'_>>
+fn value_piece(text: &str, part: usize) -> Option<Cut<'_>>
     ensures value { option_map (λ p. (p.0.now, p.1.now)) result ≡ spec.value_piece part text.now }
     ensures within { IfSome result (λ p. (length p.0.now ≤ length text.now) × (length p.1.now ≤ length p.0.now)) }
 {
@@ -152,7 +152,7 @@ fn value_piece(text: &str, part: usize) -> Option<Piece<'_>>
 }
 
 #[tactic(auto, unfolding(crate::specs::Spans::pair_piece))]
-fn pair_piece(text: &str, part: usize) -> Option<Piece<'_>>
+fn pair_piece(text: &str, part: usize) -> Option<Cut<'_>>
     ensures value { option_map (λ p. (p.0.now, p.1.now)) result ≡ spec.pair_piece part text.now }
     ensures within { IfSome result (λ p. (length p.0.now ≤ length text.now) × (length p.1.now ≤ length p.0.now)) }
 {
@@ -165,7 +165,7 @@ fn pair_piece(text: &str, part: usize) -> Option<Piece<'_>>
 }
 
 #[tactic(auto, unfolding(crate::specs::Spans::frame_piece))]
-fn frame_piece(text: &str) -> Option<Piece<'_>>
+fn frame_piece(text: &str) -> Option<Cut<'_>>
     ensures value { option_map (λ p. (p.0.now, p.1.now)) result ≡ spec.frame_piece text.now }
     ensures within { IfSome result (λ p. (length p.0.now ≤ length text.now) × (length p.1.now ≤ length p.0.now)) }
 {
@@ -177,7 +177,7 @@ fn frame_piece(text: &str) -> Option<Piece<'_>>
 }
 
 /// The key itself, with its quotation marks. `None` if no such part of a key is there.
-pub fn key_span(text: &str, spot: Spot) -> Option<Span>
+pub fn key_span(text: &str, spot: KeyPlace) -> Option<Span>
     ensures { result ≡ spec.key_span spot text.now }
 {
     let (start, rest) = key_piece(from_offset(text, spot.at)?, spot.part)?;
@@ -185,7 +185,7 @@ pub fn key_span(text: &str, spot: Spot) -> Option<Span>
 }
 
 /// The value of a key. Of a table that a header or a dotted key makes, that header, or the key from there on.
-pub fn value_span(text: &str, spot: Spot) -> Option<Span>
+pub fn value_span(text: &str, spot: KeyPlace) -> Option<Span>
     ensures { result ≡ spec.value_span spot text.now }
 {
     let (start, rest) = value_piece(from_offset(text, spot.at)?, spot.part)?;
@@ -193,7 +193,7 @@ pub fn value_span(text: &str, spot: Spot) -> Option<Span>
 }
 
 /// A key with its value, as `9 = 555`; of `routes.9 = 555` the same. If a header makes the table, the header.
-pub fn pair_span(text: &str, spot: Spot) -> Option<Span>
+pub fn pair_span(text: &str, spot: KeyPlace) -> Option<Span>
     ensures { result ≡ spec.pair_span spot text.now }
 {
     let (start, rest) = pair_piece(from_offset(text, spot.at)?, spot.part)?;

@@ -10,36 +10,36 @@ ghost use Rattle.toml_places.specs.Places as spec;
 ghost use Rattle.toml_places.specs.Places.{NotesTable, TableKeeps, at_if, routes_key, first_spot, spot_at};
 ghost use Rattle.toml_places.specs.Loops.{pair_view};
 
-use crate::spans::{Spot, from_offset};
+use crate::spans::{KeyPlace, from_offset};
 use crate::values::{after_element, after_value, key_equals};
 use std::alloc::{AllocError, Global};
 use std::collections::BTreeMap;
 use toml_parser::text::{first, skip, skip_blank};
 use toml_parser::{Key, ParseError, RECURSION_LIMIT};
 
-pub type Spots = BTreeMap<String, Spot>;
+pub type KeyPlaces = BTreeMap<String, KeyPlace>;
 
 /// Where the keys of a table are first written, and those of its table `routes`.
 #[derive(Drop)]
 pub struct TablePlaces {
     header: Option<usize>,
-    keys: Spots,
-    routes: Spots,
+    keys: KeyPlaces,
+    routes: KeyPlaces,
 }
 
 // An expression, or a pair of an inline table: its offset, and how many parts its key has.
 #[derive(Clone, Copy)]
-pub struct Written {
+pub struct WrittenKey {
     pub at: usize,
     pub parts: usize,
 }
 
-impl Written {
+impl WrittenKey {
     // Where it writes the key of an index in a path of `len` keys, of which the last are its own.
-    pub fn spot(self, len: usize, index: usize) -> Spot
+    pub fn spot(self, len: usize, index: usize) -> KeyPlace
         ensures { result ≡ spot_at self.at self.parts len index }
     {
-        Spot {
+        KeyPlace {
             at: self.at,
             part: self.parts.saturating_sub(len.saturating_sub(index)),
         }
@@ -47,7 +47,7 @@ impl Written {
 }
 
 // Notes a spot at a key that has none.
-pub fn note(alloc: Global, spots: &mut Spots, key: &str, spot: Spot) -> Result<(), AllocError>
+pub fn note(alloc: Global, spots: &mut KeyPlaces, key: &str, spot: KeyPlace) -> Result<(), AllocError>
     ensures { OnOk result ((q : List ℕ) → get_by_text spots.new q ≡
         option_or (get_by_text spots.old q) (at_if (bytes_eq q key.now) spot)) }
 {
@@ -151,7 +151,7 @@ impl TablePlaces {
         one: Option<&str>,
         two: Option<&str>,
         len: usize,
-        written: Written,
+        written: WrittenKey,
     ) -> Result<(), AllocError>
         ensures { OnOk result (NotesTable self.old self.new (option_copied one.entry)
             (option_copied two.entry) written.at
@@ -178,7 +178,7 @@ impl TablePlaces {
         let one = part(&[], path, 0);
         let two = part(&[], path, 1);
         let parts = path.len();
-        self.note(alloc, one, two, parts, Written { at, parts })
+        self.note(alloc, one, two, parts, WrittenKey { at, parts })
     }
 
     // Notes the pairs of an inline table in a text of `size` bytes, from the first on.
@@ -233,7 +233,7 @@ impl TablePlaces {
     }
 
     /// Where a key is first written.
-    pub fn key(&self, key: &str) -> Option<Spot>
+    pub fn key(&self, key: &str) -> Option<KeyPlace>
         ensures spot { (ms : List spec.Mark) → TableKeeps self.now ms → result ≡ first_spot ms None (key.now ∷ []) }
         ensures kept { result ≡ get_by_text self.now.keys key.now }
     {
@@ -242,7 +242,7 @@ impl TablePlaces {
 
     /// Where a key below `routes` is first written as a dotted key or a header: the pairs of `routes = { .. }` have a table of
     /// their own.
-    pub fn route(&self, key: &str) -> Option<Spot>
+    pub fn route(&self, key: &str) -> Option<KeyPlace>
         ensures spot { (ms : List spec.Mark) → TableKeeps self.now ms → result ≡
             first_spot ms None (routes_key ∷ key.now ∷ []) }
         ensures kept { result ≡ get_by_text self.now.routes key.now }

@@ -5,9 +5,9 @@ use Rattle.frame_records.specs.declared.frame.Frame.{Frame}
 use Rattle.frame_records.specs.Bases.{frame_among}
 use Rattle.frame_records.specs.Seek.{is_open}
 use Rattle.finder.specs.declared.notes.Note.{Note}
-use Rattle.finder.specs.declared.target.Target.{Target}
+use Rattle.finder.specs.declared.target.WayTarget.{WayTarget}
 use Rattle.finder.specs.Survey.{id_at}
-use Rattle.finder.specs.declared.target.Target.TheVariants.{Found, Closed}
+use Rattle.finder.specs.declared.target.WayTarget.TheVariants.{Found, Closed}
 
 -- a node has the frame of an id, which is open to the caller or isn't
 pub record IsSeen (caller : List ℕ) (frames : List Frame) (id : Id) (node : ℕ) (admitted : Bool) : Type 0 where
@@ -15,11 +15,11 @@ pub record IsSeen (caller : List ℕ) (frames : List Frame) (id : Id) (node : �
   pub admits : option_map (is_open caller) (slice_get frames node) ≡ Some admitted
 
 -- the result of seeking it
-abbrev pub target_at : ℕ → Bool → Target
+abbrev pub target_at : ℕ → Bool → WayTarget
 target_at node admitted = if admitted then Found node else Closed
 
 -- the result of seeking an id; none if no frame has it
-abbrev pub IsSought : List ℕ → List Frame → Id → Option Target → Type 0
+abbrev pub IsSought : List ℕ → List Frame → Id → Option WayTarget → Type 0
 IsSought caller frames id None = frame_among frames id ≡ None
 IsSought caller frames id (Some target) = (node : ℕ) × (admitted : Bool) × IsSeen caller frames id node admitted × (target ≡ target_at node admitted)
 

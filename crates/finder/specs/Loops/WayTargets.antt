@@ -11,8 +11,8 @@ use Rattle.frame_records.specs.declared.ways.Destination.TheVariants as destinat
 use Rattle.finder.specs.declared.aim.Aim.{Aim}
 use Rattle.finder.specs.declared.aim.Aim.TheVariants as aim
 use Rattle.finder.specs.declared.table.Targets.{Targets}
-use Rattle.finder.specs.declared.target.Target.{Target}
-use Rattle.finder.specs.declared.target.Target.TheVariants.{NotOffered, Found, Closed, Missing, Outside}
+use Rattle.finder.specs.declared.target.WayTarget.{WayTarget}
+use Rattle.finder.specs.declared.target.WayTarget.TheVariants.{NotOffered, Found, Closed, Missing, Outside}
 
 -- a destination without its frame
 abbrev pub aim_of : Destination → Aim
@@ -36,7 +36,7 @@ lost_to aim None = destination.NotOffered
 lost_to aim (Some to) = lost_by aim to
 
 -- a target without its node
-abbrev pub aim_at : Target → Aim
+abbrev pub aim_at : WayTarget → Aim
 aim_at NotOffered = aim.NotOffered
 aim_at (Found node) = aim.Found
 aim_at Closed = aim.Closed
@@ -44,7 +44,7 @@ aim_at Missing = aim.Missing
 aim_at Outside = aim.Outside
 
 -- the node of the frame that is found
-abbrev pub node_of : Target → Option ℕ
+abbrev pub node_of : WayTarget → Option ℕ
 node_of NotOffered = None
 node_of (Found node) = Some node
 node_of Closed = None
@@ -56,7 +56,7 @@ abbrev pub IsFoundAt : List ℕ → BaseView → Frame → Way → ℕ → Type 
 IsFoundAt caller base f way node = option_map (λ to. destination.Found to.id to.price) (slice_get base.frames node) ≡ Some (destination_of caller base f way)
 
 -- the result of a way of a frame
-pub record IsTarget (caller : List ℕ) (base : BaseView) (f : Frame) (way : Way) (target : Target) : Type 0 where
+pub record IsTarget (caller : List ℕ) (base : BaseView) (f : Frame) (way : Way) (target : WayTarget) : Type 0 where
   pub aim : aim_at target ≡ aim_of (destination_of caller base f way)
   pub found : (node : ℕ) → node_of target ≡ Some node → IsFoundAt caller base f way node
 
@@ -73,7 +73,7 @@ pub record AreTargets (caller : List ℕ) (base : BaseView) (done : ℕ) (target
       → IsTargetBy caller base f (way_at way) (get_or targets.nodes.items (i * 11 + way) 0) (get_or targets.aims.items (i * 11 + way) aim.NotOffered)
 
 -- the target of one more way is added
-pub record IsAdded (old new : Targets) (target : Target) : Type 0 where
+pub record IsAdded (old new : Targets) (target : WayTarget) : Type 0 where
   pub node : ℕ
   pub nodes : new.nodes.items ≡ old.nodes.items ++ node ∷ []
   pub found : (at : ℕ) → node_of target ≡ Some at → (node ≡ at) × (new.aims.items ≡ old.aims.items)

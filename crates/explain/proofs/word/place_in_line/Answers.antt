@@ -1,5 +1,5 @@
 use Rattle.std.proofs.Common.{refl, sym}
-use Rattle.explain.specs.declared.line.Sought.TheVariants.{Code, Capital, Any}
+use Rattle.explain.specs.declared.line.WordKind.TheVariants.{Code, Capital, Any}
 use Rattle.explain.specs.Listed.{listed}
 use Rattle.explain.specs.Loops.{texts_of}
 use Rattle.explain.proofs.Places.{has_word}

@@ -4,8 +4,8 @@ use Rattle.std.proofs.lemmas.List.{drop_more}
 use Rattle.indexmap.specs.IndexSet.{insert_all}
 use Rattle.page_ids.specs.Ids.{id_eq}
 use Rattle.base_map.specs.Edges.{is_lacked}
-use Rattle.base_map.proofs.drawing.Drawing.add_lost.Goals as goal
-use Rattle.base_map.proofs.drawing.Drawing.add_lost.Goals.{then-lacks+in_ok-insert, else-lacks}
+use Rattle.base_map.proofs.drawing.MapDrawing.add_lost.Goals as goal
+use Rattle.base_map.proofs.drawing.MapDrawing.add_lost.Goals.{then-lacks+in_ok-insert, else-lacks}
 
 pub loop-to-preserved : goal.loop-to-preserved
 loop-to-preserved c =

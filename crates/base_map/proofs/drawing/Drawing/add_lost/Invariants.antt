@@ -3,7 +3,7 @@ use Rattle.std.specs.Prelude.{filter}
 use Rattle.indexmap.specs.IndexSet.{insert_all}
 use Rattle.page_ids.specs.Ids.{id_eq}
 use Rattle.base_map.specs.Edges.{is_lacked}
-use Rattle.base_map.proofs.drawing.Drawing.add_lost.Given as goal
+use Rattle.base_map.proofs.drawing.MapDrawing.add_lost.Given as goal
 
 abbrev pub invariant-loop-to : goal.invariant-loop-to
 invariant-loop-to l =

@@ -1,7 +1,7 @@
 use Rattle.std.proofs.Common.{◌≡◌, ◌++◌, None, drop}
 use Rattle.base_map.specs.Edges.{shown}
 use Rattle.base_map.specs.Nodes.{cluster_lines}
-use Rattle.base_map.proofs.drawing.Drawing.push_clusters.Given as goal
+use Rattle.base_map.proofs.drawing.MapDrawing.push_clusters.Given as goal
 
 abbrev pub invariant-loop-frame : goal.invariant-loop-frame
 invariant-loop-frame l =

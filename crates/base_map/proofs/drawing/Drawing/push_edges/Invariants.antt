@@ -1,7 +1,7 @@
 use Rattle.std.proofs.Common.{◌≡◌, ◌++◌, drop}
 use Rattle.std.specs.List.{flat_map}
 use Rattle.base_map.specs.Edges.{shown, edge_lines_of}
-use Rattle.base_map.proofs.drawing.Drawing.push_edges.Given as goal
+use Rattle.base_map.proofs.drawing.MapDrawing.push_edges.Given as goal
 
 abbrev pub invariant-loop-frame : goal.invariant-loop-frame
 invariant-loop-frame l =

@@ -4,7 +4,7 @@ use Rattle.indexmap.specs.IndexSet.{insert_all}
 use Rattle.page_ids.specs.Ids.{id_eq}
 use Rattle.base_map.specs.Edges.{shown}
 use Rattle.base_map.specs.Edges as spec
-use Rattle.base_map.proofs.drawing.Drawing.with_lost.Given as goal
+use Rattle.base_map.proofs.drawing.MapDrawing.with_lost.Given as goal
 
 abbrev pub invariant-loop-frame : goal.invariant-loop-frame
 invariant-loop-frame l =

@@ -2,7 +2,7 @@ use Rattle.std.proofs.Common.{rules, ◌+◌, None, arith, sym, ◌∙◌, refl}
 use Rattle.std.proofs.lemmas.Grind.{get_or-set_at}
 use Rattle.finder.proofs.Lists.{push_at}
 use Rattle.finder.proofs.Searching.{none_of, is_near, fits, inside, marked, kept}
-use Rattle.finder.proofs.ranks.Search.mark.Goals as goal
+use Rattle.finder.proofs.ranks.Ranking.mark.Goals as goal
 
 pub is_ranked-requires : goal.is_ranked-requires
 is_ranked-requires c = inside _ _ _ _ _ c.args.node c.requires.search c.requires.waits c.requires.leads

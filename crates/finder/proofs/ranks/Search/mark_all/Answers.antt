@@ -1,6 +1,6 @@
 use Rattle.std.proofs.Common.{below_more, arith}
 use Rattle.finder.proofs.Searching.{finished, node_inside, all_ranked, steps_lead}
-use Rattle.finder.proofs.ranks.Search.mark_all.Goals as goal
+use Rattle.finder.proofs.ranks.Ranking.mark_all.Goals as goal
 
 pub mark-requires-clause-leads : goal.mark-requires-clause-leads
 mark-requires-clause-leads c = steps_lead _ _ _ _ _ c.requires.neighbours c.from-nodes.ensures (node_inside _ _ _ _ _ c.requires.search c.requires.waits) c.loop-node-test.true

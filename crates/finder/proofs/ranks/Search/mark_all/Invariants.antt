@@ -1,6 +1,6 @@
 use Rattle.std.proofs.Common.{◌≡◌, ◌<◌, ◌+◌, ℕ, Some, slice_get, get_or}
 use Rattle.finder.specs.Loops.{HasRank, IsSearch}
-use Rattle.finder.proofs.ranks.Search.mark_all.Given as goal
+use Rattle.finder.proofs.ranks.Ranking.mark_all.Given as goal
 
 abbrev pub invariant-loop-node : goal.invariant-loop-node
 invariant-loop-node l = record {

@@ -5,7 +5,7 @@ use Rattle.indexmap.specs.IndexMap.{get}
 use Rattle.finder.specs.declared.found.Discovered.{Discovered}
 use Rattle.frame_screens.specs.Frames.{place_of}
 use Rattle.frame_screens.proofs.Placed.{place_more, all_placed, none_placed}
-use Rattle.frame_screens.proofs.places.Places.of.Goals as goal
+use Rattle.frame_screens.proofs.places.FramePlaces.of.Goals as goal
 
 pub loop-place-init : goal.loop-place-init
 loop-place-init c = λ id. ap (λ es. lookup (id_eq id) es) c.in_ok-map.ensures.empty ∙ none_placed (place_of c.args.survey.now.found id)

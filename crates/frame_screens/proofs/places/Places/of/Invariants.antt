@@ -3,7 +3,7 @@ use Rattle.page_ids.specs.Ids.{Id, id_eq}
 use Rattle.indexmap.specs.IndexMap.{get}
 use Rattle.frame_screens.specs.Frames.{place_of}
 use Rattle.frame_screens.specs.Loops.{if_before}
-use Rattle.frame_screens.proofs.places.Places.of.Given as goal
+use Rattle.frame_screens.proofs.places.FramePlaces.of.Given as goal
 
 -- the first places are held
 abbrev pub invariant-loop-place : goal.invariant-loop-place

@@ -2,14 +2,14 @@ use Rattle.std.proofs.Common.{◌≡◌, ◌∙◌, ℕ, List, Option, slice_get
 use Rattle.std.proofs.Math.Path.{fun_ext}
 use Rattle.std.specs.Option.{option_or}
 use Rattle.toml_places.specs.declared.spans.Span.{Span}
-use Rattle.toml_places.specs.declared.spans.Spot.{Spot}
+use Rattle.toml_places.specs.declared.spans.KeyPlace.{KeyPlace}
 use Rattle.toml_places.specs.Places.{Mark, key_in, routes_key}
 use Rattle.lint.specs.declared.tables.TableSpots.{TableSpots}
 use Rattle.lint.specs.Tables.{TableView, value_at, element_at, key_spot, list_key, whole, route_spot, table_at}
 use Rattle.lint.specs.Loops.{KeysView, InlineKeeps, keys_of, seen_keys, seen}
 use Rattle.lint.proofs.tables.TextTables.table.Goals as goal
 
-same_fields : (text : List ℕ) (whole whole' : Span) (frame frame' : Option ℕ) (key key' route route' : List ℕ → Option Spot) (item item' : ℕ → Option Span)
+same_fields : (text : List ℕ) (whole whole' : Span) (frame frame' : Option ℕ) (key key' route route' : List ℕ → Option KeyPlace) (item item' : ℕ → Option Span)
     → frame ≡ frame' → whole ≡ whole' → key ≡ key' → route ≡ route' → item ≡ item'
     → ◌≡◌ {A = TableView} (record { text = text; frame = frame; whole = whole; key = key; route = route; item = item })
     (record { text = text; frame = frame'; whole = whole'; key = key'; route = route'; item = item' })

@@ -1,8 +1,8 @@
 use Rattle.std.proofs.Common.{[], ◌∷◌, Some, option_map, ap, ◌∙◌}
-use Rattle.toml_places.specs.declared.spans.Spot.{Spot}
+use Rattle.toml_places.specs.declared.spans.KeyPlace.{KeyPlace}
 use Rattle.toml_places.specs.Places.{routes_key}
 use Rattle.toml_places.proofs.Firsts.{spots_at}
 use Rattle.toml_places.proofs.places.Places.first_route.Goals as goal
 
 pub returns : goal.returns
-returns c ms h = c.offset_of.ensures ∙ ap (λ o. option_map (λ (s : Spot). s.at) o) (c.route.ensures.spot ms h) ∙ spots_at ms (Some c.args.frame) (routes_key ∷ c.args.sub.now ∷ [])
+returns c ms h = c.offset_of.ensures ∙ ap (λ o. option_map (λ (s : KeyPlace). s.at) o) (c.route.ensures.spot ms h) ∙ spots_at ms (Some c.args.frame) (routes_key ∷ c.args.sub.now ∷ [])
