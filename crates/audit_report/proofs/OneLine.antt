@@ -9,20 +9,20 @@ use Rattle.page_ids.specs.Keys.{key_word, keys_text}
 use Rattle.page_ids.specs.declared.key.Key.{Key}
 use Rattle.page_ids.specs.declared.key.Key.TheVariants.{Route, Next, Prev, Reprint, Update}
 use Rattle.frame_records.specs.declared.frame.Frame.{Frame}
-use Rattle.audit_report.specs.Lines.{line, with_id}
+use Rattle.audit_report.specs.Lines.{ended_line, with_id}
 use Rattle.audit_report.specs.ReportLines.{script_text}
 use Rattle.audit_report.specs.declared.list_form.ListForm.{ListForm}
 use Rattle.audit_report.specs.declared.list_form.ListForm.TheVariants.{Line, Json}
-use Rattle.audit_report.specs.Listing.{with_or_dash, price_and_group, with_or_null, price_and_group_members, script_member, frame_line, unreached_line, is_in_line, IsOneLine, AreOneLines}
+use Rattle.audit_report.specs.Listing.{with_or_dash, price_and_group, with_or_null, price_and_group_members, script_member, frame_line, unreached_line, is_no_newline, IsOneLine, AreOneLines}
 
 abbrev InLine : List ℕ → Type 0
-InLine bs = list_all is_in_line bs ≡ true
+InLine bs = list_all is_no_newline bs ≡ true
 
 joined : (xs ys : List ℕ) → InLine xs → InLine ys → InLine (xs ++ ys)
-joined xs ys h k = list_all-append is_in_line xs ys ∙ rw (h, k) refl
+joined xs ys h k = list_all-append is_no_newline xs ys ∙ rw (h, k) refl
 
 in_decimal : (n : ℕ) → InLine (decimal n)
-in_decimal n = all_decimal is_in_line (λ d lt. let a : (48 + d == 10) ≡ false = grind (arith, nat_tests) in rw a refl) n
+in_decimal n = all_decimal is_no_newline (λ d lt. let a : (48 + d == 10) ≡ false = grind (arith, nat_tests) in rw a refl) n
 
 in_id : (words : List ℕ) (id : Id) → InLine words → IsLetter id.letter → InLine (with_id words id)
 in_id words id h is = joined words (frame_text id) h (joined (decimal id.page) (id.letter ∷ []) (in_decimal id.page) last) where
@@ -65,7 +65,7 @@ in_script_member keys =
     let before = codes ",\"script\":\"" in
     joined (before ++ keys_text keys) (codes "\"}") (joined before (keys_text keys) refl (in_keys keys)) refl
 
-one_line : (text : List ℕ) → InLine text → IsOneLine (line text)
+one_line : (text : List ℕ) → InLine text → IsOneLine (ended_line text)
 one_line text h = record { text = text; ends = refl; one = h }
 
 frame_one : (f : Frame) → IsLetter f.id.letter → (form : ListForm) (rank : Option ℕ) (keys : List Key) → IsOneLine (frame_line form f rank keys)

@@ -11,7 +11,7 @@ use Rattle.cert_text.specs.declared.fault.ReadFault.{ReadFault}
 use Rattle.cert_text.specs.declared.fault.ReadFault.TheVariants as read
 use Rattle.audit_report.specs.declared.run_fault.RunFault.{RunFault}
 use Rattle.audit_report.specs.declared.run_fault.RunFault.TheVariants as run
-use Rattle.audit_report.specs.Lines.{line, with_id}
+use Rattle.audit_report.specs.Lines.{ended_line, with_id}
 
 -- why a text is no base: code, name and argument
 abbrev pub base_cause_text : BaseCause → List ℕ
@@ -55,7 +55,7 @@ base_fault_text edition fault = edition ++ (base_place_text fault.frame ++ base_
 
 -- what is wrong with a certificate's text, after the same
 abbrev pub cert_fault_text : List ℕ → ReadFault → List ℕ
-cert_fault_text edition (read.Line n c) = edition ++ ((codes "certificate: line " ++ decimal n) ++ (codes ": " ++ line_cause_text c))
+cert_fault_text edition (read.Line n c) = edition ++ ((codes "certificate: ended_line " ++ decimal n) ++ (codes ": " ++ line_cause_text c))
 cert_fault_text edition read.Failed = edition ++ codes "certificate: failed"
 cert_fault_text edition read.Memory = codes "memory refused"
 
@@ -75,4 +75,4 @@ fault_words run.Memory = codes "memory refused"
 
 -- the one line that reports a fault
 abbrev pub fault_text : RunFault → List ℕ
-fault_text fault = line (fault_words fault)
+fault_text fault = ended_line (fault_words fault)

@@ -11,8 +11,8 @@ use Rattle.checker.specs.declared.verdict.Verdict.{Verdict}
 use Rattle.checker.specs.declared.verdict.Verdict.TheVariants as verdict
 
 -- a line and its end
-abbrev pub line : List ℕ → List ℕ
-line text = text ++ 10 ∷ []
+abbrev pub ended_line : List ℕ → List ℕ
+ended_line text = text ++ 10 ∷ []
 
 -- words and an id
 abbrev pub with_id : List ℕ → Id → List ℕ
@@ -46,7 +46,7 @@ verdict_words (verdict.Refused c) = cause_text c
 
 -- the line of a verdict
 abbrev pub verdict_text : Verdict → List ℕ
-verdict_text v = line (verdict_words v)
+verdict_text v = ended_line (verdict_words v)
 
 -- why a change of edition is refused, or that it isn't
 abbrev pub change_words : ChangeVerdict → List ℕ
@@ -58,7 +58,7 @@ change_words (change.NoLongerCovered id) = with_id (codes "REFUSED E2 NoLongerCo
 
 -- the line of a change's verdict
 abbrev pub change_text : ChangeVerdict → List ℕ
-change_text v = line (change_words v)
+change_text v = ended_line (change_words v)
 
 -- one reply
 abbrev pub reply_text : Reply → List ℕ
@@ -72,7 +72,7 @@ reply_text (Gone page) = codes "GONE " ++ page_text page
 -- a line for each reply
 abbrev pub walk_text : List Reply → List ℕ
 walk_text [] = []
-walk_text (reply ∷ replies) = line (reply_text reply) ++ walk_text replies
+walk_text (reply ∷ replies) = ended_line (reply_text reply) ++ walk_text replies
 
 -- the fault of an entry frame that isn't shown: it is closed to the caller, or missing
 abbrev pub entry_fault : Bool → List ℕ
@@ -81,4 +81,4 @@ entry_fault false = codes "ENTRYMISSING"
 
 -- a session that isn't opened
 abbrev pub entry_text : Id → Bool → List ℕ
-entry_text id closed = line (with_id (entry_fault closed ++ codes " ") id)
+entry_text id closed = ended_line (with_id (entry_fault closed ++ codes " ") id)

@@ -3,7 +3,7 @@ use Rattle.std.specs.Prelude.{ℕ, List, ◌++◌, Option, Some, None, codes, de
 use Rattle.page_ids.specs.declared.key.Key.{Key}
 use Rattle.page_ids.specs.Keys.{keys_text}
 use Rattle.frame_records.specs.declared.frame.Frame.{Frame}
-use Rattle.audit_report.specs.Lines.{line, with_id, entry_fault, entry_text}
+use Rattle.audit_report.specs.Lines.{ended_line, with_id, entry_fault, entry_text}
 use Rattle.audit_report.specs.ReportLines.{script_text}
 use Rattle.std.specs.List.{list_all, list_any}
 use Rattle.indexmap.specs.IndexSet.{contains}
@@ -50,21 +50,21 @@ script_member keys = codes ",\"script\":\"" ++ keys_text keys ++ codes "\"}"
 -- a frame that is reached: its rank, and the keys that lead to it
 abbrev pub frame_line : ListForm → Frame → Option ℕ → List Key → List ℕ
 frame_line form_of.Line f rank keys =
-    line (with_id (codes "FRAME ") f.id ++ with_or_dash (codes " RANK ") rank ++ price_and_group f ++ script_text keys)
+    ended_line (with_id (codes "FRAME ") f.id ++ with_or_dash (codes " RANK ") rank ++ price_and_group f ++ script_text keys)
 frame_line form_of.Json f rank keys =
-    line (with_id (codes "{\"frame\":\"") f.id ++ with_or_null (codes "\",\"reached\":true,\"rank\":") rank ++ price_and_group_members f
+    ended_line (with_id (codes "{\"frame\":\"") f.id ++ with_or_null (codes "\",\"reached\":true,\"rank\":") rank ++ price_and_group_members f
     ++ script_member keys)
 
 -- one that isn't
 abbrev pub unreached_line : ListForm → Frame → List ℕ
-unreached_line form_of.Line f = line (with_id (codes "UNREACHED ") f.id ++ price_and_group f)
+unreached_line form_of.Line f = ended_line (with_id (codes "UNREACHED ") f.id ++ price_and_group f)
 unreached_line form_of.Json f =
-    line (with_id (codes "{\"frame\":\"") f.id ++ codes "\",\"reached\":false,\"rank\":null" ++ price_and_group_members f ++ codes ",\"script\":null}")
+    ended_line (with_id (codes "{\"frame\":\"") f.id ++ codes "\",\"reached\":false,\"rank\":null" ++ price_and_group_members f ++ codes ",\"script\":null}")
 
 -- an entry frame that isn't shown
-abbrev pub entry_line : ListForm → Id → Bool → List ℕ
-entry_line form_of.Line id closed = entry_text id closed
-entry_line form_of.Json id closed = line (with_id (codes "{\"frame\":\"") id ++ (codes "\",\"fault\":\"" ++ entry_fault closed ++ codes "\"}"))
+abbrev pub lost_entry_line : ListForm → Id → Bool → List ℕ
+lost_entry_line form_of.Line id closed = entry_text id closed
+lost_entry_line form_of.Json id closed = ended_line (with_id (codes "{\"frame\":\"") id ++ (codes "\",\"fault\":\"" ++ entry_fault closed ++ codes "\"}"))
 
 -- The text of `list`: the frames that are reached, in the order of discovery, and then the others, in the order of the base.
 
@@ -113,8 +113,8 @@ pub record AreAllLines (caller : List ℕ) (form : ListForm) (base : BaseView) (
 
 -- the text and whether the entry frame is found: if it isn't, the text is the entry frame's line alone
 abbrev pub IsTextBy : Sought → List ℕ → ListForm → BaseView → List ℕ → Bool → Type 0
-IsTextBy sought.Missing caller form base text is_found = (text ≡ entry_line form (entry_of base) false) × (is_found ≡ false)
-IsTextBy sought.Closed caller form base text is_found = (text ≡ entry_line form (entry_of base) true) × (is_found ≡ false)
+IsTextBy sought.Missing caller form base text is_found = (text ≡ lost_entry_line form (entry_of base) false) × (is_found ≡ false)
+IsTextBy sought.Closed caller form base text is_found = (text ≡ lost_entry_line form (entry_of base) true) × (is_found ≡ false)
 IsTextBy (sought.Found price) caller form base text is_found = AreAllLines caller form base text × (is_found ≡ true)
 
 abbrev pub IsListText : List ℕ → ListForm → BaseView → List ℕ → Bool → Type 0
@@ -148,14 +148,14 @@ AllAreListed =
 -- Whatever the form, a frame is one line.
 
 -- a byte that ends no line
-abbrev pub is_in_line : ℕ → Bool
-is_in_line b = not (b == 10)
+abbrev pub is_no_newline : ℕ → Bool
+is_no_newline b = not (b == 10)
 
 -- a newline ends it, and none is before
 pub record IsOneLine (bytes : List ℕ) : Type 0 where
   pub text : List ℕ
-  pub ends : bytes ≡ line text
-  pub one : list_all is_in_line text ≡ true
+  pub ends : bytes ≡ ended_line text
+  pub one : list_all is_no_newline text ≡ true
 
 -- what is printed of a frame, reached or not
 pub record AreOneLines (f : Frame) : Type 0 where

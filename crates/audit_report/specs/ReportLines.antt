@@ -10,7 +10,7 @@ use Rattle.fault_scripts.specs.declared.fault.FaultKind.{FaultKind}
 use Rattle.fault_scripts.specs.declared.fault.FaultKind.TheVariants.{EntryMissing, EntryClosed, Price, Touches, Missing, Closed, NoReturn}
 use Rattle.fault_scripts.specs.declared.outcome.Outcome.{Outcome}
 use Rattle.fault_scripts.specs.declared.outcome.Outcome.TheVariants.{Certified, Faulty}
-use Rattle.audit_report.specs.Lines.{line, with_id, with_id_number}
+use Rattle.audit_report.specs.Lines.{ended_line, with_id, with_id_number}
 
 -- the keys that lead to a fault, `-` if there are none
 abbrev pub script_text : List Key → List ℕ
@@ -61,11 +61,11 @@ words_as NoReturn fault = no_return_words fault
 -- a line for each fault
 abbrev pub fault_lines : List Fault → List ℕ
 fault_lines [] = []
-fault_lines (fault ∷ faults) = line (words_as fault.kind fault) ++ fault_lines faults
+fault_lines (fault ∷ faults) = ended_line (words_as fault.kind fault) ++ fault_lines faults
 
 -- the number of faults, then the faults
 abbrev pub fault_list_text : List Fault → List ℕ
-fault_list_text faults = line (codes "FAULTS " ++ decimal (length faults)) ++ fault_lines faults
+fault_list_text faults = ended_line (codes "FAULTS " ++ decimal (length faults)) ++ fault_lines faults
 
 -- the text of an outcome
 abbrev pub report_text : Outcome → List ℕ

@@ -4,7 +4,7 @@ ghost use Rattle.audit_report.specs.FaultLines.{base_cause_text, base_place_text
 
 use crate::push::{push_words_id, push_words_number, push_words_page};
 use crate::run_fault::RunFault;
-use base_text::{BaseFault, BaseCause, Field};
+use base_text::{BaseCause, BaseFault, Field};
 use cert_text::{LineCause, ReadFault};
 use page_ids::push_number;
 use std::alloc::{AllocError, Global};

@@ -1,8 +1,8 @@
 //! The line of an entry frame that isn't shown.
 
 ghost use Rattle.std.specs.Prelude.{◌≡◌, IfOk};
-ghost use Rattle.audit_report.specs.Lines.{line};
-ghost use Rattle.audit_report.specs.Listing.{entry_line};
+ghost use Rattle.audit_report.specs.Lines.{ended_line};
+ghost use Rattle.audit_report.specs.Listing.{lost_entry_line};
 ghost use Rattle.audit_report.specs.declared.list_form.ListForm.TheVariants.{Json as InJson};
 
 use crate::list_form::ListForm;
@@ -12,7 +12,7 @@ use page_ids::FrameId;
 use std::alloc::{AllocError, Global};
 
 fn entry_object(alloc: Global, id: FrameId, closed: bool) -> Result<Vec<u8>, AllocError>
-    ensures { IfOk result (λ text. text.items ≡ entry_line InJson id closed) }
+    ensures { IfOk result (λ text. text.items ≡ lost_entry_line InJson id closed) }
 {
     let mut text = Vec::new(alloc);
     push_words_id(&mut text, b"{\"frame\":\"", id)?;
@@ -30,7 +30,7 @@ pub fn entry_line(
     id: FrameId,
     closed: bool,
 ) -> Result<Vec<u8>, AllocError>
-    ensures { IfOk result (λ text. text.items ≡ entry_line form id closed) }
+    ensures { IfOk result (λ text. text.items ≡ lost_entry_line form id closed) }
 {
     match form {
         ListForm::Line => entry_text(alloc, id, closed),

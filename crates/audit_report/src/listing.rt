@@ -3,7 +3,7 @@ ghost use Rattle.std.specs.Vec.{vec_len, vec_capacity};
 ghost use Rattle.devices.specs.Devices.{Seen, WroteWhole, WrotePart, IsOnItsWay};
 ghost use Rattle.frame_records.specs.Seek.{entry_of};
 ghost use Rattle.finder.specs.declared.found.Discovered.{Discovered as Entry};
-ghost use Rattle.audit_report.specs.Listing.{Knows, entry_line, reached_line, reached_lines, unreached_lines, all_lines, AreAllLines, IsListing};
+ghost use Rattle.audit_report.specs.Listing.{Knows, lost_entry_line, reached_line, reached_lines, unreached_lines, all_lines, AreAllLines, IsListing};
 
 use crate::list_entry::entry_line;
 use crate::list_form::ListForm;
@@ -263,7 +263,7 @@ impl<'a> Listing<'a> {
         base: &Base,
         closed: bool,
     ) -> Result<Listing<'a>, AllocError>
-        ensures text { IfOk result (λ listing. listing.text ≡ entry_line form (entry_of base.now) closed) }
+        ensures text { IfOk result (λ listing. listing.text ≡ lost_entry_line form (entry_of base.now) closed) }
         ensures entry { IfOk result (λ listing. listing.entry_is_found ≡ false) }
     {
         Ok(Listing {

@@ -1,5 +1,5 @@
 ghost use Rattle.std.specs.Prelude.{◌≡◌, ◌++◌, IfOk, OnOk, codes, decimal};
-ghost use Rattle.audit_report.specs.Lines.{line};
+ghost use Rattle.audit_report.specs.Lines.{ended_line};
 ghost use Rattle.audit_report.specs.ReportLines.{script_text, sought_text, pressed_text, start_text, price_words, touches_words, sought_words, no_return_words, words_as, fault_lines, fault_list_text, report_text, IsReport};
 
 use crate::push::{push_id_number, push_words_id, push_words_number};
@@ -107,7 +107,7 @@ pub fn push_fault(out: &mut Vec<u8>, fault: &Fault) -> Result<(), AllocError>
 }
 
 fn push_line(out: &mut Vec<u8>, fault: &Fault) -> Result<(), AllocError>
-    ensures { OnOk result (out.new.items ≡ out.old.items ++ line (words_as fault.now.kind fault.now)) }
+    ensures { OnOk result (out.new.items ≡ out.old.items ++ ended_line (words_as fault.now.kind fault.now)) }
 {
     push_fault(out, fault)?;
     out.push(b'\n')?;
@@ -116,7 +116,7 @@ fn push_line(out: &mut Vec<u8>, fault: &Fault) -> Result<(), AllocError>
 
 // How many faults there are.
 fn push_count(out: &mut Vec<u8>, count: u64) -> Result<(), AllocError>
-    ensures { OnOk result (out.new.items ≡ out.old.items ++ line (codes "FAULTS " ++ decimal count)) }
+    ensures { OnOk result (out.new.items ≡ out.old.items ++ ended_line (codes "FAULTS " ++ decimal count)) }
 {
     push_words_number(out, b"FAULTS ", count)?;
     out.push(b'\n')?;

@@ -1,5 +1,5 @@
 ghost use Rattle.std.specs.Prelude.{◌≡◌, ◌++◌, IfOk, OnOk};
-ghost use Rattle.audit_report.specs.Lines.{line, reply_text, walk_text, entry_fault, entry_text};
+ghost use Rattle.audit_report.specs.Lines.{ended_line, reply_text, walk_text, entry_fault, entry_text};
 
 use crate::push::{push_id_number, push_words_id, push_words_page};
 use page_ids::FrameId;
@@ -20,7 +20,7 @@ fn push_reply(out: &mut Vec<u8>, reply: Reply) -> Result<(), AllocError>
 }
 
 fn push_line(out: &mut Vec<u8>, reply: Reply) -> Result<(), AllocError>
-    ensures { OnOk result (out.new.items ≡ out.old.items ++ line (reply_text reply)) }
+    ensures { OnOk result (out.new.items ≡ out.old.items ++ ended_line (reply_text reply)) }
 {
     push_reply(out, reply)?;
     out.push(b'\n')?;

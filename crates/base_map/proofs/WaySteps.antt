@@ -9,7 +9,7 @@ use Rattle.page_ids.specs.Keys.{key_word}
 use Rattle.page_ids.specs.Ways.{way_at}
 use Rattle.frame_records.specs.declared.frame.Frame.{Frame}
 use Rattle.frame_records.specs.Ways.{sought}
-use Rattle.base_map.specs.Edges.{seeks, spaced}
+use Rattle.base_map.specs.Edges.{seeks, spaced_keys}
 
 -- the ways from a place on
 abbrev pub ways_from : ℕ → List Way
@@ -31,9 +31,9 @@ seeking_more f to n b lt e =
 
 -- a key is written, after a space if it isn't the first
 pub key_more : (first : Bool) (out mid new : List ℕ) (k : Key) (ks : List Key) → mid ≡ out ++ cond first [] (codes " ") → new ≡ mid ++ key_word k
-    → new ++ spaced false ks ≡ out ++ spaced first (k ∷ ks)
+    → new ++ spaced_keys false ks ≡ out ++ spaced_keys first (k ∷ ks)
 key_more true out mid new k ks m n =
-    ap (λ xs. xs ++ spaced false ks) (n ∙ ap (λ xs. xs ++ key_word k) (m ∙ append-nil out)) ∙ append_assoc out (key_word k) (spaced false ks)
+    ap (λ xs. xs ++ spaced_keys false ks) (n ∙ ap (λ xs. xs ++ key_word k) (m ∙ append-nil out)) ∙ append_assoc out (key_word k) (spaced_keys false ks)
 key_more false out mid new k ks m n =
-    ap (λ xs. xs ++ spaced false ks) (n ∙ ap (λ xs. xs ++ key_word k) m)
-    ∙ (append_assoc (out ++ codes " ") (key_word k) (spaced false ks) ∙ append_assoc out (codes " ") (key_word k ++ spaced false ks))
+    ap (λ xs. xs ++ spaced_keys false ks) (n ∙ ap (λ xs. xs ++ key_word k) m)
+    ∙ (append_assoc (out ++ codes " ") (key_word k) (spaced_keys false ks) ∙ append_assoc out (codes " ") (key_word k ++ spaced_keys false ks))

@@ -17,9 +17,9 @@ use Rattle.page_ids.specs.Keys.{key_word}
 -- What a map is drawn of.
 
 -- a part shows the frame of an id: it is among these, or all are shown
-abbrev pub shows : Option (List Id) → Id → Bool
-shows None id = true
-shows (Some ids) id = has_id ids id
+abbrev pub part_shows : Option (List Id) → Id → Bool
+part_shows None id = true
+part_shows (Some ids) id = has_id ids id
 
 -- a base, the caller's groups, the frames that the caller reaches, and the part that is shown
 pub record MapView : Type 0 where
@@ -34,11 +34,11 @@ is_lacked base id = is_none (frame_at base id)
 
 -- the map has a node for an id: it shows the frame, or the base lacks it
 abbrev pub has_node : MapView → Id → Bool
-has_node m id = shows m.part id || is_lacked m.base id
+has_node m id = part_shows m.part id || is_lacked m.base id
 
 -- the frames that are shown
-abbrev pub shown : MapView → List Frame → List Frame
-shown m frames = filter (λ f. shows m.part f.id) frames
+abbrev pub frames_shown : MapView → List Frame → List Frame
+frames_shown m frames = filter (λ f. part_shows m.part f.id) frames
 
 -- What the ways of a frame seek.
 
@@ -76,7 +76,7 @@ lost_of base f = filter (is_lacked base) (targets_of f)
 
 -- the entry frame, if it is shown and the base lacks it: a part near a page shows none that the base lacks
 abbrev pub lost_entry : MapView → List Id
-lost_entry m = if shows m.part (entry_of m.base) && is_lacked m.base (entry_of m.base) then entry_of m.base ∷ [] else []
+lost_entry m = if part_shows m.part (entry_of m.base) && is_lacked m.base (entry_of m.base) then entry_of m.base ∷ [] else []
 
 -- that, and what the ways of frames seek and the base lacks, each once, in the order in which it is first sought
 abbrev pub lost : MapView → List Frame → List Id
@@ -88,15 +88,15 @@ lost_lines m frames = flat_map (lost_line m.base) (lost m frames)
 -- An edge for each pair of a frame and what its ways seek.
 
 -- keys with a space before each, but not before the first of all
-abbrev pub spaced : Bool → List Key → List ℕ
-spaced first [] = []
-spaced true (k ∷ ks) = key_word k ++ spaced false ks
-spaced false (k ∷ ks) = codes " " ++ key_word k ++ spaced false ks
+abbrev pub spaced_keys : Bool → List Key → List ℕ
+spaced_keys first [] = []
+spaced_keys true (k ∷ ks) = key_word k ++ spaced_keys false ks
+spaced_keys false (k ∷ ks) = codes " " ++ key_word k ++ spaced_keys false ks
 
 -- an edge from a frame to what its ways seek
 abbrev pub edge_line : MapView → Frame → Id → List ℕ
 edge_line m f to =
-    codes "  \"" ++ frame_text f.id ++ codes "\" -> \"" ++ node_name m.base to ++ codes "\" [label=\"" ++ spaced true (keys_to f to) ++ codes "\"]\n"
+    codes "  \"" ++ frame_text f.id ++ codes "\" -> \"" ++ node_name m.base to ++ codes "\" [label=\"" ++ spaced_keys true (keys_to f to) ++ codes "\"]\n"
 
 -- the edges to those that have nodes
 abbrev pub lines_to : MapView → Frame → List Id → List ℕ

@@ -7,5 +7,5 @@ use Rattle.finder.specs.declared.found.Discovered.{Discovered}
 -- The frames that are reached.
 
 -- the ids of discovered frames
-abbrev pub ids_of : List Discovered → List Id
-ids_of found = insert_all id_eq [] (map (λ d. d.id) found)
+abbrev pub discovered_ids : List Discovered → List Id
+discovered_ids found = insert_all id_eq [] (map (λ d. d.id) found)

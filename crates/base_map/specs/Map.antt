@@ -5,7 +5,7 @@ use Rattle.page_ids.specs.Ids.{Id, id_eq}
 use Rattle.frame_records.specs.declared.frame.Frame.{Frame}
 use Rattle.frame_records.specs.Bases.{BaseView, frame_at}
 use Rattle.finder.specs.Finds.{IsReached, has_id}
-use Rattle.base_map.specs.Edges.{edge_lines_of, lost_lines, MapView, shown, targets_of, keys_to}
+use Rattle.base_map.specs.Edges.{edge_lines_of, lost_lines, MapView, frames_shown, targets_of, keys_to}
 use Rattle.base_map.specs.Nodes.{cluster_lines}
 use Rattle.page_ids.specs.declared.way.Way.{Way}
 use Rattle.page_ids.specs.Ways.{way_key}
@@ -27,7 +27,7 @@ lines_of m frames = head ++ cluster_lines m None frames ++ lost_lines m frames +
 
 -- of the frames that are shown
 abbrev pub map_lines : MapView → List ℕ
-map_lines m = lines_of m (shown m m.base.frames)
+map_lines m = lines_of m (frames_shown m m.base.frames)
 
 -- a map of the part of a base, for a caller
 pub record IsMap (base : BaseView) (caller : List ℕ) (part : Option (List Id)) (text : List ℕ) : Type 0 where

@@ -11,7 +11,7 @@ use Rattle.base_map.specs.Edges.{MapView}
 
 -- a body without its escapes, after the first code of one or not: an escape is 1B and the byte after it
 abbrev pub without_escapes : Bool → List ℕ → List ℕ
-without_escapes escaped [] = []
+without_escapes dot_escaped [] = []
 without_escapes true (c ∷ cs) = without_escapes false cs
 without_escapes false (c ∷ cs) = if c == 27 then without_escapes true cs else c ∷ without_escapes false cs
 
@@ -52,14 +52,14 @@ escaped_code code =
     else if code == 0x26 then codes "&amp;"
     else encode_utf8 (character code)
 
-abbrev pub escaped : List ℕ → List ℕ
-escaped [] = []
-escaped (c ∷ cs) = escaped_code c ++ escaped cs
+abbrev pub dot_escaped : List ℕ → List ℕ
+dot_escaped [] = []
+dot_escaped (c ∷ cs) = escaped_code c ++ dot_escaped cs
 
 -- a line of a label, if there is a title
 abbrev pub title_line : List ℕ → List ℕ
 title_line [] = []
-title_line (c ∷ cs) = codes "\\n" ++ escaped (c ∷ cs)
+title_line (c ∷ cs) = codes "\\n" ++ dot_escaped (c ∷ cs)
 
 -- The nodes of frames, by pages.
 
@@ -95,11 +95,11 @@ closed None = []
 closed (Some page) = codes "  }\n"
 
 -- from the page of the frame before, if there is one, to the page of the next
-abbrev pub turned : Option ℕ → ℕ → List ℕ
-turned None page = opened page
-turned (Some before) page = if before == page then [] else codes "  }\n" ++ opened page
+abbrev pub page_turned : Option ℕ → ℕ → List ℕ
+page_turned None page = opened page
+page_turned (Some before) page = if before == page then [] else codes "  }\n" ++ opened page
 
 -- the nodes of frames after one of a page, or at the start
 abbrev pub cluster_lines : MapView → Option ℕ → List Frame → List ℕ
 cluster_lines m page [] = closed page
-cluster_lines m page (f ∷ fs) = turned page f.id.page ++ node_line m f ++ cluster_lines m (Some f.id.page) fs
+cluster_lines m page (f ∷ fs) = page_turned page f.id.page ++ node_line m f ++ cluster_lines m (Some f.id.page) fs

@@ -2,7 +2,7 @@
 
 ghost use Rattle.std.specs.Prelude.{◌≡◌, ◌++◌, true, OnOk};
 ghost use Rattle.std.specs.List.{flat_map};
-ghost use Rattle.base_map.specs.Edges.{shown};
+ghost use Rattle.base_map.specs.Edges.{frames_shown};
 ghost use Rattle.base_map.specs.Edges as spec;
 
 use crate::drawing::MapDrawing;
@@ -14,7 +14,7 @@ use std::alloc::{AllocError, Global};
 
 // The keys of a frame's ways that seek an id, with a space between them.
 fn push_keys_to(out: &mut Vec<u8>, frame: &Frame, to: FrameId) -> Result<(), AllocError>
-    ensures { OnOk result (out.new.items ≡ out.old.items ++ spec.spaced true (spec.keys_to frame.now to)) }
+    ensures { OnOk result (out.new.items ≡ out.old.items ++ spec.spaced_keys true (spec.keys_to frame.now to)) }
 {
     let mut is_first = true;
     for place in 0..Way::COUNT {
@@ -78,7 +78,7 @@ impl<'a> MapDrawing<'a> {
         frames: &[Frame],
     ) -> Result<(), AllocError>
         ensures { OnOk result (out.new.items ≡ out.old.items
-            ++ flat_map (spec.edge_lines_of self.now) (shown self.now frames.now)) }
+            ++ flat_map (spec.edge_lines_of self.now) (frames_shown self.now frames.now)) }
     {
         for frame in frames {
             if self.part.shows(frame.id) {

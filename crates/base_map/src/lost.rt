@@ -4,7 +4,7 @@ ghost use Rattle.std.specs.Prelude.{◌≡◌, ◌++◌, OnOk, IfOk, filter};
 ghost use Rattle.std.specs.List.{flat_map};
 ghost use Rattle.indexmap.specs.IndexSet.{insert_all};
 ghost use Rattle.page_ids.specs.Ids.{id_eq};
-ghost use Rattle.base_map.specs.Edges.{is_lacked, shown};
+ghost use Rattle.base_map.specs.Edges.{is_lacked, frames_shown};
 ghost use Rattle.base_map.specs.Edges as spec;
 
 use crate::drawing::MapDrawing;
@@ -91,7 +91,7 @@ impl<'a> MapDrawing<'a> {
         first: IndexSet<FrameId>,
     ) -> Result<IndexSet<FrameId>, AllocError>
         ensures { IfOk result (λ lost. lost.keys ≡
-            insert_all id_eq first.keys (flat_map (spec.lost_of self.now.base) (shown self.now frames.now))) }
+            insert_all id_eq first.keys (flat_map (spec.lost_of self.now.base) (frames_shown self.now frames.now))) }
     {
         let mut lost = first;
         for frame in frames {
@@ -104,7 +104,7 @@ impl<'a> MapDrawing<'a> {
 
     // The entry frame, and what ways seek.
     fn lost(&self, alloc: Global, frames: &[Frame]) -> Result<IndexSet<FrameId>, AllocError>
-        ensures { IfOk result (λ lost. lost.keys ≡ spec.lost self.now (shown self.now frames.now)) }
+        ensures { IfOk result (λ lost. lost.keys ≡ spec.lost self.now (frames_shown self.now frames.now)) }
     {
         let first = self.lost_entry(alloc)?;
         self.with_lost(alloc, frames, first)
@@ -117,7 +117,7 @@ impl<'a> MapDrawing<'a> {
         out: &mut Vec<u8>,
         frames: &[Frame],
     ) -> Result<(), AllocError>
-        ensures { OnOk result (out.new.items ≡ out.old.items ++ spec.lost_lines self.now (shown self.now frames.now)) }
+        ensures { OnOk result (out.new.items ≡ out.old.items ++ spec.lost_lines self.now (frames_shown self.now frames.now)) }
     {
         let lost = self.lost(alloc, frames)?;
         push_lost_nodes(out, self.base, lost.as_slice())

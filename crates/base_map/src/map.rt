@@ -1,7 +1,7 @@
 ghost use Rattle.std.specs.Prelude.{◌≡◌, ◌++◌, IfOk, OnOk};
 ghost use Rattle.base_map.specs.Map as spec;
 ghost use Rattle.base_map.specs.Loops as loops;
-ghost use Rattle.base_map.specs.Edges.{shown};
+ghost use Rattle.base_map.specs.Edges.{frames_shown};
 
 use crate::drawing::MapDrawing;
 use crate::part::Part;
@@ -13,7 +13,7 @@ use std::alloc::{AllocError, Global};
 
 // The ids of discovered frames.
 fn ids_of(alloc: Global, found: &[Discovered]) -> Result<IndexSet<FrameId>, AllocError>
-    ensures { IfOk result (λ ids. ids.keys ≡ loops.ids_of found.now) }
+    ensures { IfOk result (λ ids. ids.keys ≡ loops.discovered_ids found.now) }
 {
     let mut ids = IndexSet::with_capacity(alloc, found.len())?;
     for frame in found {
@@ -33,7 +33,7 @@ fn reached(alloc: Global, base: &Base, groups: &Groups) -> Result<IndexSet<Frame
 impl<'a> MapDrawing<'a> {
     // Writes the map, all of whose base's frames these are.
     fn push_map(&self, alloc: Global, out: &mut Vec<u8>, frames: &[Frame]) -> Result<(), AllocError>
-        ensures { OnOk result (out.new.items ≡ out.old.items ++ spec.lines_of self.now (shown self.now frames.now)) }
+        ensures { OnOk result (out.new.items ≡ out.old.items ++ spec.lines_of self.now (frames_shown self.now frames.now)) }
     {
         out.extend_from_slice(b"digraph {\n  rankdir=LR\n  newrank=true\n  node [shape=box]\n")?;
         self.push_clusters(alloc, out, frames)?;

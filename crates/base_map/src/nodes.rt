@@ -1,7 +1,7 @@
 //! The nodes of frames, by pages.
 
 ghost use Rattle.std.specs.Prelude.{◌≡◌, ◌++◌, OnOk, Some, None};
-ghost use Rattle.base_map.specs.Edges.{shown};
+ghost use Rattle.base_map.specs.Edges.{frames_shown};
 ghost use Rattle.base_map.specs.Nodes as spec;
 
 use crate::drawing::MapDrawing;
@@ -45,7 +45,7 @@ fn push_close(out: &mut Vec<u8>, page: Option<PageNo>) -> Result<(), AllocError>
 
 // Ends the cluster of a page, and begins that of the next, if it is another.
 fn push_turn(out: &mut Vec<u8>, before: Option<PageNo>, page: PageNo) -> Result<(), AllocError>
-    ensures { OnOk result (out.new.items ≡ out.old.items ++ spec.turned before page) }
+    ensures { OnOk result (out.new.items ≡ out.old.items ++ spec.page_turned before page) }
 {
     if before == Some(page) {
         return Ok(());
@@ -92,7 +92,7 @@ impl<'a> MapDrawing<'a> {
         frames: &[Frame],
     ) -> Result<(), AllocError>
         ensures { OnOk result (out.new.items ≡ out.old.items
-            ++ spec.cluster_lines self.now None (shown self.now frames.now)) }
+            ++ spec.cluster_lines self.now None (frames_shown self.now frames.now)) }
     {
         let mut page = None;
         for frame in frames {

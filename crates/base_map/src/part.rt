@@ -1,5 +1,5 @@
 ghost use Rattle.std.specs.Prelude.{◌≡◌, Some, None};
-ghost use Rattle.base_map.specs.Edges.{shows};
+ghost use Rattle.base_map.specs.Edges.{part_shows};
 
 use indexmap::IndexSet;
 use page_ids::FrameId;
@@ -37,7 +37,7 @@ impl Part {
 
     /// Whether it has the frame of an id.
     pub fn shows(&self, id: FrameId) -> bool
-        ensures { result ≡ shows self.now id }
+        ensures { result ≡ part_shows self.now id }
     {
         match &self.only {
             Some(ids) => ids.contains(&id),

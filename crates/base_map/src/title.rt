@@ -78,7 +78,7 @@ fn push_code(out: &mut Vec<u8>, code: u8) -> Result<(), AllocError>
 }
 
 fn push_escaped(out: &mut Vec<u8>, text: &[u8]) -> Result<(), AllocError>
-    ensures { OnOk result (out.new.items ≡ out.old.items ++ spec.escaped text.now) }
+    ensures { OnOk result (out.new.items ≡ out.old.items ++ spec.dot_escaped text.now) }
 {
     for code in text {
         push_code(out, *code)?;

@@ -10,7 +10,7 @@ use Rattle.page_ids.specs.IdLaws.{id_eq_same}
 use Rattle.fault_scripts.specs.declared.fault.Fault.{Fault}
 use Rattle.base_pages.specs.Faults.{is_entry_kind, faults_about, item, items, entry_faults, start_or, first_start}
 use Rattle.base_pages.specs.declared.index.Numbered.{Numbered}
-use Rattle.base_pages.specs.Loops.{number_by, numbers_of, numbered_one, numbered, option_list, picked, numbered_items, item_of, entry_items, first_numbered_start, start_of}
+use Rattle.base_pages.specs.Loops.{number_by, numbers_of, numbered_one, numbered_faults, option_list, picked, numbered_items, item_lines, entry_items, first_numbered_start, earliest_start}
 
 pub chosen : {A : Type 0} (f : A → List ℕ) (b : Bool) (v : A) (o : Option A) → option_map_or f (cond b (Some v) o) [] ≡ cond b (f v) (option_map_or f o [])
 chosen f true v o = refl
@@ -48,23 +48,23 @@ module _ (all : List Fault) (id : Id) where
   one n f fs false false e h at = rw (e, h) refl
 
   -- the numbers of a frame pick the faults about it
-  pub picks : (n : ℕ) (fs : List Fault) → drop n all ≡ fs → picked all (numbers_of (numbered n fs) id) ≡ faults_about fs id
+  pub picks : (n : ℕ) (fs : List Fault) → drop n all ≡ fs → picked all (numbers_of (numbered_faults n fs) id) ≡ faults_about fs id
   picks n [] e = refl
   picks n (f ∷ fs) e =
       let first = numbered_one n f in
-      let later = numbered (n + 1) fs in
+      let later = numbered_faults (n + 1) fs in
       let parts = split all n f fs e in
       ap (picked all) (flat_map-append (λ x. number_by x id) first later)
       ∙ flat_map-append (λ k. option_list (slice_get all k)) (numbers_of first id) (numbers_of later id)
       ∙ ap (λ xs. picked all (numbers_of first id) ++ xs) (picks (n + 1) fs parts.1)
       ∙ one n f fs (is_entry_kind f.kind) (id_eq f.frame id) refl refl parts.0
 
-pub picks_all : (all : List Fault) (id : Id) → picked all (numbers_of (numbered 0 all) id) ≡ faults_about all id
+pub picks_all : (all : List Fault) (id : Id) → picked all (numbers_of (numbered_faults 0 all) id) ≡ faults_about all id
 picks_all all id = picks all id 0 all refl
 
 -- The lines of picked faults, and the first start that they name.
 
-one_item : (o : Option Fault) → item_of o ≡ items (option_list o)
+one_item : (o : Option Fault) → item_lines o ≡ items (option_list o)
 one_item None = refl
 one_item (Some fault) = sym (append-nil (item fault))
 
@@ -85,16 +85,16 @@ entry_items_are (f ∷ fs) = by (is_entry_kind f.kind) (entry_items_are fs) wher
 pub start_picked : (all : List Fault) (ns : List ℕ) → first_numbered_start all ns ≡ first_start (picked all ns)
 start_picked all [] = refl
 start_picked all (n ∷ ns) = by (slice_get all n) (start_picked all ns) where
-  by : (o : Option Fault) → first_numbered_start all ns ≡ first_start (picked all ns) → start_or (start_of o) (first_numbered_start all ns) ≡ first_start (option_list o ++ picked all ns)
+  by : (o : Option Fault) → first_numbered_start all ns ≡ first_start (picked all ns) → start_or (earliest_start o) (first_numbered_start all ns) ≡ first_start (option_list o ++ picked all ns)
   by None later = later
   by (Some f) later = ap (start_or f.start) later
 
 -- one more fault is numbered
 pub number_more : (all : List Fault) (n : ℕ) (f : Fault) (list now : List Numbered) → f ≡ get_or all n f → n < length all
-    → now ≡ list ++ numbered_one n f → list ++ numbered n (drop n all) ≡ numbered 0 all → now ++ numbered (n + 1) (drop (n + 1) all) ≡ numbered 0 all
+    → now ≡ list ++ numbered_one n f → list ++ numbered_faults n (drop n all) ≡ numbered_faults 0 all → now ++ numbered_faults (n + 1) (drop (n + 1) all) ≡ numbered_faults 0 all
 number_more all n f list now is lt added held =
     let rest = drop (n + 1) all in
     let more : drop n all ≡ f ∷ rest = drop_more all n f lt ∙ ap (λ x. x ∷ rest) (sym is) in
-    ap (λ xs. xs ++ numbered (n + 1) rest) added
-    ∙ append_assoc list (numbered_one n f) (numbered (n + 1) rest)
-    ∙ ap (λ xs. list ++ numbered n xs) (sym more) ∙ held
+    ap (λ xs. xs ++ numbered_faults (n + 1) rest) added
+    ∙ append_assoc list (numbered_one n f) (numbered_faults (n + 1) rest)
+    ∙ ap (λ xs. list ++ numbered_faults n xs) (sym more) ∙ held

@@ -5,7 +5,7 @@ use Rattle.std.specs.List.{flat_map}
 use Rattle.std.specs.Io.KnownBytes.{Appends}
 use Rattle.devices.specs.Devices.{Seen, IsOnItsWay}
 use Rattle.frame_records.specs.declared.frame.Frame.{Frame}
-use Rattle.base_map.specs.Edges.{shows}
+use Rattle.base_map.specs.Edges.{part_shows}
 use Rattle.checker.specs.declared.policy.Policy.{Policy}
 use Rattle.frame_records.specs.Bases.{BaseView}
 use Rattle.page_ids.specs.Ids.{Id}
@@ -30,8 +30,8 @@ stopped old now kept wrote text rest way = record {
 
 -- the section of a frame, and those of the frames after it
 pub first_section : (b : BookView) (f : Frame) (fs : List Frame) → sections b (f ∷ fs) ≡ sections b (f ∷ []) ++ sections b fs
-first_section b f fs = by (shows b.part f.id) where
-  by : (s : Bool) → flat_map (section b) (cond s (f ∷ filter (λ x. shows b.part x.id) fs) (filter (λ x. shows b.part x.id) fs)) ≡ flat_map (section b) (cond s (f ∷ []) []) ++ sections b fs
+first_section b f fs = by (part_shows b.part f.id) where
+  by : (s : Bool) → flat_map (section b) (cond s (f ∷ filter (λ x. part_shows b.part x.id) fs) (filter (λ x. part_shows b.part x.id) fs)) ≡ flat_map (section b) (cond s (f ∷ []) []) ++ sections b fs
   by true = ap (λ xs. xs ++ sections b fs) (sym (append-nil (section b f)))
   by false = refl
 

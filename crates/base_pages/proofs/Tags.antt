@@ -21,27 +21,27 @@ use Rattle.frame_records.specs.declared.ways.Destination.TheVariants.{NotOffered
 use Rattle.frame_records.specs.Bases.{BaseView, lists_outside}
 use Rattle.frame_records.specs.Seek.{entry_of, route_of, seek}
 use Rattle.frame_records.specs.Ways.{destination_of, offered_by, sought, sought_by, missing_by}
-use Rattle.cert_text.specs.Grammar.{spaced}
+use Rattle.cert_text.specs.Grammar.{spaced_groups}
 use Rattle.checker.specs.declared.policy.Policy.{Policy}
 use Rattle.fault_scripts.specs.declared.fault.Fault.{Fault}
 use Rattle.fault_scripts.specs.declared.outcome.Outcome.{Outcome}
 use Rattle.fault_scripts.specs.declared.outcome.Outcome.TheVariants.{Certified, Faulty}
 use Rattle.audit_report.specs.ReportLines.{words_as}
-use Rattle.base_map.specs.Edges.{shows}
+use Rattle.base_map.specs.Edges.{part_shows}
 use Rattle.screens.specs.declared.look.Look.{Look}
 use Rattle.screens.specs.declared.writing.Writing.TheVariants.{Markup}
 use Rattle.screens.specs.Writing.{written}
 use Rattle.screens.specs.Text.{text}
 use Rattle.screens.specs.Svg.{Piece, piece, piece_bytes, markup, svg_pieces, svg}
 use Rattle.std.specs.Str.{chars}
-use Rattle.screens.specs.Laws.{reading, is_harmless}
+use Rattle.screens.specs.Laws.{tags_reading, is_harmless}
 use Rattle.screens.proofs.Safe.{all_append, harmless, first_of, rest_of}
 use Rattle.screens.proofs.Tags.{is_inner, Inner, Outer, has_inner, Tags, svg_tags}
 use Rattle.base_pages.specs.Faults.{item, items, list_begin, listed, fault_list, faults_about, entry_faults, touched_cell}
 use Rattle.base_pages.specs.Ways.{link, marked, way_text}
 use Rattle.base_pages.specs.Screens.{is_reached, screen_of}
 use Rattle.base_pages.specs.Sections.{BookView, class_of, opening, section_begin, screen_forms, price_line, over, ways_begin, ways_line, section_tail, section_end, section, sections}
-use Rattle.base_pages.specs.Head.{name_line, counted, ceiling_text, keyings_text, ceiling_asked, keyings_asked, certified_begin, certified, faulty_begin, faulty, verdict_text, groups_text, policy_line, faults_in, header_begin, header_end, header}
+use Rattle.base_pages.specs.Head.{name_line, counted, ceiling_text, keyings_text, ceiling_asked, keyings_asked, certified_begin, certified, faulty_begin, faulty, outcome_text, groups_text, policy_line, outcome_faults, header_begin, header_end, header}
 use Rattle.base_pages.specs.Shell.{head, middle, foot}
 use Rattle.base_pages.specs.Tags.{tag_list, class_tag, begin_tags, link_tags, marked_tags, way_tags, over_tags, item_tags, fault_tags, end_tags, picture_tags, section_tags, verdict_tags, header_tags, page_tags, HasLetter, HaveLetters}
 use Rattle.base_pages.specs.Pages.{page}
@@ -71,14 +71,14 @@ pick_later : (q : Bool) (tag : List ℕ) (x y : List Piece) (u v : List (List �
 pick_later true tag x y u v e f = e
 pick_later false tag x y u v e f = f
 
-same_tags : (i : Bool) (tag since bs : List ℕ) → map tag_of (reading i tag since bs) ≡ read_from i tag bs
+same_tags : (i : Bool) (tag since bs : List ℕ) → map tag_of (tags_reading i tag since bs) ≡ read_from i tag bs
 same_tags true tag since [] = refl
 same_tags false tag since [] = refl
 same_tags true tag since (b ∷ bs) =
-    pick_tags (b == 0x3E) (reading false tag [] bs) (reading true (tag ++ b ∷ []) since bs) (tag ∷ tags_from false [] bs) (tags_from true (tag ++ b ∷ []) bs)
+    pick_tags (b == 0x3E) (tags_reading false tag [] bs) (tags_reading true (tag ++ b ∷ []) since bs) (tag ∷ tags_from false [] bs) (tags_from true (tag ++ b ∷ []) bs)
     (same_tags false tag [] bs) (same_tags true (tag ++ b ∷ []) since bs)
 same_tags false tag since (b ∷ bs) =
-    pick_later (b == 0x3C) tag (piece tag since ∷ reading true [] [] bs) (reading false tag (since ++ b ∷ []) bs) (tags_from true [] bs) (tags_from false [] bs)
+    pick_later (b == 0x3C) tag (piece tag since ∷ tags_reading true [] [] bs) (tags_reading false tag (since ++ b ∷ []) bs) (tags_from true [] bs) (tags_from false [] bs)
     (ap (λ (ts : List (List ℕ)). tag ∷ ts) (same_tags true [] [] bs)) (same_tags false tag (since ++ b ∷ []) bs)
 
 -- Steps of the reader.
@@ -277,7 +277,7 @@ found_step part key to false is k = marked_step (codes "elsewhere") key (frame_t
 
 way_step : (part : Option (List Id)) (key : Key) (leads : Destination) → LeadsToLetter leads → Inner (key_word key) → Step false [] (way_text part key leads) (way_tags part key leads) false []
 way_step part key NotOffered is k = λ rest. refl
-way_step part key (Found to price) is k = found_step part key to (shows part to) is k
+way_step part key (Found to price) is k = found_step part key to (part_shows part to) is k
 way_step part key (Closed to) is k = marked_step (codes "closed") key (frame_text to) refl k (outer_id to is)
 way_step part key (Missing to) is k = marked_step (codes "missing") key (frame_text to) refl k (outer_id to is)
 way_step part key (Outside page) is k = marked_step (codes "outside") key (decimal page) refl k (outer_decimal page)
@@ -430,13 +430,13 @@ section_step b f is =
     ∙ ap (λ (ts : List (List ℕ)). ts ++ end_tags b f ++ tags_from false [] rest) (sym (append_assoc (begin_tags f.id reached) (picture_tags b f) pre))
 
 abbrev shown : BookView → List Frame → List Frame
-shown b fs = filter (λ f. shows b.part f.id) fs
+shown b fs = filter (λ f. part_shows b.part f.id) fs
 
 sections_step : (b : BookView) (fs : List Frame) → HaveLetters b.part fs → Step false [] (sections b fs) (flat_map (section_tags b) (shown b fs)) false []
 sections_step b [] h = λ rest. refl
 sections_step b (f ∷ fs) h =
     let later = sections_step b fs (All-tail (HasLetter b.part) f fs h) in
-    cond_both (shows b.part f.id) (f ∷ shown b fs) (shown b fs) (λ (gs : List Frame). Step false [] (flat_map (section b) gs) (flat_map (section_tags b) gs) false [])
+    cond_both (part_shows b.part f.id) (f ∷ shown b fs) (shown b fs) (λ (gs : List Frame). Step false [] (flat_map (section b) gs) (flat_map (section_tags b) gs) false [])
     (λ e. after false false false [] [] [] (section b f) (sections b fs) (section_tags b f) (flat_map (section_tags b) (shown b fs)) (section_step b f (All-head (HasLetter b.part) f fs h e)) later)
     (λ e. later)
 
@@ -472,13 +472,13 @@ outer_ceiling_asked n = cond_both (n == 9999) [] (ceiling_text n) Outer (λ e. r
 outer_keyings_asked : (n : ℕ) → Outer (keyings_asked n)
 outer_keyings_asked n = cond_both (n == 65535) [] (keyings_text n) Outer (λ e. refl) (λ e. outer_keyings n)
 
-outer_spaced : (groups : List ℕ) → Outer (spaced groups)
+outer_spaced : (groups : List ℕ) → Outer (spaced_groups groups)
 outer_spaced [] = refl
-outer_spaced (group ∷ groups) = outer_joined (decimal group) (spaced groups) (outer_decimal group) (outer_spaced groups)
+outer_spaced (group ∷ groups) = outer_joined (decimal group) (spaced_groups groups) (outer_decimal group) (outer_spaced groups)
 
 outer_groups : (groups : List ℕ) → Outer (groups_text groups)
 unfolding groups_text
-outer_groups groups = cond_both (length groups == 0) _ _ Outer (λ e. refl) (λ e. outer_joined (codes "groups") (spaced groups) refl (outer_spaced groups))
+outer_groups groups = cond_both (length groups == 0) _ _ Outer (λ e. refl) (λ e. outer_joined (codes "groups") (spaced_groups groups) refl (outer_spaced groups))
 
 -- a paragraph of three texts, from its beginning on
 paragraph_step : (begin : List ℕ) (t : List ℕ) (ts : List (List ℕ)) (a b c : List ℕ) → Step false [] begin (t ∷ ts) false [] → Outer a → Outer b → Outer c
@@ -491,7 +491,7 @@ paragraph_step begin t ts a b c begins h k l =
     ∙ ap (λ (us : List (List ℕ)). (t ∷ ts) ++ us) (outside a h (b ++ (c ++ rest)) ∙ outside b k (c ++ rest) ∙ outside c l rest) in
     after false false false [] [] [] abc (codes "</p>\n") (t ∷ ts) (codes "/p" ∷ []) whole (λ rest. refl)
 
-verdict_step : (outcome : Outcome) → Step false [] (verdict_text outcome) (verdict_tags outcome) false []
+verdict_step : (outcome : Outcome) → Step false [] (outcome_text outcome) (verdict_tags outcome) false []
 unfolding certified certified_begin faulty faulty_begin
 verdict_step (Certified cert) =
     paragraph_step certified_begin (codes "p class=\"verdict certified\"") (codes "/p" ∷ codes "p" ∷ []) (counted (length cert.rows) (codes "frame")) (ceiling_text cert.ceiling) (keyings_text cert.keyings)
@@ -518,11 +518,11 @@ entry_step entry is =
     (after false true true [] a b (codes "<header data-entry=\"") (frame_text entry) [] [] (λ rest. refl) (inside a (frame_text entry) (inner_id entry is)))
     (λ rest. refl)
 
-header_end_step : (outcome : Outcome) → Step false [] (header_end outcome) (codes "/header" ∷ fault_tags (entry_faults (faults_in outcome))) false []
+header_end_step : (outcome : Outcome) → Step false [] (header_end outcome) (codes "/header" ∷ fault_tags (entry_faults (outcome_faults outcome))) false []
 unfolding header_end
 header_end_step outcome =
-    after false false false [] [] [] (codes "</header>\n") (fault_list (entry_faults (faults_in outcome))) (codes "/header" ∷ []) (fault_tags (entry_faults (faults_in outcome)))
-    (λ rest. refl) (faults_step (entry_faults (faults_in outcome)))
+    after false false false [] [] [] (codes "</header>\n") (fault_list (entry_faults (outcome_faults outcome))) (codes "/header" ∷ []) (fault_tags (entry_faults (outcome_faults outcome)))
+    (λ rest. refl) (faults_step (entry_faults (outcome_faults outcome)))
 
 header_step : (name : List ℕ) (base : BaseView) (policy : Policy) (outcome : Outcome) → Step false [] (header name base policy outcome) (header_tags base outcome) false []
 header_step name base policy outcome =
@@ -531,9 +531,9 @@ header_step name base policy outcome =
     let named = tag ∷ codes "h1" ∷ codes "/h1" ∷ [] in
     let judged = named ++ verdict_tags outcome in
     let asked = judged ++ (codes "p" ∷ codes "/p" ∷ []) in
-    after false false false [] [] [] (header_begin entry ++ name_line name ++ verdict_text outcome ++ policy_line policy) (header_end outcome) asked (codes "/header" ∷ fault_tags (entry_faults (faults_in outcome)))
-    (after false false false [] [] [] (header_begin entry ++ name_line name ++ verdict_text outcome) (policy_line policy) judged (codes "p" ∷ codes "/p" ∷ [])
-    (after false false false [] [] [] (header_begin entry ++ name_line name) (verdict_text outcome) named (verdict_tags outcome)
+    after false false false [] [] [] (header_begin entry ++ name_line name ++ outcome_text outcome ++ policy_line policy) (header_end outcome) asked (codes "/header" ∷ fault_tags (entry_faults (outcome_faults outcome)))
+    (after false false false [] [] [] (header_begin entry ++ name_line name ++ outcome_text outcome) (policy_line policy) judged (codes "p" ∷ codes "/p" ∷ [])
+    (after false false false [] [] [] (header_begin entry ++ name_line name) (outcome_text outcome) named (verdict_tags outcome)
     (after false false false [] [] [] (header_begin entry) (name_line name) (tag ∷ []) (codes "h1" ∷ codes "/h1" ∷ []) (entry_step entry (omega arith, omega arith)) (name_step name))
     (verdict_step outcome))
     (policy_step policy))

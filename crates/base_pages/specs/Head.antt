@@ -7,7 +7,7 @@ use Rattle.frame_records.specs.Bases.{BaseView}
 use Rattle.frame_records.specs.Seek.{entry_of}
 use Rattle.cert_table.specs.declared.limits.TheConstants.{MOST_RANK}
 use Rattle.cert_table.specs.Table.{CertView}
-use Rattle.cert_text.specs.Grammar.{spaced}
+use Rattle.cert_text.specs.Grammar.{spaced_groups}
 use Rattle.checker.specs.declared.policy.Policy.{Policy}
 use Rattle.fault_scripts.specs.declared.fault.Fault.{Fault}
 use Rattle.fault_scripts.specs.declared.outcome.Outcome.{Outcome}
@@ -45,13 +45,13 @@ faulty_begin = codes "<p class=\"verdict faulty\">"
 unfoldable pub faulty : List Fault → List ℕ
 faulty faults = faulty_begin ++ counted (length faults) (codes "fault") ++ codes "</p>\n"
 
-abbrev pub verdict_text : Outcome → List ℕ
-verdict_text (Certified cert) = certified cert
-verdict_text (Faulty faults) = faulty faults
+abbrev pub outcome_text : Outcome → List ℕ
+outcome_text (Certified cert) = certified cert
+outcome_text (Faulty faults) = faulty faults
 
 -- groups, with a space before each
 unfoldable pub groups_text : List ℕ → List ℕ
-groups_text groups = if length groups == 0 then codes "no groups" else codes "groups" ++ spaced groups
+groups_text groups = if length groups == 0 then codes "no groups" else codes "groups" ++ spaced_groups groups
 
 -- the widest limit isn't named
 abbrev pub ceiling_asked : ℕ → List ℕ
@@ -65,18 +65,18 @@ policy_line policy =
     codes "<p>For a caller in " ++ groups_text policy.groups ++ ceiling_asked policy.ceiling ++ keyings_asked policy.keyings ++ codes "</p>\n"
 
 -- the faults of an outcome
-abbrev pub faults_in : Outcome → List Fault
-faults_in (Certified cert) = []
-faults_in (Faulty faults) = faults
+abbrev pub outcome_faults : Outcome → List Fault
+outcome_faults (Certified cert) = []
+outcome_faults (Faulty faults) = faults
 
 -- it names the entry frame
 unfoldable pub header_begin : Id → List ℕ
 header_begin entry = codes "<header data-entry=\"" ++ frame_text entry ++ codes "\">\n"
 
 unfoldable pub header_end : Outcome → List ℕ
-header_end outcome = codes "</header>\n" ++ fault_list (entry_faults (faults_in outcome))
+header_end outcome = codes "</header>\n" ++ fault_list (entry_faults (outcome_faults outcome))
 
 -- the header, which names the entry frame, and that it isn't found if it isn't
 abbrev pub header : List ℕ → BaseView → Policy → Outcome → List ℕ
 header name base policy outcome =
-    header_begin (entry_of base) ++ name_line name ++ verdict_text outcome ++ policy_line policy ++ header_end outcome
+    header_begin (entry_of base) ++ name_line name ++ outcome_text outcome ++ policy_line policy ++ header_end outcome

@@ -16,7 +16,7 @@ use Rattle.base_pages.specs.declared.book.Book.{Book}
 use Rattle.base_pages.specs.declared.pages.Prepared.{Prepared}
 use Rattle.base_pages.specs.declared.pages.Cover.{Cover}
 use Rattle.base_pages.specs.Faults.{is_entry_kind, item, start_or}
-use Rattle.base_pages.specs.Head.{faults_in}
+use Rattle.base_pages.specs.Head.{outcome_faults}
 use Rattle.base_pages.specs.Sections.{BookView}
 use Rattle.base_pages.specs.Pages.{page, StoppedWithin}
 use Rattle.devices.specs.Devices.{Seen, WrotePart}
@@ -42,9 +42,9 @@ abbrev pub numbered_one : ℕ → Fault → List Numbered
 numbered_one n fault = if is_entry_kind fault.kind then [] else record { frame = fault.frame; number = n } ∷ []
 
 -- those of faults, numbered from one on
-abbrev pub numbered : ℕ → List Fault → List Numbered
-numbered n [] = []
-numbered n (fault ∷ faults) = numbered_one n fault ++ numbered (n + 1) faults
+abbrev pub numbered_faults : ℕ → List Fault → List Numbered
+numbered_faults n [] = []
+numbered_faults n (fault ∷ faults) = numbered_one n fault ++ numbered_faults (n + 1) faults
 
 -- the faults of numbers
 abbrev pub option_list : {A : Type 0} → Option A → List A
@@ -55,12 +55,12 @@ abbrev pub picked : List Fault → List ℕ → List Fault
 picked faults numbers = flat_map (λ n. option_list (slice_get faults n)) numbers
 
 -- their lines
-abbrev pub item_of : Option Fault → List ℕ
-item_of None = []
-item_of (Some fault) = item fault
+abbrev pub item_lines : Option Fault → List ℕ
+item_lines None = []
+item_lines (Some fault) = item fault
 
 abbrev pub numbered_item : List Fault → ℕ → List ℕ
-numbered_item faults n = item_of (slice_get faults n)
+numbered_item faults n = item_lines (slice_get faults n)
 
 abbrev pub numbered_items : List Fault → List ℕ → List ℕ
 numbered_items faults numbers = flat_map (numbered_item faults) numbers
@@ -72,12 +72,12 @@ abbrev pub entry_items : List Fault → List ℕ
 entry_items faults = flat_map entry_item faults
 
 -- and the first start that they name
-abbrev pub start_of : Option Fault → Option Start
-start_of None = None
-start_of (Some fault) = fault.start
+abbrev pub earliest_start : Option Fault → Option Start
+earliest_start None = None
+earliest_start (Some fault) = fault.start
 
 abbrev pub numbered_start : List Fault → ℕ → Option Start
-numbered_start faults n = start_of (slice_get faults n)
+numbered_start faults n = earliest_start (slice_get faults n)
 
 abbrev pub first_numbered_start : List Fault → List ℕ → Option Start
 first_numbered_start faults [] = None
@@ -92,20 +92,20 @@ book_view b = record { base = b.base.now; caller = b.groups.now; found = b.galle
 pub record IsReady (b : Book) : Type 0 where
   pub of_base : b.gallery.now.base ≡ b.base.now
   pub of_groups : b.gallery.now.groups ≡ b.groups.now
-  pub index : (id : Id) → kept_of b.index.now id ≡ numbers_of (numbered 0 b.faults.now) id
+  pub index : (id : Id) → kept_of b.index.now id ≡ numbers_of (numbered_faults 0 b.faults.now) id
 
 -- What is prepared for a file.
 
-pub record IsPrepared (base : BaseView) (policy : Policy) (p : Prepared) : Type 0 where
+pub record IsFilePrepared (base : BaseView) (policy : Policy) (p : Prepared) : Type 0 where
   pub of_base : p.gallery.base ≡ base
   pub of_groups : p.gallery.groups ≡ policy.groups
   pub finding : IsFinding policy.groups base p.gallery.found
   pub audited : IsOutcome base policy p.outcome
-  pub index : (id : Id) → kept_of p.index id ≡ numbers_of (numbered 0 (faults_in p.outcome)) id
+  pub index : (id : Id) → kept_of p.index id ≡ numbers_of (numbered_faults 0 (outcome_faults p.outcome)) id
 
 -- the file of a book and its cover
-abbrev pub page_of : Cover → Book → List ℕ
-page_of cover b = page cover.name.now cover.policy.now cover.outcome.now (book_view b)
+abbrev pub book_file : Cover → Book → List ℕ
+book_file cover b = page cover.name.now cover.policy.now cover.outcome.now (book_view b)
 
 -- Why a text isn't written whole.
 

@@ -15,7 +15,7 @@ use Rattle.base_pages.specs.declared.pages.PagesStatus.TheVariants.{Written, NoP
 use Rattle.base_pages.specs.declared.fault.PagesFault.{PagesFault}
 use Rattle.base_pages.specs.declared.fault.PagesFault.TheVariants.{Write, Memory}
 use Rattle.base_pages.specs.Sections.{BookView, sections}
-use Rattle.base_pages.specs.Head.{header, faults_in}
+use Rattle.base_pages.specs.Head.{header, outcome_faults}
 use Rattle.base_pages.specs.Shell.{head, middle, foot}
 use Rattle.base_pages.specs.Tags.{tag_list, page_tags}
 
@@ -30,7 +30,7 @@ page name policy outcome b = front name b.base policy outcome ++ sections b b.ba
 -- what the sections of a base are written of
 abbrev pub book : BaseView → Policy → Option (List Id) → List Discovered → Outcome → BookView
 book base policy part found outcome =
-    record { base = base; caller = policy.groups; found = found; faults = faults_in outcome; part = part }
+    record { base = base; caller = policy.groups; found = found; faults = outcome_faults outcome; part = part }
 
 -- the file of the part of a base, for the policy's caller, by the frames that this caller reaches and the outcome of the audit
 pub record IsPage (name : List ℕ) (base : BaseView) (policy : Policy) (part : Option (List Id)) (text : List ℕ) : Type 0 where

@@ -8,7 +8,7 @@ use Rattle.frame_records.specs.declared.frame.Lead.TheVariants.{Clear, Keep}
 use Rattle.frame_records.specs.Bases.{BaseView}
 use Rattle.finder.specs.declared.found.Discovered.{Discovered}
 use Rattle.fault_scripts.specs.declared.fault.Fault.{Fault}
-use Rattle.base_map.specs.Edges.{shows}
+use Rattle.base_map.specs.Edges.{part_shows}
 use Rattle.screens.specs.declared.look.Look.{Look}
 use Rattle.screens.specs.declared.writing.Writing.TheVariants.{Markup}
 use Rattle.screens.specs.Writing.{written}
@@ -76,4 +76,4 @@ section b f = shaped b.caller b.base b.part f (faults_about b.faults f.id) (scre
 
 -- the sections of the frames that are shown, in order
 abbrev pub sections : BookView → List Frame → List ℕ
-sections b frames = flat_map (section b) (filter (λ f. shows b.part f.id) frames)
+sections b frames = flat_map (section b) (filter (λ f. part_shows b.part f.id) frames)

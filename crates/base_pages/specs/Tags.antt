@@ -16,13 +16,13 @@ use Rattle.frame_records.specs.Ways.{destination_of}
 use Rattle.fault_scripts.specs.declared.fault.Fault.{Fault}
 use Rattle.fault_scripts.specs.declared.outcome.Outcome.{Outcome}
 use Rattle.fault_scripts.specs.declared.outcome.Outcome.TheVariants.{Certified, Faulty}
-use Rattle.base_map.specs.Edges.{shows}
+use Rattle.base_map.specs.Edges.{part_shows}
 use Rattle.screens.specs.Svg.{svg_pieces}
 use Rattle.screens.specs.Laws.{tags_of}
 use Rattle.base_pages.specs.Faults.{entry_faults, faults_about, items, touched_cell}
 use Rattle.base_pages.specs.Screens.{is_reached, screen_of}
 use Rattle.base_pages.specs.Sections.{BookView}
-use Rattle.base_pages.specs.Head.{faults_in}
+use Rattle.base_pages.specs.Head.{outcome_faults}
 use Rattle.base_pages.specs.Shell.{head, middle, foot}
 
 -- the tags of a text that begins with one, by a reader that knows nothing of bases
@@ -47,7 +47,7 @@ marked_tags class key = (codes "span class=\"" ++ class ++ codes "\" data-key=\"
 
 abbrev pub way_tags : Option (List Id) → Key → Destination → List (List ℕ)
 way_tags part key NotOffered = []
-way_tags part key (Found to price) = if shows part to then link_tags to key else marked_tags (codes "elsewhere") key
+way_tags part key (Found to price) = if part_shows part to then link_tags to key else marked_tags (codes "elsewhere") key
 way_tags part key (Closed to) = marked_tags (codes "closed") key
 way_tags part key (Missing to) = marked_tags (codes "missing") key
 way_tags part key (Outside page) = marked_tags (codes "outside") key
@@ -78,7 +78,7 @@ section_tags b f =
 
 -- ids of those frames that are shown end in letters
 abbrev pub HasLetter : Option (List Id) → Frame → Type 0
-HasLetter part f = shows part f.id ≡ true → IsLetter f.id.letter
+HasLetter part f = part_shows part f.id ≡ true → IsLetter f.id.letter
 
 abbrev pub HaveLetters : Option (List Id) → List Frame → Type 0
 HaveLetters part frames = All (HasLetter part) frames
@@ -94,11 +94,11 @@ header_tags base outcome =
     ((codes "header data-entry=\"" ++ frame_text (entry_of base) ++ codes "\"") ∷ codes "h1" ∷ codes "/h1" ∷ [])
     ++ verdict_tags outcome
     ++ (codes "p" ∷ codes "/p" ∷ [])
-    ++ (codes "/header" ∷ fault_tags (entry_faults (faults_in outcome)))
+    ++ (codes "/header" ∷ fault_tags (entry_faults (outcome_faults outcome)))
 
 -- The tags of the file: those of the constant parts, of the header, and of the section of each frame that is shown.
 abbrev pub page_tags : Outcome → BookView → List (List ℕ)
 page_tags outcome b =
     tag_list head ++ header_tags b.base outcome ++ tag_list middle
-    ++ flat_map (section_tags b) (filter (λ f. shows b.part f.id) b.base.frames)
+    ++ flat_map (section_tags b) (filter (λ f. part_shows b.part f.id) b.base.frames)
     ++ tag_list foot

@@ -10,7 +10,7 @@ use Rattle.frame_records.specs.declared.ways.Destination.{Destination}
 use Rattle.frame_records.specs.declared.ways.Destination.TheVariants.{NotOffered, Found, Closed, Missing, Outside}
 use Rattle.frame_records.specs.Bases.{BaseView}
 use Rattle.frame_records.specs.Ways.{destination_of}
-use Rattle.base_map.specs.Edges.{shows}
+use Rattle.base_map.specs.Edges.{part_shows}
 
 -- a link to the section of a frame
 abbrev pub link : Id → Key → List ℕ
@@ -24,7 +24,7 @@ marked class key text =
 
 -- a way to a frame that the caller finds; the part that is shown may leave it out
 abbrev pub found_way : Option (List Id) → Key → Id → List ℕ
-found_way part key to = if shows part to then link to key else marked (codes "elsewhere") key (frame_text to)
+found_way part key to = if part_shows part to then link to key else marked (codes "elsewhere") key (frame_text to)
 
 -- a way by where it leads
 abbrev pub way_text : Option (List Id) → Key → Destination → List ℕ

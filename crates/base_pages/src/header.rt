@@ -4,7 +4,7 @@ ghost use Rattle.std.specs.Prelude.{◌≡◌, ◌++◌, OnOk, length};
 ghost use Rattle.std.specs.Str.{chars};
 ghost use Rattle.screens.specs.declared.writing.Writing.TheVariants.{Markup};
 ghost use Rattle.screens.specs.Writing.{written};
-ghost use Rattle.cert_text.specs.Grammar.{spaced};
+ghost use Rattle.cert_text.specs.Grammar.{spaced_groups};
 ghost use Rattle.base_pages.specs.Head as spec;
 
 use crate::faults::push_entry_faults;
@@ -115,7 +115,7 @@ fn push_faulty(out: &mut Vec<u8>, faults: &[Fault]) -> Result<(), AllocError>
 }
 
 fn push_verdict(out: &mut Vec<u8>, outcome: &Outcome) -> Result<(), AllocError>
-    ensures { OnOk result (out.new.items ≡ out.old.items ++ spec.verdict_text outcome.now) }
+    ensures { OnOk result (out.new.items ≡ out.old.items ++ spec.outcome_text outcome.now) }
 {
     match outcome {
         Outcome::Certified(cert) => push_certified(out, cert),
@@ -125,7 +125,7 @@ fn push_verdict(out: &mut Vec<u8>, outcome: &Outcome) -> Result<(), AllocError>
 
 // Numbers of groups, with a space before each.
 fn push_numbers(out: &mut Vec<u8>, groups: &Groups) -> Result<(), AllocError>
-    ensures { OnOk result (out.new.items ≡ out.old.items ++ spaced groups.now) }
+    ensures { OnOk result (out.new.items ≡ out.old.items ++ spaced_groups groups.now) }
 {
     for i in 0..groups.len() {
         let group = groups.at(i);
@@ -180,7 +180,7 @@ fn push_policy(out: &mut Vec<u8>, policy: &Policy) -> Result<(), AllocError>
 
 // The faults of an outcome.
 pub fn faults_in<'a>(outcome: &'a Outcome) -> &'a [Fault]
-    ensures { result.now ≡ spec.faults_in outcome.now }
+    ensures { result.now ≡ spec.outcome_faults outcome.now }
 {
     match outcome {
         Outcome::Certified(_) => &[],

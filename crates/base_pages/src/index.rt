@@ -53,7 +53,7 @@ fn number_one(list: &mut Vec<Numbered>, number: usize, fault: &Fault) -> Result<
 
 // The faults of frames, numbered.
 fn number_all(alloc: Global, faults: &[Fault]) -> Result<Vec<Numbered>, AllocError>
-    ensures { IfOk result (λ list. list.items ≡ spec.numbered 0 faults.now) }
+    ensures { IfOk result (λ list. list.items ≡ spec.numbered_faults 0 faults.now) }
 {
     let mut list = Vec::new(alloc);
     for (number, fault) in faults.iter().enumerate() {
@@ -105,7 +105,7 @@ impl FaultIndex {
     // The index of faults.
     pub fn of(alloc: Global, faults: &[Fault]) -> Result<FaultIndex, AllocError>
         ensures { IfOk result (λ index. (id : Id) → spec.kept_of index id ≡
-            spec.numbers_of (spec.numbered 0 faults.now) id) }
+            spec.numbers_of (spec.numbered_faults 0 faults.now) id) }
     {
         let list = number_all(alloc, faults)?;
         FaultIndex::of_numbered(alloc, list.as_slice())

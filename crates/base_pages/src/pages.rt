@@ -6,7 +6,7 @@ ghost use Rattle.devices.specs.Devices.{Seen, IsOnItsWay, WroteWhole};
 ghost use Rattle.base_pages.specs.Sections.{sections};
 ghost use Rattle.base_pages.specs.Shell as Shell;
 ghost use Rattle.base_pages.specs.Tags.{HasLetter, HaveLetters, tag_list, page_tags};
-ghost use Rattle.base_pages.specs.Loops.{IsReady, IsPrepared, book_view, page_of, IsStopped};
+ghost use Rattle.base_pages.specs.Loops.{IsReady, IsFilePrepared, book_view, book_file, IsStopped};
 ghost use Rattle.base_pages.specs.Pages.{IsPartWritten, IsPagesRun, front};
 
 use crate::book::Book;
@@ -155,11 +155,11 @@ fn write_book<S: Sink>(
 ) -> Result<(), PagesFault>
     requires ready { IsReady book.now }
     requires open { (S.seen sink.old).failed ≡ false }
-    ensures whole { OnOk result (WroteWhole (S.seen sink.old) (S.seen sink.new) (page_of cover.now book.now)) }
-    ensures tags { OnOk result (tag_list (page_of cover.now book.now) ≡
+    ensures whole { OnOk result (WroteWhole (S.seen sink.old) (S.seen sink.new) (book_file cover.now book.now)) }
+    ensures tags { OnOk result (tag_list (book_file cover.now book.now) ≡
         page_tags cover.now.outcome.now (book_view book.now)) }
     ensures part { IfErr result (λ fault.
-        IsStopped (S.seen sink.old) (S.seen sink.new) (page_of cover.now book.now) fault) }
+        IsStopped (S.seen sink.old) (S.seen sink.new) (book_file cover.now book.now) fault) }
 {
     let mut kept = Vec::new(alloc);
     match push_front(alloc, &mut kept, book.base, cover) {
@@ -185,7 +185,7 @@ fn prepare<'a>(
     base: &'a Base,
     policy: &'a Policy,
 ) -> Result<Prepared<'a>, AllocError>
-    ensures { IfOk result (IsPrepared base.now policy.now) }
+    ensures { IfOk result (IsFilePrepared base.now policy.now) }
 {
     let survey = Survey::of(alloc, base, &policy.groups)?;
     let outcome = audit_surveyed(alloc, &survey, policy)?;

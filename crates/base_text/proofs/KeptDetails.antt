@@ -6,7 +6,7 @@ use Rattle.page_ids.specs.Ids.{Id}
 use Rattle.toml.specs.Data.{Items, no_items, item, Members, get_member}
 use Rattle.frame_records.specs.declared.frame.Frame.{Frame}
 use Rattle.base_text.specs.declared.detail.Detail.{Detail}
-use Rattle.base_text.specs.Details.{KeptView, nothing, with_one, with_all, kept}
+use Rattle.base_text.specs.Details.{KeptView, nothing_kept, with_one, with_all, kept}
 use Rattle.base_text.specs.declared.limits.TheConstants.{MOST_FAULTS}
 use Rattle.base_text.specs.declared.detail.TextFault.{TextFault}
 use Rattle.base_text.specs.declared.fault.BaseFault.{BaseFault}
@@ -31,7 +31,7 @@ stays k (e ∷ ds) d rest is = on (nat_le (length k.first) k.most) refl (λ more
 pub first_kept : (most : ℕ) (d : Detail) (ds : List Detail) → (more : List Detail) × ((kept most (d ∷ ds)).first ≡ d ∷ more)
 first_kept most d ds =
     let fits : nat_le 0 most ≡ true = grind (arith, nat_tests) in
-    stays (with_one (nothing most) d) ds d [] (rw fits refl)
+    stays (with_one (nothing_kept most) d) ds d [] (rw fits refl)
 
 -- so the first that is kept is the first of all
 pub fault_kept : (frame : Option ℕ) (most : ℕ) (ds : List Detail) → first_fault frame (kept most ds).first ≡ first_fault frame ds
@@ -102,8 +102,8 @@ firsts k (d ∷ ds) few = on (nat_le (length k.first) k.most) refl (λ few. firs
 
 pub all_listed : (frame : Option ℕ) (id : Option Id) (ds : List Detail) → length ds < 2 ^ 64 → listed_faults frame id (kept MOST_FAULTS ds) ≡ listed_from frame id MOST_FAULTS (length ds - MOST_FAULTS) (take (MOST_FAULTS + 1) ds)
 all_listed frame id ds fits =
-    let many : (kept MOST_FAULTS ds).count ≡ length ds = counted (nothing MOST_FAULTS) ds (omega (arith, fits)) ∙ omega arith in
-    rw (same_most (nothing MOST_FAULTS) ds, many, firsts (nothing MOST_FAULTS) ds (omega arith)) refl
+    let many : (kept MOST_FAULTS ds).count ≡ length ds = counted (nothing_kept MOST_FAULTS) ds (omega (arith, fits)) ∙ omega arith in
+    rw (same_most (nothing_kept MOST_FAULTS) ds, many, firsts (nothing_kept MOST_FAULTS) ds (omega arith)) refl
 
 -- A draft begins as all faults do.
 

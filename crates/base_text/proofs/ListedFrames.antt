@@ -10,24 +10,24 @@ use Rattle.page_ids.specs.Ids.{id_cmp}
 use Rattle.frame_records.specs.Bases.{has_page}
 use Rattle.base_text.specs.declared.listed.Listed.{Listed}
 use Rattle.base_text.specs.Drafts.{framed}
-use Rattle.base_text.specs.WholeFaults.{place_of, place_cmp}
+use Rattle.base_text.specs.WholeFaults.{order_of, place_cmp}
 
 first_not_less : (a b : Ordering) → is_lt (ordering_then a b) ≡ false → is_lt a ≡ false
 first_not_less Less b e = e
 first_not_less Equal b e = refl
 first_not_less Greater b e = refl
 
-ids_sorted : (ps : List Listed) → IsSortedByKey place_of place_cmp ps → IsSortedByKey (λ p. p.frame.id) id_cmp ps
+ids_sorted : (ps : List Listed) → IsSortedByKey order_of place_cmp ps → IsSortedByKey (λ p. p.frame.id) id_cmp ps
 ids_sorted ps up k d low lt = first_not_less _ _ (up k d low lt)
 
-pub pages_sorted : (ps : List Listed) → IsSortedByKey place_of place_cmp ps → IsSortedByKey (λ p. p.frame.id.page) nat_cmp ps
+pub pages_sorted : (ps : List Listed) → IsSortedByKey order_of place_cmp ps → IsSortedByKey (λ p. p.frame.id.page) nat_cmp ps
 pages_sorted ps up k d low lt = first_not_less _ _ (ids_sorted ps up k d low lt)
 
 pub same_page : (ps : List Listed) (page : ℕ) → list_any (λ p. p.frame.id.page == page) ps ≡ has_page (map framed ps) page
 same_page [] page = refl
 same_page (p ∷ ps) page = ap (λ b. (p.frame.id.page == page) || b) (same_page ps page)
 
-pub ids_rise : (ps : List Listed) → IsSortedByKey place_of place_cmp ps → IsSortedByKey (λ f. f.id) id_cmp (map framed ps)
+pub ids_rise : (ps : List Listed) → IsSortedByKey order_of place_cmp ps → IsSortedByKey (λ f. f.id) id_cmp (map framed ps)
 ids_rise [] up k d low lt = absurd (omega (arith, lt))
 ids_rise (p ∷ ps) up k d low lt =
     let within : k + 1 < length (p ∷ ps) = omega (arith, lt, length-map (p ∷ ps) framed) in

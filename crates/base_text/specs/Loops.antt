@@ -3,7 +3,7 @@ use Rattle.std.specs.Prelude.{List, Result, Ok, Err, Vec, ◌≡◌, ℕ, Option
 use Rattle.std.specs.declared.alloc.Global.{Global}
 use Rattle.base_text.specs.Details.{Read, KeptView, with_all, kept, cause_of}
 use Rattle.base_text.specs.declared.detail.Detail.{Detail}
-use Rattle.base_text.specs.Drafts.{TopView, base_fault, element_faults, elements_faults, elements_placed, framed}
+use Rattle.base_text.specs.Drafts.{TopView, draft_fault, element_faults, elements_faults, elements_placed, framed}
 use Rattle.base_text.specs.declared.fault.BaseFault.{BaseFault}
 use Rattle.base_text.specs.Frames.{fault_in, ElementView, top_fault}
 use denote.Ref.{Bor}
@@ -17,13 +17,13 @@ use Rattle.frame_records.specs.declared.frame.Frame.{Frame}
 -- What is read of a value.
 
 -- the data of a value that was found
-abbrev pub seen : Option (Bor Value) → Option Data
-seen value = option_map (λ v. view v.now) value
+abbrev pub data_seen : Option (Bor Value) → Option Data
+data_seen value = option_map (λ v. view v.now) value
 
 -- the list of a vector
-abbrev pub listed : {A E : Type 0} → Result (Vec A Global) E → Result (List A) E
-listed (Ok v) = Ok v.items
-listed (Err c) = Err c
+abbrev pub vector_list : {A E : Type 0} → Result (Vec A Global) E → Result (List A) E
+vector_list (Ok v) = Ok v.items
+vector_list (Err c) = Err c
 
 -- what was read is the value, and its faults are added; or memory was refused
 abbrev pub Reads : {A E : Type 0} → Read A → KeptView → KeptView → Result A E → Type 0
@@ -55,7 +55,7 @@ FaultOrMemory o (Err fault) = (fault ≡ top_fault Memory) ⊎ (o ≡ Err fault)
 -- the fault is the first of some
 abbrev pub IsFirst : List TextFault → BaseFault → Type 0
 IsFirst [] fault = ⊥
-IsFirst (t ∷ ts) fault = fault ≡ base_fault t
+IsFirst (t ∷ ts) fault = fault ≡ draft_fault t
 
 -- the frame of an element that has no fault, or its first fault
 abbrev pub IsFrame : ℕ → ElementView (List Detail) → Result (Option Frame) BaseFault → Type 0

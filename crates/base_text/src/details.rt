@@ -1,6 +1,6 @@
 ghost use Rattle.std.specs.Prelude.{◌≡◌, ◌++◌, IfOk, OnOk};
 ghost use Rattle.std.specs.Result.{result_ok};
-ghost use Rattle.base_text.specs.Details.{faults_of, nothing, with_one, with_all};
+ghost use Rattle.base_text.specs.Details.{faults_of, nothing_kept, with_one, with_all};
 ghost use Rattle.base_text.specs.Drafts.{listed_faults};
 ghost use Rattle.base_text.specs.Loops.{first_fault};
 
@@ -30,7 +30,7 @@ impl Model for Details {
 impl Details {
     // Nothing yet. Of what is added at most one more than `most` is kept.
     pub fn keeping(alloc: Global, most: usize) -> Details
-        ensures { result ≡ nothing most }
+        ensures { result ≡ nothing_kept most }
     {
         Details {
             most,

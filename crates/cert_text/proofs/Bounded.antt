@@ -7,7 +7,7 @@ use Rattle.cert_text.specs.declared.stage.Stage.{Stage}
 use Rattle.cert_text.specs.declared.stage.Stage.TheVariants.{Magic, Head, Groups, Rows, After}
 use Rattle.cert_text.specs.declared.stage.NumberLine.TheVariants.{Entry, Ceiling, Keyings, Count}
 use Rattle.frame_records.specs.Steps.{◌>>=◌}
-use Rattle.cert_text.specs.Reading.{Said, Reading, Fault, start, number_of, judge, lengthen, is_over, take_byte, step, run, ended, reading, line_ends}
+use Rattle.cert_text.specs.Reading.{Said, Reading, Fault, reading_start, due_number, judge, lengthen, is_over, take_byte, step, reading_after, ended, reading, line_ends}
 use Rattle.cert_text.proofs.Spelled.{bind_ok}
 use Rattle.page_ids.proofs.Truths.{needs, lacks, ok_is}
 use Rattle.page_ids.proofs.KeyTexts.{chosen}
@@ -37,7 +37,7 @@ grows_longer s t b other e =
 grows : (bytes : List ℕ) (s t : Reading) (b : ℕ) → Holds bytes s → length s.line ≤ 128 → step s b ≡ Ok t → Grows s t b
 unfolding step
 grows bytes s t b h short e =
-    let r = at_line_ok (number_of s.stage s.said) (take_byte s b) t e in
+    let r = at_line_ok (due_number s.stage s.said) (take_byte s b) t e in
     let a = lacks (is_over s.stage) causes.Tail (cond (eqb b 10) (judge s) (lengthen s b)) t r in
     elim (chosen (eqb b 10) (judge s) (lengthen s b) (Ok t) a.1) [
       | inl j ↦ grows_judge bytes s t b h short j.0 j.1
@@ -52,13 +52,13 @@ record Fits (s t : Reading) (more : List ℕ) : Type 0 where
   pub short : length t.line ≤ 128
   pub all : length more + length s.line ≤ 129 * line_ends more + length t.line
 
-fits : (bytes more : List ℕ) (s t : Reading) → Holds bytes s → length s.line ≤ 128 → run s more ≡ Ok t → Fits s t more
+fits : (bytes more : List ℕ) (s t : Reading) → Holds bytes s → length s.line ≤ 128 → reading_after s more ≡ Ok t → Fits s t more
 fits bytes [] s t h short e =
     subst (λ (u : Reading). Fits s u []) (inner s t e) (record { short = short; all = omega arith }) where
-      inner : (s t : Reading) → run s [] ≡ Ok t → s ≡ t
+      inner : (s t : Reading) → reading_after s [] ≡ Ok t → s ≡ t
       inner s t e = cc
 fits bytes (b ∷ more) s t h short e =
-    let a = bind_ok (step s b) (λ u. run u more) t e in
+    let a = bind_ok (step s b) (λ u. reading_after u more) t e in
     let g = grows bytes s a.0 b h short a.1 in
     let k = fits (bytes ++ (b ∷ [])) more a.0 t (holds_step bytes s a.0 b h a.1) g.short a.2 in
     let sum = ends_more (eqb b 10) (line_ends more) in
@@ -71,7 +71,7 @@ at_most_one false = omega arith
 at_most_one true = omega arith
 
 -- the greatest number of a line that is due, and one more after `end`
-number_most : (g : Stage) (s : Said) → length s.rows ≤ 65535 → number_of g s ≤ 65542 + cond (is_over g) 1 0
+number_most : (g : Stage) (s : Said) → length s.rows ≤ 65535 → due_number g s ≤ 65542 + cond (is_over g) 1 0
 number_most Magic s few = omega arith
 number_most (Head Entry) s few = omega arith
 number_most (Head Ceiling) s few = omega arith
@@ -86,22 +86,22 @@ bounded_of : (q : Bool) (n len line : ℕ) → len ≤ 129 * n + line → n + 1 
 bounded_of true n len line fits most short over = let none = over refl in omega (arith, none)
 bounded_of false n len line fits most short over = omega arith
 
-pub bounded : (bytes : List ℕ) (s : Reading) → run start bytes ≡ Ok s → length bytes ≤ 65542 * 129
+pub bounded : (bytes : List ℕ) (s : Reading) → reading_after reading_start bytes ≡ Ok s → length bytes ≤ 65542 * 129
 bounded bytes s e =
-    let h = holds_run [] bytes start s holds_start e in
-    let f = fits [] bytes start s holds_start (omega arith) e in
+    let h = holds_run [] bytes reading_start s holds_start e in
+    let f = fits [] bytes reading_start s holds_start (omega arith) e in
     let most = number_most s.stage s.said h.sound.rows.few in
     bounded_of (is_over s.stage) (line_ends bytes) (length bytes) (length s.line) (omega (arith, f.all))
     (omega (arith, most, numbered bytes s e)) f.short
     (λ over. ap length (h.over over))
 
-decided_of : (bytes more : List ℕ) (r : Result Reading Fault) → run start bytes ≡ r → 65542 * 129 < length bytes
+decided_of : (bytes more : List ℕ) (r : Result Reading Fault) → reading_after reading_start bytes ≡ r → 65542 * 129 < length bytes
     → reading (bytes ++ more) ≡ reading bytes
 decided_of bytes more (Ok s) e lt = absurd (omega (arith, bounded bytes s e))
 decided_of bytes more (Err f) e lt =
     ap (λ (r : Result Reading Fault). r >>= ended)
-    (run_append start bytes more ∙ ap (λ (r : Result Reading Fault). r >>= λ t. run t more) e)
+    (run_append reading_start bytes more ∙ ap (λ (r : Result Reading Fault). r >>= λ t. reading_after t more) e)
     ∙ sym (ap (λ (r : Result Reading Fault). r >>= ended) e)
 
 pub decided : (bytes more : List ℕ) → 65542 * 129 < length bytes → reading (bytes ++ more) ≡ reading bytes
-decided bytes more lt = decided_of bytes more (run start bytes) refl lt
+decided bytes more lt = decided_of bytes more (reading_after reading_start bytes) refl lt

@@ -18,7 +18,7 @@ use Rattle.cert_text.specs.declared.stage.NumberLine.TheVariants.{Entry, Ceiling
 use Rattle.cert_text.specs.Grammar.{has_groups, first_line, groups_lines, entry_line, ceiling_line, keyings_line, rows_line, row_line, text_of, IsRow, IsCertificateText}
 use Rattle.frame_records.specs.Steps.{◌>>=◌}
 use Rattle.cert_text.specs.Lines.{number_after, groups_after, row_in}
-use Rattle.cert_text.specs.Reading.{Said, Reading, IsSound, Fault, nothing, begins, start, number_of, word_of, most_of, put, stage_after, judge, judge_at, judge_magic, judge_groups, judge_row, judge_end, lengthen, is_over, take_byte, at_line, step, run, ended, certificate_of, reading}
+use Rattle.cert_text.specs.Reading.{Said, Reading, IsSound, Fault, nothing_said, line_begins, reading_start, due_number, word_of, most_number, put, stage_after, judge, judge_at, judge_magic, judge_groups, judge_row, judge_end, lengthen, is_over, take_byte, at_line, step, reading_after, ended, certificate_of, reading}
 use Rattle.cert_text.proofs.Spelled.{bind_ok, number_after_found, row_found}
 use Rattle.page_ids.proofs.KeyTexts.{chosen}
 use Rattle.cert_text.proofs.Sound.{with_grouped, with_groups, most_small, put_sound, grouped_sound, groups_sound, row_sound}
@@ -102,9 +102,9 @@ took_number : (f : NumberLine) (s : Said) (line : List ℕ) (t : Reading) → Ha
     → Took (Head f) s line t
 took_number f s line t come is e =
     let b =
-    bind_ok (number_after (word_of f) (most_of f) line) (λ n. Ok (begins (stage_after f s.grouped) (put f n s))) t e in
-    let k = number_after_found (word_of f) (most_of f) line b.0 (omega (arith, most_small f)) b.1 in
-    subst (Took (Head f) s line) (ok_is (begins (stage_after f s.grouped) (put f b.0 s)) t b.2) (record {
+    bind_ok (number_after (word_of f) (most_number f) line) (λ n. Ok (line_begins (stage_after f s.grouped) (put f n s))) t e in
+    let k = number_after_found (word_of f) (most_number f) line b.0 (omega (arith, most_small f)) b.1 in
+    subst (Took (Head f) s line) (ok_is (line_begins (stage_after f s.grouped) (put f b.0 s)) t b.2) (record {
       lines = put_lines f b.0 s come ∙ ap (λ (l : List ℕ). lines_before (Head f) s ++ (l ∷ [])) (sym k.1);
       come = put_come f b.0 s come;
       sound = put_sound f b.0 s is k.0;
@@ -114,7 +114,7 @@ took_number f s line t come is e =
 -- ---- line 1, and the line of the groups
 
 took_first : (q : Bool) (s : Said) (line : List ℕ) (t : Reading) → AreNone s → IsSound s → line ≡ first_line q
-    → begins (Head Entry) (with_grouped s q) ≡ t
+    → line_begins (Head Entry) (with_grouped s q) ≡ t
     → Took Magic s line t
 took_first q s line t come is spelled same_reading =
     subst (Took Magic s line) same_reading
@@ -128,8 +128,8 @@ took_first q s line t come is spelled same_reading =
 took_magic : (s : Said) (line : List ℕ) (t : Reading) → AreNone s → IsSound s → judge_magic s line ≡ Ok t
     → Took Magic s line t
 took_magic s line t come is e =
-    let plain : Result Reading LineCause = Ok (begins (Head Entry) (with_grouped s false)) in
-    let grouped : Result Reading LineCause = Ok (begins (Head Entry) (with_grouped s true)) in
+    let plain : Result Reading LineCause = Ok (line_begins (Head Entry) (with_grouped s false)) in
+    let grouped : Result Reading LineCause = Ok (line_begins (Head Entry) (with_grouped s true)) in
     let second = bytes_eq line (codes "PBC2") in
     elim (chosen (bytes_eq line (codes "PBC1")) plain (cond second grouped (Err causes.Magic)) (Ok t) e) [
       | inl h ↦ took_first false s line t come is (same line (codes "PBC1") h.0) (ok_is _ t h.1)
@@ -142,10 +142,10 @@ took_groups : (s : Said) (line : List ℕ) (t : Reading) → HaveCome Groups s �
     → Took Groups s line t
 took_groups s line t come is e =
     let b =
-    bind_ok (groups_after (codes "groups ") line) (λ groups. Ok (begins (Head Count) (with_groups s groups))) t e in
+    bind_ok (groups_after (codes "groups ") line) (λ groups. Ok (line_begins (Head Count) (with_groups s groups))) t e in
     let f = groups_found line b.0 b.1 in
     let one : groups_lines b.0 ≡ line ∷ [] = one_line b.0 f.some ∙ ap (λ (l : List ℕ). l ∷ []) (sym f.spelled) in
-    subst (Took Groups s line) (ok_is (begins (Head Count) (with_groups s b.0)) t b.2) (record {
+    subst (Took Groups s line) (ok_is (line_begins (Head Count) (with_groups s b.0)) t b.2) (record {
       lines = ap (λ (ls : List (List ℕ)). lines_before Groups s ++ ls) one;
       come = (come.0 ∙ sym (has_some b.0 f.some), come.1.1);
       sound = groups_sound b.0 s is f.valid;
@@ -163,12 +163,12 @@ took_row : (s : Said) (line : List ℕ) (t : Reading) → AreAnnounced s → IsS
 took_row s line t said is room e =
     let a =
     lacks (bytes_eq line (codes "end")) causes.Count
-    (row_in s.rows line >>= λ r. Ok (begins Rows (with_row s r))) t e in
-    let b = bind_ok (row_in s.rows line) (λ r. Ok (begins Rows (with_row s r))) t a.1 in
+    (row_in s.rows line >>= λ r. Ok (line_begins Rows (with_row s r))) t e in
+    let b = bind_ok (row_in s.rows line) (λ r. Ok (line_begins Rows (with_row s r))) t a.1 in
     let f = row_found s.rows line b.0 b.1 in
     let more : map row_line (s.rows ++ (b.0 ∷ [])) ≡ map row_line s.rows ++ (line ∷ []) =
     map_push row_line s.rows b.0 ∙ ap (λ (l : List ℕ). map row_line s.rows ++ (l ∷ [])) (sym f.1) in
-    subst (Took Rows s line) (ok_is (begins Rows (with_row s b.0)) t b.2) (record {
+    subst (Took Rows s line) (ok_is (line_begins Rows (with_row s b.0)) t b.2) (record {
       lines = ap (λ (ls : List (List ℕ)). head_of s ++ ls) more
           ∙ sym (append_assoc (head_of s) (map row_line s.rows) (line ∷ []));
       come = (said, omega (arith, room, length-append s.rows (b.0 ∷ [])));
@@ -179,9 +179,9 @@ took_row s line t said is room e =
 took_end : (s : Said) (line : List ℕ) (t : Reading) → HaveCome After s → IsSound s → judge_end s line ≡ Ok t
     → Took Rows s line t
 took_end s line t come is e =
-    let a = needs (bytes_eq line (codes "end")) causes.Count (Ok (begins After s)) t e in
+    let a = needs (bytes_eq line (codes "end")) causes.Count (Ok (line_begins After s)) t e in
     let last = sym (same line (codes "end") a.0) in
-    subst (Took Rows s line) (ok_is (begins After s) t a.1) (record {
+    subst (Took Rows s line) (ok_is (line_begins After s) t a.1) (record {
       lines = ap (λ (l : List ℕ). head_of s ++ (map row_line s.rows ++ (l ∷ []))) last
           ∙ sym (append_assoc (head_of s) (map row_line s.rows) (line ∷ []));
       come = come;
@@ -261,7 +261,7 @@ pub holds_step : (bytes : List ℕ) (s t : Reading) (b : ℕ) → Holds bytes s 
     → Holds (bytes ++ (b ∷ [])) t
 unfolding step
 holds_step bytes s t b h e =
-    let r = at_line_ok (number_of s.stage s.said) (take_byte s b) t e in
+    let r = at_line_ok (due_number s.stage s.said) (take_byte s b) t e in
     let a = lacks (is_over s.stage) causes.Tail (cond (eqb b 10) (judge s) (lengthen s b)) t r in
     elim (chosen (eqb b 10) (judge s) (lengthen s b) (Ok t) a.1) [
       | inl k ↦
@@ -270,16 +270,16 @@ holds_step bytes s t b h e =
       | inr k ↦ holds_longer bytes s t b h a.0 k.1
     ]
 
-pub holds_run : (bytes more : List ℕ) (s t : Reading) → Holds bytes s → run s more ≡ Ok t → Holds (bytes ++ more) t
+pub holds_run : (bytes more : List ℕ) (s t : Reading) → Holds bytes s → reading_after s more ≡ Ok t → Holds (bytes ++ more) t
 holds_run bytes [] s t h e = rw (append-nil bytes) (subst (Holds bytes) (inner s t e) h) where
-  inner : (s t : Reading) → run s [] ≡ Ok t → s ≡ t
+  inner : (s t : Reading) → reading_after s [] ≡ Ok t → s ≡ t
   inner s t e = cc
 holds_run bytes (b ∷ more) s t h e =
-    let a = bind_ok (step s b) (λ u. run u more) t e in
+    let a = bind_ok (step s b) (λ u. reading_after u more) t e in
     subst (λ (x : List ℕ). Holds x t) (append_assoc bytes (b ∷ []) more)
     (holds_run (bytes ++ (b ∷ [])) more a.0 t (holds_step bytes s a.0 b h a.1) a.2)
 
-pub nothing_sound : IsSound nothing
+pub nothing_sound : IsSound nothing_said
 nothing_sound = record {
   entry = omega arith;
   ceiling = omega arith;
@@ -290,7 +290,7 @@ nothing_sound = record {
   each = tt;
 }
 
-pub holds_start : Holds [] start
+pub holds_start : Holds [] reading_start
 holds_start = record { text = refl; come = (refl, refl); sound = nothing_sound; over = λ o. refl }
 
 is_after_end : (g : Stage) → is_over g ≡ true → g ≡ After
@@ -305,7 +305,7 @@ over_of true f x y e = (refl, cc)
 over_of false f x y e = absurd cc
 
 -- what has been said when `end` has come
-said_whole : (bytes : List ℕ) (s : Said) → Holds bytes (begins After s) → IsCertificateText bytes (certificate_of s)
+said_whole : (bytes : List ℕ) (s : Said) → Holds bytes (line_begins After s) → IsCertificateText bytes (certificate_of s)
 said_whole bytes s h =
     let is = h.sound in
     let count = ap (λ (n : ℕ). text_of (lines_before After (record s { count = n }))) (sym h.come.1) in
@@ -323,7 +323,7 @@ said_whole bytes s h =
       spelled = h.text ∙ append-nil (text_of (lines_before After s)) ∙ count ∙ first;
     }
 
-at_end : (s : Reading) → is_over s.stage ≡ true → s.line ≡ [] → s ≡ begins After s.said
+at_end : (s : Reading) → is_over s.stage ≡ true → s.line ≡ [] → s ≡ line_begins After s.said
 at_end s over none =
     ap (λ (g : Stage). record s { stage = g }) (is_after_end s.stage over)
     ∙ ap (λ (l : List ℕ). record s { stage = After; line = l }) none
@@ -331,9 +331,9 @@ at_end s over none =
 -- what is read is a text of it
 pub found : (bytes : List ℕ) (c : CertView) → reading bytes ≡ Ok c → IsCertificateText bytes c
 found bytes c e =
-    let a = bind_ok (run start bytes) ended c e in
+    let a = bind_ok (reading_after reading_start bytes) ended c e in
     let s = a.0 in
-    let h = holds_run [] bytes start s holds_start a.1 in
-    let o = over_of (is_over s.stage) (number_of s.stage s.said, causes.Truncated) (certificate_of s.said) c a.2 in
+    let h = holds_run [] bytes reading_start s holds_start a.1 in
+    let o = over_of (is_over s.stage) (due_number s.stage s.said, causes.Truncated) (certificate_of s.said) c a.2 in
     let whole = subst (Holds bytes) (at_end s o.0 (h.over o.0)) h in
     subst (IsCertificateText bytes) o.1 (said_whole bytes s.said whole)

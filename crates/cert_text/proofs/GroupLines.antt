@@ -16,13 +16,13 @@ use Rattle.frame_records.specs.Bases.{IsGroup}
 use Rattle.frame_records.specs.Groups.{AreGroups, IsGroupsText, groups_in, groups_text}
 use Rattle.frame_records.proofs.GroupTexts.{texts_found, texts_only}
 use Rattle.cert_text.specs.declared.fault.LineCause.TheVariants.{Word}
-use Rattle.cert_text.specs.Grammar.{has_groups, spaced, groups_line, groups_lines}
+use Rattle.cert_text.specs.Grammar.{has_groups, spaced_groups, groups_line, groups_lines}
 use Rattle.cert_text.specs.Lines.{groups_or_cause, groups_after}
 use Rattle.cert_text.proofs.Again.{AllAbove, IsLine, above_all, above_append, above_less, above_decimal, bytes_same}
 
 -- ---- what it says
 
-spaced_text : (g : ℕ) (gs : List ℕ) → spaced (g ∷ gs) ≡ 32 ∷ groups_text 32 (g ∷ gs)
+spaced_text : (g : ℕ) (gs : List ℕ) → spaced_groups (g ∷ gs) ≡ 32 ∷ groups_text 32 (g ∷ gs)
 spaced_text g [] = ap (λ (t : List ℕ). 32 ∷ t) (append-nil (decimal g))
 spaced_text g (h ∷ gs) = ap (λ (t : List ℕ). 32 ∷ (decimal g ++ t)) (spaced_text h gs)
 
@@ -87,19 +87,19 @@ groups_again g gs valid =
 
 -- ---- it is short enough
 
-spaced_above : (groups : List ℕ) → AllByRecursion IsGroup groups → AllAbove 11 (spaced groups)
+spaced_above : (groups : List ℕ) → AllByRecursion IsGroup groups → AllAbove 11 (spaced_groups groups)
 spaced_above [] each = tt
 spaced_above (g ∷ gs) each =
     let number = above_less 33 11 (decimal g) (omega arith) (above_decimal g) in
-    (omega arith, above_append 11 (decimal g) (spaced gs) number (spaced_above gs each.1))
+    (omega arith, above_append 11 (decimal g) (spaced_groups gs) number (spaced_above gs each.1))
 
-spaced_short : (groups : List ℕ) → AllByRecursion IsGroup groups → length (spaced groups) ≤ 6 * length groups
+spaced_short : (groups : List ℕ) → AllByRecursion IsGroup groups → length (spaced_groups groups) ≤ 6 * length groups
 spaced_short [] each = omega arith
 spaced_short (g ∷ gs) each =
     let number : length (decimal g) ≤ 5 =
     length-decimal-le 5 g (omega arith) (omega (arith, each.0)) (omega (arith, each.0)) in
     let rest = spaced_short gs each.1 in
-    omega (arith, number, rest, length-append (decimal g) (spaced gs))
+    omega (arith, number, rest, length-append (decimal g) (spaced_groups gs))
 
 pub groups_is_line : (groups : List ℕ) → AreGroups groups → IsLine (groups_line groups)
 groups_is_line groups valid =
@@ -107,6 +107,6 @@ groups_is_line groups valid =
     let short = spaced_short groups each in
     let word = codes "groups" in
     record {
-      above = above_append 11 word (spaced groups) (above_all 11 word refl) (spaced_above groups each);
-      short = omega (arith, short, valid.few, length-append word (spaced groups));
+      above = above_append 11 word (spaced_groups groups) (above_all 11 word refl) (spaced_above groups each);
+      short = omega (arith, short, valid.few, length-append word (spaced_groups groups));
     }

@@ -12,7 +12,7 @@ use Rattle.cert_text.specs.declared.stage.Stage.TheVariants.{Magic, Head, Groups
 use Rattle.cert_text.specs.declared.stage.NumberLine.TheVariants.{Entry, Ceiling, Keyings, Count}
 use Rattle.cert_text.specs.Grammar.{has_groups, groups_lines, rows_line, row_line}
 use Rattle.frame_records.specs.Steps.{◌>>=◌}
-use Rattle.cert_text.specs.Reading.{Said, Reading, Fault, start, number_of, judge, lengthen, is_over, take_byte, step, run, run_on, ended, HasNoEnd, line_ends, judged}
+use Rattle.cert_text.specs.Reading.{Said, Reading, Fault, reading_start, due_number, judge, lengthen, is_over, take_byte, step, reading_after, run_on, ended, HasNoEnd, line_ends, line_judged}
 use Rattle.cert_text.proofs.Spelled.{bind_ok}
 use Rattle.page_ids.proofs.Truths.{needs, lacks, ok_is}
 use Rattle.page_ids.proofs.KeyTexts.{chosen}
@@ -21,57 +21,57 @@ use Rattle.cert_text.proofs.GroupLines.{counted}
 use Rattle.cert_text.proofs.Only.{NoEnds, longer, step_longer, run_line}
 
 step_long : (s : Reading) (b : ℕ) → is_over s.stage ≡ false → eqb b 10 ≡ false → 128 ≤ length s.line
-    → step s b ≡ Err (number_of s.stage s.said, causes.Word)
+    → step s b ≡ Err (due_number s.stage s.said, causes.Word)
 unfolding step
 step_long s b going other full =
     let no : ltb (length s.line) 128 ≡ false = grind (arith, nat_tests) in
     rw (going, other, no) refl
 
 whole_rec : (s : Reading) (line rest : List ℕ) → is_over s.stage ≡ false → NoEnds line
-    → length s.line + length line ≤ 128 → run s (line ++ (10 ∷ rest)) ≡ run_on (judged s (s.line ++ line)) rest
+    → length s.line + length line ≤ 128 → reading_after s (line ++ (10 ∷ rest)) ≡ run_on (line_judged s (s.line ++ line)) rest
 whole_rec s line rest going none fits = run_line s line rest going none fits
 
 pub whole : (s : Reading) (line rest : List ℕ) → is_over s.stage ≡ false → HasNoEnd line
-    → length s.line + length line ≤ 128 → run s (line ++ (10 ∷ rest)) ≡ run_on (judged s (s.line ++ line)) rest
+    → length s.line + length line ≤ 128 → reading_after s (line ++ (10 ∷ rest)) ≡ run_on (line_judged s (s.line ++ line)) rest
 whole s line rest going none fits =
     whole_rec s line rest going (recursion_from_All (λ b. eqb b 10 ≡ false) line none) fits
 
 long_rec : (s : Reading) (line rest : List ℕ) → is_over s.stage ≡ false → NoEnds line → length s.line ≤ 128
-    → length s.line + length line ≡ 129 → run s (line ++ rest) ≡ Err (number_of s.stage s.said, causes.Word)
+    → length s.line + length line ≡ 129 → reading_after s (line ++ rest) ≡ Err (due_number s.stage s.said, causes.Word)
 long_rec s [] rest going none le len = absurd (omega arith)
 long_rec s (b ∷ line) rest going none le len =
     elim (cases_lt (length s.line) 128) [
       | inl room ↦
           let one : length (s.line ++ (b ∷ [])) ≡ length s.line + 1 = length-append s.line (b ∷ []) in
-          ap (λ (r : Result Reading Fault). r >>= λ t. run t (line ++ rest)) (step_longer s b going none.0 room)
+          ap (λ (r : Result Reading Fault). r >>= λ t. reading_after t (line ++ rest)) (step_longer s b going none.0 room)
           ∙ long_rec (longer s b) line rest going none.1 (omega (arith, one)) (omega (arith, one))
-      | inr full ↦ ap (λ (r : Result Reading Fault). r >>= λ t. run t (line ++ rest)) (step_long s b going none.0 full)
+      | inr full ↦ ap (λ (r : Result Reading Fault). r >>= λ t. reading_after t (line ++ rest)) (step_long s b going none.0 full)
     ]
 
 pub long : (s : Reading) (line rest : List ℕ) → is_over s.stage ≡ false → HasNoEnd line → length s.line ≤ 128
-    → length s.line + length line ≡ 129 → run s (line ++ rest) ≡ Err (number_of s.stage s.said, causes.Word)
+    → length s.line + length line ≡ 129 → reading_after s (line ++ rest) ≡ Err (due_number s.stage s.said, causes.Word)
 long s line rest going none le len =
     long_rec s line rest going (recursion_from_All (λ b. eqb b 10 ≡ false) line none) le len
 
 cut_rec : (s : Reading) (line : List ℕ) → is_over s.stage ≡ false → NoEnds line → length s.line + length line ≤ 128
-    → (run s line >>= ended) ≡ Err (number_of s.stage s.said, causes.Truncated)
+    → (reading_after s line >>= ended) ≡ Err (due_number s.stage s.said, causes.Truncated)
 cut_rec s [] going none fits = rw going refl
 cut_rec s (b ∷ line) going none fits =
     let one : length (s.line ++ (b ∷ [])) ≡ length s.line + 1 = length-append s.line (b ∷ []) in
-    ap (λ (r : Result Reading Fault). (r >>= λ t. run t line) >>= ended) (step_longer s b going none.0 (omega arith))
+    ap (λ (r : Result Reading Fault). (r >>= λ t. reading_after t line) >>= ended) (step_longer s b going none.0 (omega arith))
     ∙ cut_rec (longer s b) line going none.1 (omega (arith, one))
 
 pub cut : (s : Reading) (line : List ℕ) → is_over s.stage ≡ false → HasNoEnd line → length s.line + length line ≤ 128
-    → (run s line >>= ended) ≡ Err (number_of s.stage s.said, causes.Truncated)
+    → (reading_after s line >>= ended) ≡ Err (due_number s.stage s.said, causes.Truncated)
 cut s line going none fits = cut_rec s line going (recursion_from_All (λ b. eqb b 10 ≡ false) line none) fits
 
-step_after : (s : Reading) (b : ℕ) → is_over s.stage ≡ true → step s b ≡ Err (number_of s.stage s.said, causes.Tail)
+step_after : (s : Reading) (b : ℕ) → is_over s.stage ≡ true → step s b ≡ Err (due_number s.stage s.said, causes.Tail)
 unfolding step
 step_after s b over = rw over refl
 
 pub tail : (s : Reading) (b : ℕ) (rest : List ℕ) → is_over s.stage ≡ true
-    → run s (b ∷ rest) ≡ Err (number_of s.stage s.said, causes.Tail)
-tail s b rest over = ap (λ (r : Result Reading Fault). r >>= λ t. run t rest) (step_after s b over)
+    → reading_after s (b ∷ rest) ≡ Err (due_number s.stage s.said, causes.Tail)
+tail s b rest over = ap (λ (r : Result Reading Fault). r >>= λ t. reading_after t rest) (step_after s b over)
 
 -- ---- the numbers of lines
 
@@ -82,7 +82,7 @@ head_counted : (s : Said) → s.grouped ≡ has_groups s.groups → length (head
 head_counted s said =
     omega (arith, groups_counted s said, length-append (groups_lines s.groups) (rows_line s.count ∷ []))
 
-number_is : (g : Stage) (s : Said) → HaveCome g s → number_of g s ≡ length (lines_before g s) + 1
+number_is : (g : Stage) (s : Said) → HaveCome g s → due_number g s ≡ length (lines_before g s) + 1
 number_is Magic s come = refl
 number_is (Head Entry) s come = refl
 number_is (Head Ceiling) s come = refl
@@ -98,7 +98,7 @@ number_is After s come =
     omega (arith, head_counted s come.0, head, length-append rows end, length-map s.rows row_line)
 
 abbrev number : Reading → ℕ
-number s = number_of s.stage s.said
+number s = due_number s.stage s.said
 
 number_judge : (bytes : List ℕ) (s t : Reading) → Holds bytes s → judge s ≡ Ok t → number t ≡ number s + 1
 number_judge bytes s t h e =
@@ -121,7 +121,7 @@ number_step : (bytes : List ℕ) (s t : Reading) (b : ℕ) → Holds bytes s →
     → number t ≡ ends_of b (number s)
 unfolding step
 number_step bytes s t b h e =
-    let r = at_line_ok (number_of s.stage s.said) (take_byte s b) t e in
+    let r = at_line_ok (due_number s.stage s.said) (take_byte s b) t e in
     let a = lacks (is_over s.stage) causes.Tail (cond (eqb b 10) (judge s) (lengthen s b)) t r in
     elim (chosen (eqb b 10) (judge s) (lengthen s b) (Ok t) a.1) [
       | inl j ↦ rw j.0 (number_judge bytes s t h j.1)
@@ -134,21 +134,21 @@ ends_more b m n = by_test (eqb b 10) m n where
   by_test true m n = omega arith
   by_test false m n = refl
 
-number_run : (bytes more : List ℕ) (s t : Reading) → Holds bytes s → run s more ≡ Ok t
+number_run : (bytes more : List ℕ) (s t : Reading) → Holds bytes s → reading_after s more ≡ Ok t
     → number t ≡ number s + line_ends more
 number_run bytes [] s t h e = same s t e where
-  same : (s t : Reading) → run s [] ≡ Ok t → number t ≡ number s + 0
+  same : (s t : Reading) → reading_after s [] ≡ Ok t → number t ≡ number s + 0
   same s t e = let is : s ≡ t = inner s t e in sym (ap number is) ∙ zero_more (number s) where
-    inner : (s t : Reading) → run s [] ≡ Ok t → s ≡ t
+    inner : (s t : Reading) → reading_after s [] ≡ Ok t → s ≡ t
     inner s t e = cc
 
     zero_more : (n : ℕ) → n ≡ n + 0
     zero_more n = omega arith
 number_run bytes (b ∷ more) s t h e =
-    let a = bind_ok (step s b) (λ u. run u more) t e in
+    let a = bind_ok (step s b) (λ u. reading_after u more) t e in
     let one = number_step bytes s a.0 b h a.1 in
     let rest = number_run (bytes ++ (b ∷ [])) more a.0 t (holds_step bytes s a.0 b h a.1) a.2 in
     rest ∙ ap (λ (n : ℕ). n + line_ends more) one ∙ ends_more b (number s) (line_ends more)
 
-pub numbered : (bytes : List ℕ) (s : Reading) → run start bytes ≡ Ok s → number_of s.stage s.said ≡ line_ends bytes + 1
-numbered bytes s e = let n = number_run [] bytes start s holds_start e in omega (arith, n)
+pub numbered : (bytes : List ℕ) (s : Reading) → reading_after reading_start bytes ≡ Ok s → due_number s.stage s.said ≡ line_ends bytes + 1
+numbered bytes s e = let n = number_run [] bytes reading_start s holds_start e in omega (arith, n)

@@ -29,7 +29,7 @@ use Rattle.cert_text.specs.declared.stage.NumberLine.{NumberLine}
 use Rattle.cert_text.specs.declared.stage.NumberLine.TheVariants.{Entry, Ceiling, Keyings, Count}
 use Rattle.cert_text.specs.Grammar.{has_groups, first_line, groups_line, groups_lines, entry_line, ceiling_line, keyings_line, rows_line, row_line, place_text, pend_text, cursor_text, text_of, certificate_text, IsRow, IsCertificate, IsCertificateText}
 use Rattle.frame_records.specs.Steps.{◌>>=◌}
-use Rattle.cert_text.specs.Reading.{Said, Reading, Fault, nothing, begins, start, number_of, word_of, most_of, put, stage_after, judge, judge_at, is_over, at_line, step, run, ended, reading}
+use Rattle.cert_text.specs.Reading.{Said, Reading, Fault, nothing_said, line_begins, reading_start, due_number, word_of, most_number, put, stage_after, judge, judge_at, is_over, at_line, step, reading_after, ended, reading}
 use Rattle.page_ids.proofs.Truths.{ok_is}
 use Rattle.page_ids.proofs.Numbers.{decimal_digits}
 use Rattle.std.proofs.lemmas.Bool.{and_parts}
@@ -48,11 +48,11 @@ bind_same : {A B E : Type 0} (r : Result A E) (f g : A → Result B E) → ((x :
 bind_same (Ok x) f g h = h x
 bind_same (Err e) f g h = refl
 
-pub run_append : (s : Reading) (a b : List ℕ) → run s (a ++ b) ≡ (run s a >>= λ t. run t b)
+pub run_append : (s : Reading) (a b : List ℕ) → reading_after s (a ++ b) ≡ (reading_after s a >>= λ t. reading_after t b)
 run_append s [] b = refl
 run_append s (x ∷ a) b =
-    bind_same (step s x) (λ t. run t (a ++ b)) (λ t. run t a >>= λ u. run u b) (λ t. run_append t a b)
-    ∙ sym (bind_assoc (step s x) (λ t. run t a) (λ u. run u b))
+    bind_same (step s x) (λ t. reading_after t (a ++ b)) (λ t. reading_after t a >>= λ u. reading_after u b) (λ t. run_append t a b)
+    ∙ sym (bind_assoc (step s x) (λ t. reading_after t a) (λ u. reading_after u b))
 
 abbrev pub longer : Reading → ℕ → Reading
 longer s b = record s { line = s.line ++ (b ∷ []) }
@@ -74,32 +74,32 @@ step_longer s b going other room =
     let fits : ltb (length s.line) 128 ≡ true = grind (arith, nat_tests) in
     rw (going, other, fits) refl
 
-pub step_end : (s : Reading) → is_over s.stage ≡ false → step s 10 ≡ at_line (number_of s.stage s.said) (judge s)
+pub step_end : (s : Reading) → is_over s.stage ≡ false → step s 10 ≡ at_line (due_number s.stage s.said) (judge s)
 unfolding step
 step_end s going = rw going refl
 
 pub run_line : (s : Reading) (line rest : List ℕ) → is_over s.stage ≡ false → NoEnds line
     → length s.line + length line ≤ 128
-    → run s (line ++ (10 ∷ rest))
-    ≡ (at_line (number_of s.stage s.said) (judge_at s.stage s.said (s.line ++ line)) >>= λ t. run t rest)
+    → reading_after s (line ++ (10 ∷ rest))
+    ≡ (at_line (due_number s.stage s.said) (judge_at s.stage s.said (s.line ++ line)) >>= λ t. reading_after t rest)
 run_line s [] rest going above room =
-    ap (λ (r : Result Reading Fault). r >>= λ t. run t rest) (step_end s going)
-    ∙ ap (λ (l : List ℕ). at_line (number_of s.stage s.said) (judge_at s.stage s.said l) >>= λ t. run t rest)
+    ap (λ (r : Result Reading Fault). r >>= λ t. reading_after t rest) (step_end s going)
+    ∙ ap (λ (l : List ℕ). at_line (due_number s.stage s.said) (judge_at s.stage s.said l) >>= λ t. reading_after t rest)
     (sym (append-nil s.line))
 run_line s (b ∷ line) rest going above room =
     let one : length s.line < 128 = omega arith in
     let more : length (s.line ++ (b ∷ [])) + length line ≤ 128 = omega (arith, length-append s.line (b ∷ [])) in
-    ap (λ (r : Result Reading Fault). r >>= λ t. run t (line ++ (10 ∷ rest))) (step_longer s b going above.0 one)
+    ap (λ (r : Result Reading Fault). r >>= λ t. reading_after t (line ++ (10 ∷ rest))) (step_longer s b going above.0 one)
     ∙ run_line (longer s b) line rest going above.1 more
-    ∙ ap (λ (l : List ℕ). at_line (number_of s.stage s.said) (judge_at s.stage s.said l) >>= λ t. run t rest)
+    ∙ ap (λ (l : List ℕ). at_line (due_number s.stage s.said) (judge_at s.stage s.said l) >>= λ t. reading_after t rest)
     (append_assoc s.line (b ∷ []) line)
 
 pub line_read : (g : Stage) (s : Said) (t : Reading) (line rest : List ℕ) → is_over g ≡ false → IsLine line
     → judge_at g s line ≡ Ok t
-    → run (begins g s) (line ++ (10 ∷ rest)) ≡ run t rest
+    → reading_after (line_begins g s) (line ++ (10 ∷ rest)) ≡ reading_after t rest
 line_read g s t line rest going is ok =
-    run_line (begins g s) line rest going (no_ends line is.above) (omega (arith, is.short))
-    ∙ ap (λ (r : Result Reading LineCause). at_line (number_of g s) r >>= λ u. run u rest) ok
+    run_line (line_begins g s) line rest going (no_ends line is.above) (omega (arith, is.short))
+    ∙ ap (λ (r : Result Reading LineCause). at_line (due_number g s) r >>= λ u. reading_after u rest) ok
 
 above_word : (f : NumberLine) → AllAbove 11 (word_of f)
 above_word Entry = above_all 11 (codes "entry ") refl
@@ -122,31 +122,31 @@ word_number word n above short small =
       short = omega (arith, length-append word (decimal n), len);
     }
 
-field_read : (f : NumberLine) (s : Said) (n : ℕ) (rest : List ℕ) → n ≤ most_of f
-    → run (begins (Head f) s) ((word_of f ++ decimal n) ++ (10 ∷ rest))
-    ≡ run (begins (stage_after f s.grouped) (put f n s)) rest
+field_read : (f : NumberLine) (s : Said) (n : ℕ) (rest : List ℕ) → n ≤ most_number f
+    → reading_after (line_begins (Head f) s) ((word_of f ++ decimal n) ++ (10 ∷ rest))
+    ≡ reading_after (line_begins (stage_after f s.grouped) (put f n s)) rest
 field_read f s n rest le =
     let small = most_small f in
     let line = word_number (word_of f) n (above_word f) (short_word f) (omega (arith, small, le)) in
-    let number = number_after_again (word_of f) (most_of f) n (omega (arith, small)) le in
-    line_read (Head f) s (begins (stage_after f s.grouped) (put f n s)) (word_of f ++ decimal n) rest refl line
+    let number = number_after_again (word_of f) (most_number f) n (omega (arith, small)) le in
+    line_read (Head f) s (line_begins (stage_after f s.grouped) (put f n s)) (word_of f ++ decimal n) rest refl line
     (rw number refl)
 
 first_read : (q : Bool) (rest : List ℕ)
-    → run start (first_line q ++ (10 ∷ rest)) ≡ run (begins (Head Entry) (with_grouped nothing q)) rest
+    → reading_after reading_start (first_line q ++ (10 ∷ rest)) ≡ reading_after (line_begins (Head Entry) (with_grouped nothing_said q)) rest
 first_read false rest =
     let line : IsLine (codes "PBC1") = record { above = above_all 11 (codes "PBC1") refl; short = omega arith } in
-    line_read Magic nothing (begins (Head Entry) (with_grouped nothing false)) (codes "PBC1") rest refl line refl
+    line_read Magic nothing_said (line_begins (Head Entry) (with_grouped nothing_said false)) (codes "PBC1") rest refl line refl
 first_read true rest =
     let line : IsLine (codes "PBC2") = record { above = above_all 11 (codes "PBC2") refl; short = omega arith } in
-    line_read Magic nothing (begins (Head Entry) (with_grouped nothing true)) (codes "PBC2") rest refl line refl
+    line_read Magic nothing_said (line_begins (Head Entry) (with_grouped nothing_said true)) (codes "PBC2") rest refl line refl
 
 groups_read : (groups : List ℕ) (s : Said) (rest : List (List ℕ)) → AreGroups groups
-    → run (begins (stage_after Keyings (has_groups groups)) (with_groups s [])) (text_of (groups_lines groups ++ rest))
-    ≡ run (begins (Head Count) (with_groups s groups)) (text_of rest)
+    → reading_after (line_begins (stage_after Keyings (has_groups groups)) (with_groups s [])) (text_of (groups_lines groups ++ rest))
+    ≡ reading_after (line_begins (Head Count) (with_groups s groups)) (text_of rest)
 groups_read [] s rest valid = refl
 groups_read (g ∷ gs) s rest valid =
-    line_read Groups (with_groups s []) (begins (Head Count) (with_groups s (g ∷ gs))) (groups_line (g ∷ gs))
+    line_read Groups (with_groups s []) (line_begins (Head Count) (with_groups s (g ∷ gs))) (groups_line (g ∷ gs))
     (text_of rest) refl (groups_is_line (g ∷ gs) valid)
     (rw (groups_again g gs valid) refl)
 
@@ -228,23 +228,23 @@ with_rows s rows = record s { rows = rows }
 
 run_rows : (s : Said) (acc rows : List Row) → length acc + length rows ≡ s.count → Ascend (acc ++ rows)
     → AllByRecursion IsRow rows
-    → run (begins Rows (with_rows s acc)) (text_of (map row_line rows ++ (codes "end" ∷ [])))
-    ≡ Ok (begins After (with_rows s (acc ++ rows)))
+    → reading_after (line_begins Rows (with_rows s acc)) (text_of (map row_line rows ++ (codes "end" ∷ [])))
+    ≡ Ok (line_begins After (with_rows s (acc ++ rows)))
 run_rows s acc [] len asc each =
     let no : ltb (length acc) s.count ≡ false = grind (arith, nat_tests) in
     let line : IsLine (codes "end") = record { above = above_all 11 (codes "end") refl; short = omega arith } in
-    line_read Rows (with_rows s acc) (begins After (with_rows s acc)) (codes "end") [] refl line (rw no refl)
-    ∙ ap (λ (rs : List Row). Ok (begins After (with_rows s rs))) (sym (append-nil acc))
+    line_read Rows (with_rows s acc) (line_begins After (with_rows s acc)) (codes "end") [] refl line (rw no refl)
+    ∙ ap (λ (rs : List Row). Ok (line_begins After (with_rows s rs))) (sym (append-nil acc))
 run_rows s acc (r ∷ rows) len asc each =
     let yes : ltb (length acc) s.count ≡ true = grind (arith, nat_tests) in
     let read = row_again acc r each.0 (follows acc r rows asc) in
-    let next = begins Rows (with_rows s (acc ++ (r ∷ []))) in
+    let next = line_begins Rows (with_rows s (acc ++ (r ∷ []))) in
     let judged : judge_at Rows (with_rows s acc) (row_line r) ≡ Ok next = rw (yes, row_not_end r each.0, read) refl in
     let join : (acc ++ (r ∷ [])) ++ rows ≡ acc ++ (r ∷ rows) = append_assoc acc (r ∷ []) rows in
     line_read Rows (with_rows s acc) next (row_line r) (text_of (map row_line rows ++ (codes "end" ∷ []))) refl
     (row_is_line r each.0) judged
     ∙ run_rows s (acc ++ (r ∷ [])) rows (omega (arith, length-append acc (r ∷ []))) (subst Ascend (sym join) asc) each.1
-    ∙ ap (λ (rs : List Row). Ok (begins After (with_rows s rs))) join
+    ∙ ap (λ (rs : List Row). Ok (line_begins After (with_rows s rs))) join
 
 -- what the text of a certificate says
 abbrev said_of : CertView → Said
@@ -258,10 +258,10 @@ said_of c = record {
   rows = c.rows;
 }
 
-pub run_certificate : (c : CertView) → IsCertificate c → run start (certificate_text c) ≡ Ok (begins After (said_of c))
+pub run_certificate : (c : CertView) → IsCertificate c → reading_after reading_start (certificate_text c) ≡ Ok (line_begins After (said_of c))
 run_certificate c is =
     let n = length c.rows in
-    let s0 = with_grouped nothing (has_groups c.groups) in
+    let s0 = with_grouped nothing_said (has_groups c.groups) in
     let s1 = put Entry c.entry s0 in
     let s2 = put Ceiling c.ceiling s1 in
     let s3 = put Keyings c.keyings s2 in
@@ -273,7 +273,7 @@ run_certificate c is =
     let after2 = keyings_line c.keyings ∷ after3 in
     let after1 = ceiling_line c.ceiling ∷ after2 in
     let first = first_line (has_groups c.groups) in
-    ap (λ (ls : List (List ℕ)). run start
+    ap (λ (ls : List (List ℕ)). reading_after reading_start
     (text_of (first ∷ entry_line c.entry ∷ ceiling_line c.ceiling ∷ keyings_line c.keyings ∷ ls)))
     (append_assoc (groups_lines c.groups) (rows_line n ∷ []) rest)
     ∙ first_read (has_groups c.groups) (text_of (entry_line c.entry ∷ after1))
@@ -294,7 +294,7 @@ one_certificate bytes c d p q =
     ok_is c d (sym (only c p.valid) ∙ ap reading (sym p.spelled ∙ q.spelled) ∙ only d q.valid)
 
 -- after the last line each byte is too many
-step_over : (s : Said) (b : ℕ) → step (begins After s) b ≡ Err (number_of After s, causes.Tail)
+step_over : (s : Said) (b : ℕ) → step (line_begins After s) b ≡ Err (due_number After s, causes.Tail)
 unfolding step
 step_over s b = refl
 
@@ -305,13 +305,13 @@ failed f = Err f
 pub no_prefix : (bytes : List ℕ) (b : ℕ) (more : List ℕ) (c d : CertView) → IsCertificateText bytes c
     → IsCertificateText (bytes ++ (b ∷ more)) d → ⊥
 no_prefix bytes b more c d p q =
-    let first : run start bytes ≡ Ok (begins After (said_of c)) =
-    ap (run start) p.spelled ∙ run_certificate c p.valid in
-    let second : run start (bytes ++ (b ∷ more)) ≡ Ok (begins After (said_of d)) =
-    ap (run start) q.spelled ∙ run_certificate d q.valid in
-    let refused : run start (bytes ++ (b ∷ more)) ≡ Err (number_of After (said_of c), causes.Tail) =
-    run_append start bytes (b ∷ more) ∙ ap (λ (r : Result Reading Fault). r >>= λ t. run t (b ∷ more)) first
-    ∙ ap (λ (r : Result Reading Fault). r >>= λ t. run t more) (step_over (said_of c) b) in
+    let first : reading_after reading_start bytes ≡ Ok (line_begins After (said_of c)) =
+    ap (reading_after reading_start) p.spelled ∙ run_certificate c p.valid in
+    let second : reading_after reading_start (bytes ++ (b ∷ more)) ≡ Ok (line_begins After (said_of d)) =
+    ap (reading_after reading_start) q.spelled ∙ run_certificate d q.valid in
+    let refused : reading_after reading_start (bytes ++ (b ∷ more)) ≡ Err (due_number After (said_of c), causes.Tail) =
+    run_append reading_start bytes (b ∷ more) ∙ ap (λ (r : Result Reading Fault). r >>= λ t. reading_after t (b ∷ more)) first
+    ∙ ap (λ (r : Result Reading Fault). r >>= λ t. reading_after t more) (step_over (said_of c) b) in
     clash _ _ (sym refused ∙ second) where
       clash : (f : Fault) (t : Reading) → failed f ≡ Ok t → ⊥
       clash f t e = cc

@@ -12,7 +12,7 @@ use Rattle.cert_table.specs.declared.row.Row.{Row}
 use Rattle.cert_text.specs.Grammar.{IsRow}
 use Rattle.cert_table.specs.Table.{comes_after}
 use Rattle.cert_text.specs.Lines.{row_in}
-use Rattle.cert_text.specs.Reading.{Said, IsSound, most_of, put}
+use Rattle.cert_text.specs.Reading.{Said, IsSound, most_number, put}
 use Rattle.cert_text.specs.declared.stage.NumberLine.{NumberLine}
 use Rattle.cert_text.specs.declared.stage.NumberLine.TheVariants.{Entry, Ceiling, Keyings, Count}
 use Rattle.cert_text.proofs.Spelled.{row_found}
@@ -52,7 +52,7 @@ ascending_more rows r asc after k d lt =
           (last_before rows r.id d (omega arith) after)
     ]
 
-pub most_small : (f : NumberLine) → most_of f ≤ 999999999
+pub most_small : (f : NumberLine) → most_number f ≤ 999999999
 most_small Entry = omega arith
 most_small Ceiling = omega arith
 most_small Keyings = omega arith
@@ -72,7 +72,7 @@ same_rows s t is same entry ceiling keyings groups count =
       each = rw same is.each;
     }
 
-pub put_sound : (f : NumberLine) (n : ℕ) (s : Said) → IsSound s → n ≤ most_of f → IsSound (put f n s)
+pub put_sound : (f : NumberLine) (n : ℕ) (s : Said) → IsSound s → n ≤ most_number f → IsSound (put f n s)
 put_sound Entry n s is le = same_rows s _ is refl le is.ceiling is.keyings is.groups is.count
 put_sound Ceiling n s is le = same_rows s _ is refl is.entry le is.keyings is.groups is.count
 put_sound Keyings n s is le = same_rows s _ is refl is.entry is.ceiling le is.groups is.count

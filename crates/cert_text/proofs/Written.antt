@@ -7,7 +7,7 @@ use Rattle.std.proofs.lemmas.List.{append-nil, map_push}
 use Rattle.std.proofs.lemmas.List.Elements.{All-more}
 use Rattle.cert_table.specs.declared.row.Row.{Row}
 use Rattle.cert_table.specs.Table.{CertView}
-use Rattle.cert_text.specs.Grammar.{has_groups, first_line, spaced, groups_lines, entry_line, ceiling_line, keyings_line, rows_line, text_of, head_lines, row_line, certificate_text}
+use Rattle.cert_text.specs.Grammar.{has_groups, first_line, spaced_groups, groups_lines, entry_line, ceiling_line, keyings_line, rows_line, text_of, head_lines, row_line, certificate_text}
 
 pub text_append : (xs ys : List (List ℕ)) → text_of (xs ++ ys) ≡ text_of xs ++ text_of ys
 text_append [] ys = refl
@@ -94,19 +94,19 @@ rows_more old now new xs i r e so_far push =
     ∙ append_assoc old (text_of (map row_line (take i xs))) (row_line r ++ (10 ∷ []))
     ∙ ap (λ (t : List ℕ). old ++ t) (sym text)
 
-spaced_append : (xs ys : List ℕ) → spaced (xs ++ ys) ≡ spaced xs ++ spaced ys
+spaced_append : (xs ys : List ℕ) → spaced_groups (xs ++ ys) ≡ spaced_groups xs ++ spaced_groups ys
 spaced_append [] ys = refl
 spaced_append (x ∷ xs) ys =
     ap (λ (t : List ℕ). 32 ∷ (decimal x ++ t)) (spaced_append xs ys)
-    ∙ ap (λ (t : List ℕ). 32 ∷ t) (sym (append_assoc (decimal x) (spaced xs) (spaced ys)))
+    ∙ ap (λ (t : List ℕ). 32 ∷ t) (sym (append_assoc (decimal x) (spaced_groups xs) (spaced_groups ys)))
 
 pub numbers_more : (old now : List ℕ) (xs : List ℕ) (i x : ℕ) → slice_get xs i ≡ Some x
-    → now ≡ old ++ spaced (take i xs)
-    → (now ++ (32 ∷ [])) ++ decimal x ≡ old ++ spaced (take (i + 1) xs)
+    → now ≡ old ++ spaced_groups (take i xs)
+    → (now ++ (32 ∷ [])) ++ decimal x ≡ old ++ spaced_groups (take (i + 1) xs)
 numbers_more old now xs i x e so_far =
-    let before = spaced (take i xs) in
-    let more : spaced (take (i + 1) xs) ≡ before ++ (32 ∷ decimal x) =
-    ap spaced (take_more xs i x e) ∙ spaced_append (take i xs) (x ∷ [])
+    let before = spaced_groups (take i xs) in
+    let more : spaced_groups (take (i + 1) xs) ≡ before ++ (32 ∷ decimal x) =
+    ap spaced_groups (take_more xs i x e) ∙ spaced_append (take i xs) (x ∷ [])
     ∙ ap (λ (t : List ℕ). before ++ (32 ∷ t)) (append-nil (decimal x)) in
     ap (λ (t : List ℕ). (t ++ (32 ∷ [])) ++ decimal x) so_far ∙ append_assoc (old ++ before) (32 ∷ []) (decimal x)
     ∙ append_assoc old before (32 ∷ decimal x)

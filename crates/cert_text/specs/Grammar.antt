@@ -57,12 +57,12 @@ first_line false = codes "PBC1"
 first_line true = codes "PBC2"
 
 -- the word, and a space (32) and a number for each group
-abbrev pub spaced : List ℕ → List ℕ
-spaced [] = []
-spaced (group ∷ groups) = 32 ∷ (decimal group ++ spaced groups)
+abbrev pub spaced_groups : List ℕ → List ℕ
+spaced_groups [] = []
+spaced_groups (group ∷ groups) = 32 ∷ (decimal group ++ spaced_groups groups)
 
 abbrev pub groups_line : List ℕ → List ℕ
-groups_line groups = codes "groups" ++ spaced groups
+groups_line groups = codes "groups" ++ spaced_groups groups
 
 -- the line of the groups, if there are any
 abbrev pub groups_lines : List ℕ → List (List ℕ)

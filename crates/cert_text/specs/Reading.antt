@@ -36,8 +36,8 @@ pub record Said : Type 0 where
   pub count : ℕ
   pub rows : List Row
 
-abbrev pub nothing : Said
-nothing = record { grouped = false; entry = 0; ceiling = 0; keyings = 0; groups = []; count = 0; rows = [] }
+abbrev pub nothing_said : Said
+nothing_said = record { grouped = false; entry = 0; ceiling = 0; keyings = 0; groups = []; count = 0; rows = [] }
 
 -- that, which line is due, and what has come of it
 pub record Reading : Type 0 where
@@ -46,11 +46,11 @@ pub record Reading : Type 0 where
   pub line : List ℕ
 
 -- before a line
-abbrev pub begins : Stage → Said → Reading
-begins stage said = record { stage = stage; said = said; line = [] }
+abbrev pub line_begins : Stage → Said → Reading
+line_begins stage said = record { stage = stage; said = said; line = [] }
 
-abbrev pub start : Reading
-start = begins Magic nothing
+abbrev pub reading_start : Reading
+reading_start = line_begins Magic nothing_said
 
 -- what a reader keeps, for any stream
 pub record IsSound (s : Said) : Type 0 where
@@ -63,15 +63,15 @@ pub record IsSound (s : Said) : Type 0 where
   pub each : AllByRecursion IsRow s.rows
 
 -- the number of the line that is due; a line of groups moves those after it
-abbrev pub number_of : Stage → Said → ℕ
-number_of Magic s = 1
-number_of (Head Entry) s = 2
-number_of (Head Ceiling) s = 3
-number_of (Head Keyings) s = 4
-number_of Groups s = 5
-number_of (Head Count) s = from_bool s.grouped + 5
-number_of Rows s = length s.rows + from_bool s.grouped + 6
-number_of After s = length s.rows + from_bool s.grouped + 7
+abbrev pub due_number : Stage → Said → ℕ
+due_number Magic s = 1
+due_number (Head Entry) s = 2
+due_number (Head Ceiling) s = 3
+due_number (Head Keyings) s = 4
+due_number Groups s = 5
+due_number (Head Count) s = from_bool s.grouped + 5
+due_number Rows s = length s.rows + from_bool s.grouped + 6
+due_number After s = length s.rows + from_bool s.grouped + 7
 
 -- the line at fault, and why
 abbrev pub Fault : Type 0
@@ -84,11 +84,11 @@ word_of Ceiling = codes "ceiling "
 word_of Keyings = codes "keyings "
 word_of Count = codes "rows "
 
-abbrev pub most_of : NumberLine → ℕ
-most_of Entry = MOST_PAGE
-most_of Ceiling = MOST_PENCE
-most_of Keyings = MOST_RANK
-most_of Count = MOST_ROWS
+abbrev pub most_number : NumberLine → ℕ
+most_number Entry = MOST_PAGE
+most_number Ceiling = MOST_PENCE
+most_number Keyings = MOST_RANK
+most_number Count = MOST_ROWS
 
 abbrev pub put : NumberLine → ℕ → Said → Said
 put Entry n s = record s { entry = n }
@@ -105,29 +105,29 @@ stage_after Count grouped = Rows
 -- line 1
 abbrev pub judge_magic : Said → List ℕ → Result Reading LineCause
 judge_magic s line =
-    if bytes_eq line (codes "PBC1") then Ok (begins (Head Entry) (record s { grouped = false }))
-    else if bytes_eq line (codes "PBC2") then Ok (begins (Head Entry) (record s { grouped = true }))
+    if bytes_eq line (codes "PBC1") then Ok (line_begins (Head Entry) (record s { grouped = false }))
+    else if bytes_eq line (codes "PBC2") then Ok (line_begins (Head Entry) (record s { grouped = true }))
     else Err causes.Magic
 
 -- the line of the groups
 abbrev pub judge_groups : Said → List ℕ → Result Reading LineCause
 judge_groups s line =
-    groups_after (codes "groups ") line >>= λ groups. Ok (begins (Head Count) (record s { groups = groups }))
+    groups_after (codes "groups ") line >>= λ groups. Ok (line_begins (Head Count) (record s { groups = groups }))
 
 -- a line in the place of a row, and in the place of `end`
 abbrev pub judge_row : Said → List ℕ → Result Reading LineCause
 judge_row s line =
     if bytes_eq line (codes "end") then Err causes.Count
-    else row_in s.rows line >>= λ r. Ok (begins Rows (record s { rows = s.rows ++ r ∷ [] }))
+    else row_in s.rows line >>= λ r. Ok (line_begins Rows (record s { rows = s.rows ++ r ∷ [] }))
 
 abbrev pub judge_end : Said → List ℕ → Result Reading LineCause
-judge_end s line = if bytes_eq line (codes "end") then Ok (begins After s) else Err causes.Count
+judge_end s line = if bytes_eq line (codes "end") then Ok (line_begins After s) else Err causes.Count
 
 -- a whole line, by the stage at which it comes
 abbrev pub judge_at : Stage → Said → List ℕ → Result Reading LineCause
 judge_at Magic s line = judge_magic s line
 judge_at (Head field) s line =
-    number_after (word_of field) (most_of field) line >>= λ n. Ok (begins (stage_after field s.grouped) (put field n s))
+    number_after (word_of field) (most_number field) line >>= λ n. Ok (line_begins (stage_after field s.grouped) (put field n s))
 judge_at Groups s line = judge_groups s line
 judge_at Rows s line = if nat_lt (length s.rows) s.count then judge_row s line else judge_end s line
 judge_at After s line = Err causes.Tail
@@ -155,15 +155,15 @@ at_line n (Ok s) = Ok s
 at_line n (Err cause) = Err (n, cause)
 
 unfoldable pub step : Reading → ℕ → Result Reading Fault
-step s b = at_line (number_of s.stage s.said) (take_byte s b)
+step s b = at_line (due_number s.stage s.said) (take_byte s b)
 
-abbrev pub run : Reading → List ℕ → Result Reading Fault
-run s [] = Ok s
-run s (b ∷ bytes) = step s b >>= λ t. run t bytes
+abbrev pub reading_after : Reading → List ℕ → Result Reading Fault
+reading_after s [] = Ok s
+reading_after s (b ∷ bytes) = step s b >>= λ t. reading_after t bytes
 
 -- a run that goes on
 abbrev pub run_on : Result Reading Fault → List ℕ → Result Reading Fault
-run_on r bytes = r >>= λ s. run s bytes
+run_on r bytes = r >>= λ s. reading_after s bytes
 
 abbrev pub certificate_of : Said → CertView
 certificate_of s =
@@ -171,19 +171,19 @@ certificate_of s =
 
 -- at the end of the input
 abbrev pub ended : Reading → Result CertView Fault
-ended s = if is_over s.stage then Ok (certificate_of s.said) else Err (number_of s.stage s.said, causes.Truncated)
+ended s = if is_over s.stage then Ok (certificate_of s.said) else Err (due_number s.stage s.said, causes.Truncated)
 
 -- the certificate of a text, or its first fault
 abbrev pub reading : List ℕ → Result CertView Fault
-reading bytes = run start bytes >>= ended
+reading bytes = reading_after reading_start bytes >>= ended
 
-abbrev pub fault_in : {A : Type 0} → Result A Fault → Option Fault
-fault_in (Ok x) = None
-fault_in (Err f) = Some f
+abbrev pub reading_fault : {A : Type 0} → Result A Fault → Option Fault
+reading_fault (Ok x) = None
+reading_fault (Err f) = Some f
 
 -- the first line at fault, with its cause
-abbrev pub cert_fault : List ℕ → Option Fault
-cert_fault bytes = fault_in (reading bytes)
+abbrev pub certificate_fault : List ℕ → Option Fault
+certificate_fault bytes = reading_fault (reading bytes)
 
 -- What a call returned, beside what reading gives; memory may run out.
 
@@ -221,7 +221,7 @@ pub record ReaderView : Type 0 where
 -- the reader has taken this stream, and no call was refused
 pub record HasRead (r : ReaderView) (stream : List ℕ) : Type 0 where
   pub going : r.failed ≡ false
-  pub so_far : run start stream ≡ Ok r.reading
+  pub so_far : reading_after reading_start stream ≡ Ok r.reading
 
 -- Reading goes line by line, and the first line at fault is the fault of the text.
 
@@ -235,25 +235,25 @@ line_ends [] = 0
 line_ends (b ∷ bytes) = if b == 10 then line_ends bytes + 1 else line_ends bytes
 
 -- a whole line in the place that is due, with its number
-abbrev pub judged : Reading → List ℕ → Result Reading Fault
-judged s line = at_line (number_of s.stage s.said) (judge_at s.stage s.said line)
+abbrev pub line_judged : Reading → List ℕ → Result Reading Fault
+line_judged s line = at_line (due_number s.stage s.said) (judge_at s.stage s.said line)
 
 pub record LinesAreJudged : Type 0 where
   -- a line of at most 128 bytes is judged by its place, and the text after it is read on from there
   pub whole : (s : Reading) (line rest : List ℕ) → is_over s.stage ≡ false → HasNoEnd line
-      → length s.line + length line ≤ 128 → run s (line ++ 10 ∷ rest) ≡ run_on (judged s (s.line ++ line)) rest
+      → length s.line + length line ≤ 128 → reading_after s (line ++ 10 ∷ rest) ≡ run_on (line_judged s (s.line ++ line)) rest
   -- a 129th byte is Word, whatever follows
   pub long : (s : Reading) (line rest : List ℕ) → is_over s.stage ≡ false → HasNoEnd line → length s.line ≤ 128
-      → length s.line + length line ≡ 129 → run s (line ++ rest) ≡ Err (number_of s.stage s.said, Word)
+      → length s.line + length line ≡ 129 → reading_after s (line ++ rest) ≡ Err (due_number s.stage s.said, Word)
   -- a line that doesn't end is Truncated
   pub cut : (s : Reading) (line : List ℕ) → is_over s.stage ≡ false → HasNoEnd line → length s.line + length line ≤ 128
-      → (run s line >>= ended) ≡ Err (number_of s.stage s.said, Truncated)
+      → (reading_after s line >>= ended) ≡ Err (due_number s.stage s.said, Truncated)
   -- after `end` each byte is Tail
   pub tail : (s : Reading) (b : ℕ) (rest : List ℕ) → is_over s.stage ≡ true
-      → run s (b ∷ rest) ≡ Err (number_of s.stage s.said, Tail)
+      → reading_after s (b ∷ rest) ≡ Err (due_number s.stage s.said, Tail)
   -- the line that is due has a number one greater than the line ends so far
-  pub numbered : (bytes : List ℕ) (s : Reading) → run start bytes ≡ Ok s
-      → number_of s.stage s.said ≡ line_ends bytes + 1
+  pub numbered : (bytes : List ℕ) (s : Reading) → reading_after reading_start bytes ≡ Ok s
+      → due_number s.stage s.said ≡ line_ends bytes + 1
 
 -- a text of more than 65,542 lines' bytes is decided: what is read doesn't depend on what follows
 abbrev pub LongTextsAreDecided : Type 0
@@ -273,4 +273,4 @@ pub record TextsAreCertificates : Type 0 where
   -- what is read from a text without a fault is the certificate with which the grammar pairs it
   pub no_fault : (bytes : List ℕ) (c : CertView) → (reading bytes ≡ Ok c) ↔ IsCertificateText bytes c
   -- reading goes on where it was
-  pub pieces : (a b : List ℕ) → run start (a ++ b) ≡ run_on (run start a) b
+  pub pieces : (a b : List ℕ) → reading_after reading_start (a ++ b) ≡ run_on (reading_after reading_start a) b

@@ -2,8 +2,8 @@
 
 ghost use Rattle.std.specs.Prelude.{◌≡◌, IfErr};
 ghost use Rattle.cert_text.specs.declared.fault.ReadFault.TheVariants.{Memory};
-ghost use Rattle.cert_text.specs.Reading.{start, number_of, judge, lengthen, is_over, at_line, step, run, ended, Gives};
-ghost use Rattle.cert_text.specs.Loops.{Turns, Reads};
+ghost use Rattle.cert_text.specs.Reading.{reading_start, due_number, judge, lengthen, is_over, at_line, step, reading_after, ended, Gives};
+ghost use Rattle.cert_text.specs.Loops.{Turns, TakesBytes};
 
 use crate::fault::{LineCause, LineFault, ReadFault};
 use crate::so_far::SoFar;
@@ -33,7 +33,7 @@ impl Model for LineReader {
 impl LineReader {
     // Before the first byte.
     pub fn new(alloc: Global) -> LineReader
-        ensures { result ≡ start }
+        ensures { result ≡ reading_start }
     {
         LineReader {
             stage: Stage::Magic,
@@ -44,7 +44,7 @@ impl LineReader {
 
     // The number of the line that is due.
     fn number(&self) -> u32
-        ensures { result ≡ number_of self.now.stage self.now.said }
+        ensures { result ≡ due_number self.now.stage self.now.said }
     {
         self.said.number(self.stage)
     }
@@ -59,7 +59,7 @@ impl LineReader {
 
     // A whole line has come.
     fn take_line(&mut self) -> Result<(), ReadFault>
-        ensures { Reads result self.new (at_line (number_of self.old.stage self.old.said) (judge self.old)) }
+        ensures { TakesBytes result self.new (at_line (due_number self.old.stage self.old.said) (judge self.old)) }
     {
         let number = self.number();
         match self.judge_line() {
@@ -71,7 +71,7 @@ impl LineReader {
 
     // A byte that ends no line.
     fn lengthen(&mut self, byte: u8) -> Result<(), ReadFault>
-        ensures { Reads result self.new (at_line (number_of self.old.stage self.old.said) (lengthen self.old byte)) }
+        ensures { TakesBytes result self.new (at_line (due_number self.old.stage self.old.said) (lengthen self.old byte)) }
     {
         if self.line.len() < 128 {
             self.line.push(byte);
@@ -91,7 +91,7 @@ impl LineReader {
     // One byte; a fault is that of the line that was due.
     #[tactic(auto, unfolding(crate::specs::Reading::step))]
     fn step(&mut self, byte: u8) -> Result<(), ReadFault>
-        ensures { Reads result self.new (step self.old byte) }
+        ensures { TakesBytes result self.new (step self.old byte) }
     {
         if self.is_over() {
             return Err(ReadFault::Line(self.number(), LineCause::Tail));
@@ -105,7 +105,7 @@ impl LineReader {
 
     // Bytes one by one, to the first fault.
     pub fn feed(&mut self, piece: &[u8]) -> Result<(), ReadFault>
-        ensures { Reads result self.new (run self.old piece.now) }
+        ensures { TakesBytes result self.new (reading_after self.old piece.now) }
     {
         for byte in piece {
             self.step(*byte)?;

@@ -4,8 +4,8 @@ ghost use Rattle.std.specs.Prelude.{◌≡◌, ◌++◌, ℕ, true, false, List,
 ghost use Rattle.cert_table.specs.Table.{CertView};
 ghost use Rattle.cert_text.specs.declared.fault.ReadFault.TheVariants.{Failed, Memory};
 ghost use Rattle.cert_text.specs.Grammar.{IsCertificateText};
-ghost use Rattle.cert_text.specs.Reading.{run, ended, reading, cert_fault, Gives, Answers, lasting, HasRead};
-ghost use Rattle.cert_text.specs.Loops.{Reads};
+ghost use Rattle.cert_text.specs.Reading.{reading_after, ended, reading, certificate_fault, Gives, Answers, lasting, HasRead};
+ghost use Rattle.cert_text.specs.Loops.{TakesBytes};
 
 use crate::fault::ReadFault;
 use crate::line_reader::LineReader;
@@ -53,9 +53,9 @@ impl CertReader {
             OnOk result (HasRead self.new (stream ++ piece.now)) }
         // A fault is the stream's, whatever follows, and is reported at once.
         ensures fault { (stream : List ℕ) → HasRead self.old stream →
-            IfErr result (λ e. Answers e (lasting (cert_fault (stream ++ piece.now)))) }
+            IfErr result (λ e. Answers e (lasting (certificate_fault (stream ++ piece.now)))) }
         ensures none { (stream : List ℕ) → HasRead self.old stream →
-            OnOk result (lasting (cert_fault (stream ++ piece.now)) ≡ None) }
+            OnOk result (lasting (certificate_fault (stream ++ piece.now)) ≡ None) }
     {
         self.take_piece(piece)
     }
@@ -64,7 +64,7 @@ impl CertReader {
     fn take_piece(&mut self, piece: &[u8]) -> Result<(), ReadFault>
         ensures failed { self.old.failed ≡ true → (result ≡ Err Failed) × (self.new.failed ≡ true) }
         ensures refused { OnErr result (self.new.failed ≡ true) }
-        ensures exact { self.old.failed ≡ false → Reads result self.new.reading (run self.old.reading piece.now) }
+        ensures exact { self.old.failed ≡ false → TakesBytes result self.new.reading (reading_after self.old.reading piece.now) }
         ensures goes_on { OnOk result (self.new.failed ≡ false) }
     {
         if self.failed {
@@ -113,7 +113,7 @@ pub fn cert_read(alloc: Global, bytes: &[u8]) -> Result<Certificate, ReadFault>
     // What is spelled so is read, unless memory runs out.
     ensures only { (c : CertView) → IsCertificateText bytes.now c → Gives (λ d. d) result (Ok c) }
     // Else it is the first fault.
-    ensures fault { IfErr result (λ e. Answers e (cert_fault bytes.now)) }
+    ensures fault { IfErr result (λ e. Answers e (certificate_fault bytes.now)) }
 {
     read(alloc, bytes)
 }

@@ -2,7 +2,7 @@
 
 ghost use Rattle.std.specs.Prelude.{◌≡◌, ◌≤◌, ◌+◌, length};
 ghost use Rattle.cert_text.specs.declared.stage.Stage.TheVariants.{Head, Rows};
-ghost use Rattle.cert_text.specs.Reading.{nothing, number_of, most_of, put, judge_at, judge_magic, judge_groups, judge_row, certificate_of};
+ghost use Rattle.cert_text.specs.Reading.{nothing_said, due_number, most_number, put, judge_at, judge_magic, judge_groups, judge_row, certificate_of};
 ghost use Rattle.cert_text.specs.Loops.{Says};
 
 use crate::fault::{LineCause, LineFault};
@@ -57,7 +57,7 @@ impl Model for SoFar {
 impl SoFar {
     // Before the first line.
     pub fn new(alloc: Global) -> SoFar
-        ensures { result ≡ nothing }
+        ensures { result ≡ nothing_said }
     {
         SoFar {
             grouped: false,
@@ -72,7 +72,7 @@ impl SoFar {
 
     // The number of the line that is due at a stage.
     pub fn number(&self, stage: Stage) -> u32
-        ensures { result ≡ number_of stage self.now }
+        ensures { result ≡ due_number stage self.now }
     {
         let rows = self.rows.len() as u32;
         let groups = u32::from(self.grouped);
@@ -90,7 +90,7 @@ impl SoFar {
 
     // Keeps a number of the head.
     fn put(&mut self, field: NumberLine, number: u32)
-        requires { number ≤ most_of field }
+        requires { number ≤ most_number field }
         ensures { self.new ≡ put field number self.old }
     {
         match field {

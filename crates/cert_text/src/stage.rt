@@ -1,5 +1,5 @@
 ghost use Rattle.std.specs.Prelude.{◌≡◌};
-ghost use Rattle.cert_text.specs.Reading.{word_of, most_of, stage_after};
+ghost use Rattle.cert_text.specs.Reading.{word_of, most_number, stage_after};
 
 use cert_table::{MOST_RANK, MOST_ROWS};
 use frame_records::MOST_PENCE;
@@ -48,7 +48,7 @@ impl NumberLine {
 
     // The greatest number.
     pub fn most(self) -> u32
-        ensures { result ≡ most_of self }
+        ensures { result ≡ most_number self }
     {
         match self {
             NumberLine::Entry => MOST_PAGE,

@@ -7,7 +7,7 @@ ghost use Rattle.frame_records.specs.declared.limits.TheConstants.{MOST_PENCE};
 ghost use Rattle.frame_records.specs.Groups.{AreGroups};
 ghost use Rattle.cert_table.specs.declared.limits.TheConstants.{MOST_RANK};
 ghost use Rattle.cert_table.specs.Table.{AreRows, AreOnScreen};
-ghost use Rattle.cert_text.specs.Grammar.{IsRow, IsCertificateText, certificate_text, cursor_text, place_text, row_line, has_groups, first_line, spaced, groups_lines, head_lines, text_of};
+ghost use Rattle.cert_text.specs.Grammar.{IsRow, IsCertificateText, certificate_text, cursor_text, place_text, row_line, has_groups, first_line, spaced_groups, groups_lines, head_lines, text_of};
 ghost use Rattle.cert_text.specs.Reading.{reading};
 
 use abstract_paint::{AbsCursor, Pend, Place};
@@ -93,7 +93,7 @@ fn push_first(out: &mut Vec<u8>, groups: &Groups) -> Result<(), AllocError>
 
 // The groups, with a space before each.
 fn push_numbers(out: &mut Vec<u8>, groups: &Groups) -> Result<(), AllocError>
-    ensures { OnOk result (out.new.items ≡ out.old.items ++ spaced groups.now) }
+    ensures { OnOk result (out.new.items ≡ out.old.items ++ spaced_groups groups.now) }
 {
     for i in 0..groups.len() {
         let group = groups.at(i);

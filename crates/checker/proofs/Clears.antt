@@ -36,7 +36,7 @@ use Rattle.checker.specs.declared.verdict.Cause.TheVariants as cause
 use Rattle.checker.specs.declared.verdict.Verdict.{Verdict}
 use Rattle.checker.specs.declared.verdict.Verdict.TheVariants.{Cleared, Refused}
 use Rattle.checker.specs.Conditions.{each}
-use Rattle.checker.specs.Good.{Good, IsGoodRow, LeadsDown, LeadsOn, WaysLeadOn, is_covered}
+use Rattle.checker.specs.Good.{Good, IsGoodRow, LeadsDown, LeadsOn, WaysLeadOn, is_row_of}
 use Rattle.checker.specs.Verdict.{same_place, same_pend, same_cursor, goes_on, offered_on, lost_cause, rank_below, offered_down, way_down, is_down, on_terms, on_head, on_frame, on_touches, touched, ends_at, on_painting, on_way, on_ways, on_frame_of_row, if_found, on_row, on_rows, conditions, verdict_of, verdict}
 use Rattle.checker.proofs.Conditions.{Agrees, by_test, by_words, by_pass, by_limit, by_both_tests, in_turn, for_each, each_all, each_at, each_of}
 
@@ -50,7 +50,7 @@ terms_agree base policy cert =
 
 -- those, and K4
 head_agrees : (base : BaseView) (policy : Policy) (cert : CertView) → Agrees (on_head base policy cert)
-head_agrees base policy cert = in_turn (terms_agree base policy cert) (λ _. by_pass (is_covered cert.rows (entry_of base)) cause.EntryNotCovered)
+head_agrees base policy cert = in_turn (terms_agree base policy cert) (λ _. by_pass (is_row_of cert.rows (entry_of base)) cause.EntryNotCovered)
 
 -- K6, K7 and K8
 frame_agrees : (caller : List ℕ) (cert : CertView) (row : Row) (f : Frame) → Agrees (on_frame caller cert row f)

@@ -29,9 +29,9 @@ use Rattle.checker.specs.declared.verdict.Cause.{Cause}
 use Rattle.checker.specs.declared.verdict.Verdict.{Verdict}
 use Rattle.checker.specs.declared.verdict.Verdict.TheVariants.{Cleared}
 use Rattle.checker.specs.Conditions.{◌otherwise◌, ◌then◌}
-use Rattle.checker.specs.Good.{is_covered}
+use Rattle.checker.specs.Good.{is_row_of}
 use Rattle.checker.specs.Verdict.{on_terms, on_head, on_frame, on_painting, on_ways, if_found, on_row, on_rows, verdict, verdict_of}
-use Rattle.checker.specs.Counts.{counted_if, are_ways_sought, outside_compared, offered_compared, way_compared, ways_compared, found_probes, row_probes, found_steps, row_steps, unless_fault, judged, judged_rows, probes_of, steps_of, ways_of, ways_if, ways_at, bytes_if, bytes_at, row_most, IsCount}
+use Rattle.checker.specs.Counts.{counted_if, are_ways_sought, outside_compared, offered_compared, way_compared, ways_compared, found_probes, row_probes, found_steps, row_steps, rows_unless_fault, rows_judged, judged_rows, probes_of, steps_of, ways_of, ways_if, ways_at, bytes_if, bytes_at, row_most, IsCount}
 use Rattle.checker.specs.Loops.{first_ways}
 
 -- a number that counts only if something is done
@@ -65,14 +65,14 @@ module _ (compared : List Row → Id → ℕ) (base : BaseView) (rows : List Row
 
   offered_few : (way : Way) (to : Option Id) → offered_compared compared base rows way to ≤ m + 16
   offered_few way None = omega arith
-  offered_few way (Some to) = omega (arith, few to, absent_few (is_covered rows to) (outside_compared base way to.page) 16 (outside_few way to.page))
+  offered_few way (Some to) = omega (arith, few to, absent_few (is_row_of rows to) (outside_compared base way to.page) 16 (outside_few way to.page))
 
   pub way_few : (f : Frame) (way : Way) → way_compared compared base rows f way ≤ m + 16
   way_few f way = offered_few way (sought f way)
 
   next_few : (to : Option Id) → offered_compared compared base rows Next to ≤ m
   next_few None = omega arith
-  next_few (Some to) = omega (arith, few to, absent_few (is_covered rows to) 0 0 (omega arith))
+  next_few (Some to) = omega (arith, few to, absent_few (is_row_of rows to) 0 0 (omega arith))
 
   length_first : (n : ℕ) → length (first_ways n) ≡ n
   length_first n = length-map (range_with_len 0 n) way_at ∙ length-range_with_len 0 n
@@ -94,28 +94,28 @@ module _ (compared : List Row → Id → ℕ) (base : BaseView) (rows : List Row
 
 -- The rows that are judged.
 
-unless_le : (f : Row → ℕ) (o : Option Cause) (rows : List Row) → sum_by f (unless_fault o rows) ≤ sum_by f rows
+unless_le : (f : Row → ℕ) (o : Option Cause) (rows : List Row) → sum_by f (rows_unless_fault o rows) ≤ sum_by f rows
 unless_le f None rows = omega arith
 unless_le f (Some c) rows = omega arith
 
 module _ (caller : List ℕ) (base : BaseView) (cert : CertView) where
-  judged_le : (f g : Row → ℕ) → ((row : Row) → f row ≤ g row) → (rows : List Row) → sum_by f (judged caller base cert rows) ≤ sum_by g rows
+  judged_le : (f g : Row → ℕ) → ((row : Row) → f row ≤ g row) → (rows : List Row) → sum_by f (rows_judged caller base cert rows) ≤ sum_by g rows
   judged_le f g le [] = omega arith
   judged_le f g le (row ∷ rows) =
-      let rest = judged caller base cert rows in
+      let rest = rows_judged caller base cert rows in
       let o = (on_row caller base cert row).first_cause in
-      omega (arith, sum_by-cons f row (unless_fault o rest), sum_by-cons g row rows, le row, unless_le f o rest, judged_le f g le rows)
+      omega (arith, sum_by-cons f row (rows_unless_fault o rest), sum_by-cons g row rows, le row, unless_le f o rest, judged_le f g le rows)
 
   both_none : (o p : Option Cause) → (o otherwise p) ≡ None → (o ≡ None) × (p ≡ None)
   both_none None p e = (refl, e)
   both_none (Some c) p e = cc
 
   -- if no row is at fault all are judged
-  all_judged : (rows : List Row) → (on_rows caller base cert rows).first_cause ≡ None → judged caller base cert rows ≡ rows
+  all_judged : (rows : List Row) → (on_rows caller base cert rows).first_cause ≡ None → rows_judged caller base cert rows ≡ rows
   all_judged [] none = refl
   all_judged (row ∷ rows) none =
       let parts = both_none (on_row caller base cert row).first_cause (on_rows caller base cert rows).first_cause none in
-      ap (λ (o : Option Cause). row ∷ unless_fault o (judged caller base cert rows)) parts.0 ∙ ap (λ (rs : List Row). row ∷ rs) (all_judged rows parts.1)
+      ap (λ (o : Option Cause). row ∷ rows_unless_fault o (rows_judged caller base cert rows)) parts.0 ∙ ap (λ (rs : List Row). row ∷ rs) (all_judged rows parts.1)
 
   -- What a row takes.
 
@@ -191,7 +191,7 @@ no_cause : (o : Option Cause) → verdict_of o ≡ Cleared → o ≡ None
 no_cause None e = refl
 no_cause (Some c) e = cc
 
-some_rows : (rows : List Row) (id : Id) → is_covered rows id ≡ true → 0 < length rows
+some_rows : (rows : List Row) (id : Id) → is_row_of rows id ≡ true → 0 < length rows
 some_rows [] id e = cc
 some_rows (row ∷ rows) id e = omega arith
 
@@ -200,15 +200,15 @@ passes true c e = refl
 passes false c e = cc
 
 module _ (compared : List Row → Id → ℕ) (base : BaseView) (cert : CertView) (m : ℕ) (is : IsBase base) (few : (id : Id) → compared cert.rows id ≤ m) where
-  pub probes_few : sum_by (row_probes compared cert.groups base cert) (judged cert.groups base cert cert.rows) ≤ row_most m * length cert.rows
+  pub probes_few : sum_by (row_probes compared cert.groups base cert) (rows_judged cert.groups base cert cert.rows) ≤ row_most m * length cert.rows
   probes_few =
       let most = judged_le cert.groups base cert (row_probes compared cert.groups base cert) (λ _. row_most m) (row_few compared base cert.rows m is few cert.groups cert refl) cert.rows in
       omega (arith, most, sum_by-le (λ (_ : Row). row_most m) (row_most m) cert.rows (λ i d lt. omega arith), mul_comm (length cert.rows) (row_most m))
 
-  pub steps_within : sum_by (row_steps cert.groups base cert) (judged cert.groups base cert cert.rows) ≤ sum_by (bytes_at base) cert.rows
+  pub steps_within : sum_by (row_steps cert.groups base cert) (rows_judged cert.groups base cert cert.rows) ≤ sum_by (bytes_at base) cert.rows
   steps_within = judged_le cert.groups base cert (row_steps cert.groups base cert) (bytes_at base) (steps_few cert.groups base cert) cert.rows
 
-  pub steps_short : sum_by (row_steps cert.groups base cert) (judged cert.groups base cert cert.rows) ≤ length cert.rows * 4096
+  pub steps_short : sum_by (row_steps cert.groups base cert) (rows_judged cert.groups base cert cert.rows) ≤ length cert.rows * 4096
   steps_short = omega (arith, steps_within, sum_by-le (bytes_at base) 4096 cert.rows (λ i d lt. bytes_few cert.groups base cert is (get_or cert.rows i d)))
 
   least : (policy : Policy) → ((id : Id) → 0 < length cert.rows → 1 ≤ compared cert.rows id) → verdict base policy cert ≡ Cleared
@@ -217,9 +217,9 @@ module _ (compared : List Row → Id → ℕ) (base : BaseView) (cert : CertView
       let caller = cert.groups in
       let both = both_none caller base cert (on_head base policy cert).first_cause (on_rows caller base cert cert.rows).first_cause (no_cause _ cleared) in
       let head = both_none caller base cert (on_terms base policy cert).first_cause _ both.0 in
-      let any = some_rows cert.rows (entry_of base) (passes (is_covered cert.rows (entry_of base)) _ head.1) in
+      let any = some_rows cert.rows (entry_of base) (passes (is_row_of cert.rows (entry_of base)) _ head.1) in
       let one = some (entry_of base) any in
-      let rows : judged_rows base policy cert ≡ cert.rows = ap (λ (o : Option Cause). unless_fault o (judged caller base cert cert.rows)) both.0 ∙ all_judged caller base cert cert.rows both.1 in
+      let rows : judged_rows base policy cert ≡ cert.rows = ap (λ (o : Option Cause). rows_unless_fault o (rows_judged caller base cert cert.rows)) both.0 ∙ all_judged caller base cert cert.rows both.1 in
       let all = all_passed caller base cert compared (λ id. some id any) cert.rows both.1 in
       let entry : is_none (on_terms base policy cert).first_cause ≡ true = ap is_none head.0 in (
         omega (arith, one, all.0, ap (λ (b : Bool). counted_if b (compared cert.rows (entry_of base))) entry, ap (sum_by (row_probes compared caller base cert)) rows),
@@ -230,7 +230,7 @@ module _ (compared : List Row → Id → ℕ) (base : BaseView) (cert : CertView
       → count.probes ≡ probes_of compared base policy cert → count.steps ≡ steps_of base policy cert → IsCount base cert.rows m v count
   counted policy some v count verdict probes steps =
       let head = (on_head base policy cert).first_cause in
-      let rows = judged cert.groups base cert cert.rows in
+      let rows = rows_judged cert.groups base cert cert.rows in
       record {
         most = omega (arith, probes, probes_few, unless_le (row_probes compared cert.groups base cert) head rows, few (entry_of base), if_done (is_none (on_terms base policy cert).first_cause) (compared cert.rows (entry_of base)));
         least = λ cleared. omega (arith, probes, (least policy some (sym verdict ∙ cleared)).0);

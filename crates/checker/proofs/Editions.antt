@@ -14,7 +14,7 @@ use Rattle.checker.specs.declared.verdict.Verdict.{Verdict}
 use Rattle.checker.specs.declared.verdict.Verdict.TheVariants as verdicts
 use Rattle.checker.specs.declared.change.ChangeVerdict.{ChangeVerdict}
 use Rattle.checker.specs.declared.change.ChangeVerdict.TheVariants.{Cleared, EntryMoved}
-use Rattle.checker.specs.Good.{Good, is_covered}
+use Rattle.checker.specs.Good.{Good, is_row_of}
 use Rattle.checker.specs.Safe.{Safe, HasRows}
 use Rattle.checker.specs.Verdict.{verdict}
 use Rattle.checker.specs.Change.{lost_id, unless_lost, unless_old, unless_new, keeps_covered, change_verdict, Edition, IsFoundFor, AreHeldFound, IsSafeFrom, AreCleared, HoldsOverChanges, IsSafeOverChanges, IsSafeChange, edition}
@@ -23,10 +23,10 @@ use Rattle.checker.proofs.Clears.{cleared_good}
 
 -- from each state whose frames have rows, a good certificate makes the base safe
 module _ (base : BaseView) (policy : Policy) (cert : CertView) (apart : AreApart base) (good : Good base policy cert) where
-  found_for : (id : Id) → is_covered cert.rows id ≡ true → IsFoundFor cert.groups base cert.ceiling id
+  found_for : (id : Id) → is_row_of cert.rows id ≡ true → IsFoundFor cert.groups base cert.ceiling id
   found_for id h = let f = covered_found base policy cert apart good id h in record { price = f.price; found = f.found; fair = f.fair }
 
-  all_found : (ids : List Id) → AllByRecursion (λ r. is_covered cert.rows r ≡ true) ids → AllByRecursion (IsFoundFor cert.groups base cert.ceiling) ids
+  all_found : (ids : List Id) → AllByRecursion (λ r. is_row_of cert.rows r ≡ true) ids → AllByRecursion (IsFoundFor cert.groups base cert.ceiling) ids
   all_found [] h = tt
   all_found (id ∷ ids) h = (found_for id h.0, all_found ids h.1)
 
@@ -72,18 +72,18 @@ row_kept : (covered : Bool) (lost : Option Id) (id : Id) → cond covered lost (
 row_kept true lost id e = (refl, e)
 row_kept false lost id e = absurd cc
 
-rows_kept : (old new : List Row) → lost_id old new ≡ None → AllByRecursion (λ r. is_covered new r.id ≡ true) old
+rows_kept : (old new : List Row) → lost_id old new ≡ None → AllByRecursion (λ r. is_row_of new r.id ≡ true) old
 rows_kept [] new e = tt
-rows_kept (row ∷ old) new e = let kept = row_kept (is_covered new row.id) (lost_id old new) row.id e in (kept.0, rows_kept old new kept.1)
+rows_kept (row ∷ old) new e = let kept = row_kept (is_row_of new row.id) (lost_id old new) row.id e in (kept.0, rows_kept old new kept.1)
 
 module _ (old new : List Row) (kept : lost_id old new ≡ None) where
-  id_kept : (id : Id) → is_covered old id ≡ true → is_covered new id ≡ true
+  id_kept : (id : Id) → is_row_of old id ≡ true → is_row_of new id ≡ true
   id_kept id h =
       let there = some_there (row_among old id) h in
-      let is = row_is (λ r. is_covered new r.id ≡ true) old id there.0 (rows_kept old new kept) there.1 in
-      subst (λ (i : Id). is_covered new i ≡ true) is.1 is.0
+      let is = row_is (λ r. is_row_of new r.id ≡ true) old id there.0 (rows_kept old new kept) there.1 in
+      subst (λ (i : Id). is_row_of new i ≡ true) is.1 is.0
 
-  ids_kept : (ids : List Id) → AllByRecursion (λ r. is_covered old r ≡ true) ids → AllByRecursion (λ r. is_covered new r ≡ true) ids
+  ids_kept : (ids : List Id) → AllByRecursion (λ r. is_row_of old r ≡ true) ids → AllByRecursion (λ r. is_row_of new r ≡ true) ids
   ids_kept [] h = tt
   ids_kept (id ∷ ids) h = (id_kept id h.0, ids_kept ids h.1)
 

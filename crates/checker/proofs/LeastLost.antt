@@ -14,7 +14,7 @@ use Rattle.checker.specs.declared.verdict.Verdict.{Verdict}
 use Rattle.checker.specs.declared.verdict.Verdict.TheVariants as verdicts
 use Rattle.checker.specs.declared.change.ChangeVerdict.{ChangeVerdict}
 use Rattle.checker.specs.declared.change.ChangeVerdict.TheVariants.{EntryMoved, NoLongerCovered}
-use Rattle.checker.specs.Good.{is_covered}
+use Rattle.checker.specs.Good.{is_row_of}
 use Rattle.checker.specs.Verdict.{verdict}
 use Rattle.checker.specs.Change.{lost_id, unless_lost, unless_old, unless_new, keeps_covered, LostIsLeast}
 use Rattle.checker.proofs.Places.{far}
@@ -62,21 +62,21 @@ not_before_itself : (id : Id) → is_lt (id_cmp id id) ≡ false
 not_before_itself id = grind (arith, nat_tests)
 
 -- it is covered by the old rows, and not by the new ones
-is_lost : (old new : List Row) (id : Id) → lost_id old new ≡ Some id → (is_covered old id ≡ true) × (is_covered new id ≡ false)
+is_lost : (old new : List Row) (id : Id) → lost_id old new ≡ Some id → (is_row_of old id ≡ true) × (is_row_of new id ≡ false)
 is_lost [] new id e = absurd cc
-is_lost (row ∷ old) new id e = by (is_lost old new id) (is_covered new row.id) refl e where
-  by : (lost_id old new ≡ Some id → (is_covered old id ≡ true) × (is_covered new id ≡ false)) → (covered : Bool) → is_covered new row.id ≡ covered → cond covered (lost_id old new) (Some row.id) ≡ Some id → (is_covered (row ∷ old) id ≡ true) × (is_covered new id ≡ false)
+is_lost (row ∷ old) new id e = by (is_lost old new id) (is_row_of new row.id) refl e where
+  by : (lost_id old new ≡ Some id → (is_row_of old id ≡ true) × (is_row_of new id ≡ false)) → (covered : Bool) → is_row_of new row.id ≡ covered → cond covered (lost_id old new) (Some row.id) ≡ Some id → (is_row_of (row ∷ old) id ≡ true) × (is_row_of new id ≡ false)
   by others true there e = let later = others e in (among_others (id_eq row.id id) row (row_among old id) later.0, later.1)
   by others false there e =
       let same = same_Some row.id id e in
-      (subst (λ (i : Id). is_covered (row ∷ old) i ≡ true) same (ap (λ (b : Bool). is_some (cond b (Some row) (row_among old row.id))) (id_eq_refl row.id)), subst (λ (i : Id). is_covered new i ≡ false) same there)
+      (subst (λ (i : Id). is_row_of (row ∷ old) i ≡ true) same (ap (λ (b : Bool). is_some (cond b (Some row) (row_among old row.id))) (id_eq_refl row.id)), subst (λ (i : Id). is_row_of new i ≡ false) same there)
 
 -- and no such id is before it
-none_before : (old new : List Row) (id other : Id) → AreRows old → lost_id old new ≡ Some id → is_covered old other ≡ true → is_covered new other ≡ false → is_lt (id_cmp other id) ≡ false
+none_before : (old new : List Row) (id other : Id) → AreRows old → lost_id old new ≡ Some id → is_row_of old other ≡ true → is_row_of new other ≡ false → is_lt (id_cmp other id) ≡ false
 none_before [] new id other are e covered lost = absurd cc
-none_before (row ∷ old) new id other are e covered lost = by (none_before old new id other (others row old are)) (is_covered new row.id) refl e (covered_by (id_eq row.id other) row (row_among old other) covered) where
-  by : (lost_id old new ≡ Some id → is_covered old other ≡ true → is_covered new other ≡ false → is_lt (id_cmp other id) ≡ false) → (kept : Bool) → is_covered new row.id ≡ kept → cond kept (lost_id old new) (Some row.id) ≡ Some id → (id_eq row.id other ≡ true) ⊎ (is_some (row_among old other) ≡ true) → is_lt (id_cmp other id) ≡ false
-  by below true there e (inl same) = absurd (clash (is_covered new other) (ap (is_covered new) (sym (id_eq_same row.id other same)) ∙ there) lost)
+none_before (row ∷ old) new id other are e covered lost = by (none_before old new id other (others row old are)) (is_row_of new row.id) refl e (covered_by (id_eq row.id other) row (row_among old other) covered) where
+  by : (lost_id old new ≡ Some id → is_row_of old other ≡ true → is_row_of new other ≡ false → is_lt (id_cmp other id) ≡ false) → (kept : Bool) → is_row_of new row.id ≡ kept → cond kept (lost_id old new) (Some row.id) ≡ Some id → (id_eq row.id other ≡ true) ⊎ (is_some (row_among old other) ≡ true) → is_lt (id_cmp other id) ≡ false
+  by below true there e (inl same) = absurd (clash (is_row_of new other) (ap (is_row_of new) (sym (id_eq_same row.id other same)) ∙ there) lost)
   by below true there e (inr later) = below e later lost
   by below false there e (inl same) = ap (λ (i : Id). is_lt (id_cmp other i)) (sym (same_Some row.id id e) ∙ id_eq_same row.id other same) ∙ not_before_itself other
   by below false there e (inr later) =

@@ -14,7 +14,7 @@ use Rattle.page_ids.specs.IdLaws.{id_cmp_total}
 use Rattle.frame_records.proofs.Finds.{find_first, find_none}
 use Rattle.cert_table.specs.declared.row.Row.{Row}
 use Rattle.cert_table.specs.Table.{AreRows}
-use Rattle.checker.specs.Good.{is_covered}
+use Rattle.checker.specs.Good.{is_row_of}
 use Rattle.checker.specs.Change.{lost_id}
 use Rattle.checker.specs.Loops.{AreBelow, IsPlaceOf}
 use Rattle.checker.proofs.RowsInTurn.{drop_at}
@@ -59,19 +59,19 @@ module _ (rows : List Row) (id : Id) (at : ℕ) (below : AreBelow rows at id) wh
 
 -- the row at an id's place is the id's, or no row is
 module _ (rows : List Row) (are : AreRows rows) (id : Id) (at : ℕ) (place : IsPlaceOf rows id at) where
-  pub not_covered : ((d : Row) → at < length rows → id_eq (get_or rows at d).id id ≡ false) → is_covered rows id ≡ false
+  pub not_covered : ((d : Row) → at < length rows → id_eq (get_or rows at d).id id ≡ false) → is_row_of rows id ≡ false
   not_covered other =
       ap is_some (find_none (λ (r : Row). id_eq r.id id) rows (λ k d lt. elim (cases_lt k at) [
         | inl before ↦ less_apart (get_or rows k d).id id (place.below k d before lt)
         | inr behind ↦ other_after (get_or rows at d).id (get_or rows k d).id id (place.here d (omega (arith, behind, lt))) (other d (omega (arith, behind, lt))) (far rows are at k d behind lt)
       ]))
 
-  pub covered_is : (row : Row) → slice_get rows at ≡ Some row → id_eq row.id id ≡ is_covered rows id
+  pub covered_is : (row : Row) → slice_get rows at ≡ Some row → id_eq row.id id ≡ is_row_of rows id
   covered_is row here = by (id_eq row.id id) refl where
     within : at < length rows
     within = slice_get_within rows at row here
 
-    by : (same : Bool) → id_eq row.id id ≡ same → same ≡ is_covered rows id
+    by : (same : Bool) → id_eq row.id id ≡ same → same ≡ is_row_of rows id
     by true e =
         sym (ap is_some (find_first (λ (r : Row). id_eq r.id id) rows at row within (get_or_from_slice_get rows at row row here) e (λ k before. less_apart (get_or rows k row).id id (place.below k row before (omega (arith, before, within))))))
     by false e = sym (not_covered (λ d lt. ap (λ (r : Row). id_eq r.id id) (get_or_from_slice_get rows at row d here) ∙ e))
@@ -94,13 +94,13 @@ module _ (old new : List Row) (are : AreRows old) (i : ℕ) (row : Row) (here : 
   pub below_row : (at : ℕ) → AreBeside old new i at → AreBelow new at row.id
   below_row at beside = subst (λ (r : Row). AreBelow new at r.id) (row_is row) (beside.below i row (omega arith) within_old)
 
-  pub is_lost : is_covered new row.id ≡ false → lost_id (drop i old) new ≡ Some row.id
+  pub is_lost : is_row_of new row.id ≡ false → lost_id (drop i old) new ≡ Some row.id
   is_lost none = ap (λ (rows : List Row). lost_id rows new) (drop_at old i row here) ∙ ap (λ (b : Bool). cond b (lost_id (drop (i + 1) old) new) (Some row.id)) none
 
-  is_kept : is_covered new row.id ≡ true → lost_id (drop i old) new ≡ lost_id (drop (i + 1) old) new
+  is_kept : is_row_of new row.id ≡ true → lost_id (drop i old) new ≡ lost_id (drop (i + 1) old) new
   is_kept some = ap (λ (rows : List Row). lost_id rows new) (drop_at old i row here) ∙ ap (λ (b : Bool). cond b (lost_id (drop (i + 1) old) new) (Some row.id)) some
 
-  pub beside_next : (at next : ℕ) → AreBeside old new i at → is_covered new row.id ≡ true → IsPlaceOf new row.id next → AreBeside old new (i + 1) next
+  pub beside_next : (at next : ℕ) → AreBeside old new i at → is_row_of new row.id ≡ true → IsPlaceOf new row.id next → AreBeside old new (i + 1) next
   beside_next at next beside covered place = record {
     right = sym (is_kept covered) ∙ beside.right;
     below = λ j d le lt k e before within.

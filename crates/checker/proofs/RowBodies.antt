@@ -5,7 +5,7 @@ use Rattle.std.proofs.lemmas.Bool.Decides.{nat_tests}
 use Rattle.std.proofs.lemmas.List.{nil_from_length}
 use Rattle.frame_records.specs.declared.frame.Lead.{Lead}
 use Rattle.frame_records.specs.declared.frame.Lead.TheVariants.{Clear, Keep}
-use Rattle.base_text.specs.Rows.{is_row_code, are_row_codes, IsRow, rows_bytes, body_of_rows}
+use Rattle.base_text.specs.Rows.{is_row_code, are_row_codes, IsTextRow, rows_bytes, body_of_rows}
 use Rattle.terminal_codes.specs.Writes.{is_service}
 use Rattle.abstract_paint.specs.declared.cursor.AbsCursor.{AbsCursor}
 use Rattle.abstract_paint.specs.declared.cursor.Place.TheVariants.{Spot}
@@ -86,7 +86,7 @@ row_touches true row rest p i h f = rw append_assoc (codes_touch row (13 ∷ 10 
 row_touches false row rest p i h f = codes_touch row rest p i h f
 
 -- the 22nd row
-last_row : (row : List ℕ) (i : ℕ) (d : Bool) → IsRow row → codes_fit 880 row ≡ not d → Comes d (calm (Spot 920)) (paint_from (calm (Spot 880)) i (rows_bytes (row ∷ [])))
+last_row : (row : List ℕ) (i : ℕ) (d : Bool) → IsTextRow row → codes_fit 880 row ≡ not d → Comes d (calm (Spot 920)) (paint_from (calm (Spot 880)) i (rows_bytes (row ∷ [])))
 last_row row i true is f = row_touches (ltb (length row) 40) row [] 880 i is.1 f
 last_row row i false is f = (one_row (ltb (length row) 40) row [] 22 i refl is.0 f (omega arith)).1
 
@@ -94,14 +94,14 @@ last_row row i false is f = (one_row (ltb (length row) 40) row [] 22 i refl is.0
 abbrev Paints : ℕ → ℕ → List (List ℕ) → Type 0
 Paints k i rows = Comes (has_double_height (get_or rows (22 - k) [])) (calm (Spot (40 * (k + length rows)))) (paint_from (calm (Spot (40 * k))) i (rows_bytes rows))
 
-only_row : (row : List ℕ) (rows : List (List ℕ)) (i : ℕ) → IsRow row → length rows ≡ 0 → Paints 22 i (row ∷ rows)
+only_row : (row : List ℕ) (rows : List (List ℕ)) (i : ℕ) → IsTextRow row → length rows ≡ 0 → Paints 22 i (row ∷ rows)
 only_row row rows i is e = subst (λ (rs : List (List ℕ)). Paints 22 i (row ∷ rs)) (sym (nil_from_length rows e)) (last_row row i (has_double_height row) is (fits_22 880 row is.1 (omega arith) (omega (arith, is.0))))
 
 comes_by : (d : Bool) (x y : AbsCursor) (p q : Painted) → x ≡ y → p ≡ q → Comes d x q → Comes d y p
 comes_by true x y p q e f h = (h.0, f ∙ h.1)
 comes_by false x y p q e f h = f ∙ h ∙ ap Clean e
 
-all_rows : (rows : List (List ℕ)) (k i : ℕ) → AllByRecursion IsRow rows → 1 ≤ k → k + length rows ≤ 23 → Paints k i rows
+all_rows : (rows : List (List ℕ)) (k i : ℕ) → AllByRecursion IsTextRow rows → 1 ≤ k → k + length rows ≤ 23 → Paints k i rows
 all_rows [] k i are lo hi = ap (λ (n : ℕ). Clean (calm (Spot (40 * n)))) (add_none k) where
   add_none : (k : ℕ) → k ≡ k + 0
   add_none k = omega arith
@@ -120,7 +120,7 @@ all_rows (row ∷ rows) k i are lo hi = by_place (λ j. all_rows rows (k + 1) j 
       subst (λ (n : ℕ). Paints n i (row ∷ rows)) (sym is) (only_row row rows i are.0 (omega arith))
 
 -- the body of rows ends below the last of them, or touches
-painted : (lead : Lead) (rows : List (List ℕ)) → length rows ≤ 22 → AllByRecursion IsRow rows → Comes (has_double_height (row_22 rows)) (calm (Spot (40 * (1 + length rows)))) (paint_of lead (body_of_rows rows))
+painted : (lead : Lead) (rows : List (List ℕ)) → length rows ≤ 22 → AllByRecursion IsTextRow rows → Comes (has_double_height (row_22 rows)) (calm (Spot (40 * (1 + length rows)))) (paint_of lead (body_of_rows rows))
 painted Clear rows few are = all_rows rows 1 2 are (omega arith) (omega arith)
 painted Keep rows few are = all_rows rows 1 2 are (omega arith) (omega arith)
 

@@ -25,7 +25,7 @@ use Rattle.session_machine.specs.Runs.{state_after, replies_to, Regains, LeftOrR
 use Rattle.cert_table.specs.declared.row.Row.{Row}
 use Rattle.cert_table.specs.Table.{row_among, CertView}
 use Rattle.checker.specs.declared.policy.Policy.{Policy}
-use Rattle.checker.specs.Good.{Good, IsGoodRow, LeadsOn, is_covered}
+use Rattle.checker.specs.Good.{Good, IsGoodRow, LeadsOn, is_row_of}
 use Rattle.checker.specs.Safe.{Safe, HasRows, IsCleanAt, IsCleanReply}
 
 pub some_there : {A : Type 0} (o : Option A) → is_some o ≡ true → (x : A) × (o ≡ Some x)
@@ -63,7 +63,7 @@ module _ (base : BaseView) (policy : Policy) (cert : CertView) (apart : AreApart
       let r = row_is (λ r. IsGoodRow cert.groups base cert r.id r.rank r.cursor) cert.rows id row good.rows e in
       subst (λ (i : Id). IsGoodRow cert.groups base cert i row.rank row.cursor) r.1 r.0
 
-  good_row : (id : Id) → is_covered cert.rows id ≡ true → (row : Row) × IsGoodRow cert.groups base cert id row.rank row.cursor
+  good_row : (id : Id) → is_row_of cert.rows id ≡ true → (row : Row) × IsGoodRow cert.groups base cert id row.rank row.cursor
   good_row id h = let r = some_there (row_among cert.rows id) h in (r.0, row_at id r.0 r.1)
 
   -- a covered frame is found at a fair price, and is clean
@@ -76,11 +76,11 @@ module _ (base : BaseView) (policy : Policy) (cert : CertView) (apart : AreApart
   pub found_at : (id : Id) (row : Row) → IsGoodRow cert.groups base cert id row.rank row.cursor → IsFound id
   found_at id row g = record { price = g.frame.price; found = rw (g.found, g.admitted) refl; fair = g.price; clean = record { frame = g.frame; found = g.found; clean = g.clean } }
 
-  pub covered_found : (id : Id) → is_covered cert.rows id ≡ true → IsFound id
+  pub covered_found : (id : Id) → is_row_of cert.rows id ≡ true → IsFound id
   covered_found id h = let g = good_row id h in found_at id g.0 g.1
 
-  remembers : (id : Id) (remembered : List Id) → HasRows cert.rows (At id remembered) → AllByRecursion (λ r. is_covered cert.rows r ≡ true) (remember id remembered)
-  remembers id remembered h = all_take (λ r. is_covered cert.rows r ≡ true) 3 (id ∷ remembered) h
+  remembers : (id : Id) (remembered : List Id) → HasRows cert.rows (At id remembered) → AllByRecursion (λ r. is_row_of cert.rows r ≡ true) (remember id remembered)
+  remembers id remembered h = all_take (λ r. is_row_of cert.rows r ≡ true) 3 (id ∷ remembered) h
 
   same : (id : Id) (remembered : List Id) → HasRows cert.rows (At id remembered) → Kept base cert (At id remembered, reply.NotOffered)
   same id remembered h = record { rows = h; fair = tt; clean = tt }
@@ -90,7 +90,7 @@ module _ (base : BaseView) (policy : Policy) (cert : CertView) (apart : AreApart
       let g = (good_row id h.0).1 in
       offered g.frame g.found (led.sought g.frame way) refl (λ to e. g.ways way to e) where
         -- a frame that is found
-        shown : (to : Id) → is_covered cert.rows to ≡ true → Kept base cert (by_way id remembered (sought_by base way to (seek cert.groups base to)))
+        shown : (to : Id) → is_row_of cert.rows to ≡ true → Kept base cert (by_way id remembered (sought_by base way to (seek cert.groups base to)))
         shown to cov =
             let f = covered_found to cov in
             subst (λ (x : Sought). Kept base cert (by_way id remembered (sought_by base way to x))) (sym f.found) (record { rows = (cov, remembers id remembered h); fair = f.fair; clean = f.clean })

@@ -10,7 +10,7 @@ use Rattle.checker.specs.declared.verdict.Verdict.{Verdict}
 use Rattle.checker.specs.declared.verdict.Verdict.TheVariants as verdicts
 use Rattle.checker.specs.declared.change.ChangeVerdict.{ChangeVerdict}
 use Rattle.checker.specs.declared.change.ChangeVerdict.TheVariants.{Cleared, Old, New, EntryMoved, NoLongerCovered}
-use Rattle.checker.specs.Good.{is_covered}
+use Rattle.checker.specs.Good.{is_row_of}
 use Rattle.checker.specs.Verdict.{verdict}
 use Rattle.std.specs.List.{AllByRecursion}
 use Rattle.page_ids.specs.declared.key.Key.{Key}
@@ -26,7 +26,7 @@ use Rattle.checker.specs.Safe.{Safe, IsCleanReply, HasRows}
 -- smallest (`LostIsLeast`)
 abbrev pub lost_id : List Row → List Row → Option Id
 lost_id [] new = None
-lost_id (row ∷ old) new = if is_covered new row.id then lost_id old new else Some row.id
+lost_id (row ∷ old) new = if is_row_of new row.id then lost_id old new else Some row.id
 
 -- E2
 abbrev pub unless_lost : Option Id → ChangeVerdict
@@ -58,9 +58,9 @@ change_verdict policy old old_cert new new_cert =
 
 -- the smallest id with a row in the old table and none in the new one
 pub record IsLeastLost (old new : List Row) (id : Id) : Type 0 where
-  pub covered : is_covered old id ≡ true
-  pub lost : is_covered new id ≡ false
-  pub least : (other : Id) → is_covered old other ≡ true → is_covered new other ≡ false → is_lt (id_cmp other id) ≡ false
+  pub covered : is_row_of old id ≡ true
+  pub lost : is_row_of new id ≡ false
+  pub least : (other : Id) → is_row_of old other ≡ true → is_row_of new other ≡ false → is_lt (id_cmp other id) ≡ false
 
 -- E2 names the smallest lost id. The premise is what every cover keeps: rows are in the order of their ids
 abbrev pub LostIsLeast : Type 0
@@ -78,9 +78,9 @@ abbrev pub edition : BaseView → CertView → List Key → Edition
 edition base cert keys = record { base = base; cert = cert; keys = keys }
 
 -- editions in turn as a session's parts
-abbrev pub parts_of : List Edition → List Part
-parts_of [] = []
-parts_of (e ∷ editions) = record { base = e.base; keys = e.keys } ∷ parts_of editions
+abbrev pub session_parts : List Edition → List Part
+session_parts [] = []
+session_parts (e ∷ editions) = record { base = e.base; keys = e.keys } ∷ session_parts editions
 
 -- the frame is sought and found, at no more than the ceiling
 pub record IsFoundFor (caller : List ℕ) (base : BaseView) (ceiling : ℕ) (id : Id) : Type 0 where
@@ -122,8 +122,8 @@ last_rows e (f ∷ editions) = last_rows f editions
 -- price above the policy's ceiling; at the end the caller left, or all frames held have rows in the last certificate
 pub record HoldsOverChanges (policy : Policy) (state : SessionState) (first : Edition) (more : List Edition) : Type 0 where
   pub each : AreSafeInTurn policy.groups state (first ∷ more)
-  pub fair : AllByRecursion (IsFairReply policy.ceiling) (replies_over policy.groups state (parts_of (first ∷ more)))
-  pub rows : HasRows (last_rows first more) (state_over policy.groups state (parts_of (first ∷ more)))
+  pub fair : AllByRecursion (IsFairReply policy.ceiling) (replies_over policy.groups state (session_parts (first ∷ more)))
+  pub rows : HasRows (last_rows first more) (state_over policy.groups state (session_parts (first ∷ more)))
 
 -- over editions in turn: the frames of the state in which a session of the first edition opens have rows in its certificate;
 -- and the promise over the changes holds from every state that left or whose frames all have rows there

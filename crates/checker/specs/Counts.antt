@@ -14,7 +14,7 @@ use Rattle.cert_table.specs.Table.{CertView}
 use Rattle.checker.specs.declared.policy.Policy.{Policy}
 use Rattle.checker.specs.declared.verdict.Cause.{Cause}
 use Rattle.checker.specs.Conditions.{◌then◌}
-use Rattle.checker.specs.Good.{is_covered}
+use Rattle.checker.specs.Good.{is_row_of}
 use Rattle.checker.specs.Verdict.{on_terms, on_head, on_frame, on_painting, on_row}
 use Rattle.std.specs.Int.{from_bool}
 use Rattle.checker.specs.declared.count.Count.{Count}
@@ -49,7 +49,7 @@ outside_compared base Next page = 0
 -- what is compared for the frame that a way seeks: rows, and outside pages if it has no row
 abbrev pub offered_compared : (List Row → Id → ℕ) → BaseView → List Row → Way → Option Id → ℕ
 offered_compared compared base rows way None = 0
-offered_compared compared base rows way (Some to) = compared rows to + (if is_covered rows to then 0 else outside_compared base way to.page)
+offered_compared compared base rows way (Some to) = compared rows to + (if is_row_of rows to then 0 else outside_compared base way to.page)
 
 -- what is compared for a way of a frame
 abbrev pub way_compared : (List Row → Id → ℕ) → BaseView → List Row → Frame → Way → ℕ
@@ -76,18 +76,18 @@ abbrev pub row_steps : List ℕ → BaseView → CertView → Row → ℕ
 row_steps caller base cert row = found_steps caller cert row (frame_at base row.id)
 
 -- the rest, unless there was a fault
-abbrev pub unless_fault : Option Cause → List Row → List Row
-unless_fault None rows = rows
-unless_fault (Some c) rows = []
+abbrev pub rows_unless_fault : Option Cause → List Row → List Row
+rows_unless_fault None rows = rows
+rows_unless_fault (Some c) rows = []
 
 -- the rows that are judged: up to and with the first at fault
-abbrev pub judged : List ℕ → BaseView → CertView → List Row → List Row
-judged caller base cert [] = []
-judged caller base cert (row ∷ rows) = row ∷ unless_fault (on_row caller base cert row).first_cause (judged caller base cert rows)
+abbrev pub rows_judged : List ℕ → BaseView → CertView → List Row → List Row
+rows_judged caller base cert [] = []
+rows_judged caller base cert (row ∷ rows) = row ∷ rows_unless_fault (on_row caller base cert row).first_cause (rows_judged caller base cert rows)
 
 -- those that a check judges: none if K1 to K3, K15 or K4 refuse the certificate
 abbrev pub judged_rows : BaseView → Policy → CertView → List Row
-judged_rows base policy cert = unless_fault (on_head base policy cert).first_cause (judged cert.groups base cert cert.rows)
+judged_rows base policy cert = rows_unless_fault (on_head base policy cert).first_cause (rows_judged cert.groups base cert cert.rows)
 
 -- how many entries a check compares: rows with the entry frame's id, and what each row takes that it judges
 abbrev pub probes_of : (List Row → Id → ℕ) → BaseView → Policy → CertView → ℕ

@@ -16,13 +16,13 @@ use Rattle.cert_table.specs.Table.{row_among, CertView}
 use Rattle.checker.specs.declared.policy.Policy.{Policy}
 
 -- the id has a row
-abbrev pub is_covered : List Row → Id → Bool
-is_covered rows id = is_some (row_among rows id)
+abbrev pub is_row_of : List Row → Id → Bool
+is_row_of rows id = is_some (row_among rows id)
 
 -- the frame that a way seeks has a row; a route may also lead to an outside page
 abbrev pub LeadsOn : BaseView → List Row → Way → Id → Type 0
-LeadsOn base rows (Route digit) to = (lists_outside base to.page ≡ true) ⊎ (is_covered rows to ≡ true)
-LeadsOn base rows Next to = is_covered rows to ≡ true
+LeadsOn base rows (Route digit) to = (lists_outside base to.page ≡ true) ⊎ (is_row_of rows to ≡ true)
+LeadsOn base rows Next to = is_row_of rows to ≡ true
 
 -- each way that the frame offers leads on
 abbrev pub WaysLeadOn : BaseView → List Row → Frame → Type 0
@@ -59,5 +59,5 @@ pub record Good (base : BaseView) (policy : Policy) (cert : CertView) : Type 0 w
   pub ceiling : cert.ceiling ≤ policy.ceiling
   pub keyings : cert.keyings ≤ policy.keyings
   pub groups : policy.groups ≡ cert.groups
-  pub covered : is_covered cert.rows (entry_of base) ≡ true
+  pub covered : is_row_of cert.rows (entry_of base) ≡ true
   pub rows : AllByRecursion (λ r. IsGoodRow cert.groups base cert r.id r.rank r.cursor) cert.rows

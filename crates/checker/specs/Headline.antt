@@ -8,7 +8,7 @@ use Rattle.cert_table.specs.Table.{CertView}
 use Rattle.cert_text.specs.declared.fault.ReadFault.{ReadFault}
 use Rattle.cert_text.specs.declared.fault.ReadFault.TheVariants as read
 use Rattle.cert_text.specs.Grammar.{IsCertificateText}
-use Rattle.cert_text.specs.Reading.{cert_fault}
+use Rattle.cert_text.specs.Reading.{certificate_fault}
 use Rattle.checker.specs.declared.policy.Policy.{Policy}
 use Rattle.checker.specs.declared.verdict.Verdict.{Verdict}
 use Rattle.checker.specs.declared.bytes.InputFault.{InputFault}
@@ -23,7 +23,7 @@ pub record IsBaseRefused (text : List ℕ) (fault : BaseFault) : Type 0 where
 
 -- the certificate text's first line at fault, with its cause
 abbrev pub IsCertRefused : List ℕ → ReadFault → Type 0
-IsCertRefused text (read.Line number cause) = cert_fault text ≡ Some (number, cause)
+IsCertRefused text (read.Line number cause) = certificate_fault text ≡ Some (number, cause)
 IsCertRefused text read.Failed = ⊥
 IsCertRefused text read.Memory = ⊥
 

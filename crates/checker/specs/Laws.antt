@@ -13,7 +13,7 @@ use Rattle.checker.specs.Safe.{Safe, HasRows}
 use Rattle.checker.specs.Verdict.{conditions, verdict}
 use Rattle.std.specs.List.{AllByRecursion, list_any}
 use Rattle.frame_records.specs.declared.frame.Lead.{Lead}
-use Rattle.base_text.specs.Rows.{IsRow, body_of_rows}
+use Rattle.base_text.specs.Rows.{IsTextRow, body_of_rows}
 use Rattle.terminal_codes.specs.Bodies.{IsClean}
 use Rattle.terminal_codes.specs.Writes.{is_double_height}
 
@@ -48,5 +48,5 @@ abbrev pub RowsAreClean : Type 0
 RowsAreClean =
     (lead : Lead) (rows : List (List ℕ)) →
     length rows ≤ 22 →
-    AllByRecursion IsRow rows →
+    AllByRecursion IsTextRow rows →
     IsClean lead (body_of_rows rows) ↔ (has_double_height (row_22 rows) ≡ false)

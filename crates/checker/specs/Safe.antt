@@ -12,7 +12,7 @@ use Rattle.session_machine.specs.Sessions.{SessionState, At, Left, opening}
 use Rattle.frame_records.specs.Seek.{entry_of}
 use Rattle.session_machine.specs.Runs.{replies_to, SafeSession}
 use Rattle.cert_table.specs.declared.row.Row.{Row}
-use Rattle.checker.specs.Good.{is_covered}
+use Rattle.checker.specs.Good.{is_row_of}
 
 -- the base has the frame, and from no state of the terminal its body writes what counts as written in a service row
 pub record IsCleanAt (base : BaseView) (id : Id) : Type 0 where
@@ -38,5 +38,5 @@ pub record Safe (caller : List ℕ) (base : BaseView) (ceiling keyings : ℕ) : 
 
 -- the present frame and each remembered one have rows
 abbrev pub HasRows : List Row → SessionState → Type 0
-HasRows rows (At id remembered) = (is_covered rows id ≡ true) × AllByRecursion (λ r. is_covered rows r ≡ true) remembered
+HasRows rows (At id remembered) = (is_row_of rows id ≡ true) × AllByRecursion (λ r. is_row_of rows r ≡ true) remembered
 HasRows rows (Left page) = Unit {0}

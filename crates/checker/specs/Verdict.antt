@@ -27,7 +27,7 @@ use Rattle.checker.specs.declared.verdict.Cause.TheVariants as cause
 use Rattle.checker.specs.declared.verdict.Verdict.{Verdict}
 use Rattle.checker.specs.declared.verdict.Verdict.TheVariants as verdicts
 use Rattle.checker.specs.Conditions.{Condition, decided, must, must_pass, must_if, at_most, ◌then◌, each}
-use Rattle.checker.specs.Good.{is_covered, LeadsOn, LeadsDown}
+use Rattle.checker.specs.Good.{is_row_of, LeadsOn, LeadsDown}
 
 -- the same cursor, as a test
 abbrev pub same_place : Place → Place → Bool
@@ -47,8 +47,8 @@ same_cursor x y = same_place x.place y.place && same_pend x.pend y.pend
 
 -- the frame that a way seeks has a row; a route may also lead to an outside page
 abbrev pub goes_on : BaseView → List Row → Way → Id → Bool
-goes_on base rows (Route digit) to = lists_outside base to.page || is_covered rows to
-goes_on base rows Next to = is_covered rows to
+goes_on base rows (Route digit) to = lists_outside base to.page || is_row_of rows to
+goes_on base rows Next to = is_row_of rows to
 
 abbrev pub offered_on : BaseView → List Row → Way → Option Id → Bool
 offered_on base rows way None = true
@@ -89,7 +89,7 @@ on_terms base policy cert =
 
 -- those, and K4
 abbrev pub on_head : BaseView → Policy → CertView → Condition
-on_head base policy cert = on_terms base policy cert then must_pass (is_covered cert.rows (entry_of base)) cause.EntryNotCovered
+on_head base policy cert = on_terms base policy cert then must_pass (is_row_of cert.rows (entry_of base)) cause.EntryNotCovered
 
 -- K6, K7 and K8: the frame by itself
 abbrev pub on_frame : List ℕ → CertView → Row → Frame → Condition

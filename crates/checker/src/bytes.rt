@@ -4,7 +4,7 @@ ghost use Rattle.checker.specs.Headline.{IsBaseInput, IsCertInput, IsChecked, He
 use crate::judge::check;
 use crate::policy::Policy;
 use crate::verdict::Verdict;
-use base_text::{BaseFault, BaseCause, base_read};
+use base_text::{BaseCause, BaseFault, base_read};
 use cert_table::Certificate;
 use cert_text::{ReadFault, cert_read};
 use frame_records::Base;

@@ -3,7 +3,7 @@ ghost use Rattle.page_ids.specs.Ids.{Id};
 ghost use Rattle.frame_records.specs.Bases.{IsBase};
 ghost use Rattle.cert_table.specs.Table.{AreRows};
 ghost use Rattle.checker.specs.Change.{lost_id, change_verdict, IsLeastLost, IsSafeChange};
-ghost use Rattle.checker.specs.Good.{is_covered};
+ghost use Rattle.checker.specs.Good.{is_row_of};
 ghost use Rattle.checker.specs.Loops.{AreBelow, IsPlaceOf};
 
 use crate::judge::check;
@@ -44,7 +44,7 @@ fn place_from<C: Cover + Drop>(rows: &C, from: usize, id: FrameId) -> usize
 // Whether an id has a row, by its place.
 fn has_row_at<C: Cover + Drop>(rows: &C, at: usize, id: FrameId) -> bool
     requires { IsPlaceOf (C.rows rows.now) id at }
-    ensures { result ≡ is_covered (C.rows rows.now) id }
+    ensures { result ≡ is_row_of (C.rows rows.now) id }
 {
     at < rows.len() && rows.row_at(at).id == id
 }

@@ -4,7 +4,7 @@ ghost use Rattle.frame_records.specs.Bases.{IsBase};
 ghost use Rattle.frame_records.specs.Seek.{entry_of};
 ghost use Rattle.cert_table.specs.declared.limits.TheConstants.{MOST_ROWS};
 ghost use Rattle.cert_table.specs.Table.{AreRows};
-ghost use Rattle.checker.specs.Counts.{IsCount, counted_if, is_entry_sought, is_painted, are_ways_sought, ways_compared, row_probes, row_steps, judged, probes_of, steps_of};
+ghost use Rattle.checker.specs.Counts.{IsCount, counted_if, is_entry_sought, is_painted, are_ways_sought, ways_compared, row_probes, row_steps, rows_judged, probes_of, steps_of};
 ghost use Rattle.page_ids.specs.declared.key.Key.{Key};
 ghost use Rattle.session_machine.specs.Sessions.{opening};
 ghost use Rattle.session_machine.specs.Runs.{state_after};
@@ -140,9 +140,9 @@ fn judge_rows<C: Cover + Drop>(base: &Base, cert: &Certificate<C>) -> (Option<Ca
     requires valid { IsBase base.now }
     ensures cause { result.0 ≡ (on_rows cert.now.groups base.now cert.now cert.now.rows).first_cause }
     ensures probes { result.1.probes ≡ sum_by (row_probes C.compared cert.now.groups base.now cert.now)
-        (judged cert.now.groups base.now cert.now cert.now.rows) }
+        (rows_judged cert.now.groups base.now cert.now cert.now.rows) }
     ensures steps { result.1.steps ≡ sum_by (row_steps cert.now.groups base.now cert.now)
-        (judged cert.now.groups base.now cert.now cert.now.rows) }
+        (rows_judged cert.now.groups base.now cert.now cert.now.rows) }
 {
     let cover = cert.cover();
     let mut total = Count {

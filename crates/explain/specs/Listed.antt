@@ -2,8 +2,8 @@
 use Rattle.std.specs.Prelude.{ℕ, List, [], ◌∷◌, codes}
 
 -- each word, in the order of the page
-abbrev pub listed : List (List ℕ)
-listed =
+abbrev pub listed_words : List (List ℕ)
+listed_words =
     codes "PBC1" ∷
     codes "entry" ∷
     codes "ceiling" ∷

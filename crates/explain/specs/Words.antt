@@ -1,7 +1,7 @@
 -- The words of a list, in any case of letters.
 use Rattle.std.specs.Prelude.{◌≡◌, ℕ, ◌<◌, List, [], length, map, get_or, ◌==◌, ◌&&◌, ◌||◌, Bool, true, false, ◌∷◌, if◌then◌else◌}
 use Rattle.std.specs.Char.{to_ascii_lowercase, is_ascii_digit}
-use Rattle.explain.specs.Listed.{listed}
+use Rattle.explain.specs.Listed.{listed_words}
 use Rattle.std.specs.List.{flat_map, slice_split}
 
 -- the letters of a text as small ones
@@ -18,7 +18,7 @@ IsAmong names word = (place : ℕ) × (place < length names) × IsSame (get_or n
 
 -- the word has a text
 abbrev pub IsListed : List ℕ → Type 0
-IsListed word = IsAmong listed word
+IsListed word = IsAmong listed_words word
 
 -- The form of a cursor, in any case of letters.
 
@@ -27,10 +27,10 @@ abbrev pub is_mark : ℕ → Bool
 is_mark b = (b == 43) || (b == 63)
 
 -- digits, and perhaps a mark after them
-abbrev pub is_end : List ℕ → Bool
-is_end [] = true
-is_end (b ∷ []) = is_mark b || is_ascii_digit b
-is_end (b ∷ c ∷ rest) = is_ascii_digit b && is_end (c ∷ rest)
+abbrev pub is_numbered_end : List ℕ → Bool
+is_numbered_end [] = true
+is_numbered_end (b ∷ []) = is_mark b || is_ascii_digit b
+is_numbered_end (b ∷ c ∷ rest) = is_ascii_digit b && is_numbered_end (c ∷ rest)
 
 -- c or s
 abbrev pub is_kind : ℕ → Bool
@@ -40,7 +40,7 @@ is_kind b = (to_ascii_lowercase b == 99) || (to_ascii_lowercase b == 115)
 abbrev pub is_numbered : List ℕ → Bool
 is_numbered [] = false
 is_numbered (b ∷ []) = false
-is_numbered (b ∷ c ∷ rest) = is_kind b && is_ascii_digit c && is_end rest
+is_numbered (b ∷ c ∷ rest) = is_kind b && is_ascii_digit c && is_numbered_end rest
 
 -- the three letters of any
 abbrev pub spells_any : ℕ → ℕ → ℕ → Bool

@@ -1,7 +1,7 @@
 //! The form of a cursor.
 
 ghost use Rattle.std.specs.Prelude.{◌≡◌, ◌&&◌, ◌||◌};
-ghost use Rattle.explain.specs.Words.{is_mark, is_end, is_kind, spells_any, is_numbered, is_any, is_cursor};
+ghost use Rattle.explain.specs.Words.{is_mark, is_numbered_end, is_kind, spells_any, is_numbered, is_any, is_cursor};
 
 // The mark of an escape that is pending, or may be.
 fn is_mark(byte: u8) -> bool
@@ -12,7 +12,7 @@ fn is_mark(byte: u8) -> bool
 
 // Digits, and perhaps a mark after them.
 fn is_end(bytes: &[u8]) -> bool
-    ensures { result ≡ is_end bytes.now }
+    ensures { result ≡ is_numbered_end bytes.now }
 {
     match bytes {
         [] => true,

@@ -3,7 +3,7 @@
 ghost use Rattle.std.specs.Prelude.{◌≡◌, IfOk, option_map};
 ghost use Rattle.std.specs.String.{string_bytes};
 ghost use Rattle.near_words.specs.Near.{nearest, IsNearest};
-ghost use Rattle.explain.specs.Listed.{listed};
+ghost use Rattle.explain.specs.Listed.{listed_words};
 ghost use Rattle.explain.specs.Words.{lower};
 ghost use Rattle.explain.specs.Loops.{texts_of};
 
@@ -46,10 +46,10 @@ fn nearest_among(
 #[tactic(auto, using(near_words::proofs::Nearest::found_is_nearest))]
 pub fn nearest(alloc: Global, word: &str) -> Result<Option<&'static str>, AllocError>
     ensures value { IfOk result (λ found.
-        option_map (λ name. name.now) found ≡ nearest lower (lower word.now) listed) }
+        option_map (λ name. name.now) found ≡ nearest lower (lower word.now) listed_words) }
     // No word of the list is nearer, and none before it is as near.
     ensures meaning { IfOk result (λ found.
-        IsNearest lower (lower word.now) listed (option_map (λ name. name.now) found)) }
+        IsNearest lower (lower word.now) listed_words (option_map (λ name. name.now) found)) }
 {
     nearest_among(alloc, words(), word)
 }

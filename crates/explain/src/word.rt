@@ -3,7 +3,7 @@
 ghost use Rattle.std.specs.Prelude.{◌≡◌, ◌↔◌, ◌⊎◌, true, IsSome};
 ghost use Rattle.explain.specs.declared.line.WordKind.TheVariants.{Any};
 ghost use Rattle.explain.specs.Lines.{HasWord};
-ghost use Rattle.explain.specs.Listed.{listed};
+ghost use Rattle.explain.specs.Listed.{listed_words};
 ghost use Rattle.explain.specs.Words.{is_cursor, names_in_lines, IsAmong, IsListed};
 ghost use Rattle.explain.specs.Loops.{texts_of};
 
@@ -13,7 +13,7 @@ use crate::pages::{CURSOR, OVERVIEW, WORDS, paragraphs_at};
 
 /// The words of the list.
 pub fn words() -> &'static [&'static str]
-    ensures { texts_of result.now ≡ listed }
+    ensures { texts_of result.now ≡ listed_words }
 {
     &WORDS
 }
@@ -32,7 +32,7 @@ fn place_among(words: &[&'static str], word: &str) -> Option<usize>
 
 // The place of a word of the list in a line: a code, else a word with a capital letter, else any.
 fn place_in_line(line: &str) -> Option<usize>
-    ensures { IsSome result ↔ HasWord Any listed line.now }
+    ensures { IsSome result ↔ HasWord Any listed_words line.now }
 {
     let bytes = line.as_bytes();
     if let Some(place) = first_word(WordKind::Code, words(), bytes) {
@@ -51,7 +51,7 @@ fn place_in_line(line: &str) -> Option<usize>
 /// in their own case, it is the text of one word: the first code, as K7, else the first word with a capital letter, else
 /// the first word.
 pub fn explanation(word: &str) -> Option<&'static [&'static str]>
-    ensures { IsSome result ↔ (IsListed word.now ⊎ ((is_cursor word.now ≡ true) ⊎ HasWord Any listed word.now)) }
+    ensures { IsSome result ↔ (IsListed word.now ⊎ ((is_cursor word.now ≡ true) ⊎ HasWord Any listed_words word.now)) }
 {
     match place_among(words(), word) {
         Some(place) => Some(paragraphs_at(place)),
@@ -62,7 +62,7 @@ pub fn explanation(word: &str) -> Option<&'static [&'static str]>
 
 /// All words, and a line for each text: its words and what they mean.
 pub fn overview() -> &'static str
-    ensures { names_in_lines result.now ≡ listed }
+    ensures { names_in_lines result.now ≡ listed_words }
 {
     OVERVIEW
 }

@@ -27,7 +27,7 @@ use Rattle.fault_scripts.specs.declared.fault.FaultKind.{FaultKind}
 use Rattle.fault_scripts.specs.declared.fault.FaultKind.TheVariants as kind
 use Rattle.fault_scripts.specs.declared.frame_fault.FrameFault.{FrameFault}
 use Rattle.fault_scripts.specs.declared.frame_fault.FrameFault.TheVariants.{Price, Touches, Missing, Closed, NoReturn}
-use Rattle.fault_scripts.specs.Faults.{KeyIsDue, IsDueAs, number_of, turn_of}
+use Rattle.fault_scripts.specs.Faults.{KeyIsDue, IsDueAs, key_number, turn_of}
 use Rattle.fault_scripts.specs.Loops.{fault_of, over_price, way_fault, is_far, return_fault}
 
 -- what is asked in each of 14 turns: the price, the painting, the ways in their order, the way back
@@ -39,13 +39,13 @@ asked base policy frame rank turn =
     else way_fault (way_at (turn - 2)) (destination_of policy.groups base frame (way_at (turn - 2)))
 
 -- the way at a place has the place's number, and so has a way's key
-number_at : (n : ℕ) → n < 11 → number_of (std.Some (way_key (way_at n))) ≡ n
+number_at : (n : ℕ) → n < 11 → key_number (std.Some (way_key (way_at n))) ≡ n
 number_at n lt = by (nat_lt n 10) refl where
-  by : (b : Bool) → nat_lt n 10 ≡ b → number_of (std.Some (way_key (cond b (Route n) Next))) ≡ n
+  by : (b : Bool) → nat_lt n 10 ≡ b → key_number (std.Some (way_key (cond b (Route n) Next))) ≡ n
   by true e = refl
   by false e = grind (arith, nat_tests)
 
-number_is : (w : Way) → number_of (std.Some (way_key w)) ≡ way_place w
+number_is : (w : Way) → key_number (std.Some (way_key w)) ≡ way_place w
 number_is (Route digit) = refl
 number_is Next = refl
 
@@ -142,13 +142,13 @@ module _ (base : BaseView) (policy : Policy) (id : Id) (frame : Frame) (at : fra
     pub in_turn : turn < 14
 
   -- the answer of a way
-  way_answer : (f : Fault) (k : FaultKind) (what : Id → Destination) (w : FrameFault) (d : KeyIsDue policy.groups base id keys f k what) → (what d.to ≡ way.NotOffered → ⊥) → way_fault d.through (what d.to) ≡ std.Some w → f ≡ fault w → IsAnswer (number_of f.key + 2) f
+  way_answer : (f : Fault) (k : FaultKind) (what : Id → Destination) (w : FrameFault) (d : KeyIsDue policy.groups base id keys f k what) → (what d.to ≡ way.NotOffered → ⊥) → way_fault d.through (what d.to) ≡ std.Some w → f ≡ fault w → IsAnswer (key_number f.key + 2) f
   way_answer f k what w d other yields is =
       let g = going policy.groups base id d.through (what d.to) d.comes_to other in
       let own : g.frame ≡ frame = same_Some g.frame frame (sym g.there ∙ at) in
       let p = offered_place g.frame d.through g.to g.offered in
       let n = way_place d.through in
-      let number : number_of f.key ≡ n = ap (λ (x : Fault). number_of x.key) d.is ∙ number_is d.through in
+      let number : key_number f.key ≡ n = ap (λ (x : Fault). key_number x.key) d.is ∙ number_is d.through in
       let there : destination_of policy.groups base frame d.through ≡ what d.to = sym (ap (destination_by policy.groups base d.through) at) ∙ d.comes_to in
       let here : answer (n + 2) ≡ std.Some w =
       asked_way base policy frame rank n p.0

@@ -20,7 +20,7 @@ use Rattle.cert_table.specs.declared.row.Row.{Row}
 use Rattle.cert_table.specs.Table.{AreRows, AreOnScreen, table_fault}
 use Rattle.cert_table.proofs.Tables.{no_fault}
 use Rattle.checker.specs.declared.policy.Policy.{Policy}
-use Rattle.checker.specs.Good.{is_covered}
+use Rattle.checker.specs.Good.{is_row_of}
 use Rattle.checker.proofs.Clears.{good_cleared}
 use Rattle.finder.specs.declared.found.Discovered.{Discovered}
 use Rattle.finder.specs.Finds.{IsFinding, IsDistance, EntryIsFound, IsReached}
@@ -112,7 +112,7 @@ module _ (base : BaseView) (policy : Policy) (found : List Discovered) (finding 
   first = reached_listed policy.groups base found finding (entry_of base) (record { steps = 0; entry = entry; walk = refl })
 
   -- a frame of the greatest price, and one of the greatest rank
-  top_price : (id : Id) × (frame : Frame) × (is_covered rows id ≡ true) × (frame_at base id ≡ Some frame) × (frame.price ≡ ceiling)
+  top_price : (id : Id) × (frame : Frame) × (is_row_of rows id ≡ true) × (frame_at base id ≡ Some frame) × (frame.price ≡ ceiling)
   top_price =
       let t = most_there (price_at base) found ceiling prices first.0 first.1 first.2 in
       let s = sound t.0 t.1 t.2 in

@@ -12,7 +12,7 @@ use Rattle.abstract_paint.specs.Paint.{paint_of}
 use Rattle.cert_table.specs.declared.row.Row.{Row}
 use Rattle.finder.specs.declared.found.Discovered.{Discovered}
 use Rattle.fault_scripts.specs.declared.table.GatheredRows.{GatheredRows}
-use Rattle.fault_scripts.specs.Loops.{row_of, row_by, row_at, price_at, rank_at, IsMost, IsGathered}
+use Rattle.fault_scripts.specs.Loops.{row_if_clean, row_by, row_at, price_at, rank_at, IsMost, IsGathered}
 use Rattle.finder.proofs.Lists.{all_at}
 use Rattle.fault_scripts.proofs.Lists.{place_of}
 
@@ -40,16 +40,16 @@ most_more values most value is =
 
 pub gathered_more : (base : BaseView) (frames : List Discovered) (d : Discovered) (frame : Frame) (old new : GatheredRows)
     → frame_at base d.id ≡ Some frame → IsGathered base frames old
-    → new.rows.items ≡ old.rows.items ++ row_of d.id d.rank (paint_of frame.lead frame.body)
+    → new.rows.items ≡ old.rows.items ++ row_if_clean d.id d.rank (paint_of frame.lead frame.body)
     → new.ceiling ≡ max old.ceiling frame.price → new.keyings ≡ max old.keyings (unwrap_or d.rank 0)
     → IsGathered base (frames ++ d ∷ []) new
 gathered_more base frames d frame old new at is rows ceiling keyings =
-    let row : row_at base d ≡ row_of d.id d.rank (paint_of frame.lead frame.body) = ap (row_by d) at in
+    let row : row_at base d ≡ row_if_clean d.id d.rank (paint_of frame.lead frame.body) = ap (row_by d) at in
     let price : price_at base d ≡ frame.price = ap (λ (o : Option Frame). unwrap_or (option_map (λ f. f.price) o) 0) at in
     record {
       rows =
           rows
-          ∙ ap (λ (r : List Row). r ++ row_of d.id d.rank (paint_of frame.lead frame.body)) is.rows
+          ∙ ap (λ (r : List Row). r ++ row_if_clean d.id d.rank (paint_of frame.lead frame.body)) is.rows
           ∙ ap (λ (r : List Row). flat_map (row_at base) frames ++ r) (sym row ∙ sym (append-nil (row_at base d)))
           ∙ sym (flat_map-append (row_at base) frames (d ∷ []));
       ceiling = subst (λ (v : List ℕ). IsMost v new.ceiling) (sym (map_push (price_at base) frames d)) (subst (IsMost (map (price_at base) frames ++ price_at base d ∷ [])) (ap (max old.ceiling) price ∙ sym ceiling) (most_more (map (price_at base) frames) old.ceiling (price_at base d) is.ceiling));

@@ -18,7 +18,7 @@ use Rattle.abstract_paint.proofs.Exact.{is_exact}
 use Rattle.cert_table.specs.declared.row.Row.{Row}
 use Rattle.cert_table.specs.Table.{row_among, CertView}
 use Rattle.checker.specs.declared.policy.Policy.{Policy}
-use Rattle.checker.specs.Good.{Good, IsGoodRow, LeadsDown, LeadsOn, is_covered}
+use Rattle.checker.specs.Good.{Good, IsGoodRow, LeadsDown, LeadsOn, is_row_of}
 use Rattle.finder.specs.declared.found.Discovered.{Discovered}
 use Rattle.finder.specs.Finds.{IsFinding, Walk, EntryIsFound, IsReached}
 use Rattle.fault_scripts.proofs.Discoveries.{reached_listed}
@@ -30,7 +30,7 @@ abbrev pub certificate : BaseView → ℕ → ℕ → List ℕ → List Row → 
 certificate base ceiling keyings groups rows = record { entry = base.entry; ceiling = ceiling; keyings = keyings; groups = groups; rows = rows }
 
 -- the id of a row is covered
-pub contained_covered : (rows : List Row) (row : Row) → Contains rows row → is_covered rows row.id ≡ true
+pub contained_covered : (rows : List Row) (row : Row) → Contains rows row → is_row_of rows row.id ≡ true
 contained_covered rows row h = by (row_among rows row.id) refl where
   by : (o : Option Row) → row_among rows row.id ≡ o → is_some o ≡ true
   by (Some r) e = refl
@@ -41,7 +41,7 @@ contained_covered rows row h = by (row_among rows row.id) refl where
       absurd cc
 
 -- the row of a covered id
-pub covered_row : (rows : List Row) (id : Id) → is_covered rows id ≡ true
+pub covered_row : (rows : List Row) (id : Id) → is_row_of rows id ≡ true
     → (row : Row) × (row_among rows id ≡ Some row) × Contains rows row × (row.id ≡ id)
 covered_row rows id h = by (row_among rows id) refl h where
   by : (o : Option Row) → row_among rows id ≡ o → is_some o ≡ true
@@ -84,11 +84,11 @@ module _ (base : BaseView) (policy : Policy) (found : List Discovered) (finding 
   row_there i d listed s = (same (row_with d.id s.rank s.cursor)).1 (row_in base policy found sound i d listed s)
 
   -- each reached frame is covered
-  pub reached_covered : (id : Id) → IsReached policy.groups base id → is_covered rows id ≡ true
+  pub reached_covered : (id : Id) → IsReached policy.groups base id → is_row_of rows id ≡ true
   reached_covered id reached =
       let l = reached_listed policy.groups base found finding id reached in
       let s = sound l.0 l.1 l.2 in
-      subst (λ (x : Id). is_covered rows x ≡ true) l.3 (contained_covered rows (row_with l.1.id s.rank s.cursor) (row_there l.0 l.1 l.2 s))
+      subst (λ (x : Id). is_row_of rows x ≡ true) l.3 (contained_covered rows (row_with l.1.id s.rank s.cursor) (row_there l.0 l.1 l.2 s))
 
   leads_reached : (id to : Id) (w : Way) → IsReached policy.groups base id → Leads policy.groups base id w to
       → IsReached policy.groups base to

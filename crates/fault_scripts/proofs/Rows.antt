@@ -13,7 +13,7 @@ use Rattle.abstract_paint.specs.Paint.{paint_of}
 use Rattle.cert_table.specs.declared.row.Row.{Row}
 use Rattle.checker.specs.declared.policy.Policy.{Policy}
 use Rattle.finder.specs.declared.found.Discovered.{Discovered}
-use Rattle.fault_scripts.specs.Loops.{row_of, row_by, row_at}
+use Rattle.fault_scripts.specs.Loops.{row_if_clean, row_by, row_at}
 use Rattle.finder.proofs.Lists.{at_within, at_contains}
 use Rattle.fault_scripts.proofs.Lists.{place_of}
 use Rattle.fault_scripts.proofs.Sound.{IsSound}
@@ -55,8 +55,8 @@ module _ (base : BaseView) (policy : Policy) (found : List Discovered) (sound : 
   one_row : (d : Discovered) (s : IsSound base policy d) → row_at base d ≡ row_with d.id s.rank s.cursor ∷ []
   one_row d s =
       ap (row_by d) s.of_frame
-      ∙ ap (λ (r : Option ℕ). row_of d.id r (paint_of s.frame.lead s.frame.body)) s.ranked
-      ∙ ap (row_of d.id (Some s.rank)) s.painted
+      ∙ ap (λ (r : Option ℕ). row_if_clean d.id r (paint_of s.frame.lead s.frame.body)) s.ranked
+      ∙ ap (row_if_clean d.id (Some s.rank)) s.painted
 
   own : (i : ℕ) (d : Discovered) → slice_get found i ≡ Some d → (row : Row) × (row_at base d ≡ row ∷ [])
   own i d at = let s = sound i d at in (row_with d.id s.rank s.cursor, one_row d s)

@@ -15,7 +15,7 @@ use Rattle.session_machine.specs.Sessions.{SessionState, At, Outcome, key_step, 
 use Rattle.session_machine.specs.Runs.{state_after, replies_to}
 use Rattle.session_machine.proofs.Runs.{state_in_turn, replies_in_turn}
 use Rattle.finder.specs.Finds.{KeysLead}
-use Rattle.fault_scripts.specs.Shows.{last_of}
+use Rattle.fault_scripts.specs.Shows.{final_reply}
 use Rattle.fault_scripts.proofs.Discoveries.{leads_found}
 
 -- a way's key does what its way does
@@ -30,7 +30,7 @@ pub record RunsTo (caller : List ℕ) (base : BaseView) (from : SessionState) (b
   pub price : ℕ
   pub found : seek caller base g ≡ sought.Found price
   pub state : state_after caller base from keys ≡ At g remembered
-  pub last : last_of before (replies_to caller base from keys) ≡ Shown g price
+  pub last : final_reply before (replies_to caller base from keys) ≡ Shown g price
 
 -- keys that lead from frame to frame
 pub keys_lead_run : (caller : List ℕ) (base : BaseView) (f g : Id) (remembered : List Id) (price : ℕ) (keys : List Key)
@@ -52,11 +52,11 @@ keys_lead_run caller base f g remembered price (key ∷ keys) way found =
       price = rest.price;
       found = rest.found;
       state = ap (λ (o : Outcome). state_after caller base o.0 keys) step ∙ rest.state;
-      last = ap (λ (o : Outcome). last_of o.1 (replies_to caller base o.0 keys)) step ∙ rest.last;
+      last = ap (λ (o : Outcome). final_reply o.1 (replies_to caller base o.0 keys)) step ∙ rest.last;
     }
 
 -- the last of some replies and one more
-last_and_one : (before : Reply) (replies : List Reply) (reply : Reply) → last_of before (replies ++ reply ∷ []) ≡ reply
+last_and_one : (before : Reply) (replies : List Reply) (reply : Reply) → final_reply before (replies ++ reply ∷ []) ≡ reply
 last_and_one before [] reply = refl
 last_and_one before (next ∷ replies) reply = last_and_one next replies reply
 
@@ -65,7 +65,7 @@ pub state_and_key : (caller : List ℕ) (base : BaseView) (from : SessionState) 
     → state_after caller base from (keys ++ key ∷ []) ≡ (key_step caller base (state_after caller base from keys) key).0
 state_and_key caller base from keys key = state_in_turn caller base from keys (key ∷ [])
 
-pub last_and_key : (caller : List ℕ) (base : BaseView) (from : SessionState) (before : Reply) (keys : List Key) (key : Key) → last_of before (replies_to caller base from (keys ++ key ∷ [])) ≡ (key_step caller base (state_after caller base from keys) key).1
+pub last_and_key : (caller : List ℕ) (base : BaseView) (from : SessionState) (before : Reply) (keys : List Key) (key : Key) → final_reply before (replies_to caller base from (keys ++ key ∷ [])) ≡ (key_step caller base (state_after caller base from keys) key).1
 last_and_key caller base from before keys key =
-    ap (last_of before) (replies_in_turn caller base from keys (key ∷ []))
+    ap (final_reply before) (replies_in_turn caller base from keys (key ∷ []))
     ∙ last_and_one before (replies_to caller base from keys) (key_step caller base (state_after caller base from keys) key).1

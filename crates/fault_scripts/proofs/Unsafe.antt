@@ -27,12 +27,12 @@ use Rattle.finder.specs.Finds.{Walk}
 use Rattle.fault_scripts.specs.declared.fault.Fault.{Fault}
 use Rattle.fault_scripts.specs.declared.fault.FaultKind.{FaultKind}
 use Rattle.fault_scripts.specs.declared.fault.FaultKind.TheVariants as kind
-use Rattle.fault_scripts.specs.Shows.{last_of, last_reply, last_state, ShowsEntry, ShowsPrice, ShowsTouch, ShowsKey, ShowsNoReturn, ShowsAs, Shows}
+use Rattle.fault_scripts.specs.Shows.{final_reply, last_reply, last_state, ShowsEntry, ShowsPrice, ShowsTouch, ShowsKey, ShowsNoReturn, ShowsAs, Shows}
 use Rattle.fault_scripts.proofs.Sessions.{last_and_key}
 
 -- what holds of each reply, and of the one before, holds of the last
 last_holds : (P : Reply → Type 0) (before : Reply) (replies : List Reply) → P before → AllByRecursion P replies
-    → P (last_of before replies)
+    → P (final_reply before replies)
 last_holds P before [] first all = first
 last_holds P before (next ∷ replies) first all = last_holds P next replies all.0 all.1
 
@@ -125,7 +125,7 @@ module _ (base : BaseView) (policy : Policy) (safe : Safe policy.groups base pol
   clean_there keys id there =
       let s = at_frame (last_state policy.groups base keys) id there in
       let again : (key_step policy.groups base (last_state policy.groups base keys) key.Reprint).1 ≡ Again id = ap (λ (x : SessionState). (key_step policy.groups base x key.Reprint).1) s.1 in
-      let last : last_of (opening_reply base safe.session.price) (replies_to policy.groups base (opening base) (keys ++ key.Reprint ∷ [])) ≡ Again id = last_and_key policy.groups base (opening base) (opening_reply base safe.session.price) keys key.Reprint ∙ again in
+      let last : final_reply (opening_reply base safe.session.price) (replies_to policy.groups base (opening base) (keys ++ key.Reprint ∷ [])) ≡ Again id = last_and_key policy.groups base (opening base) (opening_reply base safe.session.price) keys key.Reprint ∙ again in
       subst (IsCleanReply base) last (last_holds (IsCleanReply base) (opening_reply base safe.session.price) (replies_to policy.groups base (opening base) (keys ++ key.Reprint ∷ [])) safe.entry_clean (safe.clean (keys ++ key.Reprint ∷ [])))
 
   touch_unsafe : ShowsTouch policy.groups base fault → ⊥

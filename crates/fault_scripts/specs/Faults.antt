@@ -91,10 +91,10 @@ pub record IsDue (base : BaseView) (policy : Policy) (found : List Discovered) (
   pub due : IsDueAs fault.kind base policy discovered.id frame keys fault
 
 -- the number of a key: a digit's own, 10 for `#`
-abbrev pub number_of : Option Key → ℕ
-number_of (Some (Route digit)) = digit
-number_of (Some Next) = 10
-number_of _ = 0
+abbrev pub key_number : Option Key → ℕ
+key_number (Some (Route digit)) = digit
+key_number (Some Next) = 10
+key_number _ = 0
 
 -- the place of a fault among those of its frame: Price, Touches, Missing and Closed by key, NoReturn
 abbrev pub turn_of : FaultKind → Option Key → ℕ
@@ -102,8 +102,8 @@ turn_of kind.EntryMissing key = 0
 turn_of kind.EntryClosed key = 0
 turn_of kind.Price key = 0
 turn_of kind.Touches key = 1
-turn_of kind.Missing key = number_of key + 2
-turn_of kind.Closed key = number_of key + 2
+turn_of kind.Missing key = key_number key + 2
+turn_of kind.Closed key = key_number key + 2
 turn_of kind.NoReturn key = 13
 
 -- its place among all faults, its frame being the i-th discovered

@@ -31,14 +31,14 @@ use Rattle.frame_records.specs.declared.ways.Destination.{Destination}
 -- The rows of a certificate, gathered from discovered frames, with the greatest price and the greatest rank.
 
 -- the row of a frame that has a rank and is clean
-abbrev pub row_of : Id → Option ℕ → Painted → List Row
-row_of id None painted = []
-row_of id (Some rank) (Touches offset) = []
-row_of id (Some rank) (Clean cursor) = record { id = id; rank = rank; cursor = cursor } ∷ []
+abbrev pub row_if_clean : Id → Option ℕ → Painted → List Row
+row_if_clean id None painted = []
+row_if_clean id (Some rank) (Touches offset) = []
+row_if_clean id (Some rank) (Clean cursor) = record { id = id; rank = rank; cursor = cursor } ∷ []
 
 abbrev pub row_by : Discovered → Option Frame → List Row
 row_by d None = []
-row_by d (Some frame) = row_of d.id d.rank (paint_of frame.lead frame.body)
+row_by d (Some frame) = row_if_clean d.id d.rank (paint_of frame.lead frame.body)
 
 -- the row of a discovered frame
 abbrev pub row_at : BaseView → Discovered → List Row
@@ -93,7 +93,7 @@ pub record IsReporting (base : BaseView) (policy : Policy) (found : List Discove
   pub reported : IsReported base policy found place t.faults.items
 
 -- the faults of the first frames have been reported, and their rows gathered
-pub record IsJudged (base : BaseView) (policy : Policy) (found : List Discovered) (done : ℕ) (j : Judge) : Type 0 where
+pub record IsAuditedSoFar (base : BaseView) (policy : Policy) (found : List Discovered) (done : ℕ) (j : Judge) : Type 0 where
   pub reporting : IsReporting base policy found (done * 14) j.reporter
   pub gathered : IsGathered base (take done found) j.table
 
@@ -101,7 +101,7 @@ pub record IsJudged (base : BaseView) (policy : Policy) (found : List Discovered
 pub record IsWhole (base : BaseView) (policy : Policy) (j : Judge) : Type 0 where
   pub valid : IsBase base
   pub found : List Discovered
-  pub judged : IsJudged base policy found (length found) j
+  pub judged : IsAuditedSoFar base policy found (length found) j
 
 -- The rows of a certificate, put in order.
 

@@ -8,7 +8,7 @@ use Rattle.cert_table.specs.declared.row.Row.{Row}
 use Rattle.cert_table.specs.Table.{AreRows, CertView}
 use Rattle.checker.specs.declared.policy.Policy.{Policy}
 use Rattle.checker.specs.declared.verdict.Verdict.TheVariants.{Cleared}
-use Rattle.checker.specs.Good.{is_covered}
+use Rattle.checker.specs.Good.{is_row_of}
 use Rattle.checker.specs.Safe.{Safe}
 use Rattle.checker.specs.Verdict.{verdict}
 use Rattle.finder.specs.Finds.{IsReached, IsDistance}
@@ -20,9 +20,9 @@ use Rattle.fault_scripts.specs.Shows.{Shows}
 
 -- the ceiling is the greatest price of a covered frame
 pub record IsGreatestPrice (base : BaseView) (rows : List Row) (ceiling : ℕ) : Type 0 where
-  pub at_most : (id : Id) (frame : Frame) → is_covered rows id ≡ true → frame_at base id ≡ Some frame
+  pub at_most : (id : Id) (frame : Frame) → is_row_of rows id ≡ true → frame_at base id ≡ Some frame
       → frame.price ≤ ceiling
-  pub some : (id : Id) × (frame : Frame) × (is_covered rows id ≡ true) × (frame_at base id ≡ Some frame) × (frame.price ≡ ceiling)
+  pub some : (id : Id) × (frame : Frame) × (is_row_of rows id ≡ true) × (frame_at base id ≡ Some frame) × (frame.price ≡ ceiling)
 
 -- the keyings are the greatest rank of a row
 pub record IsGreatestRank (rows : List Row) (keyings : ℕ) : Type 0 where
@@ -35,7 +35,7 @@ pub record IsCertificateOf (base : BaseView) (policy : Policy) (cert : CertView)
   pub entry : cert.entry ≡ base.entry
   pub groups : cert.groups ≡ policy.groups
   pub rows : AreRows cert.rows
-  pub reached : (id : Id) → (is_covered cert.rows id ≡ true) ↔ IsReached policy.groups base id
+  pub reached : (id : Id) → (is_row_of cert.rows id ≡ true) ↔ IsReached policy.groups base id
   pub ranks : (row : Row) → Contains cert.rows row → IsDistance policy.groups base row.id row.rank
   pub ends : (row : Row) (frame : Frame) → Contains cert.rows row → frame_at base row.id ≡ Some frame
       → Ends frame.lead frame.body row.cursor

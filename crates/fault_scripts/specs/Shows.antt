@@ -23,13 +23,13 @@ use Rattle.fault_scripts.specs.declared.fault.FaultKind.{FaultKind}
 use Rattle.fault_scripts.specs.declared.fault.FaultKind.TheVariants as kind
 
 -- the last of some replies, which follow another
-abbrev pub last_of : Reply → List Reply → Reply
-last_of reply [] = reply
-last_of reply (next ∷ replies) = last_of next replies
+abbrev pub final_reply : Reply → List Reply → Reply
+final_reply reply [] = reply
+final_reply reply (next ∷ replies) = final_reply next replies
 
 -- the last reply of a session whose entry frame has the price; without keys the opening one
 abbrev pub last_reply : List ℕ → BaseView → List Key → ℕ → Reply
-last_reply caller base keys price = last_of (opening_reply base price) (replies_to caller base (opening base) keys)
+last_reply caller base keys price = final_reply (opening_reply base price) (replies_to caller base (opening base) keys)
 
 -- the state in which it ends
 abbrev pub last_state : List ℕ → BaseView → List Key → SessionState

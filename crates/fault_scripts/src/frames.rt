@@ -1,6 +1,6 @@
 ghost use Rattle.std.specs.Prelude.{◌≡◌, ◌<◌, ◌≤◌, ◌+◌, IfOk, OnOk, length};
 ghost use Rattle.finder.specs.Finds.{IsFinding};
-ghost use Rattle.fault_scripts.specs.Loops.{IsJudged};
+ghost use Rattle.fault_scripts.specs.Loops.{IsAuditedSoFar};
 
 use crate::reporter::Reporter;
 use crate::table::GatheredRows;
@@ -27,8 +27,8 @@ impl Judge {
     ) -> Result<(), AllocError>
         requires within { index < length survey.now.found }
         requires groups { survey.now.groups ≡ policy.now.groups }
-        requires judged { IsJudged survey.now.base policy.now survey.now.found index self.old }
-        ensures { OnOk result (IsJudged survey.now.base policy.now survey.now.found (index + 1) self.new) }
+        requires judged { IsAuditedSoFar survey.now.base policy.now survey.now.found index self.old }
+        ensures { OnOk result (IsAuditedSoFar survey.now.base policy.now survey.now.found (index + 1) self.new) }
     {
         let discovered = survey.discovered_at(index);
         let frame = survey.frame(index as usize);
@@ -46,7 +46,7 @@ pub fn judge_all(alloc: Global, survey: &Survey, policy: &Policy) -> Result<Judg
     requires few { length survey.now.found ≤ 65535 }
     requires groups { survey.now.groups ≡ policy.now.groups }
     requires finding { IsFinding policy.now.groups survey.now.base survey.now.found }
-    ensures { IfOk result (IsJudged survey.now.base policy.now survey.now.found (length survey.now.found)) }
+    ensures { IfOk result (IsAuditedSoFar survey.now.base policy.now survey.now.found (length survey.now.found)) }
 {
     let count = survey.found().as_slice().len() as u32;
     let mut judge = Judge {

@@ -1,5 +1,5 @@
 ghost use Rattle.std.specs.Prelude.{◌≡◌, ◌++◌, [], OnOk, max, unwrap_or};
-ghost use Rattle.fault_scripts.specs.Loops.{row_of};
+ghost use Rattle.fault_scripts.specs.Loops.{row_if_clean};
 
 use abstract_paint::Painted;
 use cert_table::Row;
@@ -39,7 +39,7 @@ fn push_row(
     rank: Option<u16>,
     painted: Painted,
 ) -> Result<(), AllocError>
-    ensures { OnOk result (rows.new.items ≡ rows.old.items ++ row_of id rank painted) }
+    ensures { OnOk result (rows.new.items ≡ rows.old.items ++ row_if_clean id rank painted) }
 {
     match (rank, painted) {
         (Some(rank), Painted::Clean(cursor)) => {
@@ -72,7 +72,7 @@ impl GatheredRows {
         price: Pence,
         painted: Painted,
     ) -> Result<(), AllocError>
-        ensures rows { OnOk result (self.new.rows.items ≡ self.old.rows.items ++ row_of id rank painted) }
+        ensures rows { OnOk result (self.new.rows.items ≡ self.old.rows.items ++ row_if_clean id rank painted) }
         ensures ceiling { OnOk result (self.new.ceiling ≡ max self.old.ceiling price) }
         ensures keyings { OnOk result (self.new.keyings ≡ max self.old.keyings (unwrap_or rank 0)) }
     {

@@ -22,7 +22,7 @@ pub use Rattle.frame_records.specs.WayLaws.{found_sought, frame_id, going, offer
 pub use Rattle.frame_records.specs.Ways.{Leads, destination, destination_by, destination_of, missing_by, offered_by, sought, sought_by}
 pub use Rattle.frame_records.specs.declared.frame.Frame.{Frame}
 pub use Rattle.smallvec.specs.SmallVec.{SmallVec}
-pub use Rattle.finder.specs.Loops.{AreMarked, IsDiscovery, IsListed, number, HasRank, IsClosed, IsSearch, AreNeighbours, HasNeighbour, AreJoined, IsListOf, AreRanks, IsFromEntry, AreNear, is_near}
+pub use Rattle.finder.specs.Loops.{AreMarked, IsDiscovery, IsDiscoveredSoFar, number, HasRank, IsClosed, IsSearch, AreNeighbours, HasNeighbour, AreJoined, IsListOf, AreRanks, IsFromEntry, AreNear, is_near}
 pub use Rattle.finder.specs.Survey.{AreNamed, SurveyView, id_at}
 pub use Rattle.finder.specs.Loops.Entries.{IsEntryNode}
 pub use Rattle.finder.specs.Finds.{FindsReached, HasFirstPair, HasPair, IsBefore, IsFinding, Pair, PairLeads, RanksAreLeast, ScriptsLead, keys_along, keys_back, parent_by, parent_of, script, EntryIsFound, IsRank, IsReached, KeysLead, Walk, WalkIn, IsWithin, AreWithin, IsNear, has_id}

@@ -95,7 +95,7 @@ abbrev pub number : Pair → ℕ
 number pair = pair.0 * 11 + way_place pair.1
 
 -- each listed frame is reached, by the first pair that leads to it
-pub record IsListing (caller : List ℕ) (base : BaseView) (found : List Discovered) : Type 0 where
+pub record AreReachedByFirst (caller : List ℕ) (base : BaseView) (found : List Discovered) : Type 0 where
   pub first : (d : Discovered) → slice_get found 0 ≡ Some d
       → (d.id ≡ entry_of base) × (d.parent ≡ None) × (d.key ≡ None)
   pub entry : Any (λ d. d.id ≡ entry_of base) found
@@ -107,7 +107,7 @@ pub record IsListing (caller : List ℕ) (base : BaseView) (found : List Discove
 
 -- the frames are listed to which the first `done` pairs lead
 pub record IsDiscovery (caller : List ℕ) (base : BaseView) (done : ℕ) (found : List Discovered) : Type 0 where
-  pub listing : IsListing caller base found
+  pub listing : AreReachedByFirst caller base found
   pub before : All (λ d. (p : Pair) → HasPair d p → number p < done) found
   pub closed : (p : Pair) (id : Id) → PairLeads caller base found p id → number p < done → Any (λ d. d.id ≡ id) found
 
@@ -119,7 +119,7 @@ pub record AreMarked (graph : Graph) (nodes : List ℕ) (listed : List Bool) : T
   pub count : count_by (λ b. b) listed ≡ length nodes
 
 -- the state of the discovery after the first `done` pairs are tried
-pub record IsListed (graph : Graph) (done : ℕ) (d : Discovery) : Type 0 where
+pub record IsDiscoveredSoFar (graph : Graph) (done : ℕ) (d : Discovery) : Type 0 where
   pub named : AreNamed graph.table.base.now.frames d.order.keys d.found
   pub marked : AreMarked graph d.order.keys d.listed.items
   pub found : IsDiscovery graph.table.groups.now graph.table.base.now done d.found

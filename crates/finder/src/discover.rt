@@ -1,5 +1,5 @@
 ghost use Rattle.std.specs.Prelude.{◌≡◌, ◌<◌, ◌≤◌, ◌+◌, ◌*◌, ◌⊎◌, ◌++◌, ◌∷◌, [], ℕ, Some, None, true, false, Contains, OnOk, IfOk, IfSome, IfNone, slice_get, set, length, get_or};
-ghost use Rattle.finder.specs.Loops.{AreRanks, IsFromEntry, IsListed};
+ghost use Rattle.finder.specs.Loops.{AreRanks, IsFromEntry, IsDiscoveredSoFar};
 ghost use Rattle.finder.specs.Survey.{AreNamed};
 ghost use Rattle.finder.specs.Loops.Entries.{discovered_of};
 ghost use Rattle.finder.specs.Finds.{FindsReached, RanksAreLeast, EntryIsFound};
@@ -87,9 +87,9 @@ impl Discovery {
         requires placed { slice_get self.old.order.keys index ≡ Some from }
         requires len { length ranks.now ≡ graph.now.table.count }
         requires ranks { AreRanks graph.now ranks.now }
-        requires listed { IsListed graph.now (index * 11 + way) self.old }
+        requires listed { IsDiscoveredSoFar graph.now (index * 11 + way) self.old }
         ensures placed { OnOk result (slice_get self.new.order.keys index ≡ Some from) }
-        ensures listed { OnOk result (IsListed graph.now (index * 11 + way + 1) self.new) }
+        ensures listed { OnOk result (IsDiscoveredSoFar graph.now (index * 11 + way + 1) self.new) }
     {
         let Some(node) = graph.target(from, way) else {
             return Ok(());
@@ -117,8 +117,8 @@ impl Discovery {
         requires placed { slice_get self.old.order.keys index ≡ Some from }
         requires len { length ranks.now ≡ graph.now.table.count }
         requires ranks { AreRanks graph.now ranks.now }
-        requires listed { IsListed graph.now (index * 11) self.old }
-        ensures { OnOk result (IsListed graph.now ((index + 1) * 11) self.new) }
+        requires listed { IsDiscoveredSoFar graph.now (index * 11) self.old }
+        ensures { OnOk result (IsDiscoveredSoFar graph.now ((index + 1) * 11) self.new) }
     {
         for way in 0..Way::COUNT {
             self.try_way(graph, ranks, index, from, way)?;
@@ -131,7 +131,7 @@ impl Discovery {
         requires entry { IsFromEntry graph.now }
         requires len { length ranks.now ≡ graph.now.table.count }
         requires ranks { AreRanks graph.now ranks.now }
-        ensures { IfOk result (IsListed graph.now 0) }
+        ensures { IfOk result (IsDiscoveredSoFar graph.now 0) }
     {
         let count = graph.table.count as usize;
         let mut discovery = Discovery {

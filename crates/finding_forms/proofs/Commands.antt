@@ -17,7 +17,7 @@ use Rattle.toml_places.specs.declared.text_lines.Extent.{Extent}
 use Rattle.finding_forms.specs.declared.github_form.Slot.{Slot}
 use Rattle.finding_forms.specs.declared.github_form.Slot.TheVariants as slot
 use Rattle.finding_forms.specs.LineForm.{level_text, code_text}
-use Rattle.finding_forms.specs.GithubForm.{escaped_byte, escaped, columns_text, place_text, hint_text, properties_text, command_text}
+use Rattle.finding_forms.specs.GithubForm.{escaped_byte, github_escaped, columns_text, github_place, github_hint, properties_text, command_text}
 use Rattle.finding_forms.proofs.Printed.{IsLine-decimal, code_plain, level_plain}
 
 -- Escaped text.
@@ -65,9 +65,9 @@ chars_line s (c ∷ cs) are printable =
     let more = chars_line s cs (and_parts (scalar c) (scalars cs) are).1 (and_parts (not (is_control c)) (list_all (λ d. not (is_control d)) cs) printable).1 in
     subst IsLine (sym (flat_map-append (escaped_byte s) (encode c) (encodes cs))) (IsLine-append _ _ one more)
 
-IsLine-escaped : (s : Slot) (bytes : List ℕ) → IsLine bytes → IsLine (escaped s bytes)
+IsLine-escaped : (s : Slot) (bytes : List ℕ) → IsLine bytes → IsLine (github_escaped s bytes)
 IsLine-escaped s bytes is =
-    subst (λ (bs : List ℕ). IsLine (escaped s bs)) (encodes-chars bytes is.utf8)
+    subst (λ (bs : List ℕ). IsLine (github_escaped s bs)) (encodes-chars bytes is.utf8)
     (chars_line s (chars bytes) (scalars-chars bytes is.utf8) is.printable)
 
 -- Commands.
@@ -83,7 +83,7 @@ columns_line e true a b =
     IsLine-append (codes ",col=") _ (IsLine-plain (codes ",col=") refl) rest
 columns_line e false a b = IsLine-plain [] refl
 
-IsLine-place : (e : Extent) → e.line < 2 ^ 64 → e.column < 2 ^ 64 → e.end_line < 2 ^ 64 → e.end_column < 2 ^ 64 → IsLine (place_text e)
+IsLine-place : (e : Extent) → e.line < 2 ^ 64 → e.column < 2 ^ 64 → e.end_line < 2 ^ 64 → e.end_column < 2 ^ 64 → IsLine (github_place e)
 IsLine-place e a b c d =
     let columns = columns_line e (e.line == e.end_line) b d in
     let ends = IsLine-append (decimal e.end_line) (columns_text e) (IsLine-decimal e.end_line c) columns in
@@ -91,14 +91,14 @@ IsLine-place e a b c d =
     let rest = IsLine-append (decimal e.line) _ (IsLine-decimal e.line a) with_end in
     IsLine-append (codes ",line=") _ (IsLine-plain (codes ",line=") refl) rest
 
-IsLine-properties : (path : List ℕ) (e : Extent) (code : Code) → IsLine path → IsLine (place_text e) → IsLine (properties_text path e code)
+IsLine-properties : (path : List ℕ) (e : Extent) (code : Code) → IsLine path → IsLine (github_place e) → IsLine (properties_text path e code)
 IsLine-properties path e code is place =
     let title = IsLine-append (codes ",title=") (code_text code) (IsLine-plain (codes ",title=") refl) (IsLine-plain (code_text code) (code_plain code)) in
-    let rest = IsLine-append (place_text e) _ place title in
-    let with_path = IsLine-append (escaped slot.Property path) _ (IsLine-escaped slot.Property path is) rest in
+    let rest = IsLine-append (github_place e) _ place title in
+    let with_path = IsLine-append (github_escaped slot.Property path) _ (IsLine-escaped slot.Property path is) rest in
     IsLine-append (codes " file=") _ (IsLine-plain (codes " file=") refl) with_path
 
-IsLine-hint : (hint : Option (List ℕ)) → IfSome hint IsLine → IsLine (hint_text hint)
+IsLine-hint : (hint : Option (List ℕ)) → IfSome hint IsLine → IsLine (github_hint hint)
 IsLine-hint None is = IsLine-plain [] refl
 IsLine-hint (Some hint) is = IsLine-append (codes "; ") _ (IsLine-plain (codes "; ") refl) (IsLine-escaped slot.Message hint is)
 
@@ -106,7 +106,7 @@ pub IsLine-command : (path : List ℕ) (e : Extent) (level : Level) (words : Wor
     → e.line < 2 ^ 64 → e.column < 2 ^ 64 → e.end_line < 2 ^ 64 → e.end_column < 2 ^ 64 → IsLine words.message → IfSome hint IsLine
     → IsLine (command_text path e level words hint)
 IsLine-command path e level words hint is a b c d message is_hint =
-    let tail = IsLine-append (escaped slot.Message words.message) (hint_text hint) (IsLine-escaped slot.Message words.message message) (IsLine-hint hint is_hint) in
+    let tail = IsLine-append (github_escaped slot.Message words.message) (github_hint hint) (IsLine-escaped slot.Message words.message message) (IsLine-hint hint is_hint) in
     let rest = IsLine-append (codes "::") _ (IsLine-plain (codes "::") refl) tail in
     let properties = IsLine-properties path e words.code is (IsLine-place e a b c d) in
     let with_properties = IsLine-append (properties_text path e words.code) _ properties rest in

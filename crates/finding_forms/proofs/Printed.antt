@@ -21,7 +21,7 @@ use Rattle.lint.specs.declared.finding.Level.TheVariants as level
 use Rattle.lint.specs.Findings.{FindingView}
 use Rattle.finding_forms.specs.declared.format.Format.{Format}
 use Rattle.finding_forms.specs.declared.format.Format.TheVariants as format
-use Rattle.finding_forms.specs.LineForm.{level_text, place_text, code_text, hint_text, words_text, line_text}
+use Rattle.finding_forms.specs.LineForm.{level_text, line_place, code_text, line_hint, words_text, line_text}
 use Rattle.finding_forms.specs.Forms.{IsPrinted, ArePrinted, is_one_line}
 use Rattle.finding_forms.specs.Laws.{IsLineIn, AreWholeLines}
 
@@ -38,7 +38,7 @@ pub IsLine-decimal : (n : ℕ) → n < 2 ^ 64 → IsLine (decimal n)
 IsLine-decimal n fits = IsLine-plain (decimal n) (digits_plain (decimal n) (decimal_is_IsNumeral n fits).0.1)
 
 pub IsLine-place : (path : List ℕ) (line column : ℕ) → IsLine path → line < 2 ^ 64 → column < 2 ^ 64
-    → IsLine (place_text path (line, column))
+    → IsLine (line_place path (line, column))
 IsLine-place path line column is a b =
     let colon = IsLine-plain (codes ":") refl in
     let of_line = IsLine-append (decimal line) (codes ":") (IsLine-decimal line a) colon in
@@ -75,28 +75,28 @@ code_plain code.Hidden = refl
 code_plain code.LineEnd = refl
 code_plain code.Escape = refl
 
-IsLine-hint : (hint : Option (List ℕ)) → IfSome hint IsLine → IsLine (hint_text hint)
+IsLine-hint : (hint : Option (List ℕ)) → IfSome hint IsLine → IsLine (line_hint hint)
 IsLine-hint None is = IsLine-plain [] refl
 IsLine-hint (Some hint) is = IsLine-append (codes "; ") hint (IsLine-plain (codes "; ") refl) is
 
 pub IsLine-words : (w : WordsView) (hint : Option (List ℕ)) → IsLine w.message → IfSome hint IsLine
     → IsLine (words_text w hint)
 IsLine-words w hint message is =
-    let tail = IsLine-append w.message (hint_text hint) message (IsLine-hint hint is) in
-    let with_colon = IsLine-append (codes ": ") (w.message ++ hint_text hint) (IsLine-plain (codes ": ") refl) tail in
-    IsLine-append (code_text w.code) (codes ": " ++ (w.message ++ hint_text hint)) (IsLine-plain (code_text w.code) (code_plain w.code)) with_colon
+    let tail = IsLine-append w.message (line_hint hint) message (IsLine-hint hint is) in
+    let with_colon = IsLine-append (codes ": ") (w.message ++ line_hint hint) (IsLine-plain (codes ": ") refl) tail in
+    IsLine-append (code_text w.code) (codes ": " ++ (w.message ++ line_hint hint)) (IsLine-plain (code_text w.code) (code_plain w.code)) with_colon
 
 pub level_plain : (l : Level) → list_all is_plain (level_text l) ≡ true
 level_plain level.Error = refl
 level_plain level.Warning = refl
 
 pub IsLine-line : (path : List ℕ) (place : ℕ × ℕ) (l : Level) (w : WordsView) (hint : Option (List ℕ))
-    → IsLine (place_text path place) → IsLine (words_text w hint) → IsLine (line_text path place l w hint)
+    → IsLine (line_place path place) → IsLine (words_text w hint) → IsLine (line_text path place l w hint)
 IsLine-line path place l w hint at words =
     let after_level = IsLine-append (codes ": ") (words_text w hint) (IsLine-plain (codes ": ") refl) words in
     let with_level = IsLine-append (level_text l) (codes ": " ++ words_text w hint) (IsLine-plain (level_text l) (level_plain l)) after_level in
     let with_space = IsLine-append (codes " ") (level_text l ++ (codes ": " ++ words_text w hint)) (IsLine-plain (codes " ") refl) with_level in
-    IsLine-append (place_text path place) (codes " " ++ (level_text l ++ (codes ": " ++ words_text w hint))) at with_space
+    IsLine-append (line_place path place) (codes " " ++ (level_text l ++ (codes ": " ++ words_text w hint))) at with_space
 
 -- Line feeds.
 

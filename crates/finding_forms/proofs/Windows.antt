@@ -3,7 +3,7 @@ use Rattle.std.proofs.Common.{◌≡◌, ℕ, zero, suc, ◌+◌, ◌-◌, ◌<�
 use Rattle.std.proofs.lemmas.Bool.{and_parts, not-true, or_parts}
 use Rattle.std.proofs.lemmas.Bool.Decides.{nat_tests}
 use Rattle.toml_places.specs.Strings.{starts_char}
-use Rattle.finding_forms.specs.Excerpts.{left_after, goes_back, goes_ahead, ends_at, begin_before, end_within, end_ahead}
+use Rattle.finding_forms.specs.Excerpts.{left_after, goes_back, goes_ahead, line_ends_at, begin_before, end_within, end_ahead}
 
 pub back_stop : (text : List ℕ) (left at : ℕ) → goes_back text left at ≡ false → begin_before text left at ≡ at
 unfolding begin_before
@@ -20,7 +20,7 @@ back_step text left (suc at) goes =
 
 pub ahead_room : (text : List ℕ) (left at : ℕ) → goes_ahead text left at ≡ true → at < length text
 ahead_room text left at goes =
-    let inside : ends_at text at ≡ false = not-true (ends_at text at) (and_parts (not (ends_at text at)) (nat_lt 0 left || not (starts_char (slice_index text at))) goes).0 in
+    let inside : line_ends_at text at ≡ false = not-true (line_ends_at text at) (and_parts (not (line_ends_at text at)) (nat_lt 0 left || not (starts_char (slice_index text at))) goes).0 in
     let short : nat_le (length text) at ≡ false = (or_parts (nat_le (length text) at) _ inside).0 in
     grind (arith, nat_tests, short)
 

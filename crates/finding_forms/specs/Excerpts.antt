@@ -19,8 +19,8 @@ part text from to = take (to - from) (drop from text)
 -- Characters before an offset and from it on, on its line.
 
 -- a line ends at an offset: at the end of the text, a line feed, or 13 and a line feed
-abbrev pub ends_at : List ℕ → ℕ → Bool
-ends_at text at =
+abbrev pub line_ends_at : List ℕ → ℕ → Bool
+line_ends_at text at =
     nat_le (length text) at || (is_feed (slice_index text at) || (slice_index text at == 13 && is_feed (slice_index text (at + 1))))
 
 -- how many characters are left to take after a byte
@@ -39,7 +39,7 @@ begin_before text left (suc at) =
 
 -- one more byte is taken at an offset
 abbrev pub goes_ahead : List ℕ → ℕ → ℕ → Bool
-goes_ahead text left at = not (ends_at text at) && (nat_lt 0 left || not (starts_char (slice_index text at)))
+goes_ahead text left at = not (line_ends_at text at) && (nat_lt 0 left || not (starts_char (slice_index text at)))
 
 -- where the next characters end, at most this many, if at most this many bytes are left
 unfoldable pub end_within : List ℕ → ℕ → ℕ → ℕ → ℕ
@@ -60,8 +60,8 @@ abbrev pub begin_in : List ℕ → ℕ → ℕ
 begin_in text at = if is_pair text at then at - 1 else at
 
 -- the line has more than 120 characters
-abbrev pub is_long : List ℕ → ℕ → Bool
-is_long text at = nat_lt 120 (count_by starts_char (part text (begin_before text 121 at) (end_ahead text 121 at)))
+abbrev pub is_long_line : List ℕ → ℕ → Bool
+is_long_line text at = nat_lt 120 (count_by starts_char (part text (begin_before text 121 at) (end_ahead text 121 at)))
 
 -- the line goes on before an offset
 abbrev pub goes_before : List ℕ → ℕ → Bool
@@ -75,7 +75,7 @@ excerpt_with text at end from to = record {
   end = max at (min end to);
   to = to;
   goes_before = goes_before text from;
-  goes_on = not (ends_at text to);
+  goes_on = not (line_ends_at text to);
 }
 
 abbrev pub excerpt_at : List ℕ → ℕ → ℕ → Bool → Excerpt
@@ -84,4 +84,4 @@ excerpt_at text at end long =
 
 abbrev pub excerpt_of : List ℕ → Span → Excerpt
 excerpt_of text s =
-    let at = begin_in text (min s.begin (length text)) in excerpt_at text at s.end (is_long text at)
+    let at = begin_in text (min s.begin (length text)) in excerpt_at text at s.end (is_long_line text at)

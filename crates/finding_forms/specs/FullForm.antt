@@ -2,7 +2,7 @@
 use Rattle.std.specs.Prelude.{◌≡◌, ℕ, ◌-◌, Bool, ◌==◌, if◌then◌else◌, List, [], ◌∷◌, ◌++◌, codes, decimal, length, drop, replicate, flat_map}
 use Rattle.std.specs.Str.{chars, encode_utf8_all}
 use Rattle.std.specs.Str.Lossy.{utf8_lossy}
-use Rattle.lint_words.specs.Lines.{shown_char}
+use Rattle.lint_words.specs.Lines.{printed_char}
 use Rattle.lint.specs.Findings.{FindingView}
 use Rattle.toml_places.specs.declared.spans.Span.{Span}
 use Rattle.toml_places.specs.Extents.{extent}
@@ -16,22 +16,22 @@ use Rattle.finding_forms.specs.Excerpts.{mark_length, part, excerpt_of}
 
 -- a tab (9) is kept, and another control character is shown as \u{1b}
 abbrev pub kept_char : ℕ → List ℕ
-kept_char c = if c == 9 then c ∷ [] else shown_char c
+kept_char c = if c == 9 then c ∷ [] else printed_char c
 
 -- a space or a caret for each column of a character; below a tab a tab
 abbrev pub drawn_char : Drawing → ℕ → List ℕ
 drawn_char Text c = encode_utf8_all (kept_char c)
-drawn_char Blank c = if c == 9 then c ∷ [] else replicate (length (shown_char c)) 32
+drawn_char Blank c = if c == 9 then c ∷ [] else replicate (length (printed_char c)) 32
 drawn_char Carets c = replicate (length (kept_char c)) 94
 
 -- the characters of bytes, with U+FFFD in place of what isn't UTF-8
-abbrev pub drawn : Drawing → List ℕ → List ℕ
-drawn d bytes = flat_map (drawn_char d) (chars (utf8_lossy bytes))
+abbrev pub drawn_chars : Drawing → List ℕ → List ℕ
+drawn_chars d bytes = flat_map (drawn_char d) (chars (utf8_lossy bytes))
 
 -- a caret at least
 abbrev pub carets : List ℕ → List ℕ
 carets [] = codes "^"
-carets (b ∷ bs) = drawn Carets (b ∷ bs)
+carets (b ∷ bs) = drawn_chars Carets (b ∷ bs)
 
 -- Both lines.
 
@@ -49,11 +49,11 @@ abbrev pub blank_dots : Bool → List ℕ
 blank_dots cut = if cut then codes "   " else []
 
 abbrev pub source_line : List ℕ → Excerpt → List ℕ
-source_line text e = dots e.goes_before ++ (drawn Text (part text e.from e.to) ++ (dots e.goes_on ++ codes "\n"))
+source_line text e = dots e.goes_before ++ (drawn_chars Text (part text e.from e.to) ++ (dots e.goes_on ++ codes "\n"))
 
 abbrev pub caret_line : List ℕ → Excerpt → List ℕ
 caret_line text e =
-    blank_dots e.goes_before ++ (drawn Blank (part text e.from e.begin) ++ (carets (part text e.begin e.end) ++ codes "\n"))
+    blank_dots e.goes_before ++ (drawn_chars Blank (part text e.from e.begin) ++ (carets (part text e.begin e.end) ++ codes "\n"))
 
 abbrev pub both_lines : List ℕ → ℕ → Excerpt → List ℕ
 both_lines text line e = number_bar line ++ (source_line text e ++ (blank_bar line ++ caret_line text e))

@@ -19,28 +19,28 @@ abbrev pub escaped_byte : Slot → ℕ → List ℕ
 escaped_byte Message b = percent_escaped b
 escaped_byte Property b = if b == 58 then codes "%3A" else if b == 44 then codes "%2C" else percent_escaped b
 
-abbrev pub escaped : Slot → List ℕ → List ℕ
-escaped slot bytes = flat_map (escaped_byte slot) bytes
+abbrev pub github_escaped : Slot → List ℕ → List ℕ
+github_escaped slot bytes = flat_map (escaped_byte slot) bytes
 
 -- the columns of a span on one line
 abbrev pub columns_text : Extent → List ℕ
 columns_text e =
     if e.line == e.end_line then codes ",col=" ++ (decimal e.column ++ (codes ",endColumn=" ++ decimal e.end_column)) else []
 
-abbrev pub place_text : Extent → List ℕ
-place_text e = codes ",line=" ++ (decimal e.line ++ (codes ",endLine=" ++ (decimal e.end_line ++ columns_text e)))
+abbrev pub github_place : Extent → List ℕ
+github_place e = codes ",line=" ++ (decimal e.line ++ (codes ",endLine=" ++ (decimal e.end_line ++ columns_text e)))
 
-abbrev pub hint_text : Option (List ℕ) → List ℕ
-hint_text None = []
-hint_text (Some hint) = codes "; " ++ escaped Message hint
+abbrev pub github_hint : Option (List ℕ) → List ℕ
+github_hint None = []
+github_hint (Some hint) = codes "; " ++ github_escaped Message hint
 
 abbrev pub message_text : WordsView → Option (List ℕ) → List ℕ
-message_text words hint = escaped Message words.message ++ hint_text hint
+message_text words hint = github_escaped Message words.message ++ github_hint hint
 
 -- no code has a character to escape
 abbrev pub properties_text : List ℕ → Extent → Code → List ℕ
 properties_text path e code =
-    codes " file=" ++ (escaped Property path ++ (place_text e ++ (codes ",title=" ++ code_text code)))
+    codes " file=" ++ (github_escaped Property path ++ (github_place e ++ (codes ",title=" ++ code_text code)))
 
 -- a command, but for its line feed
 abbrev pub command_text : List ℕ → Extent → Level → WordsView → Option (List ℕ) → List ℕ

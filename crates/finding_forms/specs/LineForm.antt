@@ -19,8 +19,8 @@ abbrev pub begin_of : List ℕ → Span → ℕ × ℕ
 begin_of text span = ((extent text span).line, (extent text span).column)
 
 -- the path, the line and the column, each with a colon
-abbrev pub place_text : List ℕ → ℕ × ℕ → List ℕ
-place_text path place = path ++ codes ":" ++ (decimal place.0 ++ codes ":") ++ (decimal place.1 ++ codes ":")
+abbrev pub line_place : List ℕ → ℕ × ℕ → List ℕ
+line_place path place = path ++ codes ":" ++ (decimal place.0 ++ codes ":") ++ (decimal place.1 ++ codes ":")
 
 -- the code, and its name if it has one
 abbrev pub name_text : List ℕ → List ℕ
@@ -30,18 +30,18 @@ name_text (c ∷ cs) = codes " " ++ (c ∷ cs)
 abbrev pub code_text : Code → List ℕ
 code_text code = code_word code ++ name_text (code_name code)
 
-abbrev pub hint_text : Option (List ℕ) → List ℕ
-hint_text None = []
-hint_text (Some hint) = codes "; " ++ hint
+abbrev pub line_hint : Option (List ℕ) → List ℕ
+line_hint None = []
+line_hint (Some hint) = codes "; " ++ hint
 
 -- the words of a finding, if this is its hint
 abbrev pub words_text : WordsView → Option (List ℕ) → List ℕ
-words_text words hint = code_text words.code ++ (codes ": " ++ (words.message ++ hint_text hint))
+words_text words hint = code_text words.code ++ (codes ": " ++ (words.message ++ line_hint hint))
 
 -- a line, but for its line feed
 abbrev pub line_text : List ℕ → ℕ × ℕ → Level → WordsView → Option (List ℕ) → List ℕ
 line_text path place level words hint =
-    place_text path place ++ (codes " " ++ (level_text level ++ (codes ": " ++ words_text words hint)))
+    line_place path place ++ (codes " " ++ (level_text level ++ (codes ": " ++ words_text words hint)))
 
 -- The line of a finding is all of this, with some hint or none; control characters of the path are shown. It has no control
 -- character, whatever is in the text and the path.

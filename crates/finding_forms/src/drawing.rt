@@ -2,7 +2,7 @@
 
 ghost use Rattle.std.specs.Prelude.{◌≡◌, ◌++◌, ◌∷◌, [], replicate, length, IfOk, OnOk};
 ghost use Rattle.std.specs.Str.{encode_utf8_all};
-ghost use Rattle.lint_words.specs.Lines.{shown_char, line_of};
+ghost use Rattle.lint_words.specs.Lines.{printed_char, line_of};
 ghost use Rattle.finding_forms.specs.FullForm as spec;
 
 use lint_words::Line;
@@ -22,7 +22,7 @@ pub enum Drawing {
 
 // A character as a line.
 fn line_of(alloc: Global, c: char) -> Result<Line, AllocError>
-    ensures { IfOk result (λ line. line ≡ encode_utf8_all (shown_char c)) }
+    ensures { IfOk result (λ line. line ≡ encode_utf8_all (printed_char c)) }
 {
     let mut bytes = [0; 4];
     Line::of(alloc, c.encode_utf8(&mut bytes).as_bytes())
@@ -84,7 +84,7 @@ pub fn push_drawn(
     drawing: Drawing,
     bytes: &[u8],
 ) -> Result<(), AllocError>
-    ensures { OnOk result (out.new.items ≡ out.old.items ++ spec.drawn drawing bytes.now) }
+    ensures { OnOk result (out.new.items ≡ out.old.items ++ spec.drawn_chars drawing bytes.now) }
 {
     let text = String::from_utf8_lossy(alloc, bytes)?;
     'chars: for c in text.chars() {

@@ -38,7 +38,7 @@ pub fn mark_length(text: &[u8]) -> usize
 }
 
 fn ends_at(text: &[u8], at: usize) -> bool
-    ensures { result ≡ spec.ends_at text.now at }
+    ensures { result ≡ spec.line_ends_at text.now at }
 {
     text.len() <= at
         || byte_at(text, at) == b'\n'
@@ -117,7 +117,7 @@ fn count_chars(bytes: &[u8]) -> usize
 // Whether the line has more than 120 characters. No more of it is looked at.
 fn is_long(text: &[u8], at: usize) -> bool
     requires { at ≤ length text.now }
-    ensures { result ≡ spec.is_long text.now at }
+    ensures { result ≡ spec.is_long_line text.now at }
 {
     let from = begin_before(text, LONGEST + 1, at);
     let to = end_ahead(text, LONGEST + 1, at);

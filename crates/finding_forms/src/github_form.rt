@@ -44,7 +44,7 @@ fn push_escaped_byte(out: &mut Vec<u8>, slot: Slot, byte: u8) -> Result<(), Allo
 }
 
 fn push_escaped(out: &mut Vec<u8>, slot: Slot, line: &Line) -> Result<(), AllocError>
-    ensures escaped { OnOk result (out.new.items ≡ out.old.items ++ spec.escaped slot line.now) }
+    ensures escaped { OnOk result (out.new.items ≡ out.old.items ++ spec.github_escaped slot line.now) }
     ensures is_line { OnOk result (IsLine line.now) }
 {
     for byte in line.as_str().as_bytes() {
@@ -72,7 +72,7 @@ fn push_columns(out: &mut Vec<u8>, extent: Extent) -> Result<(), AllocError>
 }
 
 fn push_place(out: &mut Vec<u8>, extent: Extent) -> Result<(), AllocError>
-    ensures { OnOk result (out.new.items ≡ out.old.items ++ spec.place_text extent) }
+    ensures { OnOk result (out.new.items ≡ out.old.items ++ spec.github_place extent) }
 {
     push_named(out, b",line=", extent.line)?;
     push_named(out, b",endLine=", extent.end_line)?;
@@ -80,7 +80,7 @@ fn push_place(out: &mut Vec<u8>, extent: Extent) -> Result<(), AllocError>
 }
 
 fn push_hint(out: &mut Vec<u8>, hint: Option<&Line>) -> Result<(), AllocError>
-    ensures hint { OnOk result (out.new.items ≡ out.old.items ++ spec.hint_text (option_copied hint.entry)) }
+    ensures hint { OnOk result (out.new.items ≡ out.old.items ++ spec.github_hint (option_copied hint.entry)) }
     ensures is_line { OnOk result (IfSome (option_copied hint.entry) IsLine) }
 {
     match hint {

@@ -2,7 +2,7 @@
 
 ghost use Rattle.std.specs.Prelude.{◌≡◌, ◌++◌, ◌∷◌, [], ℕ, List, length, IfOk, OnOk, IfSome, option_copied, codes, decimal};
 ghost use Rattle.lint_words.specs.Lines.{IsLine, line_of};
-ghost use Rattle.finding_forms.specs.LineForm.{level_text, begin_of, place_text, code_text, hint_text, words_text, line_text};
+ghost use Rattle.finding_forms.specs.LineForm.{level_text, begin_of, line_place, code_text, line_hint, words_text, line_text};
 ghost use Rattle.finding_forms.specs.Loops.{AddsLine};
 
 use lint::{Finding, Level};
@@ -38,8 +38,8 @@ fn begin_of(lines: &TextLines<'_>, span: Span) -> (usize, usize)
 
 // The path, the line and the column, each with a colon.
 fn push_place(out: &mut Vec<u8>, path: &Line, line: usize, column: usize) -> Result<(), AllocError>
-    ensures place { OnOk result (out.new.items ≡ out.old.items ++ place_text path.now (line, column)) }
-    ensures is_line { OnOk result (IsLine (place_text path.now (line, column))) }
+    ensures place { OnOk result (out.new.items ≡ out.old.items ++ line_place path.now (line, column)) }
+    ensures is_line { OnOk result (IsLine (line_place path.now (line, column))) }
 {
     out.extend_from_slice(path.as_str().as_bytes())?;
     out.extend_from_slice(b":")?;
@@ -60,7 +60,7 @@ pub fn push_code(out: &mut Vec<u8>, code: Code) -> Result<(), AllocError>
 }
 
 fn push_hint(out: &mut Vec<u8>, hint: Option<&Line>) -> Result<(), AllocError>
-    ensures hint { OnOk result (out.new.items ≡ out.old.items ++ hint_text (option_copied hint.entry)) }
+    ensures hint { OnOk result (out.new.items ≡ out.old.items ++ line_hint (option_copied hint.entry)) }
     ensures is_line { OnOk result (IfSome (option_copied hint.entry) IsLine) }
 {
     match hint {

@@ -16,7 +16,7 @@ use Rattle.finder.proofs.Lists.{at_push, at_within}
 use Rattle.frame_screens.specs.Screens.{new_terminal, with_frame, with_frames, and_record, records, last_record}
 use Rattle.frame_screens.specs.Laws.{LooksSame}
 use Rattle.frame_screens.specs.Painted.{frames_to, IsAfter, IsKept, AreKept}
-use Rattle.frame_screens.specs.Loops.{before_by, IsBefore}
+use Rattle.frame_screens.specs.Loops.{before_by, IsTerminalBefore}
 use Rattle.frame_screens.proofs.Rows.{cleared, frames_alike, in_turn, new_is_screen}
 use Rattle.frame_screens.proofs.Ways.{earlier_by, last_sent, way_begins}
 
@@ -56,7 +56,7 @@ module _ (s : SurveyView) (finds : FindsReached s.groups s.base s.found) (place 
   then_this : with_frame (with_frames new_terminal before) f ≡ with_frames new_terminal (records s.base (frames_to s place))
   then_this = sym (ap (with_frames new_terminal) sent ∙ in_turn new_terminal before (f ∷ []))
 
-  pub after_before : (t : Screen) → IsBefore s place t → IsAfter s place (with_frame t f)
+  pub after_before : (t : Screen) → IsTerminalBefore s place t → IsAfter s place (with_frame t f)
   after_before t b =
       let on = frames_alike t (with_frames new_terminal before) (f ∷ []) b.screen (screen_of_frames before new_terminal new_is_screen) (b.same d at) in
       record {
@@ -82,7 +82,7 @@ one_frame s place lt f g a b =
     both_some (frame_at s.base at.0.id) f g (a at.0 at.1) (b at.0 at.1)
 
 -- a terminal after the parent's frame
-pub is_before : (s : SurveyView) (place : ℕ) (d : Discovered) (parent : ℕ) (t : Screen) → slice_get s.found place ≡ Some d → d.parent ≡ Some parent → IsAfter s parent t → IsBefore s place t
+pub is_before : (s : SurveyView) (place : ℕ) (d : Discovered) (parent : ℕ) (t : Screen) → slice_get s.found place ≡ Some d → d.parent ≡ Some parent → IsAfter s parent t → IsTerminalBefore s place t
 is_before s place d parent t at is after = record {
   screen = after.screen;
   same = λ e here.
@@ -91,7 +91,7 @@ is_before s place d parent t at is after = record {
 }
 
 -- a new one before the entry frame
-pub new_is_before : (s : SurveyView) (place : ℕ) (d : Discovered) → slice_get s.found place ≡ Some d → d.parent ≡ None → IsBefore s place new_terminal
+pub new_is_before : (s : SurveyView) (place : ℕ) (d : Discovered) → slice_get s.found place ≡ Some d → d.parent ≡ None → IsTerminalBefore s place new_terminal
 new_is_before s place d at is = record {
   screen = new_is_screen;
   same = λ e here.

@@ -20,10 +20,10 @@ use Rattle.session_machine.specs.Runs.{state_after, replies_to}
 use Rattle.finder.specs.declared.found.Discovered.{Discovered}
 use Rattle.finder.specs.Finds.{KeysLead, ScriptsLead, FindsReached, EntryIsFound, parent_by, parent_of, script}
 use Rattle.finder.proofs.Scripted.{scripts_lead}
-use Rattle.frame_screens.specs.Frames.{last_of, sent_by, sent_in, frames_sent, if_found, unless_left, keyed_frames, place_of, way_by}
+use Rattle.frame_screens.specs.Frames.{last_frame, sent_by, sent_in, frames_sent, if_entry_found, unless_left, keyed_frames, place_of, way_by}
 use Rattle.frame_screens.specs.Laws.{LeadsThere}
 
-last_more : (f g : Id) (ids : List Id) → last_of (f ∷ g ∷ ids) ≡ last_of (g ∷ ids)
+last_more : (f g : Id) (ids : List Id) → last_frame (f ∷ g ∷ ids) ≡ last_frame (g ∷ ids)
 last_more f g ids =
     let one : suc (suc (length ids)) - 1 ≡ suc (suc (length ids) - 1) = omega arith in
     ap (λ (n : ℕ). slice_get (f ∷ g ∷ ids) n) one
@@ -37,7 +37,7 @@ module _ (caller : List ℕ) (base : BaseView) where
 
   -- keys that lead to a frame leave the caller there, and it is sent last
   there : (keys : List Key) (f g : Id) (remembered : List Id) → KeysLead caller base f keys g
-      → (present (state_after caller base (At f remembered) keys) ≡ Some g) × (last_of (f ∷ sent_in (replies_to caller base (At f remembered) keys)) ≡ Some g)
+      → (present (state_after caller base (At f remembered) keys) ≡ Some g) × (last_frame (f ∷ sent_in (replies_to caller base (At f remembered) keys)) ≡ Some g)
   there [] f g remembered lead = (ap Some lead, ap Some lead)
   there (key ∷ keys) f g remembered lead =
       let h = lead.0 in
@@ -46,7 +46,7 @@ module _ (caller : List ℕ) (base : BaseView) where
       ap (key_step caller base (At f remembered)) lead.2 ∙ on in
       let rest = there keys h g (remember f remembered) lead.4 in (
         ap (λ (o : Outcome). present (state_after caller base o.0 keys)) here ∙ rest.0,
-        ap (λ (o : Outcome). last_of (f ∷ sent_in (o.1 ∷ replies_to caller base o.0 keys))) here
+        ap (λ (o : Outcome). last_frame (f ∷ sent_in (o.1 ∷ replies_to caller base o.0 keys))) here
             ∙ last_more f h (sent_in (replies_to caller base (At h (remember f remembered)) keys)) ∙ rest.1,
       )
 
@@ -91,7 +91,7 @@ module _ (caller : List ℕ) (base : BaseView) where
         let a = at_place found id place e in
         subst (λ (x : Id). KeysLead caller base (entry_of base) (script found place) x) a.2 (scripts.leads place a.0 a.1)
 
-    last_by : (id : Id) (o : Option ℕ) → place_of found id ≡ o → last_of (way_by caller base found id o) ≡ Some id
+    last_by : (id : Id) (o : Option ℕ) → place_of found id ≡ o → last_frame (way_by caller base found id o) ≡ Some id
     last_by id None e = refl
     last_by id (Some place) e = (there (script found place) (entry_of base) id [] (led id place e)).1
 
@@ -106,7 +106,7 @@ module _ (caller : List ℕ) (base : BaseView) where
         let ids = frames_sent caller base (script found place) in
         let state = state_after caller base (opening base) (script found place) in
         let at = (there (script found place) (entry_of base) id [] (led id place e)).0 in
-        ap (if_found (unless_left ids (left_for state))) entry.1 ∙ ap (unless_left ids) (not_left state id at)
+        ap (if_entry_found (unless_left ids (left_for state))) entry.1 ∙ ap (unless_left ids) (not_left state id at)
 
     leads_there : FindsReached caller base found → LeadsThere caller base found
     leads_there finds = record {
@@ -170,7 +170,7 @@ module _ (caller : List ℕ) (base : BaseView) (found : List Discovered) (finds 
   parent_before i d a at parent = (after_parent i d a at parent).0
 
   -- the frame is sent last
-  pub last_sent : (place : ℕ) (d : Discovered) → slice_get found place ≡ Some d → last_of (sent_to place) ≡ Some d.id
+  pub last_sent : (place : ℕ) (d : Discovered) → slice_get found place ≡ Some d → last_frame (sent_to place) ≡ Some d.id
   last_sent place d at = (there caller base (script found place) (entry_of base) d.id [] (scripts.leads place d at)).1
 
   pub parent_is_listed : (i : ℕ) (d : Discovered) (a : ℕ) → slice_get found i ≡ Some d → d.parent ≡ Some a

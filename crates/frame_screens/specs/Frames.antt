@@ -20,8 +20,8 @@ abbrev pub ids_of : BaseView → List Id
 ids_of base = map (λ f. f.id) base.frames
 
 -- the last of frames
-abbrev pub last_of : List Id → Option Id
-last_of ids = slice_get ids (length ids - 1)
+abbrev pub last_frame : List Id → Option Id
+last_frame ids = slice_get ids (length ids - 1)
 
 -- A session's frames.
 
@@ -49,15 +49,15 @@ unless_left ids None = Ok ids
 unless_left ids (Some page) = Err (none.Gone page)
 
 -- nor if the entry frame isn't found
-abbrev pub if_found : Result (List Id) NoScreen → Sought → Result (List Id) NoScreen
-if_found after (sought.Found price) = after
-if_found after sought.Closed = Err none.EntryClosed
-if_found after sought.Missing = Err none.EntryMissing
+abbrev pub if_entry_found : Result (List Id) NoScreen → Sought → Result (List Id) NoScreen
+if_entry_found after (sought.Found price) = after
+if_entry_found after sought.Closed = Err none.EntryClosed
+if_entry_found after sought.Missing = Err none.EntryMissing
 
 -- the frames whose screen is shown after a session's keys, or why there is none
 abbrev pub keyed_frames : List ℕ → BaseView → List Key → Result (List Id) NoScreen
 keyed_frames caller base keys =
-    if_found (unless_left (frames_sent caller base keys) (left_for (state_after caller base (opening base) keys))) (seek_entry caller base)
+    if_entry_found (unless_left (frames_sent caller base keys) (left_for (state_after caller base (opening base) keys))) (seek_entry caller base)
 
 -- the same, unless memory is refused
 abbrev pub IsKeyed : List ℕ → BaseView → List Key → Result (List Id) NoScreen → Type 0

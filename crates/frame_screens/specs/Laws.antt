@@ -16,7 +16,7 @@ use Rattle.cert_table.specs.Table.{CertView}
 use Rattle.checker.specs.declared.policy.Policy.{Policy}
 use Rattle.checker.specs.declared.verdict.Verdict.TheVariants.{Cleared}
 use Rattle.checker.specs.Verdict.{verdict}
-use Rattle.frame_screens.specs.Frames.{frames_sent, keyed_frames, last_of, place_of, way_by}
+use Rattle.frame_screens.specs.Frames.{frames_sent, keyed_frames, last_frame, place_of, way_by}
 use Rattle.frame_screens.specs.Screens.{new_terminal, with_frames, records, is_clearing}
 
 -- The headline, seen.
@@ -81,7 +81,7 @@ pub record FramesDecide : Type 0 where
 -- the last frame of the way to a frame is that frame; if a key reaches it, it is also the present one after its keys, and a
 -- session of these keys shows the way
 pub record LeadsThere (caller : List ℕ) (base : BaseView) (found : List Discovered) : Type 0 where
-  pub last : (id : Id) → last_of (way_by caller base found id (place_of found id)) ≡ Some id
+  pub last : (id : Id) → last_frame (way_by caller base found id (place_of found id)) ≡ Some id
   pub present : (id : Id) (place : ℕ) → place_of found id ≡ Some place → present (state_after caller base (opening base) (script found place)) ≡ Some id
   pub keyed : (id : Id) (place : ℕ) → place_of found id ≡ Some place
       → keyed_frames caller base (script found place) ≡ Ok (way_by caller base found id (Some place))

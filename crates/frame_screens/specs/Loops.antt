@@ -42,6 +42,6 @@ before_by s None = []
 before_by s (Some parent) = frames_to s parent
 
 -- a terminal that looks the same as the one on which the frame at a place is sent
-pub record IsBefore (s : SurveyView) (place : ℕ) (t : Screen) : Type 0 where
+pub record IsTerminalBefore (s : SurveyView) (place : ℕ) (t : Screen) : Type 0 where
   pub screen : IsScreen t
   pub same : (d : Discovered) → slice_get s.found place ≡ Some d → LooksSame t (with_frames new_terminal (records s.base (before_by s d.parent)))

@@ -7,7 +7,7 @@ use Rattle.frame_records.specs.declared.frame.Lead.TheVariants.{Clear, Keep}
 use Rattle.frame_records.specs.Bases.{BaseView, frame_at}
 use Rattle.terminal_codes.specs.Screen.{Screen, run}
 use Rattle.terminal_codes.specs.Bodies.{lead_codes}
-use Rattle.frame_screens.specs.Frames.{last_of}
+use Rattle.frame_screens.specs.Frames.{last_frame}
 
 -- Frames on a terminal.
 
@@ -67,7 +67,7 @@ with_rows top cells = (top ++ take 880 (drop 40 cells)) ++ blank_row
 
 -- the record of the last frame
 abbrev pub last_record : BaseView → List Id → Option Frame
-last_record base ids = option_and_then (frame_at base) (last_of ids)
+last_record base ids = option_and_then (frame_at base) (last_frame ids)
 
 -- the codes of the screen after frames of a base, with the centre's rows
 abbrev pub screen_codes : BaseView → List Id → List ℕ

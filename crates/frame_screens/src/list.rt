@@ -1,5 +1,5 @@
 ghost use Rattle.std.specs.Prelude.{◌≡◌, ◌∷◌, [], ◌++◌, Some, IfOk, OnOk, reverse};
-ghost use Rattle.frame_screens.specs.Frames.{last_of, sent_by};
+ghost use Rattle.frame_screens.specs.Frames.{last_frame, sent_by};
 
 use page_ids::FrameId;
 use session_machine::Reply;
@@ -67,7 +67,7 @@ impl FrameList {
 
     /// The frame that is sent last.
     pub fn last(&self) -> FrameId
-        ensures { last_of self.now ≡ Some result }
+        ensures { last_frame self.now ≡ Some result }
     {
         self.ids[self.ids.len() - 1]
     }

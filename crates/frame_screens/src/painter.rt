@@ -4,7 +4,7 @@ ghost use Rattle.std.specs.Prelude.{◌≡◌, ◌<◌, ◌≤◌, IfOk, Some, l
 ghost use Rattle.finder.specs.Finds.{FindsReached};
 ghost use Rattle.frame_screens.specs.Screens.{screen_codes};
 ghost use Rattle.frame_screens.specs.Painted.{frames_to, IsAfter, IsKept, AreKept};
-ghost use Rattle.frame_screens.specs.Loops.{IsBefore};
+ghost use Rattle.frame_screens.specs.Loops.{IsTerminalBefore};
 
 use crate::header::screen_with;
 use crate::sending::send;
@@ -68,7 +68,7 @@ fn terminal_before(survey: &Survey<'_>, kept: &[Option<Box<Terminal>>], place: u
     requires before { place ≤ length kept.now }
     requires found { place < length survey.now.found }
     requires kept { AreKept survey.now kept.now }
-    ensures { IsBefore survey.now place result }
+    ensures { IsTerminalBefore survey.now place result }
 {
     match reached_at(survey, place).parent {
         Some(parent) => terminal_after(survey, kept, parent as usize),

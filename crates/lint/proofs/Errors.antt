@@ -10,7 +10,7 @@ use Rattle.toml_places.specs.Places.{Mark, marks}
 use Rattle.lint.specs.declared.finding.Level.{Level}
 use Rattle.lint.specs.declared.finding.Level.TheVariants.{Error, Warning}
 use Rattle.lint.specs.Findings.{FindingView, warning_at, same_level, count_of, AreInOrder}
-use Rattle.lint.specs.Lint.{Subject, Length, Toml, Text, Whole, finding_of, ranks_of, finds_none, ids_of, table_of, unreached, warning, warning_if, unreached_findings, look_in, look_finding, look_findings, fault_finding, text_tables, IsAudited}
+use Rattle.lint.specs.Lint.{Subject, Length, Toml, Text, Whole, finding_of, ranks_of, finds_none, frame_ids, table_of, unreached, warning, warning_if, unreached_findings, look_in, look_finding, look_findings, fault_finding, text_tables, IsAudited}
 use Rattle.lint_words.specs.FaultWords.{none_reached_words}
 use Rattle.lint_words.specs.WarningWords.{line_end_words, escape_words}
 use Rattle.lint_words.specs.WordsOf.{WordsView}
@@ -92,7 +92,7 @@ module _ (judged findings : List FindingView) (order : AreInOrder judged finding
       let tables = text_tables text in
       let faults = fault_finding text ms tables base policy (ranks_of a.found) in
       let none = finds_none a.found in
-      let ids = ids_of (unreached policy.groups (ranks_of a.found) base.frames) in
+      let ids = frame_ids (unreached policy.groups (ranks_of a.found) base.frames) in
       let out = unreached_findings text ms tables none ids in
       let looks = look_findings text ms tables (looks_of base.frames) in
       let weight : FindingView → ℕ = λ (g : FindingView). cond (same_level g.level Error) 1 0 in

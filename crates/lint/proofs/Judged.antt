@@ -11,7 +11,7 @@ use Rattle.base_text.specs.declared.detail.TextFault.{TextFault}
 use Rattle.base_text.specs.declared.whole_fault.WholeFault.{WholeFault}
 use Rattle.base_text.specs.declared.listed.Listed.{Listed}
 use Rattle.base_text.specs.Drafts.{DraftView, framed, draft_of, text_faults, BeginAlike}
-use Rattle.base_text.specs.Whole.{PartsView, tree_of, parts_of}
+use Rattle.base_text.specs.Whole.{PartsView, tree_of, listed_parts}
 use Rattle.base_text.specs.WholeFaults.{AreWholeFaults}
 use Rattle.frame_records.specs.Bases.{BaseView, IsBaseOf}
 use Rattle.toml_places.specs.Places.{marks}
@@ -54,7 +54,7 @@ each_subject text (t ∷ ts) whole = ap (λ fs. text_finding text (marks text) t
 
 module _ (text : List ℕ) (policy : Policy) (findings : List FindingView) where
   parts : (ms : Members) (e : ℕ) → nat_lt MOST_TEXT (length text) ≡ false → tree_of text ≡ Some ms → (draft_of ms).faults ≡ [] → (draft_of ms).entry ≡ Some e
-      → parts_of text ≡ Ok (record { entry = e; outside = (draft_of ms).outside; frames = map framed (draft_of ms).frames })
+      → listed_parts text ≡ Ok (record { entry = e; outside = (draft_of ms).outside; frames = map framed (draft_of ms).frames })
   parts ms e short tree sound entry = rw (short, tree, none (draft_of ms).faults (text_faults ms) (begin_alike ms) sound, entry) refl where
     none : (listed all : List TextFault) → BeginAlike listed all → listed ≡ [] → all ≡ []
     none [] [] alike e = refl

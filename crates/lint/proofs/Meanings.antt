@@ -13,13 +13,13 @@ use Rattle.fault_scripts.proofs.OneList.{faults_one}
 use Rattle.lint.specs.declared.finding.Level.TheVariants.{Error}
 use Rattle.lint.specs.Findings.{FindingView, count_of, AreInOrder}
 use Rattle.lint.specs.Lint.{Subject, IsJudgedBy, IsAudited, IsLint}
-use Rattle.lint.specs.Laws.{IsAnswer, answer_of, AreOfAudit, AreByAnswer, LintFollowsBaseRead, IsCertified, DecidesSafety}
+use Rattle.lint.specs.Laws.{IsReadAnswer, answer_of, AreOfAudit, AreByAnswer, LintFollowsBaseRead, IsCertified, LintDecidesSafety}
 use Rattle.lint.proofs.Errors.{text_errors, audit_errors}
 use Rattle.lint.proofs.Readings.{agreed}
 
 -- by what is wrong with the text, which base_read answers
 by_subjects : (text : List ℕ) (policy : Policy) (judged findings : List FindingView) (answer : Result BaseView BaseFault) (subjects : List Subject)
-    → IsJudgedBy subjects text policy judged → AreInOrder judged findings → IsAnswer text answer → Agrees answer_of answer subjects
+    → IsJudgedBy subjects text policy judged → AreInOrder judged findings → IsReadAnswer text answer → Agrees answer_of answer subjects
     → AreByAnswer text policy findings answer
 by_subjects text policy judged findings (Ok base) [] by order is h =
     (judged, subst (λ b. IsAudited text policy b judged) (one_text_base text by.0 base by.1 is) by.2, order)
@@ -49,7 +49,7 @@ module _ (text : List ℕ) (policy : Policy) (findings : List FindingView) (lint
         (by.0, by.1, subst (AreFaults by.0 policy) (nil_from_length by.2.faults faults) by.2.are_faults)
     on (s ∷ ss) by = absurd (text_errors lint.0 findings lint.2 text s ss by none)
 
-  pub decided : DecidesSafety text policy findings
+  pub decided : LintDecidesSafety text policy findings
   decided = record {
     certified = (
       certified,

@@ -11,15 +11,15 @@ use Rattle.base_text.specs.declared.fault.BaseCause.{BaseCause}
 use Rattle.base_text.specs.declared.fault.BaseCause.TheVariants as cause
 use Rattle.base_text.specs.declared.detail.TextFault.{TextFault}
 use Rattle.base_text.specs.declared.whole_fault.WholeFault.{WholeFault}
-use Rattle.base_text.specs.Drafts.{DraftView, framed, draft_of, text_faults, BeginAlike, base_fault}
+use Rattle.base_text.specs.Drafts.{DraftView, framed, draft_of, text_faults, BeginAlike, draft_fault}
 use Rattle.base_text.specs.Frames.{top_fault}
-use Rattle.base_text.specs.Whole.{PartsView, parts_or, parts_of, table_parts, tree_parts, tree_of, build_cause, IsWholeCause, IsFaultOf}
+use Rattle.base_text.specs.Whole.{PartsView, parts_or, listed_parts, table_parts, tree_parts, tree_of, build_cause, IsWholeCause, IsFaultOf}
 use Rattle.base_text.specs.WholeFaults.{AreWholeFaults, Agrees, build_fault, whole_cause}
 use Rattle.base_text.proofs.KeptDetails.{begin_alike}
 use Rattle.base_text.proofs.SoundFrames as lemmas
 use Rattle.base_text.proofs.WholeAgreements.{all_agree}
 use Rattle.lint.specs.Lint.{Subject, Length, Toml, Text, Whole, faulty, AreTreeSubjects, AreSubjects}
-use Rattle.lint.specs.Laws.{IsAnswer, answer_of}
+use Rattle.lint.specs.Laws.{IsReadAnswer, answer_of}
 
 -- the refusal of a whole that has the cause
 pub record IsRefusal (outside : List ℕ) (frames : List Frame) (c : BaseCause) : Type 0 where
@@ -102,7 +102,7 @@ module _ (ms : Members) (whole : List WholeFault) where
       on [] [] e alike b = entered d.entry refl (lemmas.entry ms e) b
       on [] (u ∷ us) e alike b = absurd alike
       on (t ∷ ts) [] e alike b = absurd alike
-      on (t ∷ ts) (u ∷ us) e alike b = of_itself (base_fault u) (Text t) _ answer alike b
+      on (t ∷ ts) (u ∷ us) e alike b = of_itself (draft_fault u) (Text t) _ answer alike b
 
 of_tree : (text : List ℕ) (tree : Option Members) (subjects : List Subject) (answer : Result BaseView BaseFault) → AreTreeSubjects text tree subjects
     → IsAnswerTo (tree_parts tree) answer → Agrees answer_of answer subjects
@@ -110,13 +110,13 @@ of_tree text None subjects answer are a = subst (Agrees answer_of answer) (sym a
 of_tree text (Some ms) subjects answer are a = subst (Agrees answer_of answer) (sym are.2) (of_draft ms are.0 are.1 answer a)
 
 -- nothing is wrong with a text if base_read answers a base; else the first is what it answers
-pub agreed : (text : List ℕ) (subjects : List Subject) (answer : Result BaseView BaseFault) → AreSubjects text subjects → IsAnswer text answer
+pub agreed : (text : List ℕ) (subjects : List Subject) (answer : Result BaseView BaseFault) → AreSubjects text subjects → IsReadAnswer text answer
     → Agrees answer_of answer subjects
 agreed text subjects answer are a = on (nat_lt MOST_TEXT (length text)) refl (as_parts answer a) where
-  as_parts : (r : Result BaseView BaseFault) → IsAnswer text r → IsAnswerTo (parts_of text) r
+  as_parts : (r : Result BaseView BaseFault) → IsReadAnswer text r → IsAnswerTo (listed_parts text) r
   as_parts (Ok base) b = b
   as_parts (Err fault) b = b
 
-  on : (long : Bool) → nat_lt MOST_TEXT (length text) ≡ long → IsAnswerTo (parts_of text) answer → Agrees answer_of answer subjects
+  on : (long : Bool) → nat_lt MOST_TEXT (length text) ≡ long → IsAnswerTo (listed_parts text) answer → Agrees answer_of answer subjects
   on true e b = subst (Agrees answer_of answer) (sym (rw e at are)) (of_itself (top_fault cause.TooLong) Length [] answer refl (rw e at b))
   on false e b = of_tree text (tree_of text) subjects answer (rw e at are) (rw e at b)

@@ -39,9 +39,9 @@ use Rattle.toml_places.proofs.Within.{places_are_within}
 use Rattle.lint.specs.Findings.{FindingView, warning_at}
 use Rattle.lint.specs.Tables.{TableView, is_in_line, value_at, element_at, frame_element, header_span, frame_whole, whole, table_at}
 use Rattle.frame_records.specs.declared.limits.TheConstants.{MOST_LISTED}
-use Rattle.lint.specs.Outside.{is_page, page_in, element_if, page_from, page_at, element_of}
-use Rattle.lint.specs.Spots.{key_at, pair_at, key_of, value_of, route_key, route_pair, item_of, char_of, later, unknown_at, digit_at, is_routes, listed_at, row_at, body_char, detail_at, detail_span, has_rows, shown_at, whole_at, whole_span, pressed_at, byte_at, touched_at, kind_at, audit_span, row_span, entry_span, is_byte, is_one, feed_span, ended_span, line_end_at, single_span, single_at, kind_table, whole_table}
-use Rattle.lint.specs.Lint.{Subject, Length, Toml, Text, Whole, finding_of, faulty, IsWithin, AreSubjects, AreSubjectsIf, AreTreeSubjects, IsJudgedBy, text_tables, warning, warning_if, unreached_findings, look_in, look_finding, look_findings, fault_finding, ranks_of, finds_none, ids_of, unreached, table_of, text_finding, whole_finding, IsAudited}
+use Rattle.lint.specs.Outside.{is_page, page_in_span, element_if, page_from, page_at, outside_element}
+use Rattle.lint.specs.Spots.{span_of_key, span_of_pair, key_of, span_of_value, route_key, route_pair, item_of, char_of, later, unknown_at, digit_at, is_routes, listed_at, span_of_row, body_char, detail_at, detail_span, has_rows, shown_at, whole_at, whole_span, pressed_at, byte_at, touched_at, kind_at, audit_span, row_span, entry_span, is_this_byte, is_one, feed_span, ended_span, line_end_at, single_span, single_at, kind_table, whole_table}
+use Rattle.lint.specs.Lint.{Subject, Length, Toml, Text, Whole, finding_of, faulty, IsSpanWithin, AreSubjects, AreSubjectsIf, AreTreeSubjects, IsJudgedBy, text_tables, warning, warning_if, unreached_findings, look_in, look_finding, look_findings, fault_finding, ranks_of, finds_none, frame_ids, unreached, table_of, text_finding, whole_finding, IsAudited}
 use Rattle.lint_words.specs.FaultWords.{none_reached_words}
 use Rattle.lint_words.specs.declared.warning_words.LineEnd.{LineEnd}
 use Rattle.lint_words.specs.declared.warning_words.LineEnd.TheVariants.{Feed, Return}
@@ -57,13 +57,13 @@ use Rattle.lint.proofs.Judged.{each_subject}
 -- the span, if there is one, lies in the text
 abbrev Lies : List ℕ → Option Span → Type 0
 Lies text None = Unit {0}
-Lies text (Some s) = IsWithin text s
+Lies text (Some s) = IsSpanWithin text s
 
 or_lies : (text : List ℕ) (a b : Option Span) → Lies text a → Lies text b → Lies text (option_or a b)
 or_lies text None b x y = y
 or_lies text (Some s) b x y = x
 
-else_lies : (text : List ℕ) (a : Option Span) (s : Span) → Lies text a → IsWithin text s → IsWithin text (unwrap_or a s)
+else_lies : (text : List ℕ) (a : Option Span) (s : Span) → Lies text a → IsSpanWithin text s → IsSpanWithin text (unwrap_or a s)
 else_lies text None s x y = y
 else_lies text (Some r) s x y = x
 
@@ -71,7 +71,7 @@ then_lies : {A : Type 0} (text : List ℕ) (o : Option A) (f : A → Option Span
 then_lies text None f h = tt
 then_lies text (Some a) f h = h a
 
-map_lies : (text : List ℕ) (o : Option Span) (f : Span → Span) → ((s : Span) → IsWithin text s → IsWithin text (f s)) → Lies text o → Lies text (option_map f o)
+map_lies : (text : List ℕ) (o : Option Span) (f : Span → Span) → ((s : Span) → IsSpanWithin text s → IsSpanWithin text (f s)) → Lies text o → Lies text (option_map f o)
 map_lies text None f h x = tt
 map_lies text (Some s) f h x = h s x
 
@@ -98,25 +98,25 @@ element_lies text spot k = then_lies text (value_at text spot) (λ v. element_sp
 
 -- a table whose items lie in its text
 module _ (t : TableView) (items : (k : ℕ) → Lies t.text (t.item k)) where
-  key_at_lies : (spot : Option KeyPlace) → Lies t.text (key_at t.text spot)
+  key_at_lies : (spot : Option KeyPlace) → Lies t.text (span_of_key t.text spot)
   key_at_lies spot = then_lies t.text spot (λ s. key_span s t.text) (λ s. piece_lies (key_piece s.part) (spans_stand.keys s.part) t.text s.at)
 
-  pair_at_lies : (spot : Option KeyPlace) → Lies t.text (pair_at t.text spot)
+  pair_at_lies : (spot : Option KeyPlace) → Lies t.text (span_of_pair t.text spot)
   pair_at_lies spot = then_lies t.text spot (λ s. pair_span s t.text) (λ s. piece_lies (pair_piece s.part) (spans_stand.pairs s.part) t.text s.at)
 
-  value_of_lies : (key : List ℕ) → Lies t.text (value_of t key)
+  value_of_lies : (key : List ℕ) → Lies t.text (span_of_value t key)
   value_of_lies key = value_lies t.text (t.key key)
 
   route_key_lies : (key : List ℕ) → Lies t.text (route_key t key)
-  route_key_lies key = or_lies t.text (key_at t.text (t.route key)) _ (key_at_lies (t.route key)) (value_of_lies (codes "routes"))
+  route_key_lies key = or_lies t.text (span_of_key t.text (t.route key)) _ (key_at_lies (t.route key)) (value_of_lies (codes "routes"))
 
   route_pair_lies : (key : List ℕ) → Lies t.text (route_pair t key)
-  route_pair_lies key = or_lies t.text (pair_at t.text (t.route key)) _ (pair_at_lies (t.route key)) (value_of_lies (codes "routes"))
+  route_pair_lies key = or_lies t.text (span_of_pair t.text (t.route key)) _ (pair_at_lies (t.route key)) (value_of_lies (codes "routes"))
 
   item_lies : (key : List ℕ) (k : ℕ) → Lies t.text (item_of t key k)
   item_lies key k = or_lies t.text (t.item k) _ (items k) (value_of_lies key)
 
-  char_lies : (k : ℕ) (s : Span) → IsWithin t.text s → IsWithin t.text (char_of t k s)
+  char_lies : (k : ℕ) (s : Span) → IsSpanWithin t.text s → IsSpanWithin t.text (char_of t k s)
   char_lies k s within = else_lies t.text (char_span k s.begin t.text) s (piece_lies (string_char k) (spans_stand.chars k) t.text s.begin) within
 
   unknown_lies : (k : TableKind) (key : List ℕ) → Lies t.text (unknown_at t k key)
@@ -130,11 +130,11 @@ module _ (t : TableView) (items : (k : ℕ) → Lies t.text (t.item k)) where
   listed_lies : (f : Field) (n : ℕ) → Lies t.text (listed_at t f n)
   listed_lies f n = if_lies t.text (is_routes f) (digit_at t n) (item_of t (field_name f) (n - 1)) (digit_lies n) (item_lies (field_name f) (n - 1))
 
-  row_lies : (n : ℕ) → Lies t.text (row_at t n)
+  row_lies : (n : ℕ) → Lies t.text (span_of_row t n)
   row_lies n = item_lies (codes "rows") (n - 1)
 
   body_char_lies : (k : ℕ) → Lies t.text (body_char t k)
-  body_char_lies k = map_lies t.text (value_of t (codes "body")) (char_of t k) (char_lies k) (value_of_lies (codes "body"))
+  body_char_lies k = map_lies t.text (span_of_value t (codes "body")) (char_of t k) (char_lies k) (value_of_lies (codes "body"))
 
   detail_at_lies : (d : Detail) → Lies t.text (detail_at t d)
   detail_at_lies (UnknownKey k key) = unknown_lies k key
@@ -150,8 +150,8 @@ module _ (t : TableView) (items : (k : ℕ) → Lies t.text (t.item k)) where
   detail_at_lies BodyAndRows =
       later_lies t.text (key_of t (codes "body")) (key_of t (codes "rows")) (key_at_lies (t.key (codes "body"))) (key_at_lies (t.key (codes "rows")))
   detail_at_lies (RowTooLong n length) = row_lies n
-  detail_at_lies (RowCode n i c) = map_lies t.text (row_at t n) (char_of t (i - 1)) (char_lies (i - 1)) (row_lies n)
-  detail_at_lies (MoreRowCodes n i more) = map_lies t.text (row_at t n) (char_of t (i - 1)) (char_lies (i - 1)) (row_lies n)
+  detail_at_lies (RowCode n i c) = map_lies t.text (span_of_row t n) (char_of t (i - 1)) (char_lies (i - 1)) (row_lies n)
+  detail_at_lies (MoreRowCodes n i more) = map_lies t.text (span_of_row t n) (char_of t (i - 1)) (char_lies (i - 1)) (row_lies n)
   detail_at_lies (BadFrame text) = value_of_lies (codes "id")
 
   shown_lies : Lies t.text (shown_at t)
@@ -177,7 +177,7 @@ module _ (t : TableView) (items : (k : ℕ) → Lies t.text (t.item k)) where
   byte_lies (Some start) = body_char_lies start.offset
 
   touched_lies : (start : Option Start) → Lies t.text (touched_at t start)
-  touched_lies start = if_lies t.text (has_rows t) (row_at t 22) (byte_at t start) (row_lies 22) (byte_lies start)
+  touched_lies start = if_lies t.text (has_rows t) (span_of_row t 22) (byte_at t start) (row_lies 22) (byte_lies start)
 
   kind_lies : (fault : Fault) (k : FaultKind) → Lies t.text (kind_at t fault k)
   kind_lies fault fault_kind.EntryMissing = value_of_lies (codes "entry")
@@ -189,7 +189,7 @@ module _ (t : TableView) (items : (k : ℕ) → Lies t.text (t.item k)) where
   kind_lies fault fault_kind.NoReturn = tt
 
 module _ (text : List ℕ) where
-  frame_lies : (k : ℕ) → IsWithin text (frame_whole text (marks text) k)
+  frame_lies : (k : ℕ) → IsSpanWithin text (frame_whole text (marks text) k)
   unfolding PlacesAreWithin
   frame_lies k =
       else_lies text (option_or (header_span text (marks text) k) (frame_element text (marks text) (Some k))) _
@@ -198,17 +198,17 @@ module _ (text : List ℕ) where
       (element_lies text (first_spot (marks text) None (frame_key ∷ [])) k))
       (record { ascends = le_refl _; within = (places_are_within text k []).0 })
 
-  whole_lies : (frame : Option ℕ) → IsWithin text (whole text (marks text) frame)
+  whole_lies : (frame : Option ℕ) → IsSpanWithin text (whole text (marks text) frame)
   whole_lies None = record { ascends = omega arith; within = prefix_len-le-length is_in_line text }
   whole_lies (Some k) = frame_lies k
 
-  in_table : (frame : Option ℕ) (o : Option Span) → Lies text o → IsWithin text (unwrap_or o (whole text (marks text) frame))
+  in_table : (frame : Option ℕ) (o : Option Span) → Lies text o → IsSpanWithin text (unwrap_or o (whole text (marks text) frame))
   in_table frame o lies = else_lies text o (whole text (marks text) frame) lies (whole_lies frame)
 
   items_lie : (frame : Option ℕ) (k : ℕ) → Lies text ((table_at text (marks text) frame).item k)
   items_lie frame k = element_lies text _ k
 
-  detail_lies : (frame : Option ℕ) (d : Detail) → IsWithin text (detail_span (table_at text (marks text) frame) d)
+  detail_lies : (frame : Option ℕ) (d : Detail) → IsSpanWithin text (detail_span (table_at text (marks text) frame) d)
   detail_lies frame d = let t = table_at text (marks text) frame in in_table frame (detail_at t d) (detail_at_lies t (items_lie frame) d)
 
   page_lies : (page n k : ℕ) → Lies text (page_from (table_at text (marks text) None) page n k)
@@ -217,11 +217,11 @@ module _ (text : List ℕ) where
   page_lies page (suc n) k =
       let t = table_at text (marks text) None in
       or_lies text (element_if t page k) _ (on (t.item k) (items_lie None k)) (page_lies page n (k + 1)) where
-        on : (o : Option Span) → Lies text o → Lies text (option_and_then (λ s. if is_page page (page_in text s) then Some s else None) o)
+        on : (o : Option Span) → Lies text o → Lies text (option_and_then (λ s. if is_page page (page_in_span text s) then Some s else None) o)
         on None lies = tt
-        on (Some s) lies = if_lies text (is_page page (page_in text s)) (Some s) None lies tt
+        on (Some s) lies = if_lies text (is_page page (page_in_span text s)) (Some s) None lies tt
 
-  element_of_lies : (w : WholeFault) → Lies text (element_of (page_at (table_at text (marks text) None)) w)
+  element_of_lies : (w : WholeFault) → Lies text (outside_element (page_at (table_at text (marks text) None)) w)
   element_of_lies (TooManyFrames n) = tt
   element_of_lies (TooManyOutside n) = tt
   element_of_lies (BodyTooLong table id n) = tt
@@ -230,30 +230,30 @@ module _ (text : List ℕ) where
   element_of_lies (OutsideInside page) = page_lies page MOST_LISTED 0
 
   whole_fault_lies : (frame : Option ℕ) (w : WholeFault)
-      → IsWithin text (whole_span (table_at text (marks text) frame) (element_of (page_at (table_at text (marks text) None)) w) w)
+      → IsSpanWithin text (whole_span (table_at text (marks text) frame) (outside_element (page_at (table_at text (marks text) None)) w) w)
   whole_fault_lies frame w =
       let t = table_at text (marks text) frame in
-      let element = element_of (page_at (table_at text (marks text) None)) w in
+      let element = outside_element (page_at (table_at text (marks text) None)) w in
       in_table frame (option_or element (whole_at t w)) (or_lies text element _ (element_of_lies w) (whole_at_lies t (items_lie frame) w))
 
-  audit_lies : (frame : Option ℕ) (fault : Fault) → IsWithin text (audit_span (table_at text (marks text) frame) fault)
+  audit_lies : (frame : Option ℕ) (fault : Fault) → IsSpanWithin text (audit_span (table_at text (marks text) frame) fault)
   audit_lies frame fault =
       let t = table_at text (marks text) frame in in_table frame (kind_at t fault fault.kind) (kind_lies t (items_lie frame) fault fault.kind)
 
   abbrev AllLie : List FindingView → Type 0
-  AllLie findings = All (λ f. IsWithin text f.span) findings
+  AllLie findings = All (λ f. IsSpanWithin text f.span) findings
 
-  each : {X : Type 0} (f : X → FindingView) → ((x : X) → IsWithin text (f x).span) → (xs : List X) → AllLie (map f xs)
-  each f lies xs = All-map (λ g. IsWithin text g.span) f xs (λ k d lt. lies (get_or xs k d))
+  each : {X : Type 0} (f : X → FindingView) → ((x : X) → IsSpanWithin text (f x).span) → (xs : List X) → AllLie (map f xs)
+  each f lies xs = All-map (λ g. IsSpanWithin text g.span) f xs (λ k d lt. lies (get_or xs k d))
 
   -- a subject that is toml's has its span in the text
   abbrev HasSpan : Subject → Type 0
   HasSpan Length = Unit {0}
-  HasSpan (Toml span message) = IsWithin text span
+  HasSpan (Toml span message) = IsSpanWithin text span
   HasSpan (Text fault) = Unit {0}
   HasSpan (Whole fault) = Unit {0}
 
-  subject_lies : (s : Subject) → HasSpan s → IsWithin text (finding_of text s).span
+  subject_lies : (s : Subject) → HasSpan s → IsSpanWithin text (finding_of text s).span
   subject_lies Length h = record { ascends = le_refl 0; within = omega arith }
   subject_lies (Toml span message) h = h
   subject_lies (Text fault) h = detail_lies fault.frame fault.detail
@@ -266,7 +266,7 @@ module _ (text : List ℕ) where
   faulty_lie faults ws =
       let m = marks text in
       subst AllLie (each_subject text faults ws)
-      (All-append (λ f. IsWithin text f.span) (map (text_finding text m) faults) (map (whole_finding text m) ws)
+      (All-append (λ f. IsSpanWithin text f.span) (map (text_finding text m) faults) (map (whole_finding text m) ws)
       (each (text_finding text m) (λ t. detail_lies t.frame t.detail) faults)
       (each (whole_finding text m) (λ w. whole_fault_lies (whole_table w) w) ws))
 
@@ -280,42 +280,42 @@ module _ (text : List ℕ) where
     on true is = subst (λ ss. AllLie (map (finding_of text) ss)) (sym is) (one_lies Length tt)
     on false is = tree_lies (tree_of text) subjects is
 
-  row_span_lies : (frame : Option ℕ) (n : ℕ) → IsWithin text (row_span (table_at text (marks text) frame) n)
+  row_span_lies : (frame : Option ℕ) (n : ℕ) → IsSpanWithin text (row_span (table_at text (marks text) frame) n)
   row_span_lies frame n =
-      let t = table_at text (marks text) frame in in_table frame (row_at t n) (row_lies t (items_lie frame) n)
+      let t = table_at text (marks text) frame in in_table frame (span_of_row t n) (row_lies t (items_lie frame) n)
 
-  entry_lies : IsWithin text (entry_span (table_at text (marks text) None))
-  entry_lies = let t = table_at text (marks text) None in in_table None (value_of t (codes "entry")) (value_of_lies t (items_lie None) (codes "entry"))
+  entry_lies : IsSpanWithin text (entry_span (table_at text (marks text) None))
+  entry_lies = let t = table_at text (marks text) None in in_table None (span_of_value t (codes "entry")) (value_of_lies t (items_lie None) (codes "entry"))
 
   single_lies : (frame : Option ℕ) (n : ℕ) → Lies text (single_at (table_at text (marks text) frame) n)
   single_lies frame n =
       let t = table_at text (marks text) frame in on (t.item (n - 1)) (items_lie frame (n - 1)) where
         on : (o : Option Span) → Lies text o → Lies text (option_and_then (single_span text) o)
         on None lies = tt
-        on (Some s) lies = if_lies text (is_byte 0x27 (slice_get text s.begin)) (Some s) None lies tt
+        on (Some s) lies = if_lies text (is_this_byte 0x27 (slice_get text s.begin)) (Some s) None lies tt
 
-  kept_lies : (keep : Span → Option Span) → ((s : Span) → IsWithin text s → Lies text (keep s)) → (o : Option Span) → Lies text o → Lies text (option_and_then keep o)
+  kept_lies : (keep : Span → Option Span) → ((s : Span) → IsSpanWithin text s → Lies text (keep s)) → (o : Option Span) → Lies text o → Lies text (option_and_then keep o)
   kept_lies keep keeps None lies = tt
   kept_lies keep keeps (Some s) lies = keeps s lies
 
-  ended_lies : (end : LineEnd) (s : Span) → IsWithin text s → Lies text (ended_span end text s)
+  ended_lies : (end : LineEnd) (s : Span) → IsSpanWithin text s → Lies text (ended_span end text s)
   ended_lies Feed s lies = lies
-  ended_lies Return s lies = if_lies text (is_byte 0x0D (slice_get text (s.begin - 1))) (Some s) None lies tt
+  ended_lies Return s lies = if_lies text (is_this_byte 0x0D (slice_get text (s.begin - 1))) (Some s) None lies tt
 
   line_end_lies : (frame : Option ℕ) (end : LineEnd) (k : ℕ) → Lies text (line_end_at (table_at text (marks text) frame) end k)
   line_end_lies frame end k =
       let t = table_at text (marks text) frame in
       kept_lies (ended_span end text) (ended_lies end) (option_and_then (feed_span text) (body_char t k))
-      (kept_lies (feed_span text) (λ s lies. if_lies text (is_one s && is_byte 0x0A (slice_get text s.begin)) (Some s) None lies tt) (body_char t k)
+      (kept_lies (feed_span text) (λ s lies. if_lies text (is_one s && is_this_byte 0x0A (slice_get text s.begin)) (Some s) None lies tt) (body_char t k)
       (body_char_lies t (items_lie frame) k))
 
-  one_lie : (f : FindingView) → IsWithin text f.span → AllLie (f ∷ [])
+  one_lie : (f : FindingView) → IsSpanWithin text f.span → AllLie (f ∷ [])
   one_lie f lies = each (λ (u : Unit {0}). f) (λ u. lies) (tt ∷ [])
 
   none_lie : AllLie []
-  none_lie = All-map (λ f. IsWithin text f.span) (λ (f : FindingView). f) [] (λ k d lt. absurd (omega (arith, lt)))
+  none_lie = All-map (λ f. IsSpanWithin text f.span) (λ (f : FindingView). f) [] (λ k d lt. absurd (omega (arith, lt)))
 
-  one_or_none : (b : Bool) (f : FindingView) → IsWithin text f.span → AllLie (if b then f ∷ [] else [])
+  one_or_none : (b : Bool) (f : FindingView) → IsSpanWithin text f.span → AllLie (if b then f ∷ [] else [])
   one_or_none true f lies = one_lie f lies
   one_or_none false f lies = none_lie
 
@@ -332,7 +332,7 @@ module _ (text : List ℕ) where
   looks_lie : (looks : List (Id × Look)) → AllLie (look_findings text (marks text) (text_tables text) looks)
   looks_lie [] = none_lie
   looks_lie (p ∷ ps) =
-      All-append (λ f. IsWithin text f.span) (look_finding text (marks text) (text_tables text) p) (look_findings text (marks text) (text_tables text) ps)
+      All-append (λ f. IsSpanWithin text f.span) (look_finding text (marks text) (text_tables text) p) (look_findings text (marks text) (text_tables text) ps)
       (look_lies (Some (table_of (text_tables text) p.0)) p.0 p.1) (looks_lie ps)
 
   unreached_lie : (none : Bool) (ids : List Id) → AllLie (unreached_findings text (marks text) (text_tables text) none ids)
@@ -348,11 +348,11 @@ module _ (text : List ℕ) where
       let tables = text_tables text in
       let faults = fault_finding text m tables base policy (ranks_of a.found) in
       let none = finds_none a.found in
-      let ids = ids_of (unreached policy.groups (ranks_of a.found) base.frames) in
+      let ids = frame_ids (unreached policy.groups (ranks_of a.found) base.frames) in
       let looks = looks_of base.frames in
       subst AllLie (sym a.all)
-      (All-append (λ f. IsWithin text f.span) (map faults a.faults ++ unreached_findings text m tables none ids) (look_findings text m tables looks)
-      (All-append (λ f. IsWithin text f.span) (map faults a.faults) (unreached_findings text m tables none ids)
+      (All-append (λ f. IsSpanWithin text f.span) (map faults a.faults ++ unreached_findings text m tables none ids) (look_findings text m tables looks)
+      (All-append (λ f. IsSpanWithin text f.span) (map faults a.faults) (unreached_findings text m tables none ids)
       (each faults (λ fault. audit_lies (kind_table (table_of tables fault.frame) fault.kind) fault) a.faults)
       (unreached_lie none ids)) (looks_lie looks))
 
@@ -363,4 +363,4 @@ module _ (text : List ℕ) where
 
 pub spans_lie : LintSpansLieIn
 spans_lie text policy findings lint =
-    All-permutation (λ f. IsWithin text f.span) lint.0 findings lint.2.same (judged_lie text policy lint.0 lint.1.0 lint.1.1 lint.1.2)
+    All-permutation (λ f. IsSpanWithin text f.span) lint.0 findings lint.2.same (judged_lie text policy lint.0 lint.1.0 lint.1.1 lint.1.2)

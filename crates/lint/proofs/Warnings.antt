@@ -22,7 +22,7 @@ use Rattle.lint.specs.declared.finding.Level.TheVariants.{Error}
 use Rattle.lint.specs.Findings.{FindingView, AreInOrder}
 use Rattle.lint.specs.Lookups.{value_of}
 use Rattle.lint.specs.Looks.{looks_of}
-use Rattle.lint.specs.Lint.{ranks_of, finds_none, is_unreached, unreached, ids_of, warning, none_reached, unreached_findings, look_findings, fault_finding, text_tables}
+use Rattle.lint.specs.Lint.{ranks_of, finds_none, is_unreached, unreached, frame_ids, warning, none_reached, unreached_findings, look_findings, fault_finding, text_tables}
 use Rattle.lint.specs.Laws.{IsCutOff, AreOfAudit, WarnsOfCutOff, LintWarnsOfUnreached}
 use Rattle.lint.proofs.Meanings.{follows}
 use Rattle.std.proofs.lemmas.Bool.{and_parts}
@@ -59,7 +59,7 @@ unranked [] id = refl
 unranked (d ∷ ds) id = none_or (value_of (ranks_of ds) id) (id_eq d.id id) d.rank (list_any (λ e. id_eq e.id id) ds) (unranked ds id)
 
 -- one finding for each frame of a list of ids
-each : (f : Id → FindingView) (frames : List Frame) → map f (ids_of frames) ≡ map (λ (g : Frame). f g.id) frames
+each : (f : Id → FindingView) (frames : List Frame) → map f (frame_ids frames) ≡ map (λ (g : Frame). f g.id) frames
 each f [] = refl
 each f (g ∷ gs) = ap (λ fs. f g.id ∷ fs) (each f gs)
 
@@ -119,11 +119,11 @@ once groups base [] up = λ i j d lt within same. absurd (omega (arith, within))
 once groups base (d ∷ ds) up = AllPairs-filter (λ f g. f.id ≢ g.id) (is_unreached groups (ranks_of (d ∷ ds))) base.frames (apart base up)
 
 -- where nothing is reached, each frame that is open isn't
-open_ids : (groups : List ℕ) (frames : List Frame) → length (ids_of (unreached groups [] frames)) ≡ length (filter (is_open groups) frames)
+open_ids : (groups : List ℕ) (frames : List Frame) → length (frame_ids (unreached groups [] frames)) ≡ length (filter (is_open groups) frames)
 open_ids groups [] = refl
 open_ids groups (f ∷ fs) = on (is_open groups f) refl (open_ids groups fs) where
-  on : (b : Bool) → is_open groups f ≡ b → length (ids_of (unreached groups [] fs)) ≡ length (filter (is_open groups) fs)
-      → length (ids_of (unreached groups [] (f ∷ fs))) ≡ length (filter (is_open groups) (f ∷ fs))
+  on : (b : Bool) → is_open groups f ≡ b → length (frame_ids (unreached groups [] fs)) ≡ length (filter (is_open groups) fs)
+      → length (frame_ids (unreached groups [] (f ∷ fs))) ≡ length (filter (is_open groups) (f ∷ fs))
   on true e rest = rw e (ap suc rest)
   on false e rest = rw e rest
 
@@ -144,7 +144,7 @@ module _ (text : List ℕ) (groups : List ℕ) (base : BaseView) where
 
   -- both are what is said of frames that aren't reached
   parts : (tables : List (Id × ℕ)) (found : List Discovered)
-      → unreached_findings text (marks text) tables (finds_none found) (ids_of (unreached groups (ranks_of found) base.frames))
+      → unreached_findings text (marks text) tables (finds_none found) (frame_ids (unreached groups (ranks_of found) base.frames))
       ≡ map (λ (f : Frame). warning text (marks text) tables f.id) (warned groups found base.frames) ++ others found
   parts tables [] = ap (none_reached text (marks text)) (open_ids groups base.frames)
   parts tables (d ∷ ds) =

@@ -5,9 +5,9 @@ use Rattle.frame_records.specs.Bases.{BaseView}
 use Rattle.frame_records.specs.Seek.{is_open}
 use Rattle.base_text.specs.declared.fault.BaseFault.{BaseFault}
 use Rattle.base_text.specs.declared.fault.BaseCause.TheVariants.{TooLong, NotToml}
-use Rattle.base_text.specs.Drafts.{base_fault}
+use Rattle.base_text.specs.Drafts.{draft_fault}
 use Rattle.base_text.specs.Frames.{top_fault}
-use Rattle.base_text.specs.Whole.{IsTextBase, IsFaultOf, parts_of}
+use Rattle.base_text.specs.Whole.{IsTextBase, IsFaultOf, listed_parts}
 use Rattle.base_text.specs.WholeFaults.{whole_cause}
 use Rattle.checker.specs.declared.policy.Policy.{Policy}
 use Rattle.checker.specs.Safe.{Safe}
@@ -16,21 +16,21 @@ use Rattle.fault_scripts.specs.Faults.{AreFaults}
 use Rattle.lint.specs.declared.finding.Level.TheVariants.{Error}
 use Rattle.lint.specs.Findings.{FindingView, count_of, AreInOrder}
 use Rattle.lint.specs.Looks.{looks_of}
-use Rattle.lint.specs.Lint.{Subject, Length, Toml, Text, Whole, finding_of, text_tables, warning, none_reached, look_findings, IsWithin, IsAudited, IsLint}
+use Rattle.lint.specs.Lint.{Subject, Length, Toml, Text, Whole, finding_of, text_tables, warning, none_reached, look_findings, IsSpanWithin, IsAudited, IsLint}
 use Rattle.toml_places.specs.Places.{marks}
 
 -- The text, and what base_read answers for it.
 
 -- what base_read answers for a text, unless it is out of memory
-abbrev pub IsAnswer : List ℕ → Result BaseView BaseFault → Type 0
-IsAnswer text (Ok base) = IsTextBase text base
-IsAnswer text (Err fault) = IsFaultOf (parts_of text) fault
+abbrev pub IsReadAnswer : List ℕ → Result BaseView BaseFault → Type 0
+IsReadAnswer text (Ok base) = IsTextBase text base
+IsReadAnswer text (Err fault) = IsFaultOf (listed_parts text) fault
 
 -- the fault that base_read answers for a subject that is the first
 abbrev pub answer_of : Subject → BaseFault
 answer_of Length = top_fault TooLong
 answer_of (Toml span message) = top_fault NotToml
-answer_of (Text fault) = base_fault fault
+answer_of (Text fault) = draft_fault fault
 answer_of (Whole fault) = top_fault (whole_cause fault)
 
 -- the findings are those of the audit of this base
@@ -51,7 +51,7 @@ AreByAnswer text policy findings (Err fault) = AreOfText text findings fault
 -- no finding is of the text if and only if base_read gives a base; else the first is of the fault that it answers
 abbrev pub FollowsBaseRead : List ℕ → Policy → List FindingView → Type 0
 FollowsBaseRead text policy findings =
-    (answer : Result BaseView BaseFault) → IsAnswer text answer → AreByAnswer text policy findings answer
+    (answer : Result BaseView BaseFault) → IsReadAnswer text answer → AreByAnswer text policy findings answer
 
 abbrev pub LintFollowsBaseRead : Type 0
 LintFollowsBaseRead =
@@ -64,16 +64,16 @@ abbrev pub IsCertified : List ℕ → Policy → Type 0
 IsCertified text policy = (base : BaseView) × IsTextBase text base × AreFaults base policy []
 
 -- the text means a base that is safe within the policy
-abbrev pub IsSafe : List ℕ → Policy → Type 0
-IsSafe text policy = (base : BaseView) × IsTextBase text base × Safe policy.groups base policy.ceiling policy.keyings
+abbrev pub MeansSafeBase : List ℕ → Policy → Type 0
+MeansSafeBase text policy = (base : BaseView) × IsTextBase text base × Safe policy.groups base policy.ceiling policy.keyings
 
 -- no finding is an error if and only if the audit certifies the text's base, and if and only if that base is safe
-pub record DecidesSafety (text : List ℕ) (policy : Policy) (findings : List FindingView) : Type 0 where
+pub record LintDecidesSafety (text : List ℕ) (policy : Policy) (findings : List FindingView) : Type 0 where
   pub certified : (count_of Error findings ≡ 0) ↔ IsCertified text policy
-  pub safe : (count_of Error findings ≡ 0) ↔ IsSafe text policy
+  pub safe : (count_of Error findings ≡ 0) ↔ MeansSafeBase text policy
 
 abbrev pub NoErrorIsSafe : Type 0
-NoErrorIsSafe = (text : List ℕ) (policy : Policy) (findings : List FindingView) → IsLint text policy findings → DecidesSafety text policy findings
+NoErrorIsSafe = (text : List ℕ) (policy : Policy) (findings : List FindingView) → IsLint text policy findings → LintDecidesSafety text policy findings
 
 -- Warnings.
 
@@ -108,7 +108,7 @@ LintWarnsOfUnreached = (text : List ℕ) (policy : Policy) (findings : List Find
 
 -- every finding's span begins and ends in the text
 abbrev pub SpansLieIn : List ℕ → List FindingView → Type 0
-SpansLieIn text findings = All (λ f. IsWithin text f.span) findings
+SpansLieIn text findings = All (λ f. IsSpanWithin text f.span) findings
 
 abbrev pub LintSpansLieIn : Type 0
 LintSpansLieIn = (text : List ℕ) (policy : Policy) (findings : List FindingView) → IsLint text policy findings → SpansLieIn text findings

@@ -12,7 +12,7 @@ use Rattle.fault_scripts.specs.Faults.{AreFaults}
 use Rattle.toml_places.specs.declared.spans.Span.{Span}
 use Rattle.toml_places.specs.Places.{Mark, marks}
 use Rattle.lint_words.specs.declared.fault_words.Judged.{Judged}
-use Rattle.lint_words.specs.FaultWords.{fault_words, unreached_words, none_reached_words}
+use Rattle.lint_words.specs.FaultWords.{audit_fault_words, unreached_words, none_reached_words}
 use Rattle.lint_words.specs.WarningWords.{hidden_words, line_end_words, escape_words}
 use Rattle.lint_words.specs.WordsOf.{WordsView}
 use Rattle.lint.specs.Findings.{FindingView, error_at, warning_at, AreInOrder}
@@ -21,7 +21,7 @@ use Rattle.lint.specs.Tables.{TableView, empty_at, frame_whole, table_at, id_pla
 use Rattle.lint.specs.declared.looks.Look.{Look}
 use Rattle.lint.specs.declared.looks.Look.TheVariants.{Hidden, Escape, EndsLine}
 use Rattle.lint.specs.Looks.{looks_of}
-use Rattle.lint.specs.Outside.{page_at, element_of}
+use Rattle.lint.specs.Outside.{page_at, outside_element}
 use Rattle.lint.specs.Spots.{has_rows, row_span, entry_span, line_end_at, single_at, detail_span, whole_table, whole_span, kind_table, audit_span}
 use Rattle.base_text.specs.declared.detail.TextFault.{TextFault}
 use Rattle.base_text.specs.declared.listed.Listed.{Listed}
@@ -54,8 +54,8 @@ abbrev pub finds_none : List Discovered → Bool
 finds_none [] = true
 finds_none (d ∷ ds) = false
 
-abbrev pub ids_of : List Frame → List Id
-ids_of frames = map (λ f. f.id) frames
+abbrev pub frame_ids : List Frame → List Id
+frame_ids frames = map (λ f. f.id) frames
 
 abbrev pub table_of : List (Id × ℕ) → Id → ℕ
 table_of tables id = unwrap_or (value_of tables id) 0
@@ -64,8 +64,8 @@ abbrev pub rank_of : List (Id × Option ℕ) → Id → Option ℕ
 rank_of ranks id = option_and_then (λ r. r) (value_of ranks id)
 
 -- the group of the frame that a fault finds closed
-abbrev pub group_of : BaseView → Fault → Option ℕ
-group_of base fault = option_and_then (λ f. f.group) (frame_at base (unwrap_or fault.sought fault.frame))
+abbrev pub group_closed_to : BaseView → Fault → Option ℕ
+group_closed_to base fault = option_and_then (λ f. f.group) (frame_at base (unwrap_or fault.sought fault.frame))
 
 abbrev pub judged : TableView → BaseView → Policy → List (Id × Option ℕ) → Fault → Judged
 judged table base policy ranks fault = record {
@@ -73,7 +73,7 @@ judged table base policy ranks fault = record {
   keyings = policy.keyings;
   has_rows = has_rows table;
   rank = rank_of ranks fault.frame;
-  group = group_of base fault;
+  group = group_closed_to base fault;
 }
 
 -- the table that a fault is about
@@ -83,7 +83,7 @@ fault_table text ms tables fault = table_at text ms (kind_table (table_of tables
 abbrev pub fault_finding : List ℕ → List Mark → List (Id × ℕ) → BaseView → Policy → List (Id × Option ℕ) → Fault → FindingView
 fault_finding text ms tables base policy ranks fault =
     let table = fault_table text ms tables fault in
-    error_at (audit_span table fault) (fault_words (judged table base policy ranks fault) fault)
+    error_at (audit_span table fault) (audit_fault_words (judged table base policy ranks fault) fault)
 
 abbrev pub warning : List ℕ → List Mark → List (Id × ℕ) → Id → FindingView
 warning text ms tables id = warning_at (frame_whole text ms (table_of tables id)) (unreached_words id)
@@ -120,7 +120,7 @@ pub record AreAuditFindings (text : List ℕ) (ms : List Mark) (tables : List (I
   pub reached : FindsReached policy.groups base found
   pub least : RanksAreLeast policy.groups base found
   pub all : findings ≡ map (fault_finding text ms tables base policy (ranks_of found)) faults
-      ++ unreached_findings text ms tables (finds_none found) (ids_of (unreached policy.groups (ranks_of found) base.frames))
+      ++ unreached_findings text ms tables (finds_none found) (frame_ids (unreached policy.groups (ranks_of found) base.frames))
       ++ look_findings text ms tables (looks_of base.frames)
 
 -- The findings of the faults of a base's text.
@@ -129,14 +129,14 @@ abbrev pub text_finding : List ℕ → List Mark → TextFault → FindingView
 text_finding text ms fault = error_at (detail_span (table_at text ms fault.frame) fault.detail) (text_fault_words fault)
 
 -- the line of the first frame with the id, if the fault is a further frame with it
-abbrev pub first_line : List ℕ → List Mark → WholeFault → ℕ
-first_line text ms (Duplicate table first id) = (place_at text (id_place text ms first)).0
-first_line text ms _ = 0
+abbrev pub first_table_line : List ℕ → List Mark → WholeFault → ℕ
+first_table_line text ms (Duplicate table first id) = (place_at text (id_place text ms first)).0
+first_table_line text ms _ = 0
 
 abbrev pub whole_finding : List ℕ → List Mark → WholeFault → FindingView
 whole_finding text ms fault =
-    let element = element_of (page_at (table_at text ms None)) fault in
-    error_at (whole_span (table_at text ms (whole_table fault)) element fault) (whole_fault_words fault (first_line text ms fault))
+    let element = outside_element (page_at (table_at text ms None)) fault in
+    error_at (whole_span (table_at text ms (whole_table fault)) element fault) (whole_fault_words fault (first_table_line text ms fault))
 
 -- What a finding of a text is about, if it isn't one of the audit.
 
@@ -162,13 +162,13 @@ AreDraftSubjects draft subjects =
     (whole : List WholeFault) × AreWholeFaults draft.outside draft.frames whole × (subjects ≡ faulty draft.faults whole)
 
 -- the span begins and ends in the text
-pub record IsWithin (text : List ℕ) (span : Span) : Type 0 where
+pub record IsSpanWithin (text : List ℕ) (span : Span) : Type 0 where
   pub ascends : span.begin ≤ span.end
   pub within : span.end ≤ length text
 
 -- a text that isn't TOML has nothing else
 abbrev pub AreTreeSubjects : List ℕ → Option Members → List Subject → Type 0
-AreTreeSubjects text None subjects = (span : Span) × (message : List ℕ) × IsWithin text span × (subjects ≡ Toml span message ∷ [])
+AreTreeSubjects text None subjects = (span : Span) × (message : List ℕ) × IsSpanWithin text span × (subjects ≡ Toml span message ∷ [])
 AreTreeSubjects text (Some ms) subjects = AreDraftSubjects (draft_of ms) subjects
 
 -- nor has one that is too long, which isn't read

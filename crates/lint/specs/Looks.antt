@@ -34,24 +34,24 @@ hidden_if id cells r = if hides_text cells r then (id, Hidden r) ∷ [] else []
 abbrev pub escape_if : Id → List ℕ → ℕ → List (Id × Look)
 escape_if id cells r = if holds_escape (row_of cells r) then (id, Escape r) ∷ [] else []
 
-abbrev pub row_looks : Id → List ℕ → ℕ → List (Id × Look)
-row_looks id cells r = hidden_if id cells r ++ escape_if id cells r
+abbrev pub row_warnings : Id → List ℕ → ℕ → List (Id × Look)
+row_warnings id cells r = hidden_if id cells r ++ escape_if id cells r
 
 -- those of the rows of a screen, from 1 to this number
 unfoldable pub rows_up_to : Id → List ℕ → ℕ → List (Id × Look)
 rows_up_to id cells zero = []
-rows_up_to id cells (suc n) = rows_up_to id cells n ++ row_looks id cells (suc n)
+rows_up_to id cells (suc n) = rows_up_to id cells n ++ row_warnings id cells (suc n)
 
 -- those of a blank screen after a frame's body
-abbrev pub rows_of : Frame → List (Id × Look)
-rows_of f = rows_up_to f.id (run blank f.body).cells 22
+abbrev pub body_warnings : Frame → List (Id × Look)
+body_warnings f = rows_up_to f.id (run blank f.body).cells 22
 
 -- rows have no escapes of the terminal, so without the byte 8D none has double height; nor does one hold \u00 without a \
 abbrev pub needs_rows : List ℕ → Bool
 needs_rows body = list_any (λ b. b == 0x8D) body || list_any (λ b. b == 0x5C) body
 
 abbrev pub rows_if : Frame → List (Id × Look)
-rows_if f = if needs_rows f.body then rows_of f else []
+rows_if f = if needs_rows f.body then body_warnings f else []
 
 -- The line feeds of a body.
 

@@ -8,7 +8,7 @@ use Rattle.fault_scripts.specs.Faults.{AreFaults}
 use Rattle.lint.specs.declared.audit_findings.Audit.{Audit}
 use Rattle.lint.specs.Lookups.{value_of}
 use Rattle.lint.specs.Looks.{looks_of}
-use Rattle.lint.specs.Lint.{Toml, ranks_of, unreached, finds_none, ids_of, finding_of, IsWithin}
+use Rattle.lint.specs.Lint.{Toml, ranks_of, unreached, finds_none, frame_ids, finding_of, IsSpanWithin}
 use Rattle.page_ids.specs.Ids.{Id, id_eq}
 use Rattle.fault_scripts.specs.declared.fault.Fault.{Fault}
 use Rattle.lint.specs.declared.looks.Look.{Look}
@@ -38,8 +38,8 @@ use Rattle.lint.specs.declared.tables.TextTables.{TextTables}
 -- What a lookup knows.
 
 -- these values are known
-abbrev pub Knows : {V : Type 0} → List (Id × V) → Lookup V → Type 0
-Knows pairs known = (id : Id) → get id_eq known.map id ≡ value_of pairs id
+abbrev pub KnowsValues : {V : Type 0} → List (Id × V) → Lookup V → Type 0
+KnowsValues pairs known = (id : Id) → get id_eq known.map id ≡ value_of pairs id
 
 -- What the code knows of a text's tables.
 
@@ -71,8 +71,8 @@ seen_keys t = record {
 }
 
 -- a table of the code
-abbrev pub seen : TableSpots → TableView
-seen t = record {
+abbrev pub table_seen : TableSpots → TableView
+table_seen t = record {
   text = t.text.now;
   frame = t.keys.frame;
   whole = t.whole;
@@ -94,12 +94,12 @@ pub record KnowsTables (ms : List Mark) (t : TextTables) : Type 0 where
 -- What the code knows of the elements of `outside`.
 
 -- the element that is kept of a page
-abbrev pub listed : OutsidePages → ℕ → Option Span
-listed pages page = get nat_eq pages.spans page
+abbrev pub element_kept : OutsidePages → ℕ → Option Span
+element_kept pages page = get nat_eq pages.spans page
 
 -- it is the first that the text has
 abbrev pub Lists : TableView → OutsidePages → Type 0
-Lists t pages = (page : ℕ) → listed pages page ≡ page_at t page
+Lists t pages = (page : ℕ) → element_kept pages page ≡ page_at t page
 
 -- What an audit has found, and what is known of the text beside it.
 
@@ -109,9 +109,9 @@ pub record IsAudit (base : BaseView) (policy : Policy) (audit : Audit) : Type 0 
   pub faults : AreFaults base policy audit.faults
   pub reached : FindsReached policy.groups base found
   pub least : RanksAreLeast policy.groups base found
-  pub known : Knows (ranks_of found) audit.ranks
+  pub known : KnowsValues (ranks_of found) audit.ranks
   pub finds_none : audit.finds_none ≡ finds_none found
-  pub unreached : audit.unreached.items ≡ ids_of (unreached policy.groups (ranks_of found) base.frames)
+  pub unreached : audit.unreached.items ≡ frame_ids (unreached policy.groups (ranks_of found) base.frames)
   pub looks : audit.looks.items ≡ looks_of base.frames
 
 -- nothing was found
@@ -122,14 +122,14 @@ is_clear faults ids looks = false
 -- what the sources know
 pub record AreKnown (ms : List Mark) (tables : List (Id × ℕ)) (sources : Sources) : Type 0 where
   pub places : KnowsTables ms sources.text.now
-  pub knows : Knows tables sources.tables
+  pub knows : KnowsValues tables sources.tables
 
 -- What the steps of lint say.
 
 -- the one finding of a text that isn't TOML
 abbrev pub IsNotToml : List ℕ → List FindingView → Type 0
 IsNotToml text findings =
-    (span : Span) × (message : List ℕ) × IsWithin text span × (findings ≡ map (finding_of text) (Toml span message ∷ []))
+    (span : Span) × (message : List ℕ) × IsSpanWithin text span × (findings ≡ map (finding_of text) (Toml span message ∷ []))
 
 -- the draft of the TOML of a text that isn't too long
 abbrev pub IsDraftOf : List ℕ → DraftView → Type 0

@@ -15,8 +15,8 @@ page_of (Some (pos n)) = if nat_le n MOST_PAGE then Some n else None
 page_of _ = None
 
 -- the page that is written in the span
-abbrev pub page_in : List ℕ → Span → Option ℕ
-page_in text s = page_of (integer_at s.begin text)
+abbrev pub page_in_span : List ℕ → Span → Option ℕ
+page_in_span text s = page_of (integer_at s.begin text)
 
 abbrev pub is_page : ℕ → Option ℕ → Bool
 is_page page None = false
@@ -24,7 +24,7 @@ is_page page (Some n) = n == page
 
 -- the element of an index, if it is this page
 abbrev pub element_if : TableView → ℕ → ℕ → Option Span
-element_if t page k = t.item k >>= (λ s. if is_page page (page_in t.text s) then Some s else None)
+element_if t page k = t.item k >>= (λ s. if is_page page (page_in_span t.text s) then Some s else None)
 
 -- the first that is this page, of n elements from one on
 unfoldable pub page_from : TableView → ℕ → ℕ → ℕ → Option Span
@@ -36,6 +36,6 @@ abbrev pub page_at : TableView → ℕ → Option Span
 page_at t page = page_from t page MOST_LISTED 0
 
 -- if the fault is a page of `outside`, its element
-abbrev pub element_of : (ℕ → Option Span) → WholeFault → Option Span
-element_of pages (OutsideInside page) = pages page
-element_of pages _ = None
+abbrev pub outside_element : (ℕ → Option Span) → WholeFault → Option Span
+outside_element pages (OutsideInside page) = pages page
+outside_element pages _ = None

@@ -28,32 +28,32 @@ use Rattle.lint.specs.Tables.{TableView, value_at}
 
 -- The pieces of a table.
 
-abbrev pub key_at : List ℕ → Option KeyPlace → Option Span
-key_at text spot = spot >>= (λ s. key_span s text)
+abbrev pub span_of_key : List ℕ → Option KeyPlace → Option Span
+span_of_key text spot = spot >>= (λ s. key_span s text)
 
-abbrev pub pair_at : List ℕ → Option KeyPlace → Option Span
-pair_at text spot = spot >>= (λ s. pair_span s text)
+abbrev pub span_of_pair : List ℕ → Option KeyPlace → Option Span
+span_of_pair text spot = spot >>= (λ s. pair_span s text)
 
 -- a key of the table as it is written, its value, and both
 abbrev pub key_of : TableView → List ℕ → Option Span
-key_of t key = key_at t.text (t.key key)
+key_of t key = span_of_key t.text (t.key key)
 
-abbrev pub value_of : TableView → List ℕ → Option Span
-value_of t key = value_at t.text (t.key key)
+abbrev pub span_of_value : TableView → List ℕ → Option Span
+span_of_value t key = value_at t.text (t.key key)
 
 abbrev pub pair_of : TableView → List ℕ → Option Span
-pair_of t key = pair_at t.text (t.key key)
+pair_of t key = span_of_pair t.text (t.key key)
 
 -- a key below `routes`, and a route with its page; else all of `routes`
 abbrev pub route_key : TableView → List ℕ → Option Span
-route_key t key = option_or (key_at t.text (t.route key)) (value_of t (codes "routes"))
+route_key t key = option_or (span_of_key t.text (t.route key)) (span_of_value t (codes "routes"))
 
 abbrev pub route_pair : TableView → List ℕ → Option Span
-route_pair t key = option_or (pair_at t.text (t.route key)) (value_of t (codes "routes"))
+route_pair t key = option_or (span_of_pair t.text (t.route key)) (span_of_value t (codes "routes"))
 
 -- an item of the table's list, by its index, else all of the list, which is under this key
 abbrev pub item_of : TableView → List ℕ → ℕ → Option Span
-item_of t key k = option_or (t.item k) (value_of t key)
+item_of t key k = option_or (t.item k) (span_of_value t key)
 
 -- a character of the string in a span, by its index, else the string
 abbrev pub char_of : TableView → ℕ → Span → Span
@@ -84,32 +84,32 @@ abbrev pub listed_at : TableView → Field → ℕ → Option Span
 listed_at t f n = if is_routes f then digit_at t n else item_of t (field_name f) (n - 1)
 
 -- a row, and a character of it, each by its number from 1
-abbrev pub row_at : TableView → ℕ → Option Span
-row_at t n = item_of t (codes "rows") (n - 1)
+abbrev pub span_of_row : TableView → ℕ → Option Span
+span_of_row t n = item_of t (codes "rows") (n - 1)
 
 abbrev pub row_char : TableView → ℕ → ℕ → Option Span
-row_char t n i = option_map (char_of t (i - 1)) (row_at t n)
+row_char t n i = option_map (char_of t (i - 1)) (span_of_row t n)
 
 -- a character of the body, by its index
 abbrev pub body_char : TableView → ℕ → Option Span
-body_char t k = option_map (char_of t k) (value_of t (codes "body"))
+body_char t k = option_map (char_of t k) (span_of_value t (codes "body"))
 
 abbrev pub detail_at : TableView → Detail → Option Span
 detail_at t (UnknownKey k key) = unknown_at t k key
 detail_at t (Absent f) = None
-detail_at t (WrongKind f k) = value_of t (field_name f)
+detail_at t (WrongKind f k) = span_of_value t (field_name f)
 detail_at t (WrongItem f n k) = listed_at t f n
-detail_at t (Number f z) = value_of t (field_name f)
+detail_at t (Number f z) = span_of_value t (field_name f)
 detail_at t (ItemNumber f n z) = listed_at t f n
-detail_at t (Lead text) = value_of t (codes "lead")
+detail_at t (Lead text) = span_of_value t (codes "lead")
 detail_at t (BodyCode n c) = body_char t (n - 1)
 detail_at t (MoreBodyCodes n more) = body_char t (n - 1)
-detail_at t (TooManyRows n) = row_at t 23
+detail_at t (TooManyRows n) = span_of_row t 23
 detail_at t BodyAndRows = later (key_of t (codes "body")) (key_of t (codes "rows"))
-detail_at t (RowTooLong n length) = row_at t n
+detail_at t (RowTooLong n length) = span_of_row t n
 detail_at t (RowCode n i c) = row_char t n i
 detail_at t (MoreRowCodes n i more) = row_char t n i
-detail_at t (BadFrame text) = value_of t (codes "id")
+detail_at t (BadFrame text) = span_of_value t (codes "id")
 
 abbrev pub detail_span : TableView → Detail → Span
 detail_span t detail = unwrap_or (detail_at t detail) t.whole
@@ -130,15 +130,15 @@ abbrev pub has_rows : TableView → Bool
 has_rows t = is_some (t.key (codes "rows"))
 
 abbrev pub shown_at : TableView → Option Span
-shown_at t = value_of t (if has_rows t then codes "rows" else codes "body")
+shown_at t = span_of_value t (if has_rows t then codes "rows" else codes "body")
 
 abbrev pub whole_at : TableView → WholeFault → Option Span
 whole_at t (TooManyFrames n) = None
 whole_at t (TooManyOutside n) = item_of t (codes "outside") MOST_LISTED
 whole_at t (BodyTooLong table id n) = shown_at t
 whole_at t (NextAfterZ table id) = pair_of t (codes "next")
-whole_at t (Duplicate table first id) = value_of t (codes "id")
-whole_at t (OutsideInside page) = value_of t (codes "outside")
+whole_at t (Duplicate table first id) = span_of_value t (codes "id")
+whole_at t (OutsideInside page) = span_of_value t (codes "outside")
 
 -- in the table of the fault; an element of `outside` counts first
 abbrev pub whole_span : TableView → Option Span → WholeFault → Span
@@ -157,17 +157,17 @@ sought_at t key = key >>= pressed_at t
 
 -- the character of the byte at fault, if it is known
 abbrev pub byte_at : TableView → Option Start → Option Span
-byte_at t None = value_of t (codes "body")
+byte_at t None = span_of_value t (codes "body")
 byte_at t (Some start) = body_char t start.offset
 
 -- the last row of the screen is written by the last of the rows
 abbrev pub touched_at : TableView → Option Start → Option Span
-touched_at t start = if has_rows t then row_at t 22 else byte_at t start
+touched_at t start = if has_rows t then span_of_row t 22 else byte_at t start
 
 abbrev pub kind_at : TableView → Fault → FaultKind → Option Span
-kind_at t fault fault_kind.EntryMissing = value_of t (codes "entry")
-kind_at t fault fault_kind.EntryClosed = value_of t (codes "group")
-kind_at t fault fault_kind.Price = value_of t (codes "price")
+kind_at t fault fault_kind.EntryMissing = span_of_value t (codes "entry")
+kind_at t fault fault_kind.EntryClosed = span_of_value t (codes "group")
+kind_at t fault fault_kind.Price = span_of_value t (codes "price")
 kind_at t fault fault_kind.Touches = touched_at t fault.start
 kind_at t fault fault_kind.Missing = sought_at t fault.key
 kind_at t fault fault_kind.Closed = sought_at t fault.key
@@ -178,18 +178,18 @@ audit_span t fault = unwrap_or (kind_at t fault fault.kind) t.whole
 
 -- the span of a row of a frame that is given as rows
 abbrev pub row_span : TableView → ℕ → Span
-row_span t n = unwrap_or (row_at t n) t.whole
+row_span t n = unwrap_or (span_of_row t n) t.whole
 
 -- Warnings.
 
 -- the value of `entry`
 abbrev pub entry_span : TableView → Span
-entry_span t = unwrap_or (value_of t (codes "entry")) t.whole
+entry_span t = unwrap_or (span_of_value t (codes "entry")) t.whole
 
 -- a byte of a text, if it has one there, is this one
-abbrev pub is_byte : ℕ → Option ℕ → Bool
-is_byte b None = false
-is_byte b (Some c) = c == b
+abbrev pub is_this_byte : ℕ → Option ℕ → Bool
+is_this_byte b None = false
+is_this_byte b (Some c) = c == b
 
 -- a span of one byte
 abbrev pub is_one : Span → Bool
@@ -197,11 +197,11 @@ is_one s = nat_lt s.begin s.end && (s.end - s.begin == 1)
 
 -- a span that is a line feed of the text
 abbrev pub feed_span : List ℕ → Span → Option Span
-feed_span text s = if is_one s && is_byte 0x0A (slice_get text s.begin) then Some s else None
+feed_span text s = if is_one s && is_this_byte 0x0A (slice_get text s.begin) then Some s else None
 
 -- a span of the text that has a carriage return before it
 abbrev pub returned_span : List ℕ → Span → Option Span
-returned_span text s = if is_byte 0x0D (slice_get text (s.begin - 1)) then Some s else None
+returned_span text s = if is_this_byte 0x0D (slice_get text (s.begin - 1)) then Some s else None
 
 -- a line's end in this way
 abbrev pub ended_span : LineEnd → List ℕ → Span → Option Span
@@ -214,7 +214,7 @@ line_end_at t end k = (body_char t k >>= feed_span t.text) >>= ended_span end t.
 
 -- a span of the text that begins with a single quotation mark
 abbrev pub single_span : List ℕ → Span → Option Span
-single_span text s = if is_byte 0x27 (slice_get text s.begin) then Some s else None
+single_span text s = if is_this_byte 0x27 (slice_get text s.begin) then Some s else None
 
 -- a row, by its number from 1, in single quotation marks
 abbrev pub single_at : TableView → ℕ → Option Span

@@ -1,7 +1,7 @@
 ghost use Rattle.std.specs.Prelude.{◌≡◌, ◌++◌, ℕ, List, Option, map, IfOk, OnOk};
 ghost use Rattle.page_ids.specs.Ids.{Id};
 ghost use Rattle.toml_places.specs.Places.{Mark};
-ghost use Rattle.lint.specs.Loops.{KnowsTables, IsTable, seen, Knows};
+ghost use Rattle.lint.specs.Loops.{KnowsTables, IsTable, table_seen, KnowsValues};
 ghost use Rattle.lint.specs.declared.looks.Look.TheVariants.{Hidden, Escape, EndsLine};
 ghost use Rattle.lint.specs.Lint as spec;
 ghost use Rattle.lint.specs.Loops as loops;
@@ -48,7 +48,7 @@ fn ranks_of(alloc: Global, found: &[Discovered]) -> Result<Vec<(FrameId, Option<
 }
 
 fn is_unreached(ranks: &Ranks, groups: &Groups, frame: &Frame) -> bool
-    ensures { (known : List (Id × Option ℕ)) → Knows known ranks.now
+    ensures { (known : List (Id × Option ℕ)) → KnowsValues known ranks.now
         → result ≡ spec.is_unreached groups.now known frame.now }
 {
     frame.is_open(groups) && ranks.get(frame.id).is_none()
@@ -61,8 +61,8 @@ fn unreached(
     groups: &Groups,
     frames: &[Frame],
 ) -> Result<Vec<FrameId>, AllocError>
-    ensures { IfOk result (λ ids. (known : List (Id × Option ℕ)) → Knows known ranks.now
-        → ids.items ≡ spec.ids_of (spec.unreached groups.now known frames.now)) }
+    ensures { IfOk result (λ ids. (known : List (Id × Option ℕ)) → KnowsValues known ranks.now
+        → ids.items ≡ spec.frame_ids (spec.unreached groups.now known frames.now)) }
 {
     let mut ids = Vec::new(alloc);
     for frame in frames {
@@ -122,13 +122,13 @@ pub struct Sources<'a> {
 
 // The group of the frame that a fault finds closed.
 fn group_of(base: &Base, fault: &Fault) -> Option<GroupNo>
-    ensures { result ≡ spec.group_of base.now fault.now }
+    ensures { result ≡ spec.group_closed_to base.now fault.now }
 {
     base.find(fault.sought.unwrap_or(fault.frame))?.group
 }
 
 fn rank_of(ranks: &Ranks, id: FrameId) -> Option<u16>
-    ensures { (known : List (Id × Option ℕ)) → Knows known ranks.now → result ≡ spec.rank_of known id }
+    ensures { (known : List (Id × Option ℕ)) → KnowsValues known ranks.now → result ≡ spec.rank_of known id }
 {
     ranks.get(id)?
 }
@@ -141,7 +141,7 @@ fn add_hidden(
     row: usize,
     findings: &mut Vec<Finding>,
 ) -> Result<(), AllocError>
-    ensures { OnOk result (findings.new.items ≡ findings.old.items ++ spec.look_in (seen table.now) id (Hidden row)) }
+    ensures { OnOk result (findings.new.items ≡ findings.old.items ++ spec.look_in (table_seen table.now) id (Hidden row)) }
 {
     if has_rows(table) {
         let words = hidden_words(alloc, id, row)?;
@@ -157,7 +157,7 @@ fn add_escape(
     row: usize,
     findings: &mut Vec<Finding>,
 ) -> Result<(), AllocError>
-    ensures { OnOk result (findings.new.items ≡ findings.old.items ++ spec.look_in (seen table.now) id (Escape row)) }
+    ensures { OnOk result (findings.new.items ≡ findings.old.items ++ spec.look_in (table_seen table.now) id (Escape row)) }
 {
     if let Some(span) = single_at(table, row) {
         findings.push(Finding::warning(span, escape_words(alloc, id, row)?))?;
@@ -174,7 +174,7 @@ fn add_line_end(
     findings: &mut Vec<Finding>,
 ) -> Result<(), AllocError>
     ensures { OnOk result (findings.new.items
-        ≡ findings.old.items ++ spec.look_in (seen table.now) id (EndsLine end index)) }
+        ≡ findings.old.items ++ spec.look_in (table_seen table.now) id (EndsLine end index)) }
 {
     if let Some(span) = line_end_at(table, end, index) {
         findings.push(Finding::warning(span, line_end_words(alloc, id, end)?))?;
@@ -190,7 +190,7 @@ fn add_look(
     look: &Look,
     findings: &mut Vec<Finding>,
 ) -> Result<(), AllocError>
-    ensures { OnOk result (findings.new.items ≡ findings.old.items ++ spec.look_in (seen table.now) id look.now) }
+    ensures { OnOk result (findings.new.items ≡ findings.old.items ++ spec.look_in (table_seen table.now) id look.now) }
 {
     match look {
         Look::Hidden(row) => add_hidden(alloc, table, id, *row, findings),
@@ -201,14 +201,14 @@ fn add_look(
 
 impl<'a> Sources<'a> {
     fn table_of(&self, id: FrameId) -> usize
-        ensures { (tables : List (Id × ℕ)) → Knows tables self.now.tables → result ≡ spec.table_of tables id }
+        ensures { (tables : List (Id × ℕ)) → KnowsValues tables self.now.tables → result ≡ spec.table_of tables id }
     {
         self.tables.get(id).unwrap_or(0)
     }
 
     fn judged(&self, table: &TableSpots<'_>, ranks: &Ranks, fault: &Fault) -> Judged
-        ensures { (known : List (Id × Option ℕ)) → Knows known ranks.now
-            → result ≡ spec.judged (seen table.now) self.now.base.now self.now.policy.now known fault.now }
+        ensures { (known : List (Id × Option ℕ)) → KnowsValues known ranks.now
+            → result ≡ spec.judged (table_seen table.now) self.now.base.now self.now.policy.now known fault.now }
     {
         Judged {
             ceiling: self.policy.ceiling,
@@ -227,13 +227,13 @@ impl<'a> Sources<'a> {
         fault: &Fault,
     ) -> Result<Finding, AllocError>
         ensures finding { IfOk result (λ f. (ms : List Mark) (tables : List (Id × ℕ)) (known : List (Id × Option ℕ))
-            → loops.AreKnown ms tables self.now → Knows known ranks.now
-            → IsTable self.now.text.now.text.now ms (seen table.old)
+            → loops.AreKnown ms tables self.now → KnowsValues known ranks.now
+            → IsTable self.now.text.now.text.now ms (table_seen table.old)
             → f ≡ spec.fault_finding self.now.text.now.text.now ms tables self.now.base.now
             self.now.policy.now known fault.now) }
         ensures table { OnOk result ((ms : List Mark) → KnowsTables ms self.now.text.now
-            → IsTable self.now.text.now.text.now ms (seen table.old)
-            → IsTable self.now.text.now.text.now ms (seen table.new)) }
+            → IsTable self.now.text.now.text.now ms (table_seen table.old)
+            → IsTable self.now.text.now.text.now ms (table_seen table.new)) }
     {
         let frame = kind_table(self.table_of(fault.frame), fault.kind);
         self.text.turn(alloc, table, frame)?;
@@ -249,7 +249,7 @@ impl<'a> Sources<'a> {
         findings: &mut Vec<Finding>,
     ) -> Result<(), AllocError>
         ensures { OnOk result ((ms : List Mark) (tables : List (Id × ℕ)) (known : List (Id × Option ℕ))
-            → loops.AreKnown ms tables self.now → Knows known audit.now.ranks
+            → loops.AreKnown ms tables self.now → KnowsValues known audit.now.ranks
             → findings.new.items ≡ findings.old.items ++
             map (spec.fault_finding self.now.text.now.text.now ms tables self.now.base.now
             self.now.policy.now known) audit.now.faults) }

@@ -5,7 +5,7 @@ ghost use Rattle.toml.specs.Parse.{parse_document};
 ghost use Rattle.checker.specs.declared.policy.Policy.{Policy};
 ghost use Rattle.toml_places.specs.Places.{marks};
 ghost use Rattle.lint.specs.Findings.{error_at};
-ghost use Rattle.lint.specs.Laws.{FollowsBaseRead, DecidesSafety, WarnsOfUnreached, SpansLieIn};
+ghost use Rattle.lint.specs.Laws.{FollowsBaseRead, LintDecidesSafety, WarnsOfUnreached, SpansLieIn};
 ghost use Rattle.lint.specs.Lint as spec;
 ghost use Rattle.lint.specs.Loops as loops;
 
@@ -208,7 +208,7 @@ pub fn lint(alloc: Global, text: &[u8], policy: &Policy) -> Result<Vec<Finding>,
 
     // What they mean.
     ensures text { IfOk result (λ fs. FollowsBaseRead text.now policy.now fs.items) }
-    ensures errors { IfOk result (λ fs. DecidesSafety text.now policy.now fs.items) }
+    ensures errors { IfOk result (λ fs. LintDecidesSafety text.now policy.now fs.items) }
     ensures warnings { IfOk result (λ fs. WarnsOfUnreached text.now policy.now fs.items) }
     ensures spans { IfOk result (λ fs. SpansLieIn text.now fs.items) }
 {

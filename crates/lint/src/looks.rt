@@ -80,7 +80,7 @@ fn add_row(
     looks: &mut Vec<(FrameId, Look)>,
 ) -> Result<(), AllocError>
     requires { row < 24 }
-    ensures { OnOk result (looks.new.items ≡ looks.old.items ++ spec.row_looks frame cells.now row) }
+    ensures { OnOk result (looks.new.items ≡ looks.old.items ++ spec.row_warnings frame cells.now row) }
 {
     add_hidden(frame, cells, row, looks)?;
     add_escape(frame, cells, row, looks)
@@ -101,7 +101,7 @@ fn add_rows(
 }
 
 fn add_rows_of(frame: &Frame, looks: &mut Vec<(FrameId, Look)>) -> Result<(), AllocError>
-    ensures { OnOk result (looks.new.items ≡ looks.old.items ++ spec.rows_of frame.now) }
+    ensures { OnOk result (looks.new.items ≡ looks.old.items ++ spec.body_warnings frame.now) }
 {
     let mut terminal = Terminal::new();
     terminal.run(frame.body.as_slice());

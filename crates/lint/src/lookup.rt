@@ -1,7 +1,7 @@
 ghost use Rattle.std.specs.Prelude.{◌≡◌, List, IfOk};
 ghost use Rattle.page_ids.specs.Ids.{Id};
 ghost use Rattle.lint.specs.Lookups.{value_of};
-ghost use Rattle.lint.specs.Loops.{Knows};
+ghost use Rattle.lint.specs.Loops.{KnowsValues};
 
 use indexmap::IndexMap;
 use page_ids::FrameId;
@@ -16,7 +16,7 @@ pub struct Lookup<V> {
 impl<V: Copy> Lookup<V> {
     // The value that each id has in a list. If an id is listed twice, the last value counts.
     pub fn of(alloc: Global, pairs: &[(FrameId, V)]) -> Result<Lookup<V>, AllocError>
-        ensures { IfOk result (Knows pairs.now) }
+        ensures { IfOk result (KnowsValues pairs.now) }
     {
         let mut map = IndexMap::with_capacity(alloc, pairs.len())?;
         for (id, value) in pairs {
@@ -27,7 +27,7 @@ impl<V: Copy> Lookup<V> {
 
     // The value of an id.
     pub fn get(&self, id: FrameId) -> Option<V>
-        ensures { (pairs : List (Id × V)) → Knows pairs self.now → result ≡ value_of pairs id }
+        ensures { (pairs : List (Id × V)) → KnowsValues pairs self.now → result ≡ value_of pairs id }
     {
         self.map.get(&id).copied()
     }

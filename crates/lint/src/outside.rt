@@ -2,7 +2,7 @@
 
 ghost use Rattle.std.specs.Prelude.{◌≡◌, ℕ, IfOk, OnOk};
 ghost use Rattle.std.specs.Option.{option_or};
-ghost use Rattle.lint.specs.Loops.{seen, Lists, listed};
+ghost use Rattle.lint.specs.Loops.{table_seen, Lists, element_kept};
 ghost use Rattle.lint.specs.Outside as spec;
 
 use crate::tables::TableSpots;
@@ -27,7 +27,7 @@ fn page_of(number: Option<i64>) -> Option<PageNo>
 
 // The page that an element is.
 fn page_in(alloc: Global, text: &str, element: Span) -> Result<Option<PageNo>, AllocError>
-    ensures { IfOk result (λ page. page ≡ spec.page_in text.now element) }
+    ensures { IfOk result (λ page. page ≡ spec.page_in_span text.now element) }
 {
     Ok(page_of(integer_at(alloc, text, element.begin)?))
 }
@@ -40,8 +40,8 @@ impl OutsidePages {
         table: &TableSpots<'_>,
         index: usize,
     ) -> Result<(), AllocError>
-        ensures { OnOk result ((page : ℕ) → listed self.new page
-            ≡ option_or (spec.element_if (seen table.now) page index) (listed self.old page)) }
+        ensures { OnOk result ((page : ℕ) → element_kept self.new page
+            ≡ option_or (spec.element_if (table_seen table.now) page index) (element_kept self.old page)) }
     {
         if let Some(element) = table.item(index) {
             if let Some(page) = page_in(alloc, table.text(), element)? {
@@ -53,7 +53,7 @@ impl OutsidePages {
 
     // The pages of the top's `outside`, up to the most that a base may list.
     pub fn of(alloc: Global, top: &TableSpots<'_>) -> Result<OutsidePages, AllocError>
-        ensures { IfOk result (Lists (seen top.now)) }
+        ensures { IfOk result (Lists (table_seen top.now)) }
     {
         let mut pages = OutsidePages {
             spans: IndexMap::new(alloc),
@@ -68,7 +68,7 @@ impl OutsidePages {
 
     // The element at fault, if the fault is that a page of it has a frame.
     pub fn element(&self, fault: &WholeFault) -> Option<Span>
-        ensures { result ≡ spec.element_of (listed self.now) fault.now }
+        ensures { result ≡ spec.outside_element (element_kept self.now) fault.now }
     {
         match fault {
             WholeFault::OutsideInside(page) => self.spans.get(page).copied(),

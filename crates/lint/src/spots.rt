@@ -2,7 +2,7 @@
 
 ghost use Rattle.std.specs.Prelude.{◌≡◌, slice_get};
 ghost use Rattle.std.specs.Option.{option_or};
-ghost use Rattle.lint.specs.Loops.{seen};
+ghost use Rattle.lint.specs.Loops.{table_seen};
 ghost use Rattle.lint.specs.Spots as spec;
 
 use crate::tables::TableSpots;
@@ -16,27 +16,27 @@ use toml_places::{Span, char_span, key_span, pair_span, value_span};
 
 // A key of the table as it is written.
 fn key_of(table: &TableSpots<'_>, key: &str) -> Option<Span>
-    ensures { result ≡ spec.key_of (seen table.now) key.now }
+    ensures { result ≡ spec.key_of (table_seen table.now) key.now }
 {
     key_span(table.text(), table.key(key)?)
 }
 
 fn value_of(table: &TableSpots<'_>, key: &str) -> Option<Span>
-    ensures { result ≡ spec.value_of (seen table.now) key.now }
+    ensures { result ≡ spec.span_of_value (table_seen table.now) key.now }
 {
     value_span(table.text(), table.key(key)?)
 }
 
 // A key of the table with its value.
 fn pair_of(table: &TableSpots<'_>, key: &str) -> Option<Span>
-    ensures { result ≡ spec.pair_of (seen table.now) key.now }
+    ensures { result ≡ spec.pair_of (table_seen table.now) key.now }
 {
     pair_span(table.text(), table.key(key)?)
 }
 
 // A span, or if there is none the value of a key, which is read only then: it may be long.
 fn or_value(table: &TableSpots<'_>, span: Option<Span>, key: &str) -> Option<Span>
-    ensures { result ≡ option_or span (spec.value_of (seen table.now) key.now) }
+    ensures { result ≡ option_or span (spec.span_of_value (table_seen table.now) key.now) }
 {
     match span {
         Some(span) => Some(span),
@@ -46,7 +46,7 @@ fn or_value(table: &TableSpots<'_>, span: Option<Span>, key: &str) -> Option<Spa
 
 // A key below `routes`.
 fn route_key(table: &TableSpots<'_>, key: &str) -> Option<Span>
-    ensures { result ≡ spec.route_key (seen table.now) key.now }
+    ensures { result ≡ spec.route_key (table_seen table.now) key.now }
 {
     let written = match table.route(key) {
         Some(spot) => key_span(table.text(), spot),
@@ -57,7 +57,7 @@ fn route_key(table: &TableSpots<'_>, key: &str) -> Option<Span>
 
 // A route with its page.
 fn route_pair(table: &TableSpots<'_>, key: &str) -> Option<Span>
-    ensures { result ≡ spec.route_pair (seen table.now) key.now }
+    ensures { result ≡ spec.route_pair (table_seen table.now) key.now }
 {
     let written = match table.route(key) {
         Some(spot) => pair_span(table.text(), spot),
@@ -68,14 +68,14 @@ fn route_pair(table: &TableSpots<'_>, key: &str) -> Option<Span>
 
 // An item of the table's list, which is under this key.
 fn item_of(table: &TableSpots<'_>, key: &str, index: usize) -> Option<Span>
-    ensures { result ≡ spec.item_of (seen table.now) key.now index }
+    ensures { result ≡ spec.item_of (table_seen table.now) key.now index }
 {
     or_value(table, table.item(index), key)
 }
 
 // A character of the string in a span.
 fn char_of(table: &TableSpots<'_>, index: usize, string: Span) -> Span
-    ensures { result ≡ spec.char_of (seen table.now) index string }
+    ensures { result ≡ spec.char_of (table_seen table.now) index string }
 {
     char_span(table.text(), string.begin, index).unwrap_or(string)
 }
@@ -97,7 +97,7 @@ fn later(one: Option<Span>, other: Option<Span>) -> Option<Span>
 }
 
 fn unknown_at(table: &TableSpots<'_>, kind: TableKind, key: &str) -> Option<Span>
-    ensures { result ≡ spec.unknown_at (seen table.now) kind key.now }
+    ensures { result ≡ spec.unknown_at (table_seen table.now) kind key.now }
 {
     match kind {
         TableKind::Routes => route_key(table, key),
@@ -106,7 +106,7 @@ fn unknown_at(table: &TableSpots<'_>, kind: TableKind, key: &str) -> Option<Span
 }
 
 fn digit_at(table: &TableSpots<'_>, digit: usize) -> Option<Span>
-    ensures { result ≡ spec.digit_at (seen table.now) digit }
+    ensures { result ≡ spec.digit_at (table_seen table.now) digit }
 {
     if digit < 10 {
         route_pair(table, digit_key(digit))
@@ -126,7 +126,7 @@ fn route_value(table: &TableSpots<'_>, digit: usize) -> Option<Span> {
 
 // An item of a list, by its number from 1, or a route, by its digit.
 fn listed_at(table: &TableSpots<'_>, field: Field, number: usize) -> Option<Span>
-    ensures { result ≡ spec.listed_at (seen table.now) field number }
+    ensures { result ≡ spec.listed_at (table_seen table.now) field number }
 {
     if field == Field::Routes {
         digit_at(table, number)
@@ -137,14 +137,14 @@ fn listed_at(table: &TableSpots<'_>, field: Field, number: usize) -> Option<Span
 
 // A row, by its number from 1.
 fn row_at(table: &TableSpots<'_>, number: usize) -> Option<Span>
-    ensures { result ≡ spec.row_at (seen table.now) number }
+    ensures { result ≡ spec.span_of_row (table_seen table.now) number }
 {
     item_of(table, "rows", number.saturating_sub(1))
 }
 
 // A character of the body, by its index.
 fn body_char(table: &TableSpots<'_>, index: usize) -> Option<Span>
-    ensures { result ≡ spec.body_char (seen table.now) index }
+    ensures { result ≡ spec.body_char (table_seen table.now) index }
 {
     let body = value_of(table, "body")?;
     Some(char_of(table, index, body))
@@ -152,14 +152,14 @@ fn body_char(table: &TableSpots<'_>, index: usize) -> Option<Span>
 
 // A character of a row, each by its number from 1.
 fn row_char(table: &TableSpots<'_>, row: usize, number: usize) -> Option<Span>
-    ensures { result ≡ spec.row_char (seen table.now) row number }
+    ensures { result ≡ spec.row_char (table_seen table.now) row number }
 {
     let row = row_at(table, row)?;
     Some(char_of(table, number.saturating_sub(1), row))
 }
 
 fn detail_at(table: &TableSpots<'_>, detail: &Detail) -> Option<Span>
-    ensures { result ≡ spec.detail_at (seen table.now) detail.now }
+    ensures { result ≡ spec.detail_at (table_seen table.now) detail.now }
 {
     match detail {
         Detail::UnknownKey(kind, key) => unknown_at(table, *kind, key.as_str()),
@@ -201,7 +201,7 @@ pub(crate) fn written_value<'t>(table: &'t TableSpots<'_>, detail: &Detail) -> &
 
 // The span of what is wrong with a table.
 pub fn detail_span(table: &TableSpots<'_>, detail: &Detail) -> Span
-    ensures { result ≡ spec.detail_span (seen table.now) detail.now }
+    ensures { result ≡ spec.detail_span (table_seen table.now) detail.now }
 {
     detail_at(table, detail).unwrap_or(table.whole())
 }
@@ -221,21 +221,21 @@ pub fn whole_table(fault: &WholeFault) -> Option<usize>
 
 // Whether a frame is written with `rows`.
 pub fn has_rows(table: &TableSpots<'_>) -> bool
-    ensures { result ≡ spec.has_rows (seen table.now) }
+    ensures { result ≡ spec.has_rows (table_seen table.now) }
 {
     table.key("rows").is_some()
 }
 
 // What a frame shows.
 fn shown_at(table: &TableSpots<'_>) -> Option<Span>
-    ensures { result ≡ spec.shown_at (seen table.now) }
+    ensures { result ≡ spec.shown_at (table_seen table.now) }
 {
     let key = if has_rows(table) { "rows" } else { "body" };
     value_of(table, key)
 }
 
 fn whole_at(table: &TableSpots<'_>, fault: &WholeFault) -> Option<Span>
-    ensures { result ≡ spec.whole_at (seen table.now) fault.now }
+    ensures { result ≡ spec.whole_at (table_seen table.now) fault.now }
 {
     match fault {
         WholeFault::TooManyFrames(_) => None,
@@ -249,7 +249,7 @@ fn whole_at(table: &TableSpots<'_>, fault: &WholeFault) -> Option<Span>
 
 // The span of a fault of a base as a whole, in its table: that of the element of `outside` at fault, if one is.
 pub fn whole_span(table: &TableSpots<'_>, element: Option<Span>, fault: &WholeFault) -> Span
-    ensures { result ≡ spec.whole_span (seen table.now) element fault.now }
+    ensures { result ≡ spec.whole_span (table_seen table.now) element fault.now }
 {
     match element {
         Some(element) => element,
@@ -259,7 +259,7 @@ pub fn whole_span(table: &TableSpots<'_>, element: Option<Span>, fault: &WholeFa
 
 // A key that is pressed at a frame.
 fn pressed_at(table: &TableSpots<'_>, key: &Key) -> Option<Span>
-    ensures { result ≡ spec.pressed_at (seen table.now) key.now }
+    ensures { result ≡ spec.pressed_at (table_seen table.now) key.now }
 {
     match key {
         Key::Route(digit) => digit_at(table, digit.get() as usize),
@@ -269,7 +269,7 @@ fn pressed_at(table: &TableSpots<'_>, key: &Key) -> Option<Span>
 }
 
 fn sought_at(table: &TableSpots<'_>, key: &Option<Key>) -> Option<Span>
-    ensures { result ≡ spec.sought_at (seen table.now) key.now }
+    ensures { result ≡ spec.sought_at (table_seen table.now) key.now }
 {
     match key {
         Some(key) => pressed_at(table, key),
@@ -279,7 +279,7 @@ fn sought_at(table: &TableSpots<'_>, key: &Option<Key>) -> Option<Span>
 
 // The character of the byte at fault, if it is known.
 fn byte_at(table: &TableSpots<'_>, start: Option<Start>) -> Option<Span>
-    ensures { result ≡ spec.byte_at (seen table.now) start }
+    ensures { result ≡ spec.byte_at (table_seen table.now) start }
 {
     match start {
         Some(start) => body_char(table, start.offset),
@@ -289,7 +289,7 @@ fn byte_at(table: &TableSpots<'_>, start: Option<Start>) -> Option<Span>
 
 // What touches the last row of the screen: of rows it is the 22nd.
 fn touched_at(table: &TableSpots<'_>, start: Option<Start>) -> Option<Span>
-    ensures { result ≡ spec.touched_at (seen table.now) start }
+    ensures { result ≡ spec.touched_at (table_seen table.now) start }
 {
     if has_rows(table) {
         row_at(table, 22)
@@ -299,7 +299,7 @@ fn touched_at(table: &TableSpots<'_>, start: Option<Start>) -> Option<Span>
 }
 
 fn kind_at(table: &TableSpots<'_>, fault: &Fault) -> Option<Span>
-    ensures { result ≡ spec.kind_at (seen table.now) fault.now fault.now.kind }
+    ensures { result ≡ spec.kind_at (table_seen table.now) fault.now fault.now.kind }
 {
     match fault.kind {
         FaultKind::EntryMissing => value_of(table, "entry"),
@@ -313,28 +313,28 @@ fn kind_at(table: &TableSpots<'_>, fault: &Fault) -> Option<Span>
 
 // The span of a fault of the audit, in its table.
 pub fn audit_span(table: &TableSpots<'_>, fault: &Fault) -> Span
-    ensures { result ≡ spec.audit_span (seen table.now) fault.now }
+    ensures { result ≡ spec.audit_span (table_seen table.now) fault.now }
 {
     kind_at(table, fault).unwrap_or(table.whole())
 }
 
 // The span of a row, by its number from 1, of a frame given as rows.
 pub fn row_span(table: &TableSpots<'_>, row: usize) -> Span
-    ensures { result ≡ spec.row_span (seen table.now) row }
+    ensures { result ≡ spec.row_span (table_seen table.now) row }
 {
     row_at(table, row).unwrap_or(table.whole())
 }
 
 // The span of the entry page, in the top.
 pub fn entry_span(table: &TableSpots<'_>) -> Span
-    ensures { result ≡ spec.entry_span (seen table.now) }
+    ensures { result ≡ spec.entry_span (table_seen table.now) }
 {
     value_of(table, "entry").unwrap_or(table.whole())
 }
 
 // Whether a text has this byte at an offset.
 fn has_byte(text: &str, at: usize, byte: u8) -> bool
-    ensures { result ≡ spec.is_byte byte (slice_get text.now at) }
+    ensures { result ≡ spec.is_this_byte byte (slice_get text.now at) }
 {
     match text.as_bytes().get(at) {
         Some(there) => *there == byte,
@@ -373,7 +373,7 @@ fn returned_span(text: &str, span: Span) -> Option<Span>
 
 // The code of the body at an index, if the text writes a line's end there in this way.
 pub fn line_end_at(table: &TableSpots<'_>, end: LineEnd, index: usize) -> Option<Span>
-    ensures { result ≡ spec.line_end_at (seen table.now) end index }
+    ensures { result ≡ spec.line_end_at (table_seen table.now) end index }
 {
     let feed = feed_span(table.text(), body_char(table, index)?)?;
     match end {
@@ -395,7 +395,7 @@ fn single_span(text: &str, span: Span) -> Option<Span>
 
 // A row, by its number from 1, in single quotation marks.
 pub fn single_at(table: &TableSpots<'_>, row: usize) -> Option<Span>
-    ensures { result ≡ spec.single_at (seen table.now) row }
+    ensures { result ≡ spec.single_at (table_seen table.now) row }
 {
     single_span(table.text(), table.item(row.saturating_sub(1))?)
 }

@@ -5,10 +5,10 @@ ghost use Rattle.std.specs.List.{prefix_len};
 ghost use Rattle.toml_places.specs.Places.{Mark, Keeps, key_in, route_in};
 ghost use Rattle.lint.specs.Tables as spec;
 ghost use Rattle.lint.specs.Loops as loops;
-ghost use Rattle.lint.specs.Loops.{InlineKeeps, KnowsTables, IsTable, seen_keys, seen};
+ghost use Rattle.lint.specs.Loops.{InlineKeeps, KnowsTables, IsTable, seen_keys, table_seen};
 
 use std::alloc::{AllocError, Global};
-use toml_places::{Places, Span, KeyPlace, TablePlaces, element_spans, frame_span, value_span};
+use toml_places::{KeyPlace, Places, Span, TablePlaces, element_spans, frame_span, value_span};
 
 // The keys of a table: of the top, or of the frame of an index.
 #[derive(Drop)]
@@ -143,41 +143,41 @@ impl<'a> TableKeys<'a> {
 
 impl<'a> TableSpots<'a> {
     pub fn text(&self) -> &str
-        ensures { result.now ≡ (seen self.now).text }
+        ensures { result.now ≡ (table_seen self.now).text }
     {
         self.text
     }
 
     // The frame of the table, by its index; none is the top.
     pub fn frame(&self) -> Option<usize>
-        ensures { result ≡ (seen self.now).frame }
+        ensures { result ≡ (table_seen self.now).frame }
     {
         self.keys.frame()
     }
 
     // The table as a whole: of the top line 1, of a frame its header or its braces.
     pub fn whole(&self) -> Span
-        ensures { result ≡ (seen self.now).whole }
+        ensures { result ≡ (table_seen self.now).whole }
     {
         self.whole
     }
 
     pub fn key(&self, key: &str) -> Option<KeyPlace>
-        ensures { result ≡ (seen self.now).key key.now }
+        ensures { result ≡ (table_seen self.now).key key.now }
     {
         self.keys.key(key)
     }
 
     // Where a key below `routes` is first written.
     pub fn route(&self, key: &str) -> Option<KeyPlace>
-        ensures { result ≡ (seen self.now).route key.now }
+        ensures { result ≡ (table_seen self.now).route key.now }
     {
         self.keys.dotted(key).or(key_in(&self.routes, key))
     }
 
     // An element of its list, by its index.
     pub fn item(&self, index: usize) -> Option<Span>
-        ensures { result ≡ (seen self.now).item index }
+        ensures { result ≡ (table_seen self.now).item index }
     {
         self.items.get(index).copied()
     }
@@ -267,7 +267,7 @@ impl<'a> TextTables<'a> {
 
     // The top, or the table of a frame.
     pub fn table(&self, alloc: Global, frame: Option<usize>) -> Result<TableSpots<'a>, AllocError>
-        ensures { IfOk result (λ table. (ms : List Mark) → KnowsTables ms self.now → seen table
+        ensures { IfOk result (λ table. (ms : List Mark) → KnowsTables ms self.now → table_seen table
             ≡ spec.table_at self.now.text.now ms frame) }
     {
         let keys = self.keys(alloc, frame)?;
@@ -290,8 +290,8 @@ impl<'a> TextTables<'a> {
         frame: Option<usize>,
     ) -> Result<(), AllocError>
         ensures turned { OnOk result ((ms : List Mark) → KnowsTables ms self.now
-            → IsTable self.now.text.now ms (seen table.old)
-            → seen table.new ≡ spec.table_at self.now.text.now ms frame) }
+            → IsTable self.now.text.now ms (table_seen table.old)
+            → table_seen table.new ≡ spec.table_at self.now.text.now ms frame) }
     {
         if table.frame() != frame {
             *table = self.table(alloc, frame)?;

@@ -1,7 +1,7 @@
 ghost use Rattle.std.specs.Prelude.{◌≡◌, ◌++◌, List, map, IfOk, OnOk, None};
 ghost use Rattle.toml_places.specs.Places.{Mark};
 ghost use Rattle.lint.specs.Tables.{table_at};
-ghost use Rattle.lint.specs.Loops.{KnowsTables, IsTable, seen, Lists};
+ghost use Rattle.lint.specs.Loops.{KnowsTables, IsTable, table_seen, Lists};
 ghost use Rattle.lint.specs.Lint as spec;
 
 use crate::finding::Finding;
@@ -21,10 +21,10 @@ fn text_finding<'a>(
     fault: &TextFault,
 ) -> Result<Finding, AllocError>
     ensures finding { IfOk result (λ f. (ms : List Mark) → KnowsTables ms tables.now
-        → IsTable tables.now.text.now ms (seen table.old)
+        → IsTable tables.now.text.now ms (table_seen table.old)
         → f ≡ spec.text_finding tables.now.text.now ms fault.now) }
     ensures table { OnOk result ((ms : List Mark) → KnowsTables ms tables.now
-        → IsTable tables.now.text.now ms (seen table.old) → IsTable tables.now.text.now ms (seen table.new)) }
+        → IsTable tables.now.text.now ms (table_seen table.old) → IsTable tables.now.text.now ms (table_seen table.new)) }
 {
     tables.turn(alloc, table, fault.frame)?;
     let written = Written {
@@ -56,7 +56,7 @@ pub fn add_text_findings(
 // The line of the first frame with the id, if the fault is a further frame with it.
 fn first_line(tables: &TextTables<'_>, lines: &TextLines<'_>, fault: &WholeFault) -> usize
     ensures { (ms : List Mark) → KnowsTables ms tables.now → lines.now ≡ tables.now.text.now
-        → result ≡ spec.first_line tables.now.text.now ms fault.now }
+        → result ≡ spec.first_table_line tables.now.text.now ms fault.now }
 {
     match *fault {
         WholeFault::Duplicate { first, .. } => lines.place(tables.id_place(first)).0,
@@ -74,9 +74,9 @@ fn whole_finding<'a>(
 ) -> Result<Finding, AllocError>
     ensures finding { IfOk result (λ f. (ms : List Mark) → KnowsTables ms tables.now
         → lines.now ≡ tables.now.text.now → Lists (table_at tables.now.text.now ms None) pages.now
-        → IsTable tables.now.text.now ms (seen table.old) → f ≡ spec.whole_finding tables.now.text.now ms fault.now) }
+        → IsTable tables.now.text.now ms (table_seen table.old) → f ≡ spec.whole_finding tables.now.text.now ms fault.now) }
     ensures table { OnOk result ((ms : List Mark) → KnowsTables ms tables.now
-        → IsTable tables.now.text.now ms (seen table.old) → IsTable tables.now.text.now ms (seen table.new)) }
+        → IsTable tables.now.text.now ms (table_seen table.old) → IsTable tables.now.text.now ms (table_seen table.new)) }
 {
     tables.turn(alloc, table, whole_table(fault))?;
     let words = whole_fault_words(alloc, fault, first_line(tables, lines, fault))?;

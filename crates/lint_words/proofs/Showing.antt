@@ -7,7 +7,7 @@ use Rattle.std.proofs.lemmas.List.Folds.{list_all-append}
 use Rattle.std.proofs.lemmas.Str.{encodes-append}
 use Rattle.std.specs.Char.{is_control, digit_char}
 use Rattle.std.specs.List.{list_all}
-use Rattle.lint_words.specs.Lines.{IsLine, control_digits, shown_char, shown_chars}
+use Rattle.lint_words.specs.Lines.{IsLine, control_digits, printed_char, shown_chars}
 use Rattle.lint_words.proofs.LineParts.{are_printable, is_plain, plain_scalars, plain_printables, IsLine-encodes}
 
 digit_plain : (d : ℕ) → d < 16 → is_plain (digit_char d) ≡ true
@@ -27,7 +27,7 @@ record Fits (cs : List ℕ) : Type 0 where
   scalar : scalars cs ≡ true
   printable : are_printable cs ≡ true
 
-one_fits : (c : ℕ) (control : Bool) → is_control c ≡ control → scalar c ≡ true → Fits (shown_char c)
+one_fits : (c : ℕ) (control : Bool) → is_control c ≡ control → scalar c ≡ true → Fits (printed_char c)
 one_fits c true p s =
     let plain = digits_plain c (nat_lt c 16) (control_small c p) in
     rw p record { scalar = plain_scalars (codes "\\u{" ++ control_digits c ++ codes "}") plain; printable = plain_printables (codes "\\u{" ++ control_digits c ++ codes "}") plain }
@@ -45,16 +45,16 @@ all_fit (c ∷ cs) s =
     let one = one_fits c _ refl (and_parts _ _ s).0 in
     let more = all_fit cs (and_parts (scalar c) _ s).1 in
     record {
-      scalar = scalars-append (shown_char c) (shown_chars cs) one.scalar more.scalar;
-      printable = rw (list_all-append (λ c. not (is_control c)) (shown_char c) (shown_chars cs)) (and_from (are_printable (shown_char c)) (are_printable (shown_chars cs)) one.printable more.printable);
+      scalar = scalars-append (printed_char c) (shown_chars cs) one.scalar more.scalar;
+      printable = rw (list_all-append (λ c. not (is_control c)) (printed_char c) (shown_chars cs)) (and_from (are_printable (printed_char c)) (are_printable (shown_chars cs)) one.printable more.printable);
     }
 
 pub IsLine-shown : (cs : List ℕ) → scalars cs ≡ true → IsLine (encodes (shown_chars cs))
 IsLine-shown cs s = let fits = all_fit cs s in IsLine-encodes _ fits.scalar fits.printable
 
 -- one more character
-pub one_more : (out more all cs : List ℕ) (c : ℕ) → more ≡ out ++ encodes (shown_char c)
+pub one_more : (out more all cs : List ℕ) (c : ℕ) → more ≡ out ++ encodes (printed_char c)
     → out ++ encodes (shown_chars (c ∷ cs)) ≡ all → more ++ encodes (shown_chars cs) ≡ all
 one_more out more all cs c added so_far =
-    let split = encodes-append (shown_char c) (shown_chars cs) in
-    rw (added, append_assoc out (encodes (shown_char c)) (encodes (shown_chars cs))) (rw split at so_far)
+    let split = encodes-append (printed_char c) (shown_chars cs) in
+    rw (added, append_assoc out (encodes (printed_char c)) (encodes (shown_chars cs))) (rw split at so_far)

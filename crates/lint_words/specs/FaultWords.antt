@@ -5,7 +5,7 @@ use Rattle.abstract_paint.specs.declared.start.Start.{Start}
 use Rattle.fault_scripts.specs.declared.fault.Fault.{Fault}
 use Rattle.fault_scripts.specs.declared.fault.FaultKind.{FaultKind}
 use Rattle.fault_scripts.specs.declared.fault.FaultKind.TheVariants.{EntryMissing, EntryClosed, Price, Touches, Missing, Closed, NoReturn}
-use Rattle.lint_words.specs.Pieces.{grouped, number_of, frame_name, shown_by, pressed_text, group_text}
+use Rattle.lint_words.specs.Pieces.{grouped, number_and_word, frame_name, shown_by, pressed_words, group_text}
 use Rattle.lint_words.specs.Lines.{line_of}
 use Rattle.lint_words.specs.AboutOf.{about_frame, fault_about}
 use Rattle.lint_words.specs.WordsOf.{WordsView, words_of}
@@ -22,8 +22,8 @@ entry_closed_words group fault =
     codes "frame " ++ (frame_text fault.frame ++ (codes ", the entry page, is closed to these callers" ++
     group_text group))
 
-abbrev pub price_words : ℕ → Fault → List ℕ
-price_words ceiling fault =
+abbrev pub cost_words : ℕ → Fault → List ℕ
+cost_words ceiling fault =
     codes "frame " ++ (frame_text fault.frame ++ (codes " costs " ++ (decimal fault.price ++
     (codes ", the ceiling is " ++ (decimal ceiling ++ shown_by fault.script)))))
 
@@ -42,19 +42,19 @@ body_touches_words (Some start) fault =
     codes "byte " ++ (grouped start.offset ++ (codes " of the body of frame " ++ (frame_text fault.frame ++
     (codes " writes into a service row, from start " ++ (decimal start.at ++ shown_by fault.script)))))
 
-abbrev pub touches_words : Bool → Fault → List ℕ
-touches_words has_rows fault = if has_rows then row_touches_words fault else body_touches_words fault.start fault
+abbrev pub touching_words : Bool → Fault → List ℕ
+touching_words has_rows fault = if has_rows then row_touches_words fault else body_touches_words fault.start fault
 
 -- a key leads to a page without a first frame
 abbrev pub missing_page_words : ℕ → Fault → List ℕ
 missing_page_words page fault =
-    codes "" ++ (pressed_text fault.key ++ (codes " of frame " ++ (frame_text fault.frame ++
+    codes "" ++ (pressed_words fault.key ++ (codes " of frame " ++ (frame_text fault.frame ++
     (codes " leads to page " ++ (page_text page ++ (codes ", which has no frame a" ++ shown_by fault.script))))))
 
 -- a key leads to a further frame that is missing
 abbrev pub missing_frame_words : Fault → List ℕ
 missing_frame_words fault =
-    codes "" ++ (pressed_text fault.key ++ (codes " of frame " ++ (frame_text fault.frame ++
+    codes "" ++ (pressed_words fault.key ++ (codes " of frame " ++ (frame_text fault.frame ++
     (codes " leads to " ++ (frame_name fault.sought ++ (codes ", which the base lacks" ++ shown_by fault.script))))))
 
 -- by the letter of the frame sought; 97 is `a`
@@ -64,7 +64,7 @@ missing_words (Some id) fault = if id.letter == 97 then missing_page_words id.pa
 
 abbrev pub closed_words : Option ℕ → Fault → List ℕ
 closed_words group fault =
-    codes "" ++ (pressed_text fault.key ++ (codes " of frame " ++ (frame_text fault.frame ++
+    codes "" ++ (pressed_words fault.key ++ (codes " of frame " ++ (frame_text fault.frame ++
     (codes " leads to " ++ (frame_name fault.sought ++ (codes ", which is closed to these callers" ++
     (group_text group ++ shown_by fault.script)))))))
 
@@ -78,37 +78,37 @@ cut_off_words fault =
 abbrev pub too_far_words : ℕ → ℕ → Fault → List ℕ
 too_far_words rank keyings fault =
     codes "from frame " ++ (frame_text fault.frame ++ (codes " the entry page is " ++
-    (number_of rank (codes "key") (codes "keys") ++ (codes " away, at most " ++
-    (number_of keyings (codes "is") (codes "are") ++ (codes " allowed" ++ shown_by fault.script))))))
+    (number_and_word rank (codes "key") (codes "keys") ++ (codes " away, at most " ++
+    (number_and_word keyings (codes "is") (codes "are") ++ (codes " allowed" ++ shown_by fault.script))))))
 
-abbrev pub no_return_words : Option ℕ → ℕ → Fault → List ℕ
-no_return_words None keyings fault = cut_off_words fault
-no_return_words (Some rank) keyings fault = too_far_words rank keyings fault
+abbrev pub no_way_back_words : Option ℕ → ℕ → Fault → List ℕ
+no_way_back_words None keyings fault = cut_off_words fault
+no_way_back_words (Some rank) keyings fault = too_far_words rank keyings fault
 
 abbrev pub message_as : FaultKind → Judged → Fault → List ℕ
 message_as EntryMissing j fault = entry_missing_words fault
 message_as EntryClosed j fault = entry_closed_words j.group fault
-message_as Price j fault = price_words j.ceiling fault
-message_as Touches j fault = touches_words j.has_rows fault
+message_as Price j fault = cost_words j.ceiling fault
+message_as Touches j fault = touching_words j.has_rows fault
 message_as Missing j fault = missing_words fault.sought fault
 message_as Closed j fault = closed_words j.group fault
-message_as NoReturn j fault = no_return_words j.rank j.keyings fault
+message_as NoReturn j fault = no_way_back_words j.rank j.keyings fault
 
-abbrev pub message_of : Judged → Fault → List ℕ
-message_of j fault = message_as fault.kind j fault
+abbrev pub fault_message : Judged → Fault → List ℕ
+fault_message j fault = message_as fault.kind j fault
 
-abbrev pub code_of : FaultKind → Code
-code_of EntryMissing = code.EntryMissing
-code_of EntryClosed = code.EntryClosed
-code_of Price = code.Price
-code_of Touches = code.Touches
-code_of Missing = code.Missing
-code_of Closed = code.Closed
-code_of NoReturn = code.NoReturn
+abbrev pub fault_code : FaultKind → Code
+fault_code EntryMissing = code.EntryMissing
+fault_code EntryClosed = code.EntryClosed
+fault_code Price = code.Price
+fault_code Touches = code.Touches
+fault_code Missing = code.Missing
+fault_code Closed = code.Closed
+fault_code NoReturn = code.NoReturn
 
 -- a fault by its kind
-abbrev pub fault_words : Judged → Fault → WordsView
-fault_words j fault = words_of (code_of fault.kind) (fault_about fault) (line_of (message_of j fault))
+abbrev pub audit_fault_words : Judged → Fault → WordsView
+audit_fault_words j fault = words_of (fault_code fault.kind) (fault_about fault) (line_of (fault_message j fault))
 
 -- a frame that no walk reaches
 abbrev pub unreached_words : Id → WordsView
@@ -119,4 +119,4 @@ unreached_words id =
 abbrev pub none_reached_words : ℕ → WordsView
 none_reached_words n =
     words_of code.Unreached (about_frame None) (line_of (codes "no key leads to " ++
-    (number_of n (codes "frame") (codes "frames") ++ codes " from the entry page")))
+    (number_and_word n (codes "frame") (codes "frames") ++ codes " from the entry page")))

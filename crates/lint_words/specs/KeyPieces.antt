@@ -29,10 +29,10 @@ abbrev pub least_of : Field → ℕ
 least_of field.Group = 1
 least_of f = 0
 
-abbrev pub most_of : Field → ℕ
-most_of field.Price = MOST_PENCE
-most_of field.Group = MOST_GROUP
-most_of f = MOST_PAGE
+abbrev pub most_of_field : Field → ℕ
+most_of_field field.Price = MOST_PENCE
+most_of_field field.Group = MOST_GROUP
+most_of_field f = MOST_PAGE
 
 -- what is needed in place of an integer that is too low, and of one that is too high
 abbrev pub least_text : ℕ → List ℕ
@@ -42,7 +42,7 @@ abbrev pub most_text : ℕ → List ℕ
 most_text most = codes ", at most " ++ (decimal most ++ codes " is allowed")
 
 abbrev pub limit_text : Field → ℤ → List ℕ
-limit_text f (pos n) = if nat_lt n (least_of f) then least_text (least_of f) else most_text (most_of f)
+limit_text f (pos n) = if nat_lt n (least_of f) then least_text (least_of f) else most_text (most_of_field f)
 limit_text f (negsuc n) = least_text (least_of f)
 
 -- an item of `outside`, a route by its digit, or a row

@@ -17,12 +17,12 @@ abbrev pub control_digits : ℕ → List ℕ
 control_digits c = (if nat_lt c 16 then [] else digit_char (c / 16) ∷ []) ++ digit_char (c % 16) ∷ []
 
 -- a control character as \u{1b}, and any other as it is
-abbrev pub shown_char : ℕ → List ℕ
-shown_char c = if is_control c then codes "\\u{" ++ control_digits c ++ codes "}" else c ∷ []
+abbrev pub printed_char : ℕ → List ℕ
+printed_char c = if is_control c then codes "\\u{" ++ control_digits c ++ codes "}" else c ∷ []
 
 abbrev pub shown_chars : List ℕ → List ℕ
 shown_chars [] = []
-shown_chars (c ∷ cs) = shown_char c ++ shown_chars cs
+shown_chars (c ∷ cs) = printed_char c ++ shown_chars cs
 
 -- bytes as a line, with U+FFFD in place of what isn't UTF-8
 abbrev pub line_of : List ℕ → List ℕ

@@ -3,7 +3,7 @@ use Rattle.std.specs.Prelude.{ℕ, List, decimal, [], ◌∷◌, ◌++◌}
 use Rattle.page_ids.specs.Ids.{frame_text, page_text}
 use Rattle.lint_words.specs.declared.piece.Piece.{Piece}
 use Rattle.lint_words.specs.declared.piece.Piece.TheVariants.{Text, Page, Id, Frame, Number, Grouped, Count, Quoted, Char, ShownBy, Pressed, Group, Key, Subject, Item, OutOfRange}
-use Rattle.lint_words.specs.Pieces.{grouped, number_of, quoted, char_text, frame_name, shown_by, pressed_text, group_text}
+use Rattle.lint_words.specs.Pieces.{grouped, number_and_word, quoted, char_text, frame_name, shown_by, pressed_words, group_text}
 use Rattle.lint_words.specs.KeyPieces.{key_text, key_subject, item_text, out_of_range_text}
 
 -- Words as a list of pieces.
@@ -16,11 +16,11 @@ piece_text (Id id) = frame_text id
 piece_text (Frame id) = frame_name id
 piece_text (Number n) = decimal n
 piece_text (Grouped n) = grouped n
-piece_text (Count n one more) = number_of n one.now more.now
+piece_text (Count n one more) = number_and_word n one.now more.now
 piece_text (Quoted text) = quoted text.now
 piece_text (Char c) = char_text c
 piece_text (ShownBy keys) = shown_by keys.now
-piece_text (Pressed key) = pressed_text key
+piece_text (Pressed key) = pressed_words key
 piece_text (Group group) = group_text group
 piece_text (Key f) = key_text f
 piece_text (Subject f id) = key_subject f id

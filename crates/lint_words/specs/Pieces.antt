@@ -33,8 +33,8 @@ hex_front n =
     else hex_digit (n / 1048576 % 16) ∷ hex_digit (n / 65536 % 16) ∷ []
 
 -- a code point, as U+00A3
-abbrev pub code_text : ℕ → List ℕ
-code_text c = codes "U+" ++ (hex_front c ++ hex4 c)
+abbrev pub code_point_text : ℕ → List ℕ
+code_point_text c = codes "U+" ++ (hex_front c ++ hex4 c)
 
 -- a control character: 00 to 1F, 7F to 9F
 abbrev pub is_control : ℕ → Bool
@@ -46,11 +46,11 @@ is_blank c = c == 0x20 || c == 0xA0
 
 -- a character and its code point
 abbrev pub shown_text : ℕ → List ℕ
-shown_text c = encode_utf8 c ++ (codes " (" ++ (code_text c ++ codes ")"))
+shown_text c = encode_utf8 c ++ (codes " (" ++ (code_point_text c ++ codes ")"))
 
 -- the same, or the code point alone if the character can't be seen
 abbrev pub char_text : ℕ → List ℕ
-char_text c = if is_control c || is_blank c then code_text c else shown_text c
+char_text c = if is_control c || is_blank c then code_point_text c else shown_text c
 
 -- a character in quotes, as a basic string of TOML has it; 34 is the quotation mark, 92 the backslash
 abbrev pub escaped : ℕ → List ℕ
@@ -72,8 +72,8 @@ frame_name None = codes "this frame"
 frame_name (Some id) = codes "frame " ++ frame_text id
 
 -- a number and a word, which is another for one
-abbrev pub number_of : ℕ → List ℕ → List ℕ → List ℕ
-number_of n one more = grouped n ++ (codes " " ++ (if n == 1 then one else more))
+abbrev pub number_and_word : ℕ → List ℕ → List ℕ → List ℕ
+number_and_word n one more = grouped n ++ (codes " " ++ (if n == 1 then one else more))
 
 -- the keys that show a fault; there are none at the entry frame
 abbrev pub shown_by : List Key → List ℕ
@@ -81,9 +81,9 @@ shown_by [] = codes " (at the entry page)"
 shown_by (key ∷ keys) = codes " (keys " ++ (keys_text (key ∷ keys) ++ codes ")")
 
 -- the key that is pressed
-abbrev pub pressed_text : Option Key → List ℕ
-pressed_text None = codes "a key"
-pressed_text (Some key) = codes "key " ++ key_word key
+abbrev pub pressed_words : Option Key → List ℕ
+pressed_words None = codes "a key"
+pressed_words (Some key) = codes "key " ++ key_word key
 
 -- the group to which a frame belongs
 abbrev pub group_text : Option ℕ → List ℕ
@@ -93,10 +93,10 @@ group_text (Some group) = codes "; it belongs to group " ++ decimal group
 -- How many findings there are.
 
 abbrev pub errors_text : ℕ → List ℕ
-errors_text n = number_of n (codes "error") (codes "errors")
+errors_text n = number_and_word n (codes "error") (codes "errors")
 
 abbrev pub warnings_text : ℕ → List ℕ
-warnings_text n = number_of n (codes "warning") (codes "warnings")
+warnings_text n = number_and_word n (codes "warning") (codes "warnings")
 
 -- the errors, then the warnings; a count of 0 is left out
 abbrev pub counted : ℕ → ℕ → List ℕ

@@ -10,7 +10,7 @@ use Rattle.base_text.specs.declared.detail.Detail.TheVariants.{UnknownKey, Absen
 use Rattle.base_text.specs.declared.detail.ValueKind.{ValueKind}
 use Rattle.base_text.specs.declared.detail.ValueKind.TheVariants as value
 use Rattle.base_text.specs.declared.detail.TextFault.{TextFault}
-use Rattle.lint_words.specs.Pieces.{grouped, number_of, quoted, char_text, frame_name}
+use Rattle.lint_words.specs.Pieces.{grouped, number_and_word, quoted, char_text, frame_name}
 use Rattle.lint_words.specs.KeyPieces.{key_text, key_subject, item_text, out_of_range_text}
 use Rattle.lint_words.specs.Lines.{line_of}
 use Rattle.lint_words.specs.AboutOf.{about_frame, text_about}
@@ -116,12 +116,12 @@ row_code_words row n c id =
 -- how many more characters are refused
 abbrev pub more_body_codes_words : ℕ → Option Id → List ℕ
 more_body_codes_words n id =
-    key_subject field.Body id ++ (codes " has " ++ (number_of n (codes "more character") (codes "more characters") ++
+    key_subject field.Body id ++ (codes " has " ++ (number_and_word n (codes "more character") (codes "more characters") ++
     codes " above U+00FF"))
 
 abbrev pub more_row_codes_words : ℕ → ℕ → Option Id → List ℕ
 more_row_codes_words row n id =
-    item_text field.Rows row id ++ (codes " has " ++ (number_of n (codes "more character") (codes "more characters") ++
+    item_text field.Rows row id ++ (codes " has " ++ (number_and_word n (codes "more character") (codes "more characters") ++
     codes " that no row may have"))
 
 abbrev pub bad_frame_words : List ℕ → List ℕ
@@ -153,36 +153,36 @@ detail_words frame id (BadFrame text) = bad_frame_words text
 
 -- how many faults of a frame's table or of the top aren't listed
 abbrev pub unlisted_words : Option ℕ → Option Id → ℕ → List ℕ
-unlisted_words None id n = number_of n (codes "more fault") (codes "more faults") ++ codes " at the top, not listed"
+unlisted_words None id n = number_and_word n (codes "more fault") (codes "more faults") ++ codes " at the top, not listed"
 unlisted_words (Some i) id n =
-    number_of n (codes "more fault") (codes "more faults") ++ (codes " in " ++ (frame_name id ++ codes ", not listed"))
+    number_and_word n (codes "more fault") (codes "more faults") ++ (codes " in " ++ (frame_name id ++ codes ", not listed"))
 
-abbrev pub code_of : Detail → Code
-code_of (UnknownKey t key) = code.UnknownKey
-code_of (Absent f) = code.Absent
-code_of (WrongKind f k) = code.WrongKind
-code_of (WrongItem f n k) = code.WrongKind
-code_of (Number f z) = code.Range
-code_of (ItemNumber f n z) = code.Range
-code_of (Lead text) = code.Range
-code_of (BodyCode n c) = code.Range
-code_of (MoreBodyCodes n more) = code.Range
-code_of (TooManyRows n) = code.Range
-code_of BodyAndRows = code.BodyAndRows
-code_of (RowTooLong row n) = code.RowTooLong
-code_of (RowCode row n c) = code.RowCode
-code_of (MoreRowCodes row n more) = code.RowCode
-code_of (BadFrame text) = code.BadFrame
+abbrev pub detail_code : Detail → Code
+detail_code (UnknownKey t key) = code.UnknownKey
+detail_code (Absent f) = code.Absent
+detail_code (WrongKind f k) = code.WrongKind
+detail_code (WrongItem f n k) = code.WrongKind
+detail_code (Number f z) = code.Range
+detail_code (ItemNumber f n z) = code.Range
+detail_code (Lead text) = code.Range
+detail_code (BodyCode n c) = code.Range
+detail_code (MoreBodyCodes n more) = code.Range
+detail_code (TooManyRows n) = code.Range
+detail_code BodyAndRows = code.BodyAndRows
+detail_code (RowTooLong row n) = code.RowTooLong
+detail_code (RowCode row n c) = code.RowCode
+detail_code (MoreRowCodes row n more) = code.RowCode
+detail_code (BadFrame text) = code.BadFrame
 
 -- what is wrong; of a fault that is listed for all others of its table, how many these are
-abbrev pub message_of : TextFault → List ℕ
-message_of fault =
+abbrev pub text_message : TextFault → List ℕ
+text_message fault =
     if fault.unlisted == 0 then detail_words fault.frame fault.id fault.detail
     else unlisted_words fault.frame fault.id fault.unlisted
 
 -- a fault of a text
 abbrev pub text_fault_words : TextFault → WordsView
-text_fault_words fault = words_of (code_of fault.detail) (text_about fault) (line_of (message_of fault))
+text_fault_words fault = words_of (detail_code fault.detail) (text_about fault) (line_of (text_message fault))
 
 -- a text that is too long, and one that isn't TOML, on which toml has this message
 abbrev pub too_long_words : WordsView

@@ -42,22 +42,22 @@ inside_words page =
     codes " is listed as outside, but the base has a frame of it")
 
 -- the line is that of the first frame with the id
-abbrev pub message_of : WholeFault → ℕ → List ℕ
-message_of (TooManyFrames n) line = too_many_frames_words n
-message_of (TooManyOutside n) line = too_many_outside_words n
-message_of (BodyTooLong table id length) line = long_body_words id length
-message_of (NextAfterZ table id) line = next_words id
-message_of (Duplicate table first id) line = duplicate_words id line
-message_of (OutsideInside page) line = inside_words page
+abbrev pub whole_message : WholeFault → ℕ → List ℕ
+whole_message (TooManyFrames n) line = too_many_frames_words n
+whole_message (TooManyOutside n) line = too_many_outside_words n
+whole_message (BodyTooLong table id length) line = long_body_words id length
+whole_message (NextAfterZ table id) line = next_words id
+whole_message (Duplicate table first id) line = duplicate_words id line
+whole_message (OutsideInside page) line = inside_words page
 
-abbrev pub code_of : WholeFault → Code
-code_of (TooManyFrames n) = code.TooMany
-code_of (TooManyOutside n) = code.TooMany
-code_of (BodyTooLong table id length) = code.BodyTooLong
-code_of (NextAfterZ table id) = code.NextAfterZ
-code_of (Duplicate table first id) = code.Duplicate
-code_of (OutsideInside page) = code.OutsideInside
+abbrev pub whole_code : WholeFault → Code
+whole_code (TooManyFrames n) = code.TooMany
+whole_code (TooManyOutside n) = code.TooMany
+whole_code (BodyTooLong table id length) = code.BodyTooLong
+whole_code (NextAfterZ table id) = code.NextAfterZ
+whole_code (Duplicate table first id) = code.Duplicate
+whole_code (OutsideInside page) = code.OutsideInside
 
 -- a fault of the whole
 abbrev pub whole_fault_words : WholeFault → ℕ → WordsView
-whole_fault_words fault line = words_of (code_of fault) (whole_about fault) (line_of (message_of fault line))
+whole_fault_words fault line = words_of (whole_code fault) (whole_about fault) (line_of (whole_message fault line))

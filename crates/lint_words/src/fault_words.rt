@@ -1,5 +1,5 @@
 ghost use Rattle.std.specs.Prelude.{◌≡◌, ◌++◌, IfOk, OnOk, Some, None};
-ghost use Rattle.lint_words.specs.FaultWords.{entry_missing_words, entry_closed_words, price_words, row_touches_words, body_touches_words, touches_words, missing_page_words, missing_frame_words, missing_words, closed_words, cut_off_words, too_far_words, no_return_words, code_of, message_of, fault_words, unreached_words, none_reached_words};
+ghost use Rattle.lint_words.specs.FaultWords.{entry_missing_words, entry_closed_words, cost_words, row_touches_words, body_touches_words, touching_words, missing_page_words, missing_frame_words, missing_words, closed_words, cut_off_words, too_far_words, no_way_back_words, fault_code, fault_message, audit_fault_words, unreached_words, none_reached_words};
 
 use crate::about::{About, fault_about};
 use crate::audit_hints::audit_hint;
@@ -62,7 +62,7 @@ fn push_entry_closed(
 }
 
 fn push_price(out: &mut Vec<u8>, ceiling: Pence, fault: &Fault) -> Result<(), AllocError>
-    ensures { OnOk result (out.new.items ≡ out.old.items ++ price_words ceiling fault.now) }
+    ensures { OnOk result (out.new.items ≡ out.old.items ++ cost_words ceiling fault.now) }
 {
     push_pieces(
         out,
@@ -127,7 +127,7 @@ fn push_byte_touches(out: &mut Vec<u8>, start: Start, fault: &Fault) -> Result<(
 }
 
 fn push_touches(out: &mut Vec<u8>, has_rows: bool, fault: &Fault) -> Result<(), AllocError>
-    ensures { OnOk result (out.new.items ≡ out.old.items ++ touches_words has_rows fault.now) }
+    ensures { OnOk result (out.new.items ≡ out.old.items ++ touching_words has_rows fault.now) }
 {
     if has_rows {
         return push_row_touches(out, fault);
@@ -244,7 +244,7 @@ fn push_too_far(out: &mut Vec<u8>, rank: u16, keyings: u16, fault: &Fault) -> Re
 
 fn push_no_return(out: &mut Vec<u8>, judged: &Judged, fault: &Fault) -> Result<(), AllocError>
     ensures { OnOk result (out.new.items ≡ out.old.items
-        ++ no_return_words judged.now.rank judged.now.keyings fault.now) }
+        ++ no_way_back_words judged.now.rank judged.now.keyings fault.now) }
 {
     match judged.rank {
         None => push_cut_off(out, fault),
@@ -253,7 +253,7 @@ fn push_no_return(out: &mut Vec<u8>, judged: &Judged, fault: &Fault) -> Result<(
 }
 
 fn code_of(kind: FaultKind) -> Code
-    ensures { result ≡ code_of kind }
+    ensures { result ≡ fault_code kind }
 {
     match kind {
         FaultKind::EntryMissing => Code::EntryMissing,
@@ -267,7 +267,7 @@ fn code_of(kind: FaultKind) -> Code
 }
 
 fn push_message(out: &mut Vec<u8>, judged: &Judged, fault: &Fault) -> Result<(), AllocError>
-    ensures { OnOk result (out.new.items ≡ out.old.items ++ message_of judged.now fault.now) }
+    ensures { OnOk result (out.new.items ≡ out.old.items ++ fault_message judged.now fault.now) }
 {
     match fault.kind {
         FaultKind::EntryMissing => push_entry_missing(out, fault),
@@ -287,7 +287,7 @@ pub fn audit_fault_words(
     fault: &Fault,
     frame: Option<&frame_records::Frame>,
 ) -> Result<Words, AllocError>
-    ensures { IfOk result (λ words. words ≡ fault_words judged.now fault.now) }
+    ensures { IfOk result (λ words. words ≡ audit_fault_words judged.now fault.now) }
 {
     let mut message = Vec::new(alloc);
     push_message(&mut message, judged, fault)?;

@@ -1,6 +1,6 @@
 ghost use Rattle.std.specs.Prelude.{◌≡◌, ◌++◌, OnOk, None};
 ghost use Rattle.base_text.specs.declared.keys.Field.TheVariants as field;
-ghost use Rattle.lint_words.specs.KeyPieces.{key_text, key_subject, integer_text, least_of, most_of, least_text, most_text, limit_text, item_text, out_of_range_text};
+ghost use Rattle.lint_words.specs.KeyPieces.{key_text, key_subject, integer_text, least_of, most_of_field, least_text, most_text, limit_text, item_text, out_of_range_text};
 
 use crate::pieces::{push_between, push_decimal, push_frame, push_grouped};
 use base_text::Field;
@@ -50,7 +50,7 @@ fn least_of(field: Field) -> u32
 }
 
 fn most_of(field: Field) -> u32
-    ensures { result ≡ most_of field }
+    ensures { result ≡ most_of_field field }
 {
     match field {
         Field::Price => u32::from(MOST_PENCE),

@@ -2,7 +2,7 @@ ghost use Rattle.std.specs.Prelude.{◌≡◌, ◌<◌, ◌++◌, IfOk, OnOk};
 ghost use Rattle.std.specs.Char.{digit_char};
 ghost use Rattle.std.specs.Str.{encode_utf8_all, chars};
 ghost use Rattle.std.specs.String.{string_bytes};
-ghost use Rattle.lint_words.specs.Lines.{IsLine, control_digits, shown_char, shown_chars, line_of};
+ghost use Rattle.lint_words.specs.Lines.{IsLine, control_digits, printed_char, shown_chars, line_of};
 
 use std::alloc::{AllocError, Global};
 use std::marker::Model;
@@ -49,7 +49,7 @@ fn push_digits(out: &mut String, c: char) -> Result<(), AllocError>
 }
 
 fn push_shown(out: &mut String, c: char) -> Result<(), AllocError>
-    ensures { OnOk result (string_bytes out.new ≡ string_bytes out.old ++ encode_utf8_all (shown_char c)) }
+    ensures { OnOk result (string_bytes out.new ≡ string_bytes out.old ++ encode_utf8_all (printed_char c)) }
 {
     if !c.is_control() {
         return out.push(c);

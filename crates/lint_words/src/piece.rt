@@ -1,5 +1,5 @@
 ghost use Rattle.std.specs.Prelude.{◌≡◌, ◌++◌, OnOk};
-ghost use Rattle.lint_words.specs.Pieces.{number_of, shown_by, pressed_text, group_text};
+ghost use Rattle.lint_words.specs.Pieces.{number_and_word, shown_by, pressed_words, group_text};
 ghost use Rattle.lint_words.specs.Loops.{piece_text, pieces_text};
 
 use crate::key_pieces::{push_item, push_key_name, push_out_of_range, push_subject};
@@ -45,7 +45,7 @@ pub enum Piece<'a> {
 }
 
 fn push_count(out: &mut Vec<u8>, number: usize, one: &str, more: &str) -> Result<(), AllocError>
-    ensures { OnOk result (out.new.items ≡ out.old.items ++ number_of number one.now more.now) }
+    ensures { OnOk result (out.new.items ≡ out.old.items ++ number_and_word number one.now more.now) }
 {
     push_grouped(out, number)?;
     out.extend_from_slice(b" ")?;
@@ -67,7 +67,7 @@ fn push_shown_by(out: &mut Vec<u8>, keys: &[Key]) -> Result<(), AllocError>
 }
 
 fn push_pressed(out: &mut Vec<u8>, key: Option<Key>) -> Result<(), AllocError>
-    ensures { OnOk result (out.new.items ≡ out.old.items ++ pressed_text key) }
+    ensures { OnOk result (out.new.items ≡ out.old.items ++ pressed_words key) }
 {
     match key {
         None => out.extend_from_slice(b"a key"),

@@ -1,5 +1,5 @@
 ghost use Rattle.std.specs.Prelude.{◌≡◌, ◌++◌, OnOk, codes, decimal};
-ghost use Rattle.lint_words.specs.Pieces.{comma_before, with_commas, grouped, hex4, hex_front, code_text, is_control, is_blank, shown_text, char_text, escaped, escaped_up_to, quoted, frame_name};
+ghost use Rattle.lint_words.specs.Pieces.{comma_before, with_commas, grouped, hex4, hex_front, code_point_text, is_control, is_blank, shown_text, char_text, escaped, escaped_up_to, quoted, frame_name};
 ghost use Rattle.std.specs.Str.{chars};
 
 use itoa::Buffer;
@@ -71,7 +71,7 @@ fn push_hex_front(out: &mut Vec<u8>, number: u32) -> Result<(), AllocError>
 
 // A code point.
 fn push_code(out: &mut Vec<u8>, c: char) -> Result<(), AllocError>
-    ensures { OnOk result (out.new.items ≡ out.old.items ++ code_text c) }
+    ensures { OnOk result (out.new.items ≡ out.old.items ++ code_point_text c) }
 {
     out.extend_from_slice(b"U+")?;
     push_hex_front(out, c as u32)?;

@@ -1,7 +1,7 @@
 ghost use Rattle.std.specs.Prelude.{◌≡◌, ◌++◌, IfOk, OnOk};
 ghost use Rattle.base_text.specs.declared.detail.Detail.TheVariants.{WrongKind};
 ghost use Rattle.lint_words.specs.KeyPieces.{key_subject, item_text};
-ghost use Rattle.lint_words.specs.TextWords.{kind_text, needed_text, item_needed, unknown_text, unknown_words, absent_words, no_table_words, is_element, misfit_words, wrong_kind_words, wrong_item_words, range_words, item_range_words, lead_words, body_code_words, too_many_rows_words, body_and_rows_words, long_row_words, row_code_words, more_body_codes_words, more_row_codes_words, bad_frame_words, detail_words, unlisted_words, code_of, message_of, text_fault_words, too_long_words, not_toml_words};
+ghost use Rattle.lint_words.specs.TextWords.{kind_text, needed_text, item_needed, unknown_text, unknown_words, absent_words, no_table_words, is_element, misfit_words, wrong_kind_words, wrong_item_words, range_words, item_range_words, lead_words, body_code_words, too_many_rows_words, body_and_rows_words, long_row_words, row_code_words, more_body_codes_words, more_row_codes_words, bad_frame_words, detail_words, unlisted_words, detail_code, text_message, text_fault_words, too_long_words, not_toml_words};
 
 use crate::about::{About, text_about};
 use crate::code::Code;
@@ -411,7 +411,7 @@ fn push_unlisted(out: &mut Vec<u8>, fault: &TextFault) -> Result<(), AllocError>
 }
 
 fn code_of(detail: &Detail) -> Code
-    ensures { result ≡ code_of detail.now }
+    ensures { result ≡ detail_code detail.now }
 {
     match detail {
         Detail::UnknownKey(_, _) => Code::UnknownKey,
@@ -431,7 +431,7 @@ fn code_of(detail: &Detail) -> Code
 }
 
 fn push_message(out: &mut Vec<u8>, fault: &TextFault) -> Result<(), AllocError>
-    ensures { OnOk result (out.new.items ≡ out.old.items ++ message_of fault.now) }
+    ensures { OnOk result (out.new.items ≡ out.old.items ++ text_message fault.now) }
 {
     if fault.unlisted == 0 {
         push_detail(out, fault)

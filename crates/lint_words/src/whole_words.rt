@@ -1,5 +1,5 @@
 ghost use Rattle.std.specs.Prelude.{◌≡◌, ◌++◌, IfOk, OnOk};
-ghost use Rattle.lint_words.specs.WholeWords.{too_many_frames_words, too_many_outside_words, long_body_words, next_words, duplicate_words, inside_words, code_of, message_of, whole_fault_words};
+ghost use Rattle.lint_words.specs.WholeWords.{too_many_frames_words, too_many_outside_words, long_body_words, next_words, duplicate_words, inside_words, whole_code, whole_message, whole_fault_words};
 
 use crate::about::whole_about;
 use crate::code::Code;
@@ -100,7 +100,7 @@ fn push_inside(out: &mut Vec<u8>, page: PageNo) -> Result<(), AllocError>
 }
 
 fn code_of(fault: &WholeFault) -> Code
-    ensures { result ≡ code_of fault.now }
+    ensures { result ≡ whole_code fault.now }
 {
     match fault {
         WholeFault::TooManyFrames(_) | WholeFault::TooManyOutside(_) => Code::TooMany,
@@ -112,7 +112,7 @@ fn code_of(fault: &WholeFault) -> Code
 }
 
 fn push_message(out: &mut Vec<u8>, fault: &WholeFault, first_line: usize) -> Result<(), AllocError>
-    ensures { OnOk result (out.new.items ≡ out.old.items ++ message_of fault.now first_line) }
+    ensures { OnOk result (out.new.items ≡ out.old.items ++ whole_message fault.now first_line) }
 {
     match fault {
         WholeFault::TooManyFrames(n) => push_too_many_frames(out, *n),

@@ -27,15 +27,15 @@ abbrev pub is_nearer : SearchView → List ℕ → Bool
 is_nearer s name = is_below s.below s.word name
 
 -- the search once a name was offered
-abbrev pub after : SearchView → List ℕ → SearchView
-after s name = record { word = s.word; below = if is_nearer s name then distance s.word name else s.below }
+abbrev pub offered : SearchView → List ℕ → SearchView
+offered s name = record { word = s.word; below = if is_nearer s name then distance s.word name else s.below }
 
 module _ {A : Type 0} (name_of : A → List ℕ) where
   -- what is found once these were offered in turn
   abbrev pub found_after : SearchView → Option A → List A → Option A
   found_after s found [] = found
   found_after s found (x ∷ xs) =
-      found_after (after s (name_of x)) (if is_nearer s (name_of x) then Some x else found) xs
+      found_after (offered s (name_of x)) (if is_nearer s (name_of x) then Some x else found) xs
 
   abbrev pub nearest : List ℕ → List A → Option A
   nearest word xs = found_after (search_of word) None xs
@@ -51,8 +51,8 @@ module _ {A : Type 0} (name_of : A → List ℕ) where
     -- one of them is fewer than this many steps away; none before it is as near, and none after it is nearer
     abbrev pub IsNearestBelow : ℕ → List A → A → Type 0
     IsNearestBelow steps xs x =
-        (before : List A) × (after : List A) × (xs ≡ before ++ x ∷ after) × (is_below steps word (name_of x) ≡ true) ×
-        NoneBelow (steps_to x + 1) before × NoneBelow (steps_to x) after
+        (before : List A) × (offered : List A) × (xs ≡ before ++ x ∷ offered) × (is_below steps word (name_of x) ≡ true) ×
+        NoneBelow (steps_to x + 1) before × NoneBelow (steps_to x) offered
 
     -- what is found is the nearest of the near ones; or none is near
     abbrev pub IsNearest : List A → Option A → Type 0

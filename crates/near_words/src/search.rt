@@ -1,5 +1,5 @@
 ghost use Rattle.std.specs.Prelude.{◌≡◌, IfOk, IsErr, OnOk};
-ghost use Rattle.near_words.specs.Near.{after, is_nearer, search_of};
+ghost use Rattle.near_words.specs.Near.{offered, is_nearer, search_of};
 
 use std::alloc::{AllocError, Global};
 use std::marker::Model;
@@ -37,7 +37,7 @@ impl<'w> Search<'w> {
     /// If a growth is refused, the name counts as not offered.
     pub fn offer(&mut self, alloc: Global, name: &str) -> Result<bool, AllocError>
         ensures value { IfOk result (λ is. is ≡ is_nearer self.old name.now) }
-        ensures after { OnOk result (self.new ≡ after self.old name.now) }
+        ensures after { OnOk result (self.new ≡ offered self.old name.now) }
         ensures refused { IsErr result → self.new ≡ self.old }
     {
         let steps = osa_distance(alloc, self.word, name)?;

@@ -7,10 +7,10 @@ use Rattle.page_ids.specs.declared.fault.IdFault.{IdFault}
 use Rattle.page_ids.specs.declared.fault.IdFault.TheVariants.{BadPage, BadFrame, BadKey, Memory}
 use Rattle.page_ids.specs.declared.key.Key.{Key}
 use Rattle.page_ids.specs.declared.key.Key.TheVariants.{Route, Next, Prev, Reprint, Update}
-use Rattle.page_ids.specs.Keys.{key_word, keys_text, IsKey, AreKeys, IsUnreadableAt, IsRead}
-use Rattle.page_ids.specs.Loops.{key_at, key_past_star, key_past_zero}
+use Rattle.page_ids.specs.Keys.{key_word, keys_text, IsKey, AreKeys, IsUnreadableAt, AreKeysRead}
+use Rattle.page_ids.specs.Loops.{key_read_at, key_past_star, key_past_zero}
 
-digit_word : (d : ℕ) (rest : List ℕ) → d < 10 → key_at ((48 + d) ∷ rest) ≡ Some (Route d)
+digit_word : (d : ℕ) (rest : List ℕ) → d < 10 → key_read_at ((48 + d) ∷ rest) ≡ Some (Route d)
 digit_word d rest small =
     let hash : eqb (48 + d) 35 ≡ false = grind (arith, nat_tests) in
     let star : eqb (48 + d) 42 ≡ false = grind (arith, nat_tests) in
@@ -20,7 +20,7 @@ digit_word d rest small =
     rw (hash, star, low, high, value) refl
 
 -- a key is read from its word, whatever follows
-pub word_read : (key : Key) (rest : List ℕ) → IsKey key → key_at (key_word key ++ rest) ≡ Some key
+pub word_read : (key : Key) (rest : List ℕ) → IsKey key → key_read_at (key_word key ++ rest) ≡ Some key
 word_read (Route d) rest is = digit_word d rest is
 word_read Next rest is = refl
 word_read Prev rest is = refl
@@ -32,7 +32,7 @@ cancel xs ys zs e = append_cancel_left xs ys zs e
 
 pub no_prefix : (a b : Key) (rest more : List ℕ) → IsKey a → IsKey b → key_word a ++ rest ≡ key_word b ++ more → (a ≡ b) × (rest ≡ more)
 no_prefix a b rest more is_a is_b e =
-    let read : Some a ≡ Some b = sym (word_read a rest is_a) ∙ ap key_at e ∙ word_read b more is_b in
+    let read : Some a ≡ Some b = sym (word_read a rest is_a) ∙ ap key_read_at e ∙ word_read b more is_b in
     let same : a ≡ b = cc in
     (same, cancel (key_word b) rest more (ap (λ (k : Key). key_word k ++ rest) (sym same) ∙ e))
 
@@ -112,7 +112,7 @@ digit_begins a more h =
     (omega arith, more, ap (λ (x : ℕ). x ∷ more) byte)
 
 -- what is read as a key begins with its word
-pub word_found : (bytes : List ℕ) (key : Key) → key_at bytes ≡ Some key → Begins bytes key
+pub word_found : (bytes : List ℕ) (key : Key) → key_read_at bytes ≡ Some key → Begins bytes key
 word_found [] key e = absurd cc
 word_found (a ∷ more) key e =
     elim (chosen (eqb a 35) (some_key Next) (cond (eqb a 42) (key_past_star more) (cond (ltb 47 a && ltb a 58) (some_key (Route (a - 48))) None)) (Some key) e) [
@@ -140,7 +140,7 @@ pub record HasRead (text : List ℕ) (at : ℕ) (keys : List Key) : Type 0 where
   pub are : AreKeys keys
   pub spelled : take at text ≡ keys_text keys
 
-pub next_word : (text : List ℕ) (at : ℕ) (keys : List Key) (key : Key) → HasRead text at keys → key_at (drop at text) ≡ Some key → HasRead text (at + length (key_word key)) (keys ++ key ∷ [])
+pub next_word : (text : List ℕ) (at : ℕ) (keys : List Key) (key : Key) → HasRead text at keys → key_read_at (drop at text) ≡ Some key → HasRead text (at + length (key_word key)) (keys ++ key ∷ [])
 next_word text at keys key h e =
     let w = word_found (drop at text) key e in
     let len : length (drop at text) ≡ length (key_word key) + length w.1 = ap length w.2 ∙ length-append (key_word key) w.1 in
@@ -153,7 +153,7 @@ next_word text at keys key h e =
       spelled = take-add at (length (key_word key)) text ∙ ap (λ (t : List ℕ). t ++ take (length (key_word key)) (drop at text)) front ∙ ap (λ (t : List ℕ). keys_text keys ++ t) word ∙ sym (text_more keys key);
     }
 
-no_more : (text : List ℕ) (at m : ℕ) (more : List Key) → at < m → m ≤ length text → AreKeys more → key_at (drop at text) ≡ None → take (m - at) (drop at text) ≡ keys_text more → ⊥
+no_more : (text : List ℕ) (at m : ℕ) (more : List Key) → at < m → m ≤ length text → AreKeys more → key_read_at (drop at text) ≡ None → take (m - at) (drop at text) ≡ keys_text more → ⊥
 no_more text at m [] lt le are none e =
     let zero : length (take (m - at) (drop at text)) ≡ 0 = ap length e in
     let room : m - at ≤ length (drop at text) = omega (arith, length-drop at text) in
@@ -161,10 +161,10 @@ no_more text at m [] lt le are none e =
 no_more text at m (k ∷ more) lt le are none e =
     let rest : List ℕ = drop (m - at) (drop at text) in
     let whole : drop at text ≡ key_word k ++ (keys_text more ++ rest) = sym (take-append-drop (m - at) (drop at text)) ∙ ap (λ (t : List ℕ). t ++ rest) e ∙ append_assoc (key_word k) (keys_text more) rest in
-    let some : Some k ≡ None = sym (word_read k (keys_text more ++ rest) are.0) ∙ sym (ap key_at whole) ∙ none in
+    let some : Some k ≡ None = sym (word_read k (keys_text more ++ rest) are.0) ∙ sym (ap key_read_at whole) ∙ none in
     cc
 
-longer : (text : List ℕ) (at m : ℕ) (keys all : List Key) → at < m → m ≤ length text → HasRead text at keys → key_at (drop at text) ≡ None → AreKeys all → take m text ≡ keys_text all → ⊥
+longer : (text : List ℕ) (at m : ℕ) (keys all : List Key) → at < m → m ≤ length text → HasRead text at keys → key_read_at (drop at text) ≡ None → AreKeys all → take m text ≡ keys_text all → ⊥
 longer text at m keys all lt le h none are e =
     let sum : at + (m - at) ≡ m = omega arith in
     let front : take at text ≡ keys_text keys = h.spelled in
@@ -172,7 +172,7 @@ longer text at m keys all lt le h none are e =
     let g = goes_on keys all (take (m - at) (drop at text)) h.are are (sym e ∙ split ∙ ap (λ (t : List ℕ). t ++ take (m - at) (drop at text)) front) in
     no_more text at m g.0 lt le g.1 none g.3
 
-pub unreadable : (text : List ℕ) (at : ℕ) (keys : List Key) → at < length text → HasRead text at keys → key_at (drop at text) ≡ None → IsUnreadableAt text at
+pub unreadable : (text : List ℕ) (at : ℕ) (keys : List Key) → at < length text → HasRead text at keys → key_read_at (drop at text) ≡ None → IsUnreadableAt text at
 unreadable text at keys lt h none = record {
   within = lt;
   readable = (keys, h.are, h.spelled);
@@ -180,7 +180,7 @@ unreadable text at keys lt h none = record {
 }
 
 -- the text of keys is read as these, unless memory is refused
-pub read_again : (keys : List Key) (read : Result (List Key) IdFault) → AreKeys keys → IsRead (keys_text keys) read → (read ≡ Ok keys) ⊎ (read ≡ Err Memory)
+pub read_again : (keys : List Key) (read : Result (List Key) IdFault) → AreKeys keys → AreKeysRead (keys_text keys) read → (read ≡ Ok keys) ⊎ (read ≡ Err Memory)
 read_again keys (Ok others) are h = let same = one_list others keys h.0 are (sym h.1) in inl (ap (λ (k : List Key). Ok k) same)
 read_again keys (Err BadPage) are h = absurd h
 read_again keys (Err BadFrame) are h = absurd h

@@ -47,9 +47,9 @@ IsReadFault text BadFrame = ⊥
 IsReadFault text (BadKey n) = IsUnreadableAt text n
 IsReadFault text Memory = Unit {0}
 
-abbrev pub IsRead : List ℕ → Result (List Key) IdFault → Type 0
-IsRead text (Ok keys) = AreKeys keys × (text ≡ keys_text keys)
-IsRead text (Err fault) = IsReadFault text fault
+abbrev pub AreKeysRead : List ℕ → Result (List Key) IdFault → Type 0
+AreKeysRead text (Ok keys) = AreKeys keys × (text ≡ keys_text keys)
+AreKeysRead text (Err fault) = IsReadFault text fault
 
 -- Texts of keys and lists of keys belong together one by one.
 
@@ -59,4 +59,4 @@ pub record KeysAreTexts : Type 0 where
   -- a text has one list
   pub one_list : (keys others : List Key) → AreKeys keys → AreKeys others → keys_text keys ≡ keys_text others → keys ≡ others
   -- the text of a list is read as that list, unless memory is refused
-  pub read_again : (keys : List Key) (read : Result (List Key) IdFault) → AreKeys keys → IsRead (keys_text keys) read → (read ≡ Ok keys) ⊎ (read ≡ Err Memory)
+  pub read_again : (keys : List Key) (read : Result (List Key) IdFault) → AreKeys keys → AreKeysRead (keys_text keys) read → (read ≡ Ok keys) ⊎ (read ≡ Err Memory)

@@ -14,9 +14,9 @@ abbrev pub key_past_star : List ℕ → Option Key
 key_past_star [] = None
 key_past_star (b ∷ bs) = if b == 35 then Some Prev else if b == 48 then key_past_zero bs else None
 
-abbrev pub key_at : List ℕ → Option Key
-key_at [] = None
-key_at (a ∷ more) =
+abbrev pub key_read_at : List ℕ → Option Key
+key_read_at [] = None
+key_read_at (a ∷ more) =
     if a == 35 then Some Next
     else if a == 42 then key_past_star more
     else if nat_lt 47 a && nat_lt a 58 then Some (Route (a - 48)) else None

@@ -1,7 +1,7 @@
 ghost use Rattle.std.specs.Prelude.{◌≡◌, ◌+◌, ◌++◌, IfOk, MatchResult, length};
 ghost use Rattle.page_ids.specs.declared.key.Key.{Key};
-ghost use Rattle.page_ids.specs.Keys.{key_word, keys_text, IsRead, KeysAreTexts};
-ghost use Rattle.page_ids.specs.Loops.{key_at};
+ghost use Rattle.page_ids.specs.Keys.{key_word, keys_text, AreKeysRead, KeysAreTexts};
+ghost use Rattle.page_ids.specs.Loops.{key_read_at};
 
 use crate::fault::IdFault;
 use crate::key::{Digit, Key, KeyList};
@@ -9,7 +9,7 @@ use std::alloc::{AllocError, Global};
 
 // The key with whose word the bytes begin.
 fn key_at(bytes: &[u8]) -> Option<Key>
-    ensures { result ≡ key_at bytes.now }
+    ensures { result ≡ key_read_at bytes.now }
 {
     match bytes {
         [b'#', ..] => Some(Key::Next),
@@ -40,7 +40,7 @@ fn word_len(key: &Key) -> usize
 /// I3, `BadKey`, carries the byte offset at which the first word that can't be read begins: the length of the longest
 /// beginning of the text that is made of words.
 pub fn keys_read(alloc: Global, text: &str) -> Result<KeyList, IdFault>
-    ensures { IsRead text.now result }
+    ensures { AreKeysRead text.now result }
 {
     let bytes = text.as_bytes();
     let mut keys = Vec::new(alloc);
@@ -88,7 +88,7 @@ pub fn push_keys(text: &mut Vec<u8>, keys: &[Key]) -> Result<(), AllocError>
 /// The words of the keys, one after the other. `keys_read` gives the keys back.
 pub fn keys_text(alloc: Global, keys: &KeyList) -> Result<Vec<u8>, AllocError>
     ensures text { IfOk result (λ text. text.items ≡ keys_text keys.now) }
-    ensures read_again { IfOk result (λ text. IsRead text.items (Ok keys.now)) }
+    ensures read_again { IfOk result (λ text. AreKeysRead text.items (Ok keys.now)) }
 {
     let mut text = Vec::new(alloc);
     push_keys(&mut text, keys.as_slice())?;

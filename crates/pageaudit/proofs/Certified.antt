@@ -13,7 +13,7 @@ use Rattle.base_text.specs.declared.fault.BaseFault.{BaseFault}
 use Rattle.base_text.specs.declared.limits.TheConstants.{MOST_TEXT}
 use Rattle.base_text.specs.Frames.{top_fault}
 use Rattle.base_text.specs.declared.fault.BaseCause.TheVariants.{TooLong}
-use Rattle.base_text.specs.Whole.{PartsView, IsTextBase, IsFirstFault, IsFaultOf, parts_of, tree_parts, tree_of}
+use Rattle.base_text.specs.Whole.{PartsView, IsTextBase, IsFirstFault, IsFaultOf, listed_parts, tree_parts, tree_of}
 use Rattle.base_text.proofs.OneText.{one_text_base}
 use Rattle.lint.proofs.Readings.{refusal}
 use Rattle.cert_table.specs.Table.{CertView}
@@ -23,7 +23,7 @@ use Rattle.cert_text.specs.declared.fault.ReadFault.{ReadFault}
 use Rattle.cert_text.specs.declared.fault.ReadFault.TheVariants as read
 use Rattle.cert_text.specs.Grammar.{IsCertificateText}
 use Rattle.frame_records.specs.Steps.{◌>>=◌}
-use Rattle.cert_text.specs.Reading.{Reading, Fault, start, run, ended, reading, fault_in, cert_fault, is_over, number_of, certificate_of}
+use Rattle.cert_text.specs.Reading.{Reading, Fault, reading_start, reading_after, ended, reading, reading_fault, certificate_fault, is_over, due_number, certificate_of}
 use Rattle.cert_text.proofs.Only.{only, one_certificate, run_append}
 use Rattle.checker.specs.declared.policy.Policy.{Policy}
 use Rattle.checker.specs.declared.verdict.Verdict.{Verdict}
@@ -59,7 +59,7 @@ whole_text (Some known) (Some more) text got shows given over =
 -- A base's text isn't refused.
 
 -- it isn't too long
-is_short : (text : List ℕ) (p : PartsView) → parts_of text ≡ Ok p → length text < base_limit
+is_short : (text : List ℕ) (p : PartsView) → listed_parts text ≡ Ok p → length text < base_limit
 is_short text p listed = by (nat_lt MOST_TEXT (length text)) refl listed where
   by : (b : Bool) → nat_lt MOST_TEXT (length text) ≡ b → cond b (Err (top_fault TooLong)) (tree_parts (tree_of text)) ≡ Ok p → length text < base_limit
   by true e h = absurd (cc (h))
@@ -80,7 +80,7 @@ module _ (outside : List ℕ) (frames : List Frame) where
 -- it has no first fault, unless memory is refused
 never_refused : (text : List ℕ) (base : BaseView) (f : BaseFault) → IsTextBase text base → IsBaseRefused text f → ⊥
 never_refused text base f is h = by h.first where
-  of_parts : IsFaultOf (parts_of text) f → ⊥
+  of_parts : IsFaultOf (listed_parts text) f → ⊥
   of_parts wrong =
       let whole = subst (λ (r : Result PartsView BaseFault). IsFaultOf r f) is.1 wrong in
       let refused = refusal is.0.outside is.0.frames f.cause whole.1 in
@@ -118,27 +118,27 @@ module _ (text : List ℕ) (cert : CertView) (is : IsCertificateText text cert) 
   right = ap reading is.spelled ∙ only cert is.valid
 
   -- no front of it stops the reading
-  never_stops : (got more : List ℕ) (f : Fault) → text ≡ got ++ more → run start got ≡ Err f → ⊥
+  never_stops : (got more : List ℕ) (f : Fault) → text ≡ got ++ more → reading_after reading_start got ≡ Err f → ⊥
   never_stops got more f joined stops = clash (sym right ∙ ap reading joined ∙ stopped) where
     stopped : reading (got ++ more) ≡ Err f
-    stopped = ap (λ (r : Result Reading Fault). r >>= ended) (run_append start got more ∙ ap (λ (r : Result Reading Fault). r >>= λ t. run t more) stops)
+    stopped = ap (λ (r : Result Reading Fault). r >>= ended) (run_append reading_start got more ∙ ap (λ (r : Result Reading Fault). r >>= λ t. reading_after t more) stops)
 
     clash : {A E : Type 0} {x : A} {e : E} → Ok x ≡ Err e → ⊥
     clash e = cc
 
   -- a reading that goes on has no fault but that the text ends early
-  goes_on : (s : Reading) (n : ℕ) (cause : LineCause) → fault_in (ended s) ≡ Some (n, cause) → Truncated ≡ cause
+  goes_on : (s : Reading) (n : ℕ) (cause : LineCause) → reading_fault (ended s) ≡ Some (n, cause) → Truncated ≡ cause
   goes_on s n cause = by (is_over s.stage) where
     cause_in : Option Fault → LineCause
     cause_in None = Truncated
     cause_in (Some f) = f.1
 
-    by : (b : Bool) → fault_in (cond b (Ok (certificate_of s.said)) (Err (number_of s.stage s.said, Truncated))) ≡ Some (n, cause) → Truncated ≡ cause
+    by : (b : Bool) → reading_fault (cond b (Ok (certificate_of s.said)) (Err (due_number s.stage s.said, Truncated))) ≡ Some (n, cause) → Truncated ≡ cause
     by true e = ap cause_in e
     by false e = ap cause_in e
 
-  whole_is_right : (n : ℕ) (cause : LineCause) → cert_fault text ≡ Some (n, cause) → ⊥
-  whole_is_right n cause e = clash (sym (ap (λ (r : Result CertView Fault). fault_in r) right) ∙ e) where
+  whole_is_right : (n : ℕ) (cause : LineCause) → certificate_fault text ≡ Some (n, cause) → ⊥
+  whole_is_right n cause e = clash (sym (ap (λ (r : Result CertView Fault). reading_fault r) right) ∙ e) where
     clash : {A : Type 0} {x : A} → None ≡ Some x → ⊥
     clash e = cc
 
@@ -147,12 +147,12 @@ module _ (text : List ℕ) (cert : CertView) (is : IsCertificateText text cert) 
   cert_is_right d read.Failed shows h = absurd h.first
   cert_is_right d (read.Line n cause) shows h =
       let front = front_of d.before.bytes d.after.bytes text h.text shows h.read.given in
-      by front (run start h.text) refl h.first where
-        by : IsFront text h.text d.after.bytes → (r : Result Reading Fault) → run start h.text ≡ r → fault_in (r >>= ended) ≡ Some (n, cause) → ⊥
+      by front (reading_after reading_start h.text) refl h.first where
+        by : IsFront text h.text d.after.bytes → (r : Result Reading Fault) → reading_after reading_start h.text ≡ r → reading_fault (r >>= ended) ≡ Some (n, cause) → ⊥
         by front (Err f) stops e = never_stops h.text front.more f front.joined stops
         by front (Ok s) goes e =
             let same = front.over (h.whole (sym (goes_on s n cause e))) in
-            whole_is_right n cause (ap cert_fault (sym same) ∙ h.first)
+            whole_is_right n cause (ap certificate_fault (sym same) ∙ h.first)
 
 -- What the first run shows of the two texts.
 
@@ -201,8 +201,8 @@ module _ (base_text cert_text : List ℕ) (policy : Policy) where
       apart base (Faulty faults) out read is grammar written = absurd (cc (written.0.1))
 
       by : IsCertifying h.base_file h.cert policy → IsDecided base_text cert_text policy
-      by (inl run) = alone run.base run.written.outcome run.base_read run.written.is run.written.in_grammar run.written.written
-      by (inr run) = apart run.1.base run.1.written.outcome run.0 run.1.base_read run.1.written.is run.1.written.in_grammar run.1.written.written
+      by (inl reading_after) = alone reading_after.base reading_after.written.outcome reading_after.base_read reading_after.written.is reading_after.written.in_grammar reading_after.written.written
+      by (inr reading_after) = apart reading_after.1.base reading_after.1.written.outcome reading_after.0 reading_after.1.base_read reading_after.1.written.is reading_after.1.written.in_grammar reading_after.1.written.written
 
   -- the second run
   module _ (d : IsDecided base_text cert_text policy) (out : Device) where
@@ -220,19 +220,19 @@ module _ (base_text cert_text : List ℕ) (policy : Policy) where
           subst (λ (w : Verdict). IsTextWritten out (verdict_text w) (status_of_verdict w) answer) cleared v.written
 
       clearing : (answer : Result Status RunFault) → IsCheckRun base_file cert_file out policy answer → IsClearing out answer
-      clearing (Ok status) run = of_verdict (Ok status) run
-      clearing (Err (fault.Write wrote)) run = of_verdict (Err (fault.Write wrote)) run
-      clearing (Err (fault.Base f)) run = absurd (base_is_right base_file base_text d.base f base_is d.of_base run.0)
-      clearing (Err fault.ReadBase) run = run.2
-      clearing (Err (fault.Cert f)) run = absurd (cert_is_right cert_text d.cert d.of_cert cert_file f cert_is run.why)
-      clearing (Err fault.ReadCert) run = run.nothing
-      clearing (Err fault.Memory) run = run.2
-      clearing (Err (fault.Keys offset)) run = absurd run
-      clearing (Err fault.Groups) run = absurd run
-      clearing (Err (fault.NewBase f)) run = absurd run
-      clearing (Err (fault.NewCert f)) run = absurd run
-      clearing (Err fault.ReadNewBase) run = absurd run
-      clearing (Err fault.ReadNewCert) run = absurd run
+      clearing (Ok status) reading_after = of_verdict (Ok status) reading_after
+      clearing (Err (fault.Write wrote)) reading_after = of_verdict (Err (fault.Write wrote)) reading_after
+      clearing (Err (fault.Base f)) reading_after = absurd (base_is_right base_file base_text d.base f base_is d.of_base reading_after.0)
+      clearing (Err fault.ReadBase) reading_after = reading_after.2
+      clearing (Err (fault.Cert f)) reading_after = absurd (cert_is_right cert_text d.cert d.of_cert cert_file f cert_is reading_after.why)
+      clearing (Err fault.ReadCert) reading_after = reading_after.nothing
+      clearing (Err fault.Memory) reading_after = reading_after.2
+      clearing (Err (fault.Keys offset)) reading_after = absurd reading_after
+      clearing (Err fault.Groups) reading_after = absurd reading_after
+      clearing (Err (fault.NewBase f)) reading_after = absurd reading_after
+      clearing (Err (fault.NewCert f)) reading_after = absurd reading_after
+      clearing (Err fault.ReadNewBase) reading_after = absurd reading_after
+      clearing (Err fault.ReadNewCert) reading_after = absurd reading_after
 
 pub clears : (base_text cert_text : List ℕ) (policy : Policy) (out : Device) (answer : Result Status RunFault) → IsFirstRun base_text cert_text policy → IsSecondRun base_text cert_text out policy answer → IsClearing out answer
 clears base_text cert_text policy out answer first second =

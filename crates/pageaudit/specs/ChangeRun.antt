@@ -18,8 +18,8 @@ pub record EditionFiles : Type 0 where
   pub base : Device
   pub cert : Device
 
-abbrev pub edition : Device → Device → EditionFiles
-edition base cert = record { base = base; cert = cert }
+abbrev pub edition_files : Device → Device → EditionFiles
+edition_files base cert = record { base = base; cert = cert }
 
 -- both were read to their ends and are right
 pub record IsEditionOf (files : EditionFiles) (base : BaseView) (cert : CertView) : Type 0 where

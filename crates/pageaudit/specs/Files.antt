@@ -12,7 +12,7 @@ use Rattle.cert_text.specs.declared.fault.LineCause.TheVariants.{Truncated}
 use Rattle.cert_text.specs.declared.fault.ReadFault.{ReadFault}
 use Rattle.cert_text.specs.declared.fault.ReadFault.TheVariants as read
 use Rattle.cert_text.specs.Grammar.{IsCertificateText}
-use Rattle.cert_text.specs.Reading.{cert_fault, lasting}
+use Rattle.cert_text.specs.Reading.{certificate_fault, lasting}
 use Rattle.checker.specs.Headline.{IsBaseRefused, IsCertRefused}
 use Rattle.base_text.specs.declared.limits.TheConstants.{MOST_TEXT}
 use Rattle.pageaudit.specs.declared.input.TheConstants.{MOST_CERT}
@@ -104,7 +104,7 @@ IsBaseBroken d = BrokeWithin base_limit d.before d.after
 -- a read of a certificate's file failed, after fewer bytes than the limit, none of them in a bad line
 pub record IsCertBroken (d : Device) : Type 0 where
   pub broken : BrokeWithin cert_limit d.before d.after
-  pub right : lasting (cert_fault broken.bytes) ≡ None
+  pub right : lasting (certificate_fault broken.bytes) ≡ None
 
 -- no read of a file failed, and no more bytes than the limit were read
 abbrev pub IsReadWithin : ℕ → Device → Type 0

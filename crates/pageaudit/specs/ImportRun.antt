@@ -31,7 +31,7 @@ pub record IsScreenFile (d : Device) (bytes : List ℕ) : Type 0 where
   pub whole : length bytes < screen_limit → IsAtEnd d.after.bytes
 
 -- a file whose bytes are judged so
-pub record IsJudged (d : Device) (kind : FileKind) (path : List ℕ) (answer : Result ScreenFrame ScreenFault) : Type 0 where
+pub record IsFileJudged (d : Device) (kind : FileKind) (path : List ℕ) (answer : Result ScreenFrame ScreenFault) : Type 0 where
   pub bytes : List ℕ
   pub is : IsScreenFile d bytes
   pub judged : file_frame kind path bytes ≡ answer
@@ -39,18 +39,18 @@ pub record IsJudged (d : Device) (kind : FileKind) (path : List ℕ) (answer : R
 -- the frame of the file is the last one now
 pub record IsTaken (d : Device) (kind : FileKind) (path : List ℕ) (file : ℕ) (old new : List Filed) : Type 0 where
   pub frame : ScreenFrame
-  pub is : IsJudged d kind path (Ok frame)
+  pub is : IsFileJudged d kind path (Ok frame)
   pub added : new ≡ old ++ record { file = file; frame = frame } ∷ []
 
 -- a file that gives a frame, for which there is no place
 pub record IsRefusedPlace (d : Device) (kind : FileKind) (path : List ℕ) (old : List Filed) : Type 0 where
   pub frame : ScreenFrame
-  pub is : IsJudged d kind path (Ok frame)
+  pub is : IsFileJudged d kind path (Ok frame)
   pub full : MOST_LISTED ≤ length old
 
 -- why no frame was added
 abbrev pub IsNotTaken : Device → FileKind → List ℕ → List Filed → ImportFault → Type 0
-IsNotTaken d kind path old (Screen fault) = IsJudged d kind path (Err fault)
+IsNotTaken d kind path old (Screen fault) = IsFileJudged d kind path (Err fault)
 IsNotTaken d kind path old TooMany = IsRefusedPlace d kind path old
 IsNotTaken d kind path old Broken = BrokeWithin screen_limit d.before d.after
 IsNotTaken d kind path old Memory = IsReadWithin screen_limit d

@@ -15,7 +15,7 @@ use Rattle.cert_text.specs.declared.fault.ReadFault.{ReadFault}
 use Rattle.base_text.specs.Whole.{IsTextBase}
 use Rattle.checker.specs.Headline.{IsBaseRefused, IsCertRefused}
 use Rattle.std.specs.Io.KnownBytes.{Consumes, IsAtEnd, Keeps}
-use Rattle.cert_text.specs.Reading.{cert_fault as text_fault, ReaderView, HasRead, lasting}
+use Rattle.cert_text.specs.Reading.{certificate_fault as text_fault, ReaderView, HasRead, lasting}
 use Rattle.frame_records.specs.declared.limits.TheConstants.{MOST_LISTED}
 use Rattle.screen_files.specs.declared.album.Filed.{Filed}
 use Rattle.screen_files.specs.declared.frame.ScreenFrame.{ScreenFrame}
@@ -59,7 +59,7 @@ IsBaseAnswer text (Err file.Memory) = Unit {0}
 -- A certificate's file that is read in pieces.
 
 -- one read of a certificate's file, whose bytes its reader took: `count` of them, and none only at the end
-pub record IsPieceRead (most : ℕ) (d : Device) (stream : List ℕ) (reader : ReaderView) (count : ℕ) : Type 0 where
+pub record IsCertPieceRead (most : ℕ) (d : Device) (stream : List ℕ) (reader : ReaderView) (count : ℕ) : Type 0 where
   pub piece : List ℕ
   pub counted : length piece ≡ count
   pub within : count ≤ most
@@ -80,7 +80,7 @@ pub record IsPieceRefused (most : ℕ) (d : Device) (stream : List ℕ) (fault :
 
 -- one read of it, or why there was none
 abbrev pub IsPieceTaken : ℕ → Device → List ℕ → ReaderView → Result ℕ (FileFault ReadFault) → Type 0
-IsPieceTaken most d stream reader (Ok count) = IsPieceRead most d stream reader count
+IsPieceTaken most d stream reader (Ok count) = IsCertPieceRead most d stream reader count
 IsPieceTaken most d stream reader (Err (file.Text fault)) = IsPieceRefused most d stream fault
 IsPieceTaken most d stream reader (Err file.Broken) = Keeps d.before.bytes d.after.bytes × (d.after.failed ≡ true)
 IsPieceTaken most d stream reader (Err file.Memory) = IsReadWithin most d

@@ -16,13 +16,13 @@ IsMapWritten out (Some text) answer = IsTextWritten out text.items Drawn answer
 IsMapWritten out None answer = (answer ≡ Ok NoPage) × IsUntouched out
 
 -- the map of a view of the base was written if there is one
-pub record IsViewWritten (out : Device) (caller : List ℕ) (view : View) (base : BaseView) (answer : Result MapStatus RunFault) : Type 0 where
+pub record IsMapViewWritten (out : Device) (caller : List ℕ) (view : View) (base : BaseView) (answer : Result MapStatus RunFault) : Type 0 where
   pub map : Option (Vec ℕ Global)
   pub is : IsViewed caller base view map
   pub written : IsMapWritten out map answer
 
 abbrev pub IsMapRun : Device → Device → List ℕ → View → Result MapStatus RunFault → Type 0
-IsMapRun base_file out caller view = IsBaseRun base_file (IsUntouched out) (IsViewWritten out caller view)
+IsMapRun base_file out caller view = IsBaseRun base_file (IsUntouched out) (IsMapViewWritten out caller view)
 
 -- the exit status: 2 if there is no such page
 abbrev pub map_number : Result MapStatus RunFault → ℕ

@@ -20,7 +20,7 @@ run_of (Err (Write wrote)) = Err (run.Write wrote)
 run_of (Err Memory) = Err run.Memory
 
 -- the file of a view of the base was written, or why it wasn't
-pub record IsFileWritten (out : Device) (name : List ℕ) (policy : Policy) (view : View) (base : BaseView) (answer : Result PagesStatus RunFault) : Type 0 where
+pub record IsPagesWritten (out : Device) (name : List ℕ) (policy : Policy) (view : View) (base : BaseView) (answer : Result PagesStatus RunFault) : Type 0 where
   pub pages : Result PagesStatus PagesFault
   pub is : answer ≡ run_of pages
   pub written : IsPagesRun out.before out.after name base policy view pages
@@ -28,8 +28,8 @@ pub record IsFileWritten (out : Device) (name : List ℕ) (policy : Policy) (vie
 -- memory may be refused after a front of the file was written
 abbrev pub IsPagesFileRun : Device → Device → List ℕ → Policy → View → Result PagesStatus RunFault → Type 0
 IsPagesFileRun base_file out name policy view (Err run.Memory) =
-    (IsReadWithin base_limit base_file × IsUntouched out) ⊎ IsReadAndWritten base_file (IsFileWritten out name policy view) (Err run.Memory)
-IsPagesFileRun base_file out name policy view answer = IsBaseRun base_file (IsUntouched out) (IsFileWritten out name policy view) answer
+    (IsReadWithin base_limit base_file × IsUntouched out) ⊎ IsReadAndWritten base_file (IsPagesWritten out name policy view) (Err run.Memory)
+IsPagesFileRun base_file out name policy view answer = IsBaseRun base_file (IsUntouched out) (IsPagesWritten out name policy view) answer
 
 -- the exit status: 2 if there is no such page
 abbrev pub pages_number : Result PagesStatus RunFault → ℕ

@@ -8,7 +8,7 @@ use Rattle.frame_records.specs.Bases.{BaseView, frame_at}
 use Rattle.frame_records.specs.Seek.{entry_of}
 use Rattle.frame_screens.specs.declared.keyed.NoScreen.{NoScreen}
 use Rattle.frame_screens.specs.declared.keyed.NoScreen.TheVariants as none
-use Rattle.frame_screens.specs.Frames.{IsWay, keyed_frames, ids_of, last_of}
+use Rattle.frame_screens.specs.Frames.{IsWay, keyed_frames, ids_of, last_frame}
 use Rattle.near_words.specs.Near.{nearest}
 use Rattle.frame_screens.specs.Screens.{screen_codes}
 use Rattle.screens.specs.declared.look.Look.{Look}
@@ -39,7 +39,7 @@ picture_of (Some id) rows = svg id rows None
 abbrev pub screen_text : Form → BaseView → List Id → List ℕ
 screen_text form.Text base ids = written Plain (text (looks (screen_codes base ids)))
 screen_text form.Ansi base ids = ansi (looks (screen_codes base ids))
-screen_text form.Svg base ids = picture_of (last_of ids) (looks (screen_codes base ids))
+screen_text form.Svg base ids = picture_of (last_frame ids) (looks (screen_codes base ids))
 screen_text form.Cells base ids = screen_codes base ids
 
 -- What is answered: a screen in a form, or why there is none.

@@ -2,7 +2,7 @@ ghost use Rattle.std.specs.Prelude.{◌≡◌, false};
 ghost use Rattle.audit_report.specs.Lines.{change_text};
 ghost use Rattle.audit_report.specs.Statuses.{status_of_change};
 ghost use Rattle.pageaudit.specs.Files.{device, IsTextWritten};
-ghost use Rattle.pageaudit.specs.ChangeRun.{IsChangeRun, HoldsOfChange, edition};
+ghost use Rattle.pageaudit.specs.ChangeRun.{IsChangeRun, HoldsOfChange, edition_files};
 
 use crate::edition::{new_fault, old_fault, read_edition};
 use crate::output::write_text;
@@ -48,14 +48,14 @@ pub fn run_change<B: Source, C: Source, N: Source, M: Source, O: Sink>(
     // A status: all four files were read to their ends, no device failed, and the verdict's line and its status are those
     // of what was read. A fault: the first one, of the old edition's files, of the new edition's, or of the output.
     ensures run { IsChangeRun
-        (edition (device B.seen old.old old.new) (device C.seen old_cert.old old_cert.new))
-        (edition (device N.seen new.old new.new) (device M.seen new_cert.old new_cert.new))
+        (edition_files (device B.seen old.old old.new) (device C.seen old_cert.old old_cert.new))
+        (edition_files (device N.seen new.old new.new) (device M.seen new_cert.old new_cert.new))
         (device O.seen out.old out.new) policy.now result }
 
     // If the status is Clear, callers stay safe over the change, from the old edition's entry page and after any keys.
     ensures safe { result ≡ Ok Status.Clear → HoldsOfChange
-        (edition (device B.seen old.old old.new) (device C.seen old_cert.old old_cert.new))
-        (edition (device N.seen new.old new.new) (device M.seen new_cert.old new_cert.new))
+        (edition_files (device B.seen old.old old.new) (device C.seen old_cert.old old_cert.new))
+        (edition_files (device N.seen new.old new.new) (device M.seen new_cert.old new_cert.new))
         policy.now }
 {
     let (old, old_cert) = match read_edition(alloc, old, old_cert) {

@@ -2,7 +2,7 @@
 
 ghost use Rattle.std.specs.Prelude.{◌≡◌, false, Ok, Err};
 ghost use Rattle.pageaudit.specs.Files.{device};
-ghost use Rattle.pageaudit.specs.ChangeRun.{edition};
+ghost use Rattle.pageaudit.specs.ChangeRun.{edition_files};
 ghost use Rattle.pageaudit.specs.Loops.{IsEditionRead, old_fault, new_fault};
 
 use crate::file_fault::{FileFault, base_fault, cert_fault};
@@ -32,7 +32,7 @@ pub fn read_edition<B: Source, C: Source>(
 ) -> Result<(Base, Certificate), EditionFault>
     requires base_open { (B.seen base.old).failed ≡ false }
     requires cert_open { (C.seen cert.old).failed ≡ false }
-    ensures { IsEditionRead (edition (device B.seen base.old base.new) (device C.seen cert.old cert.new)) result }
+    ensures { IsEditionRead (edition_files (device B.seen base.old base.new) (device C.seen cert.old cert.new)) result }
 {
     let base = match read_base(alloc, base) {
         Ok(base) => base,

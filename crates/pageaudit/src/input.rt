@@ -7,7 +7,7 @@ ghost use Rattle.pageaudit.specs.Loops.{IsBaseRead, IsCertRead, IsBaseAnswer, Is
 
 use crate::file_fault::FileFault;
 use audit_report::{Source, SourceFault, read_whole};
-use base_text::{BaseFault, BaseCause, MOST_TEXT, base_read};
+use base_text::{BaseCause, BaseFault, MOST_TEXT, base_read};
 use cert_table::Certificate;
 use cert_text::{CertReader, ReadFault};
 use frame_records::Base;

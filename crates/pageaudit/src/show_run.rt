@@ -129,8 +129,12 @@ fn lost_answer(base: &Base, none: &NoScreen) -> Result<ShowAnswer, AllocError>
     ensures { IfOk result (IsLostAnswer base.now none.now) }
 {
     match none {
-        NoScreen::EntryMissing => Ok(ShowAnswer::Nothing(ShowStatus::EntryMissing(base.entry_frame()))),
-        NoScreen::EntryClosed => Ok(ShowAnswer::Nothing(ShowStatus::EntryClosed(base.entry_frame()))),
+        NoScreen::EntryMissing => Ok(ShowAnswer::Nothing(ShowStatus::EntryMissing(
+            base.entry_frame(),
+        ))),
+        NoScreen::EntryClosed => Ok(ShowAnswer::Nothing(ShowStatus::EntryClosed(
+            base.entry_frame(),
+        ))),
         NoScreen::Gone(page) => Ok(ShowAnswer::Nothing(ShowStatus::Gone(*page))),
         NoScreen::Memory => Err(AllocError),
     }

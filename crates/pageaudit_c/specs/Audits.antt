@@ -15,7 +15,7 @@ use Rattle.pageaudit_c.specs.Status.{of_judged}
 use Rattle.pageaudit_c.specs.Calls.{IsOutOfMemory, IsFaultAnswer}
 
 -- the text is that of a base, and its outcome was reported
-pub record IsReported (base_text : List ℕ) (policy : Policy) (due : CallStatus) (text : List ℕ) : Type 0 where
+pub record IsAuditReported (base_text : List ℕ) (policy : Policy) (due : CallStatus) (text : List ℕ) : Type 0 where
   pub base : BaseView
   pub of_base : IsTextBase base_text base
   pub outcome : Outcome
@@ -31,4 +31,4 @@ pub record IsBaseFault (base_text : List ℕ) (due : CallStatus) (text : List �
 
 -- the answer of the audit of a text
 abbrev pub IsAuditAnswer : List ℕ → Policy → CallStatus → List ℕ → Type 0
-IsAuditAnswer base_text policy due text = IsReported base_text policy due text ⊎ (IsBaseFault base_text due text ⊎ IsOutOfMemory due text)
+IsAuditAnswer base_text policy due text = IsAuditReported base_text policy due text ⊎ (IsBaseFault base_text due text ⊎ IsOutOfMemory due text)

@@ -19,11 +19,11 @@ pub record EditionTexts : Type 0 where
   pub base : List ℕ
   pub cert : List ℕ
 
-abbrev pub edition : List ℕ → List ℕ → EditionTexts
-edition base cert = record { base = base; cert = cert }
+abbrev pub edition_texts : List ℕ → List ℕ → EditionTexts
+edition_texts base cert = record { base = base; cert = cert }
 
 -- they are those of a base and a certificate
-pub record IsEditionOf (texts : EditionTexts) (base : BaseView) (cert : CertView) : Type 0 where
+pub record IsEditionOfTexts (texts : EditionTexts) (base : BaseView) (cert : CertView) : Type 0 where
   pub of_base : IsTextBase texts.base base
   pub of_cert : IsCertificateText texts.cert cert
 
@@ -33,8 +33,8 @@ pub record IsVerdictAnswer (old_texts new_texts : EditionTexts) (policy : Policy
   pub old_cert : CertView
   pub new : BaseView
   pub new_cert : CertView
-  pub of_old : IsEditionOf old_texts old old_cert
-  pub of_new : IsEditionOf new_texts new new_cert
+  pub of_old : IsEditionOfTexts old_texts old old_cert
+  pub of_new : IsEditionOfTexts new_texts new new_cert
   pub answer : IsAnswer (of_judged (status_of_change (change_verdict policy old old_cert new new_cert))) (change_text (change_verdict policy old old_cert new new_cert)) status text
 
 -- the line of the first fault in the old edition's texts
@@ -47,7 +47,7 @@ pub record IsOldFaultAnswer (old_texts : EditionTexts) (status : CallStatus) (te
 pub record IsAfterOldAnswer (old_texts new_texts : EditionTexts) (status : CallStatus) (text : List ℕ) : Type 0 where
   pub old : BaseView
   pub old_cert : CertView
-  pub of_old : IsEditionOf old_texts old old_cert
+  pub of_old : IsEditionOfTexts old_texts old old_cert
   pub fault : InputFault
   pub is : IsInputFault new_texts.base new_texts.cert fault
   pub answer : IsNewFaultAnswer fault status text
@@ -64,6 +64,6 @@ pub record IsSafeChangeOf (old_texts new_texts : EditionTexts) (policy : Policy)
   pub old_cert : CertView
   pub new : BaseView
   pub new_cert : CertView
-  pub of_old : IsEditionOf old_texts old old_cert
-  pub of_new : IsEditionOf new_texts new new_cert
+  pub of_old : IsEditionOfTexts old_texts old old_cert
+  pub of_new : IsEditionOfTexts new_texts new new_cert
   pub safe : IsSafeChange policy old old_cert new new_cert

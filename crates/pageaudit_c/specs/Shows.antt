@@ -61,7 +61,7 @@ cell_looks codes = flat_map (map cell_look) (looks codes)
 -- What is shown.
 
 -- the screen of a frame, over those on the way to it
-pub record IsScreen (caller : List ℕ) (base : BaseView) (id : Id) (codes : List ℕ) (cells : List CellLook) : Type 0 where
+pub record IsScreenOfFrame (caller : List ℕ) (base : BaseView) (id : Id) (codes : List ℕ) (cells : List CellLook) : Type 0 where
   pub frames : List Id
   pub way : IsWay caller base id frames
   pub codes_are : codes ≡ screen_codes base frames
@@ -74,7 +74,7 @@ IsNoScreen status s = (s.status ≡ status) × (s.text.items ≡ []) × (s.codes
 pub record IsFrameScreen (caller : List ℕ) (base : BaseView) (id : Id) (s : ShownScreen) : Type 0 where
   pub status_is : s.status ≡ Clear
   pub no_text : s.text.items ≡ []
-  pub screen : IsScreen caller base id s.codes.items s.looks.items
+  pub screen : IsScreenOfFrame caller base id s.codes.items s.looks.items
 
 -- the frame `a` of a page, or the frame of an id; no text is both
 abbrev pub of_page_or_id : Option ℕ → Option Id → Option Id

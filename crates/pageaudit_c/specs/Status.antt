@@ -19,8 +19,8 @@ number_of BadText = 3
 number_of OutOfMemory = 4
 
 -- the words for a number; none if it is no status
-abbrev pub words_of : ℕ → List ℕ
-words_of number =
+abbrev pub status_words : ℕ → List ℕ
+status_words number =
     if number == 0 then codes "clear"
     else (if number == 1 then codes "faulty"
     else (if number == 2 then codes "bad policy"

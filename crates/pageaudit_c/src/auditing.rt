@@ -2,7 +2,7 @@ ghost use Rattle.std.specs.Prelude.{◌≡◌, ◌⊎◌};
 ghost use Rattle.base_text.specs.Whole.{IsTextBase};
 ghost use Rattle.audit_report.specs.Statuses.{status_of_outcome};
 ghost use Rattle.pageaudit_c.specs.Calls.{IsOutOfMemory, asked, IsAskedAnswer, IsCall, buffer};
-ghost use Rattle.pageaudit_c.specs.Audits.{IsReported, IsAuditAnswer};
+ghost use Rattle.pageaudit_c.specs.Audits.{IsAuditReported, IsAuditAnswer};
 
 use crate::answer::{Answer, bad_policy, fault_answer, lay_over, out_of_memory};
 use crate::policy::policy_of;
@@ -16,7 +16,7 @@ use std::alloc::Global;
 // The report of the base of a text.
 fn reported(alloc: Global, base: &Base, policy: &Policy, text: &[u8]) -> Answer
     requires { IsTextBase text.now base.now }
-    ensures { IsReported text.now policy.now result.status result.text.items ⊎
+    ensures { IsAuditReported text.now policy.now result.status result.text.items ⊎
         IsOutOfMemory result.status result.text.items }
 {
     let outcome = match audit(alloc, base, policy) {

@@ -5,7 +5,7 @@ ghost use Rattle.audit_report.specs.Statuses.{status_of_change};
 ghost use Rattle.pageaudit_c.specs.declared.status.CallStatus.TheVariants.{Clear};
 ghost use Rattle.pageaudit_c.specs.Status.{of_judged};
 ghost use Rattle.pageaudit_c.specs.Calls.{IsAnswer, asked, HoldsForPolicy, IsAskedAnswer, IsCall, buffer};
-ghost use Rattle.pageaudit_c.specs.Changes.{edition, IsEditionOf, IsVerdictAnswer, IsChangeAnswer, IsSafeChangeOf};
+ghost use Rattle.pageaudit_c.specs.Changes.{edition_texts, IsEditionOfTexts, IsVerdictAnswer, IsChangeAnswer, IsSafeChangeOf};
 
 use crate::answer::{Answer, bad_policy, fault_answer, lay_over, new_fault_answer, out_of_memory};
 use crate::policy::policy_of;
@@ -31,7 +31,7 @@ struct Edition {
 }
 
 fn edition_of(alloc: Global, texts: Texts<'_>) -> Result<Edition, InputFault>
-    ensures read { IfOk result (λ e. IsEditionOf (edition texts.entry.base.now texts.entry.cert.now) e.base e.cert) }
+    ensures read { IfOk result (λ e. IsEditionOfTexts (edition_texts texts.entry.base.now texts.entry.cert.now) e.base e.cert) }
     ensures fault { IfErr result (IsInputFault texts.entry.base.now texts.entry.cert.now) }
 {
     let base = base_of(alloc, texts.base)?;
@@ -63,13 +63,13 @@ fn judged(
     old_texts: Texts<'_>,
     new_texts: Texts<'_>,
 ) -> Answer
-    requires of_old { IsEditionOf (edition old_texts.base.now old_texts.cert.now) old.now.base old.now.cert }
-    requires of_new { IsEditionOf (edition new_texts.base.now new_texts.cert.now) new.now.base new.now.cert }
-    ensures answer { IsVerdictAnswer (edition old_texts.entry.base.now old_texts.entry.cert.now)
-        (edition new_texts.entry.base.now new_texts.entry.cert.now) policy.now result.status result.text.items }
+    requires of_old { IsEditionOfTexts (edition_texts old_texts.base.now old_texts.cert.now) old.now.base old.now.cert }
+    requires of_new { IsEditionOfTexts (edition_texts new_texts.base.now new_texts.cert.now) new.now.base new.now.cert }
+    ensures answer { IsVerdictAnswer (edition_texts old_texts.entry.base.now old_texts.entry.cert.now)
+        (edition_texts new_texts.entry.base.now new_texts.entry.cert.now) policy.now result.status result.text.items }
     ensures safe { result.status ≡ Clear
-        → IsSafeChangeOf (edition old_texts.entry.base.now old_texts.entry.cert.now)
-        (edition new_texts.entry.base.now new_texts.entry.cert.now) policy.now }
+        → IsSafeChangeOf (edition_texts old_texts.entry.base.now old_texts.entry.cert.now)
+        (edition_texts new_texts.entry.base.now new_texts.entry.cert.now) policy.now }
 {
     let verdict = check_change(&old.base, &old.cert, &new.base, &new.cert, policy);
     verdict_answer(alloc, &verdict)
@@ -77,11 +77,11 @@ fn judged(
 
 // Checks the change between two editions' texts for a policy.
 fn changed(alloc: Global, old_texts: Texts<'_>, new_texts: Texts<'_>, policy: &Policy) -> Answer
-    ensures answer { IsChangeAnswer (edition old_texts.entry.base.now old_texts.entry.cert.now)
-        (edition new_texts.entry.base.now new_texts.entry.cert.now) policy.now result.status result.text.items }
+    ensures answer { IsChangeAnswer (edition_texts old_texts.entry.base.now old_texts.entry.cert.now)
+        (edition_texts new_texts.entry.base.now new_texts.entry.cert.now) policy.now result.status result.text.items }
     ensures safe { result.status ≡ Clear
-        → IsSafeChangeOf (edition old_texts.entry.base.now old_texts.entry.cert.now)
-        (edition new_texts.entry.base.now new_texts.entry.cert.now) policy.now }
+        → IsSafeChangeOf (edition_texts old_texts.entry.base.now old_texts.entry.cert.now)
+        (edition_texts new_texts.entry.base.now new_texts.entry.cert.now) policy.now }
 {
     let old = match edition_of(alloc, old_texts) {
         Ok(edition) => edition,
@@ -103,12 +103,12 @@ fn change_answer(
     keyings: u32,
     groups: &[u8],
 ) -> Answer
-    ensures answer { IsAskedAnswer (IsChangeAnswer (edition old_texts.entry.base.now old_texts.entry.cert.now)
-        (edition new_texts.entry.base.now new_texts.entry.cert.now))
+    ensures answer { IsAskedAnswer (IsChangeAnswer (edition_texts old_texts.entry.base.now old_texts.entry.cert.now)
+        (edition_texts new_texts.entry.base.now new_texts.entry.cert.now))
         (asked ceiling keyings groups.now) result.status result.text.items }
     ensures safe { result.status ≡ Clear
-        → HoldsForPolicy (IsSafeChangeOf (edition old_texts.entry.base.now old_texts.entry.cert.now)
-        (edition new_texts.entry.base.now new_texts.entry.cert.now)) (asked ceiling keyings groups.now) }
+        → HoldsForPolicy (IsSafeChangeOf (edition_texts old_texts.entry.base.now old_texts.entry.cert.now)
+        (edition_texts new_texts.entry.base.now new_texts.entry.cert.now)) (asked ceiling keyings groups.now) }
 {
     match policy_of(ceiling, keyings, groups) {
         Some(policy) => changed(alloc, old_texts, new_texts, &policy),
@@ -133,12 +133,12 @@ pub extern "C" fn pageaudit_change(
     line: &mut [u8],
     full_length: &mut usize,
 ) -> u32
-    ensures call { IsCall (IsChangeAnswer (edition old_base.now old_cert.now) (edition new_base.now new_cert.now))
+    ensures call { IsCall (IsChangeAnswer (edition_texts old_base.now old_cert.now) (edition_texts new_base.now new_cert.now))
         (asked ceiling keyings groups.now) (buffer line.old line.new full_length.new) result }
 
     // If the status is Clear, callers stay safe over the change.
     ensures safe { result ≡ 0
-        → HoldsForPolicy (IsSafeChangeOf (edition old_base.now old_cert.now) (edition new_base.now new_cert.now))
+        → HoldsForPolicy (IsSafeChangeOf (edition_texts old_base.now old_cert.now) (edition_texts new_base.now new_cert.now))
         (asked ceiling keyings groups.now) }
 {
     let old = Texts {

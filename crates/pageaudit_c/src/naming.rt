@@ -1,11 +1,11 @@
 ghost use Rattle.std.specs.Prelude.{◌≡◌};
-ghost use Rattle.pageaudit_c.specs.Status.{words_of};
+ghost use Rattle.pageaudit_c.specs.Status.{status_words};
 ghost use Rattle.pageaudit_c.specs.Calls.{IsCopied, buffer};
 
 use crate::answer::lay_over;
 
 fn words_of(status: u32) -> &'static str
-    ensures { result.now ≡ words_of status }
+    ensures { result.now ≡ status_words status }
 {
     match status {
         0 => "clear",
@@ -22,7 +22,7 @@ fn words_of(status: u32) -> &'static str
 /// They go to the front of `text`, as far as they fit. Returns their whole length.
 #[unsafe(no_mangle)]
 pub extern "C" fn pageaudit_status_text(status: u32, text: &mut [u8]) -> usize
-    ensures { IsCopied (words_of status) (buffer text.old text.new result) }
+    ensures { IsCopied (status_words status) (buffer text.old text.new result) }
 {
     lay_over(words_of(status).as_bytes(), text)
 }

@@ -125,7 +125,7 @@ fn push_looks(out: &mut Vec<CellLook>, codes: &[u8; 960]) -> Result<(), AllocErr
 }
 
 fn screen_of(alloc: Global, base: &Base, groups: &Groups, id: FrameId) -> Result<Screen, AllocError>
-    ensures { IfOk result (λ s. spec.IsScreen groups.now base.now id s.codes.items s.looks.items) }
+    ensures { IfOk result (λ s. spec.IsScreenOfFrame groups.now base.now id s.codes.items s.looks.items) }
 {
     let frames = way_to(alloc, base, groups, id)?;
     let cells = screen(base, &frames);

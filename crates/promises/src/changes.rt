@@ -7,7 +7,7 @@ ghost use Rattle.frame_records.specs.Bases.{AreApart};
 ghost use Rattle.checker.specs.declared.policy.Policy.{Policy as PolicyView};
 ghost use Rattle.checker.specs.Change.{change_verdict, Edition, AreCleared, IsSafeOverChanges, IsLeastLost};
 ghost use Rattle.pageaudit.specs.Files.{device};
-ghost use Rattle.pageaudit.specs.ChangeRun.{edition};
+ghost use Rattle.pageaudit.specs.ChangeRun.{edition_files};
 ghost use Rattle.promises.specs.Changes.{IsKeptOver, HoldsOfFourFiles};
 
 use audit_report::{RunFault, Sink, Source, Status};
@@ -33,8 +33,8 @@ fn of_files<B: Source, C: Source, N: Source, M: Source, O: Sink>(
     requires new_cert_open { (M.seen new_cert.old).failed ≡ false }
     requires out_open { (O.seen out.old).failed ≡ false }
     ensures { result ≡ Ok Status.Clear → HoldsOfFourFiles
-        (edition (device B.seen old.old old.new) (device C.seen old_cert.old old_cert.new))
-        (edition (device N.seen new.old new.new) (device M.seen new_cert.old new_cert.new))
+        (edition_files (device B.seen old.old old.new) (device C.seen old_cert.old old_cert.new))
+        (edition_files (device N.seen new.old new.new) (device M.seen new_cert.old new_cert.new))
         policy.now }
 {
     run_change(alloc, old, old_cert, new, new_cert, out, policy)

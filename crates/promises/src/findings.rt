@@ -6,7 +6,7 @@ ghost use Rattle.finding_forms.specs.Laws.{AreWholeLines};
 ghost use Rattle.lint.specs.declared.finding.Level.TheVariants.{Error};
 ghost use Rattle.lint.specs.Findings.{count_of};
 ghost use Rattle.lint.specs.Laws.{FollowsBaseRead, IsCertified, WarnsOfUnreached};
-ghost use Rattle.lint.specs.Lint.{IsLint, IsWithin};
+ghost use Rattle.lint.specs.Lint.{IsLint, IsSpanWithin};
 ghost use Rattle.promises.specs.Audits.{IsSafeText};
 
 use checker::Policy;
@@ -22,7 +22,7 @@ fn linted(alloc: Global, text: &[u8], policy: &Policy) -> Result<Vec<Finding>, A
     ensures certified { IfOk result (λ fs. (count_of Error fs.items ≡ 0) ↔ IsCertified text.now policy.now) }
     ensures first { IfOk result (λ fs. FollowsBaseRead text.now policy.now fs.items) }
     ensures warnings { IfOk result (λ fs. WarnsOfUnreached text.now policy.now fs.items) }
-    ensures spans { IfOk result (λ fs. All (λ f. IsWithin text.now f.span) fs.items) }
+    ensures spans { IfOk result (λ fs. All (λ f. IsSpanWithin text.now f.span) fs.items) }
 {
     lint(alloc, text, policy)
 }

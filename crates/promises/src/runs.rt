@@ -6,7 +6,7 @@ ghost use Rattle.pageaudit.specs.Files.{device};
 ghost use Rattle.pageaudit.specs.Status.{status_number};
 ghost use Rattle.pageaudit.specs.AuditRun.{IsAuditRun};
 ghost use Rattle.pageaudit.specs.CheckRun.{IsCheckRun};
-ghost use Rattle.pageaudit.specs.ChangeRun.{IsChangeRun, edition};
+ghost use Rattle.pageaudit.specs.ChangeRun.{IsChangeRun, edition_files};
 ghost use Rattle.pageaudit.specs.LintRun.{IsLintRun, lint_number};
 ghost use Rattle.pageaudit.specs.WalkRun.{IsWalkRun};
 ghost use Rattle.pageaudit.specs.ShowRun.{IsShowRun, show_number};
@@ -72,8 +72,8 @@ fn change<B: Source, C: Source, N: Source, M: Source, O: Sink>(
     requires new_cert_open { (M.seen new_cert.old).failed ≡ false }
     requires out_open { (O.seen out.old).failed ≡ false }
     ensures { IsChangeRun
-        (edition (device B.seen old.old old.new) (device C.seen old_cert.old old_cert.new))
-        (edition (device N.seen new.old new.new) (device M.seen new_cert.old new_cert.new))
+        (edition_files (device B.seen old.old old.new) (device C.seen old_cert.old old_cert.new))
+        (edition_files (device N.seen new.old new.new) (device M.seen new_cert.old new_cert.new))
         (device O.seen out.old out.new) policy.now result }
 {
     run_change(alloc, old, old_cert, new, new_cert, out, policy)

@@ -1,13 +1,13 @@
 //! What texts mean, and when a frame is clean.
 
 ghost use Rattle.std.specs.Prelude.{◌≡◌, ℕ, List, Ok, IfOk, IfErr};
-ghost use Rattle.page_ids.specs.Keys.{IsRead};
+ghost use Rattle.page_ids.specs.Keys.{AreKeysRead};
 ghost use Rattle.frame_records.specs.declared.frame.Lead.{Lead as LeadView};
 ghost use Rattle.frame_records.specs.Bases.{BaseView};
 ghost use Rattle.base_text.specs.Whole.{IsTextBase, IsFirstFault};
 ghost use Rattle.cert_table.specs.Table.{CertView};
 ghost use Rattle.cert_text.specs.Grammar.{IsCertificateText};
-ghost use Rattle.cert_text.specs.Reading.{cert_fault, Gives, Answers};
+ghost use Rattle.cert_text.specs.Reading.{certificate_fault, Gives, Answers};
 ghost use Rattle.abstract_paint.specs.Paint.{IsPainted, IsExact};
 
 use abstract_paint::{Painted, paint, paint_is_exact};
@@ -37,7 +37,7 @@ fn one_base()
 fn cert_of(alloc: Global, text: &[u8]) -> Result<Certificate, ReadFault>
     ensures found { IfOk result (λ c. IsCertificateText text.now c) }
     ensures only { (c : CertView) → IsCertificateText text.now c → Gives (λ d. d) result (Ok c) }
-    ensures fault { IfErr result (λ e. Answers e (cert_fault text.now)) }
+    ensures fault { IfErr result (λ e. Answers e (certificate_fault text.now)) }
 {
     cert_read(alloc, text)
 }
@@ -57,7 +57,7 @@ fn painted_exactly()
 
 // The words of keys are read as these keys.
 fn key_words(alloc: Global, keys: &KeyList) -> Result<Vec<u8>, AllocError>
-    ensures { IfOk result (λ text. IsRead text.items (Ok keys.now)) }
+    ensures { IfOk result (λ text. AreKeysRead text.items (Ok keys.now)) }
 {
     keys_text(alloc, keys)
 }

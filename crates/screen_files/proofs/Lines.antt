@@ -6,8 +6,8 @@ use Rattle.std.proofs.lemmas.List.FromFn.{map-range_with_len_more}
 use Rattle.std.specs.List.{flat_map}
 use Rattle.screens.specs.declared.look.Look.{Look}
 use Rattle.screen_files.specs.Keys.{shows_key}
-use Rattle.screen_files.specs.Rows.{row_of, rows_to}
-use Rattle.screen_files.specs.Texts.{keys_from, row_line}
+use Rattle.screen_files.specs.Rows.{screen_row, rows_to}
+use Rattle.screen_files.specs.Texts.{keys_from, row_text_line}
 
 pub key_shown : (all : List (List Look)) (text : List ℕ) (d : ℕ) → d < 10 → shows_key all d ≡ true
     → ((text ++ 32 ∷ []) ++ (48 + d) ∷ []) ++ keys_from all (10 - (d + 1)) (d + 1) ≡ text ++ keys_from all (10 - d) d
@@ -33,8 +33,8 @@ no_more_keys all text d past =
 
 -- the lines of one row more
 pub lines_more : (screen : List ℕ) (n : ℕ)
-    → flat_map row_line (rows_to screen n) ++ row_line (row_of screen (n + 1)) ≡ flat_map row_line (rows_to screen (n + 1))
+    → flat_map row_text_line (rows_to screen n) ++ row_text_line (screen_row screen (n + 1)) ≡ flat_map row_text_line (rows_to screen (n + 1))
 lines_more screen n =
-    sym (ap (flat_map row_line) (map-range_with_len_more (row_of screen) 1 n (n + 1) (omega arith))
-    ∙ flat_map-append row_line (rows_to screen n) (row_of screen (n + 1) ∷ [])
-    ∙ ap (λ (xs : List ℕ). flat_map row_line (rows_to screen n) ++ xs) (append-nil (row_line (row_of screen (n + 1)))))
+    sym (ap (flat_map row_text_line) (map-range_with_len_more (screen_row screen) 1 n (n + 1) (omega arith))
+    ∙ flat_map-append row_text_line (rows_to screen n) (screen_row screen (n + 1) ∷ [])
+    ∙ ap (λ (xs : List ℕ). flat_map row_text_line (rows_to screen n) ++ xs) (append-nil (row_text_line (screen_row screen (n + 1)))))

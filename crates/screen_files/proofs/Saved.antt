@@ -9,7 +9,7 @@ use Rattle.terminal_codes.specs.Screen.{IsScreen, run}
 use Rattle.terminal_codes.specs.Writes.{IsCode}
 use Rattle.terminal_codes.proofs.Codes.{cells_hold_codes}
 use Rattle.terminal_codes.proofs.Stores.{screen_of_run}
-use Rattle.screen_files.specs.Codes.{stored_code, blank_row, has_all_rows, between_blank, placed, seven_bits, switched_on, sent_codes}
+use Rattle.screen_files.specs.Codes.{stored_code, blank_codes, has_all_rows, between_blank, placed, seven_bits, switched_on, sent_codes}
 use Rattle.screen_files.specs.Laws.{FilesAreScreens, IsSavedScreen}
 
 abbrev IsByte : ℕ → Type 0
@@ -51,8 +51,8 @@ placed_by bytes cells are false true e f is =
     let same : between_blank bytes ≡ cells = some_is (between_blank bytes) cells (rw (e, f) at is) in
     let blank = spaces_are_bytes 40 in
     let long : length (between_blank bytes) ≡ 960 =
-    omega (arith, size, length-append (blank_row ++ bytes) blank_row, length-append blank_row bytes, length-replicate {A = ℕ} 40 32) in
-    subst IsOfCells same (long, All-append IsByte (blank_row ++ bytes) blank_row (All-append IsByte blank_row bytes blank are) blank)
+    omega (arith, size, length-append (blank_codes ++ bytes) blank_codes, length-append blank_codes bytes, length-replicate {A = ℕ} 40 32) in
+    subst IsOfCells same (long, All-append IsByte (blank_codes ++ bytes) blank_codes (All-append IsByte blank_codes bytes blank are) blank)
 placed_by bytes cells are false false e f is = let none = rw (e, f) at is in absurd cc
 
 saved_by : (bytes screen : List ℕ) → All IsByte bytes → (o : Option (List ℕ)) → placed bytes ≡ o

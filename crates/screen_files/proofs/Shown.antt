@@ -12,8 +12,8 @@ use Rattle.terminal_codes.specs.Writes.{IsCode}
 use Rattle.terminal_codes.specs.Bodies.{lead_codes}
 use Rattle.terminal_codes.proofs.Runs.{run_append}
 use Rattle.base_text.specs.Rows.{row_bytes, rows_bytes, body_of_rows}
-use Rattle.screen_files.specs.Codes.{blank_row}
-use Rattle.screen_files.specs.Rows.{before, trimmed, row_of, last_row, rows_to, rows_of}
+use Rattle.screen_files.specs.Codes.{blank_codes}
+use Rattle.screen_files.specs.Rows.{before, trimmed, screen_row, last_row, rows_to, rows_of}
 use Rattle.screen_files.specs.Laws.{IsSavedScreen, rows_alone}
 
 -- Rows without the spaces at their ends.
@@ -120,7 +120,7 @@ raw screen row = take 40 (drop (40 * row) screen)
 
 -- a blank row, and rows 1 to n
 rows_down : List ℕ → ℕ → List ℕ
-rows_down screen zero = blank_row
+rows_down screen zero = blank_codes
 rows_down screen (suc n) = rows_down screen n ++ raw screen (suc n)
 
 module _ (screen : List ℕ) (saved : IsSavedScreen screen) where
@@ -134,20 +134,20 @@ module _ (screen : List ℕ) (saved : IsSavedScreen screen) where
   raw_codes row = All-take IsCode 40 (drop (40 * row) screen) (All-drop IsCode (40 * row) screen saved.codes)
 
   -- a row and the spaces that it dropped
-  parts : (row : ℕ) → (k : ℕ) × (raw screen row ≡ row_of screen row ++ spaces k)
+  parts : (row : ℕ) → (k : ℕ) × (raw screen row ≡ screen_row screen row ++ spaces k)
   unfolding raw
   parts row = dropped (take 40 (drop (40 * row) screen))
 
-  row_is_short : (row : ℕ) → row ≤ 23 → length (row_of screen row) + (parts row).0 ≡ 40
+  row_is_short : (row : ℕ) → row ≤ 23 → length (screen_row screen row) + (parts row).0 ≡ 40
   row_is_short row hi =
       let p = parts row in
-      omega (arith, raw_length row hi, ap (λ (xs : List ℕ). length xs) p.1, length-append (row_of screen row) (spaces p.0), length-replicate {A = ℕ} p.0 32)
+      omega (arith, raw_length row hi, ap (λ (xs : List ℕ). length xs) p.1, length-append (screen_row screen row) (spaces p.0), length-replicate {A = ℕ} p.0 32)
 
-  row_holds_codes : (row : ℕ) → All IsCode (row_of screen row)
+  row_holds_codes : (row : ℕ) → All IsCode (screen_row screen row)
   row_holds_codes row =
       let p = parts row in
-      let first = All-take IsCode (length (row_of screen row)) (raw screen row) (raw_codes row) in
-      subst (All IsCode) (ap (take (length (row_of screen row))) p.1 ∙ take-append_seam (row_of screen row) (spaces p.0)) first
+      let first = All-take IsCode (length (screen_row screen row)) (raw screen row) (raw_codes row) in
+      subst (All IsCode) (ap (take (length (screen_row screen row))) p.1 ∙ take-append_seam (screen_row screen row) (spaces p.0)) first
 
   down_length : (n : ℕ) → n ≤ 22 → length (rows_down screen n) ≡ 40 * (n + 1)
   unfolding rows_down
@@ -161,21 +161,21 @@ module _ (screen : List ℕ) (saved : IsSavedScreen screen) where
 
   -- a row's codes, and the spaces after them, are one row more
   one_more : (n : ℕ) → suc n ≤ 22
-      → (rows_down screen n ++ row_of screen (suc n)) ++ spaces ((parts (suc n)).0 + (920 - 40 * suc n)) ≡ cells_down (suc n)
+      → (rows_down screen n ++ screen_row screen (suc n)) ++ spaces ((parts (suc n)).0 + (920 - 40 * suc n)) ≡ cells_down (suc n)
   unfolding rows_down
   one_more n hi =
       let p = parts (suc n) in
       let left = 920 - 40 * suc n in
-      let row = row_of screen (suc n) in
+      let row = screen_row screen (suc n) in
       let above = rows_down screen n in
       ap (λ (xs : List ℕ). (above ++ row) ++ xs) (sym (replicate-append-replicate p.0 left 32))
       ∙ sym (append_assoc (above ++ row) (spaces p.0) (spaces left))
       ∙ ap (λ (xs : List ℕ). xs ++ spaces left) (append_assoc above row (spaces p.0) ∙ ap (λ (xs : List ℕ). above ++ xs) (sym p.1))
 
-  more_rows : (n : ℕ) → rows_bytes (rows_to screen (suc n)) ≡ rows_bytes (rows_to screen n) ++ row_bytes (row_of screen (suc n))
+  more_rows : (n : ℕ) → rows_bytes (rows_to screen (suc n)) ≡ rows_bytes (rows_to screen n) ++ row_bytes (screen_row screen (suc n))
   more_rows n =
-      let more = map-range_with_len_more (row_of screen) 1 n (suc n) (omega arith) in
-      ap (λ (k : ℕ). rows_bytes (rows_to screen k)) (sym (add-one n)) ∙ ap rows_bytes more ∙ bytes_more (rows_to screen n) (row_of screen (suc n))
+      let more = map-range_with_len_more (screen_row screen) 1 n (suc n) (omega arith) in
+      ap (λ (k : ℕ). rows_bytes (rows_to screen k)) (sym (add-one n)) ∙ ap rows_bytes more ∙ bytes_more (rows_to screen n) (screen_row screen (suc n))
 
   module _ (v : Bool) where
     abbrev after : ℕ → Screen
@@ -187,7 +187,7 @@ module _ (screen : List ℕ) (saved : IsSavedScreen screen) where
     painted (suc n) hi =
         let above = painted n (omega (arith, hi)) in
         let long = down_length n (omega (arith, hi)) in
-        let row = row_of screen (suc n) in
+        let row = screen_row screen (suc n) in
         let left = (parts (suc n)).0 + (920 - 40 * suc n) in
         let short = row_is_short (suc n) (omega (arith, hi)) in
         let one = put_bytes v (rows_down screen n) row (n + 1) left (920 - 40 * n) (row_holds_codes (suc n)) (omega (arith, short)) long (omega (arith, hi)) (omega (arith, short, hi)) in
@@ -203,12 +203,12 @@ module _ (screen : List ℕ) (saved : IsSavedScreen screen) where
     shown : (n : ℕ) → n ≤ 22 → (after (last_row screen n)).cells ≡ cells_down n
     unfolding last_row
     shown zero hi = ap (λ (t : Screen). t.cells) (painted zero hi)
-    shown (suc n) hi = by (shown n (omega (arith, hi))) (length (row_of screen (suc n)) == 0) refl where
-      by : (after (last_row screen n)).cells ≡ cells_down n → (b : Bool) → (length (row_of screen (suc n)) == 0) ≡ b → (after (last_row screen (suc n))).cells ≡ cells_down (suc n)
+    shown (suc n) hi = by (shown n (omega (arith, hi))) (length (screen_row screen (suc n)) == 0) refl where
+      by : (after (last_row screen n)).cells ≡ cells_down n → (b : Bool) → (length (screen_row screen (suc n)) == 0) ≡ b → (after (last_row screen (suc n))).cells ≡ cells_down (suc n)
       by so_far false e = rw e (ap (λ (t : Screen). t.cells) (painted (suc n) hi))
       by so_far true e =
-          let empty : length (row_of screen (suc n)) ≡ 0 = grind (arith, nat_tests) in
-          let none = nil_from_length (row_of screen (suc n)) empty in
+          let empty : length (screen_row screen (suc n)) ≡ 0 = grind (arith, nat_tests) in
+          let none = nil_from_length (screen_row screen (suc n)) empty in
           let short = row_is_short (suc n) (omega (arith, hi)) in
           let above = rows_down screen n in
           let count : 920 - 40 * n ≡ (parts (suc n)).0 + (920 - 40 * suc n) = omega (arith, short, empty, hi) in
@@ -217,9 +217,9 @@ module _ (screen : List ℕ) (saved : IsSavedScreen screen) where
           rw e (so_far ∙ here ∙ one_more n hi)
 
   -- rows 1 to n are the codes from position 40 on
-  flat : (n : ℕ) → rows_down screen n ≡ blank_row ++ take (40 * n) (drop 40 screen)
+  flat : (n : ℕ) → rows_down screen n ≡ blank_codes ++ take (40 * n) (drop 40 screen)
   unfolding rows_down raw
-  flat zero = sym (append-nil blank_row)
+  flat zero = sym (append-nil blank_codes)
   flat (suc n) =
       let rest = drop 40 screen in
       let there : 40 * suc n ≡ 40 + 40 * n = omega arith in
@@ -227,10 +227,10 @@ module _ (screen : List ℕ) (saved : IsSavedScreen screen) where
       let row : take 40 (drop (40 * suc n) screen) ≡ take 40 (drop (40 * n) rest) =
       ap (λ (k : ℕ). take 40 (drop k screen)) there ∙ ap (take 40) (sym (drop-drop (40 * n) 40 screen)) in
       ap (λ (xs : List ℕ). xs ++ take 40 (drop (40 * suc n) screen)) (flat n)
-      ∙ append_assoc blank_row (take (40 * n) rest) (take 40 (drop (40 * suc n) screen))
-      ∙ ap (λ (xs : List ℕ). blank_row ++ (take (40 * n) rest ++ xs)) row
-      ∙ ap (λ (xs : List ℕ). blank_row ++ xs) (sym (take-add (40 * n) 40 rest))
-      ∙ ap (λ (k : ℕ). blank_row ++ take k rest) count
+      ∙ append_assoc blank_codes (take (40 * n) rest) (take 40 (drop (40 * suc n) screen))
+      ∙ ap (λ (xs : List ℕ). blank_codes ++ (take (40 * n) rest ++ xs)) row
+      ∙ ap (λ (xs : List ℕ). blank_codes ++ xs) (sym (take-add (40 * n) 40 rest))
+      ∙ ap (λ (k : ℕ). blank_codes ++ take k rest) count
 
   shows : (v : Bool) → (run (on v (spaces 960) 40) (rows_bytes (rows_of screen))).cells ≡ rows_alone screen
   shows v = shown v 22 (omega arith) ∙ ap (λ (xs : List ℕ). xs ++ spaces 40) (flat 22)

@@ -3,7 +3,7 @@ use Rattle.std.proofs.Common.{◌≡◌, ◌∙◌, ap, ◌≢◌, ◌<◌, ◌�
 use Rattle.std.proofs.lemmas.Bool.Decides.{nat_tests}
 use Rattle.std.proofs.lemmas.List.Elements.{All-from_get_or, All-head, All-tail}
 use Rattle.std.specs.List.{All}
-use Rattle.screen_files.specs.Rows.{before, trimmed, row_of, last_row}
+use Rattle.screen_files.specs.Rows.{before, trimmed, screen_row, last_row}
 
 abbrev IsSpace : ℕ → Type 0
 IsSpace c = c ≡ 32
@@ -37,18 +37,18 @@ pub last_none : (screen : List ℕ) → last_row screen 0 ≡ 0
 unfolding last_row
 last_none screen = refl
 
-pub last_step : (screen : List ℕ) (n : ℕ) → 0 < n → length (row_of screen n) ≡ 0 → last_row screen (n - 1) ≡ last_row screen n
+pub last_step : (screen : List ℕ) (n : ℕ) → 0 < n → length (screen_row screen n) ≡ 0 → last_row screen (n - 1) ≡ last_row screen n
 unfolding last_row
 last_step screen zero some blank = absurd (omega (arith, some))
 last_step screen (suc n) some blank =
-    let is : (length (row_of screen (suc n)) == 0) ≡ true = rw blank refl in
+    let is : (length (screen_row screen (suc n)) == 0) ≡ true = rw blank refl in
     let less : suc n - 1 ≡ n = omega arith in
     let here : last_row screen n ≡ last_row screen (suc n) = rw is refl in
     ap (λ (m : ℕ). last_row screen m) less ∙ here
 
-pub last_stop : (screen : List ℕ) (n : ℕ) → 0 < n → length (row_of screen n) ≢ 0 → last_row screen n ≡ n
+pub last_stop : (screen : List ℕ) (n : ℕ) → 0 < n → length (screen_row screen n) ≢ 0 → last_row screen n ≡ n
 unfolding last_row
 last_stop screen zero some shown = absurd (omega (arith, some))
 last_stop screen (suc n) some shown =
-    let is : (length (row_of screen (suc n)) == 0) ≡ false = grind (arith, nat_tests, shown) in
+    let is : (length (screen_row screen (suc n)) == 0) ≡ false = grind (arith, nat_tests, shown) in
     rw is refl

@@ -9,13 +9,13 @@ use Rattle.screen_files.specs.declared.album.AddFault.{AddFault}
 use Rattle.screen_files.specs.declared.album.AddFault.TheVariants as add
 use Rattle.screen_files.specs.declared.frame.ScreenFrame.{ScreenFrame}
 use Rattle.frame_records.specs.declared.limits.TheConstants.{MOST_LISTED}
-use Rattle.screen_files.specs.Texts.{entry_line, frame_lines}
+use Rattle.screen_files.specs.Texts.{entry_key_line, frame_lines}
 
 -- the list after the frame of a file, or the list as it was; memory is refused only if there is room
-abbrev pub IsAdded : List Filed → List Filed → ℕ → ScreenFrame → Result (Unit {0}) AddFault → Type 0
-IsAdded old new file frame (Ok _) = new ≡ old ++ record { file = file; frame = frame } ∷ []
-IsAdded old new file frame (Err add.TooMany) = (new ≡ old) × (MOST_LISTED ≤ length old)
-IsAdded old new file frame (Err add.Memory) = (new ≡ old) × (length old < MOST_LISTED)
+abbrev pub IsFrameFiled : List Filed → List Filed → ℕ → ScreenFrame → Result (Unit {0}) AddFault → Type 0
+IsFrameFiled old new file frame (Ok _) = new ≡ old ++ record { file = file; frame = frame } ∷ []
+IsFrameFiled old new file frame (Err add.TooMany) = (new ≡ old) × (MOST_LISTED ≤ length old)
+IsFrameFiled old new file frame (Err add.Memory) = (new ≡ old) × (length old < MOST_LISTED)
 
 -- The base.
 
@@ -42,7 +42,7 @@ entry_or (Some asked) page = asked
 -- no frames make no text
 abbrev pub base_text : Option ℕ → List Filed → List ℕ
 base_text asked [] = []
-base_text asked (f ∷ rest) = entry_line (entry_or asked f.frame.id.page) ++ frames_text (f ∷ rest)
+base_text asked (f ∷ rest) = entry_key_line (entry_or asked f.frame.id.page) ++ frames_text (f ∷ rest)
 
 -- the file of the first frame whose text ends after the most bytes of a base; this many bytes come before
 unfoldable pub first_over : ℕ → List Filed → Option ℕ
@@ -52,7 +52,7 @@ first_over before (f ∷ rest) =
 
 abbrev pub over_most : Option ℕ → List Filed → Option ℕ
 over_most asked [] = None
-over_most asked (f ∷ rest) = first_over (length (entry_line (entry_or asked f.frame.id.page))) (f ∷ rest)
+over_most asked (f ∷ rest) = first_over (length (entry_key_line (entry_or asked f.frame.id.page))) (f ∷ rest)
 
 -- the text of frames, none of which ends too late
 pub record IsBaseText (asked : Option ℕ) (frames : List Filed) (text : List ℕ) : Type 0 where

@@ -12,8 +12,8 @@ stored_code b =
     else b - 0x80
 
 -- 32 is a space
-abbrev pub blank_row : List ℕ
-blank_row = replicate 40 32
+abbrev pub blank_codes : List ℕ
+blank_codes = replicate 40 32
 
 -- 24 rows; a 25th after them; 24 bytes more
 abbrev pub has_all_rows : ℕ → Bool
@@ -21,7 +21,7 @@ has_all_rows size = size == 960 || size == 1000 || size == 1024
 
 -- rows 1 to 22 between blank rows
 abbrev pub between_blank : List ℕ → List ℕ
-between_blank cells = (blank_row ++ cells) ++ blank_row
+between_blank cells = (blank_codes ++ cells) ++ blank_codes
 
 -- the bytes of the cells, by the size of the file; 880 bytes are rows 1 to 22 alone
 abbrev pub placed : List ℕ → Option (List ℕ)

@@ -36,10 +36,10 @@ frame_by (Some id) price screen = Ok (record { id = id; price = price; codes = s
 abbrev pub headed : List ℕ → Head → List ℕ → Result ScreenFrame ScreenFault
 headed path head screen = frame_by (id_by (name_id path) head.id) head.price screen
 
-abbrev pub frame_if : List ℕ → Result (List ℕ) ScreenFault → Result ScreenFrame ScreenFault
-frame_if path (Err fault) = Err fault
-frame_if path (Ok screen) = headed path (screen_head screen) screen
+abbrev pub placed_if : List ℕ → Result (List ℕ) ScreenFault → Result ScreenFrame ScreenFault
+placed_if path (Err fault) = Err fault
+placed_if path (Ok screen) = headed path (screen_head screen) screen
 
 -- the frame of a file of these bytes, or why it gives none
 abbrev pub file_frame : FileKind → List ℕ → List ℕ → Result ScreenFrame ScreenFault
-file_frame kind path bytes = frame_if path (read_codes kind bytes)
+file_frame kind path bytes = placed_if path (read_codes kind bytes)

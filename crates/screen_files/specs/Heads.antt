@@ -18,8 +18,8 @@ last_part (w ∷ []) = w
 last_part (w ∷ v ∷ ws) = last_part (v ∷ ws)
 
 -- the words of a text between spaces (32); an empty one is no word
-abbrev pub words_of : List ℕ → List (List ℕ)
-words_of text = parts_of 32 text
+abbrev pub words_between : List ℕ → List (List ℕ)
+words_between text = parts_of 32 text
 
 -- the id of a word, or the one before
 abbrev pub newer : Option Id → Option Id → Option Id
@@ -55,18 +55,18 @@ abbrev pub is_id : Option Id → Bool
 is_id None = false
 is_id (Some id) = true
 
-abbrev pub ends_word : List ℕ → Bool
-ends_word [] = true
-ends_word (c ∷ cs) = is_id (id_in (c ∷ cs))
+abbrev pub is_word_end : List ℕ → Bool
+is_word_end [] = true
+is_word_end (c ∷ cs) = is_id (id_in (c ∷ cs))
 
 abbrev pub may_end : List ℕ → Bool
-may_end text = ends_word (last_part (words_of text))
+may_end text = is_word_end (last_part (words_between text))
 
 -- Row 0.
 
 -- the id that a text shows
 abbrev pub text_id : List ℕ → Option Id
-text_id text = last_id None (words_of text)
+text_id text = last_id None (words_between text)
 
 abbrev pub unpriced : List ℕ → Head
 unpriced text = record { id = text_id text; price = None }

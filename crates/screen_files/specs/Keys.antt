@@ -21,15 +21,15 @@ shown_letter (All a) = glyph_letter a.glyph
 abbrev pub letter : Look → Option ℕ
 letter a = shown_letter (shown a)
 
-abbrev pub is_char : ℕ → Option ℕ → Bool
-is_char c None = false
-is_char c (Some d) = d == c
+abbrev pub is_this_char : ℕ → Option ℕ → Bool
+is_this_char c None = false
+is_this_char c (Some d) = d == c
 
 -- a word of these cells begins with the character; whether the cell before them is of a word
-abbrev pub begins : ℕ → Bool → List Look → Bool
-begins c in_word [] = false
-begins c in_word (a ∷ rest) = (not in_word && is_char c (letter a)) || begins c (is_some (letter a)) rest
+abbrev pub word_begins : ℕ → Bool → List Look → Bool
+word_begins c in_word [] = false
+word_begins c in_word (a ∷ rest) = (not in_word && is_this_char c (letter a)) || word_begins c (is_some (letter a)) rest
 
 -- in rows 1 to 22 of a screen; 48 is `0`
 abbrev pub shows_key : List (List Look) → ℕ → Bool
-shows_key looks digit = list_any (begins (48 + digit) false) (take 22 (drop 1 looks))
+shows_key looks digit = list_any (word_begins (48 + digit) false) (take 22 (drop 1 looks))

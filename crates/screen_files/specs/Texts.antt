@@ -12,15 +12,15 @@ use Rattle.screen_files.specs.declared.frame.ScreenFrame.{ScreenFrame}
 -- A row.
 
 -- `"` (34) and `\` (92) after a backslash, 7F to 9F as `\u007F` to `\u009F`
-abbrev pub code_text : ℕ → List ℕ
-code_text c =
+abbrev pub quoted_code : ℕ → List ℕ
+quoted_code c =
     if c == 34 then codes "\\\""
     else if c == 92 then codes "\\\\"
     else if nat_lt c 0x7F then c ∷ []
     else codes "\\u00" ++ hex_digit (c / 16) ∷ hex_digit (c % 16) ∷ []
 
-abbrev pub row_line : List ℕ → List ℕ
-row_line row = (codes "    \"" ++ flat_map code_text row) ++ codes "\",\n"
+abbrev pub row_text_line : List ℕ → List ℕ
+row_text_line row = (codes "    \"" ++ flat_map quoted_code row) ++ codes "\",\n"
 
 -- A comment.
 
@@ -44,8 +44,8 @@ keys_from all zero digit = []
 keys_from all (suc n) digit =
     if shows_key all digit then 32 ∷ (48 + digit) ∷ keys_from all n (digit + 1) else keys_from all n (digit + 1)
 
-abbrev pub keys_text : List (List Look) → List ℕ
-keys_text all = keys_from all 10 0
+abbrev pub shown_keys_text : List (List Look) → List ℕ
+shown_keys_text all = keys_from all 10 0
 
 -- what comes before them
 unfoldable pub keys_label : List ℕ
@@ -66,22 +66,22 @@ next_line true = codes "next = true\n"
 next_line false = []
 
 abbrev pub routes_line : List ℕ → List ℕ
-routes_line screen = (codes "routes = { }" ++ keys_comment (keys_text (looks screen))) ++ codes "\n"
+routes_line screen = (codes "routes = { }" ++ keys_comment (shown_keys_text (looks screen))) ++ codes "\n"
 
 abbrev pub rows_text : List ℕ → List ℕ
-rows_text screen = (codes "rows = [\n" ++ flat_map row_line (rows_of screen)) ++ codes "]\n"
+rows_text screen = (codes "rows = [\n" ++ flat_map row_text_line (rows_of screen)) ++ codes "]\n"
 
 abbrev pub id_line : Id → List ℕ
 id_line id = (codes "id = \"" ++ frame_text id) ++ codes "\"\n"
 
 -- what comes before the routes
-abbrev pub head_lines : ScreenFrame → Bool → List ℕ
-head_lines f next = (((codes "\n[[frame]]\n" ++ row_comment f.codes 0) ++ id_line f.id) ++ price_line f.price) ++ next_line next
+abbrev pub lines_before_routes : ScreenFrame → Bool → List ℕ
+lines_before_routes f next = (((codes "\n[[frame]]\n" ++ row_comment f.codes 0) ++ id_line f.id) ++ price_line f.price) ++ next_line next
 
 -- the frame; `next` if `#` leads on
 abbrev pub frame_lines : ScreenFrame → Bool → List ℕ
-frame_lines f next = ((head_lines f next ++ routes_line f.codes) ++ rows_text f.codes) ++ row_comment f.codes 23
+frame_lines f next = ((lines_before_routes f next ++ routes_line f.codes) ++ rows_text f.codes) ++ row_comment f.codes 23
 
 -- the line before all frames
-abbrev pub entry_line : ℕ → List ℕ
-entry_line page = (codes "entry = " ++ decimal page) ++ codes "\n"
+abbrev pub entry_key_line : ℕ → List ℕ
+entry_key_line page = (codes "entry = " ++ decimal page) ++ codes "\n"

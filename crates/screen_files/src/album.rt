@@ -80,7 +80,7 @@ impl Album {
 
     /// Adds the frame of a file. After a fault the album is as it was.
     pub fn add(&mut self, file: usize, frame: &ScreenFrame) -> Result<(), AddFault>
-        ensures { spec.IsAdded self.old self.new file frame.now result }
+        ensures { spec.IsFrameFiled self.old self.new file frame.now result }
     {
         if self.is_full() {
             return Err(AddFault::TooMany);

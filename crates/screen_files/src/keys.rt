@@ -19,7 +19,7 @@ fn letter(look: &Look) -> Option<char>
 }
 
 fn is_char(c: char, letter: Option<char>) -> bool
-    ensures { result ≡ spec.is_char c letter }
+    ensures { result ≡ spec.is_this_char c letter }
 {
     match letter {
         Some(letter) => letter == c,
@@ -29,7 +29,7 @@ fn is_char(c: char, letter: Option<char>) -> bool
 
 // Whether a word of a row begins with a character.
 fn begins(row: &[Look; 40], first: char) -> bool
-    ensures { result ≡ spec.begins first false row.now }
+    ensures { result ≡ spec.word_begins first false row.now }
 {
     let mut in_word = false;
     for look in row {

@@ -28,7 +28,7 @@ pub fn trimmed(row: &[u8]) -> &[u8]
 // A row of a screen.
 pub fn row_of(codes: &[u8; 960], row: usize) -> &[u8]
     requires { row < 24 }
-    ensures { result.now ≡ spec.row_of codes.now row }
+    ensures { result.now ≡ spec.screen_row codes.now row }
 {
     trimmed(row_codes(codes, row))
 }

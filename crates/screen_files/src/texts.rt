@@ -25,7 +25,7 @@ fn push_escape(out: &mut Vec<u8>, code: u8) -> Result<(), AllocError>
 }
 
 fn push_code(out: &mut Vec<u8>, code: u8) -> Result<(), AllocError>
-    ensures { OnOk result (out.new.items ≡ out.old.items ++ spec.code_text code) }
+    ensures { OnOk result (out.new.items ≡ out.old.items ++ spec.quoted_code code) }
 {
     match code {
         b'"' => out.extend_from_slice(b"\\\""),
@@ -36,7 +36,7 @@ fn push_code(out: &mut Vec<u8>, code: u8) -> Result<(), AllocError>
 }
 
 fn push_codes(out: &mut Vec<u8>, row: &[u8]) -> Result<(), AllocError>
-    ensures { OnOk result (out.new.items ≡ out.old.items ++ flat_map spec.code_text row.now) }
+    ensures { OnOk result (out.new.items ≡ out.old.items ++ flat_map spec.quoted_code row.now) }
 {
     for code in row {
         push_code(out, *code)?;
@@ -46,7 +46,7 @@ fn push_codes(out: &mut Vec<u8>, row: &[u8]) -> Result<(), AllocError>
 
 #[tactic(auto, using(std::proofs::Common::append_assoc))]
 fn push_row(out: &mut Vec<u8>, row: &[u8]) -> Result<(), AllocError>
-    ensures { OnOk result (out.new.items ≡ out.old.items ++ spec.row_line row.now) }
+    ensures { OnOk result (out.new.items ≡ out.old.items ++ spec.row_text_line row.now) }
 {
     out.extend_from_slice(b"    \"")?;
     push_codes(out, row)?;
@@ -54,7 +54,7 @@ fn push_row(out: &mut Vec<u8>, row: &[u8]) -> Result<(), AllocError>
 }
 
 fn push_row_lines(out: &mut Vec<u8>, codes: &[u8; 960]) -> Result<(), AllocError>
-    ensures { OnOk result (out.new.items ≡ out.old.items ++ flat_map spec.row_line (rows_of codes.now)) }
+    ensures { OnOk result (out.new.items ≡ out.old.items ++ flat_map spec.row_text_line (rows_of codes.now)) }
 {
     for above in 0..last_row(codes) {
         push_row(out, row_of(codes, above + 1))?;
@@ -120,7 +120,7 @@ fn push_row_comment(out: &mut Vec<u8>, codes: &[u8; 960], row: usize) -> Result<
 
 // The digits that a screen shows as keys, ascending, each after a space.
 fn keys_text(looks: &Looks) -> ArrayVec<u8, 20>
-    ensures { result.items ≡ spec.keys_text looks.now }
+    ensures { result.items ≡ spec.shown_keys_text looks.now }
 {
     let mut text = ArrayVec::new();
     for digit in 0..10 {
@@ -192,7 +192,7 @@ fn push_next(out: &mut Vec<u8>, next: bool) -> Result<(), AllocError>
 
 #[tactic(auto, using(std::proofs::Common::append_assoc))]
 fn push_head(out: &mut Vec<u8>, frame: &ScreenFrame, next: bool) -> Result<(), AllocError>
-    ensures { OnOk result (out.new.items ≡ out.old.items ++ spec.head_lines frame.now next) }
+    ensures { OnOk result (out.new.items ≡ out.old.items ++ spec.lines_before_routes frame.now next) }
 {
     out.extend_from_slice(b"\n[[frame]]\n")?;
     push_row_comment(out, &frame.codes, 0)?;
@@ -217,7 +217,7 @@ pub fn push_frame(out: &mut Vec<u8>, frame: &ScreenFrame, next: bool) -> Result<
 /// Writes the line of the entry page, which comes before all frames.
 #[tactic(auto, using(std::proofs::Common::append_assoc))]
 pub fn push_entry(out: &mut Vec<u8>, page: PageNo) -> Result<(), AllocError>
-    ensures { OnOk result (out.new.items ≡ out.old.items ++ spec.entry_line page) }
+    ensures { OnOk result (out.new.items ≡ out.old.items ++ spec.entry_key_line page) }
 {
     out.extend_from_slice(b"entry = ")?;
     push_page(out, page)?;

@@ -6,7 +6,7 @@ use Rattle.std.specs.Result.{OnOk}
 use Rattle.screens.specs.declared.look.Look.{Look}
 use Rattle.screens.specs.declared.layer.Ink.{Ink}
 use Rattle.screens.specs.declared.layer.Layer.{Layer}
-use Rattle.screens.specs.Svg.{Piece, markup, ink_of, same_ink, goes_on, run_pieces, row_pieces, layer_pieces}
+use Rattle.screens.specs.Svg.{Piece, markup, ink_of, same_ink, run_goes_on, run_pieces, row_pieces, layer_pieces}
 use Rattle.screens.proofs.Markups.{markup_append, nothing}
 
 -- a cell within the row is the cell, whatever the default
@@ -58,14 +58,14 @@ between_one row to d lt =
 next_cell : (row : List Look) (to : ℕ) (d : Look) → to < length row → drop to row ≡ get_or row to d ∷ drop (to + 1) row
 next_cell row to d lt = rw add-one (drop-cons row to d lt)
 
-stays : (layer : Layer) (r c : ℕ) (run rest : List Look) (a : Look) → goes_on layer run a ≡ true → row_pieces layer r c run (a ∷ rest) ≡ row_pieces layer r c (run ++ a ∷ []) rest
+stays : (layer : Layer) (r c : ℕ) (run rest : List Look) (a : Look) → run_goes_on layer run a ≡ true → row_pieces layer r c run (a ∷ rest) ≡ row_pieces layer r c (run ++ a ∷ []) rest
 stays layer r c run rest a e = rw e refl
 
-ends : (layer : Layer) (r c : ℕ) (run rest : List Look) (a : Look) → goes_on layer run a ≡ false → row_pieces layer r c run (a ∷ rest) ≡ run_pieces layer r c run ++ row_pieces layer r (c + length run) (a ∷ []) rest
+ends : (layer : Layer) (r c : ℕ) (run rest : List Look) (a : Look) → run_goes_on layer run a ≡ false → row_pieces layer r c run (a ∷ rest) ≡ run_pieces layer r c run ++ row_pieces layer r (c + length run) (a ∷ []) rest
 ends layer r c run rest a e = rw e refl
 
 -- whether a run goes on is said by its first cell
-decided : (layer : Layer) (row : List Look) (from to : ℕ) (d : Look) → from ≤ to → to < length row → goes_on layer (between row from to) (get_or row to d) ≡ same_ink (ink_of layer (get_or row from d)) (ink_of layer (get_or row to d))
+decided : (layer : Layer) (row : List Look) (from to : ℕ) (d : Look) → from ≤ to → to < length row → run_goes_on layer (between row from to) (get_or row to d) ≡ same_ink (ink_of layer (get_or row from d)) (ink_of layer (get_or row to d))
 decided layer row from to d le lt =
     ap (λ (a : Look). same_ink (ink_of layer a) (ink_of layer (get_or row to d))) (first_cell row from to d le ∙ get_or_default row from (get_or row to d) d (omega arith))
 

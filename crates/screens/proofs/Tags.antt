@@ -23,8 +23,8 @@ use Rattle.screens.specs.declared.mosaics.Units.{Units}
 use Rattle.screens.specs.declared.writing.Writing.TheVariants.{Markup}
 use Rattle.screens.specs.Writing.{written}
 use Rattle.screens.specs.Mosaics.{across, down, bits_of, rectangle, rectangles, part_path, mosaic_path, glyph_path, mosaics_path}
-use Rattle.screens.specs.Svg.{Piece, piece, newline, piece_bytes, markup, attribute, corner, extent, rgb, fill, flash_begin, group_end, flashing, ground, mosaics, stretched, spacing, letters_tag, letters, drawn, drawn_in, first_ink, run_pieces, goes_on, row_pieces, layer_pieces, svg_begin, title, blocks_begin, blocks, texts_begin, texts, touched, foot, svg_pieces, svg}
-use Rattle.screens.specs.Laws.{reading, tags_of, is_harmless, raw}
+use Rattle.screens.specs.Svg.{Piece, piece, newline, piece_bytes, markup, attribute, corner, extent, rgb, fill, flash_begin, group_end, flashing, ground, mosaics, stretched, spacing, letters_tag, letters, drawn, drawn_in, first_ink, run_pieces, run_goes_on, row_pieces, layer_pieces, svg_begin, title, blocks_begin, blocks, texts_begin, texts, touched, foot, svg_pieces, svg}
+use Rattle.screens.specs.Laws.{tags_reading, tags_of, is_harmless, raw}
 use Rattle.screens.proofs.Safe.{all_append, harmless, first_of, rest_of}
 
 -- Tags have no `<` and no `>`.
@@ -176,7 +176,7 @@ run_tags layer r c run = drawn_in_tags layer r c run (first_ink layer run)
 row_tags : (layer : Layer) (r c : ℕ) (run rest : List Look) → Tags (row_pieces layer r c run rest)
 row_tags layer r c run [] = run_tags layer r c run
 row_tags layer r c run (a ∷ rest) =
-    cond_both (goes_on layer run a) _ _ Tags (λ e. row_tags layer r c (run ++ a ∷ []) rest)
+    cond_both (run_goes_on layer run a) _ _ Tags (λ e. row_tags layer r c (run ++ a ∷ []) rest)
     (λ e. both (run_pieces layer r c run) (row_pieces layer r (c + length run) (a ∷ []) rest) (run_tags layer r c run) (row_tags layer r (c + length run) (a ∷ []) rest))
 
 layer_tags : (layer : Layer) (r : ℕ) (rows : List (List Look)) → Tags (layer_pieces layer r rows)
@@ -223,12 +223,12 @@ svg_tags id rows cell =
 
 -- The reader.
 
-in_tag : (tag since front rest : List ℕ) → Inner front → reading true tag since (front ++ 0x3E ∷ rest) ≡ reading false (tag ++ front) [] rest
-in_tag tag since [] rest h = ap (λ (t : List ℕ). reading false t [] rest) (sym (append-nil tag))
+in_tag : (tag since front rest : List ℕ) → Inner front → tags_reading true tag since (front ++ 0x3E ∷ rest) ≡ tags_reading false (tag ++ front) [] rest
+in_tag tag since [] rest h = ap (λ (t : List ℕ). tags_reading false t [] rest) (sym (append-nil tag))
 in_tag tag since (b ∷ bs) rest h =
     let here : (b == 0x3E) ≡ false = (or_parts (b == 0x3C) (b == 0x3E) (first_of (b == 0x3C || b == 0x3E) (list_all is_inner bs) h)).1 in
     let later : Inner bs = rest_of (b == 0x3C || b == 0x3E) (list_all is_inner bs) h in
-    rw here (in_tag (tag ++ b ∷ []) since bs rest later ∙ ap (λ (t : List ℕ). reading false t [] rest) (append_assoc tag (b ∷ []) bs))
+    rw here (in_tag (tag ++ b ∷ []) since bs rest later ∙ ap (λ (t : List ℕ). tags_reading false t [] rest) (append_assoc tag (b ∷ []) bs))
 
 abbrev pub Outer : List ℕ → Type 0
 Outer bs = list_all is_harmless bs ≡ true
@@ -239,12 +239,12 @@ not_open b bs h = (or_parts (b == 0x3C) (b == 0x3E || (b == 0x22 || b == 0x27)) 
 outer_rest : (b : ℕ) (bs : List ℕ) → Outer (b ∷ bs) → Outer bs
 outer_rest b bs h = rest_of (b == 0x3C || (b == 0x3E || (b == 0x22 || b == 0x27))) (list_all is_harmless bs) h
 
-out_tag : (tag since front rest : List ℕ) → Outer front → reading false tag since (front ++ 0x3C ∷ rest) ≡ piece tag (since ++ front) ∷ reading true [] [] rest
-out_tag tag since [] rest h = ap (λ (cs : List ℕ). piece tag cs ∷ reading true [] [] rest) (sym (append-nil since))
+out_tag : (tag since front rest : List ℕ) → Outer front → tags_reading false tag since (front ++ 0x3C ∷ rest) ≡ piece tag (since ++ front) ∷ tags_reading true [] [] rest
+out_tag tag since [] rest h = ap (λ (cs : List ℕ). piece tag cs ∷ tags_reading true [] [] rest) (sym (append-nil since))
 out_tag tag since (b ∷ bs) rest h =
-    rw (not_open b bs h) (out_tag tag (since ++ b ∷ []) bs rest (outer_rest b bs h) ∙ ap (λ (cs : List ℕ). piece tag cs ∷ reading true [] [] rest) (append_assoc since (b ∷ []) bs))
+    rw (not_open b bs h) (out_tag tag (since ++ b ∷ []) bs rest (outer_rest b bs h) ∙ ap (λ (cs : List ℕ). piece tag cs ∷ tags_reading true [] [] rest) (append_assoc since (b ∷ []) bs))
 
-out_end : (tag since front : List ℕ) → Outer front → reading false tag since front ≡ piece tag (since ++ front) ∷ []
+out_end : (tag since front : List ℕ) → Outer front → tags_reading false tag since front ≡ piece tag (since ++ front) ∷ []
 out_end tag since [] h = ap (λ (cs : List ℕ). piece tag cs ∷ []) (sym (append-nil since))
 out_end tag since (b ∷ bs) h =
     rw (not_open b bs h) (out_end tag (since ++ b ∷ []) bs (outer_rest b bs h) ∙ ap (λ (cs : List ℕ). piece tag cs ∷ []) (append_assoc since (b ∷ []) bs))
@@ -253,15 +253,15 @@ out_end tag since (b ∷ bs) h =
 regroup : (tag cs rest : List ℕ) → tag ++ codes ">" ++ cs ++ rest ≡ tag ++ (0x3E ∷ (cs ++ rest))
 regroup tag cs rest = append_assoc (tag ++ codes ">") cs rest ∙ append_assoc tag (codes ">") (cs ++ rest)
 
-begins : (p : Piece) (rest : List ℕ) → Inner p.tag → tags_of (piece_bytes p ++ rest) ≡ reading false p.tag [] (written Markup p.chars ++ rest)
+begins : (p : Piece) (rest : List ℕ) → Inner p.tag → tags_of (piece_bytes p ++ rest) ≡ tags_reading false p.tag [] (written Markup p.chars ++ rest)
 begins p rest h =
-    ap (reading true [] []) (regroup p.tag (written Markup p.chars) rest) ∙ in_tag [] [] p.tag (written Markup p.chars ++ rest) h
+    ap (tags_reading true [] []) (regroup p.tag (written Markup p.chars) rest) ∙ in_tag [] [] p.tag (written Markup p.chars ++ rest) h
 
 reads : (p : Piece) (ps : List Piece) → Tags (p ∷ ps) → tags_of (markup (p ∷ ps)) ≡ raw p ∷ map raw ps
 unfolding markup
 reads p [] h =
     begins p [] (and_parts (has_inner p) true h).0
-    ∙ (ap (reading false p.tag []) (append-nil (written Markup p.chars)) ∙ out_end p.tag [] (written Markup p.chars) (harmless p.chars))
+    ∙ (ap (tags_reading false p.tag []) (append-nil (written Markup p.chars)) ∙ out_end p.tag [] (written Markup p.chars) (harmless p.chars))
 reads p (q ∷ qs) h =
     begins p (markup (q ∷ qs)) (and_parts (has_inner p) (list_all has_inner (q ∷ qs)) h).0
     ∙ (out_tag p.tag [] (written Markup p.chars) _ (harmless p.chars)

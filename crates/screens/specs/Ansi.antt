@@ -44,22 +44,22 @@ inked p a = ground_bytes p a.background ++ ink_bytes p a.foreground ++ flash_by 
 abbrev pub blanked : Pen → Look → List ℕ
 blanked p a = ground_bytes p a.background ++ flash_by p.flash false ++ codes " "
 
-abbrev pub is_blank : Look → Bool
-is_blank a = seen_char a == 0x20
+abbrev pub is_blank_look : Look → Bool
+is_blank_look a = seen_char a == 0x20
 
 abbrev pub cell_bytes : Pen → Look → List ℕ
-cell_bytes p a = if is_blank a then blanked p a else inked p a
+cell_bytes p a = if is_blank_look a then blanked p a else inked p a
 
 -- what is set after a cell
-abbrev pub after : Pen → Look → Pen
-after p a =
-    if is_blank a then record { foreground = p.foreground; background = Some a.background; flash = false }
+abbrev pub pen_after : Pen → Look → Pen
+pen_after p a =
+    if is_blank_look a then record { foreground = p.foreground; background = Some a.background; flash = false }
     else record { foreground = Some a.foreground; background = Some a.background; flash = a.flash }
 
 -- the cells of a row from one on, then a reset and a newline
 abbrev pub cells_bytes : Pen → List Look → List ℕ
 cells_bytes p [] = sgr 0 ++ codes "\n"
-cells_bytes p (a ∷ rest) = cell_bytes p a ++ cells_bytes (after p a) rest
+cells_bytes p (a ∷ rest) = cell_bytes p a ++ cells_bytes (pen_after p a) rest
 
 -- the lines of all rows
 abbrev pub ansi : List (List Look) → List ℕ

@@ -105,16 +105,16 @@ TextIsItsLines = (cells : List ℕ) → IsItsLines cells
 -- Markup, read by a reader that knows nothing of screens.
 
 -- from a text that begins outside of tags, or inside of one: the tag and the bytes after it up to now, and those to come
-abbrev pub reading : Bool → List ℕ → List ℕ → List ℕ → List Piece
-reading true tag raw [] = []
-reading false tag raw [] = piece tag raw ∷ []
-reading true tag raw (b ∷ bs) = if b == 0x3E then reading false tag [] bs else reading true (tag ++ b ∷ []) raw bs
-reading false tag raw (b ∷ bs) = if b == 0x3C then piece tag raw ∷ reading true [] [] bs else reading false tag (raw ++ b ∷ []) bs
+abbrev pub tags_reading : Bool → List ℕ → List ℕ → List ℕ → List Piece
+tags_reading true tag raw [] = []
+tags_reading false tag raw [] = piece tag raw ∷ []
+tags_reading true tag raw (b ∷ bs) = if b == 0x3E then tags_reading false tag [] bs else tags_reading true (tag ++ b ∷ []) raw bs
+tags_reading false tag raw (b ∷ bs) = if b == 0x3C then piece tag raw ∷ tags_reading true [] [] bs else tags_reading false tag (raw ++ b ∷ []) bs
 
 -- the tags of a text that begins with one, each with the bytes after it, up to the next
 abbrev pub tags_of : List ℕ → List Piece
 tags_of [] = []
-tags_of (b ∷ bs) = if b == 0x3C then reading true [] [] bs else []
+tags_of (b ∷ bs) = if b == 0x3C then tags_reading true [] [] bs else []
 
 -- one of the references that markup has: its name between `&` and `;`, as the byte that it means
 abbrev pub is_name : List ℕ → List ℕ → Bool

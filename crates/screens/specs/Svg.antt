@@ -174,14 +174,14 @@ abbrev pub run_pieces : Layer → ℕ → ℕ → List Look → List Piece
 run_pieces layer r c run = drawn_in layer r c run (first_ink layer run)
 
 -- a cell goes on with a run, or begins one
-abbrev pub goes_on : Layer → List Look → Look → Bool
-goes_on layer run a = same_ink (ink_of layer (get_or run 0 a)) (ink_of layer a)
+abbrev pub run_goes_on : Layer → List Look → Look → Bool
+run_goes_on layer run a = same_ink (ink_of layer (get_or run 0 a)) (ink_of layer a)
 
 -- a run from column c that isn't ended yet, and the cells after it
 abbrev pub row_pieces : Layer → ℕ → ℕ → List Look → List Look → List Piece
 row_pieces layer r c run [] = run_pieces layer r c run
 row_pieces layer r c run (a ∷ rest) =
-    if goes_on layer run a then row_pieces layer r c (run ++ a ∷ []) rest
+    if run_goes_on layer run a then row_pieces layer r c (run ++ a ∷ []) rest
     else run_pieces layer r c run ++ row_pieces layer r (c + length run) (a ∷ []) rest
 
 -- the rows from row r on

@@ -104,7 +104,7 @@ impl Pen {
 
     // What is set after a cell.
     fn after(&self, look: &Look) -> Pen
-        ensures { result ≡ spec.after self.now look.now }
+        ensures { result ≡ spec.pen_after self.now look.now }
     {
         let is_blank = seen_char(look) == ' ';
         Pen {

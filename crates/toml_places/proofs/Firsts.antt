@@ -10,7 +10,7 @@ use Rattle.std.specs.Str.{bytes_eq}
 use Rattle.std.specs.BTreeMap.{get_by_text}
 use Rattle.toml_places.specs.declared.places.Places.{Places}
 use Rattle.toml_places.specs.declared.tables.TablePlaces.{TablePlaces}
-use Rattle.toml_places.specs.Places.{Mark, same_frame, begins, is_under, first_by, first_at, first_spot, spot_of, routes_key, at_if, is_key, NotesTable, header_in, key_in, route_in, Keeps, TableKeeps}
+use Rattle.toml_places.specs.Places.{Mark, same_frame, path_begins, is_under, first_by, first_at, first_spot, spot_of, routes_key, at_if, is_key_part, NotesTable, header_in, key_in, route_in, Keeps, TableKeeps}
 use Rattle.toml_places.specs.declared.spans.KeyPlace.{KeyPlace}
 
 pub option_or-none : {A : Type 0} (o : Option A) → option_or o None ≡ o
@@ -39,11 +39,11 @@ spots_at (n ∷ ms) frame keys =
       | inr other ↦ rw other (spots_at ms frame keys)
     ]
 
-pub begins-one : (q : List ℕ) (path : List (List ℕ)) → begins (q ∷ []) path ≡ is_key (slice_get path 0) q
+pub begins-one : (q : List ℕ) (path : List (List ℕ)) → path_begins (q ∷ []) path ≡ is_key_part (slice_get path 0) q
 begins-one q [] = refl
 begins-one q (part ∷ path) = and-true (bytes_eq q part)
 
-begins-two : (r q : List ℕ) (path : List (List ℕ)) → begins (r ∷ q ∷ []) path ≡ (is_key (slice_get path 0) r && is_key (slice_get path 1) q)
+begins-two : (r q : List ℕ) (path : List (List ℕ)) → path_begins (r ∷ q ∷ []) path ≡ (is_key_part (slice_get path 0) r && is_key_part (slice_get path 1) q)
 begins-two r q [] = refl
 begins-two r q (part ∷ path) = ap (λ b. bytes_eq r part && b) (begins-one q path)
 
@@ -54,7 +54,7 @@ elsewhere see ms m frame keys other = first_by-one see ms m frame keys ∙ rw ot
 
 -- a mark in this frame, or the top
 pub inside : {X : Type 0} (see : Mark → X) (ms : List Mark) (m : Mark) (frame : Option ℕ) (keys : List (List ℕ)) → same_frame frame m.frame ≡ true
-    → first_by see (ms ++ m ∷ []) frame keys ≡ option_or (first_by see ms frame keys) (at_if (begins keys m.path) (see m))
+    → first_by see (ms ++ m ∷ []) frame keys ≡ option_or (first_by see ms frame keys) (at_if (path_begins keys m.path) (see m))
 inside see ms m frame keys same = first_by-one see ms m frame keys ∙ rw same refl
 
 slice_get-set_same : {A : Type 0} (xs : List A) (i : ℕ) (x : A) → i < length xs → slice_get (set xs i x) i ≡ Some x
@@ -70,7 +70,7 @@ slice_get-set_other (y ∷ ys) (suc i) zero x h = refl
 slice_get-set_other (y ∷ ys) (suc i) (suc k) x h = slice_get-set_other ys i k x (λ e. h (ap suc e))
 
 pub keeps_top : (old new : Places) (ms : List Mark) (m : Mark) → Keeps old ms → m.frame ≡ None → new.frames.items ≡ old.frames.items
-    → ((q : List ℕ) → get_by_text new.top q ≡ option_or (get_by_text old.top q) (at_if (is_key (slice_get m.path 0) q) (spot_of 0 m))) → Keeps new (ms ++ m ∷ [])
+    → ((q : List ℕ) → get_by_text new.top q ≡ option_or (get_by_text old.top q) (at_if (is_key_part (slice_get m.path 0) q) (spot_of 0 m))) → Keeps new (ms ++ m ∷ [])
 keeps_top old new ms m h at_top same noted =
     let here : same_frame None m.frame ≡ true = rw at_top refl in
     let away : (k : ℕ) → same_frame (Some k) m.frame ≡ false = λ k. rw at_top refl in
@@ -84,7 +84,7 @@ keeps_top old new ms m h at_top same noted =
 -- what is seen of the frame at each index, after a mark in the frame at n
 frame_after : {X : Type 0} (see : Option TablePlaces → Option X) (of : Mark → X) (keys : List (List ℕ)) (ms : List Mark) (m : Mark) (n : ℕ) (old new : List TablePlaces) (f g : TablePlaces)
     → m.frame ≡ Some n → slice_get old n ≡ Some f → n < length old → new ≡ set old n g
-    → see (Some g) ≡ option_or (see (Some f)) (at_if (begins keys m.path) (of m))
+    → see (Some g) ≡ option_or (see (Some f)) (at_if (path_begins keys m.path) (of m))
     → ((k : ℕ) → see (slice_get old k) ≡ first_by of ms (Some k) keys) → (k : ℕ) → see (slice_get new k) ≡ first_by of (ms ++ m ∷ []) (Some k) keys
 frame_after see of keys ms m n old new f g at_frame found room written noted h k =
     elim (eqb_tells k n) [

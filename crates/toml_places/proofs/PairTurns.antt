@@ -1,7 +1,7 @@
 -- The pairs of an inline table, one at a time.
 use Rattle.std.proofs.Common.{◌≡◌, ℕ, zero, suc, ◌-◌, ◌<◌, List, [], ◌∷◌, ◌++◌, length, map, Some, None, refl, sym, ap, ◌∙◌, subst, arith, append_assoc, append-nil}
 use Rattle.toml_places.specs.declared.tables.TablePlaces.{TablePlaces}
-use Rattle.toml_places.specs.Values.{Pair, next_pair, pairs_from}
+use Rattle.toml_places.specs.Values.{TablePair, next_pair, pairs_from}
 use Rattle.toml_places.specs.Places.{Mark, pair_mark, TableKeeps}
 
 module _ (size : ℕ) where
@@ -13,7 +13,7 @@ module _ (size : ℕ) where
   pairs_end zero text room none = absurd (omega arith)
   pairs_end (suc m) text room none = rw none refl
 
-  pub pairs_more : (m : ℕ) (text : List ℕ) (p : Pair) (next : List ℕ) → length text < m → next_pair text ≡ Some (p, next)
+  pub pairs_more : (m : ℕ) (text : List ℕ) (p : TablePair) (next : List ℕ) → length text < m → next_pair text ≡ Some (p, next)
       → marks_of m text ≡ pair_mark size p ∷ marks_of (m - 1) next
   unfolding pairs_from
   pairs_more zero text p next room is = absurd (omega arith)
@@ -29,7 +29,7 @@ module _ (size : ℕ) where
       let same : marks_of n text ≡ done = all ∙ ap (λ (l : List Mark). done ++ l) (pairs_end m rest room none) ∙ append-nil done in
       rw same keeps
 
-  pub noted_more : (old new : TablePlaces) (ms : List Mark) (n : ℕ) (text rest next : List ℕ) (p : Pair) → Noted old ms n text rest → next_pair rest ≡ Some (p, next)
+  pub noted_more : (old new : TablePlaces) (ms : List Mark) (n : ℕ) (text rest next : List ℕ) (p : TablePair) → Noted old ms n text rest → next_pair rest ≡ Some (p, next)
       → length next < length rest → ((l : List Mark) → TableKeeps old l → TableKeeps new (l ++ pair_mark size p ∷ [])) → Noted new ms n text next
   noted_more old new ms n text rest next p h is shorter keep =
       let (m, done, room, keeps, all) = h in

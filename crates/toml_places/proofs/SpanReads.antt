@@ -11,7 +11,7 @@ use Rattle.toml_places.specs.Values.{element}
 use Rattle.toml_places.specs.Spans.{key_start, key_piece, value_piece, key_span, value_span, element_span, char_span}
 use Rattle.toml_places.specs.Places.{parts}
 use Rattle.toml_places.specs.Reads.{Writes, IsChar}
-use Rattle.toml_places.specs.SpanReads.{Stands, IsPlace, spot, ReadsIn, SpansAreRead}
+use Rattle.toml_places.specs.SpanReads.{IsPieceAt, IsCharPlace, spot, ReadsIn, SpansAreRead}
 use Rattle.toml_places.proofs.Options.{stepped}
 use Rattle.toml_places.proofs.Follows.{parts_are_read, last_value, key_no_header}
 use Rattle.toml_places.proofs.ElementReads.{elements_are_read}
@@ -20,7 +20,7 @@ use Rattle.toml_places.proofs.Rests.{element_inside, string_char_inside}
 use Rattle.toml_places.proofs.SpanStands.{span_of, key_inside, value_inside}
 
 -- what is read at a piece is read at its span
-reads_in : {A : Type 0} (read : List ℕ → Read A) (text : List ℕ) (s : Span) (p : Cut) (a : A) → Stands text s p → read p.0 ≡ Some (a, p.1) → ReadsIn read text s a
+reads_in : {A : Type 0} (read : List ℕ → Read A) (text : List ℕ) (s : Span) (p : Cut) (a : A) → IsPieceAt text s p → read p.0 ≡ Some (a, p.1) → ReadsIn read text s a
 reads_in read text s p a stands is =
     let here : read (drop s.begin text) ≡ Some (a, p.1) = rw (← stands.begins) is in
     (stands.ascends, stands.within, here ∙ ap (λ (t : List ℕ). Some (a, t)) stands.ends)
@@ -29,7 +29,7 @@ key_piece_is : (i : ℕ) (text start end : List ℕ) → part_from i (key_start 
 unfolding key_piece
 key_piece_is i text start end from ends = rw (from, ends) refl
 
-key_read : (text rest part : List ℕ) (at i : ℕ) (k : Key) → IsPlace at text → key (key_start (drop at text)) ≡ Some (k, rest) → slice_get (parts k) i ≡ Some part
+key_read : (text rest part : List ℕ) (at i : ℕ) (k : Key) → IsCharPlace at text → key (key_start (drop at text)) ≡ Some (k, rest) → slice_get (parts k) i ≡ Some part
     → (s : Span) × (key_span (spot at i) text ≡ Some s) × ReadsIn simple_key text s part
 unfolding key_piece
 key_read text rest part at i k place h found =
@@ -37,7 +37,7 @@ key_read text rest part at i k place h found =
     let (s, is, stands) = span_of (key_piece i) (key_inside i) text at (p.0, p.1) place (key_piece_is i (drop at text) p.0 p.1 from ends) in
     (s, is, reads_in simple_key text s (p.0, p.1) part stands reads)
 
-value_read : (text value rest : List ℕ) (at : ℕ) (k : Key) (d : Data) → IsPlace at text → key_equals (drop at text) ≡ Some (k, value) → val 80 value ≡ Some (d, rest)
+value_read : (text value rest : List ℕ) (at : ℕ) (k : Key) (d : Data) → IsCharPlace at text → key_equals (drop at text) ≡ Some (k, value) → val 80 value ≡ Some (d, rest)
     → (s : Span) × (value_span (spot at (length k.0)) text ≡ Some s) × ReadsIn (val 80) text s d
 unfolding value_piece key_equals
 value_read text value rest at k d place h reads =
@@ -48,14 +48,14 @@ value_read text value rest at k d place h reads =
     let (s, is, stands) = span_of (value_piece (length k.0)) (value_inside (length k.0)) text at (value, rest) place piece in
     (s, is, reads_in (val 80) text s (value, rest) d stands reads)
 
-element_read : (text rest : List ℕ) (at n k : ℕ) (all : Items) (d : Data) → IsPlace at text → n ≤ 80 → val (suc n) (drop at text) ≡ Some (array all, rest) → get_item k all ≡ Some d
+element_read : (text rest : List ℕ) (at n k : ℕ) (all : Items) (d : Data) → IsCharPlace at text → n ≤ 80 → val (suc n) (drop at text) ≡ Some (array all, rest) → get_item k all ≡ Some d
     → (s : Span) × (element_span k at text ≡ Some s) × ReadsIn (val n) text s d
 element_read text rest at n k all d place room h there =
     let (p, is, reads) = elements_are_read n k (drop at text) rest all d room h there in
     let (s, span, stands) = span_of (element k) (element_inside k) text at p place is in
     (s, span, reads_in (val n) text s p d stands reads)
 
-char_read : (text content rest : List ℕ) (at k : ℕ) → IsPlace at text → starts_string (drop at text) ≡ true → quoted (drop at text) ≡ Some (content, rest) → k < count_by starts_char content
+char_read : (text content rest : List ℕ) (at k : ℕ) → IsCharPlace at text → starts_string (drop at text) ≡ true → quoted (drop at text) ≡ Some (content, rest) → k < count_by starts_char content
     → (s : Span) × (char after : List ℕ) × (char_span k at text ≡ Some s) × IsChar content k char after × (s.begin ≤ s.end) × (s.end ≤ length text)
     × Writes (drop at text) (drop s.begin text) (char ++ after) rest × Writes (drop at text) (drop s.end text) after rest
 char_read text content rest at k place string h some =

@@ -8,7 +8,7 @@ use Rattle.toml_places.specs.declared.spans.Span.{Span}
 use Rattle.toml_places.specs.Strings.{Cut, starts_char, after_part, part_from, after_key, value_from}
 use Rattle.toml_places.specs.Values.{after_value}
 use Rattle.toml_places.specs.Spans.{from_offset, span_in, up_to, is_double, key_start, after_header, key_piece, after_pair, value_or_key, value_piece, pair_piece, frame_piece, at_offset}
-use Rattle.toml_places.specs.SpanReads.{Stands, Stand, SpansStand, IsPlace}
+use Rattle.toml_places.specs.SpanReads.{IsPieceAt, Stand, SpansStand, IsCharPlace}
 use Rattle.toml_places.proofs.Options.{stepped, mapped}
 use Rattle.toml_places.proofs.Rests.{Rest, Leaves, Inside, rest_same, rest_drop, rest_trans, leaves_some, leaves_then, leaves_if, leaves_after, ws_left, byte_left, part_left, part_from_left, key_left, value_from_left, value_left, inside_after, element_inside, string_char_inside}
 
@@ -99,7 +99,7 @@ offset_of text t i room is =
     omega arith
 
 -- the span of a piece that lies in the text
-pub piece_stands : (text : List ℕ) (p : Cut) → Inside text p → Stands text (span_in text p) p
+pub piece_stands : (text : List ℕ) (p : Cut) → Inside text p → IsPieceAt text (span_in text p) p
 piece_stands text p h =
     let (i, room, begins) = h.0 in
     let (j, within, ends) = rest_trans text p.0 p.1 h.0 h.1 in
@@ -129,7 +129,7 @@ stand piece inside text at s is =
     let here : piece (drop at text) ≡ Some m.value = subst (λ (t : List ℕ). piece t ≡ Some m.value) (from_there at text one.value one.is) one.then in (
       m.value,
       here,
-      subst (λ (x : Span). Stands text x m.value) m.same
+      subst (λ (x : Span). IsPieceAt text x m.value) m.same
           (piece_stands text m.value (inside_after text (drop at text) m.value (rest_drop at text) (inside (drop at text) m.value here))),
     )
 
@@ -144,7 +144,7 @@ spans_stand = record {
 }
 
 -- a piece from an offset on has a span
-pub span_of : (piece : List ℕ → Option Cut) (inside : Insides piece) (text : List ℕ) (at : ℕ) (p : Cut) → IsPlace at text → piece (drop at text) ≡ Some p
-    → (s : Span) × (at_offset piece at text ≡ Some s) × Stands text s p
+pub span_of : (piece : List ℕ → Option Cut) (inside : Insides piece) (text : List ℕ) (at : ℕ) (p : Cut) → IsCharPlace at text → piece (drop at text) ≡ Some p
+    → (s : Span) × (at_offset piece at text ≡ Some s) × IsPieceAt text s p
 span_of piece inside text at p place is =
     (span_in text p, rw (place, is) refl, piece_stands text p (inside_after text (drop at text) p (rest_drop at text) (inside (drop at text) p is)))

@@ -14,7 +14,7 @@ use Rattle.toml_parser.specs.Strings.{is_plain, special, body, after_piece, simp
 use Rattle.toml_parser.proofs.StringsLemmas.{body_plain, body_special}
 use Rattle.toml_places.specs.declared.strings.Step.{Step}
 use Rattle.toml_places.specs.declared.strings.Step.TheVariants.{End, Cut, Char}
-use Rattle.toml_places.specs.Strings.{starts_char, goes_on, after_char, after_hex, after_escape, escape, at_delims, next_step, is_end, is_char, after_content, Cut, content_char, is_multi, content as from_content, after_string, string_char}
+use Rattle.toml_places.specs.Strings.{starts_char, string_goes_on, after_char, after_hex, after_escape, escape, at_delims, next_step, is_end, is_char, after_content, Cut, content_char, is_multi, content as from_content, after_string, string_char}
 use Rattle.toml_places.specs.Reads.{IsChar}
 use Rattle.toml_places.proofs.Options.{stepped, mapped}
 
@@ -51,11 +51,11 @@ count-cons c cs =
 pub count-append : (xs ys : List ℕ) → count_by starts_char (xs ++ ys) ≡ count_by starts_char xs + count_by starts_char ys
 count-append xs ys = sum_by-append (λ y. cond (starts_char y) 1 0) xs ys
 
-conts_count : (cs : List ℕ) → count_by starts_char (take (prefix_len goes_on cs) cs) ≡ 0
+conts_count : (cs : List ℕ) → count_by starts_char (take (prefix_len string_goes_on cs) cs) ≡ 0
 conts_count [] = refl
 conts_count (c ∷ cs) =
-    let next : 1 + prefix_len goes_on cs ≡ suc (prefix_len goes_on cs) = omega arith in
-    let cons = count-cons c (take (prefix_len goes_on cs) cs) in
+    let next : 1 + prefix_len string_goes_on cs ≡ suc (prefix_len string_goes_on cs) = omega arith in
+    let cons = count-cons c (take (prefix_len string_goes_on cs) cs) in
     let none = conts_count cs in
     elim (cases_Bool (starts_char c)) [
       | inl lead ↦ rw lead refl
@@ -113,7 +113,7 @@ escape_follows multi text rest bytes h =
     ]
 
 module _ (delim : ℕ) (multi : Bool) (ascii : delim < 128) where
-  cont_plain : (c : ℕ) → goes_on c ≡ true → is_plain delim multi c ≡ true
+  cont_plain : (c : ℕ) → string_goes_on c ≡ true → is_plain delim multi c ≡ true
   cont_plain c h = grind (arith, nat_tests)
 
   -- the content that a front of it leaves
@@ -137,14 +137,14 @@ module _ (delim : ℕ) (multi : Bool) (ascii : delim < 128) where
       }
 
   conts_read : (n : ℕ) (cs content rest : List ℕ) → body delim multi n cs ≡ Some (content, rest)
-      → Rest n content (drop (prefix_len goes_on cs) cs) rest (take (prefix_len goes_on cs) cs)
+      → Rest n content (drop (prefix_len string_goes_on cs) cs) rest (take (prefix_len string_goes_on cs) cs)
   unfolding body
   conts_read n [] content rest h = record { more = content; left = n; fewer = omega arith; is = h; same = refl }
   conts_read zero (c ∷ cs) content rest h = absurd (none-some (content, rest) h)
   conts_read (suc n) (c ∷ cs) content rest h =
-      let k = prefix_len goes_on cs in
+      let k = prefix_len string_goes_on cs in
       let next : 1 + k ≡ suc k = omega arith in
-      elim (cases_Bool (goes_on c)) [
+      elim (cases_Bool (string_goes_on c)) [
         | inl on ↦
             let one = plain_read n c cs content rest (cont_plain c on) h in
             let fewer = one.fewer in
@@ -258,13 +258,13 @@ module _ (delim : ℕ) (multi : Bool) (ascii : delim < 128) where
       })
 
   plain_step : (c : ℕ) (cs : List ℕ) → is_plain delim multi c ≡ true
-      → next_step delim multi (c ∷ cs) ≡ Some (cond (starts_char c) Char Cut, drop (prefix_len goes_on cs) cs)
+      → next_step delim multi (c ∷ cs) ≡ Some (cond (starts_char c) Char Cut, drop (prefix_len string_goes_on cs) cs)
   unfolding next_step after_char
-  plain_step c cs plain = let next : 1 + prefix_len goes_on cs ≡ suc (prefix_len goes_on cs) = omega arith in rw (plain, next) refl
+  plain_step c cs plain = let next : 1 + prefix_len string_goes_on cs ≡ suc (prefix_len string_goes_on cs) = omega arith in rw (plain, next) refl
 
-  plain_fits : (c : ℕ) (cs : List ℕ) → Fits (cond (starts_char c) Char Cut) (c ∷ take (prefix_len goes_on cs) cs)
+  plain_fits : (c : ℕ) (cs : List ℕ) → Fits (cond (starts_char c) Char Cut) (c ∷ take (prefix_len string_goes_on cs) cs)
   plain_fits c cs =
-      let cons = count-cons c (take (prefix_len goes_on cs) cs) in
+      let cons = count-cons c (take (prefix_len string_goes_on cs) cs) in
       let none = conts_count cs in
       elim (cases_Bool (starts_char c)) [
         | inl lead ↦ rw lead (cons ∙ rw (lead, none) refl, λ h. refl)
@@ -291,8 +291,8 @@ module _ (delim : ℕ) (multi : Bool) (ascii : delim < 128) where
             let more = r.fewer in
             inr (record {
               step = cond (starts_char c) Char Cut;
-              next = drop (prefix_len goes_on cs) cs;
-              front = c ∷ take (prefix_len goes_on cs) cs;
+              next = drop (prefix_len string_goes_on cs) cs;
+              front = c ∷ take (prefix_len string_goes_on cs) cs;
               more = r.more;
               left = r.left;
               fewer = omega arith;

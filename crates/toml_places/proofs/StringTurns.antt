@@ -5,20 +5,20 @@ use Rattle.std.proofs.lemmas.List.Sums.{prefix_len-le-length, prefix_len_stops}
 use Rattle.std.specs.List.{prefix_len}
 use Rattle.std.specs.Str.{IsCharBoundary}
 use Rattle.toml_parser.specs.Lexical.{first, skip_ws}
-use Rattle.toml_places.specs.Strings.{goes_on, next_step, after_step, after_content, char_step, content_char, after_part, next_part, part_from, after_key}
+use Rattle.toml_places.specs.Strings.{string_goes_on, next_step, after_step, after_content, char_step, content_char, after_part, next_part, part_from, after_key}
 
-lead_byte : (c : ℕ) → goes_on c ≡ false → 128 ≤ c → 192 ≤ c
+lead_byte : (c : ℕ) → string_goes_on c ≡ false → 128 ≤ c → 192 ≤ c
 lead_byte c h wide = grind (arith, nat_tests)
 
 -- a character ends at a boundary
-pub char_ends : (bs : List ℕ) → 0 < length bs → IsCharBoundary bs (1 + prefix_len goes_on (drop 1 bs))
+pub char_ends : (bs : List ℕ) → 0 < length bs → IsCharBoundary bs (1 + prefix_len string_goes_on (drop 1 bs))
 char_ends bs some =
     let rest = drop 1 bs in
-    let n = prefix_len goes_on rest in
+    let n = prefix_len string_goes_on rest in
     let len : length rest ≡ length bs - 1 = length-drop 1 bs in (
-      omega (arith, prefix_len-le-length goes_on rest),
+      omega (arith, prefix_len-le-length string_goes_on rest),
       λ within wide.
-          let stops = prefix_len_stops goes_on rest 0 (omega arith) in
+          let stops = prefix_len_stops string_goes_on rest 0 (omega arith) in
           let same : get_or rest n 0 ≡ get_or bs (1 + n) 0 = get_or-drop 1 bs n 0 in
           lead_byte (get_or bs (1 + n) 0) (rw same at stops) wide,
     )

@@ -20,12 +20,12 @@ place_after text end =
     if starts_char (slice_index text (end - 1)) then (p.0, p.1 + 1) else p
 
 -- The same, at least a column past this place: a byte that isn't UTF-8 is a character of its own.
-abbrev pub past : ℕ × ℕ → ℕ × ℕ → ℕ × ℕ
-past from p = if p.0 == from.0 && nat_le p.1 from.1 then (from.0, from.1 + 1) else p
+abbrev pub past_place : ℕ × ℕ → ℕ × ℕ → ℕ × ℕ
+past_place from p = if p.0 == from.0 && nat_le p.1 from.1 then (from.0, from.1 + 1) else p
 
 abbrev pub end_place : List ℕ → Span → ℕ × ℕ
 end_place text s =
-    if nat_le s.end s.begin then place_at text s.begin else past (place_at text s.begin) (place_after text s.end)
+    if nat_le s.end s.begin then place_at text s.begin else past_place (place_at text s.begin) (place_after text s.end)
 
 abbrev pub extent : List ℕ → Span → Extent
 extent text s =

@@ -8,7 +8,7 @@ use Rattle.toml_places.specs.declared.lines.Sort.{Sort}
 use Rattle.toml_parser.specs.Lexical.{Read, right_bracket, left_bracket, first, skip_ws}
 use Rattle.toml.specs.Parse.{after_byte, header_key, key_equals, ends_line, parse_document}
 use Rattle.toml_places.specs.declared.lines.Sort.TheVariants.{ArrayTable, Pair, Table}
-use Rattle.toml_places.specs.Values.{after_value, Pair as PairView}
+use Rattle.toml_places.specs.Values.{after_value, TablePair as PairView}
 use Rattle.toml_places.specs.declared.tables.Pair as code_pair
 use Rattle.toml_places.specs.declared.places.Places.{Places}
 use Rattle.toml_places.specs.declared.places.Section as code_section

@@ -13,7 +13,7 @@ use Rattle.std.specs.BTreeMap.{get_by_text}
 use Rattle.toml_places.specs.declared.places.Places.{Places}
 use Rattle.toml_places.specs.declared.tables.TablePlaces.{TablePlaces}
 use Rattle.toml_places.specs.declared.spans.KeyPlace.{KeyPlace}
-use Rattle.toml_places.specs.Values.{Pair as InlinePair, pairs}
+use Rattle.toml_places.specs.Values.{TablePair as InlinePair, pairs}
 use Rattle.toml_places.specs.Spans.{from_offset}
 use Rattle.std.specs.List.{count_by}
 use Rattle.toml.specs.Data.{Items, no_items, item, Members, array, get_member}
@@ -104,13 +104,13 @@ same_frame (Some k) (Some l) = k == l
 same_frame _ _ = false
 
 -- the path begins with these keys
-abbrev pub begins : List (List ℕ) → List (List ℕ) → Bool
-begins [] path = true
-begins (k ∷ keys) [] = false
-begins (k ∷ keys) (part ∷ path) = bytes_eq k part && begins keys path
+abbrev pub path_begins : List (List ℕ) → List (List ℕ) → Bool
+path_begins [] path = true
+path_begins (k ∷ keys) [] = false
+path_begins (k ∷ keys) (part ∷ path) = bytes_eq k part && path_begins keys path
 
 abbrev pub is_under : Option ℕ → List (List ℕ) → Mark → Bool
-is_under frame keys m = same_frame frame m.frame && begins keys m.path
+is_under frame keys m = same_frame frame m.frame && path_begins keys m.path
 
 -- what is seen of the first of these marks that writes in this frame, or the top, below these keys
 abbrev pub first_by : {X : Type 0} → (Mark → X) → List Mark → Option ℕ → List (List ℕ) → Option X
@@ -153,15 +153,15 @@ abbrev pub at_if : {X : Type 0} → Bool → X → Option X
 at_if b x = if b then Some x else None
 
 -- there is such a part, and it is this key
-abbrev pub is_key : Option (List ℕ) → List ℕ → Bool
-is_key None key = false
-is_key (Some part) key = bytes_eq key part
+abbrev pub is_key_part : Option (List ℕ) → List ℕ → Bool
+is_key_part None key = false
+is_key_part (Some part) key = bytes_eq key part
 
 -- a table's places after an expression at this offset, whose path begins with these two keys, which are written at these spots
 pub record NotesTable (old new : TablePlaces) (one two : Option (List ℕ)) (at : ℕ) (first second : KeyPlace) : Type 0 where
   pub header : new.header ≡ option_or old.header (Some at)
-  pub keys : (q : List ℕ) → get_by_text new.keys q ≡ option_or (get_by_text old.keys q) (at_if (is_key one q) first)
-  pub routes : (q : List ℕ) → get_by_text new.routes q ≡ option_or (get_by_text old.routes q) (at_if (is_key one routes_key && is_key two q) second)
+  pub keys : (q : List ℕ) → get_by_text new.keys q ≡ option_or (get_by_text old.keys q) (at_if (is_key_part one q) first)
+  pub routes : (q : List ℕ) → get_by_text new.routes q ≡ option_or (get_by_text old.routes q) (at_if (is_key_part one routes_key && is_key_part two q) second)
 
 -- what is in the places of a frame, if it has some
 abbrev pub header_in : Option TablePlaces → Option ℕ

@@ -14,7 +14,7 @@ use Rattle.toml_places.specs.Places.{parts}
 use Rattle.toml_places.specs.Reads.{Writes, IsChar}
 
 -- the span lies in the text, and is this piece of it
-pub record Stands (text : List ℕ) (s : Span) (p : Cut) : Type 0 where
+pub record IsPieceAt (text : List ℕ) (s : Span) (p : Cut) : Type 0 where
   pub ascends : s.begin ≤ s.end
   pub within : s.end ≤ length text
   pub begins : p.0 ≡ drop s.begin text
@@ -23,7 +23,7 @@ pub record Stands (text : List ℕ) (s : Span) (p : Cut) : Type 0 where
 -- the spans of these pieces are those pieces
 abbrev pub Stand : (List ℕ → Option Cut) → Type 0
 Stand piece =
-    (text : List ℕ) (at : ℕ) (s : Span) → at_offset piece at text ≡ Some s → (p : Cut) × (piece (drop at text) ≡ Some p) × Stands text s p
+    (text : List ℕ) (at : ℕ) (s : Span) → at_offset piece at text ≡ Some s → (p : Cut) × (piece (drop at text) ≡ Some p) × IsPieceAt text s p
 
 -- Every span lies in the text, and has what the definition of its piece says.
 pub record SpansStand : Type 0 where
@@ -35,8 +35,8 @@ pub record SpansStand : Type 0 where
   pub chars : (k : ℕ) → Stand (string_char k)
 
 -- a character of the text begins at the offset, or it is the end
-abbrev pub IsPlace : ℕ → List ℕ → Type 0
-IsPlace at text = from_offset at text ≡ Some (drop at text)
+abbrev pub IsCharPlace : ℕ → List ℕ → Type 0
+IsCharPlace at text = from_offset at text ≡ Some (drop at text)
 
 abbrev pub spot : ℕ → ℕ → KeyPlace
 spot at part = record { at = at; part = part }
@@ -48,12 +48,12 @@ ReadsIn read text s a = (s.begin ≤ s.end) × (s.end ≤ length text) × (read 
 -- Where toml's grammar reads a key, a value after its key, an array or a string from an offset on, there is a span, and what it
 -- reads in that span is this part of the key, this value, this element, this character.
 pub record SpansAreRead : Type 0 where
-  pub keys : (text rest part : List ℕ) (at i : ℕ) (k : Key) → IsPlace at text → key (key_start (drop at text)) ≡ Some (k, rest) → slice_get (parts k) i ≡ Some part
+  pub keys : (text rest part : List ℕ) (at i : ℕ) (k : Key) → IsCharPlace at text → key (key_start (drop at text)) ≡ Some (k, rest) → slice_get (parts k) i ≡ Some part
       → (s : Span) × (key_span (spot at i) text ≡ Some s) × ReadsIn simple_key text s part
-  pub values : (text value rest : List ℕ) (at : ℕ) (k : Key) (d : Data) → IsPlace at text → key_equals (drop at text) ≡ Some (k, value) → val recursion_limit value ≡ Some (d, rest)
+  pub values : (text value rest : List ℕ) (at : ℕ) (k : Key) (d : Data) → IsCharPlace at text → key_equals (drop at text) ≡ Some (k, value) → val recursion_limit value ≡ Some (d, rest)
       → (s : Span) × (value_span (spot at (length k.0)) text ≡ Some s) × ReadsIn (val recursion_limit) text s d
-  pub elements : (text rest : List ℕ) (at n k : ℕ) (all : Items) (d : Data) → IsPlace at text → n ≤ recursion_limit → val (suc n) (drop at text) ≡ Some (array all, rest) → get_item k all ≡ Some d
+  pub elements : (text rest : List ℕ) (at n k : ℕ) (all : Items) (d : Data) → IsCharPlace at text → n ≤ recursion_limit → val (suc n) (drop at text) ≡ Some (array all, rest) → get_item k all ≡ Some d
       → (s : Span) × (element_span k at text ≡ Some s) × ReadsIn (val n) text s d
-  pub chars : (text content rest : List ℕ) (at k : ℕ) → IsPlace at text → starts_string (drop at text) ≡ true → quoted (drop at text) ≡ Some (content, rest) → k < count_by starts_char content
+  pub chars : (text content rest : List ℕ) (at k : ℕ) → IsCharPlace at text → starts_string (drop at text) ≡ true → quoted (drop at text) ≡ Some (content, rest) → k < count_by starts_char content
       → (s : Span) × (char after : List ℕ) × (char_span k at text ≡ Some s) × IsChar content k char after × (s.begin ≤ s.end) × (s.end ≤ length text)
       × Writes (drop at text) (drop s.begin text) (char ++ after) rest × Writes (drop at text) (drop s.end text) after rest

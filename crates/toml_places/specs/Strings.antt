@@ -13,12 +13,12 @@ use Rattle.toml_places.specs.declared.strings.Step.TheVariants.{End, Cut, Char}
 abbrev pub starts_char : ℕ → Bool
 starts_char byte = nat_lt byte 0x80 || nat_le 0xC0 byte
 
-abbrev pub goes_on : ℕ → Bool
-goes_on byte = not (starts_char byte)
+abbrev pub string_goes_on : ℕ → Bool
+string_goes_on byte = not (starts_char byte)
 
 -- after the first byte and those that go on with its character
 unfoldable pub after_char : List ℕ → List ℕ
-after_char text = drop (1 + prefix_len goes_on (drop 1 text)) text
+after_char text = drop (1 + prefix_len string_goes_on (drop 1 text)) text
 
 -- after this many hex digits
 unfoldable pub after_hex : ℕ → List ℕ → Option (List ℕ)

@@ -55,7 +55,7 @@ unfoldable pub element : ℕ → List ℕ → Option Cut
 element k text = if first text == left_bracket then element_from k (drop 1 text) else None
 
 -- a pair of an inline table: all parts of its key, and the text from it on
-pub record Pair : Type 0 where
+pub record TablePair : Type 0 where
   pub path : List (List ℕ)
   pub start : List ℕ
 
@@ -63,20 +63,20 @@ pub record Pair : Type 0 where
 unfoldable pub pair_after : List ℕ → Option (List ℕ)
 pair_after text = after_value recursion_limit text >>= after_element right_brace
 
-abbrev pub pair_at : Key → List ℕ → List ℕ → Option (Pair × List ℕ)
+abbrev pub pair_at : Key → List ℕ → List ℕ → Option (TablePair × List ℕ)
 pair_at key start value = option_map (λ next. (record { path = key.0 ++ key.1 ∷ []; start = start }, next)) (pair_after value)
 
 -- the next pair, and the text from the one after it on
-unfoldable pub next_pair : List ℕ → Option (Pair × List ℕ)
+unfoldable pub next_pair : List ℕ → Option (TablePair × List ℕ)
 next_pair text =
     let start = skip_blank text in
     if first start == right_brace then None else key_equals start >>= (λ k. pair_at k.0 start k.1)
 
 -- the pairs from here on, fewer than n
-unfoldable pub pairs_from : ℕ → List ℕ → List Pair
+unfoldable pub pairs_from : ℕ → List ℕ → List TablePair
 pairs_from zero text = []
 pairs_from (suc n) text = option_map_or (λ p. p.0 ∷ pairs_from n p.1) (next_pair text) []
 
 -- the pairs of an inline table
-unfoldable pub pairs : List ℕ → List Pair
+unfoldable pub pairs : List ℕ → List TablePair
 pairs text = if first text == left_brace then pairs_from (length text) (drop 1 text) else []

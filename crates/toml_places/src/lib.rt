@@ -44,7 +44,8 @@ mod values;
 pub use laws::{headers_are_frames, places_are_within, spans_are_read, spans_stand};
 pub use places::Places;
 pub use spans::{
-    Span, KeyPlace, char_span, element_spans, frame_span, integer_at, key_span, pair_span, value_span,
+    KeyPlace, Span, char_span, element_spans, frame_span, integer_at, key_span, pair_span,
+    value_span,
 };
 pub use strings::starts_char;
 pub use tables::TablePlaces;

@@ -5,7 +5,7 @@ ghost use Rattle.std.specs.Option.{option_copied};
 ghost use Rattle.toml_parser.specs.Reading.{key_view, path_view};
 ghost use Rattle.toml.specs.Parse.{parse_document};
 ghost use Rattle.toml_places.specs.Places as spec;
-ghost use Rattle.toml_places.specs.Places.{Keeps, is_key, routes_key, first_at, first_spot, header_place, key_place, route_place, kept_key, kept_route};
+ghost use Rattle.toml_places.specs.Places.{Keeps, is_key_part, routes_key, first_at, first_spot, header_place, key_place, route_place, kept_key, kept_route};
 ghost use Rattle.toml_places.specs.Loops.{frame_count, section_view, frames_after, IsOpen, Walks};
 
 use crate::lines::{Expression, Sort, read_line, skip_bom};
@@ -38,7 +38,7 @@ fn is_frame(parts: &[String]) -> bool
 }
 
 fn is_frame_key(part: Option<&String>) -> bool
-    ensures { result ≡ is_key (option_map string_bytes (option_copied part.entry)) spec.frame_key }
+    ensures { result ≡ is_key_part (option_map string_bytes (option_copied part.entry)) spec.frame_key }
 {
     match part {
         Some(part) => part.as_str() == "frame",

@@ -50,7 +50,7 @@ pub fn starts_char(byte: u8) -> bool
 
 // How many bytes at the front go on with a character.
 fn tail_len(bytes: &[u8]) -> usize
-    ensures len { result ≡ prefix_len spec.goes_on bytes.now }
+    ensures len { result ≡ prefix_len spec.string_goes_on bytes.now }
     ensures within { result ≤ length bytes.now }
 {
     bytes.iter().take_while(|byte| !starts_char(**byte)).count()

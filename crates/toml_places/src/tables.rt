@@ -47,7 +47,12 @@ impl WrittenKey {
 }
 
 // Notes a spot at a key that has none.
-pub fn note(alloc: Global, spots: &mut KeyPlaces, key: &str, spot: KeyPlace) -> Result<(), AllocError>
+pub fn note(
+    alloc: Global,
+    spots: &mut KeyPlaces,
+    key: &str,
+    spot: KeyPlace,
+) -> Result<(), AllocError>
     ensures { OnOk result ((q : List ℕ) → get_by_text spots.new q ≡
         option_or (get_by_text spots.old q) (at_if (bytes_eq q key.now) spot)) }
 {

@@ -4,7 +4,7 @@ use Rattle.std.specs.Option.{option_eq}
 use Rattle.page_ids.specs.Ids.{id_eq}
 use Rattle.page_ids.specs.Keys.{key_word}
 use Rattle.page_ids.specs.Ways.{way_at, way_key}
-use Rattle.base_map.specs.Edges.{seeks, spaced}
+use Rattle.base_map.specs.Edges.{seeks, spaced_keys}
 use Rattle.base_map.proofs.WaySteps.{ways_from, seeking_more, key_more}
 use Rattle.base_map.proofs.edges.push_keys_to.Goals.{then-eq+in_ok-push_key, then-not-is_first+in_ok-push, else-not-is_first, else-eq}
 use Rattle.base_map.proofs.edges.push_keys_to.Goals as goal
@@ -19,8 +19,8 @@ loop-place-preserved c =
     let rest = map way_key (filter (seeks f to) (ways_from (n + 1))) in
     let is : seeks f to (way_at n) ≡ c.eq.result =
     ap (seeks f to) (sym c.at.ensures) ∙ (ap (λ o. option_eq id_eq o (Some to)) (sym c.sought.ensures) ∙ sym c.eq.ensures) in
-    let more : (b : Bool) → c.eq.result ≡ b → out ++ spaced first (map way_key (cond b _ _)) ≡ _ =
-    λ b e. ap (λ ws. out ++ spaced first (map way_key ws)) (sym (seeking_more f to n b (omega (arith, c.loop-place-test.true)) (is ∙ e))) ∙ c.loop-place.invariant in
+    let more : (b : Bool) → c.eq.result ≡ b → out ++ spaced_keys first (map way_key (cond b _ _)) ≡ _ =
+    λ b e. ap (λ ws. out ++ spaced_keys first (map way_key ws)) (sym (seeking_more f to n b (omega (arith, c.loop-place-test.true)) (is ∙ e))) ∙ c.loop-place.invariant in
     elim c.if-eq.branch [
       | then-eq+in_ok-push_key w ↦
           let mid : w.if-not-is_first.out.items ≡ out ++ cond first [] (codes " ") = elim w.if-not-is_first.branch [

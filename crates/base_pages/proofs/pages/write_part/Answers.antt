@@ -5,22 +5,22 @@ use Rattle.checker.specs.declared.policy.Policy.{Policy}
 use Rattle.fault_scripts.specs.declared.fault.Fault.{Fault}
 use Rattle.base_pages.specs.declared.pages.Prepared.{Prepared}
 use Rattle.base_pages.specs.Sections.{BookView}
-use Rattle.base_pages.specs.Head.{faults_in}
+use Rattle.base_pages.specs.Head.{outcome_faults}
 use Rattle.base_pages.specs.Tags.{page_tags}
 use Rattle.base_pages.specs.Pages.{page, IsPage}
-use Rattle.base_pages.specs.Loops.{IsPrepared, numbers_of, numbered}
+use Rattle.base_pages.specs.Loops.{IsFilePrepared, numbers_of, numbered_faults}
 use Rattle.base_pages.proofs.OnTheWay.{fault_of}
 use Rattle.base_pages.proofs.pages.write_part.Goals as goal
 
 -- the file that is written of what was prepared
-module _ (name : List ℕ) (base : BaseView) (policy : Policy) (part : Option (List Id)) (p : Prepared) (made : IsPrepared base policy p) where
+module _ (name : List ℕ) (base : BaseView) (policy : Policy) (part : Option (List Id)) (p : Prepared) (made : IsFilePrepared base policy p) where
   abbrev book_of : List Fault → BookView
   book_of faults = record { base = base; caller = policy.groups; found = p.gallery.found; faults = faults; part = part }
 
   abbrev written_of : List Fault → List ℕ
   written_of faults = page name policy p.outcome (book_of faults)
 
-  abbrev is_page : (faults : List Fault) → faults ≡ faults_in p.outcome → IsPage name base policy part (written_of faults)
+  abbrev is_page : (faults : List Fault) → faults ≡ outcome_faults p.outcome → IsPage name base policy part (written_of faults)
   is_page faults same =
       record { found = p.gallery.found; finding = made.finding; outcome = p.outcome; audited = made.audited; is = ap written_of same }
 
@@ -30,7 +30,7 @@ write_book-requires-clause-ready g c =
     record {
       of_base = made.of_base;
       of_groups = made.of_groups;
-      index = λ (id : Id). made.index id ∙ ap (λ (fs : List Fault). numbers_of (numbered 0 fs) id) (sym c.faults_in.ensures);
+      index = λ (id : Id). made.index id ∙ ap (λ (fs : List Fault). numbers_of (numbered_faults 0 fs) id) (sym c.faults_in.ensures);
     }
 
 pub returns-in-Ok-write_book : goal.returns-in-Ok-write_book

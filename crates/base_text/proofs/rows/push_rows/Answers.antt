@@ -3,7 +3,7 @@ use Rattle.std.proofs.lemmas.List.{at_drop_more}
 use Rattle.toml.specs.Data.{item}
 use Rattle.toml.specs.View.{view, items_view}
 use Rattle.base_text.specs.Details.{with_all}
-use Rattle.base_text.specs.Rows.{row_of, row_bytes}
+use Rattle.base_text.specs.Rows.{row_read, row_bytes}
 use Rattle.base_text.proofs.RowTurns.{row_pushed, row_left_out, row_judged}
 use Rattle.base_text.proofs.rows.push_rows.Goals as goal
 use Rattle.base_text.proofs.rows.push_rows.Goals.{in-Some+in_ok-push_row, in_default}
@@ -16,8 +16,8 @@ loop-i-preserved c =
     let ds = items_view (drop (i + 1) c.args.values.now) in
     let here : items_view (drop i c.args.values.now) ≡ item d ds =
     at_drop_more items_view c.args.values.now i c.index-values-i.result (search rules) ∙ ap (λ v. item (view v) ds) (sym c.index-values-i.is) in
-    let added : c.read_row.new.details ≡ with_all c.loop-i.details (row_of (i + 1) d).faults = search rules in
-    let row : c.in_ok-row.field-0 ≡ (row_of (i + 1) d).value = search rules in
+    let added : c.read_row.new.details ≡ with_all c.loop-i.details (row_read (i + 1) d).faults = search rules in
+    let row : c.in_ok-row.field-0 ≡ (row_read (i + 1) d).value = search rules in
     let before = rw here at held.bytes in
     record {
       bytes = elim c.match-branch-2.branch [

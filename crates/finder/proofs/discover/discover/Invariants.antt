@@ -1,6 +1,6 @@
 use Rattle.std.proofs.Common.{◌*◌}
-use Rattle.finder.specs.Loops.{IsListed}
+use Rattle.finder.specs.Loops.{IsDiscoveredSoFar}
 use Rattle.finder.proofs.discover.discover.Given as goal
 
 abbrev pub invariant-loop-index : goal.invariant-loop-index
-invariant-loop-index l = IsListed l.graph (l.index * 11) l.discovery
+invariant-loop-index l = IsDiscoveredSoFar l.graph (l.index * 11) l.discovery

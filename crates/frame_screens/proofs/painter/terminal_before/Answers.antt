@@ -1,5 +1,5 @@
 use Rattle.std.proofs.Common.{arith, subst, sym}
-use Rattle.frame_screens.specs.Loops.{IsBefore}
+use Rattle.frame_screens.specs.Loops.{IsTerminalBefore}
 use Rattle.frame_screens.proofs.Painted.{new_is_before, is_before}
 use Rattle.frame_screens.proofs.Ways.{parent_before, parent_is_listed}
 use Rattle.frame_screens.proofs.painter.terminal_before.Goals as goal
@@ -21,5 +21,5 @@ returns-in-Some c =
 
 pub returns-in-None : goal.returns-in-None
 returns-in-None c =
-    subst (IsBefore c.args.survey.now c.args.place) (sym c.new.ensures)
+    subst (IsTerminalBefore c.args.survey.now c.args.place) (sym c.new.ensures)
     (new_is_before c.args.survey.now c.args.place c.reached_at.result.now c.reached_at.ensures c.in-None.is)

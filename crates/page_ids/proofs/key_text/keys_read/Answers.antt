@@ -3,7 +3,7 @@ use Rattle.std.proofs.lemmas.List.{take_all}
 use Rattle.std.proofs.lemmas.Grind.{common_steps}
 use Rattle.page_ids.specs.declared.key.Key.{Key}
 use Rattle.page_ids.specs.Keys.{key_word, IsUnreadableAt}
-use Rattle.page_ids.specs.Loops.{key_at}
+use Rattle.page_ids.specs.Loops.{key_read_at}
 use Rattle.page_ids.proofs.KeyTexts.{HasRead, unreadable, next_word}
 use Rattle.page_ids.proofs.key_text.keys_read.Goals as goal
 
@@ -14,7 +14,7 @@ rest bytes at = take_all (length bytes - at) (drop at bytes) (omega (arith, leng
 pub returns-in_default : goal.returns-in_default
 returns-in_default c =
     let bytes = c.as_bytes-bytes.result.now in
-    let none : key_at (drop c.loop-at.at bytes) ≡ None = ap key_at (sym (rest bytes c.loop-at.at)) ∙ sym c.key_at.ensures ∙ c.in_default.is in
+    let none : key_read_at (drop c.loop-at.at bytes) ≡ None = ap key_read_at (sym (rest bytes c.loop-at.at)) ∙ sym c.key_at.ensures ∙ c.in_default.is in
     subst (λ (text : List ℕ). IsUnreadableAt text c.loop-at.at) c.as_bytes-bytes.ensures.value
     (unreadable bytes c.loop-at.at c.loop-at.keys.items c.loop-at-test.true c.loop-at.invariant none)
 
@@ -22,7 +22,7 @@ pub loop-at-preserved : goal.loop-at-preserved
 loop-at-preserved c =
     let bytes = c.as_bytes-bytes.result.now in
     let key = c.in-Some.key in
-    let some : key_at (drop c.loop-at.at bytes) ≡ Some key = ap key_at (sym (rest bytes c.loop-at.at)) ∙ sym c.in-Some.ensures in
+    let some : key_read_at (drop c.loop-at.at bytes) ≡ Some key = ap key_read_at (sym (rest bytes c.loop-at.at)) ∙ sym c.in-Some.ensures in
     let next = next_word bytes c.loop-at.at c.loop-at.keys.items key c.loop-at.invariant some in
     let len : c.word_len-at.result ≡ length (key_word key) = c.word_len-at.ensures in
     let pushed : c.push.new.self.items ≡ c.loop-at.keys.items ++ key ∷ [] = grind (arith, common_steps) in

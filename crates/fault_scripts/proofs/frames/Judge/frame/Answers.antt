@@ -4,7 +4,7 @@ use Rattle.std.proofs.lemmas.Option.{get_or_from_slice_get}
 use Rattle.finder.specs.declared.found.Discovered.{Discovered}
 use Rattle.abstract_paint.specs.declared.painting.Painted.{Painted}
 use Rattle.abstract_paint.specs.Paint.{paint_of}
-use Rattle.fault_scripts.specs.Loops.{row_of, IsGathered}
+use Rattle.fault_scripts.specs.Loops.{row_if_clean, IsGathered}
 use Rattle.fault_scripts.proofs.Gathering.{gathered_more}
 use Rattle.fault_scripts.proofs.frames.Judge.frame.Goals as goal
 
@@ -21,5 +21,5 @@ returns c =
     let painted : c.paint-painted.result ≡ paint_of frame.lead frame.body = c.paint-painted.ensures.computed ∙ ap (paint_of frame.lead) c.as_slice.ensures in
     record {
       reporting = c.in_ok-judge.ensures;
-      gathered = subst (λ (f : List Discovered). IsGathered base f c.add.new.self) (sym more) (gathered_more base (take i found) d frame c.args.self.now.table c.add.new.self at c.requires.judged.gathered (c.in_ok-add.ensures.rows ∙ ap (λ (p : Painted). c.args.self.now.table.rows.items ++ row_of d.id d.rank p) painted) c.in_ok-add.ensures.ceiling c.in_ok-add.ensures.keyings);
+      gathered = subst (λ (f : List Discovered). IsGathered base f c.add.new.self) (sym more) (gathered_more base (take i found) d frame c.args.self.now.table c.add.new.self at c.requires.judged.gathered (c.in_ok-add.ensures.rows ∙ ap (λ (p : Painted). c.args.self.now.table.rows.items ++ row_if_clean d.id d.rank p) painted) c.in_ok-add.ensures.ceiling c.in_ok-add.ensures.keyings);
     }

@@ -4,7 +4,7 @@ use Rattle.frame_records.specs.Bases.{BaseView}
 use Rattle.checker.specs.declared.policy.Policy.{Policy}
 use Rattle.fault_scripts.specs.declared.fault.Fault.{Fault}
 use Rattle.lint_words.specs.declared.fault_words.Judged.{Judged}
-use Rattle.lint_words.specs.FaultWords.{fault_words}
+use Rattle.lint_words.specs.FaultWords.{audit_fault_words}
 use Rattle.lint_words.specs.WordsOf.{WordsView}
 use Rattle.toml_places.specs.declared.spans.Span.{Span}
 use Rattle.lint.specs.Findings.{FindingView, error_at}
@@ -14,8 +14,8 @@ use Rattle.lint.specs.Lint.{judged}
 use Rattle.lint.proofs.audit_findings.Sources.finding.Goals as goal
 
 found : (base : BaseView) (policy : Policy) (ranks : List (Id × Option ℕ)) (fault : Fault) (seen table : TableView) (span : Span) (j : Judged) (words : WordsView) (f : FindingView)
-    → seen ≡ table → span ≡ audit_span seen fault → j ≡ judged seen base policy ranks fault → words ≡ fault_words j fault → f ≡ error_at span words
-    → f ≡ error_at (audit_span table fault) (fault_words (judged table base policy ranks fault) fault)
+    → seen ≡ table → span ≡ audit_span seen fault → j ≡ judged seen base policy ranks fault → words ≡ audit_fault_words j fault → f ≡ error_at span words
+    → f ≡ error_at (audit_span table fault) (audit_fault_words (judged table base policy ranks fault) fault)
 found base policy ranks fault seen table span j words f is of_span of_judged of_words made = made ∙ rw (of_span, of_words, of_judged, is) refl
 
 pub returns-clause-finding : goal.returns-clause-finding

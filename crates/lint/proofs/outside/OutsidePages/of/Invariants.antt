@@ -1,6 +1,6 @@
 use Rattle.std.proofs.Common.{◌≡◌, ◌≤◌, ◌-◌, ℕ}
 use Rattle.frame_records.specs.declared.limits.TheConstants.{MOST_LISTED}
-use Rattle.lint.specs.Loops.{seen, listed}
+use Rattle.lint.specs.Loops.{table_seen, element_kept}
 use Rattle.lint.specs.Outside.{page_from}
 use Rattle.lint.proofs.outside.OutsidePages.of.Given as goal
 
@@ -8,7 +8,7 @@ use Rattle.lint.proofs.outside.OutsidePages.of.Given as goal
 abbrev pub invariant-elements : goal.invariant-elements
 invariant-elements l = record {
   within : l.index ≤ MOST_LISTED;
-  lists : (page : ℕ) → listed l.pages page ≡ page_from (seen l.top) page (MOST_LISTED - l.index) l.index;
+  lists : (page : ℕ) → element_kept l.pages page ≡ page_from (table_seen l.top) page (MOST_LISTED - l.index) l.index;
 }
 
 abbrev pub decreases-elements : goal.decreases-elements

@@ -6,7 +6,7 @@ use Rattle.toml_places.specs.declared.spans.KeyPlace.{KeyPlace}
 use Rattle.toml_places.specs.Places.{Mark, key_in, routes_key}
 use Rattle.lint.specs.declared.tables.TableSpots.{TableSpots}
 use Rattle.lint.specs.Tables.{TableView, value_at, element_at, key_spot, list_key, whole, route_spot, table_at}
-use Rattle.lint.specs.Loops.{KeysView, InlineKeeps, keys_of, seen_keys, seen}
+use Rattle.lint.specs.Loops.{KeysView, InlineKeeps, keys_of, seen_keys, table_seen}
 use Rattle.lint.proofs.tables.TextTables.table.Goals as goal
 
 same_fields : (text : List ℕ) (whole whole' : Span) (frame frame' : Option ℕ) (key key' route route' : List ℕ → Option KeyPlace) (item item' : ℕ → Option Span)
@@ -19,9 +19,9 @@ same_fields text w w' f f' k k' r r' i i' ef ew ek er ei = rw (ef, ew, ek, er, e
 same_table : (ms : List Mark) (frame : Option ℕ) (t : TableSpots) → t.whole ≡ whole t.text.now ms frame → seen_keys t.keys ≡ keys_of t.text.now ms frame
     → InlineKeeps t.text.now (value_at t.text.now (key_spot t.text.now ms frame routes_key)) t.routes
     → ((k : ℕ) → slice_get t.items.items k ≡ element_at t.text.now (key_spot t.text.now ms frame (list_key frame)) k)
-    → seen t ≡ table_at t.text.now ms frame
+    → table_seen t ≡ table_at t.text.now ms frame
 same_table ms frame t is_whole keys routes items =
-    same_fields t.text.now t.whole _ (seen_keys t.keys).frame frame (seen_keys t.keys).key _ (seen t).route (route_spot t.text.now ms frame) (seen t).item _
+    same_fields t.text.now t.whole _ (seen_keys t.keys).frame frame (seen_keys t.keys).key _ (table_seen t).route (route_spot t.text.now ms frame) (table_seen t).item _
     (ap (λ (k : KeysView). k.frame) keys) is_whole (ap (λ (k : KeysView). k.key) keys)
     (fun_ext (λ q. ap (λ (k : KeysView). option_or (k.dotted q) (key_in t.routes q)) keys ∙ ap (option_or ((keys_of t.text.now ms frame).dotted q)) (routes.keys q)))
     (fun_ext items)
