@@ -13,7 +13,7 @@ use Rattle.toml_parser.specs.declared.scalar.Scalar.TheVariants.{Boolean, Intege
 use Rattle.toml_places.proofs.Options.{stepped, mapped}
 use Rattle.toml_places.proofs.Counting.{item_count-push}
 use Rattle.toml_places.proofs.Follows.{Follows, value_follows}
-use Rattle.toml_places.specs.Strings.{Cut}
+use Rattle.toml_places.specs.Strings.{TextPart}
 use Rattle.toml_places.specs.Values.{after_value, next_element, element_from, element}
 use Rattle.toml_places.specs.Places.{item_count}
 
@@ -77,7 +77,7 @@ module _ (read : List ℕ → Option (Data × List ℕ)) (same : Follows read (a
       ]
 
   items_at : (n k : ℕ) (found all : Items) (text rest : List ℕ) (x : Data) → items read n found text ≡ Some (all, rest) → get_item (item_count found + k) all ≡ Some x
-      → (p : Cut) × (element_from k text ≡ Some p) × (read p.0 ≡ Some (x, p.1))
+      → (p : TextPart) × (element_from k text ≡ Some p) × (read p.0 ≡ Some (x, p.1))
   unfolding items element_from
   items_at zero k found all text rest x h there = absurd (none-some (all, rest) h)
   items_at (suc n) zero found all text rest x h there =
@@ -118,7 +118,7 @@ atom_no_array text rest all h =
 
 -- the k-th element of an array, at whatever depth
 pub elements_are_read : (n k : ℕ) (text rest : List ℕ) (all : Items) (d : Data) → n ≤ 80 → val (suc n) text ≡ Some (array all, rest) → get_item k all ≡ Some d
-    → (p : Cut) × (element k text ≡ Some p) × (val n p.0 ≡ Some (d, p.1))
+    → (p : TextPart) × (element k text ≡ Some p) × (val n p.0 ≡ Some (d, p.1))
 unfolding val element
 elements_are_read n k text rest all d room h there =
     elim (cases_Bool (first text == 91)) [

@@ -15,7 +15,7 @@ use Rattle.toml_places.proofs.Options.{stepped, mapped}
 use Rattle.toml_places.proofs.StringFollows.{content_follows, quoted_follows, ascii_delim}
 use Rattle.toml_places.proofs.SkipTurns.{value_deep}
 use Rattle.toml_places.specs.declared.lines.Sort.TheVariants.{Table}
-use Rattle.toml_places.specs.Strings.{Cut, after_part, next_part, part_from, after_key, value_from}
+use Rattle.toml_places.specs.Strings.{TextPart, after_part, next_part, part_from, after_key, value_from}
 use Rattle.toml_places.specs.Values.{after_word, after_atom, after_member, after_members, after_value}
 use Rattle.toml_places.specs.Places.{parts}
 use Rattle.toml_places.specs.Spans.{value_or_key}
@@ -104,7 +104,7 @@ dotted_next text dotted = rw dotted refl
 
 -- a part that was read
 abbrev PartRead : ℕ → List ℕ → List ℕ → Type 0
-PartRead i text part = (p : Cut) × (part_from i text ≡ Some p.0) × (after_part p.0 ≡ Some p.1) × (simple_key p.0 ≡ Some (part, p.1))
+PartRead i text part = (p : TextPart) × (part_from i text ≡ Some p.0) × (after_part p.0 ≡ Some p.1) × (simple_key p.0 ≡ Some (part, p.1))
 
 parts_follow : (n i : ℕ) (path : List (List ℕ)) (text rest part : List ℕ) (k : Key) → key_after n path text ≡ Some (k, rest)
     → slice_get (parts k) (length path + i) ≡ Some part → PartRead i text part

@@ -10,7 +10,7 @@ use Rattle.toml_parser.specs.Numbers.{word_len}
 use Rattle.toml.specs.Parse.{after_byte, after_element}
 use Rattle.toml_places.specs.declared.strings.Step.{Step}
 use Rattle.toml_places.specs.declared.strings.Step.TheVariants.{End, Cut, Char}
-use Rattle.toml_places.specs.Strings.{starts_char, after_char, after_hex, after_escape, escape, at_delims, next_step, is_end, is_char, after_step, char_step, after_content, Cut, content_char, is_multi, content, after_string, string_char, after_part, next_part, part_from, after_key, value_from}
+use Rattle.toml_places.specs.Strings.{starts_char, after_char, after_hex, after_escape, escape, at_delims, next_step, is_end, is_char, after_step, char_step, after_content, TextPart, content_char, is_multi, content, after_string, string_char, after_part, next_part, part_from, after_key, value_from}
 use Rattle.toml_places.specs.Values.{after_word, after_atom, after_member, after_members, after_value, next_element, element_from, element}
 use Rattle.toml_places.proofs.Options.{stepped, mapped}
 
@@ -220,13 +220,13 @@ value_left (suc depth) text =
     leaves_if text (first text == 91) _ _ (members 93) (leaves_if text (first text == 123) _ _ (members 125) (atom_left text))
 
 -- A piece lies in a text.
-abbrev pub Inside : List ℕ → Cut → Type 0
+abbrev pub Inside : List ℕ → TextPart → Type 0
 Inside text p = Rest text p.0 × Rest p.0 p.1
 
-pub inside_after : (text t : List ℕ) (p : Cut) → Rest text t → Inside t p → Inside text p
+pub inside_after : (text t : List ℕ) (p : TextPart) → Rest text t → Inside t p → Inside text p
 inside_after text t p h g = (rest_trans text t p.0 h g.0, g.1)
 
-pub char_inside : (delim : ℕ) (multi : Bool) (n k : ℕ) (text : List ℕ) (p : Cut) → content_char delim multi n k text ≡ Some p → Inside text p
+pub char_inside : (delim : ℕ) (multi : Bool) (n k : ℕ) (text : List ℕ) (p : TextPart) → content_char delim multi n k text ≡ Some p → Inside text p
 unfolding content_char
 char_inside delim multi zero k text p is = absurd (none-some p is)
 char_inside delim multi (suc n) k text p is =
@@ -237,12 +237,12 @@ char_inside delim multi (suc n) k text p is =
       | inr goes ↦ elim (cases_Bool (is_char one.value.0 && k == 0)) [
         | inl here ↦
             let same = same_Some (text, one.value.1) p (rw (goes, here) at one.then) in
-            subst (λ (q : Cut). Inside text q) same (rest_same text, left)
+            subst (λ (q : TextPart). Inside text q) same (rest_same text, left)
         | inr other ↦ inside_after text one.value.1 p left (char_inside delim multi n _ one.value.1 p (rw (goes, other) at one.then))
       ]
     ]
 
-pub string_char_inside : (k : ℕ) (text : List ℕ) (p : Cut) → string_char k text ≡ Some p → Inside text p
+pub string_char_inside : (k : ℕ) (text : List ℕ) (p : TextPart) → string_char k text ≡ Some p → Inside text p
 unfolding string_char
 string_char_inside k text p is =
     elim (cases_Bool (starts_string text)) [
@@ -251,7 +251,7 @@ string_char_inside k text p is =
       | inr other ↦ absurd (none-some p (rw other at is))
     ]
 
-next_inside : (text next : List ℕ) (p : Cut) → next_element text ≡ Some (p, next) → Inside text p × Rest text next
+next_inside : (text next : List ℕ) (p : TextPart) → next_element text ≡ Some (p, next) → Inside text p × Rest text next
 unfolding next_element
 next_inside text next p is =
     let start = skip_blank text in
@@ -263,20 +263,20 @@ next_inside text next p is =
           let m = mapped (after_element 93 one.value) (λ t. ((start, one.value), t)) (p, next) one.then in
           let value = value_left 80 start one.value one.is in
           let after = element_left 93 one.value m.value m.is in
-          let P : Cut × List ℕ → Type 0 = λ q. Inside text q.0 × Rest text q.1 in
+          let P : TextPart × List ℕ → Type 0 = λ q. Inside text q.0 × Rest text q.1 in
           subst P m.same ((blank, value), rest_trans text start m.value blank (rest_trans start one.value m.value value after))
     ]
 
-pub element_from_inside : (k : ℕ) (text : List ℕ) (p : Cut) → element_from k text ≡ Some p → Inside text p
+pub element_from_inside : (k : ℕ) (text : List ℕ) (p : TextPart) → element_from k text ≡ Some p → Inside text p
 unfolding element_from
 element_from_inside zero text p is =
     let m = mapped (next_element text) (λ e. e.0) p is in
-    subst (λ (q : Cut). Inside text q) m.same (next_inside text m.value.1 m.value.0 m.is).0
+    subst (λ (q : TextPart). Inside text q) m.same (next_inside text m.value.1 m.value.0 m.is).0
 element_from_inside (suc k) text p is =
     let one = stepped (next_element text) (λ e. element_from k e.1) p is in
     inside_after text one.value.1 p (next_inside text one.value.1 one.value.0 one.is).1 (element_from_inside k one.value.1 p one.then)
 
-pub element_inside : (k : ℕ) (text : List ℕ) (p : Cut) → element k text ≡ Some p → Inside text p
+pub element_inside : (k : ℕ) (text : List ℕ) (p : TextPart) → element k text ≡ Some p → Inside text p
 unfolding element
 element_inside k text p is =
     elim (cases_Bool (first text == 91)) [

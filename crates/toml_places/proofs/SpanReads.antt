@@ -6,7 +6,7 @@ use Rattle.toml_parser.specs.Strings.{Key, key, simple_key, quoted, starts_strin
 use Rattle.toml.specs.Data.{Data, Items, array, get_item}
 use Rattle.toml.specs.Parse.{val, key_equals}
 use Rattle.toml_places.specs.declared.spans.Span.{Span}
-use Rattle.toml_places.specs.Strings.{Cut, starts_char, string_char, part_from, after_part}
+use Rattle.toml_places.specs.Strings.{TextPart, starts_char, string_char, part_from, after_part}
 use Rattle.toml_places.specs.Values.{element}
 use Rattle.toml_places.specs.Spans.{key_start, key_piece, value_piece, key_span, value_span, element_span, char_span}
 use Rattle.toml_places.specs.Places.{parts}
@@ -20,7 +20,7 @@ use Rattle.toml_places.proofs.Rests.{element_inside, string_char_inside}
 use Rattle.toml_places.proofs.SpanStands.{span_of, key_inside, value_inside}
 
 -- what is read at a piece is read at its span
-reads_in : {A : Type 0} (read : List ℕ → Read A) (text : List ℕ) (s : Span) (p : Cut) (a : A) → IsPieceAt text s p → read p.0 ≡ Some (a, p.1) → ReadsIn read text s a
+reads_in : {A : Type 0} (read : List ℕ → Read A) (text : List ℕ) (s : Span) (p : TextPart) (a : A) → IsPieceAt text s p → read p.0 ≡ Some (a, p.1) → ReadsIn read text s a
 reads_in read text s p a stands is =
     let here : read (drop s.begin text) ≡ Some (a, p.1) = rw (← stands.begins) is in
     (stands.ascends, stands.within, here ∙ ap (λ (t : List ℕ). Some (a, t)) stands.ends)

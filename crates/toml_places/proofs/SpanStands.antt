@@ -5,7 +5,7 @@ use Rattle.std.proofs.lemmas.Option.{none-some, same_Some}
 use Rattle.toml_parser.specs.Lexical.{first, skip_ws}
 use Rattle.toml.specs.Parse.{after_byte}
 use Rattle.toml_places.specs.declared.spans.Span.{Span}
-use Rattle.toml_places.specs.Strings.{Cut, starts_char, after_part, part_from, after_key, value_from}
+use Rattle.toml_places.specs.Strings.{TextPart, starts_char, after_part, part_from, after_key, value_from}
 use Rattle.toml_places.specs.Values.{after_value}
 use Rattle.toml_places.specs.Spans.{from_offset, span_in, up_to, is_double, key_start, after_header, key_piece, after_pair, value_or_key, value_piece, pair_piece, frame_piece, at_offset}
 use Rattle.toml_places.specs.SpanReads.{IsPieceAt, Stand, SpansStand, IsCharPlace}
@@ -13,13 +13,13 @@ use Rattle.toml_places.proofs.Options.{stepped, mapped}
 use Rattle.toml_places.proofs.Rests.{Rest, Leaves, Inside, rest_same, rest_drop, rest_trans, leaves_some, leaves_then, leaves_if, leaves_after, ws_left, byte_left, part_left, part_from_left, key_left, value_from_left, value_left, inside_after, element_inside, string_char_inside}
 
 -- the pieces of this reader lie in its text
-abbrev pub Insides : (List ℕ → Option Cut) → Type 0
-Insides piece = (text : List ℕ) (p : Cut) → piece text ≡ Some p → Inside text p
+abbrev pub Insides : (List ℕ → Option TextPart) → Type 0
+Insides piece = (text : List ℕ) (p : TextPart) → piece text ≡ Some p → Inside text p
 
-up_to_inside : (text t : List ℕ) (end : Option (List ℕ)) (p : Cut) → Rest text t → Leaves t end → up_to t end ≡ Some p → Inside text p
+up_to_inside : (text t : List ℕ) (end : Option (List ℕ)) (p : TextPart) → Rest text t → Leaves t end → up_to t end ≡ Some p → Inside text p
 up_to_inside text t end p here left is =
     let m = mapped end (λ rest. (t, rest)) p is in
-    subst (λ (q : Cut). Inside text q) m.same (here, left m.value m.is)
+    subst (λ (q : TextPart). Inside text q) m.same (here, left m.value m.is)
 
 start_left : (text : List ℕ) → Rest text (key_start text)
 unfolding key_start
@@ -99,7 +99,7 @@ offset_of text t i room is =
     omega arith
 
 -- the span of a piece that lies in the text
-pub piece_stands : (text : List ℕ) (p : Cut) → Inside text p → IsPieceAt text (span_in text p) p
+pub piece_stands : (text : List ℕ) (p : TextPart) → Inside text p → IsPieceAt text (span_in text p) p
 piece_stands text p h =
     let (i, room, begins) = h.0 in
     let (j, within, ends) = rest_trans text p.0 p.1 h.0 h.1 in
@@ -122,7 +122,7 @@ from_there at text t is =
       | inr other ↦ absurd (none-some t (rw other at is))
     ]
 
-stand : (piece : List ℕ → Option Cut) → Insides piece → Stand piece
+stand : (piece : List ℕ → Option TextPart) → Insides piece → Stand piece
 stand piece inside text at s is =
     let m = mapped (option_and_then piece (from_offset at text)) (span_in text) s is in
     let one = stepped (from_offset at text) piece m.value m.is in
@@ -144,7 +144,7 @@ spans_stand = record {
 }
 
 -- a piece from an offset on has a span
-pub span_of : (piece : List ℕ → Option Cut) (inside : Insides piece) (text : List ℕ) (at : ℕ) (p : Cut) → IsCharPlace at text → piece (drop at text) ≡ Some p
+pub span_of : (piece : List ℕ → Option TextPart) (inside : Insides piece) (text : List ℕ) (at : ℕ) (p : TextPart) → IsCharPlace at text → piece (drop at text) ≡ Some p
     → (s : Span) × (at_offset piece at text ≡ Some s) × IsPieceAt text s p
 span_of piece inside text at p place is =
     (span_in text p, rw (place, is) refl, piece_stands text p (inside_after text (drop at text) p (rest_drop at text) (inside (drop at text) p is)))

@@ -14,7 +14,7 @@ use Rattle.toml_parser.specs.Strings.{is_plain, special, body, after_piece, simp
 use Rattle.toml_parser.proofs.StringsLemmas.{body_plain, body_special}
 use Rattle.toml_places.specs.declared.strings.Step.{Step}
 use Rattle.toml_places.specs.declared.strings.Step.TheVariants.{End, Cut, Char}
-use Rattle.toml_places.specs.Strings.{starts_char, string_goes_on, after_char, after_hex, after_escape, escape, at_delims, next_step, is_end, is_char, after_content, Cut, content_char, is_multi, content as from_content, after_string, string_char}
+use Rattle.toml_places.specs.Strings.{starts_char, string_goes_on, after_char, after_hex, after_escape, escape, at_delims, next_step, is_end, is_char, after_content, TextPart, content_char, is_multi, content as from_content, after_string, string_char}
 use Rattle.toml_places.specs.Reads.{IsChar}
 use Rattle.toml_places.proofs.Options.{stepped, mapped}
 
@@ -321,8 +321,8 @@ module _ (delim : ℕ) (multi : Bool) (ascii : delim < 128) where
       ]
 
   -- the content from its k-th character on, at its piece
-  pub record CharRead (content rest : List ℕ) (k : ℕ) (piece : Option Cut) : Type 0 where
-    pub p : Cut
+  pub record CharRead (content rest : List ℕ) (k : ℕ) (piece : Option TextPart) : Type 0 where
+    pub p : TextPart
     pub char : List ℕ
     pub after : List ℕ
     pub is : piece ≡ Some p
@@ -330,7 +330,7 @@ module _ (delim : ℕ) (multi : Bool) (ascii : delim < 128) where
     pub here : (n : ℕ) × (body delim multi n p.0 ≡ Some (char ++ after, rest))
     pub next : (n : ℕ) × (body delim multi n p.1 ≡ Some (after, rest))
 
-  later : (content front more rest : List ℕ) (k j : ℕ) (piece : Option Cut) → content ≡ front ++ more → count_by starts_char front + j ≡ k → CharRead more rest j piece
+  later : (content front more rest : List ℕ) (k j : ℕ) (piece : Option TextPart) → content ≡ front ++ more → count_by starts_char front + j ≡ k → CharRead more rest j piece
       → CharRead content rest k piece
   later content front more rest k j piece same count r =
       let b = r.place.before in

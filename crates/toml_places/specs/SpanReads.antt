@@ -7,23 +7,23 @@ use Rattle.toml.specs.Data.{Data, Items, array, get_item}
 use Rattle.toml.specs.Parse.{val, key_equals}
 use Rattle.toml_places.specs.declared.spans.Span.{Span}
 use Rattle.toml_places.specs.declared.spans.KeyPlace.{KeyPlace}
-use Rattle.toml_places.specs.Strings.{Cut, starts_char, string_char}
+use Rattle.toml_places.specs.Strings.{TextPart, starts_char, string_char}
 use Rattle.toml_places.specs.Values.{element}
 use Rattle.toml_places.specs.Spans.{from_offset, key_start, key_piece, value_piece, pair_piece, frame_piece, at_offset, key_span, value_span, element_span, char_span}
 use Rattle.toml_places.specs.Places.{parts}
 use Rattle.toml_places.specs.Reads.{Writes, IsChar}
 
 -- the span lies in the text, and is this piece of it
-pub record IsPieceAt (text : List ℕ) (s : Span) (p : Cut) : Type 0 where
+pub record IsPieceAt (text : List ℕ) (s : Span) (p : TextPart) : Type 0 where
   pub ascends : s.begin ≤ s.end
   pub within : s.end ≤ length text
   pub begins : p.0 ≡ drop s.begin text
   pub ends : p.1 ≡ drop s.end text
 
 -- the spans of these pieces are those pieces
-abbrev pub Stand : (List ℕ → Option Cut) → Type 0
+abbrev pub Stand : (List ℕ → Option TextPart) → Type 0
 Stand piece =
-    (text : List ℕ) (at : ℕ) (s : Span) → at_offset piece at text ≡ Some s → (p : Cut) × (piece (drop at text) ≡ Some p) × IsPieceAt text s p
+    (text : List ℕ) (at : ℕ) (s : Span) → at_offset piece at text ≡ Some s → (p : TextPart) × (piece (drop at text) ≡ Some p) × IsPieceAt text s p
 
 -- Every span lies in the text, and has what the definition of its piece says.
 pub record SpansStand : Type 0 where

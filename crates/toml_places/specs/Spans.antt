@@ -9,7 +9,7 @@ use Rattle.toml.specs.Parse.{after_byte}
 use Rattle.toml_places.specs.Steps.{◌>>=◌}
 use Rattle.toml_places.specs.declared.spans.Span.{Span}
 use Rattle.toml_places.specs.declared.spans.KeyPlace.{KeyPlace}
-use Rattle.toml_places.specs.Strings.{Cut, starts_char, after_part, part_from, after_key, value_from, string_char}
+use Rattle.toml_places.specs.Strings.{TextPart, starts_char, after_part, part_from, after_key, value_from, string_char}
 use Rattle.toml_places.specs.Values.{after_value, element}
 
 -- the text from an offset on, if a character begins there or it is the end
@@ -17,11 +17,11 @@ unfoldable pub from_offset : ℕ → List ℕ → Option (List ℕ)
 from_offset at text = if nat_le at (length text) && starts_char (slice_index text at) then Some (drop at text) else None
 
 -- the span of a piece
-abbrev pub span_in : List ℕ → Cut → Span
+abbrev pub span_in : List ℕ → TextPart → Span
 span_in text p = record { begin = length text - length p.0; end = length text - length p.1 }
 
 -- a piece from here on, if it ends
-abbrev pub up_to : List ℕ → Option (List ℕ) → Option Cut
+abbrev pub up_to : List ℕ → Option (List ℕ) → Option TextPart
 up_to start end = option_map (λ rest. (start, rest)) end
 
 abbrev pub is_header : List ℕ → Bool
@@ -41,7 +41,7 @@ after_header text =
     if is_double text then after_byte right_bracket more else Some more))
 
 -- a part of an expression's key, with its quotation marks
-unfoldable pub key_piece : ℕ → List ℕ → Option Cut
+unfoldable pub key_piece : ℕ → List ℕ → Option TextPart
 key_piece part text = part_from part (key_start text) >>= (λ start. up_to start (after_part start))
 
 -- after the value of a pair, from its key on
@@ -49,27 +49,27 @@ unfoldable pub after_pair : List ℕ → Option (List ℕ)
 after_pair text = value_from recursion_limit text >>= after_value recursion_limit
 
 -- The value of a key. Of one with a dot after it, which makes a table, it is the key from there on.
-unfoldable pub value_or_key : List ℕ → Option Cut
+unfoldable pub value_or_key : List ℕ → Option TextPart
 value_or_key text =
     after_part text >>= (λ rest.
     if first (skip_ws rest) == dot then up_to text (after_key recursion_limit text)
     else value_from recursion_limit text >>= (λ value. up_to value (after_value recursion_limit value)))
 
 -- the value of a part of a pair's key; of a header, which makes a table, the header
-unfoldable pub value_piece : ℕ → List ℕ → Option Cut
+unfoldable pub value_piece : ℕ → List ℕ → Option TextPart
 value_piece part text = if is_header text then up_to text (after_header text) else part_from part text >>= value_or_key
 
 -- a pair from a part of its key on; of a header the header
-unfoldable pub pair_piece : ℕ → List ℕ → Option Cut
+unfoldable pub pair_piece : ℕ → List ℕ → Option TextPart
 pair_piece part text =
     if is_header text then up_to text (after_header text) else part_from part text >>= (λ start. up_to start (after_pair start))
 
 -- a header with its brackets; of a frame in an inline array, its table
-unfoldable pub frame_piece : List ℕ → Option Cut
+unfoldable pub frame_piece : List ℕ → Option TextPart
 frame_piece text = if is_header text then up_to text (after_header text) else up_to text (after_value recursion_limit text)
 
 -- The spans of these pieces, each from an offset on.
-abbrev pub at_offset : (List ℕ → Option Cut) → ℕ → List ℕ → Option Span
+abbrev pub at_offset : (List ℕ → Option TextPart) → ℕ → List ℕ → Option Span
 at_offset piece at text = option_map (span_in text) (from_offset at text >>= piece)
 
 abbrev pub key_span : KeyPlace → List ℕ → Option Span

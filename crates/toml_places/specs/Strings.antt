@@ -69,17 +69,17 @@ after_content delim multi zero text = None
 after_content delim multi (suc n) text = next_step delim multi text >>= (λ s. after_step (after_content delim multi n) s.0 s.1)
 
 -- a piece of a text: the text from it on, and the text after it
-abbrev pub Cut : Type 0
-Cut = List ℕ × List ℕ
+abbrev pub TextPart : Type 0
+TextPart = List ℕ × List ℕ
 
 -- the k-th character of the rest of a string, of fewer than n steps
-abbrev pub char_step : (ℕ → List ℕ → Option Cut) → ℕ → List ℕ → Step → List ℕ → Option Cut
+abbrev pub char_step : (ℕ → List ℕ → Option TextPart) → ℕ → List ℕ → Step → List ℕ → Option TextPart
 char_step more k text s rest =
     if is_end s then None
     else if is_char s && k == 0 then Some (text, rest)
     else more (k - (if is_char s then 1 else 0)) rest
 
-unfoldable pub content_char : ℕ → Bool → ℕ → ℕ → List ℕ → Option Cut
+unfoldable pub content_char : ℕ → Bool → ℕ → ℕ → List ℕ → Option TextPart
 content_char delim multi zero k text = None
 content_char delim multi (suc n) k text = next_step delim multi text >>= (λ s. char_step (content_char delim multi n) k text s.0 s.1)
 
@@ -96,7 +96,7 @@ unfoldable pub after_string : List ℕ → Option (List ℕ)
 after_string text = after_content (first text) (is_multi text) (length text) (content text)
 
 -- its k-th character as it is written
-unfoldable pub string_char : ℕ → List ℕ → Option Cut
+unfoldable pub string_char : ℕ → List ℕ → Option TextPart
 string_char k text = if starts_string text then content_char (first text) (is_multi text) (length text) k (content text) else None
 
 -- after a part of a key

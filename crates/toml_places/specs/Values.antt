@@ -6,7 +6,7 @@ use Rattle.toml_parser.specs.Strings.{Key, starts_string, recursion_limit}
 use Rattle.toml_parser.specs.Numbers.{word_len}
 use Rattle.toml.specs.Parse.{after_element, key_equals}
 use Rattle.toml_places.specs.Steps.{◌>>=◌}
-use Rattle.toml_places.specs.Strings.{Cut, after_string, value_from}
+use Rattle.toml_places.specs.Strings.{TextPart, after_string, value_from}
 
 -- after a boolean, a number or a date-time, of whatever value
 unfoldable pub after_word : List ℕ → Option (List ℕ)
@@ -39,19 +39,19 @@ after_value (suc depth) text =
     else after_atom text
 
 -- the next element of an array as it is written, and the text from the one after it on
-unfoldable pub next_element : List ℕ → Option (Cut × List ℕ)
+unfoldable pub next_element : List ℕ → Option (TextPart × List ℕ)
 next_element text =
     let start = skip_blank text in
     if first start == right_bracket then None
     else after_value recursion_limit start >>= (λ rest. option_map (λ next. ((start, rest), next)) (after_element right_bracket rest))
 
 -- the k-th element from here on
-unfoldable pub element_from : ℕ → List ℕ → Option Cut
+unfoldable pub element_from : ℕ → List ℕ → Option TextPart
 element_from zero text = option_map (λ e. e.0) (next_element text)
 element_from (suc k) text = next_element text >>= (λ e. element_from k e.1)
 
 -- the k-th element of an array
-unfoldable pub element : ℕ → List ℕ → Option Cut
+unfoldable pub element : ℕ → List ℕ → Option TextPart
 element k text = if first text == left_bracket then element_from k (drop 1 text) else None
 
 -- a pair of an inline table: all parts of its key, and the text from it on

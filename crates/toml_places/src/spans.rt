@@ -105,10 +105,10 @@ fn after_pair(text: &str) -> Option<&str>
 }
 
 // A piece of a text: the text from it on, and the text after it.
-type Cut<'a> = (&'a str, &'a str);
+type TextPart<'a> = (&'a str, &'a str);
 
 #[tactic(auto, unfolding(crate::specs::Spans::key_piece))]
-fn key_piece(text: &str, part: usize) -> Option<Cut<'_>>
+fn key_piece(text: &str, part: usize) -> Option<TextPart<'_>>
     ensures value { option_map (λ p. (p.0.now, p.1.now)) result ≡ spec.key_piece part text.now }
     ensures within { IfSome result (λ p. (length p.0.now ≤ length text.now) × (length p.1.now ≤ length p.0.now)) }
 {
@@ -118,7 +118,7 @@ fn key_piece(text: &str, part: usize) -> Option<Cut<'_>>
 }
 
 #[tactic(auto, unfolding(crate::specs::Spans::value_or_key))]
-fn value_or_key(text: &str) -> Option<Cut<'_>>
+fn value_or_key(text: &str) -> Option<TextPart<'_>>
     ensures value { option_map (λ p. (p.0.now, p.1.now)) result ≡ spec.value_or_key text.now }
     ensures within { IfSome result (λ p. (length p.0.now ≤ length text.now) × (length p.1.now ≤ length p.0.now)) }
 {
@@ -131,7 +131,7 @@ fn value_or_key(text: &str) -> Option<Cut<'_>>
     Some((value, rest))
 }
 
-fn header_piece(text: &str) -> Option<Cut<'_>>
+fn header_piece(text: &str) -> Option<TextPart<'_>>
     ensures value { option_map (λ p. (p.0.now, p.1.now)) result ≡ spec.up_to text.now (spec.after_header text.now) }
     ensures within { IfSome result (λ p. (length p.0.now ≤ length text.now) × (length p.1.now ≤ length p.0.now)) }
 {
@@ -140,7 +140,7 @@ fn header_piece(text: &str) -> Option<Cut<'_>>
 }
 
 #[tactic(auto, unfolding(crate::specs::Spans::value_piece))]
-fn value_piece(text: &str, part: usize) -> Option<Cut<'_>>
+fn value_piece(text: &str, part: usize) -> Option<TextPart<'_>>
     ensures value { option_map (λ p. (p.0.now, p.1.now)) result ≡ spec.value_piece part text.now }
     ensures within { IfSome result (λ p. (length p.0.now ≤ length text.now) × (length p.1.now ≤ length p.0.now)) }
 {
@@ -152,7 +152,7 @@ fn value_piece(text: &str, part: usize) -> Option<Cut<'_>>
 }
 
 #[tactic(auto, unfolding(crate::specs::Spans::pair_piece))]
-fn pair_piece(text: &str, part: usize) -> Option<Cut<'_>>
+fn pair_piece(text: &str, part: usize) -> Option<TextPart<'_>>
     ensures value { option_map (λ p. (p.0.now, p.1.now)) result ≡ spec.pair_piece part text.now }
     ensures within { IfSome result (λ p. (length p.0.now ≤ length text.now) × (length p.1.now ≤ length p.0.now)) }
 {
@@ -165,7 +165,7 @@ fn pair_piece(text: &str, part: usize) -> Option<Cut<'_>>
 }
 
 #[tactic(auto, unfolding(crate::specs::Spans::frame_piece))]
-fn frame_piece(text: &str) -> Option<Cut<'_>>
+fn frame_piece(text: &str) -> Option<TextPart<'_>>
     ensures value { option_map (λ p. (p.0.now, p.1.now)) result ≡ spec.frame_piece text.now }
     ensures within { IfSome result (λ p. (length p.0.now ≤ length text.now) × (length p.1.now ≤ length p.0.now)) }
 {
