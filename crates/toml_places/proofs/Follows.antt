@@ -20,10 +20,10 @@ use Rattle.toml_places.specs.Values.{after_word, after_atom, after_member, after
 use Rattle.toml_places.specs.Places.{parts}
 use Rattle.toml_places.specs.Spans.{value_or_key}
 use Rattle.toml_places.specs.Skips.{sort_of}
-use Rattle.toml_places.specs.Loops.{array_header, pair, opening, whole_line, Expression}
+use Rattle.toml_places.specs.Loops.{array_header, pair, opening, whole_line, KeyLine}
 
 -- an expression of toml's, by its key and its kind
-abbrev pub line_of : Expression → Expression
+abbrev pub line_of : Expression → KeyLine
 line_of e = (e.0, sort_of e.1)
 
 part_follows : (text rest part : List ℕ) → simple_key text ≡ Some (part, rest) → after_part text ≡ Some rest
@@ -340,7 +340,7 @@ key_no_header text rest k h =
     ]
 
 -- the pair that a grammar reads under f, and the text that it leaves
-abbrev pub Line_of : Option (Expression × List ℕ) → Read Expression → Type 0
+abbrev pub Line_of : Option (Expression × List ℕ) → Read KeyLine → Type 0
 Line_of read left = (e : Expression) (rest : List ℕ) → read ≡ Some (e, rest) → left ≡ Some (line_of e, rest)
 
 array_follows : (text : List ℕ) → Line_of (option_and_then (λ k. option_map (λ rest. ((k.0, array_table), rest)) (after_byte 93 k.1)) (header_key text)) (array_header text)

@@ -16,7 +16,7 @@ use Rattle.toml_places.specs.declared.lines.Sort.TheVariants.{Pair, Table, Array
 use Rattle.toml_places.specs.declared.places.Places.{Places}
 use Rattle.toml_places.specs.Skips.{sort_of}
 use Rattle.toml_places.proofs.Follows.{line_of, line_follows}
-use Rattle.toml_places.specs.Loops.{whole_line, Expression, IsOpen, Walks}
+use Rattle.toml_places.specs.Loops.{whole_line, KeyLine, IsOpen, Walks}
 use Rattle.toml_places.specs.Places.{Mark, Section, frame_key, top, parts, is_frame, section_at, section_after, own_parts, mark_in, mark_of, next_section, marks_from, marks, Keeps}
 
 -- what is left of a text that is TOML: the marks so far, and those that the rest gives
@@ -106,7 +106,7 @@ walk_stops text p s rest w other none =
     none-some _ (sym none ∙ line_follows (skip_blank rest) r.e r.after r.is)
 
 -- what a line of the walk did
-pub record Wrote (text rest : List ℕ) (old new : Places) (s t : Section) (e : Expression) (after : List ℕ) : Type 0 where
+pub record Wrote (text rest : List ℕ) (old new : Places) (s t : Section) (e : KeyLine) (after : List ℕ) : Type 0 where
   pub shorter : length after < length rest
   pub section : t ≡ section_after s e.0 e.1
   pub keeps : (ms : List Mark) → Keeps old ms → Keeps new (ms ++ mark_in t (own_parts e.0 e.1) (length text - length (skip_blank rest), length (parts e.0)) ∷ [])
@@ -129,13 +129,13 @@ walk_on text old new s t rest w r other wrote =
       keeps = wrote.keeps w.done w.keeps;
     }
 
-pub walk_goes_on : (text : List ℕ) (old new : Places) (s t : Section) (rest : List ℕ) (e : Expression) (after : List ℕ) → Walked text old s rest → (length (skip_blank rest) == 0) ≡ false
+pub walk_goes_on : (text : List ℕ) (old new : Places) (s t : Section) (rest : List ℕ) (e : KeyLine) (after : List ℕ) → Walked text old s rest → (length (skip_blank rest) == 0) ≡ false
     → whole_line (skip_blank rest) ≡ Some (e, after) → Wrote text rest old new s t e after → Walked text new t after
 walk_goes_on text old new s t rest e after w other is wrote =
     let some : 0 < w.fuel = omega (arith, w.room) in
     let r = line_read w.fuel w.doc rest some other w.reads in
     let same : (e, after) ≡ (line_of r.e, r.after) = same_Some (e, after) (line_of r.e, r.after) (sym is ∙ line_follows (skip_blank rest) r.e r.after r.is) in
-    let P : Expression × List ℕ → Type 0 = λ q. Wrote text rest old new s t q.0 q.1 → Walked text new t q.1 in
+    let P : KeyLine × List ℕ → Type 0 = λ q. Wrote text rest old new s t q.0 q.1 → Walked text new t q.1 in
     subst P (sym same) (walk_on text old new s t rest w r other) wrote
 
 none_of : {A : Type 0} (o : Option A) → (IsSome o → ⊥) → o ≡ None

@@ -1,7 +1,7 @@
 -- Facts that hold between the turns of loops, and what functions that aren't exported say. No promise rests on them.
 use Rattle.toml_parser.specs.Reading.{key_view, path_view}
 use Rattle.toml_places.specs.Steps.{◌>>=◌}
-use Rattle.toml_places.specs.declared.lines.Expression as code_line
+use Rattle.toml_places.specs.declared.lines.KeyLine as code_line
 use Rattle.std.specs.Prelude.{ℕ, List, option_map, ◌==◌, if◌then◌else◌, ◌&&◌, drop, slice_index, Some, None, length, ◌≡◌, ◌<◌, true, Bool, false, ◌+◌, Result, MatchResult, IsSome}
 use Rattle.toml_parser.specs.Strings.{Key, recursion_limit}
 use Rattle.toml_places.specs.declared.lines.Sort.{Sort}
@@ -19,11 +19,11 @@ use Rattle.toml_parser.specs.declared.error.ParseError.TheVariants.{OutOfMemory}
 -- What the code has of expressions, inline tables and sections.
 
 -- the key of an expression, and its kind
-abbrev pub Expression : Type 0
-Expression = Key × Sort
+abbrev pub KeyLine : Type 0
+KeyLine = Key × Sort
 
 -- an expression of the code
-abbrev pub line_view : code_line.Expression → Expression
+abbrev pub line_view : code_line.KeyLine → KeyLine
 line_view e = (key_view e.key, e.sort)
 
 -- a pair of an inline table of the code, and what follows it
@@ -41,22 +41,22 @@ section_view frames s = record { frames = frames; in_frame = s.in_frame; path = 
 -- The text after an expression.
 
 -- a header in double brackets
-unfoldable pub array_header : List ℕ → Read Expression
+unfoldable pub array_header : List ℕ → Read KeyLine
 array_header text = header_key text >>= (λ k. option_map (λ rest. ((k.0, ArrayTable), rest)) (after_byte right_bracket k.1))
 
 -- a pair
-unfoldable pub pair : List ℕ → Read Expression
+unfoldable pub pair : List ℕ → Read KeyLine
 pair text = key_equals text >>= (λ k. option_map (λ rest. ((k.0, Pair), rest)) (after_value recursion_limit k.1))
 
 -- an expression
-unfoldable pub opening : List ℕ → Read Expression
+unfoldable pub opening : List ℕ → Read KeyLine
 opening text =
     if first text == left_bracket && slice_index text 1 == left_bracket then array_header (drop 2 text)
     else if first text == left_bracket then option_map (λ k. ((k.0, Table), k.1)) (header_key (drop 1 text))
     else pair text
 
 -- an expression that has its line to itself
-unfoldable pub whole_line : List ℕ → Read Expression
+unfoldable pub whole_line : List ℕ → Read KeyLine
 whole_line text = opening text >>= (λ e. if ends_line (skip_ws e.1) then Some e else None)
 
 -- The walk over a text's expressions.

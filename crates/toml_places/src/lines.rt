@@ -22,7 +22,7 @@ pub enum Sort {
 
 // The key of an expression, and what it is.
 #[derive(Drop)]
-pub struct Expression {
+pub struct KeyLine {
     pub key: Key,
     pub sort: Sort,
 }
@@ -42,7 +42,7 @@ pub fn skip_bom(text: &str) -> &str
 
 // An expression that has its line to itself.
 #[tactic(auto, unfolding(crate::specs::Loops::whole_line))]
-pub fn read_line(alloc: Global, text: &str) -> Result<(Expression, &str), ParseError>
+pub fn read_line(alloc: Global, text: &str) -> Result<(KeyLine, &str), ParseError>
     ensures value { Reads line_view result (loops.whole_line text.now) }
     ensures shorter { Shortens text.now result }
 {
@@ -56,7 +56,7 @@ pub fn read_line(alloc: Global, text: &str) -> Result<(Expression, &str), ParseE
 }
 
 #[tactic(auto, unfolding(crate::specs::Loops::opening))]
-fn opening(alloc: Global, text: &str) -> Result<(Expression, &str), ParseError>
+fn opening(alloc: Global, text: &str) -> Result<(KeyLine, &str), ParseError>
     ensures value { Reads line_view result (loops.opening text.now) }
     ensures shorter { Shortens text.now result }
 {
@@ -67,12 +67,12 @@ fn opening(alloc: Global, text: &str) -> Result<(Expression, &str), ParseError>
     } else {
         let (key, rest) = header_key(alloc, skip(text, 1))?;
         let sort = Sort::Table;
-        Ok((Expression { key, sort }, rest))
+        Ok((KeyLine { key, sort }, rest))
     }
 }
 
 #[tactic(auto, unfolding(crate::specs::Loops::pair))]
-fn pair(alloc: Global, text: &str) -> Result<(Expression, &str), ParseError>
+fn pair(alloc: Global, text: &str) -> Result<(KeyLine, &str), ParseError>
     ensures value { Reads line_view result (loops.pair text.now) }
     ensures shorter { Shortens text.now result }
 {
@@ -80,7 +80,7 @@ fn pair(alloc: Global, text: &str) -> Result<(Expression, &str), ParseError>
     match after_value(at_value, RECURSION_LIMIT) {
         Some(rest) => {
             let sort = Sort::Pair;
-            Ok((Expression { key, sort }, rest))
+            Ok((KeyLine { key, sort }, rest))
         }
         None => Err(ParseError::at(ErrorKind::Value, at_value)),
     }
@@ -88,7 +88,7 @@ fn pair(alloc: Global, text: &str) -> Result<(Expression, &str), ParseError>
 
 // A header in double brackets, after its opening brackets.
 #[tactic(auto, unfolding(crate::specs::Loops::array_header))]
-fn array_header(alloc: Global, text: &str) -> Result<(Expression, &str), ParseError>
+fn array_header(alloc: Global, text: &str) -> Result<(KeyLine, &str), ParseError>
     ensures value { Reads line_view result (loops.array_header text.now) }
     ensures shorter { Shortens text.now result }
 {
@@ -97,7 +97,7 @@ fn array_header(alloc: Global, text: &str) -> Result<(Expression, &str), ParseEr
         return Err(ParseError::at(ErrorKind::UnclosedArrayTable, rest));
     }
     let sort = Sort::ArrayTable;
-    Ok((Expression { key, sort }, skip(rest, 1)))
+    Ok((KeyLine { key, sort }, skip(rest, 1)))
 }
 
 // The key of a header and its first closing bracket.

@@ -8,7 +8,7 @@ ghost use Rattle.toml_places.specs.Places as spec;
 ghost use Rattle.toml_places.specs.Places.{Keeps, is_key_part, routes_key, first_at, first_spot, header_place, key_place, route_place, kept_key, kept_route};
 ghost use Rattle.toml_places.specs.Loops.{frame_count, section_view, frames_after, IsOpen, Walks};
 
-use crate::lines::{Expression, Sort, read_line, skip_bom};
+use crate::lines::{KeyLine, Sort, read_line, skip_bom};
 use crate::spans::KeyPlace;
 use crate::tables::{KeyPlaces, TablePlaces, WrittenKey, note, part, parts_of};
 use std::alloc::{AllocError, Global};
@@ -131,7 +131,7 @@ impl Places {
         &mut self,
         alloc: Global,
         section: &mut Section,
-        line: Expression,
+        line: KeyLine,
         at: usize,
     ) -> Result<(), AllocError>
         requires { IsOpen (section_view (frame_count self.old) section.old) }
@@ -142,7 +142,7 @@ impl Places {
         ensures section { OnOk result (section_view (frame_count self.new) section.new
             ≡ spec.section_after (section_view (frame_count self.old) section.old) (key_view line.key) line.sort) }
     {
-        let Expression { key, sort } = line;
+        let KeyLine { key, sort } = line;
         let path = parts_of(key)?;
         let parts = path.len();
         let written = WrittenKey { at, parts };
