@@ -28,7 +28,7 @@ use Rattle.fault_scripts.specs.declared.fault.FaultKind.TheVariants as fault_kin
 use Rattle.toml.specs.Data.{Members}
 use Rattle.toml_places.specs.declared.spans.Span.{Span}
 use Rattle.toml_places.specs.declared.spans.KeyPlace.{KeyPlace}
-use Rattle.toml_places.specs.Strings.{Cut}
+use Rattle.toml_places.specs.Strings.{TextPart}
 use Rattle.toml_places.specs.Spans.{at_offset, key_piece, value_piece, pair_piece, frame_piece, key_span, value_span, pair_span, element_span, char_span}
 use Rattle.toml_places.specs.Strings.{string_char}
 use Rattle.toml_places.specs.Values.{element}
@@ -84,7 +84,7 @@ later_lies text None b x y = y
 later_lies text (Some s) None x y = x
 later_lies text (Some s) (Some r) x y = if_lies text (nat_lt s.begin r.begin) (Some r) (Some s) y x
 
-piece_lies : (piece : List ℕ → Option Cut) → Stand piece → (text : List ℕ) (at : ℕ) → Lies text (at_offset piece at text)
+piece_lies : (piece : List ℕ → Option TextPart) → Stand piece → (text : List ℕ) (at : ℕ) → Lies text (at_offset piece at text)
 piece_lies piece stand text at = on (at_offset piece at text) refl where
   on : (o : Option Span) → at_offset piece at text ≡ o → Lies text o
   on None e = tt
