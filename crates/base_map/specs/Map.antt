@@ -21,12 +21,12 @@ pub record AreReached (caller : List ℕ) (base : BaseView) (ids : List Id) : Ty
   pub each : (id : Id) → IsReached caller base id ↔ (has_id ids id ≡ true)
 
 -- what comes before all nodes
-abbrev pub head : List ℕ
-head = codes "digraph {\n  rankdir=LR\n  newrank=true\n  node [shape=box]\n"
+abbrev pub map_head : List ℕ
+map_head = codes "digraph {\n  rankdir=LR\n  newrank=true\n  node [shape=box]\n"
 
 -- the head, the nodes of frames by pages, the nodes of what the base lacks, the edges, and the end
 abbrev pub lines_of : MapView → List Frame → List ℕ
-lines_of m frames = head ++ cluster_lines m None frames ++ lost_lines m frames ++ flat_map (edge_lines_of m) frames ++ codes "}\n"
+lines_of m frames = map_head ++ cluster_lines m None frames ++ lost_lines m frames ++ flat_map (edge_lines_of m) frames ++ codes "}\n"
 
 -- of the frames that are shown
 abbrev pub map_lines : MapView → List ℕ

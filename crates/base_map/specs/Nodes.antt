@@ -42,8 +42,8 @@ run_in text = unwrap_or (find is_title (slice_split ends_run text)) []
 abbrev pub title_run : List ℕ → List ℕ
 title_run body = run_in (without_escapes false body)
 
-abbrev pub title : List ℕ → List ℕ
-title body = shortened (title_run body)
+abbrev pub node_title : List ℕ → List ℕ
+node_title body = shortened (title_run body)
 
 -- what a caller sees of a code, as a label of DOT has it: a quote after a backslash, `&` as its reference. A terminal shows no backslash
 abbrev pub escaped_code : ℕ → List ℕ
@@ -65,7 +65,7 @@ title_line (c ∷ cs) = codes "\\n" ++ dot_escaped (c ∷ cs)
 
 -- the id, the title if there is one, and the price, each in a line
 abbrev pub label : Frame → List ℕ
-label f = frame_text f.id ++ title_line (title f.body) ++ codes "\\nPRICE " ++ decimal f.price
+label f = frame_text f.id ++ title_line (node_title f.body) ++ codes "\\nPRICE " ++ decimal f.price
 
 -- the entry frame has two lines round it
 abbrev pub entry_mark : MapView → Frame → List ℕ
@@ -79,11 +79,11 @@ closed_mark m f = if is_open m.caller f then [] else codes " color=red"
 abbrev pub unreached_mark : MapView → Frame → List ℕ
 unreached_mark m f = if has_id m.reached f.id then [] else codes " style=dashed"
 
-abbrev pub marks : MapView → Frame → List ℕ
-marks m f = entry_mark m f ++ closed_mark m f ++ unreached_mark m f
+abbrev pub node_marks : MapView → Frame → List ℕ
+node_marks m f = entry_mark m f ++ closed_mark m f ++ unreached_mark m f
 
 abbrev pub node_line : MapView → Frame → List ℕ
-node_line m f = codes "    \"" ++ frame_text f.id ++ codes "\" [label=\"" ++ label f ++ codes "\"" ++ marks m f ++ codes "]\n"
+node_line m f = codes "    \"" ++ frame_text f.id ++ codes "\" [label=\"" ++ label f ++ codes "\"" ++ node_marks m f ++ codes "]\n"
 
 -- the cluster of a page begins
 abbrev pub opened : ℕ → List ℕ

@@ -58,7 +58,7 @@ impl<'a> MapDrawing<'a> {
     // How a frame's node is drawn: the entry frame has two lines round it, what is closed is red, what isn't reached is
     // dashed.
     fn push_marks(&self, out: &mut Vec<u8>, frame: &Frame) -> Result<(), AllocError>
-        ensures { OnOk result (out.new.items ≡ out.old.items ++ spec.marks self.now frame.now) }
+        ensures { OnOk result (out.new.items ≡ out.old.items ++ spec.node_marks self.now frame.now) }
     {
         if frame.id == self.base.entry_frame() {
             out.extend_from_slice(b" peripheries=2")?;

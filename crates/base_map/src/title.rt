@@ -88,7 +88,7 @@ fn push_escaped(out: &mut Vec<u8>, text: &[u8]) -> Result<(), AllocError>
 
 // Writes a body's title after a text, as a line of a label; nothing if it has none.
 pub fn push_title(alloc: Global, out: &mut Vec<u8>, body: &[u8]) -> Result<(), AllocError>
-    ensures { OnOk result (out.new.items ≡ out.old.items ++ spec.title_line (spec.title body.now)) }
+    ensures { OnOk result (out.new.items ≡ out.old.items ++ spec.title_line (spec.node_title body.now)) }
 {
     let run = title_run(alloc, body)?;
     let title = shortened(run.as_slice());

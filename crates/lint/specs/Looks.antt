@@ -5,7 +5,7 @@ use Rattle.page_ids.specs.Ids.{Id}
 use Rattle.frame_records.specs.declared.frame.Frame.{Frame}
 use Rattle.terminal_codes.specs.Screen.{Screen, CaretView, run}
 use Rattle.terminal_codes.specs.Writes.{caret_step}
-use Rattle.screens.specs.Looks.{row_of, hides_text}
+use Rattle.screens.specs.Looks.{codes_of_row, hides_text}
 use Rattle.lint_words.specs.declared.warning_words.LineEnd.{LineEnd}
 use Rattle.lint_words.specs.declared.warning_words.LineEnd.TheVariants.{Feed, Return}
 use Rattle.lint.specs.declared.looks.Look.{Look}
@@ -32,7 +32,7 @@ hidden_if id cells r = if hides_text cells r then (id, Hidden r) ∷ [] else []
 
 -- a row with the frame, if it holds \u00
 abbrev pub escape_if : Id → List ℕ → ℕ → List (Id × Look)
-escape_if id cells r = if holds_escape (row_of cells r) then (id, Escape r) ∷ [] else []
+escape_if id cells r = if holds_escape (codes_of_row cells r) then (id, Escape r) ∷ [] else []
 
 abbrev pub row_warnings : Id → List ℕ → ℕ → List (Id × Look)
 row_warnings id cells r = hidden_if id cells r ++ escape_if id cells r

@@ -6,7 +6,8 @@ use Rattle.page_ids.specs.Ids.{Id, frame_text}
 use Rattle.page_ids.specs.Texts.{hex_digit}
 use Rattle.screens.specs.Looks.{looks}
 use Rattle.screen_files.specs.Keys.{shows_key}
-use Rattle.screen_files.specs.Rows.{trimmed, rows_of}
+use Rattle.screens.specs.Text.{trimmed}
+use Rattle.screen_files.specs.Rows.{rows_of}
 use Rattle.screen_files.specs.declared.frame.ScreenFrame.{ScreenFrame}
 
 -- A row.
@@ -57,9 +58,9 @@ keys_comment keys = if length keys == 0 then [] else keys_label ++ keys
 
 -- The frame.
 
-abbrev pub price_line : Option ℕ → List ℕ
-price_line None = []
-price_line (Some price) = (codes "price = " ++ decimal price) ++ codes "\n"
+abbrev pub price_text_line : Option ℕ → List ℕ
+price_text_line None = []
+price_text_line (Some price) = (codes "price = " ++ decimal price) ++ codes "\n"
 
 abbrev pub next_line : Bool → List ℕ
 next_line true = codes "next = true\n"
@@ -76,7 +77,7 @@ id_line id = (codes "id = \"" ++ frame_text id) ++ codes "\"\n"
 
 -- what comes before the routes
 abbrev pub lines_before_routes : ScreenFrame → Bool → List ℕ
-lines_before_routes f next = (((codes "\n[[frame]]\n" ++ row_comment f.codes 0) ++ id_line f.id) ++ price_line f.price) ++ next_line next
+lines_before_routes f next = (((codes "\n[[frame]]\n" ++ row_comment f.codes 0) ++ id_line f.id) ++ price_text_line f.price) ++ next_line next
 
 -- the frame; `next` if `#` leads on
 abbrev pub frame_lines : ScreenFrame → Bool → List ℕ

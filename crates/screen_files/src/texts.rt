@@ -171,7 +171,7 @@ fn push_id_line(out: &mut Vec<u8>, id: FrameId) -> Result<(), AllocError>
 
 #[tactic(auto, using(std::proofs::Common::append_assoc))]
 fn push_price(out: &mut Vec<u8>, price: Option<Pence>) -> Result<(), AllocError>
-    ensures { OnOk result (out.new.items ≡ out.old.items ++ spec.price_line price) }
+    ensures { OnOk result (out.new.items ≡ out.old.items ++ spec.price_text_line price) }
 {
     let Some(price) = price else {
         return Ok(());

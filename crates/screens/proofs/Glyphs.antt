@@ -13,7 +13,7 @@ use Rattle.screens.specs.declared.mosaic.Mosaic.{Mosaic}
 use Rattle.screens.specs.declared.mosaic.Sextants.{Sextants}
 use Rattle.screens.specs.declared.row.State.{State}
 use Rattle.screens.specs.Table.{colour_of, block, is_mosaic, six, mosaic_of, six_of, start, at, after, seen, with_double, with_mosaics, glyph_of, look_of}
-use Rattle.screens.specs.Looks.{step, row_looks, below_of, below, can_stretch, row_of, is_covered, own_looks, looks_at}
+use Rattle.screens.specs.Looks.{row_step, row_looks, below_of, below, can_stretch, codes_of_row, is_covered, own_looks, looks_at}
 use Rattle.screens.specs.Laws.{IsOfTables}
 
 -- the six bits of a mosaic, if there is one
@@ -66,7 +66,7 @@ holds_after s c h =
     (λ e. cond_both (c == 0x8D) _ _ Holds (λ e. cond_both s.can_stretch _ _ Holds (λ f. holds_double true s h) (λ e. h))
     (λ e. cond_both (c == 0x9F) _ _ Holds (λ e. h) (λ e. h)))))
 
-holds_step : (s : State) (c : ℕ) → Holds s → Holds (step s c)
+holds_step : (s : State) (c : ℕ) → Holds s → Holds (row_step s c)
 holds_step s c h = holds_after (seen (at s c) c) c (holds_seen (at s c) c (holds_at s c h))
 
 -- The glyphs.
@@ -88,7 +88,7 @@ IsFine a = IsOfTables a.glyph
 
 fine_row : (s : State) (cs : List ℕ) → Holds s → P.All IsFine (row_looks s cs)
 fine_row s [] h = All-nil IsFine
-fine_row s (c ∷ cs) h = All-cons IsFine (look_of (at s c) c) (row_looks (step s c) cs) (of_glyph (at s c) c (holds_at s c h)) (fine_row (step s c) cs (holds_step s c h))
+fine_row s (c ∷ cs) h = All-cons IsFine (look_of (at s c) c) (row_looks (row_step s c) cs) (of_glyph (at s c) c (holds_at s c h)) (fine_row (row_step s c) cs (holds_step s c h))
 
 fine_below_of : (h : Height) (a : Look) → IsFine a → IsFine (below_of h a)
 fine_below_of Upper a p = p
@@ -102,4 +102,4 @@ fine_below (a ∷ row) h =
 
 pub glyphs_are_of_tables : (cells : List ℕ) (r : ℕ) → P.All (λ a. IsOfTables a.glyph) (looks_at cells r)
 glyphs_are_of_tables cells r =
-    cond_both (is_covered cells r) _ _ (P.All IsFine) (λ e. fine_below (own_looks cells (r - 1)) (fine_row (start (can_stretch (r - 1))) (row_of cells (r - 1)) tt)) (λ e. fine_row (start (can_stretch r)) (row_of cells r) tt)
+    cond_both (is_covered cells r) _ _ (P.All IsFine) (λ e. fine_below (own_looks cells (r - 1)) (fine_row (start (can_stretch (r - 1))) (codes_of_row cells (r - 1)) tt)) (λ e. fine_row (start (can_stretch r)) (codes_of_row cells r) tt)

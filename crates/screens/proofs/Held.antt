@@ -11,7 +11,7 @@ use Rattle.screens.specs.declared.look.Height.TheVariants.{Single, Upper, Lower}
 use Rattle.screens.specs.declared.look.Look.{Look}
 use Rattle.screens.specs.declared.row.State.{State}
 use Rattle.screens.specs.Table.{start, is_mosaic, with_double, with_mosaics, at, after, seen, look_of}
-use Rattle.screens.specs.Looks.{step, row_looks, below_of, below, row_of, can_stretch, has_double, is_covered, own_looks}
+use Rattle.screens.specs.Looks.{row_step, row_looks, below_of, below, codes_of_row, can_stretch, has_double, is_covered, own_looks}
 use Rattle.screens.specs.Laws.{bare, ChangesGlyphs}
 use Rattle.screens.proofs.Plain.{plain_cell, plain_step}
 
@@ -58,14 +58,14 @@ same_choice false s = refl
 free_seen : (s : State) (c : ℕ) → free (seen s c) ≡ free s
 free_seen s c = choice (s.mosaics && is_mosaic c) _ _ s s refl refl ∙ same_choice (s.mosaics && is_mosaic c) s
 
-free_step : (s : State) (c : ℕ) → free (step s c) ≡ free (step (free s) c)
+free_step : (s : State) (c : ℕ) → free (row_step s c) ≡ free (row_step (free s) c)
 free_step s c =
     free_after (seen (at s c) c) c
     ∙ (ap (λ (t : State). free (after t c)) (free_seen (at s c) c ∙ (free_at s c ∙ sym (free_seen (at (free s) c) c)))
     ∙ sym (free_after (seen (at (free s) c) c) c))
 
-alike_step : (s t : State) (c : ℕ) → free s ≡ free t → free (step s c) ≡ free (step t c)
-alike_step s t c e = free_step s c ∙ (ap (λ (u : State). free (step u c)) e ∙ sym (free_step t c))
+alike_step : (s t : State) (c : ℕ) → free s ≡ free t → free (row_step s c) ≡ free (row_step t c)
+alike_step s t c e = free_step s c ∙ (ap (λ (u : State). free (row_step u c)) e ∙ sym (free_step t c))
 
 bare_cell : (s t : State) (c : ℕ) → free s ≡ free t → bare (look_of (at s c) c) ≡ bare (look_of (at t c) c)
 bare_cell s t c e =
@@ -75,13 +75,13 @@ bare_cell s t c e =
 bare_rows : (s t : State) (cs : List ℕ) → free s ≡ free t → map bare (row_looks s cs) ≡ map bare (row_looks t cs)
 bare_rows s t [] e = refl
 bare_rows s t (c ∷ cs) e =
-    ap (λ (a : Look). a ∷ map bare (row_looks (step s c) cs)) (bare_cell s t c e)
-    ∙ ap (λ (later : List Look). bare (look_of (at t c) c) ∷ later) (bare_rows (step s c) (step t c) cs (alike_step s t c e))
+    ap (λ (a : Look). a ∷ map bare (row_looks (row_step s c) cs)) (bare_cell s t c e)
+    ∙ ap (λ (later : List Look). bare (look_of (at t c) c) ∷ later) (bare_rows (row_step s c) (row_step t c) cs (alike_step s t c e))
 
-plain_alike : (s : State) (c : ℕ) → c < 0x80 → free (step s c) ≡ free s
+plain_alike : (s : State) (c : ℕ) → c < 0x80 → free (row_step s c) ≡ free s
 plain_alike s c lt = ap free (plain_step s c lt) ∙ free_seen s c
 
-both_plain : (s : State) (c d : ℕ) → c < 0x80 → d < 0x80 → free (step s c) ≡ free (step s d)
+both_plain : (s : State) (c d : ℕ) → c < 0x80 → d < 0x80 → free (row_step s c) ≡ free (row_step s d)
 both_plain s c d lc ld = plain_alike s c lc ∙ sym (plain_alike s d ld)
 
 bare_plain : (s : State) (c : ℕ) → c < 0x80 → bare (look_of (at s c) c) ≡ bare (look_of s 0)
@@ -99,32 +99,32 @@ glyph_alike s t c lt e =
 looks_alike : (f : Look → Look) (s t : State) (cs : List ℕ) (k : ℕ) (a : Look) → free s ≡ free t → get_or cs k 0 < 0x80 → get_or (map f (row_looks s cs)) k a ≡ get_or (map f (row_looks t cs)) k a
 looks_alike f s t [] k a e h = refl
 looks_alike f s t (c ∷ cs) zero a e h = ap f (glyph_alike s t c h e)
-looks_alike f s t (c ∷ cs) (suc k) a e h = looks_alike f (step s c) (step t c) cs k a (alike_step s t c e) h
+looks_alike f s t (c ∷ cs) (suc k) a e h = looks_alike f (row_step s c) (row_step t c) cs k a (alike_step s t c e) h
 
 -- One row with another character at i.
 
 set_bare : (s : State) (cs : List ℕ) (i d : ℕ) → get_or cs i 0 < 0x80 → d < 0x80 → map bare (row_looks s (set cs i d)) ≡ map bare (row_looks s cs)
 set_bare s [] i d lc ld = refl
 set_bare s (c ∷ cs) zero d lc ld =
-    ap (λ (a : Look). a ∷ map bare (row_looks (step s d) cs)) (bare_plain s d ld ∙ sym (bare_plain s c lc))
-    ∙ ap (λ (later : List Look). bare (look_of (at s c) c) ∷ later) (bare_rows (step s d) (step s c) cs (both_plain s d c ld lc))
+    ap (λ (a : Look). a ∷ map bare (row_looks (row_step s d) cs)) (bare_plain s d ld ∙ sym (bare_plain s c lc))
+    ∙ ap (λ (later : List Look). bare (look_of (at s c) c) ∷ later) (bare_rows (row_step s d) (row_step s c) cs (both_plain s d c ld lc))
 set_bare s (c ∷ cs) (suc i) d lc ld =
-    ap (λ (later : List Look). bare (look_of (at s c) c) ∷ later) (set_bare (step s c) cs i d lc ld)
+    ap (λ (later : List Look). bare (look_of (at s c) c) ∷ later) (set_bare (row_step s c) cs i d lc ld)
 
 set_looks : (f : Look → Look) (s : State) (cs : List ℕ) (i d k : ℕ) (a : Look) → get_or cs i 0 < 0x80 → d < 0x80 → k ≢ i → get_or cs k 0 < 0x80 → get_or (map f (row_looks s (set cs i d))) k a ≡ get_or (map f (row_looks s cs)) k a
 set_looks f s [] i d k a lc ld n h = refl
 set_looks f s (c ∷ cs) zero d zero a lc ld n h = absurd (n refl)
-set_looks f s (c ∷ cs) zero d (suc k) a lc ld n h = looks_alike f (step s d) (step s c) cs k a (both_plain s d c ld lc) h
+set_looks f s (c ∷ cs) zero d (suc k) a lc ld n h = looks_alike f (row_step s d) (row_step s c) cs k a (both_plain s d c ld lc) h
 set_looks f s (c ∷ cs) (suc i) d zero a lc ld n h = refl
-set_looks f s (c ∷ cs) (suc i) d (suc k) a lc ld n h = set_looks f (step s c) cs i d k a lc ld (λ e. n (ap suc e)) h
+set_looks f s (c ∷ cs) (suc i) d (suc k) a lc ld n h = set_looks f (row_step s c) cs i d k a lc ld (λ e. n (ap suc e)) h
 
 -- A screen with another character at p.
 
 -- row r is as it was, or has the other character in its place
 abbrev RowSet : List ℕ → ℕ → ℕ → ℕ → Type 0
 RowSet cells p d r =
-    (row_of (set cells p d) r ≡ row_of cells r)
-    ⊎ ((i : ℕ) × (p ≡ 40 * r + i) × (i < 40) × (row_of (set cells p d) r ≡ set (row_of cells r) i d))
+    (codes_of_row (set cells p d) r ≡ codes_of_row cells r)
+    ⊎ ((i : ℕ) × (p ≡ 40 * r + i) × (i < 40) × (codes_of_row (set cells p d) r ≡ set (codes_of_row cells r) i d))
 
 row_set_from : (cells : List ℕ) (d r i : ℕ) → RowSet cells (40 * r + i) d r
 row_set_from cells d r i =
@@ -144,7 +144,7 @@ row_set cells p d r =
     ]
 
 -- the code at column k of row r
-code_at : (cells : List ℕ) (r k : ℕ) → k < 40 → get_or (row_of cells r) k 0 ≡ get_or cells (40 * r + k) 0
+code_at : (cells : List ℕ) (r k : ℕ) → k < 40 → get_or (codes_of_row cells r) k 0 ≡ get_or cells (40 * r + k) 0
 code_at cells r k lt = get_or-take 40 (drop (40 * r) cells) k 0 lt ∙ get_or-drop (40 * r) cells k 0
 
 any_set : (cs : List ℕ) (i d : ℕ) → get_or cs i 0 < 0x80 → d < 0x80 → list_any (λ c. c == 0x8D) (set cs i d) ≡ list_any (λ c. c == 0x8D) cs
@@ -160,9 +160,9 @@ double_set cells p d r lc ld =
     elim (row_set cells p d r) [
       | inl e ↦ ap (λ (cs : List ℕ). can_stretch r && list_any (λ c. c == 0x8D) cs) e
       | inr w ↦
-          let low : get_or (row_of cells r) w.0 0 < 0x80 = subst (λ (k : ℕ). k < 0x80) (ap (λ (q : ℕ). get_or cells q 0) w.1 ∙ sym (code_at cells r w.0 w.2)) lc in
+          let low : get_or (codes_of_row cells r) w.0 0 < 0x80 = subst (λ (k : ℕ). k < 0x80) (ap (λ (q : ℕ). get_or cells q 0) w.1 ∙ sym (code_at cells r w.0 w.2)) lc in
           ap (λ (cs : List ℕ). can_stretch r && list_any (λ c. c == 0x8D) cs) w.3
-          ∙ ap (λ (b : Bool). can_stretch r && b) (any_set (row_of cells r) w.0 d low ld)
+          ∙ ap (λ (b : Bool). can_stretch r && b) (any_set (codes_of_row cells r) w.0 d low ld)
     ]
 
 covered_set : (cells : List ℕ) (p d r : ℕ) → get_or cells p 0 < 0x80 → d < 0x80 → is_covered (set cells p d) r ≡ is_covered cells r
@@ -176,8 +176,8 @@ own_bare cells p d r lc ld =
     elim (row_set cells p d r) [
       | inl e ↦ ap (λ (cs : List ℕ). map bare (row_looks (start (can_stretch r)) cs)) e
       | inr w ↦
-          let low : get_or (row_of cells r) w.0 0 < 0x80 = subst (λ (k : ℕ). k < 0x80) (ap (λ (q : ℕ). get_or cells q 0) w.1 ∙ sym (code_at cells r w.0 w.2)) lc in
-          ap (λ (cs : List ℕ). map bare (row_looks (start (can_stretch r)) cs)) w.3 ∙ set_bare (start (can_stretch r)) (row_of cells r) w.0 d low ld
+          let low : get_or (codes_of_row cells r) w.0 0 < 0x80 = subst (λ (k : ℕ). k < 0x80) (ap (λ (q : ℕ). get_or cells q 0) w.1 ∙ sym (code_at cells r w.0 w.2)) lc in
+          ap (λ (cs : List ℕ). map bare (row_looks (start (can_stretch r)) cs)) w.3 ∙ set_bare (start (can_stretch r)) (codes_of_row cells r) w.0 d low ld
     ]
 
 own_same : (f : Look → Look) (cells : List ℕ) (p d r k : ℕ) (a : Look) → get_or cells p 0 < 0x80 → d < 0x80 → k < 40 → 40 * r + k ≢ p → get_or cells (40 * r + k) 0 < 0x80 → get_or (map f (own_looks (set cells p d) r)) k a ≡ get_or (map f (own_looks cells r)) k a
@@ -185,10 +185,10 @@ own_same f cells p d r k a lc ld lt n h =
     elim (row_set cells p d r) [
       | inl e ↦ ap (λ (cs : List ℕ). get_or (map f (row_looks (start (can_stretch r)) cs)) k a) e
       | inr w ↦
-          let low : get_or (row_of cells r) w.0 0 < 0x80 = subst (λ (c : ℕ). c < 0x80) (ap (λ (q : ℕ). get_or cells q 0) w.1 ∙ sym (code_at cells r w.0 w.2)) lc in
-          let here : get_or (row_of cells r) k 0 < 0x80 = subst (λ (c : ℕ). c < 0x80) (sym (code_at cells r k lt)) h in
+          let low : get_or (codes_of_row cells r) w.0 0 < 0x80 = subst (λ (c : ℕ). c < 0x80) (ap (λ (q : ℕ). get_or cells q 0) w.1 ∙ sym (code_at cells r w.0 w.2)) lc in
+          let here : get_or (codes_of_row cells r) k 0 < 0x80 = subst (λ (c : ℕ). c < 0x80) (sym (code_at cells r k lt)) h in
           let other : k ≢ w.0 = λ e. n (ap (λ (q : ℕ). 40 * r + q) e ∙ sym w.1) in
-          ap (λ (cs : List ℕ). get_or (map f (row_looks (start (can_stretch r)) cs)) k a) w.3 ∙ set_looks f (start (can_stretch r)) (row_of cells r) w.0 d k a low ld other here
+          ap (λ (cs : List ℕ). get_or (map f (row_looks (start (can_stretch r)) cs)) k a) w.3 ∙ set_looks f (start (can_stretch r)) (codes_of_row cells r) w.0 d k a low ld other here
     ]
 
 -- Lower halves.

@@ -9,7 +9,7 @@ use Rattle.screens.specs.declared.writing.Writing.TheVariants.{Markup}
 use Rattle.screens.specs.Writing.{written}
 use Rattle.screens.specs.Text.{seen_char}
 use Rattle.screens.specs.Mosaics.{mosaics_path}
-use Rattle.screens.specs.Svg.{Piece, piece, piece_bytes, markup, newline, corner, extent, fill, flash_begin, group_end, ground, mosaics, letters_tag, letters, svg_begin, title, blocks_begin, texts_begin, touched, foot}
+use Rattle.screens.specs.Svg.{Piece, piece, piece_bytes, markup, newline, corner, svg_extent, fill, flash_begin, group_end, ground, mosaics, letters_tag, letters, svg_begin, svg_title, blocks_begin, texts_begin, touch_mark, svg_foot}
 
 pub markup_append : (ps qs : List Piece) → markup (ps ++ qs) ≡ markup ps ++ markup qs
 unfolding markup
@@ -59,17 +59,17 @@ pub texts_begin_bytes : codes "<g font-family=\"DejaVu Sans Mono, Liberation Mon
 unfolding texts_begin
 texts_begin_bytes = sym (line_bytes (codes "g font-family=\"DejaVu Sans Mono, Liberation Mono, Consolas, Menlo, monospace\" font-size=\"20\""))
 
-pub foot_bytes : markup foot ≡ codes "</svg>\n"
-unfolding foot
+pub foot_bytes : markup svg_foot ≡ codes "</svg>\n"
+unfolding svg_foot
 foot_bytes = line_bytes (codes "/svg")
 
 -- a tag that ends in a slash
 closed_bytes : (front last : List ℕ) → markup (piece (front ++ last) newline ∷ []) ≡ codes "<" ++ front ++ (last ++ codes ">\n")
 closed_bytes front last = line_bytes (front ++ last) ∙ ap (λ (bs : List ℕ). codes "<" ++ bs) (append_assoc front last (codes ">\n"))
 
-pub ground_bytes : (r c : ℕ) (run : List Look) (i : Ink) → markup (ground r c run i) ≡ codes "<rect" ++ corner (12 * c) (20 * r) ++ extent (length run) ++ fill i.colour ++ codes "/>\n"
+pub ground_bytes : (r c : ℕ) (run : List Look) (i : Ink) → markup (ground r c run i) ≡ codes "<rect" ++ corner (12 * c) (20 * r) ++ svg_extent (length run) ++ fill i.colour ++ codes "/>\n"
 unfolding ground
-ground_bytes r c run i = closed_bytes (codes "rect" ++ corner (12 * c) (20 * r) ++ extent (length run) ++ fill i.colour) (codes "/")
+ground_bytes r c run i = closed_bytes (codes "rect" ++ corner (12 * c) (20 * r) ++ svg_extent (length run) ++ fill i.colour) (codes "/")
 
 pub mosaics_bytes : (r c : ℕ) (run : List Look) (i : Ink) → markup (mosaics r c run i) ≡ codes "<path" ++ fill i.colour ++ codes " d=\"" ++ mosaics_path (12 * c) (20 * r) run ++ codes "\"/>\n"
 unfolding mosaics
@@ -86,14 +86,14 @@ pub letters_bytes : (r c : ℕ) (run : List Look) (i : Ink) → markup (letters 
 unfolding letters
 letters_bytes r c run i = element_bytes (letters_tag r c (length run) i) (map seen_char run) (codes "/text")
 
-pub title_bytes : (id : Id) → markup (title id) ≡ codes "<title>" ++ written Markup (frame_text id) ++ codes "</title>\n"
-unfolding title
-title_bytes id = element_bytes (codes "title") (frame_text id) (codes "/title")
+pub title_bytes : (id : Id) → markup (svg_title id) ≡ codes "<svg_title>" ++ written Markup (frame_text id) ++ codes "</svg_title>\n"
+unfolding svg_title
+title_bytes id = element_bytes (codes "svg_title") (frame_text id) (codes "/svg_title")
 
-pub no_touch : (bs : List ℕ) → bs ≡ bs ++ markup (touched None)
-unfolding markup touched
+pub no_touch : (bs : List ℕ) → bs ≡ bs ++ markup (touch_mark None)
+unfolding markup touch_mark
 no_touch bs = sym (append-nil bs)
 
-pub touched_bytes : (p : ℕ) → markup (touched (Some p)) ≡ codes "<rect class=\"touched\"" ++ corner (12 * (p % 40)) (20 * (p / 40)) ++ codes " width=\"12\" height=\"20\" fill=\"none\" stroke=\"#f00\" stroke-width=\"2\"/>\n"
-unfolding touched
-touched_bytes p = closed_bytes (codes "rect class=\"touched\"" ++ corner (12 * (p % 40)) (20 * (p / 40))) (codes " width=\"12\" height=\"20\" fill=\"none\" stroke=\"#f00\" stroke-width=\"2\"/")
+pub touched_bytes : (p : ℕ) → markup (touch_mark (Some p)) ≡ codes "<rect class=\"touch_mark\"" ++ corner (12 * (p % 40)) (20 * (p / 40)) ++ codes " width=\"12\" height=\"20\" fill=\"none\" stroke=\"#f00\" stroke-width=\"2\"/>\n"
+unfolding touch_mark
+touched_bytes p = closed_bytes (codes "rect class=\"touch_mark\"" ++ corner (12 * (p % 40)) (20 * (p / 40))) (codes " width=\"12\" height=\"20\" fill=\"none\" stroke=\"#f00\" stroke-width=\"2\"/")

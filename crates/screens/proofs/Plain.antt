@@ -9,7 +9,7 @@ use Rattle.screens.specs.declared.look.Shown.TheVariants.{Ground, All}
 use Rattle.std.specs.Prelude as P
 use Rattle.screens.specs.declared.row.State.{State}
 use Rattle.screens.specs.Table.{is_mosaic, mosaic_of, start, at, after, seen, look_of}
-use Rattle.screens.specs.Looks.{step, row_looks, below, shown, is_space, can_stretch, row_of, has_double, is_covered, own_looks, looks_at}
+use Rattle.screens.specs.Looks.{row_step, row_looks, below, shown, is_space, can_stretch, codes_of_row, has_double, is_covered, own_looks, looks_at}
 use Rattle.screens.specs.Laws.{RowsDecide, plain_look}
 
 by_own : (cells : List ℕ) (r : ℕ) → is_covered cells r ≡ false → looks_at cells r ≡ own_looks cells r
@@ -18,7 +18,7 @@ by_own cells r e = rw e refl
 by_above : (cells : List ℕ) (r : ℕ) → is_covered cells r ≡ true → looks_at cells r ≡ map below (own_looks cells (r - 1))
 by_above cells r e = rw e refl
 
-same_own : (cells others : List ℕ) (r : ℕ) → row_of cells r ≡ row_of others r → own_looks cells r ≡ own_looks others r
+same_own : (cells others : List ℕ) (r : ℕ) → codes_of_row cells r ≡ codes_of_row others r → own_looks cells r ≡ own_looks others r
 same_own cells others r e = ap (row_looks (start (can_stretch r))) e
 
 both_parts : (a b : Bool) → (a && not b) ≡ true → (a ≡ true) × (b ≡ false)
@@ -63,7 +63,7 @@ after_plain : (s : State) (c : ℕ) → c < 0x80 → after s c ≡ s
 after_plain s c lt =
     rw (not_le c 0x81 lt (omega arith), not_le c 0x91 lt (omega arith), not_eq c 0x88 lt (omega arith), not_eq c 0x8D lt (omega arith), not_eq c 0x9F lt (omega arith)) refl
 
-step_plain : (can : Bool) (c : ℕ) → c < 0x80 → step (start can) c ≡ start can
+step_plain : (can : Bool) (c : ℕ) → c < 0x80 → row_step (start can) c ≡ start can
 step_plain can c lt = ap (λ (s : State). after (seen s c) c) (at_plain (start can) c lt) ∙ after_plain (start can) c lt
 
 look_plain : (can : Bool) (c : ℕ) → c < 0x80 → look_of (at (start can) c) c ≡ plain_look c
@@ -75,8 +75,8 @@ pub plain_before : (can : Bool) (front rest : List ℕ) → P.All (λ c. c < 0x8
 plain_before can [] rest h = refl
 plain_before can (c ∷ cs) rest h =
     let low : c < 0x80 = All-head (λ (k : ℕ). k < 0x80) c cs h in
-    let tail : row_looks (step (start can) c) (cs ++ rest) ≡ map plain_look cs ++ row_looks (start can) rest = ap (λ (s : State). row_looks s (cs ++ rest)) (step_plain can c low) ∙ plain_before can cs rest (All-tail (λ (k : ℕ). k < 0x80) c cs h) in
-    ap (λ (a : Look). a ∷ row_looks (step (start can) c) (cs ++ rest)) (look_plain can c low) ∙ ap (λ (later : List Look). plain_look c ∷ later) tail
+    let tail : row_looks (row_step (start can) c) (cs ++ rest) ≡ map plain_look cs ++ row_looks (start can) rest = ap (λ (s : State). row_looks s (cs ++ rest)) (step_plain can c low) ∙ plain_before can cs rest (All-tail (λ (k : ℕ). k < 0x80) c cs h) in
+    ap (λ (a : Look). a ∷ row_looks (row_step (start can) c) (cs ++ rest)) (look_plain can c low) ∙ ap (λ (later : List Look). plain_look c ∷ later) tail
 
 neither : (a b : Bool) → (a && false || b && false) ≡ false
 neither true true = refl
@@ -91,7 +91,7 @@ first_of_false false x y = refl
 pub plain_cell : (s : State) (c : ℕ) → c < 0x80 → look_of (at s c) c ≡ look_of s c
 plain_cell s c lt = ap (λ (t : State). look_of t c) (at_plain s c lt)
 
-pub plain_step : (s : State) (c : ℕ) → c < 0x80 → step s c ≡ seen s c
+pub plain_step : (s : State) (c : ℕ) → c < 0x80 → row_step s c ≡ seen s c
 plain_step s c lt = ap (λ (t : State). after (seen t c) c) (at_plain s c lt) ∙ after_plain (seen s c) c lt
 
 no_block : (c : ℕ) → 0x80 ≤ c → is_mosaic c ≡ false
@@ -103,5 +103,5 @@ no_block c ge =
 attribute_seen : (s : State) (c : ℕ) → 0x80 ≤ c → seen s c ≡ s
 attribute_seen s c ge = rw (no_block c ge) (first_of_false s.mosaics (record s { held = mosaic_of c s.separated }) s)
 
-pub attribute_step : (s : State) (c : ℕ) → 0x80 ≤ c → step s c ≡ after (at s c) c
+pub attribute_step : (s : State) (c : ℕ) → 0x80 ≤ c → row_step s c ≡ after (at s c) c
 attribute_step s c ge = ap (λ (t : State). after t c) (attribute_seen (at s c) c ge)

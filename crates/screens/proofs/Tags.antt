@@ -23,7 +23,7 @@ use Rattle.screens.specs.declared.mosaics.Units.{Units}
 use Rattle.screens.specs.declared.writing.Writing.TheVariants.{Markup}
 use Rattle.screens.specs.Writing.{written}
 use Rattle.screens.specs.Mosaics.{across, down, bits_of, rectangle, rectangles, part_path, mosaic_path, glyph_path, mosaics_path}
-use Rattle.screens.specs.Svg.{Piece, piece, newline, piece_bytes, markup, attribute, corner, extent, rgb, fill, flash_begin, group_end, flashing, ground, mosaics, stretched, spacing, letters_tag, letters, drawn, drawn_in, first_ink, run_pieces, run_goes_on, row_pieces, layer_pieces, svg_begin, title, blocks_begin, blocks, texts_begin, texts, touched, foot, svg_pieces, svg}
+use Rattle.screens.specs.Svg.{Piece, piece, newline, piece_bytes, markup, attribute, corner, svg_extent, rgb, fill, flash_begin, group_end, flashing, ground, mosaics, stretched, spacing, letters_tag, letters, drawn, drawn_in, first_ink, run_pieces, run_goes_on, row_pieces, layer_pieces, svg_begin, svg_title, blocks_begin, blocks, texts_begin, texts, touch_mark, svg_foot, svg_pieces, svg}
 use Rattle.screens.specs.Laws.{tags_reading, tags_of, is_harmless, raw}
 use Rattle.screens.proofs.Safe.{all_append, harmless, first_of, rest_of}
 
@@ -69,8 +69,8 @@ inner_corner : (x y : ℕ) → Inner (corner x y)
 unfolding corner
 inner_corner x y = joined (attribute (codes "x") x) (attribute (codes "y") y) (inner_attribute (codes "x") x refl) (inner_attribute (codes "y") y refl)
 
-inner_extent : (n : ℕ) → Inner (extent n)
-unfolding extent
+inner_extent : (n : ℕ) → Inner (svg_extent n)
+unfolding svg_extent
 inner_extent n = joined (attribute (codes "width") (12 * n)) (codes " height=\"20\"") (inner_attribute (codes "width") (12 * n) refl) refl
 
 -- a literal before a number
@@ -133,7 +133,7 @@ alone tag cs h = rw h refl
 ground_tags : (r c : ℕ) (run : List Look) (i : Ink) → Tags (ground r c run i)
 unfolding ground
 ground_tags r c run i =
-    alone (codes "rect" ++ corner (12 * c) (20 * r) ++ extent (length run) ++ fill i.colour ++ codes "/") newline (joined (codes "rect" ++ corner (12 * c) (20 * r) ++ extent (length run) ++ fill i.colour) (codes "/") (joined (codes "rect" ++ corner (12 * c) (20 * r) ++ extent (length run)) (fill i.colour) (joined (codes "rect" ++ corner (12 * c) (20 * r)) (extent (length run)) (joined (codes "rect") (corner (12 * c) (20 * r)) refl (inner_corner (12 * c) (20 * r))) (inner_extent (length run))) (inner_fill i.colour)) refl)
+    alone (codes "rect" ++ corner (12 * c) (20 * r) ++ svg_extent (length run) ++ fill i.colour ++ codes "/") newline (joined (codes "rect" ++ corner (12 * c) (20 * r) ++ svg_extent (length run) ++ fill i.colour) (codes "/") (joined (codes "rect" ++ corner (12 * c) (20 * r) ++ svg_extent (length run)) (fill i.colour) (joined (codes "rect" ++ corner (12 * c) (20 * r)) (svg_extent (length run)) (joined (codes "rect") (corner (12 * c) (20 * r)) refl (inner_corner (12 * c) (20 * r))) (inner_extent (length run))) (inner_fill i.colour)) refl)
 
 mosaics_tags : (r c : ℕ) (run : List Look) (i : Ink) → Tags (mosaics r c run i)
 unfolding mosaics
@@ -187,8 +187,8 @@ svg_begin_tags : Tags svg_begin
 unfolding svg_begin
 svg_begin_tags = refl
 
-title_tags : (id : Id) → Tags (title id)
-unfolding title
+title_tags : (id : Id) → Tags (svg_title id)
+unfolding svg_title
 title_tags id = refl
 
 blocks_begin_tags : Tags blocks_begin
@@ -199,8 +199,8 @@ texts_begin_tags : Tags texts_begin
 unfolding texts_begin
 texts_begin_tags = refl
 
-foot_tags : Tags foot
-unfolding foot
+foot_tags : Tags svg_foot
+unfolding svg_foot
 foot_tags = refl
 
 blocks_tags : (rows : List (List Look)) → Tags (blocks rows)
@@ -211,15 +211,15 @@ texts_tags : (rows : List (List Look)) → Tags (texts rows)
 texts_tags rows =
     both (texts_begin ++ layer_pieces Letters 0 rows) group_end (both texts_begin (layer_pieces Letters 0 rows) texts_begin_tags (layer_tags Letters 0 rows)) group_tags
 
-touched_tags : (cell : Option ℕ) → Tags (touched cell)
-unfolding touched
+touched_tags : (cell : Option ℕ) → Tags (touch_mark cell)
+unfolding touch_mark
 touched_tags None = refl
 touched_tags (Some p) =
-    alone (codes "rect class=\"touched\"" ++ corner (12 * (p % 40)) (20 * (p / 40)) ++ codes " width=\"12\" height=\"20\" fill=\"none\" stroke=\"#f00\" stroke-width=\"2\"/") newline (joined (codes "rect class=\"touched\"" ++ corner (12 * (p % 40)) (20 * (p / 40))) (codes " width=\"12\" height=\"20\" fill=\"none\" stroke=\"#f00\" stroke-width=\"2\"/") (joined (codes "rect class=\"touched\"") (corner (12 * (p % 40)) (20 * (p / 40))) refl (inner_corner (12 * (p % 40)) (20 * (p / 40)))) refl)
+    alone (codes "rect class=\"touch_mark\"" ++ corner (12 * (p % 40)) (20 * (p / 40)) ++ codes " width=\"12\" height=\"20\" fill=\"none\" stroke=\"#f00\" stroke-width=\"2\"/") newline (joined (codes "rect class=\"touch_mark\"" ++ corner (12 * (p % 40)) (20 * (p / 40))) (codes " width=\"12\" height=\"20\" fill=\"none\" stroke=\"#f00\" stroke-width=\"2\"/") (joined (codes "rect class=\"touch_mark\"") (corner (12 * (p % 40)) (20 * (p / 40))) refl (inner_corner (12 * (p % 40)) (20 * (p / 40)))) refl)
 
 pub svg_tags : (id : Id) (rows : List (List Look)) (cell : Option ℕ) → Tags (svg_pieces id rows cell)
 svg_tags id rows cell =
-    both (svg_begin ++ title id ++ blocks rows ++ texts rows ++ touched cell) foot (both (svg_begin ++ title id ++ blocks rows ++ texts rows) (touched cell) (both (svg_begin ++ title id ++ blocks rows) (texts rows) (both (svg_begin ++ title id) (blocks rows) (both svg_begin (title id) svg_begin_tags (title_tags id)) (blocks_tags rows)) (texts_tags rows)) (touched_tags cell)) foot_tags
+    both (svg_begin ++ svg_title id ++ blocks rows ++ texts rows ++ touch_mark cell) svg_foot (both (svg_begin ++ svg_title id ++ blocks rows ++ texts rows) (touch_mark cell) (both (svg_begin ++ svg_title id ++ blocks rows) (texts rows) (both (svg_begin ++ svg_title id) (blocks rows) (both svg_begin (svg_title id) svg_begin_tags (title_tags id)) (blocks_tags rows)) (texts_tags rows)) (touched_tags cell)) foot_tags
 
 -- The reader.
 

@@ -7,7 +7,7 @@ use Rattle.screens.specs.declared.look.Height.TheVariants.{Single}
 use Rattle.screens.specs.declared.look.Look.{Look}
 use Rattle.screens.specs.declared.look.Shown.TheVariants.{Ground}
 use Rattle.screens.specs.Table.{character, six, start}
-use Rattle.screens.specs.Looks.{row_looks, shown, row_of, has_double, is_covered, looks_at, looks}
+use Rattle.screens.specs.Looks.{row_looks, shown, codes_of_row, has_double, is_covered, looks_at, looks}
 use Rattle.std.specs.List.{slice_split, list_all}
 use Rattle.page_ids.specs.Ids.{Id}
 use Rattle.screens.specs.declared.writing.Writing.TheVariants.{Plain, Markup}
@@ -20,9 +20,9 @@ use Rattle.screens.specs.Svg.{Piece, piece, svg_pieces, svg}
 -- two screens at row r
 pub record RowsDecide (cells others : List ℕ) (r : ℕ) : Type 0 where
   -- if nothing covers it, they are decided by its own codes
-  pub own : is_covered cells r ≡ false → is_covered others r ≡ false → row_of cells r ≡ row_of others r → looks_at cells r ≡ looks_at others r
+  pub own : is_covered cells r ≡ false → is_covered others r ≡ false → codes_of_row cells r ≡ codes_of_row others r → looks_at cells r ≡ looks_at others r
   -- if the row above covers it, by that row's codes, whatever its own are
-  pub covered : is_covered cells r ≡ true → is_covered others r ≡ true → row_of cells (r - 1) ≡ row_of others (r - 1) → looks_at cells r ≡ looks_at others r
+  pub covered : is_covered cells r ≡ true → is_covered others r ≡ true → codes_of_row cells (r - 1) ≡ codes_of_row others (r - 1) → looks_at cells r ≡ looks_at others r
   -- only a row with a double height that isn't covered itself covers the one beneath
   pub covers : is_covered cells r ≡ true → (has_double cells (r - 1) ≡ true) × (is_covered cells (r - 1) ≡ false)
 

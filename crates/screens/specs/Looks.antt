@@ -14,13 +14,13 @@ use Rattle.screens.specs.Table.{start, at, after, seen, look_of}
 -- One row.
 
 -- the state after a code
-abbrev pub step : State → ℕ → State
-step s c = after (seen (at s c) c) c
+abbrev pub row_step : State → ℕ → State
+row_step s c = after (seen (at s c) c) c
 
 -- the looks of the cells from a state on
 abbrev pub row_looks : State → List ℕ → List Look
 row_looks s [] = []
-row_looks s (c ∷ cs) = look_of (at s c) c ∷ row_looks (step s c) cs
+row_looks s (c ∷ cs) = look_of (at s c) c ∷ row_looks (row_step s c) cs
 
 -- What shows.
 
@@ -44,8 +44,8 @@ abbrev pub below : Look → Look
 below a = below_of a.height a
 
 -- the codes of row r
-abbrev pub row_of : List ℕ → ℕ → List ℕ
-row_of cells r = take 40 (drop (40 * r) cells)
+abbrev pub codes_of_row : List ℕ → ℕ → List ℕ
+codes_of_row cells r = take 40 (drop (40 * r) cells)
 
 -- A screen.
 
@@ -55,7 +55,7 @@ can_stretch r = nat_le 1 r && nat_le r 22
 
 -- the row has a double height that counts
 abbrev pub has_double : List ℕ → ℕ → Bool
-has_double cells r = can_stretch r && list_any (λ c. c == 0x8D) (row_of cells r)
+has_double cells r = can_stretch r && list_any (λ c. c == 0x8D) (codes_of_row cells r)
 
 -- a row with a double height covers the row beneath; a covered row covers none
 abbrev pub is_covered : List ℕ → ℕ → Bool
@@ -67,7 +67,7 @@ abbrev pub is_text : ℕ → Bool
 is_text c = nat_lt 0x20 c && nat_lt c 0x80
 
 abbrev pub has_text : List ℕ → ℕ → Bool
-has_text cells r = list_any is_text (row_of cells r)
+has_text cells r = list_any is_text (codes_of_row cells r)
 
 -- the row above covers text of row r
 abbrev pub hides_text : List ℕ → ℕ → Bool
@@ -75,7 +75,7 @@ hides_text cells r = nat_lt r 24 && (is_covered cells r && has_text cells r)
 
 -- the looks of row r by its own codes
 abbrev pub own_looks : List ℕ → ℕ → List Look
-own_looks cells r = row_looks (start (can_stretch r)) (row_of cells r)
+own_looks cells r = row_looks (start (can_stretch r)) (codes_of_row cells r)
 
 -- the looks of row r: below those of the row above if that covers it, else its own
 abbrev pub looks_at : List ℕ → ℕ → List Look

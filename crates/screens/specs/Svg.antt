@@ -51,8 +51,8 @@ unfoldable pub corner : ℕ → ℕ → List ℕ
 corner x y = attribute (codes "x") x ++ attribute (codes "y") y
 
 -- as wide as this many cells
-unfoldable pub extent : ℕ → List ℕ
-extent count = attribute (codes "width") (12 * count) ++ codes " height=\"20\""
+unfoldable pub svg_extent : ℕ → List ℕ
+svg_extent count = attribute (codes "width") (12 * count) ++ codes " height=\"20\""
 
 abbrev pub rgb : Colour → List ℕ
 rgb Black = codes "#000"
@@ -133,7 +133,7 @@ flashing false ps = ps
 -- a background is a rectangle
 unfoldable pub ground : ℕ → ℕ → List Look → Ink → List Piece
 ground r c run i =
-    piece (codes "rect" ++ corner (12 * c) (20 * r) ++ extent (length run) ++ fill i.colour ++ codes "/") newline
+    piece (codes "rect" ++ corner (12 * c) (20 * r) ++ svg_extent (length run) ++ fill i.colour ++ codes "/") newline
     ∷ []
 
 -- mosaics are a path
@@ -194,8 +194,8 @@ layer_pieces layer r (row ∷ rows) = row_pieces layer r 0 [] row ++ layer_piece
 unfoldable pub svg_begin : List Piece
 svg_begin = piece (codes "svg xmlns=\"http://www.w3.org/2000/svg\" viewBox=\"0 0 480 480\" width=\"600\" height=\"480\" preserveAspectRatio=\"none\"") [] ∷ []
 
-unfoldable pub title : Id → List Piece
-title id = piece (codes "title") (frame_text id) ∷ piece (codes "/title") newline ∷ []
+unfoldable pub svg_title : Id → List Piece
+svg_title id = piece (codes "svg_title") (frame_text id) ∷ piece (codes "/svg_title") newline ∷ []
 
 -- a black picture, backgrounds over it, and mosaics over them, without soft edges between them
 unfoldable pub blocks_begin : List Piece
@@ -214,18 +214,18 @@ abbrev pub texts : List (List Look) → List Piece
 texts rows = texts_begin ++ layer_pieces Letters 0 rows ++ group_end
 
 -- a red frame round the cell at a position, if there is one
-unfoldable pub touched : Option ℕ → List Piece
-touched None = []
-touched (Some p) =
-    piece (codes "rect class=\"touched\"" ++ corner (12 * (p % 40)) (20 * (p / 40)) ++ codes " width=\"12\" height=\"20\" fill=\"none\" stroke=\"#f00\" stroke-width=\"2\"/") newline
+unfoldable pub touch_mark : Option ℕ → List Piece
+touch_mark None = []
+touch_mark (Some p) =
+    piece (codes "rect class=\"touch_mark\"" ++ corner (12 * (p % 40)) (20 * (p / 40)) ++ codes " width=\"12\" height=\"20\" fill=\"none\" stroke=\"#f00\" stroke-width=\"2\"/") newline
     ∷ []
 
-unfoldable pub foot : List Piece
-foot = piece (codes "/svg") newline ∷ []
+unfoldable pub svg_foot : List Piece
+svg_foot = piece (codes "/svg") newline ∷ []
 
 -- the picture of a frame's screen, with a cell that is framed or not
 abbrev pub svg_pieces : Id → List (List Look) → Option ℕ → List Piece
-svg_pieces id rows cell = svg_begin ++ title id ++ blocks rows ++ texts rows ++ touched cell ++ foot
+svg_pieces id rows cell = svg_begin ++ svg_title id ++ blocks rows ++ texts rows ++ touch_mark cell ++ svg_foot
 
 abbrev pub svg : Id → List (List Look) → Option ℕ → List ℕ
 svg id rows cell = markup (svg_pieces id rows cell)

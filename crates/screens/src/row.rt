@@ -2,7 +2,7 @@
 
 ghost use Rattle.std.specs.Prelude.{◌≡◌, length};
 ghost use Rattle.screens.specs.Table as table;
-ghost use Rattle.screens.specs.Looks.{step, row_looks};
+ghost use Rattle.screens.specs.Looks.{row_step, row_looks};
 
 use crate::characters::character;
 use crate::look::{Colour, Glyph, Height, Look};
@@ -113,7 +113,7 @@ impl State {
     #[tactic(auto, using(crate::proofs::Plain::plain_cell, crate::proofs::Plain::plain_step, crate::proofs::Plain::attribute_step))]
     fn put_cell(&mut self, code: u8, look: &mut Look)
         ensures look { look.new ≡ table.look_of (table.at self.old code) code }
-        ensures next { self.new ≡ step self.old code }
+        ensures next { self.new ≡ row_step self.old code }
     {
         if code < 0x80 {
             self.put_look(code, look);

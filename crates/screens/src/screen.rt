@@ -47,7 +47,7 @@ fn can_stretch(row: usize) -> bool
 /// The codes of a row, from 0.
 pub fn row_codes(cells: &[u8; 960], row: usize) -> &[u8]
     requires { row < 24 }
-    ensures value { result.now ≡ spec.row_of cells.now row }
+    ensures value { result.now ≡ spec.codes_of_row cells.now row }
     ensures size { length result.now ≡ 40 }
 {
     &cells[40 * row..40 * row + 40]

@@ -71,10 +71,10 @@ fn push_corner(out: &mut Vec<u8>, x: usize, y: usize) -> Result<(), AllocError>
 }
 
 // As wide as this many cells.
-#[tactic(auto, using(std::proofs::Common::append_assoc), unfolding(crate::specs::Svg::extent))]
+#[tactic(auto, using(std::proofs::Common::append_assoc), unfolding(crate::specs::Svg::svg_extent))]
 fn push_extent(out: &mut Vec<u8>, count: usize) -> Result<(), AllocError>
     requires { count ≤ 40 }
-    ensures { OnOk result (out.new.items ≡ out.old.items ++ spec.extent count) }
+    ensures { OnOk result (out.new.items ≡ out.old.items ++ spec.svg_extent count) }
 {
     push_attribute(out, b"width", 12 * count)?;
     out.extend_from_slice(b" height=\"20\"")
@@ -317,7 +317,7 @@ fn push_id(out: &mut Vec<u8>, id: FrameId) -> Result<(), AllocError>
 
 #[tactic(auto, using(std::proofs::Common::append_assoc, crate::proofs::Markups::title_bytes))]
 fn push_title(out: &mut Vec<u8>, id: FrameId) -> Result<(), AllocError>
-    ensures { OnOk result (out.new.items ≡ out.old.items ++ markup (spec.title id)) }
+    ensures { OnOk result (out.new.items ≡ out.old.items ++ markup (spec.svg_title id)) }
 {
     out.extend_from_slice(b"<title>")?;
     push_id(out, id)?;
@@ -347,7 +347,7 @@ fn push_texts(out: &mut Vec<u8>, looks: &Looks) -> Result<(), AllocError>
 // A red frame round a cell.
 #[tactic(auto, using(std::proofs::Common::append_assoc, crate::proofs::Markups::touched_bytes))]
 fn push_frame(out: &mut Vec<u8>, cell: u16) -> Result<(), AllocError>
-    ensures { OnOk result (out.new.items ≡ out.old.items ++ markup (spec.touched (Some cell))) }
+    ensures { OnOk result (out.new.items ≡ out.old.items ++ markup (spec.touch_mark (Some cell))) }
 {
     out.extend_from_slice(b"<rect class=\"touched\"")?;
     push_corner(out, 12 * (cell as usize % 40), 20 * (cell as usize / 40))?;
@@ -357,7 +357,7 @@ fn push_frame(out: &mut Vec<u8>, cell: u16) -> Result<(), AllocError>
 }
 
 fn push_touched(out: &mut Vec<u8>, cell: Option<u16>) -> Result<(), AllocError>
-    ensures { OnOk result (out.new.items ≡ out.old.items ++ markup (spec.touched cell)) }
+    ensures { OnOk result (out.new.items ≡ out.old.items ++ markup (spec.touch_mark cell)) }
 {
     match cell {
         None => Ok(()),

@@ -20,7 +20,7 @@ use Rattle.toml_places.specs.Values.{after_word, after_atom, after_member, after
 use Rattle.toml_places.specs.Places.{parts}
 use Rattle.toml_places.specs.Spans.{value_or_key}
 use Rattle.toml_places.specs.Skips.{sort_of}
-use Rattle.toml_places.specs.Loops.{array_header, pair, opening, whole_line, KeyLine}
+use Rattle.toml_places.specs.Loops.{array_header, pair, opened_after, whole_line, KeyLine}
 
 -- an expression of toml's, by its key and its kind
 abbrev pub line_of : Expression → KeyLine
@@ -362,8 +362,8 @@ pair_follows text e rest h =
     let (at_value, key, passed) = pair_after (val recursion_limit) (after_value recursion_limit) (value_follows recursion_limit recursion_limit (omega arith)) text m.value.1 m.value.0 m.is in
     rw (key, passed) (ap (λ (p : Expression × List ℕ). Some (line_of p.0, p.1)) m.same)
 
-opening_follows : (text : List ℕ) → Line_of (expression text) (opening text)
-unfolding expression opening
+opening_follows : (text : List ℕ) → Line_of (expression text) (opened_after text)
+unfolding expression opened_after
 opening_follows text e rest h =
     elim (cases_Bool (first text == 91)) [
       | inl header ↦ elim (cases_Bool (slice_index text 1 == 91)) [

@@ -49,15 +49,15 @@ unfoldable pub pair : List ℕ → Read KeyLine
 pair text = key_equals text >>= (λ k. option_map (λ rest. ((k.0, Pair), rest)) (after_value recursion_limit k.1))
 
 -- an expression
-unfoldable pub opening : List ℕ → Read KeyLine
-opening text =
+unfoldable pub opened_after : List ℕ → Read KeyLine
+opened_after text =
     if first text == left_bracket && slice_index text 1 == left_bracket then array_header (drop 2 text)
     else if first text == left_bracket then option_map (λ k. ((k.0, Table), k.1)) (header_key (drop 1 text))
     else pair text
 
 -- an expression that has its line to itself
 unfoldable pub whole_line : List ℕ → Read KeyLine
-whole_line text = opening text >>= (λ e. if ends_line (skip_ws e.1) then Some e else None)
+whole_line text = opened_after text >>= (λ e. if ends_line (skip_ws e.1) then Some e else None)
 
 -- The walk over a text's expressions.
 

@@ -55,9 +55,9 @@ pub fn read_line(alloc: Global, text: &str) -> Result<(KeyLine, &str), ParseErro
     }
 }
 
-#[tactic(auto, unfolding(crate::specs::Loops::opening))]
+#[tactic(auto, unfolding(crate::specs::Loops::opened_after))]
 fn opening(alloc: Global, text: &str) -> Result<(KeyLine, &str), ParseError>
-    ensures value { Reads line_view result (loops.opening text.now) }
+    ensures value { Reads line_view result (loops.opened_after text.now) }
     ensures shorter { Shortens text.now result }
 {
     if first(text) != b'[' {
