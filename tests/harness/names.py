@@ -34,7 +34,9 @@ def faults(libraries: Iterable[str]) -> Iterator[str | None]:
     crates = list(libraries)
     types = ((crate, path) for crate in crates for path in sorted((CRATES / crate / "src").glob("**/*.rt")))
     specs = (
-        (f"{crate}/{path.stem}", path) for crate in crates for path in sorted((CRATES / crate / "specs").glob("**/*.antt"))
+        (f"{crate}/{path.stem}", path)
+        for crate in crates
+        for path in sorted((CRATES / crate / "specs").glob("**/*.antt"))
     )
     for kind, found in ("type", places(types, TYPE)), ("definition", places(specs, DEFINITION)):
         for name, where in sorted(found.items()):
