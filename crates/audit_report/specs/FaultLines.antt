@@ -55,7 +55,7 @@ base_fault_text edition fault = edition ++ (base_place_text fault.frame ++ base_
 
 -- what is wrong with a certificate's text, after the same
 abbrev pub cert_fault_text : List ℕ → ReadFault → List ℕ
-cert_fault_text edition (read.Line n c) = edition ++ ((codes "certificate: ended_line " ++ decimal n) ++ (codes ": " ++ line_cause_text c))
+cert_fault_text edition (read.Line n c) = edition ++ ((codes "certificate: line " ++ decimal n) ++ (codes ": " ++ line_cause_text c))
 cert_fault_text edition read.Failed = edition ++ codes "certificate: failed"
 cert_fault_text edition read.Memory = codes "memory refused"
 

@@ -86,14 +86,14 @@ pub letters_bytes : (r c : ℕ) (run : List Look) (i : Ink) → markup (letters 
 unfolding letters
 letters_bytes r c run i = element_bytes (letters_tag r c (length run) i) (map seen_char run) (codes "/text")
 
-pub title_bytes : (id : Id) → markup (svg_title id) ≡ codes "<svg_title>" ++ written Markup (frame_text id) ++ codes "</svg_title>\n"
+pub title_bytes : (id : Id) → markup (svg_title id) ≡ codes "<title>" ++ written Markup (frame_text id) ++ codes "</title>\n"
 unfolding svg_title
-title_bytes id = element_bytes (codes "svg_title") (frame_text id) (codes "/svg_title")
+title_bytes id = element_bytes (codes "title") (frame_text id) (codes "/title")
 
 pub no_touch : (bs : List ℕ) → bs ≡ bs ++ markup (touch_mark None)
 unfolding markup touch_mark
 no_touch bs = sym (append-nil bs)
 
-pub touched_bytes : (p : ℕ) → markup (touch_mark (Some p)) ≡ codes "<rect class=\"touch_mark\"" ++ corner (12 * (p % 40)) (20 * (p / 40)) ++ codes " width=\"12\" height=\"20\" fill=\"none\" stroke=\"#f00\" stroke-width=\"2\"/>\n"
+pub touched_bytes : (p : ℕ) → markup (touch_mark (Some p)) ≡ codes "<rect class=\"touched\"" ++ corner (12 * (p % 40)) (20 * (p / 40)) ++ codes " width=\"12\" height=\"20\" fill=\"none\" stroke=\"#f00\" stroke-width=\"2\"/>\n"
 unfolding touch_mark
-touched_bytes p = closed_bytes (codes "rect class=\"touch_mark\"" ++ corner (12 * (p % 40)) (20 * (p / 40))) (codes " width=\"12\" height=\"20\" fill=\"none\" stroke=\"#f00\" stroke-width=\"2\"/")
+touched_bytes p = closed_bytes (codes "rect class=\"touched\"" ++ corner (12 * (p % 40)) (20 * (p / 40))) (codes " width=\"12\" height=\"20\" fill=\"none\" stroke=\"#f00\" stroke-width=\"2\"/")

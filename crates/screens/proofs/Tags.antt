@@ -215,7 +215,7 @@ touched_tags : (cell : Option ℕ) → Tags (touch_mark cell)
 unfolding touch_mark
 touched_tags None = refl
 touched_tags (Some p) =
-    alone (codes "rect class=\"touch_mark\"" ++ corner (12 * (p % 40)) (20 * (p / 40)) ++ codes " width=\"12\" height=\"20\" fill=\"none\" stroke=\"#f00\" stroke-width=\"2\"/") newline (joined (codes "rect class=\"touch_mark\"" ++ corner (12 * (p % 40)) (20 * (p / 40))) (codes " width=\"12\" height=\"20\" fill=\"none\" stroke=\"#f00\" stroke-width=\"2\"/") (joined (codes "rect class=\"touch_mark\"") (corner (12 * (p % 40)) (20 * (p / 40))) refl (inner_corner (12 * (p % 40)) (20 * (p / 40)))) refl)
+    alone (codes "rect class=\"touched\"" ++ corner (12 * (p % 40)) (20 * (p / 40)) ++ codes " width=\"12\" height=\"20\" fill=\"none\" stroke=\"#f00\" stroke-width=\"2\"/") newline (joined (codes "rect class=\"touched\"" ++ corner (12 * (p % 40)) (20 * (p / 40))) (codes " width=\"12\" height=\"20\" fill=\"none\" stroke=\"#f00\" stroke-width=\"2\"/") (joined (codes "rect class=\"touched\"") (corner (12 * (p % 40)) (20 * (p / 40))) refl (inner_corner (12 * (p % 40)) (20 * (p / 40)))) refl)
 
 pub svg_tags : (id : Id) (rows : List (List Look)) (cell : Option ℕ) → Tags (svg_pieces id rows cell)
 svg_tags id rows cell =

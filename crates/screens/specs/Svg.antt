@@ -195,7 +195,7 @@ unfoldable pub svg_begin : List Piece
 svg_begin = piece (codes "svg xmlns=\"http://www.w3.org/2000/svg\" viewBox=\"0 0 480 480\" width=\"600\" height=\"480\" preserveAspectRatio=\"none\"") [] ∷ []
 
 unfoldable pub svg_title : Id → List Piece
-svg_title id = piece (codes "svg_title") (frame_text id) ∷ piece (codes "/svg_title") newline ∷ []
+svg_title id = piece (codes "title") (frame_text id) ∷ piece (codes "/title") newline ∷ []
 
 -- a black picture, backgrounds over it, and mosaics over them, without soft edges between them
 unfoldable pub blocks_begin : List Piece
@@ -217,7 +217,7 @@ texts rows = texts_begin ++ layer_pieces Letters 0 rows ++ group_end
 unfoldable pub touch_mark : Option ℕ → List Piece
 touch_mark None = []
 touch_mark (Some p) =
-    piece (codes "rect class=\"touch_mark\"" ++ corner (12 * (p % 40)) (20 * (p / 40)) ++ codes " width=\"12\" height=\"20\" fill=\"none\" stroke=\"#f00\" stroke-width=\"2\"/") newline
+    piece (codes "rect class=\"touched\"" ++ corner (12 * (p % 40)) (20 * (p / 40)) ++ codes " width=\"12\" height=\"20\" fill=\"none\" stroke=\"#f00\" stroke-width=\"2\"/") newline
     ∷ []
 
 unfoldable pub svg_foot : List Piece
