@@ -1,4 +1,4 @@
--- The edges of a map, and the parts of a base that it shows.
+-- The edges of a map.
 use Rattle.std.specs.Prelude.{ℕ, Bool, true, ◌&&◌, ◌||◌, List, Option, Some, None, filter, is_none, [], map, if◌then◌else◌, ◌++◌, codes, false, ◌∷◌}
 use Rattle.std.specs.Option.{option_eq}
 use Rattle.std.specs.List.{filter_map, flat_map}
@@ -12,14 +12,10 @@ use Rattle.page_ids.specs.Ways.{way_key, ways}
 use Rattle.frame_records.specs.Seek.{entry_of}
 use Rattle.frame_records.specs.Ways.{sought}
 use Rattle.finder.specs.Finds.{has_id}
+use Rattle.finder.specs.Parts.{part_shows}
 use Rattle.page_ids.specs.Keys.{key_word}
 
 -- What a map is drawn of.
-
--- a part shows the frame of an id: it is among these, or all are shown
-abbrev pub part_shows : Option (List Id) → Id → Bool
-part_shows None id = true
-part_shows (Some ids) id = has_id ids id
 
 -- a base, the caller's groups, the frames that the caller reaches, and the part that is shown
 pub record MapView : Type 0 where

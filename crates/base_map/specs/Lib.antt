@@ -1,5 +1,4 @@
 pub mod Nodes
 pub mod Edges
 pub mod Map
-pub mod Windows
 pub mod Loops

@@ -1,10 +1,13 @@
 -- The text of a map.
-use Rattle.std.specs.Prelude.{◌≡◌, ◌↔◌, ℕ, List, ◌++◌, codes, Option, None, true, Some, Contains}
+use Rattle.std.specs.Prelude.{◌≡◌, ◌↔◌, ℕ, List, ◌++◌, codes, Option, None, true, Some, Contains, Vec}
+use Rattle.std.specs.declared.alloc.Global.{Global}
 use Rattle.std.specs.List.{flat_map, IsDistinct}
 use Rattle.page_ids.specs.Ids.{Id, id_eq}
 use Rattle.frame_records.specs.declared.frame.Frame.{Frame}
 use Rattle.frame_records.specs.Bases.{BaseView, frame_at}
 use Rattle.finder.specs.Finds.{IsReached, has_id}
+use Rattle.finder.specs.Parts.{IsViewPart}
+use Rattle.finder.specs.declared.view.View.{View}
 use Rattle.base_map.specs.Edges.{edge_lines_of, lost_lines, MapView, frames_shown, targets_of, keys_to}
 use Rattle.base_map.specs.Nodes.{cluster_lines}
 use Rattle.page_ids.specs.declared.way.Way.{Way}
@@ -50,3 +53,16 @@ KeysLeadOn f = (caller : List ℕ) (base : BaseView) (to : Id) (way : Way) (pric
 
 abbrev pub EdgesAreWays : Type 0
 EdgesAreWays = (f : Frame) → AreEdges f × KeysLeadOn f
+
+-- The map of a view.
+
+-- the map of a view's part
+pub record IsViewMap (caller : List ℕ) (base : BaseView) (view : View) (text : List ℕ) : Type 0 where
+  pub part : Option (List Id)
+  pub is_part : IsViewPart caller base view (Some part)
+  pub map : IsMap base caller part text
+
+-- that map, or none
+abbrev pub IsViewed : List ℕ → BaseView → View → Option (Vec ℕ Global) → Type 0
+IsViewed caller base view None = IsViewPart caller base view None
+IsViewed caller base view (Some text) = IsViewMap caller base view text.items

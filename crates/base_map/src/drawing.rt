@@ -2,7 +2,7 @@ ghost use Rattle.std.specs.Prelude.{◌≡◌};
 ghost use Rattle.finder.specs.Finds.{has_id};
 ghost use Rattle.base_map.specs.Edges.{is_lacked, has_node};
 
-use crate::part::Part;
+use finder::Part;
 use frame_records::{Base, Groups};
 use indexmap::IndexSet;
 use page_ids::FrameId;

@@ -7,11 +7,9 @@
 //! let text = map_text(alloc, &base, &Groups::none(), &Part::whole())?; // digraph { .. "123a" -> "1231a" [label="1"] .. }
 //! ```
 //!
-//! - [`map_text`]: the text.
-//! - [`Part`]: the frames that it shows.
-//! - [`map_view`], [`View`]: the map of a part that is named by a page and a number of keys. [`part_of`]: that part.
+//! - [`map_text`]: the text. [`map_view`]: the text for a part that is named by a page and a number of keys.
 //! - [`edges_are_ways`]: what its edges are.
-//! - Definitions: the text (`Map`, `Nodes`, `Edges`), the frames near a page (`Windows`).
+//! - Definitions: the text (`Map`, `Nodes`, `Edges`).
 #![tactic(auto)]
 
 mod drawing;
@@ -20,12 +18,8 @@ mod laws;
 mod lost;
 mod map;
 mod nodes;
-mod part;
 mod targets;
 mod title;
-mod view;
 
 pub use laws::edges_are_ways;
-pub use map::map_text;
-pub use part::Part;
-pub use view::{View, map_view, part_of};
+pub use map::{map_text, map_view};

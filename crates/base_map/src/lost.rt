@@ -117,7 +117,8 @@ impl<'a> MapDrawing<'a> {
         out: &mut Vec<u8>,
         frames: &[Frame],
     ) -> Result<(), AllocError>
-        ensures { OnOk result (out.new.items ≡ out.old.items ++ spec.lost_lines self.now (frames_shown self.now frames.now)) }
+        ensures { OnOk result (out.new.items
+            ≡ out.old.items ++ spec.lost_lines self.now (frames_shown self.now frames.now)) }
     {
         let lost = self.lost(alloc, frames)?;
         push_lost_nodes(out, self.base, lost.as_slice())

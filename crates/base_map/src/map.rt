@@ -1,11 +1,11 @@
 ghost use Rattle.std.specs.Prelude.{◌≡◌, ◌++◌, IfOk, OnOk};
 ghost use Rattle.base_map.specs.Map as spec;
+ghost use Rattle.base_map.specs.Map.{IsViewed};
 ghost use Rattle.base_map.specs.Loops as loops;
 ghost use Rattle.base_map.specs.Edges.{frames_shown};
 
 use crate::drawing::MapDrawing;
-use crate::part::Part;
-use finder::{Discovered, find};
+use finder::{Discovered, Part, View, find, part_of};
 use frame_records::{Base, Frame, Groups};
 use indexmap::IndexSet;
 use page_ids::FrameId;
@@ -33,7 +33,8 @@ fn reached(alloc: Global, base: &Base, groups: &Groups) -> Result<IndexSet<Frame
 impl<'a> MapDrawing<'a> {
     // Writes the map, all of whose base's frames these are.
     fn push_map(&self, alloc: Global, out: &mut Vec<u8>, frames: &[Frame]) -> Result<(), AllocError>
-        ensures { OnOk result (out.new.items ≡ out.old.items ++ spec.lines_of self.now (frames_shown self.now frames.now)) }
+        ensures { OnOk result (out.new.items
+            ≡ out.old.items ++ spec.lines_of self.now (frames_shown self.now frames.now)) }
     {
         out.extend_from_slice(b"digraph {\n  rankdir=LR\n  newrank=true\n  node [shape=box]\n")?;
         self.push_clusters(alloc, out, frames)?;
@@ -66,4 +67,19 @@ pub fn map_text(
     let mut out = Vec::new(alloc);
     drawing.push_map(alloc, &mut out, base.frames())?;
     Ok(out)
+}
+
+/// The map of a view of a base, as `map_text` gives it; `None` if the base lacks the frame `a` of the view's page.
+pub fn map_view(
+    alloc: Global,
+    base: &Base,
+    groups: &Groups,
+    view: &View,
+) -> Result<Option<Vec<u8>>, AllocError>
+    ensures { IfOk result (λ map. IsViewed groups.now base.now view.now map) }
+{
+    match part_of(alloc, base, groups, view)? {
+        Some(part) => Ok(Some(map_text(alloc, base, groups, &part)?)),
+        None => Ok(None),
+    }
 }

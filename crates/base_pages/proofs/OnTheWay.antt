@@ -5,12 +5,12 @@ use Rattle.std.specs.List.{flat_map}
 use Rattle.std.specs.Io.KnownBytes.{Appends}
 use Rattle.devices.specs.Devices.{Seen, IsOnItsWay}
 use Rattle.frame_records.specs.declared.frame.Frame.{Frame}
-use Rattle.base_map.specs.Edges.{part_shows}
+use Rattle.finder.specs.Parts.{part_shows}
 use Rattle.checker.specs.declared.policy.Policy.{Policy}
 use Rattle.frame_records.specs.Bases.{BaseView}
 use Rattle.page_ids.specs.Ids.{Id}
-use Rattle.base_map.specs.declared.view.View.{View}
-use Rattle.base_map.specs.Windows.{IsViewPart}
+use Rattle.finder.specs.declared.view.View.{View}
+use Rattle.finder.specs.Parts.{IsViewPart}
 use Rattle.base_pages.specs.declared.fault.PagesFault.{PagesFault}
 use Rattle.base_pages.specs.declared.fault.PagesFault.TheVariants.{Write, Memory}
 use Rattle.base_pages.specs.declared.pages.PagesStatus.{PagesStatus}

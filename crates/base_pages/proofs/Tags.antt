@@ -27,7 +27,7 @@ use Rattle.fault_scripts.specs.declared.fault.Fault.{Fault}
 use Rattle.fault_scripts.specs.declared.outcome.Outcome.{Outcome}
 use Rattle.fault_scripts.specs.declared.outcome.Outcome.TheVariants.{Certified, Faulty}
 use Rattle.audit_report.specs.ReportLines.{words_as}
-use Rattle.base_map.specs.Edges.{part_shows}
+use Rattle.finder.specs.Parts.{part_shows}
 use Rattle.screens.specs.declared.look.Look.{Look}
 use Rattle.screens.specs.declared.writing.Writing.TheVariants.{Markup}
 use Rattle.screens.specs.Writing.{written}

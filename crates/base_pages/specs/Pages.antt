@@ -8,8 +8,8 @@ use Rattle.checker.specs.declared.policy.Policy.{Policy}
 use Rattle.fault_scripts.specs.declared.outcome.Outcome.{Outcome}
 use Rattle.fault_scripts.specs.Outcomes.{IsOutcome}
 use Rattle.devices.specs.Devices.{Seen, TookAll, WrotePart, WroteWhole}
-use Rattle.base_map.specs.declared.view.View.{View}
-use Rattle.base_map.specs.Windows.{IsViewPart}
+use Rattle.finder.specs.declared.view.View.{View}
+use Rattle.finder.specs.Parts.{IsViewPart}
 use Rattle.base_pages.specs.declared.pages.PagesStatus.{PagesStatus}
 use Rattle.base_pages.specs.declared.pages.PagesStatus.TheVariants.{Written, NoPage}
 use Rattle.base_pages.specs.declared.fault.PagesFault.{PagesFault}

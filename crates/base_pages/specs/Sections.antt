@@ -8,7 +8,7 @@ use Rattle.frame_records.specs.declared.frame.Lead.TheVariants.{Clear, Keep}
 use Rattle.frame_records.specs.Bases.{BaseView}
 use Rattle.finder.specs.declared.found.Discovered.{Discovered}
 use Rattle.fault_scripts.specs.declared.fault.Fault.{Fault}
-use Rattle.base_map.specs.Edges.{part_shows}
+use Rattle.finder.specs.Parts.{part_shows}
 use Rattle.screens.specs.declared.look.Look.{Look}
 use Rattle.screens.specs.declared.writing.Writing.TheVariants.{Markup}
 use Rattle.screens.specs.Writing.{written}

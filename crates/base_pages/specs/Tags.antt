@@ -16,7 +16,7 @@ use Rattle.frame_records.specs.Ways.{destination_of}
 use Rattle.fault_scripts.specs.declared.fault.Fault.{Fault}
 use Rattle.fault_scripts.specs.declared.outcome.Outcome.{Outcome}
 use Rattle.fault_scripts.specs.declared.outcome.Outcome.TheVariants.{Certified, Faulty}
-use Rattle.base_map.specs.Edges.{part_shows}
+use Rattle.finder.specs.Parts.{part_shows}
 use Rattle.screens.specs.Svg.{svg_pieces}
 use Rattle.screens.specs.Laws.{tags_of}
 use Rattle.base_pages.specs.Faults.{entry_faults, faults_about, items, touched_cell}

@@ -10,7 +10,7 @@ use Rattle.frame_records.specs.declared.ways.Destination.{Destination}
 use Rattle.frame_records.specs.declared.ways.Destination.TheVariants.{NotOffered, Found, Closed, Missing, Outside}
 use Rattle.frame_records.specs.Bases.{BaseView}
 use Rattle.frame_records.specs.Ways.{destination_of}
-use Rattle.base_map.specs.Edges.{part_shows}
+use Rattle.finder.specs.Parts.{part_shows}
 
 -- a link to the section of a frame
 abbrev pub link : Id → Key → List ℕ

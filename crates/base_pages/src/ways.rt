@@ -6,7 +6,7 @@ ghost use Rattle.page_ids.specs.Ways.{way_at, way_key};
 ghost use Rattle.frame_records.specs.Ways.{destination_of};
 ghost use Rattle.base_pages.specs.Ways as spec;
 
-use base_map::Part;
+use finder::Part;
 use frame_records::{Base, Destination, Frame, Groups};
 use page_ids::{FrameId, Key, Way, push_id, push_key};
 use std::alloc::AllocError;

@@ -71,7 +71,8 @@ impl LineReader {
 
     // A byte that ends no line.
     fn lengthen(&mut self, byte: u8) -> Result<(), ReadFault>
-        ensures { TakesBytes result self.new (at_line (due_number self.old.stage self.old.said) (lengthen self.old byte)) }
+        ensures { TakesBytes result self.new
+            (at_line (due_number self.old.stage self.old.said) (lengthen self.old byte)) }
     {
         if self.line.len() < 128 {
             self.line.push(byte);

@@ -64,7 +64,8 @@ impl CertReader {
     fn take_piece(&mut self, piece: &[u8]) -> Result<(), ReadFault>
         ensures failed { self.old.failed ≡ true → (result ≡ Err Failed) × (self.new.failed ≡ true) }
         ensures refused { OnErr result (self.new.failed ≡ true) }
-        ensures exact { self.old.failed ≡ false → TakesBytes result self.new.reading (reading_after self.old.reading piece.now) }
+        ensures exact { self.old.failed ≡ false
+            → TakesBytes result self.new.reading (reading_after self.old.reading piece.now) }
         ensures goes_on { OnOk result (self.new.failed ≡ false) }
     {
         if self.failed {

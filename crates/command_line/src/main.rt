@@ -247,15 +247,10 @@ fn map_file<R: Files + Input + Print + AllocGlobal>(
     view: &View,
     groups: &Groups,
 ) -> Result<MapStatus, Unfinished> {
-    match open_base(rt, base) {
-        Ok(base) => {
-            let mut base = FromRead::new(base);
-            let mut out = IntoWrite::new(io::writer(rt));
-            let run = run_map(rt.alloc(), &mut base, groups, view, &mut out);
-            ended(run, &out)
-        }
-        Err(unfinished) => Err(unfinished),
-    }
+    let mut base = FromRead::new(open_base(rt, base)?);
+    let mut out = IntoWrite::new(io::writer(rt));
+    let run = run_map(rt.alloc(), &mut base, groups, view, &mut out);
+    ended(run, &out)
 }
 
 /// Says that the base lacks the frame `a` of the page.
@@ -413,13 +408,8 @@ fn list_file<R: Files + Input + Print + AllocGlobal>(
     form: ListForm,
     groups: &Groups,
 ) -> Result<Status, Unfinished> {
-    match open_base(rt, base) {
-        Ok(base) => {
-            let mut base = FromRead::new(base);
-            let mut out = IntoWrite::new(io::writer(rt));
-            let run = run_list(rt.alloc(), &mut base, form, groups, &mut out);
-            ended(run, &out)
-        }
-        Err(unfinished) => Err(unfinished),
-    }
+    let mut base = FromRead::new(open_base(rt, base)?);
+    let mut out = IntoWrite::new(io::writer(rt));
+    let run = run_list(rt.alloc(), &mut base, form, groups, &mut out);
+    ended(run, &out)
 }

@@ -153,10 +153,7 @@ pub fn named_out<R: Files + AllocGlobal>(
     let Some(path) = path else {
         return Ok(Out::Output);
     };
-    match open_out(rt, path) {
-        Ok(out) => Ok(out),
-        Err(error) => Err(unwritten(&error)),
-    }
+    open_out(rt, path).map_err(|error| unwritten(&error))
 }
 
 impl OutFile {

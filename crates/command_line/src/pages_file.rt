@@ -24,13 +24,9 @@ fn pages_file<R: Files + Input + Print + AllocGlobal>(
     errors: Stderr,
     asked: &Pages,
 ) -> Result<PagesStatus, Unfinished> {
-    match open_base(rt, asked.base) {
-        Ok(base) => match named_out(rt, asked.out) {
-            Ok(out) => pages_to(rt, errors, base, asked, out),
-            Err(unfinished) => Err(unfinished),
-        },
-        Err(unfinished) => Err(unfinished),
-    }
+    let base = open_base(rt, asked.base)?;
+    let out = named_out(rt, asked.out)?;
+    pages_to(rt, errors, base, asked, out)
 }
 
 fn write_to<R: Files + Input + AllocGlobal, W: io::Write>(

@@ -1,13 +1,12 @@
 //! The program's words, read by clap: one level of subcommands, required options.
 
 use crate::help;
-use base_map::View;
 use cert_table::MOST_RANK;
 use checker::Policy;
 use clap::{Arg, ArgAction, ArgMatches, Command, Error, value_parser};
 use frame_records::{Groups, GroupsFault, MOST_PENCE, Pence};
 use page_ids::{FrameId, MOST_PAGE, PageNo};
-use pageaudit::{FileKind, Form, Format, Level, ListForm};
+use pageaudit::{FileKind, Form, Format, Level, ListForm, View};
 use std::alloc::{AllocError, Global};
 use std::rt::Env;
 use std::{env, io};

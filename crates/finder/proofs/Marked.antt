@@ -1,6 +1,6 @@
 -- Which nodes are marked, and what a way of a listed frame's node does.
 use Rattle.std.proofs.Common.{◌≡◌, ◌<◌, ◌≤◌, ◌+◌, ◌*◌, ◌⊎◌, ℕ, Bool, true, false, cond, List, [], ◌∷◌, ◌++◌, Some, None, slice_get, length, get_or, set, refl, sym, ◌∙◌, ap, subst, ⊎_elim, length-append, replicate, arith, Any, Contains}
-use Rattle.finder.proofs.Words.{cases_eq, common_steps, get_or-set_at, slice_get_within, get_or-set_other, get_or-replicate, length-replicate, All-nil, All-push, All-contains, Contains-push, Contains-append_left, sum_by-set, count_by-le-length, same_Some, Id, entry_of, Frame, IsAscending, Discovered, Discovery, Graph, Goes, AreMarked, AreNamed, IsListed, FindsReached, EntryIsFound, IsFromEntry, IsRank, way_at, way_key, id_at}
+use Rattle.finder.proofs.Words.{cases_eq, common_steps, get_or-set_at, slice_get_within, get_or-set_other, get_or-replicate, length-replicate, All-nil, All-push, All-contains, Contains-push, Contains-append_left, sum_by-set, count_by-le-length, same_Some, Id, entry_of, Frame, IsAscending, Discovered, Discovery, Graph, Goes, AreMarked, AreNamed, IsDiscoveredSoFar, FindsReached, EntryIsFound, IsFromEntry, IsRank, way_at, way_key, id_at}
 use Rattle.std.proofs.lemmas.List.Folds.{sum_by-replicate}
 use Rattle.finder.proofs.Listed.{listed, finds_reached, passed, pushed, started}
 use Rattle.finder.proofs.Lists.{at_push, at_within, any_at, any_of, at_contains, contains_at, full_at, set_kept, true_within}
@@ -65,7 +65,7 @@ module _ (graph : Graph) (d : Discovery) (frame : Discovered) where
   pub entry_listed : d.order.keys ≡ graph.start ∷ [] → d.found ≡ frame ∷ []
       → d.listed.items ≡ set (replicate graph.table.count false) graph.start true
       → id_at graph.table.base.now.frames graph.start ≡ Some frame.id → frame.parent ≡ None → frame.key ≡ None
-      → IsRank graph.table.groups.now graph.table.base.now frame.id frame.rank → IsFromEntry graph → IsListed graph 0 d
+      → IsRank graph.table.groups.now graph.table.base.now frame.id frame.rank → IsFromEntry graph → IsDiscoveredSoFar graph 0 d
   entry_listed order found listed at parent key ranked entry =
       let same : frame.id ≡ entry_of graph.table.base.now = same_Some frame.id (entry_of graph.table.base.now) (sym at ∙ entry.entry_is) in
       record {
@@ -74,7 +74,7 @@ module _ (graph : Graph) (d : Discovery) (frame : Discovered) where
         found = rw found (started graph.table.groups.now graph.table.base.now frame same parent key ranked);
       }
 
-module _ (graph : Graph) (index way from : ℕ) (d : Discovery) (small : way < 11) (placed : slice_get d.order.keys index ≡ Some from) (is : IsListed graph (index * 11 + way) d) where
+module _ (graph : Graph) (index way from : ℕ) (d : Discovery) (small : way < 11) (placed : slice_get d.order.keys index ≡ Some from) (is : IsDiscoveredSoFar graph (index * 11 + way) d) where
   abbrev e : (e : Discovered) × (slice_get d.found index ≡ Some e) × (id_at graph.table.base.now.frames from ≡ Some e.id)
   e = frame_listed graph.table.base.now.frames d.order.keys d.found is.named index from placed
 
@@ -83,7 +83,7 @@ module _ (graph : Graph) (index way from : ℕ) (d : Discovery) (small : way < 1
 
   -- the way leads to no node, or to a marked one
   pub way_passed : ((node : ℕ) → Goes graph from way node → get_or d.listed.items node false ≡ true)
-      → IsListed graph (index * 11 + way + 1) d
+      → IsDiscoveredSoFar graph (index * 11 + way + 1) d
   way_passed old = record {
     named = is.named;
     marked = is.marked;
@@ -95,7 +95,7 @@ module _ (graph : Graph) (index way from : ℕ) (d : Discovery) (small : way < 1
       → id_at graph.table.base.now.frames node ≡ Some frame.id → get_or d.listed.items node false ≡ false
       → IsRank graph.table.groups.now graph.table.base.now frame.id frame.rank → frame.parent ≡ Some index → frame.key ≡ Some (way_key (way_at way))
       → new.order.keys ≡ d.order.keys ++ node ∷ [] → new.found ≡ d.found ++ frame ∷ []
-      → new.listed.items ≡ set d.listed.items node true → IsListed graph (index * 11 + way + 1) new
+      → new.listed.items ≡ set d.listed.items node true → IsDiscoveredSoFar graph (index * 11 + way + 1) new
   way_led node frame new goes named blank ranked parent key order found listed = record {
     named = rw (order, found) (named_more graph.table.base.now.frames d.order.keys d.found is.named node frame named);
     marked = rw (order, listed) (marked_more graph d.order.keys d.listed.items is.marked node blank goes.to);
@@ -103,7 +103,7 @@ module _ (graph : Graph) (index way from : ℕ) (d : Discovery) (small : way < 1
   }
 
 -- all frames are listed that are reached
-module _ (graph : Graph) (index : ℕ) (d : Discovery) (is : IsListed graph (index * 11) d) (entry : IsFromEntry graph) where
+module _ (graph : Graph) (index : ℕ) (d : Discovery) (is : IsDiscoveredSoFar graph (index * 11) d) (entry : IsFromEntry graph) where
   pub discovered : (length d.order.keys ≤ index) ⊎ (graph.table.count ≤ length d.order.keys)
       → EntryIsFound graph.table.groups.now graph.table.base.now
       → FindsReached graph.table.groups.now graph.table.base.now d.found

@@ -14,6 +14,7 @@
 //!   looked up once, and nothing is sought again.
 //! - [`find`], [`Found`], [`Discovered`]: the list alone.
 //! - [`within`], [`Direction`]: the frames within a number of keys of a frame, whether or not a caller reaches it.
+//! - [`Part`]: some frames of a base, or all. [`View`]: a part that is named by a page and a number of keys; [`part_of`]: its frames.
 //! - [`script_to`]: the keys that lead to a listed frame.
 //! - [`found_is_one`]: the list's clauses hold of one list alone; [`scripts_lead`]: its scripts lead.
 //!
@@ -29,16 +30,20 @@ mod graph;
 mod laws;
 mod neighbours;
 mod notes;
+mod part;
 mod ranks;
 mod script;
 mod survey;
 mod table;
 mod target;
+mod view;
 mod window;
 
 pub use direction::Direction;
 pub use found::{Discovered, Found};
 pub use laws::{found_is_one, scripts_lead};
+pub use part::Part;
 pub use script::script_to;
 pub use survey::{Survey, find};
+pub use view::{View, part_of};
 pub use window::within;

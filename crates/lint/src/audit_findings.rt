@@ -141,7 +141,8 @@ fn add_hidden(
     row: usize,
     findings: &mut Vec<Finding>,
 ) -> Result<(), AllocError>
-    ensures { OnOk result (findings.new.items ≡ findings.old.items ++ spec.look_in (table_seen table.now) id (Hidden row)) }
+    ensures { OnOk result (findings.new.items
+        ≡ findings.old.items ++ spec.look_in (table_seen table.now) id (Hidden row)) }
 {
     if has_rows(table) {
         let words = hidden_words(alloc, id, row)?;
@@ -157,7 +158,8 @@ fn add_escape(
     row: usize,
     findings: &mut Vec<Finding>,
 ) -> Result<(), AllocError>
-    ensures { OnOk result (findings.new.items ≡ findings.old.items ++ spec.look_in (table_seen table.now) id (Escape row)) }
+    ensures { OnOk result (findings.new.items
+        ≡ findings.old.items ++ spec.look_in (table_seen table.now) id (Escape row)) }
 {
     if let Some(span) = single_at(table, row) {
         findings.push(Finding::warning(span, escape_words(alloc, id, row)?))?;

@@ -24,7 +24,8 @@ fn text_finding<'a>(
         → IsTable tables.now.text.now ms (table_seen table.old)
         → f ≡ spec.text_finding tables.now.text.now ms fault.now) }
     ensures table { OnOk result ((ms : List Mark) → KnowsTables ms tables.now
-        → IsTable tables.now.text.now ms (table_seen table.old) → IsTable tables.now.text.now ms (table_seen table.new)) }
+        → IsTable tables.now.text.now ms (table_seen table.old)
+        → IsTable tables.now.text.now ms (table_seen table.new)) }
 {
     tables.turn(alloc, table, fault.frame)?;
     let written = Written {
@@ -74,9 +75,11 @@ fn whole_finding<'a>(
 ) -> Result<Finding, AllocError>
     ensures finding { IfOk result (λ f. (ms : List Mark) → KnowsTables ms tables.now
         → lines.now ≡ tables.now.text.now → Lists (table_at tables.now.text.now ms None) pages.now
-        → IsTable tables.now.text.now ms (table_seen table.old) → f ≡ spec.whole_finding tables.now.text.now ms fault.now) }
+        → IsTable tables.now.text.now ms (table_seen table.old)
+        → f ≡ spec.whole_finding tables.now.text.now ms fault.now) }
     ensures table { OnOk result ((ms : List Mark) → KnowsTables ms tables.now
-        → IsTable tables.now.text.now ms (table_seen table.old) → IsTable tables.now.text.now ms (table_seen table.new)) }
+        → IsTable tables.now.text.now ms (table_seen table.old)
+        → IsTable tables.now.text.now ms (table_seen table.new)) }
 {
     tables.turn(alloc, table, whole_table(fault))?;
     let words = whole_fault_words(alloc, fault, first_line(tables, lines, fault))?;

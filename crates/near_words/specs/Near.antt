@@ -51,8 +51,8 @@ module _ {A : Type 0} (name_of : A → List ℕ) where
     -- one of them is fewer than this many steps away; none before it is as near, and none after it is nearer
     abbrev pub IsNearestBelow : ℕ → List A → A → Type 0
     IsNearestBelow steps xs x =
-        (before : List A) × (offered : List A) × (xs ≡ before ++ x ∷ offered) × (is_below steps word (name_of x) ≡ true) ×
-        NoneBelow (steps_to x + 1) before × NoneBelow (steps_to x) offered
+        (before : List A) × (after : List A) × (xs ≡ before ++ x ∷ after) × (is_below steps word (name_of x) ≡ true) ×
+        NoneBelow (steps_to x + 1) before × NoneBelow (steps_to x) after
 
     -- what is found is the nearest of the near ones; or none is near
     abbrev pub IsNearest : List A → Option A → Type 0

@@ -10,8 +10,8 @@ use Rattle.audit_report.specs.declared.run_fault.RunFault.TheVariants as run
 use Rattle.audit_report.specs.ReportLines.{report_text, IsReport}
 use Rattle.audit_report.specs.declared.list_form.ListForm.{ListForm}
 use Rattle.audit_report.specs.Listing.{IsListText}
-use Rattle.base_map.specs.declared.view.View.{View}
-use Rattle.base_map.specs.Windows.{IsViewed}
+use Rattle.finder.specs.declared.view.View.{View}
+use Rattle.base_map.specs.Map.{IsViewed}
 use Rattle.audit_report.specs.Statuses.{status_of_outcome}
 use Rattle.audit_report.specs.declared.status.Status.{Status}
 use Rattle.pageaudit.specs.declared.map_run.MapStatus.{MapStatus}

@@ -3,8 +3,8 @@ use Rattle.std.specs.Prelude.{◌≡◌, ℕ, List, Option, Some, None, Vec, Res
 use Rattle.std.specs.declared.alloc.Global.{Global}
 use Rattle.frame_records.specs.Bases.{BaseView}
 use Rattle.audit_report.specs.declared.run_fault.RunFault.{RunFault}
-use Rattle.base_map.specs.declared.view.View.{View}
-use Rattle.base_map.specs.Windows.{IsViewed}
+use Rattle.finder.specs.declared.view.View.{View}
+use Rattle.base_map.specs.Map.{IsViewed}
 use Rattle.pageaudit.specs.declared.map_run.MapStatus.{MapStatus}
 use Rattle.pageaudit.specs.declared.map_run.MapStatus.TheVariants.{Drawn, NoPage}
 use Rattle.pageaudit.specs.Files.{Device, IsUntouched, IsTextWritten, IsBaseRun}

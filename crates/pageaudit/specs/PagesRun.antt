@@ -4,7 +4,7 @@ use Rattle.frame_records.specs.Bases.{BaseView}
 use Rattle.checker.specs.declared.policy.Policy.{Policy}
 use Rattle.audit_report.specs.declared.run_fault.RunFault.{RunFault}
 use Rattle.audit_report.specs.declared.run_fault.RunFault.TheVariants as run
-use Rattle.base_map.specs.declared.view.View.{View}
+use Rattle.finder.specs.declared.view.View.{View}
 use Rattle.base_pages.specs.declared.fault.PagesFault.{PagesFault}
 use Rattle.base_pages.specs.declared.fault.PagesFault.TheVariants.{Write, Memory}
 use Rattle.base_pages.specs.declared.pages.PagesStatus.{PagesStatus}

@@ -49,11 +49,11 @@ mod walk_run;
 
 pub use audit_report::{ListForm, Status};
 pub use audit_run::{run_audit, run_audit_into};
-pub use base_map::View;
 pub use base_pages::PagesStatus;
 pub use change_run::run_change;
 pub use check_run::run_check;
 pub use export_run::{read_exported, run_export};
+pub use finder::View;
 pub use finding_forms::Format;
 pub use frame_screens::Gallery;
 pub use import_run::{ImportFault, ImportStatus, run_import, status_of_import, take_screen};

@@ -6,9 +6,9 @@ use crate::file_fault::base_fault;
 use crate::input::read_base;
 use crate::status::status_of;
 use audit_report::{RunFault, Sink, Source};
-use base_map::View;
 use base_pages::{PagesFault, PagesStatus, write_pages};
 use checker::Policy;
+use finder::View;
 use std::alloc::Global;
 
 // A fault of the file as one of the run.
@@ -44,10 +44,7 @@ pub fn run_pages<B: Source, O: Sink>(
     ensures { IsPagesFileRun (device B.seen base.old base.new)
         (device O.seen out.old out.new) name.now policy.now view.now result }
 {
-    let base = match read_base(alloc, base) {
-        Ok(base) => base,
-        Err(fault) => return Err(base_fault(fault)),
-    };
+    let base = read_base(alloc, base).map_err(base_fault)?;
     run_of(write_pages(alloc, &base, policy, view, name, out))
 }
 

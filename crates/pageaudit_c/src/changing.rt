@@ -31,7 +31,8 @@ struct Edition {
 }
 
 fn edition_of(alloc: Global, texts: Texts<'_>) -> Result<Edition, InputFault>
-    ensures read { IfOk result (λ e. IsEditionOfTexts (edition_texts texts.entry.base.now texts.entry.cert.now) e.base e.cert) }
+    ensures read { IfOk result (λ e.
+        IsEditionOfTexts (edition_texts texts.entry.base.now texts.entry.cert.now) e.base e.cert) }
     ensures fault { IfErr result (IsInputFault texts.entry.base.now texts.entry.cert.now) }
 {
     let base = base_of(alloc, texts.base)?;
@@ -133,12 +134,14 @@ pub extern "C" fn pageaudit_change(
     line: &mut [u8],
     full_length: &mut usize,
 ) -> u32
-    ensures call { IsCall (IsChangeAnswer (edition_texts old_base.now old_cert.now) (edition_texts new_base.now new_cert.now))
+    ensures call { IsCall (IsChangeAnswer (edition_texts old_base.now old_cert.now)
+            (edition_texts new_base.now new_cert.now))
         (asked ceiling keyings groups.now) (buffer line.old line.new full_length.new) result }
 
     // If the status is Clear, callers stay safe over the change.
     ensures safe { result ≡ 0
-        → HoldsForPolicy (IsSafeChangeOf (edition_texts old_base.now old_cert.now) (edition_texts new_base.now new_cert.now))
+        → HoldsForPolicy (IsSafeChangeOf (edition_texts old_base.now old_cert.now)
+            (edition_texts new_base.now new_cert.now))
         (asked ceiling keyings groups.now) }
 {
     let old = Texts {

@@ -1,7 +1,8 @@
 //! The whole text of the maps of some bases.
 
-use base_map::{Part, map_text};
+use base_map::map_text;
 use base_text::base_read;
+use finder::Part;
 use frame_records::{Base, Groups};
 use std::alloc::Global;
 use std::test::Fail;

@@ -1,6 +1,7 @@
 //! The titles of frames.
 
-use base_map::{Part, map_text};
+use base_map::map_text;
+use finder::Part;
 use frame_records::{Base, Body, Frame, Groups, Lead, Pence};
 use page_ids::{FrameId, PageNo};
 use std::alloc::Global;

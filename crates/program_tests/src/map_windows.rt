@@ -1,7 +1,8 @@
 //! The frames near a page.
 
-use base_map::{Part, View, map_view, part_of};
+use base_map::map_view;
 use base_text::base_read;
+use finder::{Part, View, part_of};
 use frame_records::{Base, Groups};
 use page_ids::PageNo;
 use std::alloc::{AllocError, Global};

@@ -10,8 +10,8 @@ ghost use Rattle.audit_report.specs.Listing.{IsListing, ListsEveryFrame, AreOneL
 ghost use Rattle.base_map.specs.Map.{IsMap, AreEdges, KeysLeadOn};
 
 use audit_report::{ListForm, Listing, frames_are_lines, list, lists_every_frame};
-use base_map::{Part, edges_are_ways, map_text};
-use finder::{Direction, within};
+use base_map::{edges_are_ways, map_text};
+use finder::{Direction, Part, within};
 use frame_records::{Base, Groups};
 use indexmap::IndexSet;
 use page_ids::FrameId;

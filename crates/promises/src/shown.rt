@@ -26,9 +26,9 @@ ghost use Rattle.screen_files.specs.Laws.{IsSavedScreen, rows_alone};
 ghost use Rattle.base_pages.specs.Pages.{IsPagesRun};
 
 use audit_report::Sink;
-use base_map::View;
 use base_pages::{PagesFault, PagesStatus, write_pages};
 use checker::Policy;
+use finder::View;
 use frame_records::{Base, Groups};
 use frame_screens::{FrameList, NoScreen, frames_after, headline_is_seen, screen, way_to};
 use page_ids::{FrameId, Key};

@@ -13,7 +13,8 @@ use Rattle.terminal_codes.specs.Bodies.{lead_codes}
 use Rattle.terminal_codes.proofs.Runs.{run_append}
 use Rattle.base_text.specs.Rows.{row_bytes, rows_bytes, body_of_rows}
 use Rattle.screen_files.specs.Codes.{blank_codes}
-use Rattle.screen_files.specs.Rows.{before, trimmed, screen_row, last_row, rows_to, rows_of}
+use Rattle.screens.specs.Text.{before, trimmed}
+use Rattle.screen_files.specs.Rows.{screen_row, last_row, rows_to, rows_of}
 use Rattle.screen_files.specs.Laws.{IsSavedScreen, rows_alone}
 
 -- Rows without the spaces at their ends.

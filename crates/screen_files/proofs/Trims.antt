@@ -3,7 +3,8 @@ use Rattle.std.proofs.Common.{◌≡◌, ◌∙◌, ap, ◌≢◌, ◌<◌, ◌�
 use Rattle.std.proofs.lemmas.Bool.Decides.{nat_tests}
 use Rattle.std.proofs.lemmas.List.Elements.{All-from_get_or, All-head, All-tail}
 use Rattle.std.specs.List.{All}
-use Rattle.screen_files.specs.Rows.{before, trimmed, screen_row, last_row}
+use Rattle.screens.specs.Text.{before, trimmed}
+use Rattle.screen_files.specs.Rows.{screen_row, last_row}
 
 abbrev IsSpace : ℕ → Type 0
 IsSpace c = c ≡ 32

@@ -1,16 +1,7 @@
 -- The rows of a frame that shows a screen.
 use Rattle.std.specs.Prelude.{ℕ, zero, suc, List, [], ◌∷◌, ◌*◌, ◌==◌, length, map, take, drop, if◌then◌else◌}
 use Rattle.std.specs.List.{range_with_len}
-
--- a code before others: a space before none is dropped
-abbrev pub before : ℕ → List ℕ → List ℕ
-before c [] = if c == 32 then [] else c ∷ []
-before c (d ∷ ds) = c ∷ d ∷ ds
-
--- without the spaces (32) at the end; attributes stay
-abbrev pub trimmed : List ℕ → List ℕ
-trimmed [] = []
-trimmed (c ∷ cs) = before c (trimmed cs)
+use Rattle.screens.specs.Text.{trimmed}
 
 -- the row of a screen
 abbrev pub screen_row : List ℕ → ℕ → List ℕ

@@ -6,7 +6,8 @@ use Rattle.page_ids.specs.Ids.{Id, frame_text}
 use Rattle.page_ids.specs.Texts.{hex_digit}
 use Rattle.screens.specs.Looks.{looks}
 use Rattle.screen_files.specs.Keys.{shows_key}
-use Rattle.screen_files.specs.Rows.{trimmed, rows_of}
+use Rattle.screens.specs.Text.{trimmed}
+use Rattle.screen_files.specs.Rows.{rows_of}
 use Rattle.screen_files.specs.declared.frame.ScreenFrame.{ScreenFrame}
 
 -- A row.

@@ -1,6 +1,7 @@
 //! The rows of a screen without the spaces at their ends.
 
 ghost use Rattle.std.specs.Prelude.{◌≡◌, ◌<◌, ◌≤◌, ◌*◌, take, drop};
+ghost use Rattle.screens.specs.Text.{trimmed};
 ghost use Rattle.screen_files.specs.Rows as spec;
 
 use screens::row_codes;
@@ -17,7 +18,7 @@ pub fn row_copy(codes: &[u8; 960], row: usize) -> [u8; 40]
 
 // Without the spaces at the end.
 pub fn trimmed(row: &[u8]) -> &[u8]
-    ensures { result.now ≡ spec.trimmed row.now }
+    ensures { result.now ≡ trimmed row.now }
 {
     match row.iter().rposition(|code| *code != b' ') {
         Some(last) => &row[..last + 1],

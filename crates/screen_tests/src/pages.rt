@@ -1,7 +1,7 @@
-use base_map::View;
 use base_pages::{PagesFault, PagesStatus, write_pages};
 use base_text::base_read;
 use checker::Policy;
+use finder::View;
 use frame_records::{Groups, Pence};
 use page_ids::PageNo;
 use std::alloc::Global;

@@ -1,5 +1,5 @@
 use Rattle.std.proofs.Common.{subst}
-use Rattle.base_map.specs.Windows.{IsViewPart}
+use Rattle.finder.specs.Parts.{IsViewPart}
 use Rattle.base_pages.proofs.OnTheWay.{run_of_part}
 use Rattle.base_pages.proofs.pages.write_pages.Goals as goal
 

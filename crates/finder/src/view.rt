@@ -1,14 +1,14 @@
 ghost use Rattle.std.specs.Prelude.{IfOk};
-ghost use Rattle.base_map.specs.Windows.{IsViewPart, IsViewed, IsWindow};
+ghost use Rattle.finder.specs.Parts.{IsViewPart, IsWindow};
 
-use crate::map::map_text;
+use crate::direction::Direction;
 use crate::part::Part;
-use finder::{Direction, within};
+use crate::window::within;
 use frame_records::{Base, Groups};
 use page_ids::{FrameId, PageNo};
 use std::alloc::{AllocError, Global};
 
-/// What a map shows of a base. Without a number of keys, any number will do.
+/// A part of a base, named by a page and a number of keys. Without a number of keys, any number will do.
 #[derive(Debug, Clone, Copy, PartialEq, Eq)]
 pub enum View {
     /// All frames.
@@ -49,20 +49,5 @@ pub fn part_of(
         View::Whole => Ok(Some(Part::whole())),
         View::From(page, most) => { near_page(alloc, base, groups, Direction::From, *page, *most) }
         View::To(page, most) => near_page(alloc, base, groups, Direction::To, *page, *most),
-    }
-}
-
-/// The map of a view of a base, as `map_text` gives it; `None` if the base lacks the frame `a` of the view's page.
-pub fn map_view(
-    alloc: Global,
-    base: &Base,
-    groups: &Groups,
-    view: &View,
-) -> Result<Option<Vec<u8>>, AllocError>
-    ensures { IfOk result (λ map. IsViewed groups.now base.now view.now map) }
-{
-    match part_of(alloc, base, groups, view)? {
-        Some(part) => Ok(Some(map_text(alloc, base, groups, &part)?)),
-        None => Ok(None),
     }
 }

@@ -1,11 +1,11 @@
 ghost use Rattle.std.specs.Prelude.{◌≡◌, Some, None};
-ghost use Rattle.base_map.specs.Edges.{part_shows};
+ghost use Rattle.finder.specs.Parts.{part_shows};
 
 use indexmap::IndexSet;
 use page_ids::FrameId;
 use std::marker::Model;
 
-/// The frames of a base that a map shows. Contracts see their ids, or `None` if it shows all.
+/// Some frames of a base, or all. Contracts see their ids, or `None` for all.
 #[derive(Drop)]
 pub struct Part {
     only: Option<IndexSet<FrameId>>,
