@@ -40,8 +40,8 @@ use Rattle.screens.proofs.Tags.{is_inner, Inner, Outer, has_inner, Tags, svg_tag
 use Rattle.base_pages.specs.Faults.{item, items, list_begin, listed, fault_list, faults_about, entry_faults, touched_cell}
 use Rattle.base_pages.specs.Ways.{link, marked, way_text}
 use Rattle.base_pages.specs.Screens.{is_reached, screen_of}
-use Rattle.base_pages.specs.Sections.{BookView, class_of, opening, section_begin, screen_forms, price_line, over, ways_begin, ways_line, section_tail, section_end, section, sections}
-use Rattle.base_pages.specs.Head.{name_line, counted, ceiling_text, keyings_text, ceiling_asked, keyings_asked, certified_begin, certified, faulty_begin, faulty, outcome_text, groups_text, policy_line, outcome_faults, header_begin, header_end, header}
+use Rattle.base_pages.specs.Sections.{BookView, class_of, section_opening, section_begin, screen_forms, price_line, over, ways_begin, ways_line, section_tail, section_end, section, sections}
+use Rattle.base_pages.specs.Head.{name_line, fault_count, ceiling_text, keyings_text, ceiling_asked, keyings_asked, certified_begin, certified, faulty_begin, faulty_words, outcome_text, callers_text, policy_line, outcome_faults, header_begin, header_end, header}
 use Rattle.base_pages.specs.Shell.{head, middle, foot}
 use Rattle.base_pages.specs.Tags.{tag_list, class_tag, begin_tags, link_tags, marked_tags, way_tags, over_tags, item_tags, fault_tags, end_tags, picture_tags, section_tags, verdict_tags, header_tags, page_tags, HasLetter, HaveLetters}
 use Rattle.base_pages.specs.Pages.{page}
@@ -159,8 +159,8 @@ unfolding class_of
 class_step t true rest = ap (λ (u : List ℕ). u ∷ codes "h2" ∷ tags_from false [] rest) (sym (append-nil t))
 class_step t false rest = inside t (codes " class=\"unreached\"") refl (codes ">\n<h2>" ++ rest)
 
-opening_step : (id : Id) → IsLetter id.letter → Step false [] (opening id) [] true (codes "section id=\"" ++ frame_text id ++ codes "\"")
-unfolding opening
+opening_step : (id : Id) → IsLetter id.letter → Step false [] (section_opening id) [] true (codes "section id=\"" ++ frame_text id ++ codes "\"")
+unfolding section_opening
 opening_step id is =
     after false true true [] (codes "section id=\"" ++ frame_text id) (codes "section id=\"" ++ frame_text id ++ codes "\"") (codes "<section id=\"" ++ frame_text id) (codes "\"") [] []
     (after false true true [] (codes "section id=\"") (codes "section id=\"" ++ frame_text id) (codes "<section id=\"") (frame_text id) [] [] (λ rest. refl) (inside (codes "section id=\"") (frame_text id) (inner_id id is)))
@@ -171,9 +171,9 @@ unfolding section_begin
 begin_step id r is =
     let t = codes "section id=\"" ++ frame_text id ++ codes "\"" in
     let own = (t ++ class_tag r) ∷ codes "h2" ∷ [] in
-    after false false false [] [] [] (opening id ++ class_of r ++ frame_text id) (codes "</h2>\n") (own ++ []) (codes "/h2" ∷ [])
-    (after false false false [] [] [] (opening id ++ class_of r) (frame_text id) own []
-    (after false true false [] t [] (opening id) (class_of r) [] own (opening_step id is) (class_step t r))
+    after false false false [] [] [] (section_opening id ++ class_of r ++ frame_text id) (codes "</h2>\n") (own ++ []) (codes "/h2" ∷ [])
+    (after false false false [] [] [] (section_opening id ++ class_of r) (frame_text id) own []
+    (after false true false [] t [] (section_opening id) (class_of r) [] own (opening_step id is) (class_step t r))
     (outside (frame_text id) (outer_id id is)))
     (λ rest. refl)
 
@@ -449,8 +449,8 @@ outer_plural : (one : Bool) → Outer (if one then [] else codes "s")
 outer_plural true = refl
 outer_plural false = refl
 
-outer_counted : (n : ℕ) (thing : List ℕ) → Outer thing → Outer (counted n thing)
-unfolding counted
+outer_counted : (n : ℕ) (thing : List ℕ) → Outer thing → Outer (fault_count n thing)
+unfolding fault_count
 outer_counted n thing h =
     outer_joined (decimal n ++ codes " " ++ thing) (if n == 1 then [] else codes "s")
     (outer_joined (decimal n ++ codes " ") thing (outer_joined (decimal n) (codes " ") (outer_decimal n) refl) h)
@@ -463,8 +463,8 @@ outer_ceiling n = outer_joined (codes ", at most " ++ decimal n) (codes "p a fra
 outer_keyings : (n : ℕ) → Outer (keyings_text n)
 unfolding keyings_text
 outer_keyings n =
-    outer_joined (codes ", at most " ++ counted n (codes "key")) (codes " back")
-    (outer_joined (codes ", at most ") (counted n (codes "key")) refl (outer_counted n (codes "key") refl)) refl
+    outer_joined (codes ", at most " ++ fault_count n (codes "key")) (codes " back")
+    (outer_joined (codes ", at most ") (fault_count n (codes "key")) refl (outer_counted n (codes "key") refl)) refl
 
 outer_ceiling_asked : (n : ℕ) → Outer (ceiling_asked n)
 outer_ceiling_asked n = cond_both (n == 9999) [] (ceiling_text n) Outer (λ e. refl) (λ e. outer_ceiling n)
@@ -476,8 +476,8 @@ outer_spaced : (groups : List ℕ) → Outer (spaced_groups groups)
 outer_spaced [] = refl
 outer_spaced (group ∷ groups) = outer_joined (decimal group) (spaced_groups groups) (outer_decimal group) (outer_spaced groups)
 
-outer_groups : (groups : List ℕ) → Outer (groups_text groups)
-unfolding groups_text
+outer_groups : (groups : List ℕ) → Outer (callers_text groups)
+unfolding callers_text
 outer_groups groups = cond_both (length groups == 0) _ _ Outer (λ e. refl) (λ e. outer_joined (codes "groups") (spaced_groups groups) refl (outer_spaced groups))
 
 -- a paragraph of three texts, from its beginning on
@@ -492,20 +492,20 @@ paragraph_step begin t ts a b c begins h k l =
     after false false false [] [] [] abc (codes "</p>\n") (t ∷ ts) (codes "/p" ∷ []) whole (λ rest. refl)
 
 verdict_step : (outcome : Outcome) → Step false [] (outcome_text outcome) (verdict_tags outcome) false []
-unfolding certified certified_begin faulty faulty_begin
+unfolding certified certified_begin faulty_words faulty_begin
 verdict_step (Certified cert) =
-    paragraph_step certified_begin (codes "p class=\"verdict certified\"") (codes "/p" ∷ codes "p" ∷ []) (counted (length cert.rows) (codes "frame")) (ceiling_text cert.ceiling) (keyings_text cert.keyings)
+    paragraph_step certified_begin (codes "p class=\"verdict certified\"") (codes "/p" ∷ codes "p" ∷ []) (fault_count (length cert.rows) (codes "frame")) (ceiling_text cert.ceiling) (keyings_text cert.keyings)
     (λ rest. refl) (outer_counted (length cert.rows) (codes "frame") refl) (outer_ceiling cert.ceiling) (outer_keyings cert.keyings)
 verdict_step (Faulty faults) =
-    after false false false [] [] [] (codes "<p class=\"verdict faulty\">" ++ counted (length faults) (codes "fault")) (codes "</p>\n") (codes "p class=\"verdict faulty\"" ∷ []) (codes "/p" ∷ [])
-    (after false false false [] [] [] (codes "<p class=\"verdict faulty\">") (counted (length faults) (codes "fault")) (codes "p class=\"verdict faulty\"" ∷ []) []
-    (λ rest. refl) (outside (counted (length faults) (codes "fault")) (outer_counted (length faults) (codes "fault") refl)))
+    after false false false [] [] [] (codes "<p class=\"verdict faulty\">" ++ fault_count (length faults) (codes "fault")) (codes "</p>\n") (codes "p class=\"verdict faulty\"" ∷ []) (codes "/p" ∷ [])
+    (after false false false [] [] [] (codes "<p class=\"verdict faulty\">") (fault_count (length faults) (codes "fault")) (codes "p class=\"verdict faulty\"" ∷ []) []
+    (λ rest. refl) (outside (fault_count (length faults) (codes "fault")) (outer_counted (length faults) (codes "fault") refl)))
     (λ rest. refl)
 
 policy_step : (policy : Policy) → Step false [] (policy_line policy) (codes "p" ∷ codes "/p" ∷ []) false []
 unfolding policy_line
 policy_step policy =
-    paragraph_step (codes "<p>For a caller in ") (codes "p") [] (groups_text policy.groups) (ceiling_asked policy.ceiling) (keyings_asked policy.keyings)
+    paragraph_step (codes "<p>For a caller in ") (codes "p") [] (callers_text policy.groups) (ceiling_asked policy.ceiling) (keyings_asked policy.keyings)
     (λ rest. refl) (outer_groups policy.groups) (outer_ceiling_asked policy.ceiling) (outer_keyings_asked policy.keyings)
 
 entry_step : (entry : Id) → IsLetter entry.letter → Step false [] (header_begin entry) ((codes "header data-entry=\"" ++ frame_text entry ++ codes "\"") ∷ []) false []

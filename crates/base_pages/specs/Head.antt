@@ -20,15 +20,15 @@ unfoldable pub name_line : List ℕ → List ℕ
 name_line name = codes "<h1>" ++ written Markup (chars name) ++ codes "</h1>\n"
 
 -- how many there are of a thing
-unfoldable pub counted : ℕ → List ℕ → List ℕ
-counted n thing = decimal n ++ codes " " ++ thing ++ (if n == 1 then [] else codes "s")
+unfoldable pub fault_count : ℕ → List ℕ → List ℕ
+fault_count n thing = decimal n ++ codes " " ++ thing ++ (if n == 1 then [] else codes "s")
 
 -- a limit after others
 unfoldable pub ceiling_text : ℕ → List ℕ
 ceiling_text ceiling = codes ", at most " ++ decimal ceiling ++ codes "p a frame"
 
 unfoldable pub keyings_text : ℕ → List ℕ
-keyings_text keyings = codes ", at most " ++ counted keyings (codes "key") ++ codes " back"
+keyings_text keyings = codes ", at most " ++ fault_count keyings (codes "key") ++ codes " back"
 
 unfoldable pub certified_begin : List ℕ
 certified_begin = codes "<p class=\"verdict certified\">CERTIFIED</p>\n<p>"
@@ -36,22 +36,22 @@ certified_begin = codes "<p class=\"verdict certified\">CERTIFIED</p>\n<p>"
 -- how many frames the certificate has, and its ceiling and keyings
 unfoldable pub certified : CertView → List ℕ
 certified cert =
-    certified_begin ++ counted (length cert.rows) (codes "frame") ++ ceiling_text cert.ceiling ++ keyings_text cert.keyings ++ codes "</p>\n"
+    certified_begin ++ fault_count (length cert.rows) (codes "frame") ++ ceiling_text cert.ceiling ++ keyings_text cert.keyings ++ codes "</p>\n"
 
 unfoldable pub faulty_begin : List ℕ
 faulty_begin = codes "<p class=\"verdict faulty\">"
 
 -- how many faults there are
-unfoldable pub faulty : List Fault → List ℕ
-faulty faults = faulty_begin ++ counted (length faults) (codes "fault") ++ codes "</p>\n"
+unfoldable pub faulty_words : List Fault → List ℕ
+faulty_words faults = faulty_begin ++ fault_count (length faults) (codes "fault") ++ codes "</p>\n"
 
 abbrev pub outcome_text : Outcome → List ℕ
 outcome_text (Certified cert) = certified cert
-outcome_text (Faulty faults) = faulty faults
+outcome_text (Faulty faults) = faulty_words faults
 
 -- groups, with a space before each
-unfoldable pub groups_text : List ℕ → List ℕ
-groups_text groups = if length groups == 0 then codes "no groups" else codes "groups" ++ spaced_groups groups
+unfoldable pub callers_text : List ℕ → List ℕ
+callers_text groups = if length groups == 0 then codes "no groups" else codes "groups" ++ spaced_groups groups
 
 -- the widest limit isn't named
 abbrev pub ceiling_asked : ℕ → List ℕ
@@ -62,7 +62,7 @@ keyings_asked keyings = if keyings == MOST_RANK then [] else keyings_text keying
 
 unfoldable pub policy_line : Policy → List ℕ
 policy_line policy =
-    codes "<p>For a caller in " ++ groups_text policy.groups ++ ceiling_asked policy.ceiling ++ keyings_asked policy.keyings ++ codes "</p>\n"
+    codes "<p>For a caller in " ++ callers_text policy.groups ++ ceiling_asked policy.ceiling ++ keyings_asked policy.keyings ++ codes "</p>\n"
 
 -- the faults of an outcome
 abbrev pub outcome_faults : Outcome → List Fault

@@ -14,7 +14,7 @@ use Rattle.base_pages.specs.declared.index.FaultIndex.{FaultIndex}
 use Rattle.base_pages.specs.declared.index.Numbered.{Numbered}
 use Rattle.base_pages.specs.declared.book.Book.{Book}
 use Rattle.base_pages.specs.declared.pages.Prepared.{Prepared}
-use Rattle.base_pages.specs.declared.pages.Cover.{Cover}
+use Rattle.base_pages.specs.declared.pages.FrontMatter.{FrontMatter}
 use Rattle.base_pages.specs.Faults.{is_entry_kind, item, start_or}
 use Rattle.base_pages.specs.Head.{outcome_faults}
 use Rattle.base_pages.specs.Sections.{BookView}
@@ -104,7 +104,7 @@ pub record IsFilePrepared (base : BaseView) (policy : Policy) (p : Prepared) : T
   pub index : (id : Id) → kept_of p.index id ≡ numbers_of (numbered_faults 0 (outcome_faults p.outcome)) id
 
 -- the file of a book and its cover
-abbrev pub book_file : Cover → Book → List ℕ
+abbrev pub book_file : FrontMatter → Book → List ℕ
 book_file cover b = page cover.name.now cover.policy.now cover.outcome.now (book_view b)
 
 -- Why a text isn't written whole.

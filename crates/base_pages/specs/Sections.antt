@@ -32,12 +32,12 @@ unfoldable pub class_of : Bool → List ℕ
 class_of true = codes ">\n<h2>"
 class_of false = codes " class=\"unreached\">\n<h2>"
 
-unfoldable pub opening : Id → List ℕ
-opening id = codes "<section id=\"" ++ frame_text id ++ codes "\""
+unfoldable pub section_opening : Id → List ℕ
+section_opening id = codes "<section id=\"" ++ frame_text id ++ codes "\""
 
 unfoldable pub section_begin : Id → Bool → List ℕ
 section_begin id is_reached =
-    opening id ++ class_of is_reached ++ frame_text id ++ codes "</h2>\n"
+    section_opening id ++ class_of is_reached ++ frame_text id ++ codes "</h2>\n"
 
 -- the picture and the text of a screen
 unfoldable pub screen_forms : Id → List (List Look) → Option ℕ → List ℕ

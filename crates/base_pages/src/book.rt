@@ -50,9 +50,9 @@ fn push_own_id(out: &mut Vec<u8>, id: FrameId) -> Result<(), AllocError>
     out.extend_from_slice(&[id.letter.get()])
 }
 
-#[tactic(auto, using(std::proofs::Common::append_assoc), unfolding(crate::specs::Sections::opening))]
+#[tactic(auto, using(std::proofs::Common::append_assoc), unfolding(crate::specs::Sections::section_opening))]
 fn push_opening(out: &mut Vec<u8>, id: FrameId) -> Result<(), AllocError>
-    ensures text { OnOk result (out.new.items ≡ out.old.items ++ spec.opening id) }
+    ensures text { OnOk result (out.new.items ≡ out.old.items ++ spec.section_opening id) }
     ensures letter { OnOk result (IsLetter id.letter) }
 {
     out.extend_from_slice(b"<section id=\"")?;

@@ -36,9 +36,9 @@ fn push_name(out: &mut Vec<u8>, name: &str) -> Result<(), AllocError>
 }
 
 // How many there are of a thing.
-#[tactic(auto, using(std::proofs::Common::append_assoc), unfolding(crate::specs::Head::counted))]
+#[tactic(auto, using(std::proofs::Common::append_assoc), unfolding(crate::specs::Head::fault_count))]
 fn push_counted(out: &mut Vec<u8>, count: usize, thing: &[u8]) -> Result<(), AllocError>
-    ensures { OnOk result (out.new.items ≡ out.old.items ++ spec.counted count thing.now) }
+    ensures { OnOk result (out.new.items ≡ out.old.items ++ spec.fault_count count thing.now) }
 {
     push_number(out, count as u64)?;
     out.extend_from_slice(b" ")?;
@@ -105,9 +105,9 @@ fn faulty_begin() -> &'static [u8]
     b"<p class=\"verdict faulty\">"
 }
 
-#[tactic(auto, using(std::proofs::Common::append_assoc), unfolding(crate::specs::Head::faulty))]
+#[tactic(auto, using(std::proofs::Common::append_assoc), unfolding(crate::specs::Head::faulty_words))]
 fn push_faulty(out: &mut Vec<u8>, faults: &[Fault]) -> Result<(), AllocError>
-    ensures { OnOk result (out.new.items ≡ out.old.items ++ spec.faulty faults.now) }
+    ensures { OnOk result (out.new.items ≡ out.old.items ++ spec.faulty_words faults.now) }
 {
     out.extend_from_slice(faulty_begin())?;
     push_counted(out, faults.len(), b"fault")?;
@@ -135,9 +135,9 @@ fn push_numbers(out: &mut Vec<u8>, groups: &Groups) -> Result<(), AllocError>
     Ok(())
 }
 
-#[tactic(auto, using(std::proofs::Common::append_assoc), unfolding(crate::specs::Head::groups_text))]
+#[tactic(auto, using(std::proofs::Common::append_assoc), unfolding(crate::specs::Head::callers_text))]
 fn push_groups(out: &mut Vec<u8>, groups: &Groups) -> Result<(), AllocError>
-    ensures { OnOk result (out.new.items ≡ out.old.items ++ spec.groups_text groups.now) }
+    ensures { OnOk result (out.new.items ≡ out.old.items ++ spec.callers_text groups.now) }
 {
     if groups.len() == 0 {
         return out.extend_from_slice(b"no groups");

@@ -34,7 +34,7 @@ pub enum PagesStatus {
 
 // What is written, beside the sections.
 #[derive(Drop)]
-struct Cover<'a> {
+struct FrontMatter<'a> {
     name: &'a str,
     policy: &'a Policy,
     outcome: &'a Outcome,
@@ -46,7 +46,7 @@ fn push_front(
     alloc: Global,
     out: &mut Vec<u8>,
     base: &Base,
-    cover: &Cover,
+    cover: &FrontMatter,
 ) -> Result<(), AllocError>
     ensures { OnOk result (out.new.items ≡ out.old.items ++
         front cover.now.name.now base.now cover.now.policy.now cover.now.outcome.now) }
@@ -150,7 +150,7 @@ fn write_book<S: Sink>(
     alloc: Global,
     sink: &mut S,
     book: &Book,
-    cover: &Cover,
+    cover: &FrontMatter,
 ) -> Result<(), PagesFault>
     requires ready { IsReady book.now }
     requires open { (S.seen sink.old).failed ≡ false }
@@ -220,7 +220,7 @@ fn write_part<S: Sink>(
         index: &prepared.index,
         gallery: &prepared.gallery,
     };
-    let cover = Cover {
+    let cover = FrontMatter {
         name,
         policy,
         outcome: &prepared.outcome,
