@@ -9,7 +9,7 @@
 #![tactic(auto)]
 
 mod answers;
-mod screens;
+mod saved;
 mod tried;
 mod words;
 
@@ -30,7 +30,7 @@ use pageaudit::{
     run_pages, run_show, run_walk, status_of, status_of_import, status_of_lint, status_of_map,
     status_of_pages, status_of_show,
 };
-use screens::{exported, imported};
+use saved::{exported, imported};
 use std::env;
 use tried::{calls, ran};
 use words::Words;
