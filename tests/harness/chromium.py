@@ -6,7 +6,6 @@ import base64
 import json
 import re
 import shutil
-import time
 from collections.abc import Iterator
 from contextlib import contextmanager
 from pathlib import Path
@@ -151,9 +150,6 @@ class Browser:
     def run_later(self, script: str) -> Any:
         return self.web.execute_async_script(script)
 
-    def sleep(self, seconds: float) -> None:
-        time.sleep(seconds)
-
     # What a reader does
 
     def open(self, uri: str) -> None:
@@ -162,8 +158,16 @@ class Browser:
         self.web.get(uri)
 
     def back(self) -> None:
-        self.web.back()
-        self.sleep(0.2)
+        self.travel("history.back()")
+
+    def travel(self, script: str) -> None:
+        """Runs what changes the address, and waits until the page knows."""
+        self.run_later(
+            f"""
+            const done = arguments[0];
+            addEventListener("popstate", () => setTimeout(done, 0), {{ once: true }});
+            {script};"""
+        )
 
     def refresh(self) -> None:
         self.web.refresh()
