@@ -1,6 +1,6 @@
 //! Texts that are read one by one.
 
-use base_text::{BaseFault, BaseCause, Field};
+use base_text::{BaseCause, BaseFault, Field};
 use cert_table::Cover;
 use cert_text::{LineCause, ReadFault};
 use checker::{InputFault, base_of, cert_of};

@@ -4,7 +4,7 @@ use std::alloc::Global;
 use std::test::Fail;
 use test_support::same_in;
 use toml_places::{
-    Extent, Places, Span, KeyPlace, TablePlaces, TextLines, char_span, element_spans, frame_span,
+    Extent, KeyPlace, Places, Span, TablePlaces, TextLines, char_span, element_spans, frame_span,
     integer_at, key_span, pair_span, value_span,
 };
 

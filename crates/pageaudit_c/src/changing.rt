@@ -135,13 +135,13 @@ pub extern "C" fn pageaudit_change(
     full_length: &mut usize,
 ) -> u32
     ensures call { IsCall (IsChangeAnswer (edition_texts old_base.now old_cert.now)
-            (edition_texts new_base.now new_cert.now))
+        (edition_texts new_base.now new_cert.now))
         (asked ceiling keyings groups.now) (buffer line.old line.new full_length.new) result }
 
     // If the status is Clear, callers stay safe over the change.
     ensures safe { result ≡ 0
         → HoldsForPolicy (IsSafeChangeOf (edition_texts old_base.now old_cert.now)
-            (edition_texts new_base.now new_cert.now))
+        (edition_texts new_base.now new_cert.now))
         (asked ceiling keyings groups.now) }
 {
     let old = Texts {
