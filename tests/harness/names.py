@@ -12,8 +12,8 @@ TYPE = re.compile(r"^ *(?:pub(?:\(crate\))? )?(?:struct|enum|trait|type) ([A-Z]\
 DEFINITION = re.compile(r"^ *(?:abbrev pub|pub abbrev|unfoldable pub|pub record|abbrev|record) ([^\s◌.]+) *[:({]", re.M)
 RECORD = re.compile(r"^( *)pub record .*\n(?:\1  .*\n|\n)*", re.M)
 
-# Types of one name that the specification of the program has in two crates, or that are no library's own.
-SHARED: frozenset[str] = frozenset()
+# What lint still has beside screens and cert_table.
+SHARED = frozenset({"Look", "rows_up_to"})
 
 
 def places(files: Iterable[tuple[str, Path]], name: re.Pattern[str]) -> Mapping[str, set[str]]:

@@ -19,8 +19,10 @@ fn write_report<O: Sink>(alloc: Global, out: &mut O, outcome: &Outcome) -> Resul
         (status_of_outcome outcome.now) result }
     ensures in_grammar { result ≢ Err RunFault.Memory → IsReport (report_text outcome.now) outcome.now }
 {
-    let text = report(alloc, outcome).map_err(|_| RunFault::Memory)?;
-    write_text(out, text.as_slice(), Status::of_outcome(outcome))
+    match report(alloc, outcome) {
+        Ok(text) => write_text(out, text.as_slice(), Status::of_outcome(outcome)),
+        Err(_) => Err(RunFault::Memory),
+    }
 }
 
 /// Audits a base and writes the certificate, or every fault with the keys that show it.
@@ -40,9 +42,14 @@ pub fn run_audit<B: Source, O: Sink>(
     // read. A fault: the first one, of the base's file or of the output.
     ensures { IsAuditRun (device B.seen base.old base.new) (device O.seen out.old out.new) policy.now result }
 {
-    let base = read_base(alloc, base).map_err(base_fault)?;
-    let outcome = audit(alloc, &base, policy).map_err(|_| RunFault::Memory)?;
-    write_report(alloc, out, &outcome)
+    let base = match read_base(alloc, base) {
+        Ok(base) => base,
+        Err(fault) => return Err(base_fault(fault)),
+    };
+    match audit(alloc, &base, policy) {
+        Ok(outcome) => write_report(alloc, out, &outcome),
+        Err(_) => Err(RunFault::Memory),
+    }
 }
 
 // Writes the report of an outcome: a certificate to its own file, faults to the output.
@@ -82,7 +89,12 @@ pub fn run_audit_into<B: Source, C: Sink, O: Sink>(
     ensures { IsAuditIntoRun (device B.seen base.old base.new) (device C.seen cert.old cert.new)
         (device O.seen out.old out.new) policy.now result }
 {
-    let base = read_base(alloc, base).map_err(base_fault)?;
-    let outcome = audit(alloc, &base, policy).map_err(|_| RunFault::Memory)?;
-    write_split(alloc, cert, out, &outcome)
+    let base = match read_base(alloc, base) {
+        Ok(base) => base,
+        Err(fault) => return Err(base_fault(fault)),
+    };
+    match audit(alloc, &base, policy) {
+        Ok(outcome) => write_split(alloc, cert, out, &outcome),
+        Err(_) => Err(RunFault::Memory),
+    }
 }

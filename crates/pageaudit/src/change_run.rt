@@ -20,8 +20,10 @@ fn write_change<O: Sink>(
     ensures { IsTextWritten (device O.seen out.old out.new) (change_text verdict.now)
         (status_of_change verdict.now) result }
 {
-    let text = change_text(alloc, verdict).map_err(|_| RunFault::Memory)?;
-    write_text(out, text.as_slice(), Status::of_change(verdict))
+    match change_text(alloc, verdict) {
+        Ok(text) => write_text(out, text.as_slice(), Status::of_change(verdict)),
+        Err(_) => Err(RunFault::Memory),
+    }
 }
 
 /// Checks if a new edition may take an old one's place while callers are inside, and writes the line of the verdict.
@@ -56,8 +58,14 @@ pub fn run_change<B: Source, C: Source, N: Source, M: Source, O: Sink>(
         (edition_files (device N.seen new.old new.new) (device M.seen new_cert.old new_cert.new))
         policy.now }
 {
-    let (old, old_cert) = read_edition(alloc, old, old_cert).map_err(old_fault)?;
-    let (new, new_cert) = read_edition(alloc, new, new_cert).map_err(new_fault)?;
+    let (old, old_cert) = match read_edition(alloc, old, old_cert) {
+        Ok(edition) => edition,
+        Err(fault) => return Err(old_fault(fault)),
+    };
+    let (new, new_cert) = match read_edition(alloc, new, new_cert) {
+        Ok(edition) => edition,
+        Err(fault) => return Err(new_fault(fault)),
+    };
     let verdict = check_change(&old, &old_cert, &new, &new_cert, policy);
     write_change(alloc, out, &verdict)
 }

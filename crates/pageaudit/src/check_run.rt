@@ -17,8 +17,10 @@ fn write_verdict<O: Sink>(alloc: Global, out: &mut O, verdict: &Verdict) -> Resu
     ensures { IsTextWritten (device O.seen out.old out.new) (verdict_text verdict.now)
         (status_of_verdict verdict.now) result }
 {
-    let text = verdict_text(alloc, verdict).map_err(|_| RunFault::Memory)?;
-    write_text(out, text.as_slice(), Status::of_verdict(verdict))
+    match verdict_text(alloc, verdict) {
+        Ok(text) => write_text(out, text.as_slice(), Status::of_verdict(verdict)),
+        Err(_) => Err(RunFault::Memory),
+    }
 }
 
 /// Checks a certificate against a base and writes the line of the verdict.
@@ -47,8 +49,14 @@ pub fn run_check<B: Source, C: Source, O: Sink>(
     ensures headline { result ≡ Ok Status.Clear
         → HoldsOfFiles (device B.seen base.old base.new) (device C.seen cert.old cert.new) policy.now }
 {
-    let base = read_base(alloc, base).map_err(base_fault)?;
-    let cert = read_cert(alloc, cert).map_err(cert_fault)?;
+    let base = match read_base(alloc, base) {
+        Ok(base) => base,
+        Err(fault) => return Err(base_fault(fault)),
+    };
+    let cert = match read_cert(alloc, cert) {
+        Ok(cert) => cert,
+        Err(fault) => return Err(cert_fault(fault)),
+    };
     let verdict = check(&base, policy, &cert);
     write_verdict(alloc, out, &verdict)
 }

@@ -34,9 +34,14 @@ pub fn read_edition<B: Source, C: Source>(
     requires cert_open { (C.seen cert.old).failed ≡ false }
     ensures { IsEditionRead (edition_files (device B.seen base.old base.new) (device C.seen cert.old cert.new)) result }
 {
-    let base = read_base(alloc, base).map_err(EditionFault::Base)?;
-    let cert = read_cert(alloc, cert).map_err(EditionFault::Cert)?;
-    Ok((base, cert))
+    let base = match read_base(alloc, base) {
+        Ok(base) => base,
+        Err(fault) => return Err(EditionFault::Base(fault)),
+    };
+    match read_cert(alloc, cert) {
+        Ok(cert) => Ok((base, cert)),
+        Err(fault) => Err(EditionFault::Cert(fault)),
+    }
 }
 
 // The run's fault, if the files are those of the old edition.

@@ -1,11 +1,11 @@
 ghost use Rattle.std.specs.Prelude.{◌≡◌, false};
-ghost use Rattle.pageaudit.specs.Files.{device};
+ghost use Rattle.pageaudit.specs.Files.{device, IsTextWritten};
 ghost use Rattle.pageaudit.specs.ExportRun.{IsExportRead, IsScreenWritten};
+ghost use Rattle.audit_report.specs.declared.status.Status.TheVariants.{Clear};
 
 use crate::file_fault::base_fault;
 use crate::input::read_base;
-use crate::output::write_text;
-use audit_report::{RunFault, Sink, Source, Status};
+use audit_report::{RunFault, Sink, Source, Status, write_whole};
 use frame_records::Base;
 use frame_screens::Gallery;
 use page_ids::FrameId;
@@ -16,7 +16,21 @@ pub fn read_exported<B: Source>(alloc: Global, base: &mut B) -> Result<Base, Run
     requires { (B.seen base.old).failed ≡ false }
     ensures { IsExportRead (device B.seen base.old base.new) result }
 {
-    read_base(alloc, base).map_err(base_fault)
+    match read_base(alloc, base) {
+        Ok(base) => Ok(base),
+        Err(fault) => Err(base_fault(fault)),
+    }
+}
+
+// Writes the codes of a screen.
+fn write_codes<O: Sink>(out: &mut O, codes: &[u8; 960]) -> Result<Status, RunFault>
+    requires { (O.seen out.old).failed ≡ false }
+    ensures { IsTextWritten (device O.seen out.old out.new) codes.now Clear result }
+{
+    match write_whole(out, codes) {
+        Ok(()) => Ok(Status::Clear),
+        Err(fault) => Err(RunFault::Write(fault.wrote)),
+    }
 }
 
 /// Writes the 960 codes of the screen of a frame, as `show` writes them: those after the keys that lead there, or of the frame alone
@@ -32,6 +46,8 @@ pub fn run_export<O: Sink>(
     requires { (O.seen out.old).failed ≡ false }
     ensures { IsScreenWritten (device O.seen out.old out.new) gallery.now id result }
 {
-    let codes = gallery.screen(alloc, id).map_err(|_| RunFault::Memory)?;
-    write_text(out, &codes, Status::Clear)
+    match gallery.screen(alloc, id) {
+        Ok(codes) => write_codes(out, &codes),
+        Err(_) => Err(RunFault::Memory),
+    }
 }

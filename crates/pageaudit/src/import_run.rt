@@ -1,11 +1,11 @@
 ghost use Rattle.std.specs.Prelude.{◌≡◌, false};
-ghost use Rattle.pageaudit.specs.Files.{device};
+ghost use Rattle.pageaudit.specs.Files.{device, IsTextWritten};
+ghost use Rattle.pageaudit.specs.declared.import_run.ImportStatus.TheVariants.{Printed};
 ghost use Rattle.pageaudit.specs.ImportRun.{IsScreenTaken, IsImportRun, import_number};
 ghost use Rattle.pageaudit.specs.Loops.{IsFrameAdded};
 
-use crate::output::write_text;
 use crate::status::status_of;
-use audit_report::{RunFault, Sink, Source, SourceFault, read_whole};
+use audit_report::{RunFault, Sink, Source, SourceFault, read_whole, write_whole};
 use page_ids::PageNo;
 use screen_files::{
     AddFault, Album, BaseTextFault, FileKind, MOST_SCREEN, ScreenFault, ScreenFrame, base_text,
@@ -73,6 +73,17 @@ pub fn take_screen<S: Source>(
     }
 }
 
+// Writes the text of a base.
+fn write_base<O: Sink>(out: &mut O, text: &[u8]) -> Result<ImportStatus, RunFault>
+    requires { (O.seen out.old).failed ≡ false }
+    ensures { IsTextWritten (device O.seen out.old out.new) text.now Printed result }
+{
+    match write_whole(out, text) {
+        Ok(()) => Ok(ImportStatus::Printed),
+        Err(fault) => Err(RunFault::Write(fault.wrote)),
+    }
+}
+
 /// Writes the base of an album's frames, in their order. Sort the album first: a base's ids ascend, and its entry page is the one
 /// that is asked for, else the first frame's.
 ///
@@ -87,7 +98,7 @@ pub fn run_import<O: Sink>(
     ensures { IsImportRun (device O.seen out.old out.new) entry album.now result }
 {
     match base_text(alloc, entry, album.as_slice()) {
-        Ok(text) => write_text(out, text.as_slice(), ImportStatus::Printed),
+        Ok(text) => write_base(out, text.as_slice()),
         Err(BaseTextFault::TooLong(file)) => Ok(ImportStatus::TooLong(file)),
         Err(BaseTextFault::Memory) => Err(RunFault::Memory),
     }

@@ -82,9 +82,10 @@ fn feed_whole<S: Source>(
 {
     let mut room: usize = MOST_CERT;
     while room > 0 {
-        match take_piece(source, reader, room)? {
-            0 => return Ok(()),
-            count => room -= count,
+        match take_piece(source, reader, room) {
+            Ok(0) => return Ok(()),
+            Ok(count) => room -= count,
+            Err(fault) => return Err(fault),
         }
     }
     Ok(())
@@ -99,6 +100,11 @@ pub fn read_cert<S: Source>(
     ensures { IsCertRead (device S.seen source.old source.new) result }
 {
     let mut reader = CertReader::new(alloc);
-    feed_whole(source, &mut reader)?;
-    reader.finish().map_err(FileFault::Text)
+    match feed_whole(source, &mut reader) {
+        Ok(()) => match reader.finish() {
+            Ok(cert) => Ok(cert),
+            Err(fault) => Err(FileFault::Text(fault)),
+        },
+        Err(fault) => Err(fault),
+    }
 }

@@ -1,15 +1,25 @@
 ghost use Rattle.std.specs.Prelude.{◌≡◌, false};
-ghost use Rattle.pageaudit.specs.Files.{device};
-ghost use Rattle.pageaudit.specs.LintRun.{IsLintRun, lint_number, reaches};
+ghost use Rattle.pageaudit.specs.Files.{device, IsTextWritten};
+ghost use Rattle.pageaudit.specs.LintRun.{IsLintRun, counts_of, lint_number, reaches};
 
-use crate::output::write_text;
 use crate::status::status_of;
-use audit_report::{RunFault, Sink, Source, SourceFault, read_whole};
+use audit_report::{RunFault, Sink, Source, SourceFault, read_whole, write_whole};
 use base_text::MOST_TEXT;
 use checker::Policy;
 use finding_forms::{Format, findings_text};
-use lint::{Counts, Level, lint};
+use lint::{Counts, Finding, Level, lint};
 use std::alloc::Global;
+
+// Writes the lines of findings; returns how many findings there are if all lines were taken and flushed.
+fn write_lines<O: Sink>(out: &mut O, lines: &[u8], findings: &[Finding]) -> Result<Counts, RunFault>
+    requires { (O.seen out.old).failed ≡ false }
+    ensures { IsTextWritten (device O.seen out.old out.new) lines.now (counts_of findings.now) result }
+{
+    match write_whole(out, lines) {
+        Ok(()) => Ok(Counts::of(findings)),
+        Err(fault) => Err(RunFault::Write(fault.wrote)),
+    }
+}
 
 /// Finds every fault of a base's file, and the frames that no key reaches, and writes each in this form under the path that
 /// is given; if nothing is found nothing is written.
@@ -34,13 +44,19 @@ pub fn run_lint<B: Source, O: Sink>(
         Err(SourceFault::Broken) => return Err(RunFault::ReadBase),
         Err(SourceFault::Memory) => return Err(RunFault::Memory),
     };
-    let text = text.as_slice();
-    let findings = lint(alloc, text, policy).map_err(|_| RunFault::Memory)?;
-    let findings = findings.as_slice();
-    let lines = findings_text(alloc, format, path.as_bytes(), text, findings).map_err(
-        |_| RunFault::Memory,
-    )?;
-    write_text(out, lines.as_slice(), Counts::of(findings))
+    let Ok(findings) = lint(alloc, text.as_slice(), policy) else {
+        return Err(RunFault::Memory);
+    };
+    match findings_text(
+        alloc,
+        format,
+        path.as_bytes(),
+        text.as_slice(),
+        findings.as_slice(),
+    ) {
+        Ok(lines) => write_lines(out, lines.as_slice(), findings.as_slice()),
+        Err(_) => Err(RunFault::Memory),
+    }
 }
 
 // Whether there is a finding of this level or a worse one.

@@ -51,7 +51,12 @@ pub fn run_list<B: Source, O: Sink>(
     // read. A fault: the first one, of the base's file or of the output.
     ensures { IsListRun (device B.seen base.old base.new) (device O.seen out.old out.new) groups.now form result }
 {
-    let base = read_base(alloc, base).map_err(base_fault)?;
-    let listing = list(alloc, form, &base, groups).map_err(|_| RunFault::Memory)?;
-    write_listing(out, listing)
+    let base = match read_base(alloc, base) {
+        Ok(base) => base,
+        Err(fault) => return Err(base_fault(fault)),
+    };
+    match list(alloc, form, &base, groups) {
+        Ok(listing) => write_listing(out, listing),
+        Err(_) => Err(RunFault::Memory),
+    }
 }

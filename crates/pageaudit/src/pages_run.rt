@@ -44,7 +44,10 @@ pub fn run_pages<B: Source, O: Sink>(
     ensures { IsPagesFileRun (device B.seen base.old base.new)
         (device O.seen out.old out.new) name.now policy.now view.now result }
 {
-    let base = read_base(alloc, base).map_err(base_fault)?;
+    let base = match read_base(alloc, base) {
+        Ok(base) => base,
+        Err(fault) => return Err(base_fault(fault)),
+    };
     run_of(write_pages(alloc, &base, policy, view, name, out))
 }
 
