@@ -16,7 +16,10 @@ use std::{fs, io};
 
 // Reads the base.
 fn read_file<R: Files + Input + AllocGlobal>(rt: &R, path: &str) -> Result<Base, Unfinished> {
-    let mut file = FromRead::new(open_base(rt, path)?);
+    let mut file = match open_base(rt, path) {
+        Ok(file) => FromRead::new(file),
+        Err(unfinished) => return Err(unfinished),
+    };
     match read_exported(rt.alloc(), &mut file) {
         Ok(base) => Ok(base),
         Err(RunFault::ReadBase) => Err(Unfinished::Unread("read failed")),
@@ -45,7 +48,10 @@ fn give_free_name<R: Files>(rt: &R, new: &str, path: &str) -> Result<(), Unfinis
 
 // Gives a new file a name, which may be another file's.
 fn replace<R: Files>(rt: &R, new: &str, path: &str) -> Result<(), Unfinished> {
-    fs::rename(rt, new, path).map_err(|error| unwritten(&error))
+    match fs::rename(rt, new, path) {
+        Ok(()) => Ok(()),
+        Err(error) => Err(unwritten(&error)),
+    }
 }
 
 // Writes the screen of a frame to a new file and closes it.
@@ -71,7 +77,10 @@ fn write_screen<R: Files + AllocGlobal>(
     id: FrameId,
     path: &str,
 ) -> Result<(), Unfinished> {
-    let (new, file) = new_beside(rt, path).map_err(|error| unwritten(&error))?;
+    let (new, file) = match new_beside(rt, path) {
+        Ok(beside) => beside,
+        Err(error) => return Err(unwritten(&error)),
+    };
     let named = match write_file(rt, gallery, id, file) {
         Ok(()) if asked.force => replace(rt, new.as_str(), path),
         Ok(()) => give_free_name(rt, new.as_str(), path),
@@ -110,8 +119,10 @@ fn export_frame<R: Files + AllocGlobal>(
     gallery: &Gallery,
     id: FrameId,
 ) -> Result<(), Unfinished> {
-    let path = path_of(rt, asked.out, id).map_err(|_| Unfinished::Fault(RunFault::Memory))?;
-    export_screen(rt, asked, gallery, id, path.as_str())
+    match path_of(rt, asked.out, id) {
+        Ok(path) => export_screen(rt, asked, gallery, id, path.as_str()),
+        Err(_) => Err(Unfinished::Fault(RunFault::Memory)),
+    }
 }
 
 // Says why the screen of a frame isn't written, if it is the first; the exit status.

@@ -15,10 +15,15 @@ fn lint_path<R: Files + Input + Print + AllocGlobal>(
     policy: &Policy,
     format: Format,
 ) -> Result<Counts, Unfinished> {
-    let mut base = FromRead::new(open_base(rt, path)?);
-    let mut out = IntoWrite::new(io::writer(rt));
-    let run = run_lint(rt.alloc(), &mut base, &mut out, path, policy, format);
-    ended(run, &out)
+    match open_base(rt, path) {
+        Ok(base) => {
+            let mut base = FromRead::new(base);
+            let mut out = IntoWrite::new(io::writer(rt));
+            let run = run_lint(rt.alloc(), &mut base, &mut out, path, policy, format);
+            ended(run, &out)
+        }
+        Err(unfinished) => Err(unfinished),
+    }
 }
 
 // The numbers of findings, if there are some. Without memory for the line it isn't printed: the findings are.

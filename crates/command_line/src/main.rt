@@ -247,10 +247,15 @@ fn map_file<R: Files + Input + Print + AllocGlobal>(
     view: &View,
     groups: &Groups,
 ) -> Result<MapStatus, Unfinished> {
-    let mut base = FromRead::new(open_base(rt, base)?);
-    let mut out = IntoWrite::new(io::writer(rt));
-    let run = run_map(rt.alloc(), &mut base, groups, view, &mut out);
-    ended(run, &out)
+    match open_base(rt, base) {
+        Ok(base) => {
+            let mut base = FromRead::new(base);
+            let mut out = IntoWrite::new(io::writer(rt));
+            let run = run_map(rt.alloc(), &mut base, groups, view, &mut out);
+            ended(run, &out)
+        }
+        Err(unfinished) => Err(unfinished),
+    }
 }
 
 /// Says that the base lacks the frame `a` of the page.
@@ -408,8 +413,13 @@ fn list_file<R: Files + Input + Print + AllocGlobal>(
     form: ListForm,
     groups: &Groups,
 ) -> Result<Status, Unfinished> {
-    let mut base = FromRead::new(open_base(rt, base)?);
-    let mut out = IntoWrite::new(io::writer(rt));
-    let run = run_list(rt.alloc(), &mut base, form, groups, &mut out);
-    ended(run, &out)
+    match open_base(rt, base) {
+        Ok(base) => {
+            let mut base = FromRead::new(base);
+            let mut out = IntoWrite::new(io::writer(rt));
+            let run = run_list(rt.alloc(), &mut base, form, groups, &mut out);
+            ended(run, &out)
+        }
+        Err(unfinished) => Err(unfinished),
+    }
 }

@@ -153,7 +153,10 @@ pub fn named_out<R: Files + AllocGlobal>(
     let Some(path) = path else {
         return Ok(Out::Output);
     };
-    open_out(rt, path).map_err(|error| unwritten(&error))
+    match open_out(rt, path) {
+        Ok(out) => Ok(out),
+        Err(error) => Err(unwritten(&error)),
+    }
 }
 
 impl OutFile {

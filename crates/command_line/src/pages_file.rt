@@ -24,9 +24,13 @@ fn pages_file<R: Files + Input + Print + AllocGlobal>(
     errors: Stderr,
     asked: &Pages,
 ) -> Result<PagesStatus, Unfinished> {
-    let base = open_base(rt, asked.base)?;
-    let out = named_out(rt, asked.out)?;
-    pages_to(rt, errors, base, asked, out)
+    match open_base(rt, asked.base) {
+        Ok(base) => match named_out(rt, asked.out) {
+            Ok(out) => pages_to(rt, errors, base, asked, out),
+            Err(unfinished) => Err(unfinished),
+        },
+        Err(unfinished) => Err(unfinished),
+    }
 }
 
 fn write_to<R: Files + Input + AllocGlobal, W: io::Write>(

@@ -57,7 +57,10 @@ fn form_of<R: Files + Env + AllocGlobal>(rt: &R, asked: &Show) -> Result<Form, R
 // Which screen was asked for. Keys are read once the base's file is open.
 fn target_of<R: AllocGlobal>(rt: &R, asked: &Show) -> Result<Target, RunFault> {
     if let Some(words) = asked.keys {
-        return Ok(Target::Keys(read_keys(rt.alloc(), words)?));
+        return match read_keys(rt.alloc(), words) {
+            Ok(keys) => Ok(Target::Keys(keys)),
+            Err(fault) => Err(fault),
+        };
     }
     match asked.frame {
         Some(id) => Ok(Target::Frame(id)),
@@ -80,10 +83,26 @@ fn show_file<R: Files + Env + Input + Print + AllocGlobal>(
     errors: Stderr,
     asked: &Show,
 ) -> Result<ShowStatus, Unfinished> {
-    let base = open_base(rt, asked.base)?;
-    let (target, form) = screen_of(rt, asked).map_err(Unfinished::Fault)?;
-    let out = named_out(rt, asked.out)?;
-    show_to(rt, errors, base, (&target, form, &asked.groups), out)
+    match open_base(rt, asked.base) {
+        Ok(base) => show_opened(rt, errors, asked, base),
+        Err(unfinished) => Err(unfinished),
+    }
+}
+
+fn show_opened<R: Files + Env + Input + Print + AllocGlobal>(
+    rt: &R,
+    errors: Stderr,
+    asked: &Show,
+    base: Opened<R::File, R::Reader>,
+) -> Result<ShowStatus, Unfinished> {
+    let (target, form) = match screen_of(rt, asked) {
+        Ok(screen) => screen,
+        Err(fault) => return Err(Unfinished::Fault(fault)),
+    };
+    match named_out(rt, asked.out) {
+        Ok(out) => show_to(rt, errors, base, (&target, form, &asked.groups), out),
+        Err(unfinished) => Err(unfinished),
+    }
 }
 
 fn show_to<R: Files + Input + Print + AllocGlobal>(
