@@ -1,0 +1,3 @@
+pub mod FolderReads
+pub mod FollowLaws
+pub mod PutLaws

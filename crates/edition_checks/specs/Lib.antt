@@ -1,0 +1,3 @@
+pub mod Candidates
+pub mod Putting
+pub mod Served

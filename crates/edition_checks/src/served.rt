@@ -1,0 +1,186 @@
+//! The edition that is served.
+
+ghost use Rattle.std.specs.Prelude.{◌≡◌, true, Ok, Some, IfOk, IfSome};
+ghost use Rattle.base_text.specs.Whole.{IsTextBase};
+ghost use Rattle.cert_text.specs.Grammar.{IsCertificateText};
+ghost use Rattle.policy_text.specs.Policies.{policy_in};
+ghost use Rattle.editions.specs.Folders.{file_at};
+ghost use Rattle.edition_checks.specs.Served.{IsUnchanged, IsCertOf, IsServed};
+
+use cert_table::Certificate;
+use checker::{InputFault, Policy, base_of, cert_of};
+use editions::{EditionFile, EditionFolder, StoreFault};
+use frame_records::Base;
+use policy_text::{PolicyFault, policy_read};
+use std::alloc::Global;
+
+/// An edition of a folder, with the texts by which another is compared with it.
+#[derive(Drop)]
+pub struct Served {
+    pub number: u32,
+    pub base_text: Vec<u8>,
+    pub policy_text: Vec<u8>,
+    pub base: Base,
+    pub cert: Certificate,
+    pub policy: Policy,
+}
+
+/// Why an edition of a folder isn't read. The files are read in this order: the base, the certificate, the policy.
+#[derive(Clone, Copy)]
+pub enum ServedFault {
+    /// The file isn't there.
+    Missing(EditionFile),
+    /// The text of the file doesn't read.
+    Unread(EditionFile),
+    /// A call of the folder failed.
+    Folder,
+    /// A growth was refused.
+    Memory,
+}
+
+// The text of a file, which has to be there.
+fn read_text<F: EditionFolder>(
+    alloc: Global,
+    folder: &mut F,
+    number: u32,
+    file: EditionFile,
+) -> Result<Vec<u8>, ServedFault>
+    requires { (F.seen folder.old).held ≡ true }
+    ensures unchanged { IsUnchanged (F.seen folder.old) (F.seen folder.new) }
+    ensures there { IfOk result (λ text. IfSome (F.seen folder.old).state (λ f. file_at f number file ≡
+        Some text.items)) }
+{
+    match folder.read_file(alloc, number, file) {
+        Ok(Some(text)) => Ok(text),
+        Ok(None) => Err(ServedFault::Missing(file)),
+        Err(StoreFault::Broken) => Err(ServedFault::Folder),
+        Err(StoreFault::Memory) => Err(ServedFault::Memory),
+    }
+}
+
+fn base_in(alloc: Global, text: &[u8]) -> Result<Base, ServedFault>
+    ensures { IfOk result (IsTextBase text.now) }
+{
+    match base_of(alloc, text) {
+        Ok(base) => Ok(base),
+        Err(InputFault::Memory) => Err(ServedFault::Memory),
+        Err(_) => Err(ServedFault::Unread(EditionFile::Base)),
+    }
+}
+
+fn cert_in(alloc: Global, text: &[u8]) -> Result<Certificate, ServedFault>
+    ensures { IfOk result (IsCertificateText text.now) }
+{
+    match cert_of(alloc, text) {
+        Ok(cert) => Ok(cert),
+        Err(InputFault::Memory) => Err(ServedFault::Memory),
+        Err(_) => Err(ServedFault::Unread(EditionFile::Cert)),
+    }
+}
+
+fn policy_of(alloc: Global, text: &[u8]) -> Result<Policy, ServedFault>
+    ensures { IfOk result (λ policy. policy_in text.now ≡ Ok policy) }
+{
+    match policy_read(alloc, text) {
+        Ok(policy) => Ok(policy),
+        Err(PolicyFault::Memory) => Err(ServedFault::Memory),
+        Err(_) => Err(ServedFault::Unread(EditionFile::Policy)),
+    }
+}
+
+// The base of an edition, with its text.
+fn read_base<F: EditionFolder>(
+    alloc: Global,
+    folder: &mut F,
+    number: u32,
+) -> Result<(Vec<u8>, Base), ServedFault>
+    requires { (F.seen folder.old).held ≡ true }
+    ensures unchanged { IsUnchanged (F.seen folder.old) (F.seen folder.new) }
+    ensures there { IfOk result (λ read. IfSome (F.seen folder.old).state (λ f. file_at f number EditionFile.Base ≡
+        Some read.0.items)) }
+    ensures is { IfOk result (λ read. IsTextBase read.0.items read.1) }
+{
+    let text = match read_text(alloc, folder, number, EditionFile::Base) {
+        Ok(text) => text,
+        Err(fault) => return Err(fault),
+    };
+    match base_in(alloc, text.as_slice()) {
+        Ok(base) => Ok((text, base)),
+        Err(fault) => Err(fault),
+    }
+}
+
+// The certificate of an edition, without its text.
+fn read_cert<F: EditionFolder>(
+    alloc: Global,
+    folder: &mut F,
+    number: u32,
+) -> Result<Certificate, ServedFault>
+    requires { (F.seen folder.old).held ≡ true }
+    ensures unchanged { IsUnchanged (F.seen folder.old) (F.seen folder.new) }
+    ensures is { IfOk result (λ cert. IfSome (F.seen folder.old).state (λ f. IsCertOf f number cert)) }
+{
+    let text = match read_text(alloc, folder, number, EditionFile::Cert) {
+        Ok(text) => text,
+        Err(fault) => return Err(fault),
+    };
+    match cert_in(alloc, text.as_slice()) {
+        Ok(cert) => Ok(cert),
+        Err(fault) => Err(fault),
+    }
+}
+
+// The policy of an edition, with its text.
+fn read_policy<F: EditionFolder>(
+    alloc: Global,
+    folder: &mut F,
+    number: u32,
+) -> Result<(Vec<u8>, Policy), ServedFault>
+    requires { (F.seen folder.old).held ≡ true }
+    ensures unchanged { IsUnchanged (F.seen folder.old) (F.seen folder.new) }
+    ensures there { IfOk result (λ read. IfSome (F.seen folder.old).state (λ f. file_at f number EditionFile.Policy ≡
+        Some read.0.items)) }
+    ensures is { IfOk result (λ read. policy_in read.0.items ≡ Ok read.1) }
+{
+    let text = match read_text(alloc, folder, number, EditionFile::Policy) {
+        Ok(text) => text,
+        Err(fault) => return Err(fault),
+    };
+    match policy_of(alloc, text.as_slice()) {
+        Ok(policy) => Ok((text, policy)),
+        Err(fault) => Err(fault),
+    }
+}
+
+/// Reads an edition of a folder, of which the lock is held.
+pub fn read_served<F: EditionFolder>(
+    alloc: Global,
+    folder: &mut F,
+    number: u32,
+) -> Result<Served, ServedFault>
+    requires { (F.seen folder.old).held ≡ true }
+    ensures unchanged { IsUnchanged (F.seen folder.old) (F.seen folder.new) }
+    ensures served { IfOk result (λ s. IfSome (F.seen folder.old).state (λ f. IsServed f s)) }
+    ensures number { IfOk result (λ s. s.number ≡ number) }
+{
+    let (base_text, base) = match read_base(alloc, folder, number) {
+        Ok(read) => read,
+        Err(fault) => return Err(fault),
+    };
+    let cert = match read_cert(alloc, folder, number) {
+        Ok(cert) => cert,
+        Err(fault) => return Err(fault),
+    };
+    let (policy_text, policy) = match read_policy(alloc, folder, number) {
+        Ok(read) => read,
+        Err(fault) => return Err(fault),
+    };
+    Ok(Served {
+        number,
+        base_text,
+        policy_text,
+        base,
+        cert,
+        policy,
+    })
+}

@@ -1,0 +1,5 @@
+pub mod Centre
+pub mod SevenBits
+pub mod Served
+pub mod Replies
+pub mod Top
