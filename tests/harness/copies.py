@@ -48,7 +48,7 @@ def call(
     top: Path, name: Word, *words: Word, env: dict[str, str] | None = None, cwd: Path | str = "/", **how: Any
 ) -> Done:
     """Runs a script of a copy, without the toolchain unless the environment has it."""
-    return run([top / str(name), *words], env=env or without_rt(), cwd=cwd, seconds=600, **how)
+    return run([top / str(name), *words], env=env or without_rt(), cwd=cwd, **how)
 
 
 def append(path: Path, text: str = " \n") -> None:

@@ -21,6 +21,6 @@ class Peaks:
 
     def run(self, *words: Word, **how: Any) -> tuple[Done, int]:
         """What a run answers, its standard error without blanks at its ends, and the most memory in kilobytes."""
-        done = run([PROGRAM, *words], env=self.env, seconds=120, **how)
+        done = run([PROGRAM, *words], env=self.env, **how)
         peak = max(map(int, PEAK.findall(done.stderr)), default=0)
         return done._replace(stderr=PEAK.sub("", done.stderr).strip()), peak

@@ -13,7 +13,8 @@ from typing import IO, Any, NamedTuple
 from harness.places import CC, PROGRAM
 
 Word = str | int | Path
-SECONDS = 60
+# What takes longer hangs: no test is timed, and a loaded machine may be ten times slower, an emulated processor too.
+SECONDS = 600
 DEBIAN = "/usr/bin/python3"
 
 
@@ -74,7 +75,7 @@ def compiled(
 ) -> Path:
     """Compiles C sources; what isn't compiled is an error."""
     every = [sources] if isinstance(sources, Path) else sources
-    done = run([compiler, "-O1", *options, *every, *libraries, "-o", to], seconds=600)
+    done = run([compiler, "-O1", *options, *every, *libraries, "-o", to])
     if done.status:
         raise OSError(f"{to.name} isn't compiled: {done.stderr}")
     return to
