@@ -5,7 +5,9 @@
 //! picks the exit status.
 #![tactic(auto)]
 
+mod diff_lines;
 mod export_files;
+mod fix_files;
 mod import_files;
 mod lint_files;
 mod named_files;
@@ -200,7 +202,7 @@ fn run_request<R: Files + Env + Input + Print + Eprint + AllocGlobal>(
         } => change_files(rt, [old, old_cert, new, new_cert], policy),
         Request::Walk { base, keys, groups } => walk_file(rt, base, keys, groups),
         Request::List { base, form, groups } => return list(rt, base, *form, groups),
-        Request::Lint(asked) => return lint(rt, asked),
+        Request::Lint(asked) => return lint(rt, errors, asked),
         Request::Map { base, view, groups } => return map(rt, base, view, groups),
         Request::Show(asked) => return show(rt, errors, asked),
         Request::Pages(asked) => return pages(rt, errors, asked),

@@ -39,9 +39,14 @@ impl<F: Read + Drop, I: Read + Drop> Read for Opened<F, I> {
 // The path of standard input.
 const INPUT: &str = "-";
 
+/// Whether a path names standard input.
+pub fn is_input(path: &str) -> bool {
+    path == INPUT
+}
+
 /// Opens what a path names: `-` is standard input, and a file of that name is `./-`.
 pub fn open<R: Files + Input>(rt: &R, path: &str) -> io::Result<Opened<R::File, R::Reader>> {
-    if path == INPUT {
+    if is_input(path) {
         Ok(Opened::Input(rt.reader()))
     } else {
         Ok(Opened::File(fs::open(rt, path)?))
@@ -50,7 +55,7 @@ pub fn open<R: Files + Input>(rt: &R, path: &str) -> io::Result<Opened<R::File, 
 
 /// A path that leads to what a path names.
 pub fn path_to<'a>(path: &'a str) -> &'a str {
-    if path == INPUT {
+    if is_input(path) {
         "/proc/self/fd/0"
     } else {
         path

@@ -122,6 +122,17 @@ fn lint_command<'a>(alloc: Global) -> Result<Command<'a>, AllocError> {
             "deny-warnings",
             "End with status 1 for a warning too",
         ))?
+        .arg(flag(
+            alloc,
+            "fix",
+            "Fix each slip that can have meant one thing alone, and find what is left",
+        ))?
+        .arg(flag(
+            alloc,
+            "diff",
+            "Print what --fix would change as a diff, and change nothing",
+        )
+        .conflicts_with("fix"))?
         .arg(
             number(
                 alloc,
@@ -421,6 +432,17 @@ fn collected(rt: &(impl Env + AllocGlobal), alloc: Global) -> io::Result<Vec<Str
     Ok(env::args(rt)?.collect(alloc)?)
 }
 
+/// What is done about slips that can have meant one thing alone.
+#[derive(Debug, Clone, Copy, PartialEq, Eq)]
+pub enum Fixing {
+    /// They are found as all others.
+    None,
+    /// They are fixed in the base's file; of standard input, in what is printed.
+    Made,
+    /// What would be fixed is printed as a diff.
+    Shown,
+}
+
 /// Which bases are linted, and how.
 #[derive(Drop)]
 pub struct Lint<'a> {
@@ -428,6 +450,7 @@ pub struct Lint<'a> {
     pub bases: &'a [&'a str],
     pub format: Format,
     pub policy: Policy,
+    pub fixing: Fixing,
     /// The least level of a finding that makes the exit status 1.
     pub denied: Level,
 }
@@ -623,12 +646,23 @@ fn list_form_of(word: &str) -> Option<ListForm> {
     }
 }
 
+fn fixing_of(words: &ArgMatches) -> Fixing {
+    if words.get_flag("fix") {
+        Fixing::Made
+    } else if words.get_flag("diff") {
+        Fixing::Shown
+    } else {
+        Fixing::None
+    }
+}
+
 // Which bases are linted, and how.
 fn lint_of<'a>(words: &'a ArgMatches, groups: Groups) -> Option<Request<'a>> {
     Some(Request::Lint(Lint {
         bases: words.get_strs("BASE")?,
         format: words.get_str("format").and_then(format_of)?,
         policy: policy_of(words, groups)?,
+        fixing: fixing_of(words),
         denied: if words.get_flag("deny-warnings") {
             Level::Warning
         } else {

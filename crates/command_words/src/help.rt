@@ -5,8 +5,11 @@ pub const VERSION: &str = "1.1.0";
 
 /// After the options of `lint`.
 pub const LINT: &str = concat!(
-    "Example: pageaudit lint examples/town.toml\n\n",
-    "Status: 0 no error, 1 errors, or with --deny-warnings warnings, 2 bad command line,\n",
+    "--fix changes the file and nothing of it but those slips: 'price = \"5\"' is 'price = 5'. What a\n",
+    "frame shows stays. Of standard input the fixed text is printed, and findings on standard error.\n\n",
+    "Examples: pageaudit lint examples/town.toml\n",
+    "          pageaudit lint town.toml --fix\n\n",
+    "Status: 0 no error, 1 errors, or with --deny-warnings warnings, or a diff, 2 bad command line,\n",
     "        3 a file that can't be read, or a write that fails, 4 out of memory",
 );
 

@@ -1,0 +1,6 @@
+pub mod Bytes
+pub mod Certain
+pub mod NearKeys
+pub mod Rounds
+pub mod TomlSlips
+pub mod Values
