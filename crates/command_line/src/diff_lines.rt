@@ -6,12 +6,14 @@ use std::alloc::{AllocError, Global};
 const AROUND: usize = 3;
 
 // A line of two texts, with its end.
+#[derive(Drop)]
 struct Pair<'t> {
     old: &'t [u8],
     new: &'t [u8],
 }
 
 // Lines that are shown together, from the first up to that after the last, from 0.
+#[derive(Drop)]
 struct Hunk {
     begin: usize,
     end: usize,

@@ -6,7 +6,7 @@ use crate::out_file::{Out, open_out};
 use audit_report::{FromRead, IntoWrite, RunFault, SourceFault, read_whole, write_whole};
 use base_text::MOST_TEXT;
 use checker::Policy;
-use slip_fixes::{Fixed, fixed};
+use slip_fixes::{Fixed, fix_slips};
 use std::io;
 use std::rt::Files;
 
@@ -33,14 +33,14 @@ pub fn fixed_text<R: Files + Input + AllocGlobal>(
         Ok(text) => text,
         Err(unfinished) => return Err(unfinished),
     };
-    match fixed(rt.alloc(), text.as_slice(), policy) {
+    match fix_slips(rt.alloc(), text.as_slice(), policy) {
         Ok(fixed) => Ok((text, fixed)),
         Err(_) => Err(Unfinished::Fault(RunFault::Memory)),
     }
 }
 
 // Writes a text whole.
-fn write_text<W: io::Write>(out: W, text: &[u8]) -> Result<(), RunFault> {
+fn write_text<W: io::Write + Drop>(out: W, text: &[u8]) -> Result<(), RunFault> {
     let mut out = IntoWrite::new(out);
     match write_whole(&mut out, text) {
         Ok(()) => Ok(()),

@@ -5,6 +5,7 @@ use crate::named_files::{Unfinished, ended, is_input, open_base, report};
 use audit_report::{FromRead, IntoWrite};
 use command_words::{Fixing, Lint};
 use pageaudit::{Counts, counted_text, run_lint, status_of_lint};
+use std::alloc::Global;
 use std::io;
 use std::rt::{Files, Stderr};
 
@@ -68,7 +69,7 @@ fn lint_path<R: Files + Input + Print + AllocGlobal>(
 }
 
 // The findings of a text that was fixed.
-fn lint_text<W: io::Write>(
+fn lint_text<W: io::Write + Drop>(
     alloc: Global,
     out: W,
     path: &str,

@@ -108,6 +108,22 @@ fn format_option<'a>(alloc: Global) -> Arg<'a> {
         )
 }
 
+// The options of what is done about slips.
+fn with_fixes<'a>(alloc: Global, command: Command<'a>) -> Result<Command<'a>, AllocError> {
+    let fix = flag(
+        alloc,
+        "fix",
+        "Fix each slip that can have meant one thing alone, and find what is left",
+    );
+    let diff = flag(
+        alloc,
+        "diff",
+        "Print what --fix would change as a diff, and change nothing",
+    )
+    .conflicts_with("fix")?;
+    command.arg(fix)?.arg(diff)
+}
+
 fn lint_command<'a>(alloc: Global) -> Result<Command<'a>, AllocError> {
     let bases = place(alloc, "BASE", "The bases, TOML files; - is standard input")
         .num_args(1..)
@@ -122,17 +138,6 @@ fn lint_command<'a>(alloc: Global) -> Result<Command<'a>, AllocError> {
             "deny-warnings",
             "End with status 1 for a warning too",
         ))?
-        .arg(flag(
-            alloc,
-            "fix",
-            "Fix each slip that can have meant one thing alone, and find what is left",
-        ))?
-        .arg(flag(
-            alloc,
-            "diff",
-            "Print what --fix would change as a diff, and change nothing",
-        )
-        .conflicts_with("fix"))?
         .arg(
             number(
                 alloc,
@@ -155,7 +160,7 @@ fn lint_command<'a>(alloc: Global) -> Result<Command<'a>, AllocError> {
             .required(false)
             .default_value("65535"),
         )?;
-    with_groups(alloc, command)
+    with_groups(alloc, with_fixes(alloc, command)?)
 }
 
 fn audit_command<'a>(alloc: Global) -> Result<Command<'a>, AllocError> {

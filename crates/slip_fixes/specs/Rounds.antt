@@ -1,5 +1,5 @@
 -- Rounds of fixes.
-use Rattle.std.specs.Prelude.{◌≡◌, ℕ, ◌+◌, ◌-◌, ◌^◌, ◌×◌, Bool, true, false, min, nat_lt, nat_le, List, [], ◌∷◌, ◌++◌, length, Option, Some, None, if◌then◌else◌}
+use Rattle.std.specs.Prelude.{◌≡◌, ℕ, zero, suc, ◌+◌, ◌-◌, ◌^◌, Bool, true, false, min, nat_lt, nat_le, List, [], ◌∷◌, ◌++◌, length, Option, Some, None, if◌then◌else◌}
 use Rattle.checker.specs.declared.policy.Policy.{Policy}
 use Rattle.lint_words.specs.declared.code.Code.{Code}
 use Rattle.lint_words.specs.declared.code.Code.TheVariants.{NotToml, TooLong}
@@ -46,9 +46,9 @@ abbrev pub reads_further : List FindingView → List FindingView → Bool
 reads_further old new = is_further (reads_to old) (reads_to new)
 
 -- the text with the certain fixes of its findings made, and nothing else changed; how many they are
-pub record IsNext (text : List ℕ) (findings : List FindingView) (new : List ℕ) (count : ℕ) : Type 0 where
+pub record IsNext (text : List ℕ) (findings : List FindingView) (new : List ℕ) (number : ℕ) : Type 0 where
   pub edits : edited text (fixes_of text findings) ≡ Some new
-  pub count : count ≡ length (fixes_of text findings)
+  pub count : number ≡ length (fixes_of text findings)
 
 -- as many fixes more, as far as a number of 64 bits can say
 abbrev pub added : ℕ → ℕ → ℕ
@@ -73,7 +73,7 @@ pub record ThenRound (policy : Policy) (before : List ℕ → ℕ → Type 0) (n
   pub sum : fixes ≡ added earlier count
 
 abbrev pub AreRounds : Policy → List ℕ → ℕ → List ℕ → ℕ → Type 0
-AreRounds policy old 0 new fixes = (new ≡ old) × (fixes ≡ 0)
+AreRounds policy old zero new fixes = (new ≡ old) × (fixes ≡ 0)
 AreRounds policy old (suc n) new fixes = ThenRound policy (AreRounds policy old n) new fixes
 
 -- the last text of some rounds that begin with the old one, and the fixes of all of them

@@ -20,7 +20,7 @@ fn replaced(
     end: usize,
     text: Option<&[u8]>,
 ) -> Result<Option<Replacement>, AllocError>
-    ensures { IfOk result (λ fix. fix ≡ replaced begin end (option_map (λ text. text.now) text)) }
+    ensures { IfOk result (λ fix. fix ≡ replaced begin end (option_map (λ t. t.now) text.entry)) }
 {
     match text {
         Some(text) => Ok(Some(Replacement {

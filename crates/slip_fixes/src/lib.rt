@@ -1,7 +1,7 @@
 //! Slips in a base's text that have one certain fix, and the text with these fixes made.
 //!
 //! ```
-//! fixed(alloc, text, &policy)? // the text with `price = "5"` as `price = 5`, and how many slips were fixed
+//! fix_slips(alloc, text, &policy)? // the text with `price = "5"` as `price = 5`, and how many slips were fixed
 //! ```
 //!
 //! A fix is certain if the slip can have meant nothing else. A page number, a price that isn't whole, a missing route, and what
@@ -20,7 +20,7 @@
 //! | `\u82` before what is no digit in base 16 | `\u0082` |
 //! | `\U0082` before what is no such digit | `\u0082` |
 //!
-//! - [`fixed`], [`Fixed`]: each text on the way is the one before with certain fixes made; nothing else of it changes.
+//! - [`fix_slips`], [`Fixed`]: each text on the way is the one before with certain fixes made; nothing else of it changes.
 //! - [`certain_fix`]: the fix of a finding.
 #![tactic(auto)]
 
@@ -32,4 +32,4 @@ mod toml_slips;
 mod value_slips;
 
 pub use certain::certain_fix;
-pub use rounds::{Fixed, fixed};
+pub use rounds::{Fixed, fix_slips};

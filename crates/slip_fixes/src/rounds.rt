@@ -119,12 +119,14 @@ fn advanced(alloc: Global, state: &State, policy: &Policy) -> Result<Option<Stat
 /// the text, or no more of a text that isn't TOML, isn't made: it would have put another fault in the slip's place.
 ///
 /// Each round lints the text once. Of a text that isn't TOML there is a round for each slip.
-pub fn fixed(alloc: Global, text: &[u8], policy: &Policy) -> Result<Fixed, AllocError>
+pub fn fix_slips(alloc: Global, text: &[u8], policy: &Policy) -> Result<Fixed, AllocError>
     ensures { IfOk result (λ f. IsFixed policy.now text.now f.text.items f.fixes) }
 {
     let findings = lint(alloc, text, policy)?;
+    let mut copy = Vec::new(alloc);
+    copy.extend_from_slice(text)?;
     let mut state = State {
-        text: text.to_vec(alloc)?,
+        text: copy,
         findings,
         fixes: 0,
     };
