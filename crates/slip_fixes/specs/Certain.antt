@@ -1,8 +1,7 @@
 -- Which fix of a finding is certain.
-use Rattle.std.specs.Prelude.{ℕ, Bool, true, false, ◌&&◌, ◌||◌, ◌==◌, ◌+◌, ◌-◌, List, [], ◌∷◌, ◌++◌, codes, length, Option, Some, None, option_map, if◌then◌else◌}
+use Rattle.std.specs.Prelude.{ℕ, ◌||◌, ◌==◌, ◌+◌, ◌-◌, List, [], ◌∷◌, ◌++◌, codes, length, Option, Some, None, option_map, if◌then◌else◌}
 use Rattle.std.specs.Char.{to_ascii_lowercase}
 use Rattle.std.specs.Str.{bytes_eq}
-use Rattle.base_text.specs.declared.keys.Field.{Field}
 use Rattle.base_text.specs.Fields.{field_name}
 use Rattle.toml_places.specs.declared.spans.Span.{Span}
 use Rattle.lint_words.specs.declared.code.Code.{Code}

@@ -1,5 +1,5 @@
 -- Values of another kind, and ids with a capital letter.
-use Rattle.std.specs.Prelude.{ℕ, Bool, true, false, not, ◌&&◌, ◌||◌, ◌==◌, ◌-◌, List, [], ◌∷◌, codes, length, nat_lt, Option, Some, None, if◌then◌else◌}
+use Rattle.std.specs.Prelude.{ℕ, Bool, false, not, ◌&&◌, ◌||◌, ◌==◌, ◌-◌, List, [], ◌∷◌, codes, length, nat_lt, Option, Some, None, if◌then◌else◌}
 use Rattle.std.specs.Char.{is_ascii_uppercase}
 use Rattle.std.specs.Str.{bytes_eq}
 use Rattle.slip_fixes.specs.Bytes.{is_quote, after_digits, is_number, piece_of}

@@ -1,4 +1,4 @@
-use Rattle.std.proofs.Common.{◌≡◌, ◌++◌, ◌∙◌, ap, sym, subst}
+use Rattle.std.proofs.Common.{◌≡◌, ◌++◌, ◌∙◌, ap, subst}
 use Rattle.std.specs.Prelude.{IfSome}
 use Rattle.slip_fixes.specs.Rounds.{IsAdvanced}
 use Rattle.slip_fixes.proofs.Ways.{none_yet, and_round, of_same}
