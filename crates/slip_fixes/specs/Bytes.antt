@@ -9,8 +9,8 @@ use Rattle.slip_fixes.specs.declared.bytes.Before.TheVariants.{LineFeed, Blank}
 abbrev pub is_quote : ℕ → Bool
 is_quote b = b == 34 || b == 39
 
-abbrev pub is_blank : ℕ → Bool
-is_blank b = b == 32 || b == 9
+abbrev pub is_gap : ℕ → Bool
+is_gap b = b == 32 || b == 9
 
 -- a byte of a key without quotation marks
 abbrev pub is_bare : ℕ → Bool
@@ -18,7 +18,7 @@ is_bare b = is_ascii_digit b || is_ascii_alphabetic b || b == 95 || b == 45
 
 abbrev pub ends_part : Before → ℕ → Bool
 ends_part LineFeed b = b == 10
-ends_part Blank b = is_blank b || b == 61
+ends_part Blank b = is_gap b || b == 61
 
 -- what follows the last byte of the rest that ends a part, else the part so far
 abbrev pub after_last : Before → List ℕ → List ℕ → List ℕ
@@ -50,12 +50,12 @@ after_bare (b ∷ bs) = if is_bare b then after_bare bs else b ∷ bs
 
 abbrev pub are_blank : List ℕ → Bool
 are_blank [] = true
-are_blank (b ∷ bs) = if is_blank b then are_blank bs else false
+are_blank (b ∷ bs) = if is_gap b then are_blank bs else false
 
 -- one `=` among blanks
-abbrev pub is_set : List ℕ → Bool
-is_set [] = false
-is_set (b ∷ bs) = if b == 61 then are_blank bs else if is_blank b then is_set bs else false
+abbrev pub sets_value : List ℕ → Bool
+sets_value [] = false
+sets_value (b ∷ bs) = if b == 61 then are_blank bs else if is_gap b then sets_value bs else false
 
 -- the last word of a line up to a place, with what follows it
 abbrev pub run_before : List ℕ → ℕ → List ℕ
@@ -64,13 +64,13 @@ run_before text at =
     let line = after_last LineFeed before before in
     last_run false line line
 
-abbrev pub word_of : List ℕ → List ℕ
-word_of run = piece_of run 0 (length run - length (after_bare run))
+abbrev pub first_word : List ℕ → List ℕ
+first_word run = piece_of run 0 (length run - length (after_bare run))
 
 -- the key right before a place
 abbrev pub key_before : List ℕ → ℕ → List ℕ
-key_before text at = let run = run_before text at in if are_blank (after_bare run) then word_of run else []
+key_before text at = let run = run_before text at in if are_blank (after_bare run) then first_word run else []
 
 -- the key whose value begins at a place
 abbrev pub key_of_value : List ℕ → ℕ → List ℕ
-key_of_value text at = let run = run_before text at in if is_set (after_bare run) then word_of run else []
+key_of_value text at = let run = run_before text at in if sets_value (after_bare run) then first_word run else []

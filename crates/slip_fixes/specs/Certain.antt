@@ -19,14 +19,14 @@ abbrev pub replaced : ℕ → ℕ → Option (List ℕ) → Option ReplacementVi
 replaced begin end text = option_map (λ text. record { begin = begin; end = end; text = text }) text
 
 -- a number in brackets
-abbrev pub listed : List ℕ → List ℕ
-listed number = 91 ∷ number ++ 93 ∷ []
+abbrev pub in_brackets : List ℕ → List ℕ
+in_brackets number = 91 ∷ number ++ 93 ∷ []
 
 -- a value of another kind: what follows the last `=` or blank of its span is replaced
 abbrev pub value_fix : List ℕ → List ℕ → ℕ → Option ReplacementView
 value_fix key piece end =
     let value = after_last Blank piece piece in
-    replaced (end - length value) end (if is_unlisted key value then Some (listed value) else new_value key piece value)
+    replaced (end - length value) end (if is_unlisted key value then Some (in_brackets value) else new_value key piece value)
 
 -- a key that isn't one
 abbrev pub key_fix : List ℕ → Span → Option ReplacementView
@@ -55,9 +55,9 @@ fix_at (b ∷ bs) text span =
 abbrev pub toml_fix : List ℕ → Span → Option ReplacementView
 toml_fix text span = fix_at (piece_of text span.begin (length text)) text span
 
-abbrev pub key_text : Option (List ℕ) → List ℕ
-key_text None = []
-key_text (Some key) = key
+abbrev pub about_text : Option (List ℕ) → List ℕ
+about_text None = []
+about_text (Some key) = key
 
 abbrev pub fix_of : Code → List ℕ → Span → List ℕ → Option ReplacementView
 fix_of found.WrongKind text span key = value_fix key (piece_of text span.begin span.end) span.end
@@ -68,4 +68,4 @@ fix_of found.NotToml text span key = toml_fix text span
 fix_of _ text span key = None
 
 abbrev pub certain_fix : List ℕ → FindingView → Option ReplacementView
-certain_fix text f = fix_of f.words.code text f.span (key_text f.words.about.key)
+certain_fix text f = fix_of f.words.code text f.span (about_text f.words.about.key)

@@ -7,7 +7,6 @@ use Rattle.lint.specs.Findings.{FindingView}
 use Rattle.lint.specs.Lint.{IsLint}
 use Rattle.text_edits.specs.Edits.{ReplacementView, edited}
 use Rattle.slip_fixes.specs.Certain.{certain_fix}
-use Rattle.slip_fixes.specs.declared.rounds.State.{State}
 
 -- the fix, unless it begins before a place
 abbrev pub first_fix : ℕ → Option ReplacementView → List ReplacementView
@@ -51,8 +50,8 @@ pub record IsNext (text : List ℕ) (findings : List FindingView) (new : List �
   pub count : number ≡ length (fixes_of text findings)
 
 -- as many fixes more, as far as a number of 64 bits can say
-abbrev pub added : ℕ → ℕ → ℕ
-added fixes count = min (fixes + count) (2 ^ 64 - 1)
+abbrev pub fixes_after : ℕ → ℕ → ℕ
+fixes_after fixes count = min (fixes + count) (2 ^ 64 - 1)
 
 -- a round: all certain fixes of what lint finds are made, and TOML reads the new text further, or all of it
 pub record IsRound (policy : Policy) (text new : List ℕ) (count : ℕ) : Type 0 where
@@ -70,7 +69,7 @@ pub record ThenRound (policy : Policy) (before : List ℕ → ℕ → Type 0) (n
   pub count : ℕ
   pub rounds : before text earlier
   pub round : IsRound policy text new count
-  pub sum : fixes ≡ added earlier count
+  pub sum : fixes ≡ fixes_after earlier count
 
 abbrev pub AreRounds : Policy → List ℕ → ℕ → List ℕ → ℕ → Type 0
 AreRounds policy old zero new fixes = (new ≡ old) × (fixes ≡ 0)
@@ -80,8 +79,3 @@ AreRounds policy old (suc n) new fixes = ThenRound policy (AreRounds policy old 
 pub record IsFixed (policy : Policy) (old new : List ℕ) (fixes : ℕ) : Type 0 where
   pub number : ℕ
   pub rounds : AreRounds policy old number new fixes
-
--- the next text on the way, if the findings of this one are those of lint
-pub record IsAdvanced (policy : Policy) (state next : State) : Type 0 where
-  pub round : IsLint state.text.items policy state.findings.items → (count : ℕ) × (IsRound policy state.text.items next.text.items count × (next.fixes ≡ added state.fixes count))
-  pub found : IsLint next.text.items policy next.findings.items

@@ -3,7 +3,7 @@ use Rattle.std.specs.Prelude.{ℕ, Bool, true, false, not, ◌&&◌, ◌||◌, �
 use Rattle.std.specs.Char.{is_ascii_digit, is_ascii_hexdigit}
 use Rattle.std.specs.Str.{bytes_eq}
 use Rattle.base_text.specs.declared.keys.Field.{Field}
-use Rattle.base_text.specs.Fields.{field_name}
+use Rattle.base_text.specs.Fields.{field_name, is_digit_key}
 use Rattle.slip_fixes.specs.Bytes.{after_zeros, is_number}
 use Rattle.slip_fixes.specs.NearKeys.{all_fields}
 use Rattle.slip_fixes.specs.Values.{takes_number}
@@ -14,11 +14,6 @@ small_truth word =
     if bytes_eq word (codes "True") || bytes_eq word (codes "TRUE") then Some (codes "true")
     else if bytes_eq word (codes "False") || bytes_eq word (codes "FALSE") then Some (codes "false")
     else None
-
--- a key of a route
-abbrev pub is_digit_key : List ℕ → Bool
-is_digit_key (b ∷ []) = is_ascii_digit b
-is_digit_key _ = false
 
 -- a number with zeros before it, without them
 abbrev pub without_zeros : List ℕ → Option (List ℕ)

@@ -3,7 +3,7 @@
 ghost use Rattle.std.specs.Prelude.{◌≡◌, false};
 ghost use Rattle.std.specs.List.{list_all};
 ghost use Rattle.std.specs.Char.{is_ascii_digit};
-ghost use Rattle.slip_fixes.specs.Bytes.{is_quote, is_blank, is_bare, ends_part, after_last, after_digits, after_zeros, last_run, after_bare, is_number, piece_of, are_blank, key_before, key_of_value, is_set, run_before, word_of};
+ghost use Rattle.slip_fixes.specs.Bytes.{is_quote, is_gap, is_bare, ends_part, after_last, after_digits, after_zeros, last_run, after_bare, is_number, piece_of, are_blank, key_before, key_of_value, sets_value, run_before, first_word};
 
 /// What a part of a text is after.
 #[derive(Clone, Copy)]
@@ -20,8 +20,8 @@ pub fn is_quote(byte: u8) -> bool
     byte == b'"' || byte == b'\''
 }
 
-fn is_blank(byte: u8) -> bool
-    ensures { result ≡ is_blank byte }
+fn is_gap(byte: u8) -> bool
+    ensures { result ≡ is_gap byte }
 {
     byte == b' ' || byte == b'\t'
 }
@@ -38,7 +38,7 @@ fn ends_part(before: Before, byte: u8) -> bool
 {
     match before {
         Before::LineFeed => byte == b'\n',
-        Before::Blank => is_blank(byte) || byte == b'=',
+        Before::Blank => is_gap(byte) || byte == b'=',
     }
 }
 
@@ -146,7 +146,7 @@ fn are_blank(bytes: &[u8]) -> bool
 {
     let mut rest = bytes;
     while let Some((first, tail)) = rest.split_first() {
-        if !is_blank(*first) {
+        if !is_gap(*first) {
             return false;
         }
         rest = tail;
@@ -155,15 +155,15 @@ fn are_blank(bytes: &[u8]) -> bool
 }
 
 // Whether these are one `=` among blanks.
-fn is_set(bytes: &[u8]) -> bool
-    ensures { result ≡ is_set bytes.now }
+fn sets_value(bytes: &[u8]) -> bool
+    ensures { result ≡ sets_value bytes.now }
 {
     let mut rest = bytes;
     while let Some((first, tail)) = rest.split_first() {
         if *first == b'=' {
             return are_blank(tail);
         }
-        if !is_blank(*first) {
+        if !is_gap(*first) {
             return false;
         }
         rest = tail;
@@ -179,8 +179,8 @@ fn run_before(text: &[u8], at: usize) -> &[u8]
     last_run(after_last(before, Before::LineFeed))
 }
 
-fn word_of(run: &[u8]) -> &[u8]
-    ensures { result.now ≡ word_of run.now }
+fn first_word(run: &[u8]) -> &[u8]
+    ensures { result.now ≡ first_word run.now }
 {
     let rest = after_bare(run);
     piece_of(run, 0, run.len().saturating_sub(rest.len()))
@@ -192,7 +192,7 @@ pub fn key_before(text: &[u8], at: usize) -> &[u8]
 {
     let run = run_before(text, at);
     if are_blank(after_bare(run)) {
-        word_of(run)
+        first_word(run)
     } else {
         &[]
     }
@@ -203,8 +203,8 @@ pub fn key_of_value(text: &[u8], at: usize) -> &[u8]
     ensures { result.now ≡ key_of_value text.now at }
 {
     let run = run_before(text, at);
-    if is_set(after_bare(run)) {
-        word_of(run)
+    if sets_value(after_bare(run)) {
+        first_word(run)
     } else {
         &[]
     }

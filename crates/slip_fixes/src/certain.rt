@@ -1,7 +1,7 @@
 //! The certain fix of a finding.
 
 ghost use Rattle.std.specs.Prelude.{◌≡◌, IfOk, option_map};
-ghost use Rattle.slip_fixes.specs.Certain.{replaced, listed, key_text, value_fix, key_fix, id_fix, code_fix, word_fix, toml_fix, certain_fix};
+ghost use Rattle.slip_fixes.specs.Certain.{replaced, in_brackets, about_text, value_fix, key_fix, id_fix, code_fix, word_fix, toml_fix, certain_fix};
 
 use crate::bytes::{Before, after_last, key_before, key_of_value, piece_of};
 use crate::keys::near_field;
@@ -33,8 +33,8 @@ fn replaced(
 }
 
 // A number in brackets.
-fn listed(alloc: Global, number: &[u8]) -> Result<Vec<u8>, AllocError>
-    ensures { IfOk result (λ text. text.items ≡ listed number.now) }
+fn in_brackets(alloc: Global, number: &[u8]) -> Result<Vec<u8>, AllocError>
+    ensures { IfOk result (λ text. text.items ≡ in_brackets number.now) }
 {
     let mut text = Vec::new(alloc);
     text.push(b'[')?;
@@ -55,7 +55,7 @@ fn value_fix(
     let value = after_last(piece, Before::Blank);
     let begin = end.saturating_sub(value.len());
     if is_unlisted(key, value) {
-        let text = listed(alloc, value)?;
+        let text = in_brackets(alloc, value)?;
         return Ok(Some(Replacement { begin, end, text }));
     }
     replaced(alloc, begin, end, new_value(key, piece, value))
@@ -125,8 +125,8 @@ fn toml_fix(alloc: Global, text: &[u8], span: Span) -> Result<Option<Replacement
     }
 }
 
-fn key_text(about: &About) -> &str
-    ensures { result.now ≡ key_text about.now.key }
+fn about_text(about: &About) -> &str
+    ensures { result.now ≡ about_text about.now.key }
 {
     match &about.key {
         Some(key) => key.as_str(),
@@ -145,7 +145,7 @@ pub fn certain_fix(
 {
     let span = finding.span;
     let piece = piece_of(text, span.begin, span.end);
-    let key = key_text(finding.words.about());
+    let key = about_text(finding.words.about());
     match finding.words.code() {
         Code::WrongKind => value_fix(alloc, key.as_bytes(), piece, span.end),
         Code::UnknownKey => key_fix(alloc, key, span),

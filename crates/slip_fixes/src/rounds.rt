@@ -1,7 +1,8 @@
 //! Rounds of fixes: each makes all certain fixes of a text's findings, and reads what comes of it.
 
 ghost use Rattle.std.specs.Prelude.{◌≡◌, IfOk, IfSome, option_map};
-ghost use Rattle.slip_fixes.specs.Rounds.{first_fix, end_after, fixes_from, fixes_of, reads_to, reads_further, IsNext, IsAdvanced, IsFixed};
+ghost use Rattle.slip_fixes.specs.Rounds.{first_fix, end_after, fixes_from, fixes_of, reads_to, reads_further, IsNext, IsFixed};
+ghost use Rattle.slip_fixes.specs.Loops.{IsAdvanced};
 
 use crate::certain::certain_fix;
 use checker::Policy;
@@ -23,7 +24,7 @@ pub struct Fixed {
 
 // A text on the way, and what is found in it.
 #[derive(Drop)]
-struct State {
+struct Attempt {
     text: Vec<u8>,
     findings: Vec<Finding>,
     fixes: usize,
@@ -96,7 +97,7 @@ fn next_text(
 }
 
 // The next text, if there is something to fix and TOML doesn't read less of it.
-fn advanced(alloc: Global, state: &State, policy: &Policy) -> Result<Option<State>, AllocError>
+fn advanced(alloc: Global, state: &Attempt, policy: &Policy) -> Result<Option<Attempt>, AllocError>
     ensures { IfOk result (λ next. IfSome next (IsAdvanced policy.now state.now)) }
 {
     let Some((text, fixes)) = next_text(alloc, state.text.as_slice(), state.findings.as_slice())?
@@ -108,7 +109,7 @@ fn advanced(alloc: Global, state: &State, policy: &Policy) -> Result<Option<Stat
         return Ok(None);
     }
     let fixes = state.fixes.saturating_add(fixes);
-    Ok(Some(State {
+    Ok(Some(Attempt {
         text,
         findings,
         fixes,
@@ -125,7 +126,7 @@ pub fn fix_slips(alloc: Global, text: &[u8], policy: &Policy) -> Result<Fixed, A
     let findings = lint(alloc, text, policy)?;
     let mut copy = Vec::new(alloc);
     copy.extend_from_slice(text)?;
-    let mut state = State {
+    let mut state = Attempt {
         text: copy,
         findings,
         fixes: 0,
@@ -136,6 +137,6 @@ pub fn fix_slips(alloc: Global, text: &[u8], policy: &Policy) -> Result<Fixed, A
             None => break,
         }
     }
-    let State { text, fixes, .. } = state;
+    let Attempt { text, fixes, .. } = state;
     Ok(Fixed { text, fixes })
 }

@@ -1,7 +1,8 @@
 //! What isn't TOML.
 
 ghost use Rattle.std.specs.Prelude.{◌≡◌, option_map};
-ghost use Rattle.slip_fixes.specs.TomlSlips.{small_truth, is_digit_key, without_zeros, new_word, ends_pair, ends_long, new_escape, is_named, is_known, new_mark};
+ghost use Rattle.base_text.specs.Fields.{is_digit_key};
+ghost use Rattle.slip_fixes.specs.TomlSlips.{small_truth, without_zeros, new_word, ends_pair, ends_long, new_escape, is_named, is_known, new_mark};
 
 use crate::bytes::{after_zeros, is_number};
 use crate::value_slips::takes_number;

@@ -1,6 +1,6 @@
 use Rattle.std.proofs.Common.{◌≡◌, ◌++◌, ◌∙◌, ap, subst}
 use Rattle.std.specs.Prelude.{IfSome}
-use Rattle.slip_fixes.specs.Rounds.{IsAdvanced}
+use Rattle.slip_fixes.specs.Loops.{IsAdvanced}
 use Rattle.slip_fixes.proofs.Ways.{none_yet, and_round, of_same}
 use Rattle.slip_fixes.proofs.rounds.fix_slips.Goals as goal
 
