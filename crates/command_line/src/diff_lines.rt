@@ -89,7 +89,12 @@ fn push_head(alloc: Global, out: &mut Vec<u8>, hunk: &Hunk) -> Result<(), AllocE
 }
 
 /// What of a file's text has changed, if both texts have the same number of lines. Nothing if they are the same.
-pub fn diff_text(alloc: Global, path: &str, old: &[u8], new: &[u8]) -> Result<Vec<u8>, AllocError> {
+pub fn diff_text<'t>(
+    alloc: Global,
+    path: &str,
+    old: &'t [u8],
+    new: &'t [u8],
+) -> Result<Vec<u8>, AllocError> {
     let mut out = Vec::new(alloc);
     let pairs = pairs_of(alloc, old, new)?;
     let hunks = hunks_of(alloc, &pairs)?;

@@ -62,7 +62,10 @@ fn lint_path<R: Files + Input + Print + AllocGlobal>(
                 &asked.policy,
                 asked.format,
             );
-            ended(run, &out).map(|counts| found(counts, 0))
+            match ended(run, &out) {
+                Ok(counts) => Ok(found(counts, 0)),
+                Err(unfinished) => Err(unfinished),
+            }
         }
         Err(unfinished) => Err(unfinished),
     }
@@ -114,7 +117,10 @@ fn fix_path<R: Files + Input + Print + AllocGlobal>(
             Err(unfinished) => Err(unfinished),
         }
     };
-    counts.map(|counts| found(counts, fixed.fixes))
+    match counts {
+        Ok(counts) => Ok(found(counts, fixed.fixes)),
+        Err(unfinished) => Err(unfinished),
+    }
 }
 
 fn diff_path<R: Files + Input + Print + AllocGlobal>(
