@@ -14,6 +14,9 @@ use Rattle.edition_checks.specs.Served.{IsUnchanged, IsCertOf, IsServed}
 pub unchanged : (old new : SeenFolder) → IsLater old new → old.held ≡ true → IsUnchanged old new
 unchanged old new later held = record { held = later.held ∙ held; same = later.same held }
 
+pub later_then : (a b c : SeenFolder) → IsLater a b → IsLater b c → IsLater a c
+later_then a b c one two = record { held = two.held ∙ one.held; same = λ held. two.same (one.held ∙ held) ∙ one.same held }
+
 pub unchanged_then : (a b c : SeenFolder) → IsUnchanged a b → IsUnchanged b c → IsUnchanged a c
 unchanged_then a b c one two = record { held = two.held; same = two.same ∙ one.same }
 

@@ -4,4 +4,8 @@
 #[cfg(test)]
 mod bytes;
 #[cfg(test)]
+mod calls;
+#[cfg(test)]
 mod keys;
+#[cfg(test)]
+mod line;
