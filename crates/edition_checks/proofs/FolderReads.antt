@@ -17,9 +17,6 @@ unchanged old new later held = record { held = later.held ∙ held; same = later
 pub later_then : (a b c : SeenFolder) → IsLater a b → IsLater b c → IsLater a c
 later_then a b c one two = record { held = two.held ∙ one.held; same = λ held. two.same (one.held ∙ held) ∙ one.same held }
 
-pub unchanged_then : (a b c : SeenFolder) → IsUnchanged a b → IsUnchanged b c → IsUnchanged a c
-unchanged_then a b c one two = record { held = two.held; same = two.same ∙ one.same }
-
 -- what holds of a folder now held of it before
 pub before : (o p : Option FolderState) (P : FolderState → Type 0) → p ≡ o → IfSome p P → IfSome o P
 before o p P is h = subst (λ (q : Option FolderState). IfSome q P) is h

@@ -1,0 +1,4 @@
+pub mod Heard
+pub mod Turns
+pub mod Seen
+pub mod Safe

@@ -4,15 +4,16 @@ use Rattle.std.specs.List.{AllByRecursion}
 use Rattle.page_ids.specs.Ids.{Id}
 use Rattle.page_ids.specs.declared.key.Key.{Key}
 use Rattle.frame_records.specs.Bases.{BaseView, AreApart}
-use Rattle.frame_records.specs.Seek.{entry_of}
+use Rattle.frame_records.specs.declared.base.Sought.TheVariants.{Found}
+use Rattle.frame_records.specs.Seek.{entry_of, seek_entry}
 use Rattle.terminal_codes.specs.Screen.{Screen, run}
 use Rattle.session_machine.specs.Sessions.{opening}
-use Rattle.session_machine.specs.Runs.{state_after, replies_to, IsFairReply, LeftOrRegains}
+use Rattle.session_machine.specs.Runs.{state_after, replies_to, replies_of, IsFairReply, LeftOrRegains}
 use Rattle.cert_table.specs.Table.{CertView}
 use Rattle.checker.specs.declared.policy.Policy.{Policy}
 use Rattle.checker.specs.declared.verdict.Verdict.TheVariants.{Cleared}
 use Rattle.checker.specs.Verdict.{verdict}
-use Rattle.checker.specs.Safe.{IsCleanAt, IsCleanReply}
+use Rattle.checker.specs.Safe.{IsCleanReply}
 use Rattle.frame_screens.specs.Frames.{sent_in, frames_sent}
 use Rattle.frame_screens.specs.Screens.{new_terminal, with_frames, records, screen_codes}
 use Rattle.served_bytes.specs.Seen.{with_texts}
@@ -50,9 +51,10 @@ CallsAreSeen = (groups : List ℕ) (base : BaseView) (bytes : List ℕ) (t : Scr
 -- clean; and unless the caller left, at most the keyings lead back to the entry frame
 pub record IsSafeCall (groups : List ℕ) (base : BaseView) (ceiling keyings : ℕ) (bytes : List ℕ) (t : Screen) : Type 0 where
   pub seen : IsSeenAs groups base bytes t
-  pub fair : AllByRecursion (IsFairReply ceiling) (replies_to groups base (opening base) (call_keys groups base bytes))
-  pub entry_clean : IsCleanAt base (entry_of base)
-  pub clean : AllByRecursion (IsCleanReply base) (replies_to groups base (opening base) (call_keys groups base bytes))
+  pub price : ℕ
+  pub found : seek_entry groups base ≡ Found price
+  pub fair : AllByRecursion (IsFairReply ceiling) (replies_of groups base (call_keys groups base bytes) price)
+  pub clean : AllByRecursion (IsCleanReply base) (replies_of groups base (call_keys groups base bytes) price)
   pub regains : LeftOrRegains groups base keyings (state_after groups base (opening base) (call_keys groups base bytes))
 
 -- an edition that was cleared, any bytes, and any terminal. The premise of the base is what every base keeps

@@ -85,17 +85,13 @@ heard_turn base c End = said c end_words true
 abbrev pub with_hearing : CallView → HearingView → CallView
 with_hearing c h = record { hearing = h; session = c.session; caret = c.caret; words = c.words; over = c.over }
 
--- a byte, while the call goes on
-abbrev pub byte_turn : BaseView → CallView → ℕ → CallView × List Sending
-byte_turn base c b = heard_turn base (with_hearing c (hear c.hearing b).0) (hear c.hearing b).1
-
 -- after its end nothing is heard
-abbrev pub unless_over : Bool → BaseView → CallView → ℕ → CallView × List Sending
-unless_over false base c b = byte_turn base c b
-unless_over true base c b = (c, [])
+abbrev pub unless_over : Bool → BaseView → CallView → HearingView × Heard → CallView × List Sending
+unless_over false base c o = heard_turn base (with_hearing c o.0) o.1
+unless_over true base c o = (c, [])
 
 abbrev pub turn : BaseView → CallView → ℕ → CallView × List Sending
-turn base c b = unless_over c.over base c b
+turn base c b = unless_over c.over base c (hear c.hearing b)
 
 -- Bytes, in order.
 
