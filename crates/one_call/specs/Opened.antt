@@ -1,5 +1,5 @@
 -- The edition that is served.
-use Rattle.std.specs.Prelude.{◌≡◌, ℕ, List, Some, Result, Ok, Err}
+use Rattle.std.specs.Prelude.{◌≡◌, ℕ, List, Some}
 use Rattle.frame_records.specs.Bases.{AreApart}
 use Rattle.checker.specs.declared.verdict.Cause.{Cause}
 use Rattle.checker.specs.declared.verdict.Verdict.TheVariants as verdicts
@@ -8,8 +8,6 @@ use Rattle.editions.specs.Folders.{FolderState, SeenFolder}
 use Rattle.editions.specs.NumberLines.{current_in}
 use Rattle.edition_checks.specs.declared.served.Served.{Served}
 use Rattle.edition_checks.specs.Served.{IfHeld, IsReadEdition, IsServed}
-use Rattle.one_call.specs.declared.fault.CallFault.{CallFault}
-use Rattle.one_call.specs.declared.fault.CallFault.TheVariants.{Unpublished, Unnamed, Folder, Edition, Refused, Line, Memory}
 
 -- `current` names this number
 pub record NamesCurrent (number : ℕ) (f : FolderState) : Type 0 where
@@ -39,34 +37,3 @@ pub record IsToRefuse (folder : SeenFolder) (number : ℕ) (cause : Cause) : Typ
   pub is : IsCurrentRead folder served
   pub number : served.number ≡ number
   pub refused : verdict served.base served.policy served.cert ≡ verdicts.Refused cause
-
--- what the check of an edition that was read says of it
-abbrev pub IsJudged : Served → Result Served CallFault → Type 0
-IsJudged s (Ok t) = (t ≡ s) × (verdict s.base s.policy s.cert ≡ verdicts.Cleared) × AreApart s.base
-IsJudged s (Err (Refused number cause)) = (number ≡ s.number) × (verdict s.base s.policy s.cert ≡ verdicts.Refused cause)
-IsJudged s (Err Unpublished) = ⊥
-IsJudged s (Err Unnamed) = ⊥
-IsJudged s (Err Folder) = ⊥
-IsJudged s (Err (Edition number fault)) = ⊥
-IsJudged s (Err (Line fault)) = ⊥
-IsJudged s (Err Memory) = ⊥
-
--- a fault of what is read, before anything is checked
-abbrev pub IsBeforeCheck : CallFault → Type 0
-IsBeforeCheck Unpublished = Unit {0}
-IsBeforeCheck Unnamed = Unit {0}
-IsBeforeCheck Folder = Unit {0}
-IsBeforeCheck (Edition number fault) = Unit {0}
-IsBeforeCheck (Refused number cause) = ⊥
-IsBeforeCheck (Line fault) = ⊥
-IsBeforeCheck Memory = Unit {0}
-
--- why no call is begun
-abbrev pub IsOpenRefused : SeenFolder → CallFault → Type 0
-IsOpenRefused folder (Refused number cause) = IsToRefuse folder number cause
-IsOpenRefused folder Unpublished = Unit {0}
-IsOpenRefused folder Unnamed = Unit {0}
-IsOpenRefused folder Folder = Unit {0}
-IsOpenRefused folder (Edition number fault) = Unit {0}
-IsOpenRefused folder (Line fault) = ⊥
-IsOpenRefused folder Memory = Unit {0}

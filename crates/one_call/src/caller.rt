@@ -1,10 +1,9 @@
 //! A call so far, and what a byte does to it.
 
-ghost use Rattle.std.specs.Prelude.{◌≡◌, ◌++◌, false, IfOk, OnOk};
+ghost use Rattle.std.specs.Prelude.{◌≡◌, ◌++◌, false, IfOk, IfErr, OnOk};
 ghost use Rattle.served_bytes.specs.Sent.{Says, opening_bytes, home, caret_after, sending_bytes, sent_bytes};
 ghost use Rattle.served_bytes.specs.Words.{sending_of};
-ghost use Rattle.frame_records.specs.Seek.{entry_of, seek_entry};
-ghost use Rattle.one_call.specs.Lines.{IsEntryRefused};
+ghost use Rattle.one_call.specs.Loops.{IsBeginFault};
 ghost use Rattle.one_call.specs.Turns.{begun_call, bottom_text, first_bytes, is_leaving, said, keyed, turn};
 
 use crate::fault::ServeFault;
@@ -58,7 +57,8 @@ fn push_first(
     base: &Base,
     reply: &Reply,
 ) -> Result<Caret, AllocError>
-    ensures text { OnOk result (text.new.items ≡ text.old.items ++ (opening_bytes ++ sending_bytes home (sending_of base.now reply.now))) }
+    ensures text { OnOk result (text.new.items ≡ text.old.items ++
+        (opening_bytes ++ sending_bytes home (sending_of base.now reply.now))) }
     ensures caret { IfOk result (λ caret. caret ≡ caret_after home (sending_of base.now reply.now)) }
 {
     let caret = push_opening(text)?;
@@ -75,6 +75,7 @@ impl OneCall {
     ) -> Result<OneCall, ServeFault>
         ensures call { IfOk result (λ c. c ≡ begun_call groups.now base.now) }
         ensures text { OnOk result (text.new.items ≡ text.old.items ++ first_bytes base.now) }
+        ensures fault { IfErr result (IsBeginFault groups.now base.now) }
     {
         let (session, reply) = match Session::open(alloc, base, groups) {
             Ok(opened) => opened,
@@ -103,7 +104,8 @@ impl OneCall {
 
     // Row 23 after the command so far has changed.
     fn show_command(&self, text: &mut Vec<u8>) -> Result<(), AllocError>
-        ensures { OnOk result (text.new.items ≡ text.old.items ++ sending_bytes self.now.caret (Says (bottom_text self.now))) }
+        ensures { OnOk result (text.new.items ≡ text.old.items ++
+            sending_bytes self.now.caret (Says (bottom_text self.now))) }
     {
         let command = self.hearing.command();
         if command.is_empty() {
@@ -121,7 +123,8 @@ impl OneCall {
         is_over: bool,
     ) -> Result<(), AllocError>
         ensures call { OnOk result (self.new ≡ (said self.old words.bytes is_over).0) }
-        ensures text { OnOk result (text.new.items ≡ text.old.items ++ sending_bytes self.old.caret (Says words.bytes)) }
+        ensures text { OnOk result (text.new.items ≡ text.old.items ++
+            sending_bytes self.old.caret (Says words.bytes)) }
     {
         push_words(text, self.caret, words.as_bytes())?;
         self.words = words;
@@ -138,7 +141,8 @@ impl OneCall {
         key: Key,
     ) -> Result<(), AllocError>
         ensures call { OnOk result (self.new ≡ (keyed base.now self.old key).0) }
-        ensures text { OnOk result (text.new.items ≡ text.old.items ++ sent_bytes self.old.caret (keyed base.now self.old key).1) }
+        ensures text { OnOk result (text.new.items ≡ text.old.items ++
+            sent_bytes self.old.caret (keyed base.now self.old key).1) }
     {
         let reply = self.session.key(base, key);
         self.caret = push_reply(alloc, text, base, self.caret, &reply)?;
@@ -157,7 +161,8 @@ impl OneCall {
     ) -> Result<(), AllocError>
         requires { self.old.over ≡ false }
         ensures call { OnOk result (self.new ≡ (turn base.now self.old byte).0) }
-        ensures text { OnOk result (text.new.items ≡ text.old.items ++ sent_bytes self.old.caret (turn base.now self.old byte).1) }
+        ensures text { OnOk result (text.new.items ≡ text.old.items ++
+            sent_bytes self.old.caret (turn base.now self.old byte).1) }
     {
         match self.hearing.hear(byte) {
             Heard::Nothing => Ok(()),

@@ -2,7 +2,7 @@
 
 ghost use Rattle.std.specs.Prelude.{◌≡◌, false, IfOk, OnOk};
 ghost use Rattle.one_call.specs.Lines.{IsLineServed};
-ghost use Rattle.one_call.specs.Loops.{IsBegun, IsAnswered};
+ghost use Rattle.one_call.specs.Loops.{IsBegun, IsByteAnswered};
 
 use crate::caller::OneCall;
 use crate::fault::ServeFault;
@@ -41,7 +41,7 @@ fn answer<W: Sink>(
 ) -> Result<(), ServeFault>
     requires open { (W.seen sink.old).failed ≡ false }
     requires goes_on { call.old.over ≡ false }
-    ensures { IsAnswered base.now call.old byte (W.seen sink.old) (W.seen sink.new) call.new result }
+    ensures { IsByteAnswered base.now call.old byte (W.seen sink.old) (W.seen sink.new) call.new result }
 {
     let mut text = Vec::new(alloc);
     match call.hear(alloc, &mut text, base, byte) {
@@ -66,7 +66,8 @@ pub fn serve_line<R: Source, W: Sink>(
 ) -> Result<(), ServeFault>
     requires reads { (R.seen source.old).failed ≡ false }
     requires writes { (W.seen sink.old).failed ≡ false }
-    ensures { IsLineServed groups.now base.now (R.seen source.old) (R.seen source.new) (W.seen sink.old) (W.seen sink.new) result }
+    ensures { IsLineServed groups.now base.now (R.seen source.old) (R.seen source.new)
+        (W.seen sink.old) (W.seen sink.new) result }
 {
     let mut call = match begin(alloc, base, groups, sink) {
         Ok(call) => call,

@@ -4,7 +4,8 @@ ghost use Rattle.std.specs.Prelude.{◌≡◌, IfOk, IfErr, MatchResult};
 ghost use Rattle.editions.specs.Folders.{IsLater};
 ghost use Rattle.editions.specs.NumberLines.{current_in};
 ghost use Rattle.edition_checks.specs.Served.{IfHeld};
-ghost use Rattle.one_call.specs.Opened.{IsCurrentRead, IsToServe, IsJudged, IsBeforeCheck, IsOpenRefused, NamesCurrent};
+ghost use Rattle.one_call.specs.Opened.{IsCurrentRead, IsToServe, NamesCurrent};
+ghost use Rattle.one_call.specs.Loops.{IsEditionJudged, IsBeforeCheck, IsOpenRefused};
 
 use crate::fault::CallFault;
 use checker::{Verdict, check};
@@ -57,7 +58,7 @@ fn read_current<F: EditionFolder>(alloc: Global, folder: &mut F) -> Result<Serve
 
 // The edition, if the check clears it by its own policy.
 fn checked(served: Served) -> Result<Served, CallFault>
-    ensures { IsJudged served result }
+    ensures { IsEditionJudged served result }
 {
     match check(&served.base, &served.policy, &served.cert) {
         Verdict::Cleared => Ok(served),

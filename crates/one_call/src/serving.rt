@@ -20,7 +20,8 @@ pub fn serve<R: Source, W: Sink, F: EditionFolder>(
 ) -> Result<(), CallFault>
     requires reads { (R.seen source.old).failed ≡ false }
     requires writes { (W.seen sink.old).failed ≡ false }
-    ensures { IsCallServed (F.seen folder.old) (R.seen source.old) (R.seen source.new) (W.seen sink.old) (W.seen sink.new) result }
+    ensures { IsCallServed (F.seen folder.old) (R.seen source.old) (R.seen source.new)
+        (W.seen sink.old) (W.seen sink.new) result }
 {
     let served = match open_edition(alloc, folder) {
         Ok(served) => served,

@@ -1,4 +1,4 @@
-//! Tests of `served_bytes` and `line_keys`.
+//! Tests of `served_bytes`, `line_keys` and `one_call`.
 #![tactic(auto)]
 
 #[cfg(test)]
