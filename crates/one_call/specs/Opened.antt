@@ -35,5 +35,5 @@ pub record IsToServe (folder : SeenFolder) (s : Served) : Type 0 where
 pub record IsToRefuse (folder : SeenFolder) (number : ℕ) (cause : Cause) : Type 0 where
   pub served : Served
   pub is : IsCurrentRead folder served
-  pub number : served.number ≡ number
+  pub is_number : served.number ≡ number
   pub refused : verdict served.base served.policy served.cert ≡ verdicts.Refused cause

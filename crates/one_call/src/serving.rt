@@ -1,5 +1,5 @@
-ghost use Rattle.std.specs.Prelude.{◌≡◌, false};
-ghost use Rattle.one_call.specs.Calls.{IsCallServed};
+ghost use Rattle.std.specs.Prelude.{◌≡◌, false, IfOk};
+ghost use Rattle.one_call.specs.Calls.{IsCallServed, IsKeptCall};
 
 use crate::fault::CallFault;
 use crate::line::serve_line;
@@ -20,8 +20,12 @@ pub fn serve<R: Source, W: Sink, F: EditionFolder>(
 ) -> Result<(), CallFault>
     requires reads { (R.seen source.old).failed ≡ false }
     requires writes { (W.seen sink.old).failed ≡ false }
-    ensures { IsCallServed (F.seen folder.old) (R.seen source.old) (R.seen source.new)
+    ensures call { IsCallServed (F.seen folder.old) (R.seen source.old) (R.seen source.new)
         (W.seen sink.old) (W.seen sink.new) result }
+
+    // The headline of a whole call, whatever the caller's terminal was.
+    ensures kept { IfOk result (λ _. IsKeptCall (F.seen folder.old) (R.seen source.old) (R.seen source.new)
+        (W.seen sink.old) (W.seen sink.new)) }
 {
     let served = match open_edition(alloc, folder) {
         Ok(served) => served,
