@@ -9,10 +9,10 @@ use Rattle.one_call.specs.declared.fault.ServeFault.{ServeFault}
 use Rattle.one_call.specs.declared.fault.ServeFault.TheVariants as stops
 use Rattle.one_call.specs.declared.fault.CallFault.{CallFault}
 use Rattle.one_call.specs.declared.fault.CallFault.TheVariants.{Unpublished, Unnamed, Folder, Edition, Refused, Line, Memory}
-use Rattle.one_call.specs.Lines.{IsSilent, IsEntryRefused, IsNotOpened, IsWholeCall, IsLineServed}
+use Rattle.one_call.specs.Lines.{IsEntryRefused, IsNotOpened, IsWholeCall, IsLineServed}
 use Rattle.one_call.specs.Loops.{IsOpenRefused}
 use Rattle.one_call.specs.Opened.{IsToServe}
-use Rattle.one_call.specs.Calls.{IsCallOf, IsCallServed, IsKeptCall}
+use Rattle.one_call.specs.Calls.{IsCallServed, IsKeptCall}
 use Rattle.one_call.proofs.Safe.{calls_are_safe}
 
 -- the entry frame of an edition that was cleared is found

@@ -3,5 +3,5 @@ pub mod Turns
 pub mod Lines
 pub mod Seen
 pub mod Safe
-pub mod Opened
+pub mod Judged
 pub mod Calls

@@ -1,5 +1,5 @@
 -- What was read and written of a call, byte by byte.
-use Rattle.std.proofs.Common.{◌≡◌, ◌≢◌, ℕ, ◌+◌, ◌<◌, ◌≤◌, refl, ap, sym, ◌∙◌, subst, arith, Bool, true, false, List, [], ◌∷◌, ◌++◌, length, take, get_or, append_assoc, append-nil}
+use Rattle.std.proofs.Common.{◌≡◌, ◌≢◌, ℕ, ◌+◌, ◌≤◌, refl, ap, sym, ◌∙◌, subst, arith, Bool, true, false, List, [], ◌∷◌, ◌++◌, length, take, get_or, append_assoc, append-nil}
 use Rattle.std.proofs.Math.Seq.{take-append-add}
 use Rattle.std.specs.Io.KnownBytes.{Appends, Consumes, Keeps}
 use Rattle.std.proofs.KnownBytes.{Appends-nil, Appends-trans, Consumes-nil, Consumes-trans, Consumes-kept}
@@ -54,7 +54,7 @@ bytes_more groups base bytes b c e =
     let begun = begun_call groups base in
     let before = answers_to base begun bytes in
     let last : answers_to base (call_after base begun bytes) (b ∷ []) ≡ sent_bytes c.caret (turn base c b).1 =
-        append-nil _ ∙ ap (λ (d : CallView). sent_bytes d.caret (turn base d b).1) (sym e) in
+    append-nil _ ∙ ap (λ (d : CallView). sent_bytes d.caret (turn base d b).1) (sym e) in
     ap (λ (bs : List ℕ). first_bytes base ++ bs) (answers_append base begun bytes (b ∷ []) ∙ ap (λ (bs : List ℕ). before ++ bs) last)
     ∙ sym (append_assoc (first_bytes base) before (sent_bytes c.caret (turn base c b).1))
 

@@ -1,11 +1,11 @@
 -- What callers are promised.
-use Rattle.std.proofs.Common.{◌≡◌, ◌≤◌, ℕ, sym, subst, arith, List, [], ◌∷◌}
+use Rattle.std.proofs.Common.{◌≤◌, ℕ, sym, subst, arith, List, [], ◌∷◌}
 use Rattle.std.specs.List.{AllByRecursion}
 use Rattle.frame_records.specs.Bases.{BaseView}
 use Rattle.session_machine.specs.declared.reply.Reply.{Reply}
 use Rattle.session_machine.specs.declared.reply.Reply.TheVariants.{Shown, Again, NotOffered, Missing, Closed, Gone}
 use Rattle.session_machine.specs.Sessions.{SessionState, At, Left, opening}
-use Rattle.session_machine.specs.Runs.{state_after, IsFairReply, Regains, LeftOrRegains}
+use Rattle.session_machine.specs.Runs.{state_after, IsFairReply, LeftOrRegains}
 use Rattle.checker.specs.Safe.{Safe}
 use Rattle.checker.proofs.Steps.{safe}
 use Rattle.checker.proofs.Clears.{cleared_good}
@@ -34,7 +34,7 @@ calls_are_safe base policy cert apart cleared bytes t =
     let groups = policy.groups in
     let keys = call_keys groups base bytes in
     let kept : Safe groups base cert.ceiling cert.keyings =
-        subst (λ (g : List ℕ). Safe g base cert.ceiling cert.keyings) (sym good.groups) (safe base policy cert apart good) in
+    subst (λ (g : List ℕ). Safe g base cert.ceiling cert.keyings) (sym good.groups) (safe base policy cert apart good) in
     record {
       seen = calls_are_seen groups base bytes t;
       price = kept.session.price;

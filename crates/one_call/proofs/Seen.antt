@@ -1,5 +1,5 @@
 -- What a caller sees.
-use Rattle.std.proofs.Common.{◌≡◌, ℕ, ◌==◌, refl, ap, sym, ◌∙◌, subst, Bool, true, false, List, [], ◌∷◌, ◌++◌, length, append_assoc, append-nil, if◌then◌else◌}
+use Rattle.std.proofs.Common.{◌≡◌, ℕ, ◌==◌, refl, ap, sym, ◌∙◌, Bool, true, false, List, [], ◌∷◌, ◌++◌, length, append_assoc, if◌then◌else◌}
 use Rattle.page_ids.specs.Ids.{Id}
 use Rattle.page_ids.specs.declared.key.Key.{Key}
 use Rattle.frame_records.specs.Bases.{BaseView}
@@ -8,21 +8,21 @@ use Rattle.terminal_codes.specs.declared.caret.Caret.{Caret}
 use Rattle.terminal_codes.specs.Screen.{Screen, run}
 use Rattle.session_machine.specs.declared.reply.Reply.{Reply}
 use Rattle.session_machine.specs.declared.reply.Reply.TheVariants.{Shown, Again, NotOffered, Missing, Closed, Gone}
-use Rattle.session_machine.specs.Sessions.{SessionState, key_step, opening, opening_reply}
+use Rattle.session_machine.specs.Sessions.{SessionState, key_step, opening_reply}
 use Rattle.session_machine.specs.Runs.{state_after, replies_to}
 use Rattle.session_machine.proofs.Runs.{replies_in_turn}
-use Rattle.frame_screens.specs.Frames.{sent_in, frames_sent}
-use Rattle.frame_screens.specs.Screens.{new_terminal, screen_codes, with_frames, records}
+use Rattle.frame_screens.specs.Frames.{sent_in}
+use Rattle.frame_screens.specs.Screens.{new_terminal, screen_codes}
 use Rattle.line_keys.specs.declared.heard.Heard.{Heard}
 use Rattle.line_keys.specs.declared.heard.Heard.TheVariants.{Nothing, Changed, Pressed, Page, End}
 use Rattle.line_keys.specs.Heard.{HearingView, hear}
-use Rattle.served_bytes.specs.Sent.{Sending, opening_bytes, home, caret_after, sending_bytes, sent_bytes}
+use Rattle.served_bytes.specs.Sent.{Sending, opening_bytes, home, sending_bytes, sent_bytes}
 use Rattle.served_bytes.specs.Words.{reply_words, painting_of, sending_of, sendings_of}
 use Rattle.served_bytes.specs.Seen.{frames_in, last_top, last_words, with_texts}
 use Rattle.served_bytes.proofs.Served.{serves_exactly}
 use Rattle.served_bytes.proofs.Replies.{replies_send_frames}
-use Rattle.one_call.specs.Turns.{CallView, begun_call, bottom_text, keyed, with_hearing, heard_turn, unless_over, turn, call_after, answers_to, first_bytes, call_bytes, keys_unless_over, keys_in_call}
-use Rattle.one_call.specs.Safety.{last_sent, call_keys, top_after, shown_terminal, IsSeenAs, CallsAreSeen}
+use Rattle.one_call.specs.Turns.{CallView, begun_call, bottom_text, with_hearing, heard_turn, unless_over, turn, call_after, answers_to, call_bytes, keys_unless_over, keys_in_call}
+use Rattle.one_call.specs.Safety.{last_sent, call_keys, top_after, shown_terminal, CallsAreSeen}
 use Rattle.one_call.proofs.Heard.{LeavesBy, hear_leaves}
 use Rattle.one_call.proofs.Turns.{caret_over, sent_append, frames_append, top_append, words_append, sendings_append, sent_in_append, last_append}
 
@@ -118,7 +118,7 @@ replies_more base c b bs =
     ap (replies_to groups base state) (first_keys c.over (hear c.hearing b).1 rest)
     ∙ (replies_in_turn groups base state keys rest
     ∙ ap (λ (rs : List Reply). replies_to groups base state keys ++ rs)
-      (ap (λ (s : SessionState). replies_to groups base s rest) (sym one.state) ∙ ap (λ (g : List ℕ). replies_to g base next.session.state rest) (sym one.groups)))
+    (ap (λ (s : SessionState). replies_to groups base s rest) (sym one.state) ∙ ap (λ (g : List ℕ). replies_to g base next.session.state rest) (sym one.groups)))
 
 turns_are : (base : BaseView) (c : CallView) (bytes : List ℕ) → AreTurns base c bytes
 turns_are base c [] = record { written = refl; frames = refl; top = λ id. refl; words = refl }
@@ -132,19 +132,19 @@ turns_are base c (b ∷ bs) =
     let later = sendings_for base o.0 bs in
     record {
       written =
-        ap (λ (bytes : List ℕ). sent_bytes c.caret o.1 ++ bytes) (rest.written ∙ ap (λ (p : Caret). sent_bytes p later) one.caret)
-        ∙ sym (sent_append c.caret o.1 later);
+          ap (λ (bytes : List ℕ). sent_bytes c.caret o.1 ++ bytes) (rest.written ∙ ap (λ (p : Caret). sent_bytes p later) one.caret)
+          ∙ sym (sent_append c.caret o.1 later);
       frames =
-        frames_append o.1 later
-        ∙ (ap (λ (bytes : List ℕ). bytes ++ frames_in later) one.frames
-        ∙ (ap (λ (bytes : List ℕ). frames_in (sendings_of base mine) ++ bytes) rest.frames
-        ∙ (sym (frames_append (sendings_of base mine) (sendings_of base others))
-        ∙ ap frames_in (sym (sendings_append base mine others) ∙ ap (sendings_of base) (sym replies)))));
+          frames_append o.1 later
+          ∙ (ap (λ (bytes : List ℕ). bytes ++ frames_in later) one.frames
+          ∙ (ap (λ (bytes : List ℕ). frames_in (sendings_of base mine) ++ bytes) rest.frames
+          ∙ (sym (frames_append (sendings_of base mine) (sendings_of base others))
+          ∙ ap frames_in (sym (sendings_append base mine others) ∙ ap (sendings_of base) (sym replies)))));
       top = λ id.
-        top_append (screen_codes base (id ∷ [])) o.1 later
-        ∙ (ap (λ (top : List ℕ). last_top top later) (one.top id)
-        ∙ (rest.top (last_sent id (sent_in mine))
-        ∙ ap (λ (last : Id). screen_codes base (last ∷ []))
+          top_append (screen_codes base (id ∷ [])) o.1 later
+          ∙ (ap (λ (top : List ℕ). last_top top later) (one.top id)
+          ∙ (rest.top (last_sent id (sent_in mine))
+          ∙ ap (λ (last : Id). screen_codes base (last ∷ []))
           (sym (last_append id (sent_in mine) (sent_in others)) ∙ ap (last_sent id) (sym (sent_in_append mine others) ∙ ap sent_in (sym replies)))));
       words = words_append (bottom_text c) o.1 later ∙ (ap (λ (words : List ℕ). last_words words later) one.words ∙ rest.words);
     }
@@ -159,11 +159,11 @@ calls_are_seen groups base bytes t =
     let all = turns_are base c bytes in
     let replies = opening_reply base 0 ∷ replies_in base c bytes in
     let written : call_bytes groups base bytes ≡ opening_bytes ++ sent_bytes home (first ∷ later) =
-        append_assoc opening_bytes (sending_bytes home first) (answers_to base c bytes)
-        ∙ ap (λ (bs : List ℕ). opening_bytes ++ (sending_bytes home first ++ bs)) all.written in
+    append_assoc opening_bytes (sending_bytes home first) (answers_to base c bytes)
+    ∙ ap (λ (bs : List ℕ). opening_bytes ++ (sending_bytes home first ++ bs)) all.written in
     let frames : run new_terminal (frames_in (first ∷ later)) ≡ shown_terminal groups base (call_keys groups base bytes) =
-        ap (λ (bs : List ℕ). run new_terminal bs) (frames_append (first ∷ []) later ∙ (ap (λ (bs : List ℕ). frames_in (first ∷ []) ++ bs) all.frames ∙ sym (frames_append (first ∷ []) (sendings_of base (replies_in base c bytes)))))
-        ∙ replies_send_frames base replies new_terminal in
+    ap (λ (bs : List ℕ). run new_terminal bs) (frames_append (first ∷ []) later ∙ (ap (λ (bs : List ℕ). frames_in (first ∷ []) ++ bs) all.frames ∙ sym (frames_append (first ∷ []) (sendings_of base (replies_in base c bytes)))))
+    ∙ replies_send_frames base replies new_terminal in
     ap (run t) written
     ∙ (serves_exactly (first ∷ later) t
     ∙ (ap (λ (top : List ℕ). with_texts top (last_words [] later) (run new_terminal (frames_in (first ∷ later)))) (all.top (entry_of base))

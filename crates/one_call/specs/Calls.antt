@@ -1,5 +1,5 @@
 -- A call of a folder's current edition.
-use Rattle.std.specs.Prelude.{◌≡◌, ℕ, List, Result, Ok, Err}
+use Rattle.std.specs.Prelude.{ℕ, List, Result, Ok, Err}
 use Rattle.std.specs.Io.KnownBytes.{Appends, Consumes}
 use Rattle.terminal_codes.specs.Screen.{Screen}
 use Rattle.devices.specs.Devices.{Seen}

@@ -1,5 +1,5 @@
 -- A call on a line.
-use Rattle.std.specs.Prelude.{◌≡◌, ◌⊎◌, ℕ, Bool, true, false, List, ◌++◌, take, Result, Ok, Err}
+use Rattle.std.specs.Prelude.{◌≡◌, ◌⊎◌, ℕ, true, false, List, take, Result, Ok, Err}
 use Rattle.std.specs.Io.KnownBytes.{Appends, Consumes, IsAtEnd}
 use Rattle.frame_records.specs.Bases.{BaseView}
 use Rattle.frame_records.specs.Seek.{seek_entry}
@@ -8,7 +8,7 @@ use Rattle.frame_records.specs.declared.base.Sought.TheVariants as sought
 use Rattle.devices.specs.Devices.{Seen}
 use Rattle.one_call.specs.declared.fault.ServeFault.{ServeFault}
 use Rattle.one_call.specs.declared.fault.ServeFault.TheVariants.{NotOpened, Read, Write, Memory}
-use Rattle.one_call.specs.Turns.{CallView, begun_call, call_after, AllHeard, call_bytes}
+use Rattle.one_call.specs.Turns.{begun_call, call_after, AllHeard, call_bytes}
 
 -- what was read and written, up to now
 pub record IsSoFar (groups : List ℕ) (base : BaseView) (from to old new : Seen) (bytes : List ℕ) : Type 0 where

@@ -1,5 +1,5 @@
 -- What a caller sees, and what callers are promised.
-use Rattle.std.specs.Prelude.{◌≡◌, ◌≤◌, ℕ, List, [], ◌∷◌, ◌++◌}
+use Rattle.std.specs.Prelude.{◌≡◌, ℕ, List, [], ◌∷◌}
 use Rattle.std.specs.List.{AllByRecursion}
 use Rattle.page_ids.specs.Ids.{Id}
 use Rattle.page_ids.specs.declared.key.Key.{Key}

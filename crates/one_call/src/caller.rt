@@ -11,7 +11,9 @@ use arrayvec::ArrayString;
 use frame_records::{Base, Groups};
 use line_keys::{Heard, Hearing};
 use page_ids::Key;
-use served_bytes::{end_words, keyed_page_words, push_opening, push_reply, push_words, reply_words};
+use served_bytes::{
+    end_words, keyed_page_words, push_opening, push_reply, push_words, reply_words,
+};
 use session_machine::{OpenFault, Reply, Session};
 use std::alloc::{AllocError, Global};
 use std::marker::Model;

@@ -67,10 +67,7 @@ fn checked(served: Served) -> Result<Served, CallFault>
 }
 
 /// Reads the current edition and checks it by its own policy.
-pub fn open_edition<F: EditionFolder>(
-    alloc: Global,
-    folder: &mut F,
-) -> Result<Served, CallFault>
+pub fn open_edition<F: EditionFolder>(alloc: Global, folder: &mut F) -> Result<Served, CallFault>
     ensures edition { IfOk result (IsToServe (F.seen folder.old)) }
     ensures fault { IfErr result (IsOpenRefused (F.seen folder.old)) }
 {

@@ -127,9 +127,21 @@ fn each_answer_goes_out_before_the_next_byte_is_read(rt: HostRuntime) -> Result<
 const ROWS_0: [(&[u8], &str, &str); 5] = [
     (b"", "                               123a   0p", "WELCOME"),
     (b"1", "                              1231a   5p", "PART ONE"),
-    (b"1*00", "                              1231a   5p", "PART ONE"),
-    (b"1*#", "                               123a   0p", "WELCOME"),
-    (b"1#7*1", "                              1231b   0p", "PART TWO"),
+    (
+        b"1*00",
+        "                              1231a   5p",
+        "PART ONE",
+    ),
+    (
+        b"1*#",
+        "                               123a   0p",
+        "WELCOME",
+    ),
+    (
+        b"1#7*1",
+        "                              1231b   0p",
+        "PART TWO",
+    ),
 ];
 
 #[test]

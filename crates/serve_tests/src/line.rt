@@ -128,13 +128,17 @@ impl Sink for CallerTerminal<'_> {
             return Err(Broken);
         }
         self.room -= count;
-        self.wire.waiting.set(self.wire.waiting.get().saturating_add(count));
+        self.wire
+            .waiting
+            .set(self.wire.waiting.get().saturating_add(count));
         Ok(count)
     }
 
     fn flush(&mut self) -> Result<(), Broken> {
         if self.wire.waiting.get() > 0 {
-            self.wire.answers.set(self.wire.answers.get().saturating_add(1));
+            self.wire
+                .answers
+                .set(self.wire.answers.get().saturating_add(1));
         }
         self.wire.waiting.set(0);
         self.flushes = self.flushes.saturating_add(1);

@@ -1,4 +1,4 @@
-use Rattle.std.proofs.Common.{◌≡◌, ℕ, [], ◌∷◌, ◌++◌, get_or, sym, ◌∙◌, length, rules}
+use Rattle.std.proofs.Common.{◌≡◌, [], ◌∷◌, ◌++◌, get_or, sym, ◌∙◌, length, rules}
 use Rattle.one_call.proofs.Lines.{begin_stopped, so_far_none, so_far_more, call_more, cut_by, given_one}
 use Rattle.one_call.proofs.line.serve_line.Goals as goal
 
@@ -19,7 +19,7 @@ returns-in-Err-answer g c =
     let R = g.R.Source.seen in
     let W = g.W.Sink.seen in
     let long : length c.read.new.into ≡ 1 = search rules in
-    let given = given_one (R c.loop.source) (R c.read.new.self) c.read.new.into c.in-Ok-read.field-0 long c.in-Ok-read.ensures.fits c.in-Ok-read.field-0-test c.in-Ok-read.ensures.bytes.0 in
+    let given = given_one (R c.loop.source) (R c.read.new.self) c.read.new.into c.in-Ok-read.field-0 long c.in-Ok-read.ensures.fits.0 c.in-Ok-read.field-0-test.1 c.in-Ok-read.ensures.bytes.0 in
     cut_by c.args.groups.now c.args.base.now (R c.args.source.now) (R c.loop.source) (R c.read.new.self) (W c.args.sink.now) (W c.loop.sink) (W c.answer.new.sink)
     c.loop.invariant.bytes (get_or c.read.new.into 0 0) c.loop.call c.in-Err-answer.fault
     c.loop.invariant.so_far c.loop.invariant.call (sym c.is_over.ensures ∙ c.if-is_over.false) given c.in-Err-answer.ensures
@@ -30,7 +30,7 @@ loop-preserved g c =
     let W = g.W.Sink.seen in
     let long : length c.read.new.into ≡ 1 = search rules in
     let b = get_or c.read.new.into 0 0 in
-    let given = given_one (R c.loop.source) (R c.read.new.self) c.read.new.into c.in-Ok-read.field-0 long c.in-Ok-read.ensures.fits c.in-Ok-read.field-0-test c.in-Ok-read.ensures.bytes.0 in
+    let given = given_one (R c.loop.source) (R c.read.new.self) c.read.new.into c.in-Ok-read.field-0 long c.in-Ok-read.ensures.fits.0 c.in-Ok-read.field-0-test.1 c.in-Ok-read.ensures.bytes.0 in
     record {
       bytes = c.loop.invariant.bytes ++ b ∷ [];
       so_far = so_far_more c.args.groups.now c.args.base.now (R c.args.source.now) (R c.loop.source) (R c.read.new.self) (W c.args.sink.now) (W c.loop.sink) (W c.answer.new.sink)

@@ -1,4 +1,4 @@
-use Rattle.std.proofs.Common.{◌≡◌, false, List, ℕ, length}
+use Rattle.std.proofs.Common.{◌≡◌, false, List, ℕ}
 use Rattle.one_call.specs.Turns.{begun_call, call_after}
 use Rattle.one_call.specs.Lines.{IsSoFar}
 use Rattle.one_call.proofs.line.serve_line.Given as goal

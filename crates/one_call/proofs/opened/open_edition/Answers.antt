@@ -1,4 +1,4 @@
-use Rattle.one_call.proofs.Opened.{judged_fault}
+use Rattle.one_call.proofs.Judged.{judged_fault}
 use Rattle.one_call.proofs.opened.open_edition.Goals as goal
 
 pub returns-in-Ok-clause-fault : goal.returns-in-Ok-clause-fault

@@ -4,8 +4,8 @@ use Rattle.one_call.proofs.serving.serve.Goals as goal
 pub returns-in-Err-clause-call : goal.returns-in-Err-clause-call
 returns-in-Err-clause-call g c = of_open (g.F.EditionFolder.seen c.args.folder.now) (g.R.Source.seen c.args.source.now) (g.W.Sink.seen c.args.sink.now) c.in-Err.fault c.in-Err.ensures.fault
 
-pub returns-in-Err-serve_line-clause-call : goal.returns-in-Err-serve_line-clause-call
-returns-in-Err-serve_line-clause-call g c =
+pub returns-clause-call : goal.returns-clause-call
+returns-clause-call g c =
     of_line (g.F.EditionFolder.seen c.args.folder.now) c.in-Ok.served (g.R.Source.seen c.args.source.now) (g.R.Source.seen c.serve_line.new.source) (g.W.Sink.seen c.args.sink.now) (g.W.Sink.seen c.serve_line.new.sink) c.in-Err-serve_line.fault
     c.in-Ok.ensures.edition c.in-Err-serve_line.ensures
 
