@@ -6,6 +6,7 @@
 #![tactic(auto)]
 
 mod diff_lines;
+mod edition_folder;
 mod export_files;
 mod fix_files;
 mod import_files;
@@ -13,6 +14,7 @@ mod lint_files;
 mod named_files;
 mod out_file;
 mod pages_file;
+mod serve_call;
 mod show_screen;
 
 use audit_report::{FromRead, IntoWrite, RunFault, fault_text, write_whole};
@@ -32,6 +34,7 @@ use pageaudit::{
     run_map, run_walk, status_of, status_of_map,
 };
 use pages_file::pages;
+use serve_call::serve_call;
 use show_screen::show;
 use std::alloc::{AllocError, Global};
 use std::io;
@@ -208,6 +211,7 @@ fn run_request<R: Files + Env + Input + Print + Eprint + AllocGlobal>(
         Request::Pages(asked) => return pages(rt, errors, asked),
         Request::Import(asked) => return import(rt, asked),
         Request::Export(asked) => return export(rt, asked),
+        Request::Serve { folder } => return serve_call(rt, folder),
         Request::Misused { why } => {
             let _ = eprintln!(rt; "error: {why}");
             return 2;

@@ -378,6 +378,17 @@ fn export_command<'a>(alloc: Global) -> Result<Command<'a>, AllocError> {
     with_groups(alloc, command)
 }
 
+fn serve_command<'a>(alloc: Global) -> Result<Command<'a>, AllocError> {
+    Command::new(alloc, "serve")
+        .about("Open the current edition of a folder to one caller")
+        .after_help(help::SERVE)
+        .arg(place(
+            alloc,
+            "FOLDER",
+            "The folder, of which the file current names an edition",
+        ))
+}
+
 fn explain_command<'a>(alloc: Global) -> Result<Command<'a>, AllocError> {
     let code = Arg::new(alloc, "CODE").action(ArgAction::Set).help(
         "A printed word, e.g. K7, MISSING or s80; without one all are listed",
@@ -412,6 +423,7 @@ fn whole_command<'a>(alloc: Global) -> Result<Command<'a>, AllocError> {
     let whole = with_part(whole, map_command(alloc));
     let whole = with_part(whole, import_command(alloc));
     let whole = with_part(whole, export_command(alloc));
+    let whole = with_part(whole, serve_command(alloc));
     with_part(whole, explain_command(alloc))
 }
 
@@ -565,6 +577,10 @@ pub enum Request<'a> {
     Import(Import<'a>),
     /// The screens of a base, each in a file.
     Export(Export<'a>),
+    /// A call of the current edition of a folder.
+    Serve {
+        folder: &'a str,
+    },
     /// What a printed word means, or all words.
     Explain {
         word: Option<&'a str>,
@@ -816,6 +832,9 @@ pub fn asked_for<'a>(matches: &'a ArgMatches, groups: Groups) -> Option<Request<
         }),
         ("import", words) => import_of(words),
         ("export", words) => export_of(words, groups),
+        ("serve", words) => Some(Request::Serve {
+            folder: words.get_str("FOLDER")?,
+        }),
         ("explain", words) => Some(Request::Explain {
             word: words.get_str("CODE"),
         }),

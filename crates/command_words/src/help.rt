@@ -95,6 +95,17 @@ pub const EXPORT: &str = concat!(
     "        4 out of memory",
 );
 
+/// After the options of `serve`.
+pub const SERVE: &str = concat!(
+    "The caller is on standard input and output, as socat, systemd or sshd puts them on a line, with\n",
+    "a viewdata terminal. The edition is checked by its own policy before anything is sent. *90#\n",
+    "ends the call, and so does the caller who leaves or rings off.\n\n",
+    "Example: socat tcp-listen:6502,fork,reuseaddr,backlog=128 exec:'pageaudit serve live'\n\n",
+    "Status: 0 a call that ended, 1 an edition that isn't cleared, 2 bad command line,\n",
+    "        3 a file that is missing, refused or can't be read, or a line that fails,\n",
+    "        4 out of memory",
+);
+
 /// After the options of `explain`.
 pub const EXPLAIN: &str = concat!(
     "Example: pageaudit explain K7\n\n",
