@@ -3,6 +3,8 @@ pub mod Heads
 pub mod Keys
 pub mod Rows
 pub mod Texts
+pub mod Captures
+pub mod Settling
 pub mod Files
 pub mod Album
 pub mod Laws
