@@ -38,7 +38,7 @@ pub record IsFileJudged (d : Device) (kind : FileKind) (path : List ℕ) (file :
   pub judged : AreFileFrames (found_in kind path file bytes) answer
 
 -- the frames of the file are the last ones now
-pub record AreTaken (d : Device) (kind : FileKind) (path : List ℕ) (file : ℕ) (old new : List Filed) (found : FileFrames) : Type 0 where
+pub record AreTakenFrames (d : Device) (kind : FileKind) (path : List ℕ) (file : ℕ) (old new : List Filed) (found : FileFrames) : Type 0 where
   pub are : IsFileJudged d kind path file (Ok found)
   pub added : new ≡ old ++ found.frames.frames
 
@@ -57,7 +57,7 @@ AreNotTaken d kind path file old Memory = IsReadWithin screen_limit d
 
 -- the frames of a file were added, or nothing was
 abbrev pub AreFramesTaken : Device → FileKind → List ℕ → ℕ → List Filed → List Filed → Result FileFrames ImportFault → Type 0
-AreFramesTaken d kind path file old new (Ok found) = AreTaken d kind path file old new found
+AreFramesTaken d kind path file old new (Ok found) = AreTakenFrames d kind path file old new found
 AreFramesTaken d kind path file old new (Err fault) = (new ≡ old) × AreNotTaken d kind path file old fault
 
 -- The base of the frames.

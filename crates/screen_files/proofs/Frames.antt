@@ -14,14 +14,14 @@ module _ (before new : List ℕ) (f : Filed) (more rest : List Filed) (is : rest
       ∙ append_assoc before (filed_lines f more) (frames_text more)
       ∙ ap (λ (fs : List Filed). before ++ frames_text fs) (sym is)
 
-  over_by : (b : Bool) → nat_lt MOST_TEXT (length new) ≡ b → first_over (length before) rest ≡ cond b (Some f.place.file) (first_over (length new) more)
+  over_by : (b : Bool) → nat_lt MOST_TEXT (length new) ≡ b → first_over (length before) rest ≡ cond b (Some f.origin.file) (first_over (length new) more)
   unfolding first_over
   over_by b test =
       ap (first_over (length before)) is
-      ∙ ap (λ (n : ℕ). cond (nat_lt MOST_TEXT n) (Some f.place.file) (first_over n more)) (sym (ap length wrote ∙ length-append before (filed_lines f more)))
-      ∙ ap (λ (over : Bool). cond over (Some f.place.file) (first_over (length new) more)) test
+      ∙ ap (λ (n : ℕ). cond (nat_lt MOST_TEXT n) (Some f.origin.file) (first_over n more)) (sym (ap length wrote ∙ length-append before (filed_lines f more)))
+      ∙ ap (λ (over : Bool). cond over (Some f.origin.file) (first_over (length new) more)) test
 
-  pub over_here : MOST_TEXT < length new → first_over (length before) rest ≡ Some f.place.file
+  pub over_here : MOST_TEXT < length new → first_over (length before) rest ≡ Some f.origin.file
   over_here past = let test : nat_lt MOST_TEXT (length new) ≡ true = grind (arith, nat_tests) in over_by true test
 
   pub over_later : length new ≤ MOST_TEXT → first_over (length new) more ≡ first_over (length before) rest

@@ -4,3 +4,4 @@ pub mod Lines
 pub mod Shown
 pub mod Saved
 pub mod Frames
+pub mod Rising

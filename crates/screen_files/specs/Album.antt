@@ -48,7 +48,7 @@ base_text asked (f ∷ rest) = entry_key_line (entry_or asked f.frame.id.page) +
 unfoldable pub first_over : ℕ → List Filed → Option ℕ
 first_over before [] = None
 first_over before (f ∷ rest) =
-    if nat_lt MOST_TEXT (before + length (filed_lines f rest)) then Some f.place.file else first_over (before + length (filed_lines f rest)) rest
+    if nat_lt MOST_TEXT (before + length (filed_lines f rest)) then Some f.origin.file else first_over (before + length (filed_lines f rest)) rest
 
 abbrev pub over_most : Option ℕ → List Filed → Option ℕ
 over_most asked [] = None

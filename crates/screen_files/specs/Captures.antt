@@ -13,18 +13,18 @@ use Rattle.screen_files.specs.Codes.{seven_bits, switched_on}
 use Rattle.screen_files.specs.Heads.{screen_head}
 
 -- a byte that clears the screen, 0C
-abbrev pub is_clear : ℕ → Bool
-is_clear b = seven_bits b == 0x0C
+abbrev pub clears_screen : ℕ → Bool
+clears_screen b = seven_bits b == 0x0C
 
-abbrev pub is_blank : List ℕ → Bool
-is_blank codes = list_all (λ c. c == 0x20) codes
+abbrev pub is_blank_screen : List ℕ → Bool
+is_blank_screen codes = list_all (λ c. c == 0x20) codes
 
 abbrev pub shot_at : ℕ → List ℕ → Shot
 shot_at byte codes = record { byte = byte; codes = codes }
 
 -- a screen that began at a byte, if it isn't blank
-abbrev pub shown_at : ℕ → List ℕ → List Shot
-shown_at byte codes = if is_blank codes then [] else shot_at byte codes ∷ []
+abbrev pub shot_if_shown : ℕ → List ℕ → List Shot
+shot_if_shown byte codes = if is_blank_screen codes then [] else shot_at byte codes ∷ []
 
 -- what came before the first byte that clears: a screen if its row 0 shows an id
 abbrev pub shown_first : List ℕ → List Shot
@@ -33,7 +33,7 @@ shown_first codes = if is_some (screen_head codes).id then shot_at 0 codes ∷ [
 -- the screen that a byte clears; `start` is the offset of the one that cleared before
 abbrev pub shown_since : Option ℕ → List ℕ → List Shot
 shown_since None codes = shown_first codes
-shown_since (Some byte) codes = shown_at byte codes
+shown_since (Some byte) codes = shot_if_shown byte codes
 
 -- The terminal between two bytes of a capture of `size` bytes.
 
@@ -52,10 +52,10 @@ start_by false offset before = before
 -- it received the first of the bytes that are left
 abbrev pub reel_after : Reel → ℕ → ℕ → Reel
 reel_after r offset b =
-    record { terminal = byte_step r.terminal (seven_bits b); start = start_by (is_clear b) offset r.start }
+    record { terminal = byte_step r.terminal (seven_bits b); start = start_by (clears_screen b) offset r.start }
 
 abbrev pub cleared_by : Reel → ℕ → List Shot
-cleared_by r b = if is_clear b then shown_since r.start r.terminal.cells else []
+cleared_by r b = if clears_screen b then shown_since r.start r.terminal.cells else []
 
 -- the screens that are cleared by the bytes that are left
 unfoldable pub cleared : ℕ → Reel → List ℕ → List Shot
@@ -69,16 +69,16 @@ wound size r (b ∷ bs) = wound size (reel_after r (offset_in size (b ∷ bs)) b
 
 -- The screens.
 
-abbrev pub start_or : Option ℕ → ℕ
-start_or None = 0
-start_or (Some byte) = byte
+abbrev pub start_offset : Option ℕ → ℕ
+start_offset None = 0
+start_offset (Some byte) = byte
 
 -- what is on the screen at the end
 abbrev pub end_shot : Reel → Shot
-end_shot r = shot_at (start_or r.start) r.terminal.cells
+end_shot r = shot_at (start_offset r.start) r.terminal.cells
 
 abbrev pub shown_end : Reel → List Shot
-shown_end r = shown_at (start_or r.start) r.terminal.cells
+shown_end r = shot_if_shown (start_offset r.start) r.terminal.cells
 
 -- those that aren't blank
 abbrev pub shown_screens : List ℕ → List Shot
@@ -95,12 +95,6 @@ with_end shots r = shots ++ end_if_none shots r
 -- the screens of a capture: if all are blank, the last
 abbrev pub capture_screens : List ℕ → List Shot
 capture_screens bytes = with_end (shown_screens bytes) (wound (length bytes) unwound bytes)
-
--- screens after others, or why they aren't; there are at most as many as a capture may have
-abbrev pub AreShotsAdded : List Shot → List Shot → List Shot → Result (Unit {0}) CaptureFault → Type 0
-AreShotsAdded old new more (Ok _) = (new ≡ old ++ more) × (length old ≤ MOST_SHOTS → length new ≤ MOST_SHOTS)
-AreShotsAdded old new more (Err TooMany) = MOST_SHOTS < length (old ++ more)
-AreShotsAdded old new more (Err Memory) = Unit {0}
 
 -- the screens of a capture, or why there are none
 abbrev pub AreCaptureScreens : List ℕ → Result (Vec Shot Global) CaptureFault → Type 0

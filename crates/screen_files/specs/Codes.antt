@@ -33,10 +33,6 @@ rows_in bytes =
     else if is_ep1 bytes then Some (take 960 (drop 6 bytes))
     else None
 
--- rows 1 to 22, or all
-abbrev pub has_row_size : List ℕ → Bool
-has_row_size rows = length rows == 880 || length rows == 960
-
 -- rows 1 to 22 between blank rows
 abbrev pub between_blank : List ℕ → List ℕ
 between_blank cells = (blank_codes ++ cells) ++ blank_codes

@@ -14,7 +14,6 @@ use Rattle.screen_files.specs.declared.file.TheConstants.{MOST_SCREEN}
 use Rattle.screen_files.specs.declared.file.FramesFault.{FramesFault}
 use Rattle.screen_files.specs.declared.file.FramesFault.TheVariants as frames
 use Rattle.screen_files.specs.declared.file.FileFrames.{FileFrames}
-use Rattle.screen_files.specs.declared.file.FoundScreens.{FoundScreens}
 use Rattle.screen_files.specs.declared.frame.ScreenFrame.{ScreenFrame}
 use Rattle.screen_files.specs.declared.head.Head.{Head}
 use Rattle.screen_files.specs.Settling.{IsSettled}
@@ -56,7 +55,7 @@ pub record ScreenList : Type 0 where
   pub unnamed : List ℕ
 
 abbrev pub filed_at : ℕ → ℕ → ScreenFrame → Filed
-filed_at file byte frame = record { place = record { file = file; byte = byte }; frame = frame }
+filed_at file byte frame = record { origin = record { file = file; byte = byte }; frame = frame }
 
 abbrev pub found_one : ℕ → ℕ → List ℕ → Result ScreenFrame ScreenFault → Result ScreenList ScreenFault
 found_one file byte unnamed (Err fault) = Err fault
@@ -117,12 +116,6 @@ found_of Stream path file bytes = found_capture path file bytes
 -- what a file of these bytes gives
 abbrev pub found_in : FileKind → List ℕ → ℕ → List ℕ → Result ScreenList ScreenFault
 found_in kind path file bytes = if nat_lt MOST_SCREEN (length bytes) then Err TooLong else found_of kind path file bytes
-
--- what was found, or why nothing was; a growth may be refused first
-abbrev pub IsFound : Result ScreenList ScreenFault → Result FoundScreens FramesFault → Type 0
-IsFound found (Ok screens) = found ≡ Ok (record { filed = screens.filed.items; unnamed = screens.unnamed.items })
-IsFound found (Err (frames.Screen fault)) = found ≡ Err fault
-IsFound found (Err frames.Memory) = Unit {0}
 
 -- The frames, one of each id.
 

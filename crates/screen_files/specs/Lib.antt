@@ -8,3 +8,4 @@ pub mod Settling
 pub mod Files
 pub mod Album
 pub mod Laws
+pub mod Loops

@@ -32,14 +32,14 @@ holds a b = same_price a.price b.price && cells_hold (inner_codes a.codes) (inne
 
 -- and they are of one file
 abbrev pub stands_for : Filed → Filed → Bool
-stands_for a b = a.place.file == b.place.file && holds a.frame b.frame
+stands_for a b = a.origin.file == b.origin.file && holds a.frame b.frame
 
 -- Frames in the order of their ids.
 
 abbrev pub has_same_id : Filed → Filed → Bool
 has_same_id a b = id_eq a.frame.id b.frame.id
 
--- the next one takes the place of the first of one id if it shows all that the first shows, and more
+-- the next one takes the origin of the first of one id if it shows all that the first shows, and more
 abbrev pub chosen : Filed → Filed → Filed
 chosen kept f = if not (stands_for kept f) && stands_for f kept then f else kept
 
@@ -48,13 +48,13 @@ unfoldable pub kept_from : Filed → List Filed → List Filed
 kept_from kept [] = kept ∷ []
 kept_from kept (f ∷ fs) = if has_same_id kept f then kept_from (chosen kept f) fs else kept ∷ kept_from f fs
 
-abbrev pub kept_of : List Filed → List Filed
-kept_of [] = []
-kept_of (f ∷ fs) = kept_from f fs
+abbrev pub settled_frames : List Filed → List Filed
+settled_frames [] = []
+settled_frames (f ∷ fs) = kept_from f fs
 
 -- those of one id for which the kept one doesn't stand
 abbrev pub twin_of : Filed → Filed → Twin
-twin_of kept f = record { id = kept.frame.id; kept = kept.place; other = f.place }
+twin_of kept f = record { id = kept.frame.id; kept = kept.origin; other = f.origin }
 
 abbrev pub twin_if : Filed → Filed → List Twin
 twin_if kept f = if stands_for kept f then [] else twin_of kept f ∷ []
@@ -81,17 +81,17 @@ pub record SettledView : Type 0 where
   pub twins : List Twin
 
 -- the id before these is smaller than that of the first
-abbrev pub IsBefore : Filed → List Filed → Type 0
-IsBefore f [] = Unit {0}
-IsBefore f (g ∷ gs) = id_cmp f.frame.id g.frame.id ≡ Less
+abbrev pub IsIdBefore : Filed → List Filed → Type 0
+IsIdBefore f [] = Unit {0}
+IsIdBefore f (g ∷ gs) = id_cmp f.frame.id g.frame.id ≡ Less
 
 -- ids ascend, so there is one frame of each
 unfoldable pub Ascend : List Filed → Type 0
 Ascend [] = Unit {0}
-Ascend (f ∷ fs) = IsBefore f fs × Ascend fs
+Ascend (f ∷ fs) = IsIdBefore f fs × Ascend fs
 
 -- in the order of the ids, those of one id in their order
-pub record AreInOrder (filed sorted : List Filed) : Type 0 where
+pub record AreFiledInOrder (filed sorted : List Filed) : Type 0 where
   pub same : IsPermutation filed sorted
   pub ascend : IsSortedByKey (λ (f : Filed). f.frame.id) id_cmp sorted
   pub stable : IsStableByKey (λ (f : Filed). f.frame.id) id_cmp filed sorted
@@ -99,6 +99,6 @@ pub record AreInOrder (filed sorted : List Filed) : Type 0 where
 -- one frame of each id, and those for which it doesn't stand
 pub record IsSettled (filed : List Filed) (settled : SettledView) : Type 0 where
   pub sorted : List Filed
-  pub order : AreInOrder filed sorted
-  pub frames : settled.frames ≡ kept_of sorted
+  pub order : AreFiledInOrder filed sorted
+  pub frames : settled.frames ≡ settled_frames sorted
   pub twins : settled.twins ≡ twins_of sorted

@@ -131,7 +131,7 @@ fn push_frames(out: &mut Vec<u8>, frames: &[Filed]) -> Result<(), BaseTextFault>
             Err(_) => return Err(BaseTextFault::Memory),
         }
         if out.len() > MOST_TEXT {
-            return Err(BaseTextFault::TooLong(filed.place.file));
+            return Err(BaseTextFault::TooLong(filed.origin.file));
         }
         rest = more;
     }

@@ -2,6 +2,7 @@
 
 ghost use Rattle.std.specs.Prelude.{◌≡◌, ◌∷◌, [], OnOk, length};
 ghost use Rattle.screen_files.specs.Captures as spec;
+ghost use Rattle.screen_files.specs.Loops as loops;
 
 use crate::head::screen_head;
 use std::alloc::Global;
@@ -37,19 +38,19 @@ struct Reel {
 }
 
 fn is_clear(byte: u8) -> bool
-    ensures { result ≡ spec.is_clear byte }
+    ensures { result ≡ spec.clears_screen byte }
 {
     byte % 0x80 == 0x0C
 }
 
 fn is_blank(codes: &[u8; 960]) -> bool
-    ensures { result ≡ spec.is_blank codes.now }
+    ensures { result ≡ spec.is_blank_screen codes.now }
 {
     codes.iter().all(|code| *code == b' ')
 }
 
 fn push_shot(shots: &mut Vec<Shot>, byte: usize, codes: &[u8; 960]) -> Result<(), CaptureFault>
-    ensures { spec.AreShotsAdded shots.old.items shots.new.items (spec.shot_at byte codes.now ∷ []) result }
+    ensures { loops.AreShotsAdded shots.old.items shots.new.items (spec.shot_at byte codes.now ∷ []) result }
 {
     if shots.len() >= MOST_SHOTS {
         return Err(CaptureFault::TooMany);
@@ -63,7 +64,7 @@ fn push_shot(shots: &mut Vec<Shot>, byte: usize, codes: &[u8; 960]) -> Result<()
 
 // Adds a screen that began at a byte, if it isn't blank.
 fn push_shown(shots: &mut Vec<Shot>, byte: usize, codes: &[u8; 960]) -> Result<(), CaptureFault>
-    ensures { spec.AreShotsAdded shots.old.items shots.new.items (spec.shown_at byte codes.now) result }
+    ensures { loops.AreShotsAdded shots.old.items shots.new.items (spec.shot_if_shown byte codes.now) result }
 {
     if is_blank(codes) {
         return Ok(());
@@ -73,7 +74,7 @@ fn push_shown(shots: &mut Vec<Shot>, byte: usize, codes: &[u8; 960]) -> Result<(
 
 // Adds what came before the first byte that clears, if its row 0 shows an id.
 fn push_first(shots: &mut Vec<Shot>, codes: &[u8; 960]) -> Result<(), CaptureFault>
-    ensures { spec.AreShotsAdded shots.old.items shots.new.items (spec.shown_first codes.now) result }
+    ensures { loops.AreShotsAdded shots.old.items shots.new.items (spec.shown_first codes.now) result }
 {
     if screen_head(codes).id.is_none() {
         return Ok(());
@@ -93,7 +94,7 @@ impl Reel {
 
     // Adds the screen that a byte clears.
     fn push_cleared(&self, shots: &mut Vec<Shot>, byte: u8) -> Result<(), CaptureFault>
-        ensures { spec.AreShotsAdded shots.old.items shots.new.items (spec.cleared_by self.now byte) result }
+        ensures { loops.AreShotsAdded shots.old.items shots.new.items (spec.cleared_by self.now byte) result }
     {
         if !is_clear(byte) {
             return Ok(());
@@ -116,14 +117,15 @@ impl Reel {
 
     // Adds what is on the screen at the end.
     fn push_end(&self, shots: &mut Vec<Shot>) -> Result<(), CaptureFault>
-        ensures { spec.AreShotsAdded shots.old.items shots.new.items (spec.shown_end self.now) result }
+        ensures { loops.AreShotsAdded shots.old.items shots.new.items (spec.shown_end self.now) result }
     {
         push_shown(shots, self.start.unwrap_or(0), self.terminal.cells())
     }
 
     // Adds the last screen, if there are none.
     fn push_if_none(&self, shots: &mut Vec<Shot>) -> Result<(), CaptureFault>
-        ensures { spec.AreShotsAdded shots.old.items shots.new.items (spec.end_if_none shots.old.items self.now) result }
+        ensures { loops.AreShotsAdded shots.old.items shots.new.items
+            (spec.end_if_none shots.old.items self.now) result }
     {
         if !shots.is_empty() {
             return Ok(());
@@ -134,8 +136,8 @@ impl Reel {
 
 // Adds the screens that bytes clear, and receives the bytes.
 fn push_all(reel: &mut Reel, shots: &mut Vec<Shot>, bytes: &[u8]) -> Result<(), CaptureFault>
-    ensures shots { spec.AreShotsAdded shots.old.items shots.new.items (spec.cleared (length bytes.now) reel.old
-        bytes.now) result }
+    ensures shots { loops.AreShotsAdded shots.old.items shots.new.items
+        (spec.cleared (length bytes.now) reel.old bytes.now) result }
     ensures reel { OnOk result (reel.new ≡ spec.wound (length bytes.now) reel.old bytes.now) }
 {
     let mut left = bytes;

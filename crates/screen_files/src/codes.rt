@@ -4,6 +4,7 @@ ghost use Rattle.std.specs.Prelude.{◌≡◌, ◌≤◌, IfSome, length, map, t
 ghost use Rattle.std.specs.List.{list_any};
 ghost use Rattle.std.specs.Option.{option_copied};
 ghost use Rattle.screen_files.specs.Codes as spec;
+ghost use Rattle.screen_files.specs.Loops as loops;
 
 // The code of a byte of a saved screen.
 fn stored_code(byte: u8) -> u8
@@ -35,7 +36,7 @@ fn is_ep1(bytes: &[u8]) -> bool
 // The bytes of the rows, by the size and the first bytes of the file.
 fn rows_in(bytes: &[u8]) -> Option<&[u8]>
     ensures value { option_copied result ≡ spec.rows_in bytes.now }
-    ensures sized { IfSome result (λ rows. spec.has_row_size rows.now ≡ true) }
+    ensures sized { IfSome result (λ rows. loops.has_row_size rows.now ≡ true) }
 {
     if has_all_rows(bytes.len()) {
         Some(&bytes[..960])
@@ -50,7 +51,7 @@ fn rows_in(bytes: &[u8]) -> Option<&[u8]>
 
 // All 24 rows.
 fn placed(rows: &[u8]) -> [u8; 960]
-    requires { spec.has_row_size rows.now ≡ true }
+    requires { loops.has_row_size rows.now ≡ true }
     ensures { result ≡ spec.placed rows.now }
 {
     let mut cells = [0x20; 960];
@@ -95,7 +96,7 @@ fn decode(has_space: bool, codes: &mut [u8])
 
 // The codes of the bytes of rows.
 fn codes_of_rows(rows: &[u8]) -> [u8; 960]
-    requires { spec.has_row_size rows.now ≡ true }
+    requires { loops.has_row_size rows.now ≡ true }
     ensures { result ≡ spec.codes_of_rows rows.now }
 {
     let mut cells = placed(rows);

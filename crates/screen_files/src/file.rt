@@ -2,10 +2,11 @@
 
 ghost use Rattle.std.specs.Prelude.{◌≡◌, ◌++◌, IfOk, OnOk, map};
 ghost use Rattle.screen_files.specs.Files as spec;
+ghost use Rattle.screen_files.specs.Loops as loops;
 
 use crate::capture::{CaptureFault, Shot, capture_screens};
 use crate::codes::saved_codes;
-use crate::filed::{Filed, Place};
+use crate::filed::{Filed, Origin};
 use crate::frame::ScreenFrame;
 use crate::head::{name_id, screen_head};
 use crate::settling::{Settled, settle};
@@ -102,18 +103,18 @@ fn saved_frame(path: &str, bytes: &[u8]) -> Result<ScreenFrame, ScreenFault>
 // What was found, if a frame was.
 fn found_one(
     alloc: Global,
-    place: Place,
+    origin: Origin,
     unnamed: Vec<usize>,
     frame: &Result<ScreenFrame, ScreenFault>,
 ) -> Result<FoundScreens, FramesFault>
-    ensures { spec.IsFound (spec.found_one place.file place.byte unnamed.items frame.now) result }
+    ensures { loops.IsFound (spec.found_one origin.file origin.byte unnamed.items frame.now) result }
 {
     let frame = match frame {
         Ok(frame) => *frame,
         Err(fault) => return Err(FramesFault::Screen(*fault)),
     };
     let mut filed = Vec::new(alloc);
-    match filed.extend_from_slice(&[Filed { place, frame }]) {
+    match filed.extend_from_slice(&[Filed { origin, frame }]) {
         Ok(()) => Ok(FoundScreens { filed, unnamed }),
         Err(_) => Err(FramesFault::Memory),
     }
@@ -138,11 +139,11 @@ fn push_filed_shot(filed: &mut Vec<Filed>, file: usize, shot: &Shot) -> Result<(
         price: head.price,
         codes: shot.codes,
     };
-    let place = Place {
+    let origin = Origin {
         file,
         byte: shot.byte,
     };
-    filed.extend_from_slice(&[Filed { place, frame }])
+    filed.extend_from_slice(&[Filed { origin, frame }])
 }
 
 // Adds the offset of a screen, if its row 0 shows no id.
@@ -187,17 +188,17 @@ fn found_last(
     file: usize,
     shots: &[Shot],
 ) -> Result<FoundScreens, FramesFault>
-    ensures { spec.IsFound (spec.found_last path.now file shots.now) result }
+    ensures { loops.IsFound (spec.found_last path.now file shots.now) result }
 {
     let Some((last, before)) = shots.split_last() else {
         return Err(FramesFault::Screen(ScreenFault::NoId));
     };
-    let place = Place {
+    let origin = Origin {
         file,
         byte: last.byte,
     };
     match offsets(alloc, before) {
-        Ok(unnamed) => found_one(alloc, place, unnamed, &named_frame(path, &last.codes)),
+        Ok(unnamed) => found_one(alloc, origin, unnamed, &named_frame(path, &last.codes)),
         Err(_) => Err(FramesFault::Memory),
     }
 }
@@ -215,7 +216,7 @@ fn found_screens(
     file: usize,
     shots: &[Shot],
 ) -> Result<FoundScreens, FramesFault>
-    ensures { spec.IsFound (spec.found_screens path.now file shots.now) result }
+    ensures { loops.IsFound (spec.found_screens path.now file shots.now) result }
 {
     if is_by_name(shots) {
         return found_last(alloc, path, file, shots);
@@ -230,7 +231,7 @@ fn found_capture(
     file: usize,
     bytes: &[u8],
 ) -> Result<FoundScreens, FramesFault>
-    ensures { spec.IsFound (spec.found_capture path.now file bytes.now) result }
+    ensures { loops.IsFound (spec.found_capture path.now file bytes.now) result }
 {
     if bytes.is_empty() {
         return Err(FramesFault::Screen(ScreenFault::Empty));
@@ -249,14 +250,14 @@ fn found_in(
     file: usize,
     bytes: &[u8],
 ) -> Result<FoundScreens, FramesFault>
-    ensures { spec.IsFound (spec.found_in kind path.now file bytes.now) result }
+    ensures { loops.IsFound (spec.found_in kind path.now file bytes.now) result }
 {
     if bytes.len() > MOST_SCREEN {
         return Err(FramesFault::Screen(ScreenFault::TooLong));
     }
-    let place = Place { file, byte: 0 };
+    let origin = Origin { file, byte: 0 };
     match kind {
-        FileKind::Cells => found_one(alloc, place, Vec::new(alloc), &saved_frame(path, bytes)),
+        FileKind::Cells => found_one(alloc, origin, Vec::new(alloc), &saved_frame(path, bytes)),
         FileKind::Stream => found_capture(alloc, path, file, bytes),
     }
 }

@@ -3,7 +3,7 @@ use page_ids::FrameId;
 
 /// Where a frame is from.
 #[derive(Debug, Clone, Copy, PartialEq, Eq)]
-pub struct Place {
+pub struct Origin {
     /// The number of the file.
     pub file: usize,
     /// The offset in the file at which the screen begins; 0 if the file is one screen.
@@ -13,7 +13,7 @@ pub struct Place {
 /// A frame, and where it is from.
 #[derive(Debug, Clone, Copy, PartialEq, Eq)]
 pub struct Filed {
-    pub place: Place,
+    pub origin: Origin,
     pub frame: ScreenFrame,
 }
 
@@ -21,8 +21,8 @@ pub struct Filed {
 #[derive(Debug, Clone, Copy, PartialEq, Eq)]
 pub struct Twin {
     pub id: FrameId,
-    /// The place of the one that is kept.
-    pub kept: Place,
-    /// The place of the one that isn't.
-    pub other: Place,
+    /// Where the one that is kept is from.
+    pub kept: Origin,
+    /// Where the one that isn't is from.
+    pub other: Origin,
 }

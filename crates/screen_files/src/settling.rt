@@ -77,7 +77,7 @@ fn holds(frame: &ScreenFrame, other: &ScreenFrame) -> bool
 fn stands_for(filed: &Filed, other: &Filed) -> bool
     ensures { result ≡ spec.stands_for filed.now other.now }
 {
-    filed.place.file == other.place.file && holds(&filed.frame, &other.frame)
+    filed.origin.file == other.origin.file && holds(&filed.frame, &other.frame)
 }
 
 fn has_same_id(filed: &Filed, other: &Filed) -> bool
@@ -105,8 +105,8 @@ fn push_twins(twins: &mut Vec<Twin>, kept: &Filed, group: &[Filed]) -> Result<()
         if !stands_for(kept, filed) {
             twins.extend_from_slice(&[Twin {
                 id: kept.frame.id,
-                kept: kept.place,
-                other: filed.place,
+                kept: kept.origin,
+                other: filed.origin,
             }])?;
         }
     }
@@ -124,8 +124,8 @@ impl Choice {
     // Adds the frame that is kept of a group of one id.
     fn close(&mut self, kept: &Filed, group: &[Filed]) -> Result<(), AllocError>
         ensures frames { OnOk result (self.new.frames.items ≡ self.old.frames.items ++ kept.now ∷ []) }
-        ensures twins { OnOk result (self.new.twins.items ≡ self.old.twins.items ++ spec.twins_among kept.now
-            group.now) }
+        ensures twins { OnOk result
+            (self.new.twins.items ≡ self.old.twins.items ++ spec.twins_among kept.now group.now) }
     {
         self.frames.extend_from_slice(&[*kept])?;
         push_twins(&mut self.twins, kept, group)
@@ -134,9 +134,10 @@ impl Choice {
     // Adds those that are kept of frames in the order of their ids, of which this is the first.
     fn add_from(&mut self, first: &Filed, rest: &[Filed], sorted: &[Filed]) -> Result<(), AllocError>
         requires { sorted.now ≡ first.now ∷ rest.now }
-        ensures frames { OnOk result (self.new.frames.items ≡ self.old.frames.items ++ spec.kept_from first.now rest.now) }
-        ensures twins { OnOk result (self.new.twins.items ≡ self.old.twins.items ++ spec.twins_from first.now (first.now ∷
-            []) rest.now) }
+        ensures frames { OnOk result
+            (self.new.frames.items ≡ self.old.frames.items ++ spec.kept_from first.now rest.now) }
+        ensures twins { OnOk result
+            (self.new.twins.items ≡ self.old.twins.items ++ spec.twins_from first.now (first.now ∷ []) rest.now) }
     {
         let mut kept = first;
         let mut group = sorted;
@@ -158,7 +159,7 @@ impl Choice {
     }
 
     fn add(&mut self, sorted: &[Filed]) -> Result<(), AllocError>
-        ensures frames { OnOk result (self.new.frames.items ≡ self.old.frames.items ++ spec.kept_of sorted.now) }
+        ensures frames { OnOk result (self.new.frames.items ≡ self.old.frames.items ++ spec.settled_frames sorted.now) }
         ensures twins { OnOk result (self.new.twins.items ≡ self.old.twins.items ++ spec.twins_of sorted.now) }
     {
         match sorted.split_first() {
@@ -170,7 +171,7 @@ impl Choice {
 
 // In the order of their ids, those of one id in their order.
 fn sort(filed: &mut Vec<Filed>) -> Result<(), AllocError>
-    ensures { OnOk result (spec.AreInOrder filed.old.items filed.new.items) }
+    ensures { OnOk result (spec.AreFiledInOrder filed.old.items filed.new.items) }
 {
     filed.sort_by_key(|filed| filed.frame.id)
 }

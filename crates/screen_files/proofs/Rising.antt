@@ -1,0 +1,60 @@
+-- The frames that are kept ascend.
+use Rattle.std.proofs.Common.{◌≡◌, ◌∙◌, ◌<◌, ◌≤◌, ◌+◌, ◌&&◌, ℕ, suc, Bool, true, false, not, List, [], ◌∷◌, length, refl, sym, ap, subst, arith}
+use Rattle.std.specs.Ordering.{is_lt}
+use Rattle.std.specs.List.Sorted.{IsSortedByKey}
+use Rattle.std.specs.declared.cmp.Ordering.TheVariants.{Less}
+use Rattle.page_ids.specs.Ids.{Id, id_cmp, id_eq}
+use Rattle.page_ids.specs.IdLaws.{before_of, id_eq_same}
+use Rattle.screen_files.specs.declared.filed.Filed.{Filed}
+use Rattle.screen_files.specs.Settling.{has_same_id, stands_for, chosen, kept_from, settled_frames, IsIdBefore, Ascend}
+
+abbrev AreSorted : List Filed → Type 0
+AreSorted frames = IsSortedByKey (λ (f : Filed). f.frame.id) id_cmp frames
+
+abbrev IsNotBefore : Id → Filed → Type 0
+IsNotBefore id f = is_lt (id_cmp f.frame.id id) ≡ false
+
+-- no id is before the one before it
+unfoldable Rise : Id → List Filed → Type 0
+Rise id [] = Unit {0}
+Rise id (f ∷ fs) = IsNotBefore id f × Rise f.frame.id fs
+
+sorted_rest : (f : Filed) (fs : List Filed) → AreSorted (f ∷ fs) → AreSorted fs
+sorted_rest f fs sorted k d lo hi = sorted (suc k) d (omega arith) (omega arith)
+
+rise_of : (f : Filed) (fs : List Filed) → AreSorted (f ∷ fs) → Rise f.frame.id fs
+unfolding Rise
+rise_of f [] sorted = tt
+rise_of f (g ∷ gs) sorted = (sorted 0 f (omega arith) (omega arith), rise_of g gs (sorted_rest f (g ∷ gs) sorted))
+
+-- the one that is chosen of two with one id has that id
+chosen_id : (kept f : Filed) → has_same_id kept f ≡ true → (chosen kept f).frame.id ≡ f.frame.id
+chosen_id kept f same = by (not (stands_for kept f) && stands_for f kept) refl where
+  by : (b : Bool) → (not (stands_for kept f) && stands_for f kept) ≡ b → (chosen kept f).frame.id ≡ f.frame.id
+  by true e = rw e refl
+  by false e = rw e (id_eq_same kept.frame.id f.frame.id same)
+
+-- the first that is kept has the id of the first, and those after it ascend
+record AreKept (id : Id) (frames : List Filed) : Type 0 where
+  before : (f : Filed) → id_cmp f.frame.id id ≡ Less → IsIdBefore f frames
+  ascend : Ascend frames
+
+kept_ascend : (kept : Filed) (fs : List Filed) → Rise kept.frame.id fs → AreKept kept.frame.id (kept_from kept fs)
+unfolding Rise kept_from Ascend
+kept_ascend kept [] rise = record { before = λ f less. less; ascend = (tt, tt) }
+kept_ascend kept (f ∷ fs) rise = by (has_same_id kept f) refl where
+  by : (b : Bool) → has_same_id kept f ≡ b → AreKept kept.frame.id (kept_from kept (f ∷ fs))
+  by true e =
+      let id = chosen_id kept f e in
+      let rest = kept_ascend (chosen kept f) fs (subst (λ (i : Id). Rise i fs) (sym id) rise.1) in
+      let same : (chosen kept f).frame.id ≡ kept.frame.id = id ∙ sym (id_eq_same kept.frame.id f.frame.id e) in
+      rw e (subst (λ (i : Id). AreKept i (kept_from (chosen kept f) fs)) same rest)
+  by false e =
+      let rest = kept_ascend f fs rise.1 in
+      let less = before_of kept.frame.id f.frame.id rise.0 e in
+      rw e record { before = λ g before. before; ascend = (rest.before kept less, rest.ascend) }
+
+pub kept_rise : (frames : List Filed) → AreSorted frames → Ascend (settled_frames frames)
+unfolding Ascend
+kept_rise [] sorted = tt
+kept_rise (f ∷ fs) sorted = (kept_ascend f fs (rise_of f fs sorted)).ascend
