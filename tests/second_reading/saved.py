@@ -21,9 +21,7 @@ ESCAPED = {ord('"'): '\\"', ord("\\"): "\\\\"}
 
 
 class Screen(NamedTuple):
-    """The frame of a screen: the path of its file, the offset at which it begins, its price if it shows one, and its 960
-    codes.
-    """
+    """The frame of a screen: its file's path, the offset at which it begins, its price if it shows one, its codes."""
 
     path: str
     offset: int
@@ -31,7 +29,7 @@ class Screen(NamedTuple):
     cells: bytes
 
     def holds(self, other: "Screen") -> bool:
-        """Whether the other is this one, cut short by a key: its price, and in rows 1 to 22 spaces or the same cells."""
+        """Whether the other is this one cut short: its price, and in rows 1 to 22 spaces or the same cells."""
         cells = zip(self.cells[ROW : 23 * ROW], other.cells[ROW : 23 * ROW], strict=True)
         return self.price == other.price and all(theirs in (0x20, ours) for ours, theirs in cells)
 
@@ -90,8 +88,8 @@ def head(cells: bytes) -> tuple[FrameId | None, int | None]:
 
 
 def name_id(path: str) -> FrameId | None:
-    """The id that a file's name says, in any case: all of it up to the first dot, or what follows its last separator unless
-    it begins with an id.
+    """The id that a file's name says, in any case: all of it up to the first dot, or what follows its last separator
+    unless it begins with an id.
     """
     words = SEPARATOR.split(path.split("/")[-1].split(".")[0])
     ids = [FrameId(int(found[1]), found[2].lower()) if found else None for found in map(NAME_ID.fullmatch, words)]
@@ -145,8 +143,8 @@ def frames_of_capture(path: str, data: bytes) -> tuple[dict[FrameId, list[Screen
 
 
 def one_of(screens: list[Screen]) -> tuple[Screen, list[Screen]]:
-    """Of screens of a capture with one id the first that holds all the others, and those that it doesn't hold. If none does,
-    it is the first, or the next that holds that one and isn't held by it.
+    """Of screens of a capture with one id the first that holds all the others, and those that it doesn't hold. If none
+    does, it is the first, or the next that holds that one and isn't held by it.
     """
     kept = next((screen for screen in screens if all(map(screen.holds, screens))), None)
     if not kept:
