@@ -5,3 +5,7 @@ pub mod Shown
 pub mod Saved
 pub mod Frames
 pub mod Rising
+pub mod Groups
+pub mod Holding
+pub mod Reels
+pub mod Lasts

@@ -1,5 +1,5 @@
 -- The frames that are kept ascend.
-use Rattle.std.proofs.Common.{◌≡◌, ◌∙◌, ◌<◌, ◌≤◌, ◌+◌, ◌&&◌, ℕ, suc, Bool, true, false, not, List, [], ◌∷◌, length, refl, sym, ap, subst, arith}
+use Rattle.std.proofs.Common.{◌≡◌, ◌∙◌, ◌<◌, ◌≤◌, ◌+◌, ◌&&◌, ℕ, suc, Bool, true, false, not, List, [], ◌∷◌, length, get_or, add-one, refl, sym, ap, subst, arith}
 use Rattle.std.specs.Ordering.{is_lt}
 use Rattle.std.specs.List.Sorted.{IsSortedByKey}
 use Rattle.std.specs.declared.cmp.Ordering.TheVariants.{Less}
@@ -20,7 +20,11 @@ Rise id [] = Unit {0}
 Rise id (f ∷ fs) = IsNotBefore id f × Rise f.frame.id fs
 
 sorted_rest : (f : Filed) (fs : List Filed) → AreSorted (f ∷ fs) → AreSorted fs
-sorted_rest f fs sorted k d lo hi = sorted (suc k) d (omega arith) (omega arith)
+sorted_rest f fs sorted k d lo hi =
+    let here = sorted (k + 1) d (omega arith) (omega (arith, hi)) in
+    let this : get_or (f ∷ fs) (k + 1) d ≡ get_or fs k d = ap (λ (i : ℕ). get_or (f ∷ fs) i d) (add-one k) in
+    let next : get_or (f ∷ fs) (k + 1 + 1) d ≡ get_or fs (k + 1) d = ap (λ (i : ℕ). get_or (f ∷ fs) i d) (add-one (k + 1)) in
+    rw (this, next) at here
 
 rise_of : (f : Filed) (fs : List Filed) → AreSorted (f ∷ fs) → Rise f.frame.id fs
 unfolding Rise
@@ -39,20 +43,26 @@ record AreKept (id : Id) (frames : List Filed) : Type 0 where
   before : (f : Filed) → id_cmp f.frame.id id ≡ Less → IsIdBefore f frames
   ascend : Ascend frames
 
+module _ (kept f : Filed) (fs : List Filed) where
+  same_ascend : has_same_id kept f ≡ true → AreKept f.frame.id (kept_from (chosen kept f) fs) → AreKept kept.frame.id (kept_from kept (f ∷ fs))
+  unfolding kept_from
+  same_ascend e rest =
+      rw e (subst (λ (i : Id). AreKept i (kept_from (chosen kept f) fs)) (sym (id_eq_same kept.frame.id f.frame.id e)) rest)
+
+  other_ascend : IsNotBefore kept.frame.id f → has_same_id kept f ≡ false → AreKept f.frame.id (kept_from f fs) → AreKept kept.frame.id (kept_from kept (f ∷ fs))
+  unfolding kept_from Ascend
+  other_ascend not_before e rest =
+      let less = before_of kept.frame.id f.frame.id not_before e in
+      rw e record { before = λ g before. before; ascend = (rest.before kept less, rest.ascend) }
+
 kept_ascend : (kept : Filed) (fs : List Filed) → Rise kept.frame.id fs → AreKept kept.frame.id (kept_from kept fs)
 unfolding Rise kept_from Ascend
 kept_ascend kept [] rise = record { before = λ f less. less; ascend = (tt, tt) }
-kept_ascend kept (f ∷ fs) rise = by (has_same_id kept f) refl where
-  by : (b : Bool) → has_same_id kept f ≡ b → AreKept kept.frame.id (kept_from kept (f ∷ fs))
-  by true e =
-      let id = chosen_id kept f e in
-      let rest = kept_ascend (chosen kept f) fs (subst (λ (i : Id). Rise i fs) (sym id) rise.1) in
-      let same : (chosen kept f).frame.id ≡ kept.frame.id = id ∙ sym (id_eq_same kept.frame.id f.frame.id e) in
-      rw e (subst (λ (i : Id). AreKept i (kept_from (chosen kept f) fs)) same rest)
-  by false e =
-      let rest = kept_ascend f fs rise.1 in
-      let less = before_of kept.frame.id f.frame.id rise.0 e in
-      rw e record { before = λ g before. before; ascend = (rest.before kept less, rest.ascend) }
+kept_ascend kept (f ∷ fs) rise =
+    by (λ same. let id = chosen_id kept f same in subst (λ (i : Id). AreKept i (kept_from (chosen kept f) fs)) id (kept_ascend (chosen kept f) fs (subst (λ (i : Id). Rise i fs) (sym id) rise.1))) (kept_ascend f fs rise.1) (has_same_id kept f) refl where
+  by : (has_same_id kept f ≡ true → AreKept f.frame.id (kept_from (chosen kept f) fs)) → AreKept f.frame.id (kept_from f fs) → (b : Bool) → has_same_id kept f ≡ b → AreKept kept.frame.id (kept_from kept (f ∷ fs))
+  by same other true e = same_ascend kept f fs e (same e)
+  by same other false e = other_ascend kept f fs rise.0 e other
 
 pub kept_rise : (frames : List Filed) → AreSorted frames → Ascend (settled_frames frames)
 unfolding Ascend

@@ -1,6 +1,6 @@
 //! The codes of a file.
 
-ghost use Rattle.std.specs.Prelude.{◌≡◌, ◌≤◌, IfSome, length, map, true};
+ghost use Rattle.std.specs.Prelude.{◌≡◌, ◌≤◌, IfSome, length, map, take, true};
 ghost use Rattle.std.specs.List.{list_any};
 ghost use Rattle.std.specs.Option.{option_copied};
 ghost use Rattle.screen_files.specs.Codes as spec;
@@ -33,13 +33,22 @@ fn is_ep1(bytes: &[u8]) -> bool
     (bytes.len() == 968 || bytes.len() == 1008) && bytes[0] == 0xFE && bytes[1] == 0x01
 }
 
+// The first 24 rows.
+fn first_rows(bytes: &[u8]) -> &[u8]
+    requires { 960 ≤ length bytes.now }
+    ensures value { result.now ≡ take 960 bytes.now }
+    ensures sized { length result.now ≡ 960 }
+{
+    &bytes[..960]
+}
+
 // The bytes of the rows, by the size and the first bytes of the file.
 fn rows_in(bytes: &[u8]) -> Option<&[u8]>
     ensures value { option_copied result ≡ spec.rows_in bytes.now }
     ensures sized { IfSome result (λ rows. loops.has_row_size rows.now ≡ true) }
 {
     if has_all_rows(bytes.len()) {
-        Some(&bytes[..960])
+        Some(first_rows(bytes))
     } else if bytes.len() == 880 {
         Some(bytes)
     } else if is_ep1(bytes) {

@@ -1,6 +1,7 @@
 //! The frames that a file gives.
 
 ghost use Rattle.std.specs.Prelude.{◌≡◌, ◌++◌, IfOk, OnOk, map};
+ghost use Rattle.std.specs.List.{list_any};
 ghost use Rattle.screen_files.specs.Files as spec;
 ghost use Rattle.screen_files.specs.Loops as loops;
 
@@ -203,11 +204,17 @@ fn found_last(
     }
 }
 
+fn show_ids(shots: &[Shot]) -> bool
+    ensures { result ≡ list_any spec.shows_id shots.now }
+{
+    shots.iter().any(|shot| shows_id(shot))
+}
+
 // Whether the file's name counts: there is one screen, or none shows an id.
 fn is_by_name(shots: &[Shot]) -> bool
     ensures { result ≡ spec.is_by_name shots.now }
 {
-    shots.len() == 1 || !shots.iter().any(|shot| shows_id(shot))
+    shots.len() == 1 || !show_ids(shots)
 }
 
 fn found_screens(

@@ -141,21 +141,18 @@ impl Choice {
     {
         let mut kept = first;
         let mut group = sorted;
-        let mut count = 1;
         let mut left = rest;
         while let Some((filed, more)) = left.split_first() {
             if has_same_id(kept, filed) {
                 kept = chosen(kept, filed);
-                count += 1;
             } else {
-                self.close(kept, &group[..count])?;
+                self.close(kept, &group[..group.len() - left.len()])?;
                 kept = filed;
                 group = left;
-                count = 1;
             }
             left = more;
         }
-        self.close(kept, &group[..count])
+        self.close(kept, &group[..group.len() - left.len()])
     }
 
     fn add(&mut self, sorted: &[Filed]) -> Result<(), AllocError>
@@ -173,7 +170,8 @@ impl Choice {
 fn sort(filed: &mut Vec<Filed>) -> Result<(), AllocError>
     ensures { OnOk result (spec.AreFiledInOrder filed.old.items filed.new.items) }
 {
-    filed.sort_by_key(|filed| filed.frame.id)
+    filed.sort_by_key(|filed| filed.frame.id)?;
+    Ok(())
 }
 
 /// Keeps one frame of each id: the first that shows all that the others of its id show, in rows 1 to 22, at the same price, if all are
