@@ -1,9 +1,8 @@
 -- One frame more of those in the order of their ids.
-use Rattle.std.proofs.Common.{◌≡◌, ◌∙◌, ◌≤◌, ◌+◌, ◌-◌, ℕ, Bool, true, false, List, [], ◌∷◌, ◌++◌, drop, length, take, refl, sym, ap, arith}
+use Rattle.std.proofs.Common.{◌≡◌, ◌∙◌, ◌≤◌, ◌+◌, ◌-◌, ℕ, true, false, List, [], ◌∷◌, ◌++◌, drop, length, take, refl, sym, ap, arith}
 use Rattle.std.proofs.lemmas.List.{drop-drop}
 use Rattle.std.proofs.Math.Seq.{take-add}
 use Rattle.screen_files.specs.declared.filed.Filed.{Filed}
-use Rattle.screen_files.specs.declared.filed.Twin.{Twin}
 use Rattle.screen_files.specs.Settling.{has_same_id, chosen, kept_from, twins_among, twins_from}
 
 module _ (group left : List Filed) (f : Filed) (more : List Filed) (is : left ≡ f ∷ more) (within : length left ≤ length group) (there : drop (length group - length left) group ≡ left) where

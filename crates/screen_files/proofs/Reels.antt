@@ -1,10 +1,9 @@
 -- One byte more of a capture.
-use Rattle.std.proofs.Common.{◌≡◌, ◌∙◌, ◌<◌, ◌≤◌, ℕ, List, [], ◌∷◌, ◌++◌, length, refl, sym, ap, arith, append_assoc, append-nil, subst}
-use Rattle.std.specs.Prelude.{Result, Ok, Err}
+use Rattle.std.proofs.Common.{◌≡◌, ◌∙◌, ℕ, List, [], ◌∷◌, ◌++◌, length, sym, ap, arith}
+use Rattle.std.specs.Prelude.{Err}
 use Rattle.std.proofs.lemmas.List.{length-append}
 use Rattle.screen_files.specs.declared.capture.CaptureFault.{CaptureFault}
 use Rattle.screen_files.specs.declared.capture.CaptureFault.TheVariants.{TooMany, Memory}
-use Rattle.screen_files.specs.declared.capture.TheConstants.{MOST_SHOTS}
 use Rattle.screen_files.specs.declared.capture.Reel.{Reel}
 use Rattle.screen_files.specs.declared.capture.Shot.{Shot}
 use Rattle.screen_files.specs.Captures.{cleared, cleared_by, offset_in, reel_after, wound}

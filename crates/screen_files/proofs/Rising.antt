@@ -1,9 +1,9 @@
 -- The frames that are kept ascend.
-use Rattle.std.proofs.Common.{◌≡◌, ◌∙◌, ◌<◌, ◌≤◌, ◌+◌, ◌&&◌, ℕ, suc, Bool, true, false, not, List, [], ◌∷◌, length, get_or, add-one, refl, sym, ap, subst, arith}
+use Rattle.std.proofs.Common.{◌≡◌, ◌+◌, ◌&&◌, ℕ, Bool, true, false, not, List, [], ◌∷◌, get_or, add-one, refl, sym, ap, subst, arith}
 use Rattle.std.specs.Ordering.{is_lt}
 use Rattle.std.specs.List.Sorted.{IsSortedByKey}
 use Rattle.std.specs.declared.cmp.Ordering.TheVariants.{Less}
-use Rattle.page_ids.specs.Ids.{Id, id_cmp, id_eq}
+use Rattle.page_ids.specs.Ids.{Id, id_cmp}
 use Rattle.page_ids.specs.IdLaws.{before_of, id_eq_same}
 use Rattle.screen_files.specs.declared.filed.Filed.{Filed}
 use Rattle.screen_files.specs.Settling.{has_same_id, stands_for, chosen, kept_from, settled_frames, IsIdBefore, Ascend}
@@ -60,9 +60,9 @@ unfolding Rise kept_from Ascend
 kept_ascend kept [] rise = record { before = λ f less. less; ascend = (tt, tt) }
 kept_ascend kept (f ∷ fs) rise =
     by (λ same. let id = chosen_id kept f same in subst (λ (i : Id). AreKept i (kept_from (chosen kept f) fs)) id (kept_ascend (chosen kept f) fs (subst (λ (i : Id). Rise i fs) (sym id) rise.1))) (kept_ascend f fs rise.1) (has_same_id kept f) refl where
-  by : (has_same_id kept f ≡ true → AreKept f.frame.id (kept_from (chosen kept f) fs)) → AreKept f.frame.id (kept_from f fs) → (b : Bool) → has_same_id kept f ≡ b → AreKept kept.frame.id (kept_from kept (f ∷ fs))
-  by same other true e = same_ascend kept f fs e (same e)
-  by same other false e = other_ascend kept f fs rise.0 e other
+      by : (has_same_id kept f ≡ true → AreKept f.frame.id (kept_from (chosen kept f) fs)) → AreKept f.frame.id (kept_from f fs) → (b : Bool) → has_same_id kept f ≡ b → AreKept kept.frame.id (kept_from kept (f ∷ fs))
+      by same other true e = same_ascend kept f fs e (same e)
+      by same other false e = other_ascend kept f fs rise.0 e other
 
 pub kept_rise : (frames : List Filed) → AreSorted frames → Ascend (settled_frames frames)
 unfolding Ascend

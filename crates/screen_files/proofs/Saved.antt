@@ -6,14 +6,14 @@ use Rattle.std.proofs.lemmas.List.{length-append, length-drop, length-map, lengt
 use Rattle.std.proofs.lemmas.List.Elements.{All-append, All-cons, All-drop, All-map, All-nil, All-take}
 use Rattle.std.specs.List.{All, list_any}
 use Rattle.std.specs.Option.{is_some}
-use Rattle.terminal_codes.specs.Screen.{IsScreen, run}
+use Rattle.terminal_codes.specs.Screen.{IsScreen}
 use Rattle.terminal_codes.specs.Writes.{IsCode}
 use Rattle.terminal_codes.proofs.Codes.{cells_hold_codes}
 use Rattle.terminal_codes.proofs.Stores.{screen_of_run}
 use Rattle.screen_files.specs.declared.capture.Reel.{Reel}
 use Rattle.screen_files.specs.declared.capture.Shot.{Shot}
-use Rattle.screen_files.specs.Captures.{is_blank_screen, clears_screen, shot_at, shot_if_shown, shown_first, shown_since, unwound, offset_in, reel_after, cleared_by, cleared, wound, start_offset, end_shot, shown_end, shown_screens, end_if_none, with_end, capture_screens}
-use Rattle.screen_files.specs.Codes.{stored_code, row_code, blank_codes, codes_of_rows, has_all_rows, is_ep1, is_space_byte, between_blank, placed, rows_in, saved_codes, seven_bits, switched_on}
+use Rattle.screen_files.specs.Captures.{is_blank_screen, clears_screen, shot_at, shot_if_shown, shown_first, shown_since, unwound, offset_in, reel_after, cleared_by, cleared, wound, start_offset, shown_end, shown_screens, end_if_none, capture_screens}
+use Rattle.screen_files.specs.Codes.{stored_code, row_code, blank_codes, codes_of_rows, has_all_rows, is_ep1, is_space_byte, between_blank, placed, rows_in, seven_bits}
 use Rattle.screen_files.specs.Heads.{screen_head}
 use Rattle.screen_files.specs.Laws.{FilesAreScreens, IsSavedScreen}
 

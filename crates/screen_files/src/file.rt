@@ -159,8 +159,11 @@ fn push_unnamed(unnamed: &mut Vec<usize>, shot: &Shot) -> Result<(), AllocError>
 
 // The frames of several screens.
 fn found_shots(alloc: Global, file: usize, shots: &[Shot]) -> Result<FoundScreens, AllocError>
-    ensures { IfOk result (λ found. spec.found_shots file shots.now ≡ record { filed = found.filed.items; unnamed =
-        found.unnamed.items }) }
+    ensures { IfOk result (λ found. spec.found_shots file shots.now ≡ record {
+      filed = found.filed.items;
+      unnamed =
+          found.unnamed.items;
+    }) }
 {
     let mut filed = Vec::new(alloc);
     let mut unnamed = Vec::new(alloc);

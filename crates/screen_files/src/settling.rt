@@ -70,8 +70,7 @@ fn same_price(price: Option<Pence>, other: Option<Pence>) -> bool
 fn holds(frame: &ScreenFrame, other: &ScreenFrame) -> bool
     ensures { result ≡ spec.holds frame.now other.now }
 {
-    same_price(frame.price, other.price)
-        && cells_hold(&frame.codes[40..920], &other.codes[40..920])
+    same_price(frame.price, other.price) && cells_hold(&frame.codes[40..920], &other.codes[40..920])
 }
 
 fn stands_for(filed: &Filed, other: &Filed) -> bool
@@ -132,7 +131,12 @@ impl Choice {
     }
 
     // Adds those that are kept of frames in the order of their ids, of which this is the first.
-    fn add_from(&mut self, first: &Filed, rest: &[Filed], sorted: &[Filed]) -> Result<(), AllocError>
+    fn add_from(
+        &mut self,
+        first: &Filed,
+        rest: &[Filed],
+        sorted: &[Filed],
+    ) -> Result<(), AllocError>
         requires { sorted.now ≡ first.now ∷ rest.now }
         ensures frames { OnOk result
             (self.new.frames.items ≡ self.old.frames.items ++ spec.kept_from first.now rest.now) }

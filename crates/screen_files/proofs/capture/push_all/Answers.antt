@@ -1,8 +1,7 @@
-use Rattle.std.proofs.Common.{◌≡◌, ◌∙◌, ◌≤◌, ◌++◌, ◌∷◌, [], ℕ, List, ap, append-nil, append_assoc, arith, length, rules, sym}
+use Rattle.std.proofs.Common.{◌≡◌, ◌∙◌, ◌++◌, ◌∷◌, List, ap, append-nil, append_assoc, length, rules, sym}
 use Rattle.std.proofs.lemmas.List.{nil_from_length}
 use Rattle.screen_files.specs.declared.capture.Reel.{Reel}
 use Rattle.screen_files.specs.declared.capture.Shot.{Shot}
-use Rattle.screen_files.specs.declared.capture.TheConstants.{MOST_SHOTS}
 use Rattle.screen_files.specs.Captures.{cleared, cleared_by, offset_in, reel_after, wound}
 use Rattle.screen_files.proofs.Reels.{still_refused, cleared_more, wound_more, cleared_end, wound_end}
 use Rattle.screen_files.proofs.capture.push_all.Goals as goal
@@ -18,10 +17,10 @@ loop-byte-preserved c =
     let shots : c.push_cleared.new.shots.items ≡ l.shots.items ++ cleared_by l.reel b = c.in-Ok.ensures.0 in
     record {
       shots = ap (λ (r : Reel). c.push_cleared.new.shots.items ++ cleared size r rest) next
-      ∙ ap (λ (ss : List Shot). ss ++ cleared size (reel_after l.reel (offset_in size l.left.now) b) rest) shots
-      ∙ append_assoc l.shots.items (cleared_by l.reel b) (cleared size (reel_after l.reel (offset_in size l.left.now) b) rest)
-      ∙ sym (ap (λ (ss : List Shot). l.shots.items ++ ss) (cleared_more size l.reel l.left.now b rest is))
-      ∙ l.invariant.shots;
+          ∙ ap (λ (ss : List Shot). ss ++ cleared size (reel_after l.reel (offset_in size l.left.now) b) rest) shots
+          ∙ append_assoc l.shots.items (cleared_by l.reel b) (cleared size (reel_after l.reel (offset_in size l.left.now) b) rest)
+          ∙ sym (ap (λ (ss : List Shot). l.shots.items ++ ss) (cleared_more size l.reel l.left.now b rest is))
+          ∙ l.invariant.shots;
       reel = ap (λ (r : Reel). wound size r rest) next ∙ sym (wound_more size l.reel l.left.now b rest is) ∙ l.invariant.reel;
       few = λ old. c.in-Ok.ensures.1 (l.invariant.few old);
     }

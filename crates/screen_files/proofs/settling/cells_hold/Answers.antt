@@ -1,5 +1,4 @@
 use Rattle.std.proofs.Common.{◌≡◌, ◌∙◌, ◌==◌, true, false, get_or, arith, rules}
-use Rattle.std.proofs.lemmas.Bool.Decides.{nat_tests}
 use Rattle.screen_files.proofs.Holding.{hold_space, hold_same, hold_none, hold_end}
 use Rattle.screen_files.proofs.settling.cells_hold.Goals as goal
 use Rattle.screen_files.proofs.settling.cells_hold.Goals.{else-others-at-ne32-via-then-others-at-ne32+else-others-at, else-others-at-ne32-via-else-others-at-ne32}
@@ -14,11 +13,11 @@ pub loop-at-preserved : goal.loop-at-preserved
 loop-at-preserved c =
     elim c.else-others-at-ne32.branch [
       | else-others-at-ne32-via-then-others-at-ne32+else-others-at w ↦
-        let same : (get_or c.args.others.now c.loop-at.at 0 == get_or c.args.cells.now c.loop-at.at 0) ≡ true = search rules in
-        hold_same c.args.cells.now c.args.others.now c.loop-at.at c.requires c.loop-at-test.true same ∙ c.loop-at.invariant
+          let same : (get_or c.args.others.now c.loop-at.at 0 == get_or c.args.cells.now c.loop-at.at 0) ≡ true = search rules in
+          hold_same c.args.cells.now c.args.others.now c.loop-at.at c.requires c.loop-at-test.true same ∙ c.loop-at.invariant
       | else-others-at-ne32-via-else-others-at-ne32 w ↦
-        let space : (get_or c.args.others.now c.loop-at.at 0 == 32) ≡ true = search rules in
-        hold_space c.args.cells.now c.args.others.now c.loop-at.at c.requires c.loop-at-test.true space ∙ c.loop-at.invariant
+          let space : (get_or c.args.others.now c.loop-at.at 0 == 32) ≡ true = search rules in
+          hold_space c.args.cells.now c.args.others.now c.loop-at.at c.requires c.loop-at-test.true space ∙ c.loop-at.invariant
     ]
 
 pub returns : goal.returns

@@ -19,12 +19,12 @@ loop-filed-preserved-then-has_same_id c =
       there = more_there l.group.now l.left.now f more is l.invariant.within l.invariant.there;
       within = more_within l.group.now l.left.now f more is l.invariant.within l.invariant.there;
       frames = ap (λ (k : Filed). l.self.frames.items ++ kept_from k more) new
-      ∙ sym (ap (λ (ks : List Filed). l.self.frames.items ++ ks) (kept_same l.kept.now l.left.now f more is same))
-      ∙ l.invariant.frames;
+          ∙ sym (ap (λ (ks : List Filed). l.self.frames.items ++ ks) (kept_same l.kept.now l.left.now f more is same))
+          ∙ l.invariant.frames;
       twins = ap (λ (k : Filed). l.self.twins.items ++ twins_from k (take (length l.group.now - length more) l.group.now) more) new
-      ∙ ap (λ (g : List Filed). l.self.twins.items ++ twins_from (chosen l.kept.now f) g more) (more_taken l.group.now l.left.now f more is l.invariant.within l.invariant.there)
-      ∙ sym (ap (λ (ts : List Twin). l.self.twins.items ++ ts) (twins_same l.kept.now l.left.now f more is group same))
-      ∙ l.invariant.twins;
+          ∙ ap (λ (g : List Filed). l.self.twins.items ++ twins_from (chosen l.kept.now f) g more) (more_taken l.group.now l.left.now f more is l.invariant.within l.invariant.there)
+          ∙ sym (ap (λ (ts : List Twin). l.self.twins.items ++ ts) (twins_same l.kept.now l.left.now f more is group same))
+          ∙ l.invariant.twins;
     }
 
 pub loop-filed-preserved : goal.loop-filed-preserved
@@ -41,14 +41,14 @@ loop-filed-preserved c =
       there = new_there l.left.now f more is;
       within = new_within l.left.now f more is;
       frames = ap (λ (ks : List Filed). ks ++ kept_from f more) frames
-      ∙ append_assoc l.self.frames.items (l.kept.now ∷ []) (kept_from f more)
-      ∙ sym (ap (λ (ks : List Filed). l.self.frames.items ++ ks) (kept_other l.kept.now l.left.now f more is other))
-      ∙ l.invariant.frames;
+          ∙ append_assoc l.self.frames.items (l.kept.now ∷ []) (kept_from f more)
+          ∙ sym (ap (λ (ks : List Filed). l.self.frames.items ++ ks) (kept_other l.kept.now l.left.now f more is other))
+          ∙ l.invariant.frames;
       twins = ap (λ (g : List Filed). c.close.new.self.twins.items ++ twins_from f g more) (new_taken l.left.now f more is)
-      ∙ ap (λ (ts : List Twin). ts ++ twins_from f (f ∷ []) more) twins
-      ∙ append_assoc l.self.twins.items (twins_among l.kept.now group) (twins_from f (f ∷ []) more)
-      ∙ sym (ap (λ (ts : List Twin). l.self.twins.items ++ ts) (twins_other l.kept.now l.left.now f more is group other))
-      ∙ l.invariant.twins;
+          ∙ ap (λ (ts : List Twin). ts ++ twins_from f (f ∷ []) more) twins
+          ∙ append_assoc l.self.twins.items (twins_among l.kept.now group) (twins_from f (f ∷ []) more)
+          ∙ sym (ap (λ (ts : List Twin). l.self.twins.items ++ ts) (twins_other l.kept.now l.left.now f more is group other))
+          ∙ l.invariant.twins;
     }
 
 pub returns-clause-frames : goal.returns-clause-frames
