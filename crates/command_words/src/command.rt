@@ -345,7 +345,7 @@ fn import_command<'a>(alloc: Global) -> Result<Command<'a>, AllocError> {
     let screens = place(
         alloc,
         "SCREEN",
-        "Files of one screen each, named by a frame, e.g. 478a.bin, or with its id in row 0",
+        "Files of screens, named by a frame, e.g. 478a.bin, or with its id in row 0",
     )
     .num_args(1..)
     .action(ArgAction::Append);
@@ -356,7 +356,12 @@ fn import_command<'a>(alloc: Global) -> Result<Command<'a>, AllocError> {
         .arg(flag(
             alloc,
             "stream",
-            "The files are what a centre sent, not the cells of a screen",
+            "The files are captures of what a centre sent, each of any number of screens",
+        ))?
+        .arg(flag(
+            alloc,
+            "skip-bad",
+            "Print the base of the other frames if some are at fault",
         ))?
         .arg(entry_option(alloc))
 }
@@ -503,6 +508,8 @@ pub struct Import<'a> {
     /// The files, at least one.
     pub screens: &'a [&'a str],
     pub kind: FileKind,
+    /// Whether the base of the others is printed if some are at fault.
+    pub skip_bad: bool,
     /// The entry page; without it the smallest page.
     pub entry: Option<PageNo>,
 }
@@ -767,6 +774,7 @@ fn import_of<'a>(words: &'a ArgMatches) -> Option<Request<'a>> {
         } else {
             FileKind::Cells
         },
+        skip_bad: words.get_flag("skip-bad"),
         entry: page_of(words, "entry"),
     }))
 }

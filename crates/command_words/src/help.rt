@@ -79,10 +79,12 @@ pub const MAP: &str = concat!(
 /// After the options of `import`.
 pub const IMPORT: &str = concat!(
     "A file of 960 bytes is 24 rows of 40 codes; 1,000 and 1,024 bytes have more, which is dropped;\n",
-    "880 bytes are rows 1 to 22. The base has no routes: they are yet to be typed.\n\n",
+    "880 bytes are rows 1 to 22. An EP1 file has 968 or 1,008 bytes. A capture has many screens: each\n",
+    "is the frame whose id its row 0 shows. The base has no routes: they are yet to be typed.\n\n",
     "Example: pageaudit import examples/screens/*.bin >town.toml\n\n",
-    "Status: 0 a base, 2 bad command line,\n",
-    "        3 a file that is refused or can't be read, or a write that fails, 4 out of memory",
+    "Status: 0 a base, 1 a base without the frames at fault (--skip-bad), 2 bad command line,\n",
+    "        3 a file that is refused or can't be read, two frames of one id, or a write that fails,\n",
+    "        4 out of memory",
 );
 
 /// After the options of `export`.
