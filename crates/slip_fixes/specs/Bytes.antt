@@ -64,13 +64,13 @@ run_before text at =
     let line = after_last LineFeed before before in
     last_run false line line
 
-abbrev pub first_word : List ℕ → List ℕ
-first_word run = piece_of run 0 (length run - length (after_bare run))
+abbrev pub leading_word : List ℕ → List ℕ
+leading_word run = piece_of run 0 (length run - length (after_bare run))
 
 -- the key right before a place
 abbrev pub key_before : List ℕ → ℕ → List ℕ
-key_before text at = let run = run_before text at in if are_blank (after_bare run) then first_word run else []
+key_before text at = let run = run_before text at in if are_blank (after_bare run) then leading_word run else []
 
 -- the key whose value begins at a place
 abbrev pub key_of_value : List ℕ → ℕ → List ℕ
-key_of_value text at = let run = run_before text at in if sets_value (after_bare run) then first_word run else []
+key_of_value text at = let run = run_before text at in if sets_value (after_bare run) then leading_word run else []

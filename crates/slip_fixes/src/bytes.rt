@@ -3,7 +3,7 @@
 ghost use Rattle.std.specs.Prelude.{◌≡◌, false};
 ghost use Rattle.std.specs.List.{list_all};
 ghost use Rattle.std.specs.Char.{is_ascii_digit};
-ghost use Rattle.slip_fixes.specs.Bytes.{is_quote, is_gap, is_bare, ends_part, after_last, after_digits, after_zeros, last_run, after_bare, is_number, piece_of, are_blank, key_before, key_of_value, sets_value, run_before, first_word};
+ghost use Rattle.slip_fixes.specs.Bytes.{is_quote, is_gap, is_bare, ends_part, after_last, after_digits, after_zeros, last_run, after_bare, is_number, piece_of, are_blank, key_before, key_of_value, sets_value, run_before, leading_word};
 
 /// What a part of a text is after.
 #[derive(Clone, Copy)]
@@ -179,8 +179,8 @@ fn run_before(text: &[u8], at: usize) -> &[u8]
     last_run(after_last(before, Before::LineFeed))
 }
 
-fn first_word(run: &[u8]) -> &[u8]
-    ensures { result.now ≡ first_word run.now }
+fn leading_word(run: &[u8]) -> &[u8]
+    ensures { result.now ≡ leading_word run.now }
 {
     let rest = after_bare(run);
     piece_of(run, 0, run.len().saturating_sub(rest.len()))
@@ -192,7 +192,7 @@ pub fn key_before(text: &[u8], at: usize) -> &[u8]
 {
     let run = run_before(text, at);
     if are_blank(after_bare(run)) {
-        first_word(run)
+        leading_word(run)
     } else {
         &[]
     }
@@ -204,7 +204,7 @@ pub fn key_of_value(text: &[u8], at: usize) -> &[u8]
 {
     let run = run_before(text, at);
     if sets_value(after_bare(run)) {
-        first_word(run)
+        leading_word(run)
     } else {
         &[]
     }
