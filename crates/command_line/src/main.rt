@@ -5,6 +5,7 @@
 //! picks the exit status.
 #![tactic(auto)]
 
+mod edition_folder;
 mod export_files;
 mod import_files;
 mod lint_files;

@@ -57,8 +57,8 @@ pub fn path_to<'a>(path: &'a str) -> &'a str {
     }
 }
 
-// What the system says of a file that doesn't open.
-fn reason(error: &io::Error) -> Unfinished {
+/// Why a file isn't read: what the system says of one that doesn't open.
+pub fn unread(error: &io::Error) -> Unfinished {
     match error.kind() {
         io::ErrorKind::NotFound => Unfinished::Unread("no such file"),
         io::ErrorKind::PermissionDenied => Unfinished::Unread("permission denied"),
@@ -99,7 +99,7 @@ pub fn open_base<R: Files + Input>(
     }
     match open(rt, path) {
         Ok(file) => Ok(file),
-        Err(error) => Err(reason(&error)),
+        Err(error) => Err(unread(&error)),
     }
 }
 
