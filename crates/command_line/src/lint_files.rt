@@ -26,8 +26,8 @@ fn lint_path<R: Files + Input + Print + AllocGlobal>(
     }
 }
 
-// The numbers of findings, if there are some. Without memory for the line it isn't printed: the findings are.
-fn print_counts<R: Eprint + AllocGlobal>(rt: &R, counts: &Counts) {
+/// Prints the numbers of findings, if there are some. Without memory for the line it isn't printed: the findings are.
+pub fn print_counts<R: Eprint + AllocGlobal>(rt: &R, counts: &Counts) {
     let Ok(text) = counted_text(rt.alloc(), counts) else {
         return;
     };
