@@ -38,8 +38,8 @@ fn is_part(name: &str) -> bool {
     }
 }
 
-// Flushes a folder's names to the disk.
-fn flush_folder<R: Files>(rt: &R, path: &str) -> io::Result<()> {
+/// Flushes a folder's names to the disk.
+pub fn flush_folder<R: Files>(rt: &R, path: &str) -> io::Result<()> {
     fs::open(rt, path)?.sync_all()
 }
 

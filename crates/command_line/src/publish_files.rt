@@ -3,9 +3,9 @@
 ghost use Rattle.std.specs.Prelude.{◌≡◌, true, false};
 
 use crate::edition_folder::{FolderFiles, path_in};
-use crate::edition_store::write_policy;
+use crate::edition_store::{flush_folder, write_policy};
 use crate::lint_files::print_counts;
-use crate::named_files::{Opened, Unfinished, open_base, report, unread, unwritten};
+use crate::named_files::{Unfinished, open_base, report, unwritten};
 use audit_report::{FromRead, IntoWrite, RunFault};
 use command_words::Publish as Asked;
 use policy_text::widest_text;
@@ -94,10 +94,28 @@ fn make_folder<R: Files>(rt: &R, folder: &str) -> Result<(), Shut> {
             why: Unfinished::Unwritten("no such folder"),
         });
     }
-    match fs::create_dir_all(rt, folder) {
+    match make_flushed(rt, folder) {
         Ok(()) => Ok(()),
         Err(error) => Err(shut("", &error)),
     }
+}
+
+// The folder that has a path's last name.
+fn parent<'a>(path: &'a str) -> &'a str {
+    match path.trim_end_matches('/').rsplit_once('/') {
+        Some(("", _)) => "/",
+        Some((parent, _)) => parent,
+        None => ".",
+    }
+}
+
+// Makes the folder, if it isn't there, and flushes its name to the disk.
+fn make_flushed<R: Files>(rt: &R, folder: &str) -> io::Result<()> {
+    if fs::metadata(rt, folder).is_ok() {
+        return Ok(());
+    }
+    fs::create_dir_all(rt, folder)?;
+    flush_folder(rt, parent(folder))
 }
 
 // A folder whose lock is held, and how it was found.

@@ -1,11 +1,14 @@
 -- What the steps before a publish leave.
-use Rattle.std.proofs.Common.{◌≡◌, ◌≤◌, ℕ, List, Option, Some, None, option_map, refl, sym, ap, ◌∙◌, subst}
+use Rattle.std.proofs.Common.{◌≡◌, ◌≤◌, ℕ, Bool, true, List, [], ◌∷◌, Option, Some, None, option_map, refl, sym, ap, ◌∙◌, subst, arith}
 use Rattle.std.specs.Prelude.{Result, Ok, Err, IfSome, is_some}
 use Rattle.editions.specs.declared.limits.TheConstants.{MOST_EDITION}
 use Rattle.editions.specs.declared.edition_file.EditionFile.{EditionFile}
 use Rattle.editions.specs.declared.edition_file.EditionFile.TheVariants.{Base}
 use Rattle.editions.specs.Folders.{FilesSeen, FolderState, SeenFolder, edition_among, file_of, file_seen, FolderStep, RemoveParts, SetCurrent, folder_after, TakesStep}
-use Rattle.editions.specs.NumberLines.{number_line}
+use Rattle.std.proofs.Common.{nat_eq}
+use Rattle.std.proofs.lemmas.Bool.Decides.{nat_tests}
+use Rattle.editions.specs.NumberLines.{number_line, follows_text, follows_in}
+use Rattle.editions.proofs.LineLaws.{lines_numbers}
 use Rattle.editions.specs.Moments.{IsSoundFolder, KeepsEditions, AreSafeSteps, StaysSound}
 use Rattle.editions.proofs.TakenSteps.{taken_one, taken_sound, shown_after}
 use Rattle.edition_checks.specs.declared.served.Served.{Served}
@@ -29,7 +32,7 @@ pub step_leaves : {E : Type 0} (step : FolderStep) (old new : SeenFolder) (r : R
 step_leaves step old new (Ok t) taken safe = record {
   held = taken.0;
   shown = shown_after (step ∷ []) old.state new.state taken.1;
-  sound = by_safety step old.state new.state safe (taken_sound (step ∷ []) old new (Ok t) (taken_one step old new (Ok t) taken));
+  sound = by_safety step old.state new.state safe (taken_sound {E = Unit {0}} (step ∷ []) old new (Ok t) (taken_one {E = Unit {0}} step old new (Ok t) taken));
 }
 step_leaves step old new (Err e) taken safe = record {
   held = taken.0;
@@ -88,3 +91,9 @@ none_now (Some f) read = sym read
 
 pub none_served : (o p : Option FolderState) → p ≡ o → IfSome p (λ f. None ≡ f.current) → IfSome o (λ f. ServesNow f None)
 none_served o p same read = none_now o (after_same p o (λ f. None ≡ f.current) (sym same) read)
+
+-- what a text that names a number is
+pub follows_line : (text : List ℕ) (r : Option (Option ℕ)) (o : Option ℕ) (number before : ℕ) → r ≡ follows_in text → r ≡ Some o → o ≡ Some number → nat_eq number before ≡ true → text ≡ follows_text (Some before)
+follows_line text r o number before e is names eq =
+    let same : number ≡ before = grind (arith, nat_tests, eq) in
+    lines_numbers.follows_found text o (sym e ∙ is) ∙ ap follows_text (names ∙ ap Some same)

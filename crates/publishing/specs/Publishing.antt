@@ -43,13 +43,17 @@ pub record IsPublished (old new : SeenFolder) (base policy : List ℕ) (new_call
   pub judged : IsJudgedEdition between base policy new_callers candidate follows
   pub put : IsPut between new n (edition_bytes base candidate.cert_text.items policy follows)
 
--- the base is what the source gave, and the policy the folder's
-pub record IsPublishedFrom (source_old source_new : Seen) (old new : SeenFolder) (new_callers : Bool) (n : ℕ) : Type 0 where
+-- the base is what the source gave
+pub record IsPublishedBase (source_old source_new : Seen) (old new : SeenFolder) (policy : List ℕ) (new_callers : Bool) (n : ℕ) : Type 0 where
   pub base : List ℕ
   pub read : IsWholeRead (MOST_TEXT + 1) source_old source_new base
+  pub edition : IsPublished old new base policy new_callers n
+
+-- and the policy is the folder's
+pub record IsPublishedFrom (source_old source_new : Seen) (old new : SeenFolder) (new_callers : Bool) (n : ℕ) : Type 0 where
   pub policy : List ℕ
   pub there : IfSome old.state (λ f. f.policy ≡ Some policy)
-  pub edition : IsPublished old new base policy new_callers n
+  pub base : IsPublishedBase source_old source_new old new policy new_callers n
 
 -- an edition was published under some number
 abbrev pub IfPublished : Result PublishStatus PublishFault → (ℕ → Type 0) → Type 0

@@ -4,9 +4,8 @@ ghost use Rattle.std.specs.Prelude.{◌≡◌, ◌+◌, true, false, Ok, IfOk, I
 ghost use Rattle.devices.specs.Devices.{IsWholeRead};
 ghost use Rattle.base_text.specs.declared.limits.TheConstants.{MOST_TEXT};
 ghost use Rattle.policy_text.specs.Policies.{policy_in};
-ghost use Rattle.edition_checks.specs.Candidates.{IsCandidate};
 ghost use Rattle.edition_checks.specs.Putting.{LeavesSound, IsToPublish};
-ghost use Rattle.publishing.specs.Publishing.{FollowsServed, IsPublished, IsPublishedFrom, IfPublished};
+ghost use Rattle.publishing.specs.Publishing.{FollowsServed, IsPublished, IsPublishedBase, IsPublishedFrom, IfPublished};
 ghost use Rattle.publishing.specs.Serving.{ServesNow};
 
 use crate::asked::Publish;
@@ -22,7 +21,7 @@ use checker::Policy;
 use devices::{Sink, Source, SourceFault, read_whole, write_whole};
 use edition_checks::{Candidate, Served, make_candidate};
 use editions::EditionStore;
-use std::alloc::{AllocError, Global};
+use std::alloc::Global;
 
 const NEW_BEGINNING: &[u8] = b"callers who are inside stay in the edition that they have\n";
 const DRY: &[u8] = b"nothing was written\n";
@@ -44,7 +43,7 @@ fn say_done(
     status: PublishStatus,
     summary: &[u8],
     note: &[u8],
-) -> Result<PublishStatus, PublishFault> 
+) -> Result<PublishStatus, PublishFault>
     ensures { IfOk result (λ s. s ≡ status) }
 {
     let pushed = match status {
@@ -98,19 +97,6 @@ fn publish_judged<S: EditionStore>(
     }
 }
 
-// The status of a printed text.
-fn said_all(
-    pushed: Result<(), AllocError>,
-    status: PublishStatus,
-) -> Result<PublishStatus, PublishFault>
-    ensures { IfOk result (λ s. s ≡ status) }
-{
-    match pushed {
-        Ok(()) => Ok(status),
-        Err(_) => Err(PublishFault::Memory),
-    }
-}
-
 // An edition that the check clears: the change to it is judged.
 fn publish_candidate<S: EditionStore>(
     alloc: Global,
@@ -133,13 +119,27 @@ fn publish_candidate<S: EditionStore>(
         Judged::Follows(follows) => publish_judged(
             alloc, store, said, asked, texts, candidate, served, follows,
         ),
-        Judged::OtherGroups(number) => {
-            said_all(push_other_groups(said, number), PublishStatus::Refused)
+        Judged::OtherGroups(number) => match push_other_groups(said, number) {
+            Ok(()) => Ok(PublishStatus::Refused),
+            Err(_) => Err(PublishFault::Memory),
+        },
+        Judged::Refused(verdict) => {
+            match push_refusal(alloc, said, served, &candidate.base, &verdict) {
+                Ok(()) => Ok(PublishStatus::Refused),
+                Err(_) => Err(PublishFault::Memory),
+            }
         }
-        Judged::Refused(verdict) => said_all(
-            push_refusal(alloc, said, served, &candidate.base, &verdict),
-            PublishStatus::Refused,
-        ),
+    }
+}
+
+// The edition of texts that the check clears.
+fn candidate_of(alloc: Global, texts: &Texts, policy: Policy) -> Result<Candidate, PublishFault>
+    requires { policy_in texts.now.policy.items ≡ Ok policy }
+    ensures { IfOk result (IsToPublish texts.now.base.items texts.now.policy.items) }
+{
+    match make_candidate(alloc, texts.base.as_slice(), policy) {
+        Ok(candidate) => Ok(candidate),
+        Err(fault) => Err(candidate_fault(fault)),
     }
 }
 
@@ -166,11 +166,11 @@ fn publish_texts<S: EditionStore>(
         Ok(Some(counts)) => return Ok(PublishStatus::Faulty(counts)),
         Err(fault) => return Err(fault),
     }
-    match make_candidate(alloc, texts.base.as_slice(), policy) {
+    match candidate_of(alloc, &texts, policy) {
         Ok(candidate) => {
             publish_candidate(alloc, store, said, asked, texts, candidate, served)
         }
-        Err(fault) => Err(candidate_fault(fault)),
+        Err(fault) => Err(fault),
     }
 }
 
@@ -193,10 +193,10 @@ fn publish_unless_served<S: EditionStore>(
     ensures dry { asked.now.dry_run ≡ true → (S.seen store.new).state ≡ (S.seen store.old).state }
 {
     match number_of_same(served, texts.base.as_slice(), texts.policy.as_slice()) {
-        Some(number) => said_all(
-            push_already(said, number),
-            PublishStatus::AlreadyServed(number),
-        ),
+        Some(number) => match push_already(said, number) {
+            Ok(()) => Ok(PublishStatus::AlreadyServed(number)),
+            Err(_) => Err(PublishFault::Memory),
+        },
         None => publish_texts(alloc, store, said, asked, texts, policy, served),
     }
 }
@@ -235,6 +235,36 @@ fn base_text<B: Source>(alloc: Global, base: &mut B) -> Result<Vec<u8>, PublishF
     }
 }
 
+// The base of a source, by the folder's policy, which was read with its text.
+fn publish_by<S: EditionStore, B: Source>(
+    alloc: Global,
+    store: &mut S,
+    base: &mut B,
+    said: &mut Vec<u8>,
+    asked: &Publish<'_>,
+    read: (Vec<u8>, Policy),
+) -> Result<PublishStatus, PublishFault>
+    requires held { (S.seen store.old).held ≡ true }
+    requires base_open { (B.seen base.old).failed ≡ false }
+    requires policy { policy_in read.0.items ≡ Ok read.1 }
+    ensures published { IfPublished result (IsPublishedBase (B.seen base.old) (B.seen base.new)
+        (S.seen store.old) (S.seen store.new) read.0.items asked.now.new_callers) }
+    ensures sound { LeavesSound (S.seen store.old) (S.seen store.new) }
+    ensures dry { asked.now.dry_run ≡ true → (S.seen store.new).state ≡ (S.seen store.old).state }
+{
+    let (policy_text, policy) = read;
+    match base_text(alloc, base) {
+        Ok(text) => {
+            let texts = Texts {
+                base: text,
+                policy: policy_text,
+            };
+            publish_base(alloc, store, said, asked, texts, policy)
+        }
+        Err(fault) => Err(fault),
+    }
+}
+
 fn publish_from<S: EditionStore, B: Source>(
     alloc: Global,
     store: &mut S,
@@ -249,19 +279,10 @@ fn publish_from<S: EditionStore, B: Source>(
     ensures sound { LeavesSound (S.seen store.old) (S.seen store.new) }
     ensures dry { asked.now.dry_run ≡ true → (S.seen store.new).state ≡ (S.seen store.old).state }
 {
-    let (policy_text, policy) = match folder_policy(alloc, store, said, asked.policy_path) {
-        Ok(read) => read,
-        Err(fault) => return Err(fault),
-    };
-    let base = match base_text(alloc, base) {
-        Ok(text) => text,
-        Err(fault) => return Err(fault),
-    };
-    let texts = Texts {
-        base,
-        policy: policy_text,
-    };
-    publish_base(alloc, store, said, asked, texts, policy)
+    match folder_policy(alloc, store, said, asked.policy_path) {
+        Ok(read) => publish_by(alloc, store, base, said, asked, read),
+        Err(fault) => Err(fault),
+    }
 }
 
 // Writes what there is to print.

@@ -171,6 +171,7 @@ fn edition_after<S: EditionStore>(
     requires most { number ≤ MOST_EDITION }
     ensures unchanged { IsUnchanged (S.seen store.old) (S.seen store.new) }
     ensures left { IfOk result (λ o. IfSome o (λ left. IfSome (S.seen store.old).state (λ f. IsLeftAfter f served.now left))) }
+    ensures most { IfOk result (λ o. IfSome o (λ left. left.number ≤ MOST_EDITION)) }
 {
     match says_follows(alloc, store, number, served.number) {
         Ok(true) => {}
@@ -193,6 +194,7 @@ fn left_edition<S: EditionStore>(
     requires { (S.seen store.old).held ≡ true }
     ensures unchanged { IsUnchanged (S.seen store.old) (S.seen store.new) }
     ensures left { IfOk result (λ o. IfSome o (λ left. IfSome (S.seen store.old).state (λ f. IsLeftAfter f served.now left))) }
+    ensures most { IfOk result (λ o. IfSome o (λ left. left.number ≤ MOST_EDITION)) }
 {
     match greatest_number(alloc, store) {
         Ok(number) if number <= MOST_EDITION && served.number < number => {
