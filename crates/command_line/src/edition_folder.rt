@@ -2,13 +2,13 @@
 //!
 //! A file that isn't there is no fault; why another one can't be read is kept, with its path.
 
-ghost use Rattle.std.specs.Prelude.{None};
+ghost use Rattle.std.specs.Prelude.{◌≡◌, true, None};
 
 use crate::named_files::{Unfinished, unread};
 use audit_report::{FromRead, SourceFault, read_whole};
 use base_text::MOST_TEXT;
 use editions::{EditionFile, EditionFolder, StoreFault};
-use policy_text::MOST_POLICY_TEXT;
+use policy_text::{MOST_POLICY_TEXT, widest_text};
 use std::alloc::{AllocError, Global};
 use std::rt::Files;
 use std::{fs, io};
@@ -37,6 +37,8 @@ pub struct FolderFiles<'a, R> {
     pub path: &'a str,
     /// Whether this program holds the lock, until it ends.
     pub held: bool,
+    /// Whether there is no such folder: it then has the widest policy.
+    pub is_missing: bool,
     /// The last call that failed, but for refused memory.
     pub failed: Option<Failed>,
 }
@@ -48,6 +50,20 @@ impl<'a, R: Files> FolderFiles<'a, R> {
             rt,
             path,
             held: false,
+            is_missing: false,
+            failed: None,
+        }
+    }
+
+    /// A folder whose lock is held as long as this is used; or one that isn't there.
+    pub fn locked(rt: &'a R, path: &'a str, is_missing: bool) -> FolderFiles<'a, R>
+        ensures { ⟦<FolderFiles<'a, R> as EditionFolder>⟧.seen result ≡ record { state = None; held = true } }
+    {
+        FolderFiles {
+            rt,
+            path,
+            held: true,
+            is_missing,
             failed: None,
         }
     }
@@ -141,6 +157,12 @@ impl<'a, R: Files> EditionFolder for FolderFiles<'a, R> {
     }
 
     fn read_policy(&mut self, alloc: Global) -> Result<Option<Vec<u8>>, StoreFault> {
+        if self.is_missing {
+            return match widest_text(alloc) {
+                Ok(text) => Ok(Some(text)),
+                Err(_) => Err(StoreFault::Memory),
+            };
+        }
         self.read_in(alloc, "policy.toml", MOST_POLICY_TEXT + 1)
     }
 

@@ -135,7 +135,7 @@ fn diff_path<R: Files + Input + Print + AllocGlobal>(
 }
 
 // The numbers of fixes and findings, if there are some. Without memory for the line it isn't printed: the findings are.
-fn print_counts<R: Eprint + AllocGlobal>(rt: &R, sum: &Sum) {
+fn print_sum<R: Eprint + AllocGlobal>(rt: &R, sum: &Sum) {
     let Ok(text) = counted_text(rt.alloc(), &sum.counts) else {
         return;
     };
@@ -147,6 +147,11 @@ fn print_counts<R: Eprint + AllocGlobal>(rt: &R, sum: &Sum) {
         (fixes, true) => eprintln!(rt; "{fixes} fixed"),
         (fixes, false) => eprint!(rt; "{fixes} fixed, {line}"),
     };
+}
+
+/// Prints the numbers of findings, if there are some. Without memory for the line it isn't printed: the findings are.
+pub fn print_counts<R: Eprint + AllocGlobal>(rt: &R, counts: &Counts) {
+    print_sum(rt, &found(*counts, 0));
 }
 
 /// Prints the findings of each base, or what would be fixed in it, and on standard error how many fixes and findings there are in
@@ -176,7 +181,7 @@ pub fn lint<R: Files + Input + Print + Eprint + AllocGlobal>(
             }
         }
     }
-    print_counts(rt, &sum);
+    print_sum(rt, &sum);
     let status = status_of_lint(&Ok(sum.counts), asked.denied);
     failed.unwrap_or(status.max(u8::from(sum.differs)))
 }

@@ -394,6 +394,25 @@ fn serve_command<'a>(alloc: Global) -> Result<Command<'a>, AllocError> {
         ))
 }
 
+fn publish_command<'a>(alloc: Global) -> Result<Command<'a>, AllocError> {
+    Command::new(alloc, "publish")
+        .about("Check a base and the change to it, and make it the edition that a folder serves")
+        .after_help(help::PUBLISH)
+        .arg(base(alloc))?
+        .arg(place(
+            alloc,
+            "FOLDER",
+            "The folder of editions; its policy.toml has the limits",
+        ))?
+        .arg(flag(alloc, "dry-run", "Check all and write nothing"))?
+        .arg(flag(
+            alloc,
+            "new-callers",
+            "If the change is refused, publish for new callers alone",
+        ))?
+        .arg(flag(alloc, "deny-warnings", "Don't publish a base with warnings"))
+}
+
 fn explain_command<'a>(alloc: Global) -> Result<Command<'a>, AllocError> {
     let code = Arg::new(alloc, "CODE").action(ArgAction::Set).help(
         "A printed word, e.g. K7, MISSING or s80; without one all are listed",
@@ -429,6 +448,7 @@ fn whole_command<'a>(alloc: Global) -> Result<Command<'a>, AllocError> {
     let whole = with_part(whole, import_command(alloc));
     let whole = with_part(whole, export_command(alloc));
     let whole = with_part(whole, serve_command(alloc));
+    let whole = with_part(whole, publish_command(alloc));
     with_part(whole, explain_command(alloc))
 }
 
@@ -525,6 +545,20 @@ pub struct Export<'a> {
     pub groups: Groups,
 }
 
+/// Which base is published, and how.
+#[derive(Drop)]
+pub struct Publish<'a> {
+    pub base: &'a str,
+    /// The folder of editions.
+    pub folder: &'a str,
+    /// Whether nothing is written.
+    pub dry_run: bool,
+    /// Whether a refused change is published for new callers alone.
+    pub new_callers: bool,
+    /// Whether warnings stop it.
+    pub deny_warnings: bool,
+}
+
 /// What the words ask for. Files are named by their paths.
 #[derive(Drop)]
 pub enum Request<'a> {
@@ -588,6 +622,8 @@ pub enum Request<'a> {
     Serve {
         folder: &'a str,
     },
+    /// A base is published as the next edition of a folder.
+    Publish(Publish<'a>),
     /// What a printed word means, or all words.
     Explain {
         word: Option<&'a str>,
@@ -804,6 +840,17 @@ fn check_of<'a>(words: &'a ArgMatches, groups: Groups) -> Option<Request<'a>> {
     })
 }
 
+// What a publish is asked for.
+fn publish_of<'a>(words: &'a ArgMatches) -> Option<Request<'a>> {
+    Some(Request::Publish(Publish {
+        base: words.get_str("BASE")?,
+        folder: words.get_str("FOLDER")?,
+        dry_run: words.get_flag("dry-run"),
+        new_callers: words.get_flag("new-callers"),
+        deny_warnings: words.get_flag("deny-warnings"),
+    }))
+}
+
 /// What the words ask for, by a caller of these groups. There always is a request: clap has taken each word that a command
 /// requires.
 pub fn asked_for<'a>(matches: &'a ArgMatches, groups: Groups) -> Option<Request<'a>> {
@@ -843,6 +890,7 @@ pub fn asked_for<'a>(matches: &'a ArgMatches, groups: Groups) -> Option<Request<
         ("serve", words) => Some(Request::Serve {
             folder: words.get_str("FOLDER")?,
         }),
+        ("publish", words) => publish_of(words),
         ("explain", words) => Some(Request::Explain {
             word: words.get_str("CODE"),
         }),

@@ -113,3 +113,14 @@ pub const EXPLAIN: &str = concat!(
     "Example: pageaudit explain K7\n\n",
     "Status: 0 an explanation or the list, 2 an unknown word, 3 a write that fails, 4 out of memory",
 );
+
+/// After the options of `publish`.
+pub const PUBLISH: &str = concat!(
+    "The folder has policy.toml, with ceiling, keyings and perhaps groups; an edition in each of\n",
+    "editions/1, editions/2 and so on; and current, the number of the edition that is served. It is\n",
+    "made if it isn't there. An edition never changes, and whatever stops a publish, current names a\n",
+    "whole one: copy editions/ before current. A base that is served already is not published again.\n\n",
+    "Example: pageaudit publish examples/town.toml live\n\n",
+    "Status: 0 published, 1 findings or a refused change, 2 bad command line,\n",
+    "        3 a file that is refused or can't be read or written, 4 out of memory",
+);

@@ -1,0 +1,3 @@
+pub mod ExitStatus
+pub mod Publishing
+pub mod Serving
