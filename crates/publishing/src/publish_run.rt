@@ -24,6 +24,7 @@ use editions::EditionStore;
 use std::alloc::Global;
 
 const NEW_BEGINNING: &[u8] = b"callers who are inside stay in the edition that they have\n";
+
 const DRY: &[u8] = b"nothing was written\n";
 
 // What is printed between an edition's summary and its verdict.
@@ -167,9 +168,7 @@ fn publish_texts<S: EditionStore>(
         Err(fault) => return Err(fault),
     }
     match candidate_of(alloc, &texts, policy) {
-        Ok(candidate) => {
-            publish_candidate(alloc, store, said, asked, texts, candidate, served)
-        }
+        Ok(candidate) => { publish_candidate(alloc, store, said, asked, texts, candidate, served) }
         Err(fault) => Err(fault),
     }
 }

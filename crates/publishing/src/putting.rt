@@ -86,15 +86,7 @@ pub fn put_unless_dry<S: EditionStore>(
             Err(fault) => Err(fault),
         };
     }
-    match put(
-        alloc,
-        store,
-        texts,
-        candidate,
-        served,
-        new_callers,
-        follows,
-    ) {
+    match put(alloc, store, texts, candidate, served, new_callers, follows) {
         Ok(number) => Ok(PublishStatus::Published(number)),
         Err(fault) => Err(fault),
     }

@@ -13,9 +13,7 @@ ghost use Rattle.publishing.specs.Serving.{IsServedNow, ServesNow, IsLeftAfter};
 use crate::fault::{PublishFault, served_fault, store_fault};
 use checker::{ChangeVerdict, Verdict, check, check_change};
 use edition_checks::{Served, ServedFault, read_served, wider_of};
-use editions::{
-    EditionFile, EditionStore, MOST_EDITION, current_in, follows_in, next_number,
-};
+use editions::{EditionFile, EditionStore, MOST_EDITION, current_in, follows_in, next_number};
 use std::alloc::Global;
 
 // Removes the parts that a stop left, unless nothing may be written.
