@@ -23,6 +23,7 @@ fn filed(file: usize, id: &str, code: u8) -> Result<Filed, Fail> {
 
 // What a file gives: the ids of its frames and the offsets at which they begin, those of the screens that are left out, and those of
 // the frames that aren't kept.
+#[derive(Drop)]
 struct Given<'a> {
     frames: &'a [(&'a str, usize)],
     unnamed: &'a [usize],
