@@ -155,13 +155,6 @@ AreFramesFound found (Err (Screen fault)) = AreFileFrames found (Err (frames.Scr
 AreFramesFound found (Err Memory) = Unit {0}
 AreFramesFound found (Err _) = ⊥
 
--- the frames are the last ones now, or the list is as it was
-abbrev pub AreFramesAdded : List Filed → List Filed → List Filed → Result (Unit {0}) ImportFault → Type 0
-AreFramesAdded old new more (Ok _) = new ≡ old ++ more
-AreFramesAdded old new more (Err TooMany) = (new ≡ old) × (MOST_LISTED < length old + length more)
-AreFramesAdded old new more (Err Memory) = (new ≡ old) × (length old + length more ≤ MOST_LISTED)
-AreFramesAdded old new more (Err _) = ⊥
-
 -- The text of a session and its status.
 
 -- the text and the status of a caller's session of these keys

@@ -3,14 +3,14 @@ ghost use Rattle.screen_files.specs.Files.{found_in};
 ghost use Rattle.pageaudit.specs.Files.{device, IsTextWritten};
 ghost use Rattle.pageaudit.specs.declared.import_run.ImportStatus.TheVariants.{Printed};
 ghost use Rattle.pageaudit.specs.ImportRun.{AreFramesTaken, IsImportRun, import_number};
-ghost use Rattle.pageaudit.specs.Loops.{AreFramesAdded, AreFramesFound};
+ghost use Rattle.pageaudit.specs.Loops.{AreFramesFound};
 
 use crate::status::status_of;
 use audit_report::{RunFault, Sink, Source, SourceFault, read_whole, write_whole};
 use page_ids::PageNo;
 use screen_files::{
-    AddFault, Album, BaseTextFault, FileFrames, FileKind, Filed, FramesFault, MOST_SCREEN,
-    ScreenFault, Settled, base_text, file_frames,
+    AddFault, Album, BaseTextFault, FileFrames, FileKind, FramesFault, MOST_SCREEN, ScreenFault,
+    Settled, base_text, file_frames,
 };
 use std::alloc::Global;
 
@@ -35,17 +35,6 @@ pub enum ImportStatus {
     /// The base would be longer than a base may be: the number of the file of the first frame that ends too late. Nothing was
     /// written.
     TooLong(usize),
-}
-
-// Adds frames.
-fn add(album: &mut Album, frames: &[Filed]) -> Result<(), ImportFault>
-    ensures { AreFramesAdded album.old album.new frames.now result }
-{
-    match album.add(frames) {
-        Ok(()) => Ok(()),
-        Err(AddFault::TooMany) => Err(ImportFault::TooMany),
-        Err(AddFault::Memory) => Err(ImportFault::Memory),
-    }
 }
 
 // The frames of a file's bytes.
@@ -90,9 +79,10 @@ pub fn take_frames<S: Source>(
         Ok(found) => found,
         Err(fault) => return Err(fault),
     };
-    match add(album, found.frames.frames()) {
+    match album.add(found.frames.frames()) {
         Ok(()) => Ok(found),
-        Err(fault) => Err(fault),
+        Err(AddFault::TooMany) => Err(ImportFault::TooMany),
+        Err(AddFault::Memory) => Err(ImportFault::Memory),
     }
 }
 
