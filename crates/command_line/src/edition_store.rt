@@ -8,9 +8,7 @@ ghost use Rattle.editions.specs.Folders.{FolderStep, RemoveParts, WriteEdition, 
 
 use crate::edition_folder::{FolderFiles, edition_path, path_in};
 use crate::named_files::unwritten;
-use editions::{
-    EditionFile, EditionStore, MOST_EDITION, StoreFault, WholeEdition, current_text,
-};
+use editions::{EditionFile, EditionStore, MOST_EDITION, StoreFault, WholeEdition, current_text};
 use page_ids::number_read;
 use std::alloc::{AllocError, Global};
 use std::fs::{File, OpenFile};
@@ -20,6 +18,7 @@ use std::{fs, io};
 
 // The names of parts.
 const CURRENT_PART: &str = ".current.part";
+
 const POLICY_PART: &str = ".policy.part";
 
 // The number that the name of an edition's folder is.
@@ -113,12 +112,7 @@ fn replace_file<R: Files>(
 }
 
 /// Writes the folder's policy.
-pub fn write_policy<R: Files>(
-    rt: &R,
-    alloc: Global,
-    folder: &str,
-    bytes: &[u8],
-) -> io::Result<()> {
+pub fn write_policy<R: Files>(rt: &R, alloc: Global, folder: &str, bytes: &[u8]) -> io::Result<()> {
     replace_file(rt, alloc, folder, POLICY_PART, "policy.toml", bytes)
 }
 

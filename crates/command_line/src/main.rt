@@ -46,7 +46,10 @@ fn main(rt: HostRuntime) -> ExitCode {
 }
 
 // Reads the words and does what they ask; the exit status.
-fn run<R: Files<File = File> + Env + Input + Print + Eprint + AllocGlobal + Clone + Drop>(rt: &R, errors: Stderr) -> u8 {
+fn run<R: Files<File = File> + Env + Input + Print + Eprint + AllocGlobal + Clone + Drop>(
+    rt: &R,
+    errors: Stderr,
+) -> u8 {
     match words(rt, rt.alloc()) {
         Ok(words) => run_words(rt, errors, words.as_slice()),
         Err(WordsFault::Memory) => fail(rt, &RunFault::Memory),

@@ -71,9 +71,11 @@ fn has<R: Files>(rt: &R, alloc: Global, folder: &str, name: &str) -> io::Result<
 
 // Whether a folder is new: it has no policy, no edition and no `current`.
 fn is_new<R: Files>(rt: &R, alloc: Global, folder: &str) -> io::Result<bool> {
-    Ok(!has(rt, alloc, folder, "policy.toml")?
-        && !has(rt, alloc, folder, "current")?
-        && !has(rt, alloc, folder, "editions")?)
+    Ok(
+        !has(rt, alloc, folder, "policy.toml")?
+            && !has(rt, alloc, folder, "current")?
+            && !has(rt, alloc, folder, "editions")?,
+    )
 }
 
 // Writes the policy of a new folder.
@@ -187,10 +189,15 @@ fn report_edition<R: Files + Eprint + AllocGlobal>(
 }
 
 const NO_NUMBER: Unfinished = Unfinished::Unread("no number of an edition and a line end");
+
 const NO_FILE: Unfinished = Unfinished::Unread("no such file");
+
 const UNREAD: Unfinished = Unfinished::Unread("refused: it isn't what was published");
+
 const UNCERTIFIED: Unfinished = Unfinished::Unread("the check refuses the audit's certificate");
+
 const FULL: Unfinished = Unfinished::Unwritten("no number is left");
+
 const MEMORY: Unfinished = Unfinished::Fault(RunFault::Memory);
 
 // Says what the folder's last call that failed was about; the exit status.

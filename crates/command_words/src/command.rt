@@ -378,11 +378,7 @@ fn publish_command<'a>(alloc: Global) -> Result<Command<'a>, AllocError> {
             "new-callers",
             "If the change is refused, publish for new callers alone",
         ))?
-        .arg(flag(
-            alloc,
-            "deny-warnings",
-            "Don't publish a base with warnings",
-        ))
+        .arg(flag(alloc, "deny-warnings", "Don't publish a base with warnings"))
 }
 
 fn explain_command<'a>(alloc: Global) -> Result<Command<'a>, AllocError> {

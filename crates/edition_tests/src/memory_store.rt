@@ -2,9 +2,7 @@
 
 ghost use Rattle.std.specs.Prelude.{true, None};
 
-use editions::{
-    EditionFile, EditionFolder, EditionStore, StoreFault, WholeEdition, current_text,
-};
+use editions::{EditionFile, EditionFolder, EditionStore, StoreFault, WholeEdition, current_text};
 use std::alloc::{AllocError, Global};
 
 #[derive(Drop)]

@@ -107,7 +107,10 @@ fn a_refused_change_is_for_new_callers_alone(rt: HostRuntime) -> Result<(), Fail
     let _ = published(rt.alloc(), &mut store, DEMO, &asked());
     let text = shorter(rt.alloc())?;
     let (run, said) = published(rt.alloc(), &mut store, text.as_str(), &asked());
-    same((run, status_of_publish(&run)), (Ok(PublishStatus::Refused), 1))?;
+    same(
+        (run, status_of_publish(&run)),
+        (Ok(PublishStatus::Refused), 1),
+    )?;
     same_in("said", said.as_slice(), LOST)?;
     let new_callers = Publish {
         new_callers: true,
@@ -188,7 +191,13 @@ fn an_edition_that_a_stop_left_is_made_current(rt: HostRuntime) -> Result<(), Fa
     let _ = published(rt.alloc(), &mut store, DEMO, &asked());
     store.fails_at = store.writes.saturating_add(3);
     let (stopped, _) = published(rt.alloc(), &mut store, text.as_str(), &asked());
-    same((stopped, current(&store)), (Err(PublishFault::Folder), Some(1)))?;
+    same(
+        (stopped, current(&store)),
+        (Err(PublishFault::Folder), Some(1)),
+    )?;
     let (run, _) = published(rt.alloc(), &mut store, text.as_str(), &asked());
-    same((run, current(&store)), (Ok(PublishStatus::AlreadyServed(2)), Some(2)))
+    same(
+        (run, current(&store)),
+        (Ok(PublishStatus::AlreadyServed(2)), Some(2)),
+    )
 }

@@ -107,8 +107,7 @@ pub fn candidate_fault(fault: CandidateFault) -> PublishFault {
 pub fn number_of_same(served: &Option<Served>, base: &[u8], policy: &[u8]) -> Option<u32> {
     match served {
         Some(served)
-            if served.base_text.as_slice() == base && served.policy_text.as_slice() == policy =>
-        {
+            if served.base_text.as_slice() == base && served.policy_text.as_slice() == policy => {
             Some(served.number)
         }
         _ => None,

@@ -90,7 +90,11 @@ fn push_frames(out: &mut Vec<u8>, ids: &[FrameId], what: &[u8]) -> Result<(), Al
         }
         push_id(out, *id)?;
     }
-    out.extend_from_slice(if ids.len() > MOST_NAMED { b" ..)".as_slice() } else { b")".as_slice() })
+    out.extend_from_slice(if ids.len() > MOST_NAMED {
+        b" ..)".as_slice()
+    } else {
+        b")".as_slice()
+    })
 }
 
 // What a frame costs in a base.
@@ -109,7 +113,11 @@ fn push_prices(
     new: &Base,
 ) -> Result<(), AllocError> {
     for (i, id) in ids.iter().take(MOST_NAMED).enumerate() {
-        out.extend_from_slice(if i > 0 { b", ".as_slice() } else { b", prices ".as_slice() })?;
+        out.extend_from_slice(if i > 0 {
+            b", ".as_slice()
+        } else {
+            b", prices ".as_slice()
+        })?;
         push_id(out, *id)?;
         out.push(b' ')?;
         push_number(out, u64::from(price_in(old, *id)))?;
@@ -141,11 +149,7 @@ fn push_differences(
 
 /// The number of frames of a base, and how it differs from the one that is served: `79 frames, 2 new (4783a 4783b), 5 changed,
 /// prices 4785a 10p -> 15p`. At most eight frames of a kind are named.
-pub fn summary(
-    alloc: Global,
-    served: &Option<Served>,
-    new: &Base,
-) -> Result<Vec<u8>, AllocError> {
+pub fn summary(alloc: Global, served: &Option<Served>, new: &Base) -> Result<Vec<u8>, AllocError> {
     let mut out = Vec::new(alloc);
     push_count(&mut out, new.frames().len(), b"frames")?;
     if let Some(served) = served {
