@@ -1,5 +1,5 @@
 -- What a publish leaves of a folder.
-use Rattle.std.specs.Prelude.{◌≡◌, ◌+◌, ℕ, Bool, true, List, Option, Some, None, Result, Ok, Err, IfSome}
+use Rattle.std.specs.Prelude.{◌≡◌, ◌+◌, ℕ, Bool, true, List, Option, Some, None, Result, Ok, IfSome}
 use Rattle.devices.specs.Devices.{Seen, IsWholeRead}
 use Rattle.base_text.specs.declared.limits.TheConstants.{MOST_TEXT}
 use Rattle.editions.specs.Folders.{SeenFolder, edition_bytes}
