@@ -1,20 +1,19 @@
 -- What the steps before a publish leave.
-use Rattle.std.proofs.Common.{◌≡◌, ◌≤◌, ℕ, Bool, true, List, [], ◌∷◌, Option, Some, None, option_map, refl, sym, ap, ◌∙◌, subst, arith}
-use Rattle.std.specs.Prelude.{Result, Ok, Err, IfSome, is_some}
+use Rattle.std.proofs.Common.{◌≡◌, ◌≤◌, ℕ, true, List, [], ◌∷◌, Option, Some, None, option_map, refl, sym, ap, ◌∙◌, subst, arith, nat_eq}
+use Rattle.std.proofs.lemmas.Bool.Decides.{nat_tests}
+use Rattle.std.specs.Prelude.{Result, Ok, Err, IfSome}
 use Rattle.editions.specs.declared.limits.TheConstants.{MOST_EDITION}
 use Rattle.editions.specs.declared.edition_file.EditionFile.{EditionFile}
 use Rattle.editions.specs.declared.edition_file.EditionFile.TheVariants.{Base}
-use Rattle.editions.specs.Folders.{FilesSeen, FolderState, SeenFolder, edition_among, file_of, file_seen, FolderStep, RemoveParts, SetCurrent, folder_after, TakesStep}
-use Rattle.std.proofs.Common.{nat_eq}
-use Rattle.std.proofs.lemmas.Bool.Decides.{nat_tests}
+use Rattle.editions.specs.Folders.{FilesSeen, FolderState, SeenFolder, edition_among, file_of, FolderStep, RemoveParts, SetCurrent, folder_after, TakesStep}
 use Rattle.editions.specs.NumberLines.{number_line, follows_text, follows_in}
 use Rattle.editions.proofs.LineLaws.{lines_numbers}
-use Rattle.editions.specs.Moments.{IsSoundFolder, KeepsEditions, AreSafeSteps, StaysSound}
+use Rattle.editions.specs.Moments.{IsSoundFolder, KeepsEditions, AreSafeSteps}
 use Rattle.editions.proofs.TakenSteps.{taken_one, taken_sound, shown_after}
 use Rattle.edition_checks.specs.declared.served.Served.{Served}
 use Rattle.edition_checks.specs.Served.{IsUnchanged, IsServed}
 use Rattle.edition_checks.specs.Putting.{LeavesSound}
-use Rattle.edition_checks.proofs.PutLaws.{leaves_same, leaves_then}
+use Rattle.edition_checks.proofs.PutLaws.{leaves_same}
 use Rattle.publishing.specs.Serving.{IsServedNow, ServesNow}
 
 -- a call that changes nothing

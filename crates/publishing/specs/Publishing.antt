@@ -1,5 +1,5 @@
 -- What a publish leaves of a folder.
-use Rattle.std.specs.Prelude.{◌≡◌, ◌+◌, ℕ, Bool, true, List, Option, Some, None, Result, Ok, Err, IfSome}
+use Rattle.std.specs.Prelude.{◌≡◌, ◌+◌, ℕ, Bool, true, List, Option, Some, None, Result, Ok, IfSome}
 use Rattle.devices.specs.Devices.{Seen, IsWholeRead}
 use Rattle.base_text.specs.declared.limits.TheConstants.{MOST_TEXT}
 use Rattle.editions.specs.Folders.{SeenFolder, edition_bytes}
@@ -11,8 +11,6 @@ use Rattle.edition_checks.specs.Putting.{IsToPublish, LeavesSound, IsPut}
 use Rattle.publishing.specs.declared.fault.PublishFault.{PublishFault}
 use Rattle.publishing.specs.declared.status.PublishStatus.{PublishStatus}
 use Rattle.publishing.specs.declared.status.PublishStatus.TheVariants.{Published}
-use Rattle.publishing.specs.declared.following.Judged.{Judged}
-use Rattle.publishing.specs.declared.following.Judged.TheVariants.{Follows}
 use Rattle.publishing.specs.Serving.{ServesNow}
 
 -- what an edition follows: the one that is served, from which the change is cleared; or nothing, if none is served, or if the
@@ -21,11 +19,6 @@ abbrev pub FollowsServed : Option Served → Candidate → Bool → Option ℕ �
 FollowsServed None c new_callers follows = follows ≡ None
 FollowsServed (Some s) c new_callers None = new_callers ≡ true
 FollowsServed (Some s) c new_callers (Some k) = (k ≡ s.number) × IsClearedAgainst (served_view None s) (candidate_view None c)
-
--- if an edition may be published: of what it follows
-abbrev pub IfFollows : Judged → (Option ℕ → Type 0) → Type 0
-IfFollows (Follows follows) P = P follows
-IfFollows _ P = Unit {0}
 
 -- what was judged before the edition of a base and a policy is written
 pub record IsJudgedEdition (seen : SeenFolder) (base policy : List ℕ) (new_callers : Bool) (c : Candidate) (follows : Option ℕ) : Type 0 where

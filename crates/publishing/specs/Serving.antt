@@ -1,14 +1,10 @@
--- The edition that a folder serves, and one that a stop left.
-use Rattle.std.specs.Prelude.{◌≡◌, ◌≤◌, ℕ, Option, Some, None}
-use Rattle.checker.specs.declared.change.ChangeVerdict.TheVariants as changes
-use Rattle.checker.specs.Change.{change_verdict}
+-- The edition that a folder serves.
+use Rattle.std.specs.Prelude.{◌≡◌, ◌≤◌, Option, Some, None}
 use Rattle.editions.specs.declared.limits.TheConstants.{MOST_EDITION}
-use Rattle.editions.specs.declared.edition_file.EditionFile.TheVariants.{Follows}
-use Rattle.editions.specs.Folders.{FolderState, file_at}
-use Rattle.editions.specs.NumberLines.{number_line, follows_text}
-use Rattle.editions.specs.Chains.{IsClearedEdition, IsClearedAgainst}
+use Rattle.editions.specs.Folders.{FolderState}
+use Rattle.editions.specs.NumberLines.{number_line}
 use Rattle.edition_checks.specs.declared.served.Served.{Served}
-use Rattle.edition_checks.specs.Served.{IsServed, served_view}
+use Rattle.edition_checks.specs.Served.{IsServed}
 
 -- `current` names this edition, and its texts mean what was read of them
 pub record IsServedNow (f : FolderState) (s : Served) : Type 0 where
@@ -20,11 +16,3 @@ pub record IsServedNow (f : FolderState) (s : Served) : Type 0 where
 abbrev pub ServesNow : FolderState → Option Served → Type 0
 ServesNow f None = f.current ≡ None
 ServesNow f (Some s) = IsServedNow f s
-
--- an edition that is there follows the one that is served: its own text says so, the check clears it, and the change to it
-pub record IsLeftAfter (f : FolderState) (s left : Served) : Type 0 where
-  pub is : IsServed f left
-  pub most : left.number ≤ MOST_EDITION
-  pub says : file_at f left.number Follows ≡ Some (follows_text (Some s.number))
-  pub cleared : IsClearedEdition (served_view None left)
-  pub against : IsClearedAgainst (served_view None s) (served_view None left)

@@ -10,9 +10,9 @@ ghost use Rattle.publishing.specs.Serving.{ServesNow};
 
 use crate::asked::Publish;
 use crate::fault::PublishFault;
-use crate::following::{Judged, judge_following};
+use crate::following::{MayFollow, judge_following};
 use crate::judging::{candidate_fault, folder_policy, lint_base, number_of_same};
-use crate::putting::{Texts, put_unless_dry};
+use crate::putting::{EditionTexts, put_unless_dry};
 use crate::serving::served_edition;
 use crate::status::PublishStatus;
 use crate::summary::{push_already, push_edition, push_other_groups, push_refusal, summary};
@@ -65,7 +65,7 @@ fn publish_judged<S: EditionStore>(
     store: &mut S,
     said: &mut Vec<u8>,
     asked: &Publish<'_>,
-    texts: Texts,
+    texts: EditionTexts,
     candidate: Candidate,
     served: &Option<Served>,
     follows: Option<u32>,
@@ -104,7 +104,7 @@ fn publish_candidate<S: EditionStore>(
     store: &mut S,
     said: &mut Vec<u8>,
     asked: &Publish<'_>,
-    texts: Texts,
+    texts: EditionTexts,
     candidate: Candidate,
     served: &Option<Served>,
 ) -> Result<PublishStatus, PublishFault>
@@ -117,14 +117,14 @@ fn publish_candidate<S: EditionStore>(
     ensures dry { asked.now.dry_run ≡ true → (S.seen store.new).state ≡ (S.seen store.old).state }
 {
     match judge_following(served, &candidate, asked.new_callers) {
-        Judged::Follows(follows) => publish_judged(
+        MayFollow::Follows(follows) => publish_judged(
             alloc, store, said, asked, texts, candidate, served, follows,
         ),
-        Judged::OtherGroups(number) => match push_other_groups(said, number) {
+        MayFollow::OtherGroups(number) => match push_other_groups(said, number) {
             Ok(()) => Ok(PublishStatus::Refused),
             Err(_) => Err(PublishFault::Memory),
         },
-        Judged::Refused(verdict) => {
+        MayFollow::Refused(verdict) => {
             match push_refusal(alloc, said, served, &candidate.base, &verdict) {
                 Ok(()) => Ok(PublishStatus::Refused),
                 Err(_) => Err(PublishFault::Memory),
@@ -134,7 +134,11 @@ fn publish_candidate<S: EditionStore>(
 }
 
 // The edition of texts that the check clears.
-fn candidate_of(alloc: Global, texts: &Texts, policy: Policy) -> Result<Candidate, PublishFault>
+fn candidate_of(
+    alloc: Global,
+    texts: &EditionTexts,
+    policy: Policy,
+) -> Result<Candidate, PublishFault>
     requires { policy_in texts.now.policy.items ≡ Ok policy }
     ensures { IfOk result (IsToPublish texts.now.base.items texts.now.policy.items) }
 {
@@ -150,7 +154,7 @@ fn publish_texts<S: EditionStore>(
     store: &mut S,
     said: &mut Vec<u8>,
     asked: &Publish<'_>,
-    texts: Texts,
+    texts: EditionTexts,
     policy: Policy,
     served: &Option<Served>,
 ) -> Result<PublishStatus, PublishFault>
@@ -179,7 +183,7 @@ fn publish_unless_served<S: EditionStore>(
     store: &mut S,
     said: &mut Vec<u8>,
     asked: &Publish<'_>,
-    texts: Texts,
+    texts: EditionTexts,
     policy: Policy,
     served: &Option<Served>,
 ) -> Result<PublishStatus, PublishFault>
@@ -206,7 +210,7 @@ fn publish_base<S: EditionStore>(
     store: &mut S,
     said: &mut Vec<u8>,
     asked: &Publish<'_>,
-    texts: Texts,
+    texts: EditionTexts,
     policy: Policy,
 ) -> Result<PublishStatus, PublishFault>
     requires held { (S.seen store.old).held ≡ true }
@@ -254,7 +258,7 @@ fn publish_by<S: EditionStore, B: Source>(
     let (policy_text, policy) = read;
     match base_text(alloc, base) {
         Ok(text) => {
-            let texts = Texts {
+            let texts = EditionTexts {
                 base: text,
                 policy: policy_text,
             };

@@ -15,7 +15,7 @@ use std::alloc::Global;
 
 /// The texts of an edition.
 #[derive(Drop)]
-pub struct Texts {
+pub struct EditionTexts {
     pub base: Vec<u8>,
     pub policy: Vec<u8>,
 }
@@ -24,7 +24,7 @@ pub struct Texts {
 fn put<S: EditionStore>(
     alloc: Global,
     store: &mut S,
-    texts: Texts,
+    texts: EditionTexts,
     candidate: Candidate,
     served: &Option<Served>,
     new_callers: bool,
@@ -38,7 +38,7 @@ fn put<S: EditionStore>(
         (edition_bytes texts.base.items candidate.cert_text.items texts.policy.items follows)) }
     ensures sound { LeavesSound (S.seen store.old) (S.seen store.new) }
 {
-    let Texts { base, policy } = texts;
+    let EditionTexts { base, policy } = texts;
     match put_candidate(alloc, store, base, policy, candidate, follows) {
         Ok(number) => Ok(number),
         Err(fault) => Err(put_fault(fault)),
@@ -63,7 +63,7 @@ fn number_after<S: EditionStore>(alloc: Global, store: &mut S) -> Result<u32, Pu
 pub fn put_unless_dry<S: EditionStore>(
     alloc: Global,
     store: &mut S,
-    texts: Texts,
+    texts: EditionTexts,
     candidate: Candidate,
     served: &Option<Served>,
     new_callers: bool,

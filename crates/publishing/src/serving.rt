@@ -8,7 +8,8 @@ ghost use Rattle.editions.specs.Folders.{file_at};
 ghost use Rattle.editions.specs.NumberLines.{number_line, follows_text};
 ghost use Rattle.edition_checks.specs.Putting.{LeavesSound};
 ghost use Rattle.edition_checks.specs.Served.{IsUnchanged, IsServed, served_view};
-ghost use Rattle.publishing.specs.Serving.{IsServedNow, ServesNow, IsLeftAfter};
+ghost use Rattle.publishing.specs.Loops.{IsLeftAfter};
+ghost use Rattle.publishing.specs.Serving.{IsServedNow, ServesNow};
 
 use crate::fault::{PublishFault, served_fault, store_fault};
 use checker::{ChangeVerdict, Verdict, check, check_change};
@@ -99,8 +100,8 @@ fn says_follows<S: EditionStore>(
 ) -> Result<bool, PublishFault>
     requires { (S.seen store.old).held ≡ true }
     ensures unchanged { IsUnchanged (S.seen store.old) (S.seen store.new) }
-    ensures says { IfOk result (λ b. b ≡ true → IfSome (S.seen store.old).state (λ f. file_at f number Follows ≡
-        Some (follows_text (Some before)))) }
+    ensures says { IfOk result (λ b. b ≡ true → IfSome (S.seen store.old).state
+        (λ f. file_at f number Follows ≡ Some (follows_text (Some before)))) }
 {
     match store.read_file(alloc, number, EditionFile::Follows) {
         Ok(Some(text)) => Ok(is_follows(text.as_slice(), before)),
@@ -168,7 +169,8 @@ fn edition_after<S: EditionStore>(
     requires held { (S.seen store.old).held ≡ true }
     requires most { number ≤ MOST_EDITION }
     ensures unchanged { IsUnchanged (S.seen store.old) (S.seen store.new) }
-    ensures left { IfOk result (λ o. IfSome o (λ left. IfSome (S.seen store.old).state (λ f. IsLeftAfter f served.now left))) }
+    ensures left { IfOk result (λ o. IfSome o (λ left. IfSome (S.seen store.old).state
+        (λ f. IsLeftAfter f served.now left))) }
     ensures most { IfOk result (λ o. IfSome o (λ left. left.number ≤ MOST_EDITION)) }
 {
     match says_follows(alloc, store, number, served.number) {
@@ -191,7 +193,8 @@ fn left_edition<S: EditionStore>(
 ) -> Result<Option<Served>, PublishFault>
     requires { (S.seen store.old).held ≡ true }
     ensures unchanged { IsUnchanged (S.seen store.old) (S.seen store.new) }
-    ensures left { IfOk result (λ o. IfSome o (λ left. IfSome (S.seen store.old).state (λ f. IsLeftAfter f served.now left))) }
+    ensures left { IfOk result (λ o. IfSome o (λ left. IfSome (S.seen store.old).state
+        (λ f. IsLeftAfter f served.now left))) }
     ensures most { IfOk result (λ o. IfSome o (λ left. left.number ≤ MOST_EDITION)) }
 {
     match greatest_number(alloc, store) {
@@ -255,7 +258,8 @@ fn served_last<S: EditionStore>(
     requires { (S.seen store.old).held ≡ true }
     ensures sound { LeavesSound (S.seen store.old) (S.seen store.new) }
     ensures dry { dry_run ≡ true → (S.seen store.new).state ≡ (S.seen store.old).state }
-    ensures serves { dry_run ≡ false → IfOk result (λ served. IfSome (S.seen store.new).state (λ f. ServesNow f served)) }
+    ensures serves { dry_run ≡ false → IfOk result (λ served. IfSome (S.seen store.new).state
+        (λ f. ServesNow f served)) }
 {
     let served = match current_edition(alloc, store) {
         Ok(Some(served)) => served,
@@ -278,7 +282,8 @@ pub fn served_edition<S: EditionStore>(
     requires { (S.seen store.old).held ≡ true }
     ensures sound { LeavesSound (S.seen store.old) (S.seen store.new) }
     ensures dry { dry_run ≡ true → (S.seen store.new).state ≡ (S.seen store.old).state }
-    ensures serves { dry_run ≡ false → IfOk result (λ served. IfSome (S.seen store.new).state (λ f. ServesNow f served)) }
+    ensures serves { dry_run ≡ false → IfOk result (λ served. IfSome (S.seen store.new).state
+        (λ f. ServesNow f served)) }
 {
     match remove_left_parts(alloc, store, dry_run) {
         Ok(()) => served_last(alloc, store, dry_run),
