@@ -60,7 +60,10 @@ fn row(taken: &[u8], row: usize) -> [u8; 40] {
     let mut codes = [0; 40];
     let cells = terminal.cells();
     for column in 0..40 {
-        codes[column] = cells.get(row * 40 + column).copied().unwrap_or(0);
+        codes[column] = cells
+            .get(row.saturating_mul(40).saturating_add(column))
+            .copied()
+            .unwrap_or(0);
     }
     codes
 }
@@ -223,6 +226,7 @@ fn base_in_memory_is_served(rt: HostRuntime) -> Result<(), Fail> {
     same(end, Ok(()))?;
     same(sink.flushed, sink.taken.len())?;
     let mut broken = FakeSource::broken(b"1", 1, 0);
-    let end = serve_line(alloc, &base, &Groups::none(), &mut broken, &mut sink);
+    let mut other = FakeSink::of(alloc, 7);
+    let end = serve_line(alloc, &base, &Groups::none(), &mut broken, &mut other);
     same(end, Err(ServeFault::Read))
 }
