@@ -16,14 +16,13 @@ use Rattle.base_text.specs.Whole.{IsTextBase}
 use Rattle.checker.specs.Headline.{IsBaseRefused, IsCertRefused}
 use Rattle.std.specs.Io.KnownBytes.{Consumes, IsAtEnd, Keeps}
 use Rattle.cert_text.specs.Reading.{certificate_fault as text_fault, ReaderView, HasRead, lasting}
-use Rattle.frame_records.specs.declared.limits.TheConstants.{MOST_LISTED}
 use Rattle.screen_files.specs.declared.filed.Filed.{Filed}
 use Rattle.screen_files.specs.declared.file.FileFrames.{FileFrames}
 use Rattle.screen_files.specs.declared.file.FramesFault.TheVariants as frames
 use Rattle.screen_files.specs.declared.file.ScreenFault.{ScreenFault}
 use Rattle.screen_files.specs.Files.{AreFileFrames, ScreenList}
 use Rattle.pageaudit.specs.declared.import_run.ImportFault.{ImportFault}
-use Rattle.pageaudit.specs.declared.import_run.ImportFault.TheVariants.{Screen, TooMany, Memory}
+use Rattle.pageaudit.specs.declared.import_run.ImportFault.TheVariants.{Screen, Memory}
 use Rattle.std.specs.declared.alloc.Global.{Global}
 use Rattle.page_ids.specs.declared.key.Key.{Key}
 use Rattle.session_machine.specs.Runs.{session_of}
