@@ -6,9 +6,9 @@ mod fake_folder;
 #[cfg(test)]
 mod memory_store;
 #[cfg(test)]
-mod policies;
+mod moments;
 #[cfg(test)]
-mod publishing;
+mod policies;
 #[cfg(test)]
 mod runs;
 #[cfg(test)]
