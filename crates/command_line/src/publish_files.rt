@@ -33,7 +33,7 @@ struct Shut {
     why: Unfinished,
 }
 
-fn shut(name: &'static str, error: &io::Error) -> Shut {
+fn shut_by(name: &'static str, error: &io::Error) -> Shut {
     Shut {
         name,
         why: unwritten(error),
@@ -98,7 +98,7 @@ fn make_folder<R: Files>(rt: &R, folder: &str) -> Result<(), Shut> {
     }
     match make_flushed(rt, folder) {
         Ok(()) => Ok(()),
-        Err(error) => Err(shut("", &error)),
+        Err(error) => Err(shut_by("", &error)),
     }
 }
 
@@ -144,7 +144,7 @@ fn open_folder<R: Files<File = File>>(
     make_folder(rt, folder)?;
     let lock = match lock(rt, alloc, folder) {
         Ok(lock) => Some(lock),
-        Err(error) => return Err(shut("lock", &error)),
+        Err(error) => return Err(shut_by("lock", &error)),
     };
     if dry_run {
         return Ok(Locked {
@@ -154,7 +154,7 @@ fn open_folder<R: Files<File = File>>(
     }
     match make_policy(rt, alloc, folder) {
         Ok(found) => Ok(Locked { lock, found }),
-        Err(error) => Err(shut("policy.toml", &error)),
+        Err(error) => Err(shut_by("policy.toml", &error)),
     }
 }
 
