@@ -1,6 +1,6 @@
 //! The command `serve`: the current edition of a folder on standard input and output.
 
-ghost use Rattle.std.specs.Prelude.{◌≡◌, false, None};
+ghost use Rattle.std.specs.Prelude.{◌≡◌, true, false, None};
 
 use crate::edition_folder::FolderFiles;
 use crate::named_files::report;
