@@ -2,3 +2,4 @@ mod Within
 mod Runs
 mod Changes
 mod Certified
+mod Imports
