@@ -29,7 +29,10 @@ fn path_of<'a>(asked: &'a Import, file: usize) -> &'a str {
 
 // Says which frame has the id of another.
 fn report_twin<R: Eprint>(rt: &R, asked: &Import, twin: &Twin) {
-    let (path, other) = (path_of(asked, twin.other.file), path_of(asked, twin.kept.file));
+    let (path, other) = (
+        path_of(asked, twin.other.file),
+        path_of(asked, twin.kept.file),
+    );
     let (byte, kept) = (twin.other.byte, twin.kept.byte);
     let id = twin.id.text();
     let id = id.as_str();

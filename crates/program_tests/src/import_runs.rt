@@ -5,8 +5,8 @@ ghost use Rattle.std.specs.Prelude.{◌≡◌, false};
 use crate::expected::{ALL, sink, source, taken};
 use page_ids::PageNo;
 use pageaudit::{
-    Album, FileFrames, FileKind, Filed, ImportFault, ImportStatus, ScreenFault, Settled, run_import,
-    status_of_import, take_frames,
+    Album, FileFrames, FileKind, Filed, ImportFault, ImportStatus, ScreenFault, Settled,
+    run_import, status_of_import, take_frames,
 };
 use std::alloc::Global;
 use std::test::Fail;

@@ -40,13 +40,31 @@ const fn one<'a>(frame: &'a [(&'a str, usize); 1]) -> Given<'a> {
 fn check_given(bytes: &[u8], seen: &FileFrames, wanted: &Given) -> Result<(), Fail> {
     same_in(bytes, seen.unnamed.as_slice(), wanted.unnamed)?;
     let (frames, twins) = (seen.frames.frames(), seen.frames.twins());
-    same_in(bytes, (frames.len(), twins.len()), (wanted.frames.len(), wanted.twins.len()))?;
+    same_in(
+        bytes,
+        (frames.len(), twins.len()),
+        (wanted.frames.len(), wanted.twins.len()),
+    )?;
     for (filed, (id, byte)) in frames.iter().zip(wanted.frames) {
         same_in(bytes, filed.frame.id.text().as_str(), *id)?;
-        same_in(bytes, filed.origin, Origin { file: 7, byte: *byte })?;
+        same_in(
+            bytes,
+            filed.origin,
+            Origin {
+                file: 7,
+                byte: *byte,
+            },
+        )?;
     }
     for (twin, byte) in twins.iter().zip(wanted.twins) {
-        same_in(bytes, twin.other, Origin { file: 7, byte: *byte })?;
+        same_in(
+            bytes,
+            twin.other,
+            Origin {
+                file: 7,
+                byte: *byte,
+            },
+        )?;
     }
     Ok(())
 }
@@ -93,9 +111,33 @@ fn a_capture_gives_a_frame_for_each_id(rt: HostRuntime) -> Result<(), Fail> {
             ("dump", b"\x0a77b", Err(ScreenFault::NoId)),
             ("4a", b" \x0c\x0c \x0c ", Ok(one(&[("4a", 4)]))),
             ("4a", b"LOGIN\x0cNEWS", Ok(one(&[("4a", 5)]))),
-            ("4a", b"9a\x8c8a", Ok(Given { frames: &[("8a", 2), ("9a", 0)], unnamed: &[], twins: &[] })),
-            ("4a", b"\x0c9a\x0cNEWS", Ok(Given { frames: &[("9a", 0)], unnamed: &[3], twins: &[] })),
-            ("4a", b"\x0cX\x0cY\x0cZ", Ok(Given { frames: &[("4a", 4)], unnamed: &[0, 2], twins: &[] })),
+            (
+                "4a",
+                b"9a\x8c8a",
+                Ok(Given {
+                    frames: &[("8a", 2), ("9a", 0)],
+                    unnamed: &[],
+                    twins: &[],
+                }),
+            ),
+            (
+                "4a",
+                b"\x0c9a\x0cNEWS",
+                Ok(Given {
+                    frames: &[("9a", 0)],
+                    unnamed: &[3],
+                    twins: &[],
+                }),
+            ),
+            (
+                "4a",
+                b"\x0cX\x0cY\x0cZ",
+                Ok(Given {
+                    frames: &[("4a", 4)],
+                    unnamed: &[0, 2],
+                    twins: &[],
+                }),
+            ),
             ("dump", b"\x0cX\x0cY\x0cZ", Err(ScreenFault::NoId)),
         ],
     )
@@ -108,11 +150,39 @@ fn a_screen_that_is_cut_short_is_a_part_of_another(rt: HostRuntime) -> Result<()
         rt.alloc(),
         FileKind::Stream,
         &[
-            ("x", b"\x0c9a\x0aA \x0c9a\x0aAB\x0c9a\x0aA", Ok(one(&[("9a", 6)]))),
-            ("x", b"\x0c9a\x0aAB\x0c9a\x0aA \x0c9a\x0aAB", Ok(one(&[("9a", 0)]))),
-            ("x", b"\x0c9a\x0aA \x0c9a\x0a B\x0c9a\x0aAB", Ok(one(&[("9a", 12)]))),
-            ("x", b"\x0c9a\x0aA \x0c9a\x0a B", Ok(Given { frames: &[("9a", 0)], unnamed: &[], twins: &[6] })),
-            ("x", b"\x0c9a\x0aA1\x0c9a\x0aA2\x0c9a\x0aA1", Ok(Given { frames: &[("9a", 0)], unnamed: &[], twins: &[6] })),
+            (
+                "x",
+                b"\x0c9a\x0aA \x0c9a\x0aAB\x0c9a\x0aA",
+                Ok(one(&[("9a", 6)])),
+            ),
+            (
+                "x",
+                b"\x0c9a\x0aAB\x0c9a\x0aA \x0c9a\x0aAB",
+                Ok(one(&[("9a", 0)])),
+            ),
+            (
+                "x",
+                b"\x0c9a\x0aA \x0c9a\x0a B\x0c9a\x0aAB",
+                Ok(one(&[("9a", 12)])),
+            ),
+            (
+                "x",
+                b"\x0c9a\x0aA \x0c9a\x0a B",
+                Ok(Given {
+                    frames: &[("9a", 0)],
+                    unnamed: &[],
+                    twins: &[6],
+                }),
+            ),
+            (
+                "x",
+                b"\x0c9a\x0aA1\x0c9a\x0aA2\x0c9a\x0aA1",
+                Ok(Given {
+                    frames: &[("9a", 0)],
+                    unnamed: &[],
+                    twins: &[6],
+                }),
+            ),
         ],
     )
 }
