@@ -325,11 +325,11 @@ fn screens_of_other_prices_are_twins(rt: HostRuntime) -> Result<(), Fail> {
 #[test]
 fn an_album_has_a_most(rt: HostRuntime) -> Result<(), Fail> {
     let mut album = Album::new(rt.alloc());
-    let frame = filed(0, "4a", b' ')?;
+    let frames = [filed(0, "4a", b' ')?];
     for file in 0..MOST_LISTED {
-        same_in(file, album.add(&[frame]), Ok(()))?;
+        same_in(file, album.add(&frames), Ok(()))?;
     }
-    same(album.add(&[frame]), Err(AddFault::TooMany))?;
+    same(album.add(&frames), Err(AddFault::TooMany))?;
     same(album.add(&[]), Ok(()))?;
     same(album.as_slice().len(), MOST_LISTED)
 }
@@ -338,7 +338,8 @@ fn an_album_has_a_most(rt: HostRuntime) -> Result<(), Fail> {
 fn dense_base(alloc: Global, count: usize) -> Result<Result<Vec<u8>, BaseTextFault>, Fail> {
     let mut frames = Vec::new(alloc);
     for file in 0..count {
-        let page = PageNo::new(file as u32 + 1_000).ok_or("page")?;
+        let number = u32::try_from(file).unwrap_or(0).saturating_add(1_000);
+        let page = PageNo::new(number).ok_or("page")?;
         let mut dense = filed(file, "4a", 0x81)?;
         dense.frame.id = FrameId::first(page);
         frames.extend_from_slice(&[dense])?;

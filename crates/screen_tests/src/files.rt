@@ -121,7 +121,9 @@ fn an_ep1_file_has_its_rows_between_others(rt: HostRuntime) -> Result<(), Fail> 
         same_in(size, codes, is_screen.then_some([0x81; 960]))?;
     }
     let mut bytes = ep1(rt.alloc(), 968, b'X')?;
-    bytes[1] = 0x02;
+    if let Some(mark) = bytes.get_mut(1) {
+        *mark = 0x02;
+    }
     same(saved_codes(bytes.as_slice()).is_some(), false)
 }
 
