@@ -78,7 +78,8 @@ fn the_size_says_what_a_file_is(rt: HostRuntime) -> Result<(), Fail> {
 #[test]
 fn bytes_are_stored_codes(_rt: HostRuntime) -> Result<(), Fail> {
     let rows = [
-        (0x00, 0x80),
+        // no byte is a space
+        (0x00, 0x20),
         (0x1f, 0x9f),
         (0x20, 0x20),
         (0x7f, 0x7f),
