@@ -154,7 +154,8 @@ fn fill(album: &mut Album, most: usize) -> Result<(), Fail> {
     for file in album.as_slice().len()..most {
         let mut filed: Filed = first;
         filed.origin.file = file;
-        filed.frame.id.page = PageNo::new(file as u32 + 1_000).ok_or("page")?;
+        let number = u32::try_from(file).unwrap_or(0).saturating_add(1_000);
+        filed.frame.id.page = PageNo::new(number).ok_or("page")?;
         same_in(file, album.add(&[filed]).is_ok(), true)?;
     }
     Ok(())
