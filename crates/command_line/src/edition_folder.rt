@@ -69,11 +69,11 @@ impl<'a, R: Files> FolderFiles<'a, R> {
     }
 
     /// Keeps why a call failed.
-    pub fn fail(&mut self, path: String, error: &io::Error, why: Unfinished) -> StoreFault {
+    pub fn fail(&mut self, path: String, error: &io::Error, why: &Unfinished) -> StoreFault {
         if error.kind() == io::ErrorKind::OutOfMemory {
             return StoreFault::Memory;
         }
-        self.failed = Some(Failed { path, why });
+        self.failed = Some(Failed { path, why: *why });
         StoreFault::Broken
     }
 
@@ -99,7 +99,7 @@ impl<'a, R: Files> FolderFiles<'a, R> {
             Err(error) if error.kind() == io::ErrorKind::NotFound => Ok(None),
             Err(error) => {
                 let why = unread(&error);
-                Err(self.fail(path, &error, why))
+                Err(self.fail(path, &error, &why))
             }
         }
     }

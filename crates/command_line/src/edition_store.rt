@@ -200,7 +200,10 @@ impl<'a, R: Files + AllocGlobal + Clone + Drop> FolderFiles<'a, R> {
     // The fault of a call on a file of the folder.
     fn fault_at(&mut self, alloc: Global, name: &str, error: &io::Error) -> StoreFault {
         match path_in(alloc, self.path, name) {
-            Ok(path) => self.fail(path, error, unwritten(error)),
+            Ok(path) => {
+                let why = unwritten(error);
+                self.fail(path, error, &why)
+            }
             Err(_) => StoreFault::Memory,
         }
     }

@@ -141,7 +141,10 @@ fn open_folder<R: Files<File = File>>(
             found: Found::Missing,
         });
     }
-    make_folder(rt, folder)?;
+    match make_folder(rt, folder) {
+        Ok(()) => {}
+        Err(shut) => return Err(shut),
+    }
     let lock = match lock(rt, alloc, folder) {
         Ok(lock) => Some(lock),
         Err(error) => return Err(shut_by("lock", &error)),
