@@ -14,8 +14,8 @@ use Rattle.edition_checks.specs.Served.{IsUnchanged, IsCertOf, IsServed}
 pub unchanged : (old new : SeenFolder) → IsLater old new → old.held ≡ true → IsUnchanged old new
 unchanged old new later held = record { held = later.held ∙ held; same = later.same held }
 
-pub unchanged_then : (a b c : SeenFolder) → IsUnchanged a b → IsUnchanged b c → IsUnchanged a c
-unchanged_then a b c one two = record { held = two.held; same = two.same ∙ one.same }
+pub later_then : (a b c : SeenFolder) → IsLater a b → IsLater b c → IsLater a c
+later_then a b c one two = record { held = two.held ∙ one.held; same = λ held. two.same (one.held ∙ held) ∙ one.same held }
 
 -- what holds of a folder now held of it before
 pub before : (o p : Option FolderState) (P : FolderState → Type 0) → p ≡ o → IfSome p P → IfSome o P

@@ -1,5 +1,5 @@
 -- The edition that is served, and whether another may follow it.
-use Rattle.std.specs.Prelude.{◌≡◌, ℕ, List, true, Option, Some, Ok}
+use Rattle.std.specs.Prelude.{◌≡◌, ℕ, List, true, Option, Some, Ok, IfSome}
 use Rattle.base_text.specs.Whole.{IsTextBase}
 use Rattle.cert_text.specs.Grammar.{IsCertificateText}
 use Rattle.cert_table.specs.Table.{CertView}
@@ -15,11 +15,26 @@ pub record IsUnchanged (old new : SeenFolder) : Type 0 where
   pub held : new.held ≡ true
   pub same : new.state ≡ old.state
 
+-- what holds of the folder before a call, if nobody else changes it
+abbrev pub IfHeld : SeenFolder → (FolderState → Type 0) → Type 0
+IfHeld seen P = seen.held ≡ true → IfSome seen.state P
+
 -- the text of an edition's certificate is there, and is this certificate's
 pub record IsCertOf (f : FolderState) (number : ℕ) (cert : CertView) : Type 0 where
   pub text : List ℕ
   pub there : file_at f number Cert ≡ Some text
   pub is : IsCertificateText text cert
+
+-- the certificate has a text
+pub record HasCertText (cert : CertView) : Type 0 where
+  pub text : List ℕ
+  pub is : IsCertificateText text cert
+
+-- texts that were read as an edition's mean what was read of them
+pub record IsReadEdition (s : Served) : Type 0 where
+  pub of_base : IsTextBase s.base_text.items s.base
+  pub of_cert : HasCertText s.cert
+  pub of_policy : policy_in s.policy_text.items ≡ Ok s.policy
 
 -- the texts of the edition of this number are there, and mean what was read of them
 pub record IsServed (f : FolderState) (s : Served) : Type 0 where

@@ -4,8 +4,8 @@ ghost use Rattle.std.specs.Prelude.{◌≡◌, true, Ok, Some, IfOk, IfSome};
 ghost use Rattle.base_text.specs.Whole.{IsTextBase};
 ghost use Rattle.cert_text.specs.Grammar.{IsCertificateText};
 ghost use Rattle.policy_text.specs.Policies.{policy_in};
-ghost use Rattle.editions.specs.Folders.{file_at};
-ghost use Rattle.edition_checks.specs.Served.{IsUnchanged, IsCertOf, IsServed};
+ghost use Rattle.editions.specs.Folders.{IsLater, file_at};
+ghost use Rattle.edition_checks.specs.Served.{IsUnchanged, IfHeld, IsCertOf, HasCertText, IsReadEdition, IsServed};
 
 use cert_table::Certificate;
 use checker::{InputFault, Policy, base_of, cert_of};
@@ -45,10 +45,8 @@ fn read_text<F: EditionFolder>(
     number: u32,
     file: EditionFile,
 ) -> Result<Vec<u8>, ServedFault>
-    requires { (F.seen folder.old).held ≡ true }
-    ensures unchanged { IsUnchanged (F.seen folder.old) (F.seen folder.new) }
-    ensures there { IfOk result (λ text. IfSome (F.seen folder.old).state (λ f. file_at f number file ≡
-        Some text.items)) }
+    ensures later { IsLater (F.seen folder.old) (F.seen folder.new) }
+    ensures there { IfOk result (λ text. IfHeld (F.seen folder.old) (λ f. file_at f number file ≡ Some text.items)) }
 {
     match folder.read_file(alloc, number, file) {
         Ok(Some(text)) => Ok(text),
@@ -94,9 +92,8 @@ fn read_base<F: EditionFolder>(
     folder: &mut F,
     number: u32,
 ) -> Result<(Vec<u8>, Base), ServedFault>
-    requires { (F.seen folder.old).held ≡ true }
-    ensures unchanged { IsUnchanged (F.seen folder.old) (F.seen folder.new) }
-    ensures there { IfOk result (λ read. IfSome (F.seen folder.old).state (λ f. file_at f number EditionFile.Base ≡
+    ensures later { IsLater (F.seen folder.old) (F.seen folder.new) }
+    ensures there { IfOk result (λ read. IfHeld (F.seen folder.old) (λ f. file_at f number EditionFile.Base ≡
         Some read.0.items)) }
     ensures is { IfOk result (λ read. IsTextBase read.0.items read.1) }
 {
@@ -116,9 +113,9 @@ fn read_cert<F: EditionFolder>(
     folder: &mut F,
     number: u32,
 ) -> Result<Certificate, ServedFault>
-    requires { (F.seen folder.old).held ≡ true }
-    ensures unchanged { IsUnchanged (F.seen folder.old) (F.seen folder.new) }
-    ensures is { IfOk result (λ cert. IfSome (F.seen folder.old).state (λ f. IsCertOf f number cert)) }
+    ensures later { IsLater (F.seen folder.old) (F.seen folder.new) }
+    ensures there { IfOk result (λ cert. IfHeld (F.seen folder.old) (λ f. IsCertOf f number cert)) }
+    ensures is { IfOk result HasCertText }
 {
     let text = match read_text(alloc, folder, number, EditionFile::Cert) {
         Ok(text) => text,
@@ -136,9 +133,8 @@ fn read_policy<F: EditionFolder>(
     folder: &mut F,
     number: u32,
 ) -> Result<(Vec<u8>, Policy), ServedFault>
-    requires { (F.seen folder.old).held ≡ true }
-    ensures unchanged { IsUnchanged (F.seen folder.old) (F.seen folder.new) }
-    ensures there { IfOk result (λ read. IfSome (F.seen folder.old).state (λ f. file_at f number EditionFile.Policy ≡
+    ensures later { IsLater (F.seen folder.old) (F.seen folder.new) }
+    ensures there { IfOk result (λ read. IfHeld (F.seen folder.old) (λ f. file_at f number EditionFile.Policy ≡
         Some read.0.items)) }
     ensures is { IfOk result (λ read. policy_in read.0.items ≡ Ok read.1) }
 {
@@ -152,15 +148,17 @@ fn read_policy<F: EditionFolder>(
     }
 }
 
-/// Reads an edition of a folder, of which the lock is held.
-pub fn read_served<F: EditionFolder>(
+/// Reads an edition of a folder. Without the folder's lock others may publish meanwhile; an edition that is there stays as it is.
+pub fn read_edition<F: EditionFolder>(
     alloc: Global,
     folder: &mut F,
     number: u32,
 ) -> Result<Served, ServedFault>
-    requires { (F.seen folder.old).held ≡ true }
-    ensures unchanged { IsUnchanged (F.seen folder.old) (F.seen folder.new) }
-    ensures served { IfOk result (λ s. IfSome (F.seen folder.old).state (λ f. IsServed f s)) }
+    ensures later { IsLater (F.seen folder.old) (F.seen folder.new) }
+    ensures read { IfOk result IsReadEdition }
+
+    // With the lock: these are its texts.
+    ensures served { IfOk result (λ s. IfHeld (F.seen folder.old) (λ f. IsServed f s)) }
     ensures number { IfOk result (λ s. s.number ≡ number) }
 {
     let (base_text, base) = match read_base(alloc, folder, number) {
@@ -183,4 +181,18 @@ pub fn read_served<F: EditionFolder>(
         cert,
         policy,
     })
+}
+
+/// Reads an edition of a folder, of which the lock is held.
+pub fn read_served<F: EditionFolder>(
+    alloc: Global,
+    folder: &mut F,
+    number: u32,
+) -> Result<Served, ServedFault>
+    requires { (F.seen folder.old).held ≡ true }
+    ensures unchanged { IsUnchanged (F.seen folder.old) (F.seen folder.new) }
+    ensures served { IfOk result (λ s. IfSome (F.seen folder.old).state (λ f. IsServed f s)) }
+    ensures number { IfOk result (λ s. s.number ≡ number) }
+{
+    read_edition(alloc, folder, number)
 }

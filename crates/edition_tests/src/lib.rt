@@ -1,11 +1,15 @@
-//! Tests of `policy_text`, `editions` and `edition_checks`.
+//! Tests of `policy_text`, `editions`, `edition_checks` and `publishing`.
 #![tactic(auto)]
 
 #[cfg(test)]
 mod fake_folder;
 #[cfg(test)]
+mod memory_store;
+#[cfg(test)]
+mod moments;
+#[cfg(test)]
 mod policies;
 #[cfg(test)]
-mod publishing;
+mod runs;
 #[cfg(test)]
 mod texts;

@@ -1,0 +1,54 @@
+//! Texts with their slips fixed.
+
+use checker::Policy;
+use frame_records::{Groups, Pence};
+use slip_fixes::fix_slips;
+use std::alloc::Global;
+use std::test::Fail;
+use test_support::same_in;
+
+pub fn widest() -> Policy {
+    Policy {
+        ceiling: Pence::of(9_999),
+        keyings: 65_535,
+        groups: Groups::none(),
+    }
+}
+
+// A text, what it is with its slips fixed, and how many they are.
+fn is_fixed(alloc: Global, text: &str, wanted: &str, fixes: usize) -> Result<(), Fail> {
+    let fixed = fix_slips(alloc, text.as_bytes(), &widest())?;
+    same_in(text, fixed.text.as_slice(), wanted.as_bytes())?;
+    same_in(text, fixed.fixes, fixes)
+}
+
+#[test]
+fn slips_of_values_are_fixed_in_one_round(rt: HostRuntime) -> Result<(), Fail> {
+    let text =
+        "entry = \"820\" # first\r\noutside = 0\n[[frame]]\nid = \"820A\"\npirce = '5'\nrows = [\"£5\"]\n";
+    let wanted =
+        "entry = 820 # first\r\noutside = [0]\n[[frame]]\nid = \"820a\"\nprice = 5\nrows = [\"#5\"]\n";
+    is_fixed(rt.alloc(), text, wanted, 6)
+}
+
+#[test]
+fn each_slip_of_what_is_no_toml_takes_a_round(rt: HostRuntime) -> Result<(), Fail> {
+    let text =
+        "entry: 0820\n[[frame]]\nid = \"820a\"\nnext = TRUE\nrows = [\"\\u82SEA\", \"\\U0081\"]\n";
+    let wanted =
+        "entry = 820\n[[frame]]\nid = \"820a\"\nnext = true\nrows = [\"\\u0082SEA\", \"\\u0081\"]\n";
+    is_fixed(rt.alloc(), text, wanted, 5)
+}
+
+#[test]
+fn text_without_a_certain_fix_stays(rt: HostRuntime) -> Result<(), Fail> {
+    let text =
+        "entry = 820\nprise = 5\n[[frame]]\nid = \"0820a\"\nprice = 1.5\nrows = [\"\\u82A\"]\n";
+    is_fixed(rt.alloc(), text, text, 0)
+}
+
+#[test]
+fn fix_after_which_less_is_read_is_not_made(rt: HostRuntime) -> Result<(), Fail> {
+    let text = "entry = 820\n[[frame]]\nid = \"820a\"\nprice = 5\npirce = 6\nrows = []\n";
+    is_fixed(rt.alloc(), text, text, 0)
+}

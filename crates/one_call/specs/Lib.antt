@@ -1,0 +1,6 @@
+pub mod Turns
+pub mod Lines
+pub mod Opened
+pub mod Safety
+pub mod Calls
+pub mod Loops

@@ -1,0 +1,39 @@
+-- The edition that is served.
+use Rattle.std.specs.Prelude.{◌≡◌, ℕ, List, Some}
+use Rattle.frame_records.specs.Bases.{AreApart}
+use Rattle.checker.specs.declared.verdict.Cause.{Cause}
+use Rattle.checker.specs.declared.verdict.Verdict.TheVariants as verdicts
+use Rattle.checker.specs.Verdict.{verdict}
+use Rattle.editions.specs.Folders.{FolderState, SeenFolder}
+use Rattle.editions.specs.NumberLines.{current_in}
+use Rattle.edition_checks.specs.declared.served.Served.{Served}
+use Rattle.edition_checks.specs.Served.{IfHeld, IsReadEdition, IsServed}
+
+-- `current` names this number
+pub record NamesCurrent (number : ℕ) (f : FolderState) : Type 0 where
+  pub text : List ℕ
+  pub current : f.current ≡ Some text
+  pub named : current_in text ≡ Some number
+
+-- `current` names the edition, and its texts are there
+pub record IsCurrentIn (f : FolderState) (s : Served) : Type 0 where
+  pub named : NamesCurrent s.number f
+  pub served : IsServed f s
+
+-- an edition that was read; if nobody else changes the folder, it is the current one
+pub record IsCurrentRead (folder : SeenFolder) (s : Served) : Type 0 where
+  pub read : IsReadEdition s
+  pub current : IfHeld folder (λ f. IsCurrentIn f s)
+
+-- and the check cleared it by its own policy
+pub record IsToServe (folder : SeenFolder) (s : Served) : Type 0 where
+  pub is : IsCurrentRead folder s
+  pub cleared : verdict s.base s.policy s.cert ≡ verdicts.Cleared
+  pub apart : AreApart s.base
+
+-- or refused it for a cause
+pub record IsToRefuse (folder : SeenFolder) (number : ℕ) (cause : Cause) : Type 0 where
+  pub served : Served
+  pub is : IsCurrentRead folder served
+  pub is_number : served.number ≡ number
+  pub refused : verdict served.base served.policy served.cert ≡ verdicts.Refused cause

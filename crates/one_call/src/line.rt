@@ -1,0 +1,92 @@
+//! A call of one edition on a line.
+
+ghost use Rattle.std.specs.Prelude.{◌≡◌, false, IfOk, OnOk};
+ghost use Rattle.one_call.specs.Lines.{IsLineServed};
+ghost use Rattle.one_call.specs.Loops.{IsBegun, IsByteAnswered};
+
+use crate::caller::OneCall;
+use crate::fault::ServeFault;
+use devices::{Sink, Source, write_whole};
+use frame_records::{Base, Groups};
+use std::alloc::Global;
+
+// Begins the call, and writes its first bytes.
+fn begin<W: Sink>(
+    alloc: Global,
+    base: &Base,
+    groups: &Groups,
+    sink: &mut W,
+) -> Result<OneCall, ServeFault>
+    requires { (W.seen sink.old).failed ≡ false }
+    ensures { IsBegun groups.now base.now (W.seen sink.old) (W.seen sink.new) result }
+{
+    let mut text = Vec::new(alloc);
+    let call = match OneCall::begin(alloc, &mut text, base, groups) {
+        Ok(call) => call,
+        Err(fault) => return Err(fault),
+    };
+    match write_whole(sink, text.as_slice()) {
+        Ok(()) => Ok(call),
+        Err(_) => Err(ServeFault::Write),
+    }
+}
+
+// Hears a byte, and writes what it asks for.
+fn answer<W: Sink>(
+    alloc: Global,
+    base: &Base,
+    call: &mut OneCall,
+    byte: u8,
+    sink: &mut W,
+) -> Result<(), ServeFault>
+    requires open { (W.seen sink.old).failed ≡ false }
+    requires goes_on { call.old.over ≡ false }
+    ensures { IsByteAnswered base.now call.old byte (W.seen sink.old) (W.seen sink.new) call.new result }
+{
+    let mut text = Vec::new(alloc);
+    match call.hear(alloc, &mut text, base, byte) {
+        Ok(()) => {}
+        Err(_) => return Err(ServeFault::Memory),
+    }
+    match write_whole(sink, text.as_slice()) {
+        Ok(()) => Ok(()),
+        Err(_) => Err(ServeFault::Write),
+    }
+}
+
+/// Serves a call of a caller of these groups: the entry frame, and then an answer for each byte that asks for one, until the caller
+/// leaves, keys `*90#`, or the source is at its end. Each answer is written and flushed before the next byte is read, of which one is
+/// asked for at a time.
+pub fn serve_line<R: Source, W: Sink>(
+    alloc: Global,
+    base: &Base,
+    groups: &Groups,
+    source: &mut R,
+    sink: &mut W,
+) -> Result<(), ServeFault>
+    requires reads { (R.seen source.old).failed ≡ false }
+    requires writes { (W.seen sink.old).failed ≡ false }
+    ensures { IsLineServed groups.now base.now (R.seen source.old) (R.seen source.new)
+        (W.seen sink.old) (W.seen sink.new) result }
+{
+    let mut call = match begin(alloc, base, groups, sink) {
+        Ok(call) => call,
+        Err(fault) => return Err(fault),
+    };
+    let mut byte = [0; 1];
+    for _ in 0..u64::MAX {
+        if call.is_over() {
+            return Ok(());
+        }
+        match source.read(&mut byte) {
+            Ok(0) => return Ok(()),
+            Ok(_) => {}
+            Err(_) => return Err(ServeFault::Read),
+        }
+        match answer(alloc, base, &mut call, byte[0], sink) {
+            Ok(()) => {}
+            Err(fault) => return Err(fault),
+        }
+    }
+    Err(ServeFault::Read)
+}

@@ -1,0 +1,2 @@
+pub mod PublishLaws
+pub mod ServingLaws

@@ -1,0 +1,4 @@
+pub mod ExitStatus
+pub mod Loops
+pub mod Publishing
+pub mod Serving

@@ -1,0 +1,81 @@
+-- Rounds of fixes.
+use Rattle.std.specs.Prelude.{◌≡◌, ℕ, zero, suc, ◌+◌, ◌-◌, ◌^◌, Bool, true, false, min, nat_lt, nat_le, List, [], ◌∷◌, ◌++◌, length, Option, Some, None, if◌then◌else◌}
+use Rattle.checker.specs.declared.policy.Policy.{Policy}
+use Rattle.lint_words.specs.declared.code.Code.{Code}
+use Rattle.lint_words.specs.declared.code.Code.TheVariants.{NotToml, TooLong}
+use Rattle.lint.specs.Findings.{FindingView}
+use Rattle.lint.specs.Lint.{IsLint}
+use Rattle.text_edits.specs.Edits.{ReplacementView, edited}
+use Rattle.slip_fixes.specs.Certain.{certain_fix}
+
+-- the fix, unless it begins before a place
+abbrev pub first_fix : ℕ → Option ReplacementView → List ReplacementView
+first_fix at None = []
+first_fix at (Some r) = if nat_le at r.begin then r ∷ [] else []
+
+-- where the next one may begin
+abbrev pub end_after : ℕ → Option ReplacementView → ℕ
+end_after at None = at
+end_after at (Some r) = if nat_le at r.begin then r.end else at
+
+abbrev pub fixes_from : List ℕ → ℕ → List FindingView → List ReplacementView
+fixes_from text at [] = []
+fixes_from text at (f ∷ fs) = first_fix at (certain_fix text f) ++ fixes_from text (end_after at (certain_fix text f)) fs
+
+-- the certain fixes of findings, but for those that begin within one before
+abbrev pub fixes_of : List ℕ → List FindingView → List ReplacementView
+fixes_of text findings = fixes_from text 0 findings
+
+-- up to where TOML reads the text with these findings, if it doesn't read all of it
+abbrev pub reads_up_to : Code → ℕ → Option ℕ
+reads_up_to NotToml at = Some at
+reads_up_to TooLong at = Some 0
+reads_up_to _ at = None
+
+abbrev pub reads_to : List FindingView → Option ℕ
+reads_to [] = None
+reads_to (f ∷ fs) = reads_up_to f.words.code f.span.begin
+
+abbrev pub is_further : Option ℕ → Option ℕ → Bool
+is_further old None = true
+is_further None (Some new) = false
+is_further (Some old) (Some new) = nat_lt old new
+
+abbrev pub reads_further : List FindingView → List FindingView → Bool
+reads_further old new = is_further (reads_to old) (reads_to new)
+
+-- the text with the certain fixes of its findings made, and nothing else changed; how many they are
+pub record IsNext (text : List ℕ) (findings : List FindingView) (new : List ℕ) (number : ℕ) : Type 0 where
+  pub edits : edited text (fixes_of text findings) ≡ Some new
+  pub count : number ≡ length (fixes_of text findings)
+
+-- as many fixes more, as far as a number of 64 bits can say
+abbrev pub fixes_after : ℕ → ℕ → ℕ
+fixes_after fixes count = min (fixes + count) (2 ^ 64 - 1)
+
+-- a round: all certain fixes of what lint finds are made, and TOML reads the new text further, or all of it
+pub record IsRound (policy : Policy) (text new : List ℕ) (count : ℕ) : Type 0 where
+  pub findings : List FindingView
+  pub found : IsLint text policy findings
+  pub next : IsNext text findings new count
+  pub after : List FindingView
+  pub found_after : IsLint new policy after
+  pub further : reads_further findings after ≡ true
+
+-- a last round after others
+pub record ThenRound (policy : Policy) (before : List ℕ → ℕ → Type 0) (new : List ℕ) (fixes : ℕ) : Type 0 where
+  pub text : List ℕ
+  pub earlier : ℕ
+  pub count : ℕ
+  pub rounds : before text earlier
+  pub round : IsRound policy text new count
+  pub sum : fixes ≡ fixes_after earlier count
+
+abbrev pub AreRounds : Policy → List ℕ → ℕ → List ℕ → ℕ → Type 0
+AreRounds policy old zero new fixes = (new ≡ old) × (fixes ≡ 0)
+AreRounds policy old (suc n) new fixes = ThenRound policy (AreRounds policy old n) new fixes
+
+-- the last text of some rounds that begin with the old one, and the fixes of all of them
+pub record IsFixed (policy : Policy) (old new : List ℕ) (fixes : ℕ) : Type 0 where
+  pub number : ℕ
+  pub rounds : AreRounds policy old number new fixes

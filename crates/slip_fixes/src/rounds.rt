@@ -1,0 +1,142 @@
+//! Rounds of fixes: each makes all certain fixes of a text's findings, and reads what comes of it.
+
+ghost use Rattle.std.specs.Prelude.{◌≡◌, IfOk, IfSome, option_map};
+ghost use Rattle.slip_fixes.specs.Rounds.{first_fix, end_after, fixes_from, fixes_of, reads_to, reads_further, IsNext, IsFixed};
+ghost use Rattle.slip_fixes.specs.Loops.{IsAdvanced};
+
+use crate::certain::certain_fix;
+use checker::Policy;
+use lint::{Finding, lint};
+use lint_words::Code;
+use std::alloc::{AllocError, Global};
+use text_edits::{Replacement, edited};
+
+// A base's text has fewer bytes than this many slips could have.
+const MOST_ROUNDS: u32 = 16_777_216;
+
+/// A text in which certain slips are fixed.
+#[derive(Debug, Drop)]
+pub struct Fixed {
+    pub text: Vec<u8>,
+    /// How many fixes were made.
+    pub fixes: usize,
+}
+
+// A text on the way, and what is found in it.
+#[derive(Drop)]
+struct Attempt {
+    text: Vec<u8>,
+    findings: Vec<Finding>,
+    fixes: usize,
+}
+
+// The certain fixes of findings, in order, but for those that begin within one before.
+fn fixes_of(
+    alloc: Global,
+    text: &[u8],
+    findings: &[Finding],
+) -> Result<Vec<Replacement>, AllocError>
+    ensures { IfOk result (λ fixes. fixes.items ≡ fixes_of text.now findings.now) }
+{
+    let mut fixes = Vec::new(alloc);
+    let mut at = 0;
+    let mut rest = findings;
+    while let Some((finding, others)) = rest.split_first() {
+        if let Some(fix) = certain_fix(alloc, text, finding)? {
+            if at <= fix.begin {
+                at = fix.end;
+                fixes.push(fix)?;
+            }
+        }
+        rest = others;
+    }
+    Ok(fixes)
+}
+
+// Up to where TOML reads the text that has these findings; `None` if it reads all of it.
+fn reads_to(findings: &[Finding]) -> Option<usize>
+    ensures { result ≡ reads_to findings.now }
+{
+    match findings.split_first() {
+        Some((first, _)) => match first.words.code() {
+            Code::NotToml => Some(first.span.begin),
+            Code::TooLong => Some(0),
+            _ => None,
+        },
+        None => None,
+    }
+}
+
+// Whether TOML reads more of the text with the second findings, or all of it.
+fn reads_further(old: &[Finding], new: &[Finding]) -> bool
+    ensures { result ≡ reads_further old.now new.now }
+{
+    match (reads_to(old), reads_to(new)) {
+        (_, None) => true,
+        (None, Some(_)) => false,
+        (Some(old), Some(new)) => old < new,
+    }
+}
+
+// The text with the certain fixes of its findings made, and their number; `None` if there are none.
+fn next_text(
+    alloc: Global,
+    text: &[u8],
+    findings: &[Finding],
+) -> Result<Option<(Vec<u8>, usize)>, AllocError>
+    ensures { IfOk result (λ next. IfSome next (λ n. IsNext text.now findings.now n.0.items n.1)) }
+{
+    let fixes = fixes_of(alloc, text, findings)?;
+    if fixes.is_empty() {
+        return Ok(None);
+    }
+    match edited(alloc, text, fixes.as_slice())? {
+        Some(new) => Ok(Some((new, fixes.len()))),
+        None => Ok(None),
+    }
+}
+
+// The next text, if there is something to fix and TOML doesn't read less of it.
+fn advanced(alloc: Global, state: &Attempt, policy: &Policy) -> Result<Option<Attempt>, AllocError>
+    ensures { IfOk result (λ next. IfSome next (IsAdvanced policy.now state.now)) }
+{
+    let Some((text, fixes)) = next_text(alloc, state.text.as_slice(), state.findings.as_slice())?
+    else {
+        return Ok(None);
+    };
+    let findings = lint(alloc, text.as_slice(), policy)?;
+    if !reads_further(state.findings.as_slice(), findings.as_slice()) {
+        return Ok(None);
+    }
+    let fixes = state.fixes.saturating_add(fixes);
+    Ok(Some(Attempt {
+        text,
+        findings,
+        fixes,
+    }))
+}
+
+/// A base's text with its certain slips fixed, round after round, as long as there are some. A round after which TOML reads less of
+/// the text, or no more of a text that isn't TOML, isn't made: it would have put another fault in the slip's place.
+///
+/// Each round lints the text once. Of a text that isn't TOML there is a round for each slip.
+pub fn fix_slips(alloc: Global, text: &[u8], policy: &Policy) -> Result<Fixed, AllocError>
+    ensures { IfOk result (λ f. IsFixed policy.now text.now f.text.items f.fixes) }
+{
+    let findings = lint(alloc, text, policy)?;
+    let mut copy = Vec::new(alloc);
+    copy.extend_from_slice(text)?;
+    let mut state = Attempt {
+        text: copy,
+        findings,
+        fixes: 0,
+    };
+    for _ in 0..MOST_ROUNDS {
+        match advanced(alloc, &state, policy)? {
+            Some(next) => state = next,
+            None => break,
+        }
+    }
+    let Attempt { text, fixes, .. } = state;
+    Ok(Fixed { text, fixes })
+}
