@@ -4,7 +4,7 @@
 
 ghost use Rattle.std.specs.Prelude.{◌≡◌, true, None};
 
-use crate::named_files::{Unfinished, unread};
+use crate::named_files::{Unfinished, unread, unwritten};
 use audit_report::{FromRead, SourceFault, read_whole};
 use base_text::MOST_TEXT;
 use editions::{EditionFile, EditionFolder, StoreFault};
@@ -68,12 +68,27 @@ impl<'a, R: Files> FolderFiles<'a, R> {
         }
     }
 
-    /// Keeps why a call failed.
-    pub fn fail(&mut self, path: String, error: &io::Error, why: &Unfinished) -> StoreFault {
+    /// Keeps why a file can't be read.
+    pub fn fail_read(&mut self, path: String, error: &io::Error) -> StoreFault
+        ensures held { self.new.held ≡ self.old.held }
+    {
         if error.kind() == io::ErrorKind::OutOfMemory {
             return StoreFault::Memory;
         }
-        self.failed = Some(Failed { path, why: *why });
+        let why = unread(error);
+        self.failed = Some(Failed { path, why });
+        StoreFault::Broken
+    }
+
+    /// Keeps why a file can't be written.
+    pub fn fail_write(&mut self, path: String, error: &io::Error) -> StoreFault
+        ensures held { self.new.held ≡ self.old.held }
+    {
+        if error.kind() == io::ErrorKind::OutOfMemory {
+            return StoreFault::Memory;
+        }
+        let why = unwritten(error);
+        self.failed = Some(Failed { path, why });
         StoreFault::Broken
     }
 
@@ -83,7 +98,9 @@ impl<'a, R: Files> FolderFiles<'a, R> {
         alloc: Global,
         path: String,
         most: usize,
-    ) -> Result<Option<Vec<u8>>, StoreFault> {
+    ) -> Result<Option<Vec<u8>>, StoreFault>
+        ensures held { self.new.held ≡ self.old.held }
+    {
         match fs::open(self.rt, path.as_str()) {
             Ok(file) => match read_whole(alloc, &mut FromRead::new(file), most) {
                 Ok(bytes) => Ok(Some(bytes)),
@@ -97,10 +114,7 @@ impl<'a, R: Files> FolderFiles<'a, R> {
                 }
             },
             Err(error) if error.kind() == io::ErrorKind::NotFound => Ok(None),
-            Err(error) => {
-                let why = unread(&error);
-                Err(self.fail(path, &error, &why))
-            }
+            Err(error) => Err(self.fail_read(path, &error)),
         }
     }
 
@@ -110,7 +124,9 @@ impl<'a, R: Files> FolderFiles<'a, R> {
         alloc: Global,
         name: &str,
         most: usize,
-    ) -> Result<Option<Vec<u8>>, StoreFault> {
+    ) -> Result<Option<Vec<u8>>, StoreFault>
+        ensures held { self.new.held ≡ self.old.held }
+    {
         match path_in(alloc, self.path, name) {
             Ok(path) => self.read_path(alloc, path, most),
             Err(_) => Err(StoreFault::Memory),

@@ -7,7 +7,6 @@ ghost use Rattle.std.specs.Prelude.{◌≡◌, true};
 ghost use Rattle.editions.specs.Folders.{FolderStep, RemoveParts, WriteEdition, SetCurrent, IsLater, TakesStep};
 
 use crate::edition_folder::{FolderFiles, edition_path, path_in};
-use crate::named_files::unwritten;
 use editions::{EditionFile, EditionStore, MOST_EDITION, StoreFault, WholeEdition, current_text};
 use page_ids::number_read;
 use std::alloc::{AllocError, Global};
@@ -198,12 +197,11 @@ fn remove_all_parts<R: Files + AllocGlobal + Clone + Drop>(
 
 impl<'a, R: Files + AllocGlobal + Clone + Drop> FolderFiles<'a, R> {
     // The fault of a call on a file of the folder.
-    fn fault_at(&mut self, alloc: Global, name: &str, error: &io::Error) -> StoreFault {
+    fn fault_at(&mut self, alloc: Global, name: &str, error: &io::Error) -> StoreFault
+        ensures held { self.new.held ≡ self.old.held }
+    {
         match path_in(alloc, self.path, name) {
-            Ok(path) => {
-                let why = unwritten(error);
-                self.fail(path, error, &why)
-            }
+            Ok(path) => self.fail_write(path, error),
             Err(_) => StoreFault::Memory,
         }
     }
