@@ -43,7 +43,7 @@ IsSeenAs groups base bytes t =
     run t (call_bytes groups base bytes)
     ≡ with_texts (top_after groups base (call_keys groups base bytes)) (bottom_text (call_after base (begun_call groups base) bytes)) (shown_terminal groups base (call_keys groups base bytes))
 
--- of every base, cleared or not
+-- for each base, cleared or not
 abbrev pub CallsAreSeen : Type 0
 CallsAreSeen = (groups : List ℕ) (base : BaseView) (bytes : List ℕ) (t : Screen) → IsSeenAs groups base bytes t
 

@@ -41,14 +41,14 @@ pub enum PublishFault {
     Memory,
 }
 
-pub fn store_fault(fault: StoreFault) -> PublishFault {
+pub(crate) fn store_fault(fault: StoreFault) -> PublishFault {
     match fault {
         StoreFault::Broken => PublishFault::Folder,
         StoreFault::Memory => PublishFault::Memory,
     }
 }
 
-pub fn served_fault(number: u32, fault: ServedFault) -> PublishFault {
+pub(crate) fn served_fault(number: u32, fault: ServedFault) -> PublishFault {
     match fault {
         ServedFault::Missing(file) => PublishFault::Missing(number, file),
         ServedFault::Unread(file) => PublishFault::Unread(number, file),
@@ -57,7 +57,7 @@ pub fn served_fault(number: u32, fault: ServedFault) -> PublishFault {
     }
 }
 
-pub fn put_fault(fault: PutFault) -> PublishFault {
+pub(crate) fn put_fault(fault: PutFault) -> PublishFault {
     match fault {
         PutFault::Full => PublishFault::Full,
         PutFault::Folder => PublishFault::Folder,

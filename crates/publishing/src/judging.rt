@@ -16,7 +16,7 @@ use policy_text::{PolicyFault, policy_read};
 use std::alloc::{AllocError, Global};
 
 /// Adds to what is printed.
-pub fn say(said: &mut Vec<u8>, text: &[u8]) -> Result<(), PublishFault> {
+pub(crate) fn say(said: &mut Vec<u8>, text: &[u8]) -> Result<(), PublishFault> {
     match said.extend_from_slice(text) {
         Ok(()) => Ok(()),
         Err(_) => Err(PublishFault::Memory),
@@ -77,7 +77,7 @@ fn push_findings(
 }
 
 /// Prints the findings of a base's text; their numbers if they stop the publish.
-pub fn lint_base(
+pub(crate) fn lint_base(
     alloc: Global,
     said: &mut Vec<u8>,
     asked: &Publish<'_>,
@@ -96,7 +96,7 @@ pub fn lint_base(
 }
 
 /// Why there is no candidate after a lint without errors: memory, or what no audit does.
-pub fn candidate_fault(fault: CandidateFault) -> PublishFault {
+pub(crate) fn candidate_fault(fault: CandidateFault) -> PublishFault {
     match fault {
         CandidateFault::Memory => PublishFault::Memory,
         _ => PublishFault::Uncertified,
@@ -104,7 +104,7 @@ pub fn candidate_fault(fault: CandidateFault) -> PublishFault {
 }
 
 /// The number of the edition that is served, if it has these texts.
-pub fn number_of_same(served: &Option<Served>, base: &[u8], policy: &[u8]) -> Option<u32> {
+pub(crate) fn number_of_same(served: &Option<Served>, base: &[u8], policy: &[u8]) -> Option<u32> {
     match served {
         Some(served)
             if served.base_text.as_slice() == base && served.policy_text.as_slice() == policy => {

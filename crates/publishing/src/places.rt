@@ -76,7 +76,7 @@ fn fault_lines(
 }
 
 /// The lines of a fault of a policy's text: its place, what is wrong, what helps, the line of the text and a caret below it.
-pub fn push_policy_fault(
+pub(crate) fn push_policy_fault(
     alloc: Global,
     out: &mut Vec<u8>,
     path: &str,

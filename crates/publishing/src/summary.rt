@@ -149,7 +149,11 @@ fn push_differences(
 
 /// The number of frames of a base, and how it differs from the one that is served: `79 frames, 2 new (4783a 4783b), 5 changed,
 /// prices 4785a 10p -> 15p`. At most eight frames of a kind are named.
-pub fn summary(alloc: Global, served: &Option<Served>, new: &Base) -> Result<Vec<u8>, AllocError> {
+pub(crate) fn summary(
+    alloc: Global,
+    served: &Option<Served>,
+    new: &Base,
+) -> Result<Vec<u8>, AllocError> {
     let mut out = Vec::new(alloc);
     push_count(&mut out, new.frames().len(), b"frames")?;
     if let Some(served) = served {
@@ -159,7 +163,7 @@ pub fn summary(alloc: Global, served: &Option<Served>, new: &Base) -> Result<Vec
 }
 
 /// The lines of an edition: its number, the summary and the verdict.
-pub fn push_edition(
+pub(crate) fn push_edition(
     out: &mut Vec<u8>,
     number: u32,
     summary: &[u8],
@@ -175,14 +179,14 @@ pub fn push_edition(
 }
 
 /// Says that an edition with these texts is served.
-pub fn push_already(out: &mut Vec<u8>, number: u32) -> Result<(), AllocError> {
+pub(crate) fn push_already(out: &mut Vec<u8>, number: u32) -> Result<(), AllocError> {
     out.extend_from_slice(b"edition ")?;
     push_number(out, u64::from(number))?;
     out.extend_from_slice(b" is served already\n")
 }
 
 /// Says that the policy is for callers of other groups.
-pub fn push_other_groups(out: &mut Vec<u8>, number: u32) -> Result<(), AllocError> {
+pub(crate) fn push_other_groups(out: &mut Vec<u8>, number: u32) -> Result<(), AllocError> {
     out.extend_from_slice(b"policy.toml has other groups than edition ")?;
     push_number(out, u64::from(number))?;
     out.extend_from_slice(b": callers of other groups have a folder of their own\nREFUSED\n")
@@ -230,7 +234,7 @@ fn push_moved(out: &mut Vec<u8>, old: &Base, new: &Base) -> Result<(), AllocErro
 }
 
 /// What callers who are inside would lose, and the verdict's line.
-pub fn push_refusal(
+pub(crate) fn push_refusal(
     alloc: Global,
     out: &mut Vec<u8>,
     served: &Option<Served>,
