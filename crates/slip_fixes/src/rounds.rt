@@ -11,7 +11,7 @@ use lint_words::Code;
 use std::alloc::{AllocError, Global};
 use text_edits::{Replacement, edited};
 
-// A base's text has fewer bytes than this many slips could have.
+// No base's text has more bytes, and a slip has at least one.
 const MOST_ROUNDS: u32 = 16_777_216;
 
 /// A text in which certain slips are fixed.
