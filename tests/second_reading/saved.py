@@ -13,16 +13,25 @@ from .screens import cells_after_bytes
 ROW = 40
 BLANK = b" " * ROW
 ID = re.compile(r"(0|[1-9][0-9]{0,8})([a-z])")
+NAME_ID = re.compile(r"(0|[1-9][0-9]{0,8})([A-Za-z])")
+SEPARATOR = re.compile("[-_ ]")
+MOST_SCREENS = 65_535
 PRICE = re.compile(r"(0|[1-9][0-9]{0,3})p")
 ESCAPED = {ord('"'): '\\"', ord("\\"): "\\\\"}
 
 
 class Screen(NamedTuple):
-    """The frame of a file: its path, its price if it shows one, and its 960 codes."""
+    """The frame of a screen: its file's path, the offset at which it begins, its price if it shows one, its codes."""
 
     path: str
+    offset: int
     price: int | None
     cells: bytes
+
+    def holds(self, other: "Screen") -> bool:
+        """Whether the other is this one cut short: its price, and in rows 1 to 22 spaces or the same cells."""
+        cells = zip(self.cells[ROW : 23 * ROW], other.cells[ROW : 23 * ROW], strict=True)
+        return self.price == other.price and all(theirs in (0x20, ours) for ours, theirs in cells)
 
 
 class NoScreen(Exception):
@@ -38,20 +47,26 @@ def saved(byte: int) -> int:
     return byte if byte < 0xA0 else byte & 0x7F
 
 
-def cells_of(data: bytes, stream: bool) -> bytes:
-    """The 960 codes of a file."""
-    if len(data) > MOST_BYTES:
-        raise NoScreen("more than 16,777,216 bytes")
+def saved_rows(rows: bytes) -> bytes:
+    """The codes of the rows of a dump or an EP1 file. If its blanks are NULs, no byte is a space, 20 or A0."""
+    if b"\x20" not in rows and b"\xa0" not in rows:
+        rows = rows.replace(b"\0", b" ")
+    return bytes(map(saved, rows))
+
+
+def cells_of(data: bytes) -> bytes:
+    """The 960 codes of a saved screen."""
+    size = len(data)
     if not data:
         raise NoScreen("empty")
-    if stream:
-        return cells_after_bytes(bytes(byte & 0x7F for byte in data))
-    codes = bytes(map(saved, data))
-    if len(data) == 880:
-        return BLANK + codes + BLANK
-    if len(data) in (960, 1000, 1024):
-        return codes[:960]
-    raise NoScreen(f"size {len(data)}; a screen has 960, 1000, 1024 or 880 bytes; --stream reads what a line carried")
+    if size == 880:
+        return BLANK + saved_rows(data) + BLANK
+    if size in (960, 1000, 1024):
+        return saved_rows(data[:960])
+    if data[:2] == b"\xfe\x01" and size in (968, 1008):
+        return saved_rows(data[6:966])
+    sizes = "a screen has 960, 1000, 1024 or 880 bytes, an EP1 file 968 or 1008"
+    raise NoScreen(f"size {size}; {sizes}; --stream reads what a line carried")
 
 
 def id_of(word: str) -> FrameId | None:
@@ -72,14 +87,72 @@ def head(cells: bytes) -> tuple[FrameId | None, int | None]:
     return ids[-1] if ids else None, price
 
 
-def frame_of(path: str, data: bytes, stream: bool) -> tuple[FrameId, Screen]:
-    """The id of a file's frame, and its screen."""
-    cells = cells_of(data, stream)
+def name_id(path: str) -> FrameId | None:
+    """The id that a file's name says, in any case: all of it up to the first dot, or what follows its last separator
+    unless it begins with an id.
+    """
+    words = SEPARATOR.split(path.split("/")[-1].split(".")[0])
+    ids = [FrameId(int(found[1]), found[2].lower()) if found else None for found in map(NAME_ID.fullmatch, words)]
+    return ids[-1] if len(ids) == 1 or not ids[0] else None
+
+
+def frame_of(path: str, cells: bytes, offset: int = 0) -> dict[FrameId, list[Screen]]:
+    """The frame of a file of one screen."""
     shown, price = head(cells)
-    id = id_of(path.split("/")[-1].split(".")[0]) or shown
+    id = name_id(path) or shown
     if not id:
         raise NoScreen("no frame id in the name, and row 0 shows none")
-    return id, Screen(path, price, cells)
+    return {id: [Screen(path, offset, price, cells)]}
+
+
+def screens_in(data: bytes) -> list[tuple[int, bytes]]:
+    """The screens of a capture, each with its offset: those of a new terminal at each 0C."""
+    sent = bytes(byte & 0x7F for byte in data)
+    first, *others = sent.split(b"\f")
+    found = [(0, cells_after_bytes(first))]
+    offset = len(first)
+    if others and not head(found[0][1])[0]:
+        found.clear()
+    for piece in others:
+        found.append((offset, cells_after_bytes(piece)))
+        offset += 1 + len(piece)
+    return [(at, cells) for at, cells in found if cells.strip(b" ")] or found[-1:]
+
+
+def frames_of_capture(path: str, data: bytes) -> tuple[dict[FrameId, list[Screen]], str]:
+    """The frames of a capture by their ids, and what is said of the screens that are left out."""
+    if not data:
+        raise NoScreen("empty")
+    screens = screens_in(data)
+    if len(screens) > MOST_SCREENS:
+        raise NoScreen("a capture has at most 65535 screens")
+    by_name = len(screens) == 1 or not any(head(cells)[0] for _, cells in screens)
+    if by_name:
+        offset, cells = screens.pop()
+        frames = frame_of(path, cells, offset)
+    else:
+        frames = dict[FrameId, list[Screen]]()
+    notes = ""
+    for offset, cells in screens:
+        id, price = head(cells)
+        if id:
+            frames.setdefault(id, []).append(Screen(path, offset, price, cells))
+        else:
+            notes += f"{path}: at byte {offset}: row 0 shows no frame id; left out\n"
+    return frames, notes
+
+
+def one_of(screens: list[Screen]) -> tuple[Screen, list[Screen]]:
+    """Of screens of a capture with one id the first that holds all the others, and those that it doesn't hold. If none
+    does, it is the first, or the next that holds that one and isn't held by it.
+    """
+    kept = next((screen for screen in screens if all(map(screen.holds, screens))), None)
+    if not kept:
+        kept = screens[0]
+        for screen in screens:
+            if screen.holds(kept) and not kept.holds(screen):
+                kept = screen
+    return kept, [screen for screen in screens if not kept.holds(screen)]
 
 
 def row_of(cells: bytes, number: int) -> bytes:
@@ -144,40 +217,69 @@ def base_lines(frames: dict[FrameId, Screen], entry: int | None) -> Answer:
     return Answer(0, text)
 
 
-def left_out(data: bytes) -> int:
-    """How many screens of a stream are cleared before the last: those of which a code above the space came."""
-    pieces = bytes(byte % 0x80 for byte in data).split(b"\f")
-    return sum(any(code > 0x20 for code in piece) for piece in pieces[:-1])
+class Reading:
+    """What `import` reads of files, one after another."""
 
+    def __init__(self, stream: bool) -> None:
+        self.stream = stream
+        self.frames: dict[FrameId, Screen] = {}
+        self.twins: dict[FrameId, list[str]] = {}
+        self.lines: list[str] = []
+        self.notes = ""
 
-def left_line(path: str, data: bytes) -> str:
-    count = left_out(data)
-    return f"{path}: {count} earlier screen{' is' if count == 1 else 's are'} left out\n" if count else ""
+    def frames_in(self, path: str, data: bytes | str) -> dict[FrameId, Screen]:
+        """The frames of a file."""
+        if isinstance(data, str):
+            raise NoScreen(data)
+        if len(data) > MOST_BYTES:
+            raise NoScreen("more than 16,777,216 bytes")
+        if not self.stream:
+            return {id: screens[0] for id, screens in frame_of(path, cells_of(data)).items()}
+        frames, notes = frames_of_capture(path, data)
+        chosen = {id: one_of(frames[id]) for id in sorted(frames)}
+        if len(chosen.keys() | self.frames.keys()) > MOST_LISTED:
+            raise NoScreen("a base has at most 65535 frames")
+        self.notes += notes
+        for id, (kept, others) in chosen.items():
+            at = f"frame {id} is at byte {kept.offset} too\n"
+            self.lines += [f"{path}: at byte {other.offset}: {at}" for other in others]
+        return {id: kept for id, (kept, _) in chosen.items()}
 
-
-def imported(files: Iterable[tuple[str, bytes | str]], stream: bool = False, entry: int | None = None) -> Answer:
-    """What `import` answers to files, each a path and its bytes or the reason why it can't be read."""
-    lines, notes = list[str](), ""
-    frames: dict[FrameId, Screen] = {}
-    twins: dict[FrameId, list[str]] = {}
-    for path, data in files:
+    def read(self, path: str, data: bytes | str) -> None:
+        """Reads one file."""
         try:
-            if isinstance(data, str):
-                raise NoScreen(data)
-            id, screen = frame_of(path, data, stream)
+            found = self.frames_in(path, data)
         except NoScreen as why:
-            lines.append(f"{path}: {why}\n")
-            continue
-        if len(frames) == MOST_LISTED and id not in frames:
-            lines.append(f"{path}: a base has at most 65535 frames\n")
-            continue
-        notes += left_line(path, data) if stream else ""
-        if id in frames:
-            twins.setdefault(id, [frames[id].path]).append(path)
-        else:
-            frames[id] = screen
-    for id in sorted(twins):
-        first, *others = twins[id]
-        lines += [f"{other}: frame {id} is in {first} too\n" for other in others]
-    answer = Answer(3, "", "".join(lines)) if lines else base_lines(frames, entry)
-    return answer._replace(stderr=notes + answer.stderr)
+            self.lines.append(f"{path}: {why}\n")
+            return
+        for id, screen in found.items():
+            if len(self.frames) == MOST_LISTED and id not in self.frames:
+                self.lines.append(f"{path}: a base has at most 65535 frames\n")
+            elif id in self.frames:
+                self.twins.setdefault(id, []).append(self.twin_line(id, screen, self.frames[id]))
+            else:
+                self.frames[id] = screen
+
+    def twin_line(self, id: FrameId, screen: Screen, first: Screen) -> str:
+        """What is said of a frame that an earlier file has too."""
+        if not self.stream:
+            return f"{screen.path}: frame {id} is in {first.path} too\n"
+        other = f"frame {id} is in {first.path} at byte {first.offset} too"
+        return f"{screen.path}: at byte {screen.offset}: {other}\n"
+
+
+def imported(
+    files: Iterable[tuple[str, bytes | str]], stream: bool = False, entry: int | None = None, skip_bad: bool = False
+) -> Answer:
+    """What `import` answers to files, each a path and its bytes or the reason why it can't be read."""
+    reading = Reading(stream)
+    for path, data in files:
+        reading.read(path, data)
+    lines = "".join(reading.lines + [line for id in sorted(reading.twins) for line in reading.twins[id]])
+    answer = Answer(3, "", lines)
+    if not lines:
+        answer = base_lines(reading.frames, entry)
+    elif skip_bad and reading.frames:
+        others = base_lines(reading.frames, entry)
+        answer = Answer(others.status or 1, others.stdout, lines + others.stderr)
+    return answer._replace(stderr=reading.notes + answer.stderr)

@@ -1,16 +1,13 @@
-//! The command `import`: one screen after another, and then the base that is made of them.
-
-ghost use Rattle.std.specs.Prelude.{◌≡◌, false};
+//! The command `import`: the screens of one file after another, and then the base that is made of them.
 
 use crate::named_files::{Unfinished, ended, open_base, report};
 use audit_report::{FromRead, IntoWrite, RunFault};
 use command_words::Import;
 use pageaudit::{
-    Album, FileKind, Filed, ImportFault, ImportStatus, ScreenFault, run_import, status_of_import,
-    take_screen,
+    Album, FileFrames, FileKind, ImportFault, ImportStatus, ScreenFault, Settled, Twin, run_import,
+    status_of_import, take_frames,
 };
 use std::io;
-use std::io::Read;
 use std::rt::Files;
 
 // Why a file gives no frame.
@@ -22,82 +19,68 @@ enum Refused {
     Fault(ImportFault),
 }
 
-// A reader that counts the screens that pass: each is what comes between two codes that clear, if it shows something.
-#[derive(Drop)]
-struct Screens<R: Drop> {
-    inner: R,
-    // Those that are cleared again.
-    cleared: u64,
-    // Whether something is shown since.
-    shows: bool,
+// The path of a file by its number.
+fn path_of<'a>(asked: &'a Import, file: usize) -> &'a str {
+    match asked.screens.get(file) {
+        Some(path) => path,
+        None => "",
+    }
 }
 
-impl<R: Read + Drop> Screens<R> {
-    fn of(inner: R) -> Screens<R> {
-        Screens {
-            inner,
-            cleared: 0,
-            shows: false,
+// Says which frame has the id of another.
+fn report_twin<R: Eprint>(rt: &R, asked: &Import, twin: &Twin) {
+    let (path, other) = (
+        path_of(asked, twin.other.file),
+        path_of(asked, twin.kept.file),
+    );
+    let (byte, kept) = (twin.other.byte, twin.kept.byte);
+    let id = twin.id.text();
+    let id = id.as_str();
+    let _ = match asked.kind {
+        FileKind::Cells => eprintln!(rt; "{path}: frame {id} is in {other} too"),
+        FileKind::Stream if twin.other.file == twin.kept.file => {
+            eprintln!(rt; "{path}: at byte {byte}: frame {id} is at byte {kept} too")
         }
-    }
-
-    fn see(&mut self, byte: u8) {
-        match byte % 0x80 {
-            0x0C => {
-                self.cleared = self.cleared.saturating_add(u64::from(self.shows));
-                self.shows = false;
-            }
-            0x21..=0x7f => self.shows = true,
-            _ => {}
+        FileKind::Stream => {
+            eprintln!(rt; "{path}: at byte {byte}: frame {id} is in {other} at byte {kept} too")
         }
-    }
+    };
 }
 
-impl<R: Read + Drop> Read for Screens<R> {
-    fn read(&mut self, into: &mut [u8]) -> io::Result<usize> {
-        let count = self.inner.read(into)?;
-        for byte in &into[..count] {
-            self.see(*byte);
-        }
-        Ok(count)
+// Says which frames have the ids of others; the exit status.
+fn report_twins<R: Eprint>(rt: &R, asked: &Import, twins: &[Twin]) -> u8 {
+    for twin in twins {
+        report_twin(rt, asked, twin);
     }
+    if twins.is_empty() { 0 } else { 3 }
 }
 
-// Says how many screens of a stream are left out: only the last one is taken.
-fn print_left<R: Eprint>(rt: &R, asked: &Import, path: &str, cleared: u64) {
-    if let FileKind::Stream = asked.kind
-        && cleared > 0
-    {
-        let screens = if cleared == 1 {
-            "screen is"
-        } else {
-            "screens are"
-        };
-        let _ = eprintln!(rt; "{path}: {cleared} earlier {screens} left out");
+// Says which screens of a capture are left out, and which frames have the ids of others; the exit status.
+fn report_found<R: Eprint>(rt: &R, asked: &Import, path: &str, found: &FileFrames) -> u8 {
+    for byte in found.unnamed.as_slice() {
+        let _ = eprintln!(rt; "{path}: at byte {byte}: row 0 shows no frame id; left out");
     }
+    report_twins(rt, asked, found.frames.twins())
 }
 
-// Adds the frame of a file.
+// Adds the frames of a file; the exit status, 0 if there is one of each id.
 fn take_file<R: Files + Input + Eprint + AllocGlobal>(
     rt: &R,
     asked: &Import,
     path: &str,
     number: usize,
     album: &mut Album,
-) -> Result<(), Refused> {
+) -> Result<u8, Refused> {
     let mut file = match open_base(rt, path) {
-        Ok(file) => Screens::of(file),
+        Ok(file) => file,
         Err(unfinished) => return Err(Refused::Unfinished(unfinished)),
     };
     let taken = {
         let mut source = FromRead::new(&mut file);
-        take_screen(rt.alloc(), &mut source, asked.kind, path, number, album)
+        take_frames(rt.alloc(), &mut source, asked.kind, path, number, album)
     };
     match taken {
-        Ok(()) => {
-            print_left(rt, asked, path, file.cleared);
-            Ok(())
-        }
+        Ok(found) => Ok(report_found(rt, asked, path, &found)),
         Err(fault) => Err(Refused::Fault(fault)),
     }
 }
@@ -109,11 +92,14 @@ fn report_screen<R: Eprint>(rt: &R, path: &str, fault: ScreenFault) {
         ScreenFault::TooLong => eprintln!(rt; "{path}: more than 16,777,216 bytes"),
         ScreenFault::Size(size) => {
             eprintln!(rt;
-                "{path}: size {size}; a screen has 960, 1000, 1024 or 880 bytes; --stream reads what a line carried"
+                "{path}: size {size}; a screen has 960, 1000, 1024 or 880 bytes, an EP1 file 968 or 1008; --stream reads what a line carried"
             )
         }
         ScreenFault::NoId => {
             eprintln!(rt; "{path}: no frame id in the name, and row 0 shows none")
+        }
+        ScreenFault::TooManyScreens => {
+            eprintln!(rt; "{path}: a capture has at most 65535 screens")
         }
     };
 }
@@ -139,7 +125,7 @@ fn report_file<R: Files + Eprint + AllocGlobal>(rt: &R, path: &str, refused: &Re
     }
 }
 
-// Adds the frames of all files; the exit status, 0 if each gave one. All files at fault are named, unless memory is refused.
+// Adds the frames of all files; the exit status, 0 if none is at fault. All faults are named, unless memory is refused.
 fn take_files<R: Files + Input + Eprint + AllocGlobal>(
     rt: &R,
     asked: &Import,
@@ -147,65 +133,14 @@ fn take_files<R: Files + Input + Eprint + AllocGlobal>(
 ) -> u8 {
     let mut status = 0;
     for (number, path) in asked.screens.iter().enumerate() {
-        match take_file(rt, asked, path, number, album) {
-            Ok(()) => {}
-            Err(refused) => status = report_file(rt, path, &refused),
-        }
+        let taken = match take_file(rt, asked, path, number, album) {
+            Ok(status) => status,
+            Err(refused) => report_file(rt, path, &refused),
+        };
+        status = status.max(taken);
         if status == 4 {
             return status;
         }
-    }
-    status
-}
-
-// The path of a file by its number.
-fn path_of<'a>(asked: &'a Import, file: usize) -> &'a str {
-    match asked.screens.get(file) {
-        Some(path) => path,
-        None => "",
-    }
-}
-
-// The first of the files of some frames.
-fn first_file(frames: &[Filed]) -> usize {
-    let mut first = usize::MAX;
-    for filed in frames {
-        first = first.min(filed.file);
-    }
-    first
-}
-
-// Names the files of frames of one id, but the first; the exit status.
-fn report_same<R: Eprint>(rt: &R, asked: &Import, frames: &[Filed]) -> u8 {
-    let first = first_file(frames);
-    let mut status = 0;
-    for filed in frames {
-        if filed.file != first {
-            let (path, other) = (path_of(asked, filed.file), path_of(asked, first));
-            let id = filed.frame.id.text();
-            let _ = eprintln!(rt; "{path}: frame {} is in {other} too", id.as_str());
-            status = 3;
-        }
-    }
-    status
-}
-
-// Names the files of the frames whose ids other files have; the exit status.
-fn report_twins<R: Eprint>(rt: &R, asked: &Import, album: &Album) -> u8 {
-    let mut rest = album.as_slice();
-    let mut status = 0;
-    // each turn takes the frames of one id
-    for _ in 0..rest.len() {
-        let Some(first) = rest.first() else {
-            break;
-        };
-        let id = first.frame.id;
-        let count = match rest.iter().position(|filed| filed.frame.id != id) {
-            Some(count) => count,
-            None => rest.len(),
-        };
-        status = status.max(report_same(rt, asked, &rest[..count]));
-        rest = &rest[count..];
     }
     status
 }
@@ -214,10 +149,10 @@ fn report_twins<R: Eprint>(rt: &R, asked: &Import, album: &Album) -> u8 {
 fn print_base<R: Print + AllocGlobal>(
     rt: &R,
     asked: &Import,
-    album: &Album,
+    settled: &Settled,
 ) -> Result<ImportStatus, Unfinished> {
     let mut out = IntoWrite::new(io::writer(rt));
-    let run = run_import(rt.alloc(), album, asked.entry, &mut out);
+    let run = run_import(rt.alloc(), settled, asked.entry, &mut out);
     ended(run, &out)
 }
 
@@ -225,9 +160,9 @@ fn print_base<R: Print + AllocGlobal>(
 fn print_or_report<R: Files + Print + Eprint + AllocGlobal>(
     rt: &R,
     asked: &Import,
-    album: &Album,
+    settled: &Settled,
 ) -> u8 {
-    match print_base(rt, asked, album) {
+    match print_base(rt, asked, settled) {
         Ok(status) => {
             if let ImportStatus::TooLong(file) = status {
                 let path = path_of(asked, file);
@@ -241,18 +176,46 @@ fn print_or_report<R: Files + Print + Eprint + AllocGlobal>(
     }
 }
 
-/// Prints the base of the screens. If files are refused, each is named on standard error, nothing is printed, and the status is 3; so
-/// it is if two files have one id.
-pub fn import<R: Files + Input + Print + Eprint + AllocGlobal>(rt: &R, asked: &Import) -> u8 {
-    let mut album = Album::new(rt.alloc());
-    let refused = take_files(rt, asked, &mut album);
-    if refused == 4 {
+// Prints the base of what isn't at fault, if all is to be left out that is; the exit status.
+fn print_others<R: Files + Print + Eprint + AllocGlobal>(
+    rt: &R,
+    asked: &Import,
+    settled: &Settled,
+    refused: u8,
+) -> u8 {
+    if !asked.skip_bad || settled.frames().is_empty() {
         return refused;
     }
-    album.sort();
-    let twins = report_twins(rt, asked, &album);
-    match refused.max(twins) {
-        0 => print_or_report(rt, asked, &album),
+    match print_or_report(rt, asked, settled) {
+        0 => 1,
         status => status,
+    }
+}
+
+// Prints the base of an album's frames, or says why it isn't printed; the exit status. `refused` is that of the files.
+fn print_album<R: Files + Print + Eprint + AllocGlobal>(
+    rt: &R,
+    asked: &Import,
+    album: Album,
+    refused: u8,
+) -> u8 {
+    let settled = match album.settle(rt.alloc()) {
+        Ok(settled) => settled,
+        Err(_) => return report(rt, "output", &Unfinished::Fault(RunFault::Memory)),
+    };
+    match refused.max(report_twins(rt, asked, settled.twins())) {
+        0 => print_or_report(rt, asked, &settled),
+        status => print_others(rt, asked, &settled, status),
+    }
+}
+
+/// Prints the base of the screens. If files are refused, or several frames have one id, each is named on standard error, nothing is
+/// printed, and the status is 3. If the bad ones are to be skipped, the base of the others is printed, and the status is 1; of frames
+/// of one id the first is taken. If there are no others, nothing is printed.
+pub fn import<R: Files + Input + Print + Eprint + AllocGlobal>(rt: &R, asked: &Import) -> u8 {
+    let mut album = Album::new(rt.alloc());
+    match take_files(rt, asked, &mut album) {
+        4 => 4,
+        refused => print_album(rt, asked, album, refused),
     }
 }

@@ -1,65 +1,187 @@
 //! The command `lint`: one base after another, and one count at the end.
 
-use crate::named_files::{Unfinished, ended, open_base, report};
+use crate::fix_files::{fixed_text, print_diff, print_text, replace_text};
+use crate::named_files::{Unfinished, ended, is_input, open_base, report};
 use audit_report::{FromRead, IntoWrite};
-use checker::Policy;
-use command_words::Lint;
-use pageaudit::{Counts, Format, counted_text, run_lint, status_of_lint};
+use command_words::{Fixing, Lint};
+use pageaudit::{Counts, counted_text, run_lint, status_of_lint};
+use std::alloc::Global;
 use std::io;
-use std::rt::Files;
+use std::rt::{Files, Stderr};
+
+// What was found and done in all.
+#[derive(Clone, Copy)]
+struct Sum {
+    counts: Counts,
+    fixes: usize,
+    // Whether a diff was printed.
+    differs: bool,
+}
+
+impl Sum {
+    fn add(&mut self, more: &Sum) {
+        self.counts.errors = self.counts.errors.saturating_add(more.counts.errors);
+        self.counts.warnings = self.counts.warnings.saturating_add(more.counts.warnings);
+        self.fixes = self.fixes.saturating_add(more.fixes);
+        self.differs = self.differs || more.differs;
+    }
+}
+
+const NOTHING: Sum = Sum {
+    counts: Counts {
+        errors: 0,
+        warnings: 0,
+    },
+    fixes: 0,
+    differs: false,
+};
+
+fn found(counts: Counts, fixes: usize) -> Sum {
+    Sum {
+        counts,
+        fixes,
+        differs: false,
+    }
+}
 
 // The findings of a base.
 fn lint_path<R: Files + Input + Print + AllocGlobal>(
     rt: &R,
     path: &str,
-    policy: &Policy,
-    format: Format,
-) -> Result<Counts, Unfinished> {
+    asked: &Lint,
+) -> Result<Sum, Unfinished> {
     match open_base(rt, path) {
         Ok(base) => {
             let mut base = FromRead::new(base);
             let mut out = IntoWrite::new(io::writer(rt));
-            let run = run_lint(rt.alloc(), &mut base, &mut out, path, policy, format);
-            ended(run, &out)
+            let run = run_lint(
+                rt.alloc(),
+                &mut base,
+                &mut out,
+                path,
+                &asked.policy,
+                asked.format,
+            );
+            match ended(run, &out) {
+                Ok(counts) => Ok(found(counts, 0)),
+                Err(unfinished) => Err(unfinished),
+            }
         }
         Err(unfinished) => Err(unfinished),
     }
 }
 
-// The numbers of findings, if there are some. Without memory for the line it isn't printed: the findings are.
-fn print_counts<R: Eprint + AllocGlobal>(rt: &R, counts: &Counts) {
-    let Ok(text) = counted_text(rt.alloc(), counts) else {
-        return;
+// The findings of a text that was fixed.
+fn lint_text<W: io::Write + Drop>(
+    alloc: Global,
+    out: W,
+    path: &str,
+    text: &[u8],
+    asked: &Lint,
+) -> Result<Counts, Unfinished> {
+    let mut base = FromRead::new(text);
+    let mut out = IntoWrite::new(out);
+    let run = run_lint(
+        alloc,
+        &mut base,
+        &mut out,
+        path,
+        &asked.policy,
+        asked.format,
+    );
+    ended(run, &out)
+}
+
+// Fixes a base, and finds what is left. Of standard input the text is printed, and the findings on standard error.
+fn fix_path<R: Files + Input + Print + AllocGlobal>(
+    rt: &R,
+    errors: &Stderr,
+    path: &str,
+    asked: &Lint,
+) -> Result<Sum, Unfinished> {
+    let fixed = match fixed_text(rt, path, &asked.policy) {
+        Ok((_, fixed)) => fixed,
+        Err(unfinished) => return Err(unfinished),
     };
-    if let Ok(line) = str::from_utf8(text.as_slice()) {
-        let _ = eprint!(rt; "{line}");
+    let text = fixed.text.as_slice();
+    let counts = if is_input(path) {
+        match print_text(rt, text) {
+            Ok(()) => lint_text(rt.alloc(), io::writer(errors), path, text, asked),
+            Err(unfinished) => Err(unfinished),
+        }
+    } else if fixed.fixes == 0 {
+        lint_text(rt.alloc(), io::writer(rt), path, text, asked)
+    } else {
+        match replace_text(rt, path, text) {
+            Ok(()) => lint_text(rt.alloc(), io::writer(rt), path, text, asked),
+            Err(unfinished) => Err(unfinished),
+        }
+    };
+    match counts {
+        Ok(counts) => Ok(found(counts, fixed.fixes)),
+        Err(unfinished) => Err(unfinished),
     }
 }
 
-/// Prints the findings of each base, and on standard error how many there are in all; the exit status. A base that can't be read is
-/// named there and makes the status 3, and the others are judged. Nothing is judged after a write that failed or memory that was
-/// refused.
-pub fn lint<R: Files + Input + Print + Eprint + AllocGlobal>(rt: &R, asked: &Lint) -> u8 {
-    let mut counts = Counts {
-        errors: 0,
-        warnings: 0,
+fn diff_path<R: Files + Input + Print + AllocGlobal>(
+    rt: &R,
+    path: &str,
+    asked: &Lint,
+) -> Result<Sum, Unfinished> {
+    match print_diff(rt, path, &asked.policy) {
+        Ok(differs) => Ok(Sum { differs, ..NOTHING }),
+        Err(unfinished) => Err(unfinished),
+    }
+}
+
+// The numbers of fixes and findings, if there are some. Without memory for the line it isn't printed: the findings are.
+fn print_sum<R: Eprint + AllocGlobal>(rt: &R, sum: &Sum) {
+    let Ok(text) = counted_text(rt.alloc(), &sum.counts) else {
+        return;
     };
-    let mut unread = None;
+    let Ok(line) = str::from_utf8(text.as_slice()) else {
+        return;
+    };
+    let _ = match (sum.fixes, line.is_empty()) {
+        (0, _) => eprint!(rt; "{line}"),
+        (fixes, true) => eprintln!(rt; "{fixes} fixed"),
+        (fixes, false) => eprint!(rt; "{fixes} fixed, {line}"),
+    };
+}
+
+/// Prints the numbers of findings, if there are some. Without memory for the line it isn't printed: the findings are.
+pub fn print_counts<R: Eprint + AllocGlobal>(rt: &R, counts: &Counts) {
+    print_sum(rt, &found(*counts, 0));
+}
+
+/// Prints the findings of each base, or what would be fixed in it, and on standard error how many fixes and findings there are in
+/// all; the exit status. A base that can't be read or replaced is named there and makes the status 3, and the others are judged.
+/// Nothing is judged after a write that failed or memory that was refused.
+pub fn lint<R: Files + Input + Print + Eprint + AllocGlobal>(
+    rt: &R,
+    errors: Stderr,
+    asked: &Lint,
+) -> u8 {
+    let mut sum = NOTHING;
+    let mut failed = None;
     for path in asked.bases {
-        match lint_path(rt, path, &asked.policy, asked.format) {
-            Ok(found) => {
-                counts.errors = counts.errors.saturating_add(found.errors);
-                counts.warnings = counts.warnings.saturating_add(found.warnings);
-            }
+        let done = match asked.fixing {
+            Fixing::None => lint_path(rt, path, asked),
+            Fixing::Made => fix_path(rt, &errors, path, asked),
+            Fixing::Shown => diff_path(rt, path, asked),
+        };
+        match done {
+            Ok(more) => sum.add(&more),
             Err(unfinished) => {
                 let status = report(rt, path, &unfinished);
                 match unfinished {
-                    Unfinished::Unread(_) => unread = Some(status),
+                    Unfinished::Unread(_) | Unfinished::Unwritten(_) => failed = Some(status),
                     _ => return status,
                 }
             }
         }
     }
-    print_counts(rt, &counts);
-    unread.unwrap_or(status_of_lint(&Ok(counts), asked.denied))
+    print_sum(rt, &sum);
+    let status = status_of_lint(&Ok(sum.counts), asked.denied);
+    failed.unwrap_or(status.max(u8::from(sum.differs)))
 }

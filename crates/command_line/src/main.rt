@@ -5,12 +5,18 @@
 //! picks the exit status.
 #![tactic(auto)]
 
+mod diff_lines;
+mod edition_folder;
+mod edition_store;
 mod export_files;
+mod fix_files;
 mod import_files;
 mod lint_files;
 mod named_files;
 mod out_file;
 mod pages_file;
+mod publish_files;
+mod serve_call;
 mod show_screen;
 
 use audit_report::{FromRead, IntoWrite, RunFault, fault_text, write_whole};
@@ -30,8 +36,11 @@ use pageaudit::{
     run_map, run_walk, status_of, status_of_map,
 };
 use pages_file::pages;
+use publish_files::publish;
+use serve_call::serve_call;
 use show_screen::show;
 use std::alloc::{AllocError, Global};
+use std::fs::File;
 use std::io;
 use std::process::ExitCode;
 use std::rt::{Env, Files, Stderr};
@@ -41,7 +50,10 @@ fn main(rt: HostRuntime) -> ExitCode {
 }
 
 // Reads the words and does what they ask; the exit status.
-fn run<R: Files + Env + Input + Print + Eprint + AllocGlobal>(rt: &R, errors: Stderr) -> u8 {
+fn run<R: Files<File = File> + Env + Input + Print + Eprint + AllocGlobal + Clone + Drop>(
+    rt: &R,
+    errors: Stderr,
+) -> u8 {
     match words(rt, rt.alloc()) {
         Ok(words) => run_words(rt, errors, words.as_slice()),
         Err(WordsFault::Memory) => fail(rt, &RunFault::Memory),
@@ -52,7 +64,7 @@ fn run<R: Files + Env + Input + Print + Eprint + AllocGlobal>(rt: &R, errors: St
     }
 }
 
-fn run_words<R: Files + Env + Input + Print + Eprint + AllocGlobal>(
+fn run_words<R: Files<File = File> + Env + Input + Print + Eprint + AllocGlobal + Clone + Drop>(
     rt: &R,
     errors: Stderr,
     words: &[String],
@@ -135,7 +147,7 @@ fn fail<R: Eprint + AllocGlobal>(rt: &R, fault: &RunFault) -> u8 {
 }
 
 // Does what was asked for; the exit status. The groups are read first; files are opened in the order of the words.
-fn run_matches<R: Files + Env + Input + Print + Eprint + AllocGlobal>(
+fn run_matches<R: Files<File = File> + Env + Input + Print + Eprint + AllocGlobal + Clone + Drop>(
     rt: &R,
     errors: Stderr,
     matches: &ArgMatches,
@@ -174,7 +186,7 @@ fn run_matches<R: Files + Env + Input + Print + Eprint + AllocGlobal>(
 }
 
 // Runs what was asked for.
-fn run_request<R: Files + Env + Input + Print + Eprint + AllocGlobal>(
+fn run_request<R: Files<File = File> + Env + Input + Print + Eprint + AllocGlobal + Clone + Drop>(
     rt: &R,
     errors: Stderr,
     request: &Request,
@@ -200,12 +212,14 @@ fn run_request<R: Files + Env + Input + Print + Eprint + AllocGlobal>(
         } => change_files(rt, [old, old_cert, new, new_cert], policy),
         Request::Walk { base, keys, groups } => walk_file(rt, base, keys, groups),
         Request::List { base, form, groups } => return list(rt, base, *form, groups),
-        Request::Lint(asked) => return lint(rt, asked),
+        Request::Lint(asked) => return lint(rt, errors, asked),
         Request::Map { base, view, groups } => return map(rt, base, view, groups),
         Request::Show(asked) => return show(rt, errors, asked),
         Request::Pages(asked) => return pages(rt, errors, asked),
         Request::Import(asked) => return import(rt, asked),
         Request::Export(asked) => return export(rt, asked),
+        Request::Serve { folder } => return serve_call(rt, folder),
+        Request::Publish(asked) => return publish(rt, asked),
         Request::Misused { why } => {
             let _ = eprintln!(rt; "error: {why}");
             return 2;

@@ -39,9 +39,14 @@ impl<F: Read + Drop, I: Read + Drop> Read for Opened<F, I> {
 // The path of standard input.
 const INPUT: &str = "-";
 
+/// Whether a path names standard input.
+pub fn is_input(path: &str) -> bool {
+    path == INPUT
+}
+
 /// Opens what a path names: `-` is standard input, and a file of that name is `./-`.
 pub fn open<R: Files + Input>(rt: &R, path: &str) -> io::Result<Opened<R::File, R::Reader>> {
-    if path == INPUT {
+    if is_input(path) {
         Ok(Opened::Input(rt.reader()))
     } else {
         Ok(Opened::File(fs::open(rt, path)?))
@@ -50,15 +55,15 @@ pub fn open<R: Files + Input>(rt: &R, path: &str) -> io::Result<Opened<R::File, 
 
 /// A path that leads to what a path names.
 pub fn path_to<'a>(path: &'a str) -> &'a str {
-    if path == INPUT {
+    if is_input(path) {
         "/proc/self/fd/0"
     } else {
         path
     }
 }
 
-// What the system says of a file that doesn't open.
-fn reason(error: &io::Error) -> Unfinished {
+/// Why a file isn't read: what the system says of one that doesn't open.
+pub fn unread(error: &io::Error) -> Unfinished {
     match error.kind() {
         io::ErrorKind::NotFound => Unfinished::Unread("no such file"),
         io::ErrorKind::PermissionDenied => Unfinished::Unread("permission denied"),
@@ -99,7 +104,7 @@ pub fn open_base<R: Files + Input>(
     }
     match open(rt, path) {
         Ok(file) => Ok(file),
-        Err(error) => Err(reason(&error)),
+        Err(error) => Err(unread(&error)),
     }
 }
 

@@ -108,6 +108,22 @@ fn format_option<'a>(alloc: Global) -> Arg<'a> {
         )
 }
 
+// The options of what is done about slips.
+fn with_fixes<'a>(alloc: Global, command: Command<'a>) -> Result<Command<'a>, AllocError> {
+    let fix = flag(
+        alloc,
+        "fix",
+        "Fix each slip that can have meant one thing alone, and find what is left",
+    );
+    let diff = flag(
+        alloc,
+        "diff",
+        "Print what --fix would change as a diff, and change nothing",
+    )
+    .conflicts_with("fix")?;
+    command.arg(fix)?.arg(diff)
+}
+
 fn lint_command<'a>(alloc: Global) -> Result<Command<'a>, AllocError> {
     let bases = place(alloc, "BASE", "The bases, TOML files; - is standard input")
         .num_args(1..)
@@ -144,7 +160,7 @@ fn lint_command<'a>(alloc: Global) -> Result<Command<'a>, AllocError> {
             .required(false)
             .default_value("65535"),
         )?;
-    with_groups(alloc, command)
+    with_groups(alloc, with_fixes(alloc, command)?)
 }
 
 fn audit_command<'a>(alloc: Global) -> Result<Command<'a>, AllocError> {
@@ -329,7 +345,7 @@ fn import_command<'a>(alloc: Global) -> Result<Command<'a>, AllocError> {
     let screens = place(
         alloc,
         "SCREEN",
-        "Files of one screen each, named by a frame, e.g. 478a.bin, or with its id in row 0",
+        "Files of screens, named by a frame, e.g. 478a.bin, or with its id in row 0",
     )
     .num_args(1..)
     .action(ArgAction::Append);
@@ -340,7 +356,12 @@ fn import_command<'a>(alloc: Global) -> Result<Command<'a>, AllocError> {
         .arg(flag(
             alloc,
             "stream",
-            "The files are what a centre sent, not the cells of a screen",
+            "The files are captures of what a centre sent, each of any number of screens",
+        ))?
+        .arg(flag(
+            alloc,
+            "skip-bad",
+            "Print the base of the other frames if some are at fault",
         ))?
         .arg(entry_option(alloc))
 }
@@ -360,6 +381,36 @@ fn export_command<'a>(alloc: Global) -> Result<Command<'a>, AllocError> {
         .arg(out)?
         .arg(flag(alloc, "force", "Replace files that are there"))?;
     with_groups(alloc, command)
+}
+
+fn serve_command<'a>(alloc: Global) -> Result<Command<'a>, AllocError> {
+    Command::new(alloc, "serve")
+        .about("Open the current edition of a folder to one caller")
+        .after_help(help::SERVE)
+        .arg(place(
+            alloc,
+            "FOLDER",
+            "The folder, of which the file current names an edition",
+        ))
+}
+
+fn publish_command<'a>(alloc: Global) -> Result<Command<'a>, AllocError> {
+    Command::new(alloc, "publish")
+        .about("Check a base and the change to it, and make it the edition that a folder serves")
+        .after_help(help::PUBLISH)
+        .arg(base(alloc))?
+        .arg(place(
+            alloc,
+            "FOLDER",
+            "The folder of editions; its policy.toml has the limits",
+        ))?
+        .arg(flag(alloc, "dry-run", "Check all and write nothing"))?
+        .arg(flag(
+            alloc,
+            "new-callers",
+            "If the change is refused, publish for new callers alone",
+        ))?
+        .arg(flag(alloc, "deny-warnings", "Don't publish a base with warnings"))
 }
 
 fn explain_command<'a>(alloc: Global) -> Result<Command<'a>, AllocError> {
@@ -396,6 +447,8 @@ fn whole_command<'a>(alloc: Global) -> Result<Command<'a>, AllocError> {
     let whole = with_part(whole, map_command(alloc));
     let whole = with_part(whole, import_command(alloc));
     let whole = with_part(whole, export_command(alloc));
+    let whole = with_part(whole, serve_command(alloc));
+    let whole = with_part(whole, publish_command(alloc));
     with_part(whole, explain_command(alloc))
 }
 
@@ -421,6 +474,17 @@ fn collected(rt: &(impl Env + AllocGlobal), alloc: Global) -> io::Result<Vec<Str
     Ok(env::args(rt)?.collect(alloc)?)
 }
 
+/// What is done about slips that can have meant one thing alone.
+#[derive(Debug, Clone, Copy, PartialEq, Eq)]
+pub enum Fixing {
+    /// They are found as all others.
+    None,
+    /// They are fixed in the base's file; of standard input, in what is printed.
+    Made,
+    /// What would be fixed is printed as a diff.
+    Shown,
+}
+
 /// Which bases are linted, and how.
 #[derive(Drop)]
 pub struct Lint<'a> {
@@ -428,6 +492,7 @@ pub struct Lint<'a> {
     pub bases: &'a [&'a str],
     pub format: Format,
     pub policy: Policy,
+    pub fixing: Fixing,
     /// The least level of a finding that makes the exit status 1.
     pub denied: Level,
 }
@@ -463,6 +528,8 @@ pub struct Import<'a> {
     /// The files, at least one.
     pub screens: &'a [&'a str],
     pub kind: FileKind,
+    /// Whether the base of the others is printed if some are at fault.
+    pub skip_bad: bool,
     /// The entry page; without it the smallest page.
     pub entry: Option<PageNo>,
 }
@@ -476,6 +543,20 @@ pub struct Export<'a> {
     /// Whether files that are there are replaced.
     pub force: bool,
     pub groups: Groups,
+}
+
+/// Which base is published, and how.
+#[derive(Drop)]
+pub struct Publish<'a> {
+    pub base: &'a str,
+    /// The folder of editions.
+    pub folder: &'a str,
+    /// Whether nothing is written.
+    pub dry_run: bool,
+    /// Whether a refused change is published for new callers alone.
+    pub new_callers: bool,
+    /// Whether warnings stop it.
+    pub deny_warnings: bool,
 }
 
 /// What the words ask for. Files are named by their paths.
@@ -537,6 +618,12 @@ pub enum Request<'a> {
     Import(Import<'a>),
     /// The screens of a base, each in a file.
     Export(Export<'a>),
+    /// A call of the current edition of a folder.
+    Serve {
+        folder: &'a str,
+    },
+    /// A base is published as the next edition of a folder.
+    Publish(Publish<'a>),
     /// What a printed word means, or all words.
     Explain {
         word: Option<&'a str>,
@@ -623,12 +710,23 @@ fn list_form_of(word: &str) -> Option<ListForm> {
     }
 }
 
+fn fixing_of(words: &ArgMatches) -> Fixing {
+    if words.get_flag("fix") {
+        Fixing::Made
+    } else if words.get_flag("diff") {
+        Fixing::Shown
+    } else {
+        Fixing::None
+    }
+}
+
 // Which bases are linted, and how.
 fn lint_of<'a>(words: &'a ArgMatches, groups: Groups) -> Option<Request<'a>> {
     Some(Request::Lint(Lint {
         bases: words.get_strs("BASE")?,
         format: words.get_str("format").and_then(format_of)?,
         policy: policy_of(words, groups)?,
+        fixing: fixing_of(words),
         denied: if words.get_flag("deny-warnings") {
             Level::Warning
         } else {
@@ -712,6 +810,7 @@ fn import_of<'a>(words: &'a ArgMatches) -> Option<Request<'a>> {
         } else {
             FileKind::Cells
         },
+        skip_bad: words.get_flag("skip-bad"),
         entry: page_of(words, "entry"),
     }))
 }
@@ -739,6 +838,17 @@ fn check_of<'a>(words: &'a ArgMatches, groups: Groups) -> Option<Request<'a>> {
         cert,
         policy: policy_of(words, groups)?,
     })
+}
+
+// What a publish is asked for.
+fn publish_of<'a>(words: &'a ArgMatches) -> Option<Request<'a>> {
+    Some(Request::Publish(Publish {
+        base: words.get_str("BASE")?,
+        folder: words.get_str("FOLDER")?,
+        dry_run: words.get_flag("dry-run"),
+        new_callers: words.get_flag("new-callers"),
+        deny_warnings: words.get_flag("deny-warnings"),
+    }))
 }
 
 /// What the words ask for, by a caller of these groups. There always is a request: clap has taken each word that a command
@@ -777,6 +887,10 @@ pub fn asked_for<'a>(matches: &'a ArgMatches, groups: Groups) -> Option<Request<
         }),
         ("import", words) => import_of(words),
         ("export", words) => export_of(words, groups),
+        ("serve", words) => Some(Request::Serve {
+            folder: words.get_str("FOLDER")?,
+        }),
+        ("publish", words) => publish_of(words),
         ("explain", words) => Some(Request::Explain {
             word: words.get_str("CODE"),
         }),

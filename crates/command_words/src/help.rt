@@ -5,8 +5,11 @@ pub const VERSION: &str = "1.1.0";
 
 /// After the options of `lint`.
 pub const LINT: &str = concat!(
-    "Example: pageaudit lint examples/town.toml\n\n",
-    "Status: 0 no error, 1 errors, or with --deny-warnings warnings, 2 bad command line,\n",
+    "--fix changes the file and nothing of it but those slips: 'price = \"5\"' is 'price = 5'. What a\n",
+    "frame shows stays. Of standard input the fixed text is printed, and findings on standard error.\n\n",
+    "Examples: pageaudit lint examples/town.toml\n",
+    "          pageaudit lint town.toml --fix\n\n",
+    "Status: 0 no error, 1 errors, or with --deny-warnings warnings, or a diff, 2 bad command line,\n",
     "        3 a file that can't be read, or a write that fails, 4 out of memory",
 );
 
@@ -76,10 +79,12 @@ pub const MAP: &str = concat!(
 /// After the options of `import`.
 pub const IMPORT: &str = concat!(
     "A file of 960 bytes is 24 rows of 40 codes; 1,000 and 1,024 bytes have more, which is dropped;\n",
-    "880 bytes are rows 1 to 22. The base has no routes: they are yet to be typed.\n\n",
+    "880 bytes are rows 1 to 22. An EP1 file has 968 or 1,008 bytes. A capture has many screens: each\n",
+    "is the frame whose id its row 0 shows. The base has no routes: they are yet to be typed.\n\n",
     "Example: pageaudit import examples/screens/*.bin >town.toml\n\n",
-    "Status: 0 a base, 2 bad command line,\n",
-    "        3 a file that is refused or can't be read, or a write that fails, 4 out of memory",
+    "Status: 0 a base, 1 a base without the frames at fault (--skip-bad), 2 bad command line,\n",
+    "        3 a file that is refused or can't be read, two frames of one id, or a write that fails,\n",
+    "        4 out of memory",
 );
 
 /// After the options of `export`.
@@ -92,8 +97,30 @@ pub const EXPORT: &str = concat!(
     "        4 out of memory",
 );
 
+/// After the options of `serve`.
+pub const SERVE: &str = concat!(
+    "The caller is on standard input and output, as socat, systemd or sshd puts them on a line, with\n",
+    "a viewdata terminal. The edition is checked by its own policy before anything is sent. *90#\n",
+    "ends the call, and so does the caller who leaves or rings off.\n\n",
+    "Example: socat tcp-listen:6502,fork,reuseaddr,backlog=128 exec:'pageaudit serve live'\n\n",
+    "Status: 0 a call that ended, 1 an edition that isn't cleared, 2 bad command line,\n",
+    "        3 a file that is missing, refused or can't be read, or a line that fails,\n",
+    "        4 out of memory",
+);
+
 /// After the options of `explain`.
 pub const EXPLAIN: &str = concat!(
     "Example: pageaudit explain K7\n\n",
     "Status: 0 an explanation or the list, 2 an unknown word, 3 a write that fails, 4 out of memory",
+);
+
+/// After the options of `publish`.
+pub const PUBLISH: &str = concat!(
+    "The folder has policy.toml, with ceiling, keyings and perhaps groups; an edition in each of\n",
+    "editions/1, editions/2 and so on; and current, the number of the edition that is served. It is\n",
+    "made if it isn't there. An edition never changes, and whatever stops a publish, current names a\n",
+    "whole one: copy editions/ before current. A base that is served already is not published again.\n\n",
+    "Example: pageaudit publish examples/town.toml live\n\n",
+    "Status: 0 published, 1 findings or a refused change, 2 bad command line,\n",
+    "        3 a file that is refused or can't be read or written, 4 out of memory",
 );

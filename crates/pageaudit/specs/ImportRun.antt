@@ -1,16 +1,17 @@
 -- What a run of import does.
-use Rattle.std.specs.Prelude.{◌≡◌, ◌<◌, ◌≤◌, ◌+◌, ◌++◌, ◌∷◌, [], ℕ, List, Option, Some, Result, Ok, Err, length}
+use Rattle.std.specs.Prelude.{◌≡◌, ◌<◌, ◌+◌, ◌++◌, ℕ, List, Option, Some, Result, Ok, Err, length}
 use Rattle.std.specs.Io.KnownBytes.{IsAtEnd}
 use Rattle.devices.specs.Devices.{BrokeWithin}
 use Rattle.frame_records.specs.declared.limits.TheConstants.{MOST_LISTED}
 use Rattle.audit_report.specs.declared.run_fault.RunFault.{RunFault}
 use Rattle.audit_report.specs.declared.run_fault.RunFault.TheVariants as run
-use Rattle.screen_files.specs.declared.album.Filed.{Filed}
+use Rattle.screen_files.specs.declared.filed.Filed.{Filed}
+use Rattle.screen_files.specs.declared.file.FileFrames.{FileFrames}
 use Rattle.screen_files.specs.declared.file.FileKind.{FileKind}
-use Rattle.screen_files.specs.declared.file.ScreenFault.{ScreenFault}
+use Rattle.screen_files.specs.declared.file.FramesFault.{FramesFault}
+use Rattle.screen_files.specs.declared.file.FramesFault.TheVariants as frames
 use Rattle.screen_files.specs.declared.file.TheConstants.{MOST_SCREEN}
-use Rattle.screen_files.specs.declared.frame.ScreenFrame.{ScreenFrame}
-use Rattle.screen_files.specs.Files.{file_frame}
+use Rattle.screen_files.specs.Files.{AreFileFrames, found_in}
 use Rattle.screen_files.specs.Album.{IsBaseText, over_most}
 use Rattle.pageaudit.specs.declared.import_run.ImportFault.{ImportFault}
 use Rattle.pageaudit.specs.declared.import_run.ImportFault.TheVariants.{Screen, TooMany, Broken, Memory}
@@ -19,46 +20,45 @@ use Rattle.pageaudit.specs.declared.import_run.ImportStatus.TheVariants.{Printed
 use Rattle.pageaudit.specs.Files.{Device, IsUntouched, IsTextWritten, IsReadWithin, WasReadSoFar}
 use Rattle.pageaudit.specs.Status.{fault_number}
 
--- The frame of one file.
+-- The frames of one file.
 
 -- one byte more than a file may have
 abbrev pub screen_limit : ℕ
 screen_limit = MOST_SCREEN + 1
 
--- the bytes of a screen's file: all that it had, or more than it may have
+-- the bytes of a file of screens: all that it had, or more than it may have
 pub record IsScreenFile (d : Device) (bytes : List ℕ) : Type 0 where
   pub read : WasReadSoFar screen_limit d bytes
   pub whole : length bytes < screen_limit → IsAtEnd d.after.bytes
 
 -- a file whose bytes are judged so
-pub record IsFileJudged (d : Device) (kind : FileKind) (path : List ℕ) (answer : Result ScreenFrame ScreenFault) : Type 0 where
+pub record IsFileJudged (d : Device) (kind : FileKind) (path : List ℕ) (file : ℕ) (answer : Result FileFrames FramesFault) : Type 0 where
   pub bytes : List ℕ
   pub is : IsScreenFile d bytes
-  pub judged : file_frame kind path bytes ≡ answer
+  pub judged : AreFileFrames (found_in kind path file bytes) answer
 
--- the frame of the file is the last one now
-pub record IsTaken (d : Device) (kind : FileKind) (path : List ℕ) (file : ℕ) (old new : List Filed) : Type 0 where
-  pub frame : ScreenFrame
-  pub is : IsFileJudged d kind path (Ok frame)
-  pub added : new ≡ old ++ record { file = file; frame = frame } ∷ []
+-- the frames of the file are the last ones now
+pub record AreTakenFrames (d : Device) (kind : FileKind) (path : List ℕ) (file : ℕ) (old new : List Filed) (found : FileFrames) : Type 0 where
+  pub are : IsFileJudged d kind path file (Ok found)
+  pub added : new ≡ old ++ found.frames.frames
 
--- a file that gives a frame, for which there is no place
-pub record IsRefusedPlace (d : Device) (kind : FileKind) (path : List ℕ) (old : List Filed) : Type 0 where
-  pub frame : ScreenFrame
-  pub is : IsFileJudged d kind path (Ok frame)
-  pub full : MOST_LISTED ≤ length old
+-- a file that gives frames, for which there is no place
+pub record AreRefusedPlaces (d : Device) (kind : FileKind) (path : List ℕ) (file : ℕ) (old : List Filed) : Type 0 where
+  pub found : FileFrames
+  pub are : IsFileJudged d kind path file (Ok found)
+  pub full : MOST_LISTED < length old + length found.frames.frames
 
 -- why no frame was added
-abbrev pub IsNotTaken : Device → FileKind → List ℕ → List Filed → ImportFault → Type 0
-IsNotTaken d kind path old (Screen fault) = IsFileJudged d kind path (Err fault)
-IsNotTaken d kind path old TooMany = IsRefusedPlace d kind path old
-IsNotTaken d kind path old Broken = BrokeWithin screen_limit d.before d.after
-IsNotTaken d kind path old Memory = IsReadWithin screen_limit d
+abbrev pub AreNotTaken : Device → FileKind → List ℕ → ℕ → List Filed → ImportFault → Type 0
+AreNotTaken d kind path file old (Screen fault) = IsFileJudged d kind path file (Err (frames.Screen fault))
+AreNotTaken d kind path file old TooMany = AreRefusedPlaces d kind path file old
+AreNotTaken d kind path file old Broken = BrokeWithin screen_limit d.before d.after
+AreNotTaken d kind path file old Memory = IsReadWithin screen_limit d
 
--- the frame of a file was added, or nothing was
-abbrev pub IsScreenTaken : Device → FileKind → List ℕ → ℕ → List Filed → List Filed → Result (Unit {0}) ImportFault → Type 0
-IsScreenTaken d kind path file old new (Ok _) = IsTaken d kind path file old new
-IsScreenTaken d kind path file old new (Err fault) = (new ≡ old) × IsNotTaken d kind path old fault
+-- the frames of a file were added, or nothing was
+abbrev pub AreFramesTaken : Device → FileKind → List ℕ → ℕ → List Filed → List Filed → Result FileFrames ImportFault → Type 0
+AreFramesTaken d kind path file old new (Ok found) = AreTakenFrames d kind path file old new found
+AreFramesTaken d kind path file old new (Err fault) = (new ≡ old) × AreNotTaken d kind path file old fault
 
 -- The base of the frames.
 

@@ -16,11 +16,13 @@ use Rattle.base_text.specs.Whole.{IsTextBase}
 use Rattle.checker.specs.Headline.{IsBaseRefused, IsCertRefused}
 use Rattle.std.specs.Io.KnownBytes.{Consumes, IsAtEnd, Keeps}
 use Rattle.cert_text.specs.Reading.{certificate_fault as text_fault, ReaderView, HasRead, lasting}
-use Rattle.frame_records.specs.declared.limits.TheConstants.{MOST_LISTED}
-use Rattle.screen_files.specs.declared.album.Filed.{Filed}
-use Rattle.screen_files.specs.declared.frame.ScreenFrame.{ScreenFrame}
+use Rattle.screen_files.specs.declared.filed.Filed.{Filed}
+use Rattle.screen_files.specs.declared.file.FileFrames.{FileFrames}
+use Rattle.screen_files.specs.declared.file.FramesFault.TheVariants as frames
+use Rattle.screen_files.specs.declared.file.ScreenFault.{ScreenFault}
+use Rattle.screen_files.specs.Files.{AreFileFrames, ScreenList}
 use Rattle.pageaudit.specs.declared.import_run.ImportFault.{ImportFault}
-use Rattle.pageaudit.specs.declared.import_run.ImportFault.TheVariants.{TooMany, Memory}
+use Rattle.pageaudit.specs.declared.import_run.ImportFault.TheVariants.{Screen, Memory}
 use Rattle.std.specs.declared.alloc.Global.{Global}
 use Rattle.page_ids.specs.declared.key.Key.{Key}
 use Rattle.session_machine.specs.Runs.{session_of}
@@ -143,14 +145,14 @@ new_fault (part.Cert (file.Text fault)) = run.NewCert fault
 new_fault (part.Cert file.Broken) = run.ReadNewCert
 new_fault (part.Cert file.Memory) = run.Memory
 
--- One frame more in an album.
+-- Frames that are found, and more in an album.
 
--- the frame is the last one now, or the list is as it was
-abbrev pub IsFrameAdded : List Filed → List Filed → ℕ → ScreenFrame → Result (Unit {0}) ImportFault → Type 0
-IsFrameAdded old new file frame (Ok _) = new ≡ old ++ record { file = file; frame = frame } ∷ []
-IsFrameAdded old new file frame (Err TooMany) = (new ≡ old) × (MOST_LISTED ≤ length old)
-IsFrameAdded old new file frame (Err Memory) = (new ≡ old) × (length old < MOST_LISTED)
-IsFrameAdded old new file frame (Err _) = ⊥
+-- the frames of some bytes, or why they give none
+abbrev pub AreFramesFound : Result ScreenList ScreenFault → Result FileFrames ImportFault → Type 0
+AreFramesFound found (Ok answer) = AreFileFrames found (Ok answer)
+AreFramesFound found (Err (Screen fault)) = AreFileFrames found (Err (frames.Screen fault))
+AreFramesFound found (Err Memory) = Unit {0}
+AreFramesFound found (Err _) = ⊥
 
 -- The text of a session and its status.
 

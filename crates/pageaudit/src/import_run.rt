@@ -1,24 +1,25 @@
 ghost use Rattle.std.specs.Prelude.{◌≡◌, false};
+ghost use Rattle.screen_files.specs.Files.{found_in};
 ghost use Rattle.pageaudit.specs.Files.{device, IsTextWritten};
 ghost use Rattle.pageaudit.specs.declared.import_run.ImportStatus.TheVariants.{Printed};
-ghost use Rattle.pageaudit.specs.ImportRun.{IsScreenTaken, IsImportRun, import_number};
-ghost use Rattle.pageaudit.specs.Loops.{IsFrameAdded};
+ghost use Rattle.pageaudit.specs.ImportRun.{AreFramesTaken, IsImportRun, import_number};
+ghost use Rattle.pageaudit.specs.Loops.{AreFramesFound};
 
 use crate::status::status_of;
 use audit_report::{RunFault, Sink, Source, SourceFault, read_whole, write_whole};
 use page_ids::PageNo;
 use screen_files::{
-    AddFault, Album, BaseTextFault, FileKind, MOST_SCREEN, ScreenFault, ScreenFrame, base_text,
-    file_frame,
+    AddFault, Album, BaseTextFault, FileFrames, FileKind, FramesFault, MOST_SCREEN, ScreenFault,
+    Settled, base_text, file_frames,
 };
 use std::alloc::Global;
 
-/// Why a file gives no frame of a base.
+/// Why a file gives no frames of a base.
 #[derive(Debug, Clone, Copy, PartialEq, Eq)]
 pub enum ImportFault {
     /// What it holds is refused.
     Screen(ScreenFault),
-    /// There are as many frames as a base may have.
+    /// With its frames there are more than a base may have.
     TooMany,
     /// A read of it failed.
     Broken,
@@ -36,40 +37,52 @@ pub enum ImportStatus {
     TooLong(usize),
 }
 
-// Adds a frame.
-fn add(album: &mut Album, file: usize, frame: &ScreenFrame) -> Result<(), ImportFault>
-    ensures { IsFrameAdded album.old album.new file frame.now result }
+// The frames of a file's bytes.
+fn find(
+    alloc: Global,
+    kind: FileKind,
+    path: &str,
+    file: usize,
+    bytes: &[u8],
+) -> Result<FileFrames, ImportFault>
+    ensures { AreFramesFound (found_in kind path.now file bytes.now) result }
 {
-    match album.add(file, frame) {
-        Ok(()) => Ok(()),
-        Err(AddFault::TooMany) => Err(ImportFault::TooMany),
-        Err(AddFault::Memory) => Err(ImportFault::Memory),
+    match file_frames(alloc, kind, path, file, bytes) {
+        Ok(found) => Ok(found),
+        Err(FramesFault::Screen(fault)) => Err(ImportFault::Screen(fault)),
+        Err(FramesFault::Memory) => Err(ImportFault::Memory),
     }
 }
 
-/// Reads a file as a screen, and adds its frame under the number of the file. After a fault the album is as it was.
+/// Reads a file of screens, and adds its frames under the number of the file: one of each id. The answer has them too, those that aren't
+/// kept, and the offsets of the screens that are left out. After a fault the album is as it was.
 ///
 /// The file is read whole first: one byte more than a file may have is enough. A device is not called again after it returned an
 /// error.
-pub fn take_screen<S: Source>(
+pub fn take_frames<S: Source>(
     alloc: Global,
     source: &mut S,
     kind: FileKind,
     path: &str,
     file: usize,
     album: &mut Album,
-) -> Result<(), ImportFault>
+) -> Result<FileFrames, ImportFault>
     requires { (S.seen source.old).failed ≡ false }
-    ensures { IsScreenTaken (device S.seen source.old source.new) kind path.now file album.old album.new result }
+    ensures { AreFramesTaken (device S.seen source.old source.new) kind path.now file album.old album.new result }
 {
     let bytes = match read_whole(alloc, source, MOST_SCREEN + 1) {
         Ok(bytes) => bytes,
         Err(SourceFault::Broken) => return Err(ImportFault::Broken),
         Err(SourceFault::Memory) => return Err(ImportFault::Memory),
     };
-    match file_frame(kind, path, bytes.as_slice()) {
-        Ok(frame) => add(album, file, &frame),
-        Err(fault) => Err(ImportFault::Screen(fault)),
+    let found = match find(alloc, kind, path, file, bytes.as_slice()) {
+        Ok(found) => found,
+        Err(fault) => return Err(fault),
+    };
+    match album.add(found.frames.frames()) {
+        Ok(()) => Ok(found),
+        Err(AddFault::TooMany) => Err(ImportFault::TooMany),
+        Err(AddFault::Memory) => Err(ImportFault::Memory),
     }
 }
 
@@ -84,20 +97,19 @@ fn write_base<O: Sink>(out: &mut O, text: &[u8]) -> Result<ImportStatus, RunFaul
     }
 }
 
-/// Writes the base of an album's frames, in their order. Sort the album first: a base's ids ascend, and its entry page is the one
-/// that is asked for, else the first frame's.
+/// Writes the base of frames of one id each, which ascend. Its entry page is the one that is asked for, else the first frame's.
 ///
 /// The text is made first. On every fault except `Write`, nothing was written.
 pub fn run_import<O: Sink>(
     alloc: Global,
-    album: &Album,
+    settled: &Settled,
     entry: Option<PageNo>,
     out: &mut O,
 ) -> Result<ImportStatus, RunFault>
     requires { (O.seen out.old).failed ≡ false }
-    ensures { IsImportRun (device O.seen out.old out.new) entry album.now result }
+    ensures { IsImportRun (device O.seen out.old out.new) entry settled.now.frames result }
 {
-    match base_text(alloc, entry, album.as_slice()) {
+    match base_text(alloc, entry, settled) {
         Ok(text) => write_base(out, text.as_slice()),
         Err(BaseTextFault::TooLong(file)) => Ok(ImportStatus::TooLong(file)),
         Err(BaseTextFault::Memory) => Err(RunFault::Memory),

@@ -20,7 +20,7 @@
 //! - [`run_show`], [`Target`], [`Form`], [`ShowStatus`], [`status_of_show`]: the screen of a frame or after keys, and the exit
 //!   status for it; [`read_keys`] reads the keys.
 //! - [`run_pages`], [`PagesStatus`], [`status_of_pages`]: a base as an HTML file, and the exit status for it.
-//! - [`take_screen`], [`Album`], [`FileKind`], [`ImportFault`], [`run_import`], [`ImportStatus`], [`status_of_import`]: the frames of
+//! - [`take_frames`], [`Album`], [`FileKind`], [`ImportFault`], [`run_import`], [`ImportStatus`], [`status_of_import`]: the frames of
 //!   saved screens, the base that is made of them, and the exit status for it.
 //! - [`read_exported`], [`Gallery`], [`run_export`]: a base, the screens of its frames, and one of them written.
 //! - [`run_list`], [`ListForm`]: a line for each frame of a base, in a form.
@@ -56,14 +56,14 @@ pub use export_run::{read_exported, run_export};
 pub use finder::View;
 pub use finding_forms::Format;
 pub use frame_screens::Gallery;
-pub use import_run::{ImportFault, ImportStatus, run_import, status_of_import, take_screen};
+pub use import_run::{ImportFault, ImportStatus, run_import, status_of_import, take_frames};
 pub use laws::certified_is_cleared;
 pub use lint::{Counts, Level, counted_text};
 pub use lint_run::{run_lint, status_of_lint};
 pub use list_run::run_list;
 pub use map_run::{MapStatus, run_map, status_of_map};
 pub use pages_run::{run_pages, status_of_pages};
-pub use screen_files::{Album, FileKind, Filed, ScreenFault};
+pub use screen_files::{Album, FileFrames, FileKind, Filed, Origin, ScreenFault, Settled, Twin};
 pub use show_run::{Form, ShowStatus, Target, run_show, status_of_show};
 pub use status::status_of;
 pub use walk_run::{read_keys, run_walk};

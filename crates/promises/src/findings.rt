@@ -1,4 +1,4 @@
-//! What `lint` finds, and what is printed of it.
+//! What `lint` finds, what is printed of it, and what is fixed.
 
 ghost use Rattle.std.specs.Prelude.{◌≡◌, ◌↔◌, All, IfOk, true, length};
 ghost use Rattle.finding_forms.specs.Forms.{is_one_line};
@@ -8,10 +8,12 @@ ghost use Rattle.lint.specs.Findings.{count_of};
 ghost use Rattle.lint.specs.Laws.{FollowsBaseRead, IsCertified, WarnsOfUnreached};
 ghost use Rattle.lint.specs.Lint.{IsLint, IsSpanWithin};
 ghost use Rattle.promises.specs.Audits.{IsSafeText};
+ghost use Rattle.slip_fixes.specs.Rounds.{IsFixed};
 
 use checker::Policy;
 use finding_forms::{Format, findings_text};
 use lint::{Finding, lint};
+use slip_fixes::{Fixed, fix_slips};
 use std::alloc::{AllocError, Global};
 
 // Every fault of the text, or of its audit, at a span of the text; no error if and only if the text means a safe base, which the
@@ -38,4 +40,11 @@ fn printed(
     ensures { IfOk result (λ out. is_one_line format ≡ true → AreWholeLines format (length findings.now) out.items) }
 {
     findings_text(alloc, format, path, text, findings)
+}
+
+// The certain fixes of what is found, round after round, and nothing else is changed.
+fn mended(alloc: Global, text: &[u8], policy: &Policy) -> Result<Fixed, AllocError>
+    ensures { IfOk result (λ f. IsFixed policy.now text.now f.text.items f.fixes) }
+{
+    fix_slips(alloc, text, policy)
 }

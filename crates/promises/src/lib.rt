@@ -6,6 +6,7 @@
 #![tactic(auto)]
 
 mod audits;
+mod calls_served;
 mod changes;
 mod checks;
 mod findings;

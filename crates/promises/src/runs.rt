@@ -21,7 +21,7 @@ use checker::Policy;
 use frame_records::Groups;
 use page_ids::{FrameId, PageNo};
 use pageaudit::{
-    Album, Counts, Form, Format, Gallery, ImportStatus, Level, ListForm, MapStatus, PagesStatus,
+    Counts, Form, Format, Gallery, ImportStatus, Level, ListForm, MapStatus, PagesStatus, Settled,
     ShowStatus, Status, Target, View, run_audit, run_change, run_check, run_export, run_import,
     run_lint, run_list, run_map, run_pages, run_show, run_walk, status_of, status_of_import,
     status_of_lint, status_of_map, status_of_pages, status_of_show,
@@ -171,14 +171,14 @@ fn pages<B: Source, O: Sink>(
 
 fn import<O: Sink>(
     alloc: Global,
-    album: &Album,
+    settled: &Settled,
     entry: Option<PageNo>,
     out: &mut O,
 ) -> Result<ImportStatus, RunFault>
     requires { (O.seen out.old).failed ≡ false }
-    ensures { IsImportRun (device O.seen out.old out.new) entry album.now result }
+    ensures { IsImportRun (device O.seen out.old out.new) entry settled.now.frames result }
 {
-    run_import(alloc, album, entry, out)
+    run_import(alloc, settled, entry, out)
 }
 
 fn export<O: Sink>(

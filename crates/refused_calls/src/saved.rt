@@ -7,11 +7,11 @@ use frame_records::Groups;
 use page_ids::{FrameId, PageNo};
 use pageaudit::{
     Album, FileKind, Gallery, ImportFault, ImportStatus, read_exported, run_export, run_import,
-    take_screen,
+    take_frames,
 };
 use std::alloc::Global;
 
-/// The base of one screen. A file that gives no frame is as one that can't be read.
+/// The base of one file of screens. A file that gives no frame is as one that can't be read.
 pub fn imported<S: Source, O: Sink>(
     alloc: Global,
     screen: &mut S,
@@ -24,10 +24,25 @@ pub fn imported<S: Source, O: Sink>(
     requires out_open { (O.seen out.old).failed ≡ false }
 {
     let mut album = Album::new(alloc);
-    match take_screen(alloc, screen, kind, path, 0, &mut album) {
-        Ok(()) => run_import(alloc, &album, entry, out),
+    match take_frames(alloc, screen, kind, path, 0, &mut album) {
+        Ok(_) => printed(alloc, album, entry, out),
         Err(ImportFault::Memory) => Err(RunFault::Memory),
         Err(_) => Err(RunFault::ReadBase),
+    }
+}
+
+// The base of an album.
+fn printed<O: Sink>(
+    alloc: Global,
+    album: Album,
+    entry: Option<PageNo>,
+    out: &mut O,
+) -> Result<ImportStatus, RunFault>
+    requires { (O.seen out.old).failed ≡ false }
+{
+    match album.settle(alloc) {
+        Ok(settled) => run_import(alloc, &settled, entry, out),
+        Err(_) => Err(RunFault::Memory),
     }
 }
 

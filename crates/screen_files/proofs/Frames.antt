@@ -3,7 +3,7 @@ use Rattle.std.proofs.Common.{◌≡◌, ◌∙◌, ◌<◌, ◌≤◌, ℕ, Boo
 use Rattle.std.proofs.lemmas.Bool.Decides.{nat_tests}
 use Rattle.std.proofs.lemmas.List.{length-append}
 use Rattle.base_text.specs.declared.limits.TheConstants.{MOST_TEXT}
-use Rattle.screen_files.specs.declared.album.Filed.{Filed}
+use Rattle.screen_files.specs.declared.filed.Filed.{Filed}
 use Rattle.screen_files.specs.Album.{filed_lines, first_over, frames_text}
 
 module _ (before new : List ℕ) (f : Filed) (more rest : List Filed) (is : rest ≡ f ∷ more) (wrote : new ≡ before ++ filed_lines f more) where
@@ -14,14 +14,14 @@ module _ (before new : List ℕ) (f : Filed) (more rest : List Filed) (is : rest
       ∙ append_assoc before (filed_lines f more) (frames_text more)
       ∙ ap (λ (fs : List Filed). before ++ frames_text fs) (sym is)
 
-  over_by : (b : Bool) → nat_lt MOST_TEXT (length new) ≡ b → first_over (length before) rest ≡ cond b (Some f.file) (first_over (length new) more)
+  over_by : (b : Bool) → nat_lt MOST_TEXT (length new) ≡ b → first_over (length before) rest ≡ cond b (Some f.origin.file) (first_over (length new) more)
   unfolding first_over
   over_by b test =
       ap (first_over (length before)) is
-      ∙ ap (λ (n : ℕ). cond (nat_lt MOST_TEXT n) (Some f.file) (first_over n more)) (sym (ap length wrote ∙ length-append before (filed_lines f more)))
-      ∙ ap (λ (over : Bool). cond over (Some f.file) (first_over (length new) more)) test
+      ∙ ap (λ (n : ℕ). cond (nat_lt MOST_TEXT n) (Some f.origin.file) (first_over n more)) (sym (ap length wrote ∙ length-append before (filed_lines f more)))
+      ∙ ap (λ (over : Bool). cond over (Some f.origin.file) (first_over (length new) more)) test
 
-  pub over_here : MOST_TEXT < length new → first_over (length before) rest ≡ Some f.file
+  pub over_here : MOST_TEXT < length new → first_over (length before) rest ≡ Some f.origin.file
   over_here past = let test : nat_lt MOST_TEXT (length new) ≡ true = grind (arith, nat_tests) in over_by true test
 
   pub over_later : length new ≤ MOST_TEXT → first_over (length new) more ≡ first_over (length before) rest

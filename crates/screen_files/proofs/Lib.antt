@@ -4,3 +4,8 @@ pub mod Lines
 pub mod Shown
 pub mod Saved
 pub mod Frames
+pub mod Rising
+pub mod Groups
+pub mod Holding
+pub mod Reels
+pub mod Lasts

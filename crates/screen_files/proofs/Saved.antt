@@ -1,15 +1,20 @@
 -- What a file gives is a screen.
-use Rattle.std.proofs.Common.{◌≡◌, ◌∙◌, ◌<◌, ◌≤◌, ◌==◌, ℕ, zero, suc, Bool, true, false, List, ◌++◌, Option, Some, None, refl, subst, length, take, map, replicate, nat_lt, arith}
+use Rattle.std.proofs.Common.{◌≡◌, ◌∙◌, ◌<◌, ◌≤◌, ◌==◌, ◌&&◌, ℕ, zero, suc, Bool, true, false, not, List, [], ◌∷◌, ◌++◌, Option, Some, None, refl, subst, drop, length, take, map, replicate, nat_lt, arith}
 use Rattle.std.specs.Prelude.{option_map}
 use Rattle.std.proofs.lemmas.Bool.Decides.{nat_tests}
-use Rattle.std.proofs.lemmas.List.{length-append, length-map, length-replicate, length-take-le}
-use Rattle.std.proofs.lemmas.List.Elements.{All-append, All-cons, All-map, All-nil, All-take}
-use Rattle.std.specs.List.{All}
-use Rattle.terminal_codes.specs.Screen.{IsScreen, run}
+use Rattle.std.proofs.lemmas.List.{length-append, length-drop, length-map, length-replicate, length-take-le}
+use Rattle.std.proofs.lemmas.List.Elements.{All-append, All-cons, All-drop, All-map, All-nil, All-take}
+use Rattle.std.specs.List.{All, list_any}
+use Rattle.std.specs.Option.{is_some}
+use Rattle.terminal_codes.specs.Screen.{IsScreen}
 use Rattle.terminal_codes.specs.Writes.{IsCode}
 use Rattle.terminal_codes.proofs.Codes.{cells_hold_codes}
 use Rattle.terminal_codes.proofs.Stores.{screen_of_run}
-use Rattle.screen_files.specs.Codes.{stored_code, blank_codes, has_all_rows, between_blank, placed, seven_bits, switched_on, sent_codes}
+use Rattle.screen_files.specs.declared.capture.Reel.{Reel}
+use Rattle.screen_files.specs.declared.capture.Shot.{Shot}
+use Rattle.screen_files.specs.Captures.{is_blank_screen, clears_screen, shot_at, shot_if_shown, shown_first, shown_since, unwound, offset_in, reel_after, cleared_by, cleared, wound, start_offset, shown_end, shown_screens, end_if_none, capture_screens}
+use Rattle.screen_files.specs.Codes.{stored_code, row_code, blank_codes, codes_of_rows, has_all_rows, is_ep1, is_space_byte, between_blank, placed, rows_in, seven_bits}
+use Rattle.screen_files.specs.Heads.{screen_head}
 use Rattle.screen_files.specs.Laws.{FilesAreScreens, IsSavedScreen}
 
 abbrev IsByte : ℕ → Type 0
@@ -27,8 +32,14 @@ stored_is_code b lt = low (nat_lt b 32) refl where
   low true e = rw e (grind (arith, nat_tests), grind (arith, nat_tests))
   low false e = high e (nat_lt b 160) refl
 
-all_stored : (cells : List ℕ) → All IsByte cells → All IsCode (map stored_code cells)
-all_stored cells bytes = All-map IsCode stored_code cells (λ k d lt. stored_is_code _ (bytes k d lt))
+row_is_code : (s : Bool) (b : ℕ) → IsByte b → IsCode (row_code s b)
+row_is_code s b lt = by (not s && b == 0) refl where
+  by : (c : Bool) → (not s && b == 0) ≡ c → IsCode (row_code s b)
+  by true e = rw e (omega arith, omega arith)
+  by false e = rw e (stored_is_code b lt)
+
+all_stored : (s : Bool) (cells : List ℕ) → All IsByte cells → All IsCode (map (row_code s) cells)
+all_stored s cells bytes = All-map IsCode (row_code s) cells (λ k d lt. row_is_code s _ (bytes k d lt))
 
 spaces_are_bytes : (n : ℕ) → All IsByte (replicate n 32)
 spaces_are_bytes zero = All-nil IsByte
@@ -40,54 +51,129 @@ IsOfCells cells = (length cells ≡ 960) × All IsByte cells
 some_is : {A : Type 0} (x y : A) → (let o : Option A = Some x in o) ≡ Some y → x ≡ y
 some_is x y e = cc
 
-placed_by : (bytes cells : List ℕ) → All IsByte bytes → (all inner : Bool) → has_all_rows (length bytes) ≡ all
-    → (length bytes == 880) ≡ inner → placed bytes ≡ Some cells → IsOfCells cells
-placed_by bytes cells are true inner e f is =
-    let long : 960 ≤ length bytes = grind (arith, nat_tests, e) in
-    let same : take 960 bytes ≡ cells = some_is (take 960 bytes) cells (rw e at is) in
-    subst IsOfCells same (length-take-le 960 bytes long, All-take IsByte 960 bytes are)
-placed_by bytes cells are false true e f is =
-    let size : length bytes ≡ 880 = grind (arith, nat_tests, f) in
-    let same : between_blank bytes ≡ cells = some_is (between_blank bytes) cells (rw (e, f) at is) in
-    let blank = spaces_are_bytes 40 in
-    let long : length (between_blank bytes) ≡ 960 =
-    omega (arith, size, length-append (blank_codes ++ bytes) blank_codes, length-append blank_codes bytes, length-replicate {A = ℕ} 40 32) in
-    subst IsOfCells same (long, All-append IsByte (blank_codes ++ bytes) blank_codes (All-append IsByte blank_codes bytes blank are) blank)
-placed_by bytes cells are false false e f is = let none = rw (e, f) at is in absurd cc
+placed_whole : (rows : List ℕ) → length rows ≡ 960 → All IsByte rows → IsOfCells (placed rows)
+placed_whole rows long are =
+    let not_inner : (length rows == 880) ≡ false = grind (arith, nat_tests) in rw not_inner (long, are)
 
-saved_by : (bytes screen : List ℕ) → All IsByte bytes → (o : Option (List ℕ)) → placed bytes ≡ o
-    → option_map (map stored_code) o ≡ Some screen → IsSavedScreen screen
+placed_inner : (rows : List ℕ) → (length rows == 880) ≡ true → All IsByte rows → IsOfCells (placed rows)
+placed_inner rows inner are =
+    let size : length rows ≡ 880 = grind (arith, nat_tests) in
+    let blank = spaces_are_bytes 40 in
+    let long : length (between_blank rows) ≡ 960 =
+    omega (arith, size, length-append (blank_codes ++ rows) blank_codes, length-append blank_codes rows, length-replicate {A = ℕ} 40 32) in
+    rw inner (long, All-append IsByte (blank_codes ++ rows) blank_codes (All-append IsByte blank_codes rows blank are) blank)
+
+placed_by : (bytes rows : List ℕ) → All IsByte bytes → (all inner ep1 : Bool) → has_all_rows (length bytes) ≡ all
+    → (length bytes == 880) ≡ inner → is_ep1 bytes ≡ ep1 → rows_in bytes ≡ Some rows → IsOfCells (placed rows)
+placed_by bytes rows are true inner ep1 e f g is =
+    let long : 960 ≤ length bytes = grind (arith, nat_tests, e) in
+    let same : take 960 bytes ≡ rows = some_is (take 960 bytes) rows (rw e at is) in
+    subst (λ (rs : List ℕ). IsOfCells (placed rs)) same (placed_whole (take 960 bytes) (length-take-le 960 bytes long) (All-take IsByte 960 bytes are))
+placed_by bytes rows are false true ep1 e f g is =
+    let same : bytes ≡ rows = some_is bytes rows (rw (e, f) at is) in
+    subst (λ (rs : List ℕ). IsOfCells (placed rs)) same (placed_inner bytes f are)
+placed_by bytes rows are false false true e f g is =
+    let long : 968 ≤ length bytes = grind (arith, nat_tests, g) in
+    let enough : 960 ≤ length (drop 6 bytes) = omega (arith, long, length-drop 6 bytes) in
+    let same : take 960 (drop 6 bytes) ≡ rows = some_is (take 960 (drop 6 bytes)) rows (rw (e, f, g) at is) in
+    subst (λ (rs : List ℕ). IsOfCells (placed rs)) same (placed_whole (take 960 (drop 6 bytes)) (length-take-le 960 (drop 6 bytes) enough) (All-take IsByte 960 (drop 6 bytes) (All-drop IsByte 6 bytes are)))
+placed_by bytes rows are false false false e f g is = let none = rw (e, f, g) at is in absurd cc
+
+saved_by : (bytes screen : List ℕ) → All IsByte bytes → (o : Option (List ℕ)) → rows_in bytes ≡ o
+    → option_map codes_of_rows o ≡ Some screen → IsSavedScreen screen
 saved_by bytes screen are None e is = absurd cc
-saved_by bytes screen are (Some cells) e is =
-    let of = placed_by bytes cells are (has_all_rows (length bytes)) (length bytes == 880) refl refl e in
-    subst IsSavedScreen (some_is (map stored_code cells) screen is) record {
-      cells = length-map cells stored_code ∙ of.0;
-      codes = all_stored cells of.1;
+saved_by bytes screen are (Some rows) e is =
+    let of = placed_by bytes rows are (has_all_rows (length bytes)) (length bytes == 880) (is_ep1 bytes) refl refl refl e in
+    let s = list_any is_space_byte rows in
+    subst IsSavedScreen (some_is (codes_of_rows rows) screen is) record {
+      cells = length-map (placed rows) (row_code s) ∙ of.0;
+      codes = all_stored s (placed rows) of.1;
     }
 
--- Streams.
+-- Captures.
 
-seven_is_byte : (b : ℕ) → IsByte (seven_bits b)
-seven_is_byte b = omega arith
+-- a terminal that has 960 codes, at a position among them
+record IsReel (r : Reel) : Type 0 where
+  screen : IsScreen r.terminal
+  codes : All IsCode r.terminal.cells
 
-sent_by : (bytes screen : List ℕ) → (none : Bool) → (length bytes == 0) ≡ none → sent_codes bytes ≡ Some screen → IsSavedScreen screen
-sent_by bytes screen true e is = let none = rw e at is in absurd cc
-sent_by bytes screen false e is =
-    let sent = map seven_bits bytes in
-    let end = run switched_on sent in
-    let blank : All IsCode (replicate 960 32) = blanks 960 in
-    let first : IsScreen switched_on = record { cells = length-replicate {A = ℕ} 960 32; at = omega arith } in
-    let are : All IsByte sent = All-map IsByte seven_bits bytes (λ k d lt. seven_is_byte _) in
-    subst IsSavedScreen (some_is end.cells screen (rw e at is)) record {
-      cells = (screen_of_run switched_on sent first).cells;
-      codes = cells_hold_codes switched_on sent are blank;
-    } where
-      blanks : (n : ℕ) → All IsCode (replicate n 32)
-      blanks zero = All-nil IsCode
-      blanks (suc n) = All-cons IsCode 32 (replicate n 32) (omega arith, omega arith) (blanks n)
+abbrev IsSavedShot : Shot → Type 0
+IsSavedShot s = IsSavedScreen s.codes
+
+blanks : (n : ℕ) → All IsCode (replicate n 32)
+blanks zero = All-nil IsCode
+blanks (suc n) = All-cons IsCode 32 (replicate n 32) (omega arith, omega arith) (blanks n)
+
+unwound_is : IsReel unwound
+unwound_is = record {
+  screen = record { cells = length-replicate {A = ℕ} 960 32; at = omega arith };
+  codes = blanks 960;
+}
+
+after_is : (r : Reel) (offset b : ℕ) → IsReel r → IsReel (reel_after r offset b)
+after_is r offset b is =
+    let byte : IsByte (seven_bits b) = omega arith in
+    let one : All IsByte (seven_bits b ∷ []) = All-cons IsByte (seven_bits b) [] byte (All-nil IsByte) in
+    record {
+      screen = screen_of_run r.terminal (seven_bits b ∷ []) is.screen;
+      codes = cells_hold_codes r.terminal (seven_bits b ∷ []) one is.codes;
+    }
+
+saved_of : (r : Reel) → IsReel r → IsSavedScreen r.terminal.cells
+saved_of r is = record { cells = is.screen.cells; codes = is.codes }
+
+shot_saved : (byte : ℕ) (codes : List ℕ) → IsSavedScreen codes → All IsSavedShot (shot_at byte codes ∷ [])
+shot_saved byte codes saved = All-cons IsSavedShot (shot_at byte codes) [] saved (All-nil IsSavedShot)
+
+shown_saved : (byte : ℕ) (codes : List ℕ) → IsSavedScreen codes → All IsSavedShot (shot_if_shown byte codes)
+shown_saved byte codes saved = by (is_blank_screen codes) refl where
+  by : (b : Bool) → is_blank_screen codes ≡ b → All IsSavedShot (shot_if_shown byte codes)
+  by true e = rw e (All-nil IsSavedShot)
+  by false e = rw e (shot_saved byte codes saved)
+
+first_saved : (codes : List ℕ) → IsSavedScreen codes → All IsSavedShot (shown_first codes)
+first_saved codes saved = by (is_some (screen_head codes).id) refl where
+  by : (b : Bool) → is_some (screen_head codes).id ≡ b → All IsSavedShot (shown_first codes)
+  by true e = rw e (shot_saved 0 codes saved)
+  by false e = rw e (All-nil IsSavedShot)
+
+since_saved : (start : Option ℕ) (codes : List ℕ) → IsSavedScreen codes → All IsSavedShot (shown_since start codes)
+since_saved None codes saved = first_saved codes saved
+since_saved (Some byte) codes saved = shown_saved byte codes saved
+
+cleared_by_saved : (r : Reel) (b : ℕ) → IsReel r → All IsSavedShot (cleared_by r b)
+cleared_by_saved r b is = by (clears_screen b) refl where
+  by : (c : Bool) → clears_screen b ≡ c → All IsSavedShot (cleared_by r b)
+  by true e = rw e (since_saved r.start r.terminal.cells (saved_of r is))
+  by false e = rw e (All-nil IsSavedShot)
+
+cleared_saved : (size : ℕ) (r : Reel) (bytes : List ℕ) → IsReel r → All IsSavedShot (cleared size r bytes)
+unfolding cleared
+cleared_saved size r [] is = All-nil IsSavedShot
+cleared_saved size r (b ∷ bs) is =
+    let next = reel_after r (offset_in size (b ∷ bs)) b in
+    All-append IsSavedShot (cleared_by r b) (cleared size next bs) (cleared_by_saved r b is) (cleared_saved size next bs (after_is r (offset_in size (b ∷ bs)) b is))
+
+wound_is : (size : ℕ) (r : Reel) (bytes : List ℕ) → IsReel r → IsReel (wound size r bytes)
+unfolding wound
+wound_is size r [] is = is
+wound_is size r (b ∷ bs) is =
+    wound_is size (reel_after r (offset_in size (b ∷ bs)) b) bs (after_is r (offset_in size (b ∷ bs)) b is)
+
+end_saved : (shots : List Shot) (r : Reel) → IsReel r → All IsSavedShot (end_if_none shots r)
+end_saved [] r is = shot_saved (start_offset r.start) r.terminal.cells (saved_of r is)
+end_saved (s ∷ ss) r is = All-nil IsSavedShot
+
+sent_by : (bytes : List ℕ) → All IsSavedShot (capture_screens bytes)
+sent_by bytes =
+    let r = wound (length bytes) unwound bytes in
+    let is = wound_is (length bytes) unwound bytes unwound_is in
+    let all = cleared_saved (length bytes) unwound bytes unwound_is in
+    let shown = All-append IsSavedShot (cleared (length bytes) unwound bytes) (shown_end r) all (shown_saved (start_offset r.start) r.terminal.cells (saved_of r is)) in
+    All-append IsSavedShot (shown_screens bytes) (end_if_none (shown_screens bytes) r) shown (end_saved (shown_screens bytes) r is)
 
 pub files : FilesAreScreens
 files = record {
-  saved = λ bytes screen are is. saved_by bytes screen are (placed bytes) refl is;
-  sent = λ bytes screen is. sent_by bytes screen (length bytes == 0) refl is;
+  saved = λ bytes screen are is. saved_by bytes screen are (rows_in bytes) refl is;
+  sent = sent_by;
 }

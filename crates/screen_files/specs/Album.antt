@@ -2,20 +2,20 @@
 use Rattle.std.specs.Prelude.{◌≡◌, ◌<◌, ◌≤◌, ◌+◌, ◌++◌, ◌∷◌, [], ℕ, ◌&&◌, Bool, false, List, Option, Some, None, Result, Ok, Err, length, nat_lt, if◌then◌else◌}
 use Rattle.page_ids.specs.Ids.{Id, id_eq, following}
 use Rattle.base_text.specs.declared.limits.TheConstants.{MOST_TEXT}
-use Rattle.screen_files.specs.declared.album.Filed.{Filed}
+use Rattle.screen_files.specs.declared.filed.Filed.{Filed}
 use Rattle.screen_files.specs.declared.album.BaseTextFault.{BaseTextFault}
 use Rattle.screen_files.specs.declared.album.BaseTextFault.TheVariants.{TooLong, Memory}
 use Rattle.screen_files.specs.declared.album.AddFault.{AddFault}
 use Rattle.screen_files.specs.declared.album.AddFault.TheVariants as add
-use Rattle.screen_files.specs.declared.frame.ScreenFrame.{ScreenFrame}
 use Rattle.frame_records.specs.declared.limits.TheConstants.{MOST_LISTED}
+use Rattle.screen_files.specs.Settling.{Ascend}
 use Rattle.screen_files.specs.Texts.{entry_key_line, frame_lines}
 
--- the list after the frame of a file, or the list as it was; memory is refused only if there is room
-abbrev pub IsFrameFiled : List Filed → List Filed → ℕ → ScreenFrame → Result (Unit {0}) AddFault → Type 0
-IsFrameFiled old new file frame (Ok _) = new ≡ old ++ record { file = file; frame = frame } ∷ []
-IsFrameFiled old new file frame (Err add.TooMany) = (new ≡ old) × (MOST_LISTED ≤ length old)
-IsFrameFiled old new file frame (Err add.Memory) = (new ≡ old) × (length old < MOST_LISTED)
+-- the list after frames, or the list as it was; memory is refused only if there is room
+abbrev pub AreFramesFiled : List Filed → List Filed → List Filed → Result (Unit {0}) AddFault → Type 0
+AreFramesFiled old new more (Ok _) = new ≡ old ++ more
+AreFramesFiled old new more (Err add.TooMany) = (new ≡ old) × (MOST_LISTED < length old + length more)
+AreFramesFiled old new more (Err add.Memory) = (new ≡ old) × (length old + length more ≤ MOST_LISTED)
 
 -- The base.
 
@@ -48,14 +48,15 @@ base_text asked (f ∷ rest) = entry_key_line (entry_or asked f.frame.id.page) +
 unfoldable pub first_over : ℕ → List Filed → Option ℕ
 first_over before [] = None
 first_over before (f ∷ rest) =
-    if nat_lt MOST_TEXT (before + length (filed_lines f rest)) then Some f.file else first_over (before + length (filed_lines f rest)) rest
+    if nat_lt MOST_TEXT (before + length (filed_lines f rest)) then Some f.origin.file else first_over (before + length (filed_lines f rest)) rest
 
 abbrev pub over_most : Option ℕ → List Filed → Option ℕ
 over_most asked [] = None
 over_most asked (f ∷ rest) = first_over (length (entry_key_line (entry_or asked f.frame.id.page))) (f ∷ rest)
 
--- the text of frames, none of which ends too late
+-- the text of frames whose ids ascend, none of which ends too late
 pub record IsBaseText (asked : Option ℕ) (frames : List Filed) (text : List ℕ) : Type 0 where
+  pub ascend : Ascend frames
   pub is : text ≡ base_text asked frames
   pub within : over_most asked frames ≡ None
 

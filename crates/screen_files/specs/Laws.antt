@@ -6,7 +6,8 @@ use Rattle.terminal_codes.specs.Screen.{Screen, run}
 use Rattle.terminal_codes.specs.Writes.{IsCode}
 use Rattle.terminal_codes.specs.Bodies.{lead_codes}
 use Rattle.base_text.specs.Rows.{body_of_rows}
-use Rattle.screen_files.specs.Codes.{between_blank, saved_codes, sent_codes}
+use Rattle.screen_files.specs.Captures.{capture_screens}
+use Rattle.screen_files.specs.Codes.{between_blank, saved_codes}
 use Rattle.screen_files.specs.Rows.{rows_of}
 
 -- 960 codes that cells can hold
@@ -26,4 +27,4 @@ FramesShowScreens = (t : Screen) (screen : List ℕ) → IsSavedScreen screen
 -- what a file of bytes gives is such a screen
 pub record FilesAreScreens : Type 0 where
   pub saved : (bytes screen : List ℕ) → All (λ b. b < 256) bytes → saved_codes bytes ≡ Some screen → IsSavedScreen screen
-  pub sent : (bytes screen : List ℕ) → sent_codes bytes ≡ Some screen → IsSavedScreen screen
+  pub sent : (bytes : List ℕ) → All (λ s. IsSavedScreen s.codes) (capture_screens bytes)

@@ -3,6 +3,9 @@ pub mod Heads
 pub mod Keys
 pub mod Rows
 pub mod Texts
+pub mod Captures
+pub mod Settling
 pub mod Files
 pub mod Album
 pub mod Laws
+pub mod Loops

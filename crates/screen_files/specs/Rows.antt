@@ -1,5 +1,5 @@
 -- The rows of a frame that shows a screen.
-use Rattle.std.specs.Prelude.{ℕ, zero, suc, List, [], ◌∷◌, ◌*◌, ◌==◌, length, map, take, drop, if◌then◌else◌}
+use Rattle.std.specs.Prelude.{ℕ, zero, suc, List, ◌*◌, ◌==◌, length, map, take, drop, if◌then◌else◌}
 use Rattle.std.specs.List.{range_with_len}
 use Rattle.screens.specs.Text.{trimmed}
 

@@ -1,12 +1,12 @@
 //! The frames of some files, and the text of the base that is made of them.
 
-ghost use Rattle.std.specs.Prelude.{◌≡◌, ◌++◌, ◌∷◌, [], None, MatchResult, OnOk, IfOk, IfErr, IsPermutation, length, nat_le};
-ghost use Rattle.std.specs.List.Sorted.{IsSortedByKey};
-ghost use Rattle.page_ids.specs.Ids.{id_cmp};
+ghost use Rattle.std.specs.Prelude.{◌≡◌, ◌++◌, ◌+◌, [], None, OnOk, IfOk, IfErr, length, nat_lt};
 ghost use Rattle.frame_records.specs.declared.limits.TheConstants.{MOST_LISTED};
+ghost use Rattle.screen_files.specs.Settling.{Ascend, IsSettled};
 ghost use Rattle.screen_files.specs.Album as spec;
 
-use crate::frame::ScreenFrame;
+use crate::filed::Filed;
+use crate::settling::{Settled, settle};
 use crate::texts::{push_entry, push_frame};
 use base_text::MOST_TEXT;
 use frame_records::MOST_LISTED;
@@ -14,17 +14,10 @@ use page_ids::{FrameId, PageNo};
 use std::alloc::{AllocError, Global};
 use std::marker::Model;
 
-/// A frame, and the number of the file that it is from.
-#[derive(Debug, Clone, Copy, PartialEq, Eq)]
-pub struct Filed {
-    pub file: usize,
-    pub frame: ScreenFrame,
-}
-
-/// Why a frame isn't added.
+/// Why frames aren't added.
 #[derive(Debug, Clone, Copy, PartialEq, Eq)]
 pub enum AddFault {
-    /// There are as many as a base may have.
+    /// With them there are more than a base may have.
     TooMany,
     /// A growth was refused.
     Memory,
@@ -47,7 +40,7 @@ pub struct Album {
 
 impl Model for Album {
     ghost use Rattle.std.specs.Prelude.{List};
-    ghost use Rattle.screen_files.specs.declared.album.Filed.{Filed};
+    ghost use Rattle.screen_files.specs.declared.filed.Filed.{Filed};
 
     ghost Value = { List Filed };
 
@@ -64,50 +57,38 @@ impl Album {
         }
     }
 
-    // Whether there are as many frames as a base may have.
-    fn is_full(&self) -> bool
-        ensures { result ≡ nat_le MOST_LISTED (length self.now) }
+    // Whether there are with some more frames more than a base may have.
+    fn is_over(&self, more: usize) -> bool
+        ensures { result ≡ nat_lt MOST_LISTED (length self.now + more) }
     {
-        self.frames.len() >= MOST_LISTED
+        self.frames.len() > MOST_LISTED || more > MOST_LISTED - self.frames.len()
     }
 
-    // Adds one; a slice, since the checker can't plan a push of a value that holds an Option.
-    fn push(&mut self, filed: &Filed) -> Result<(), AllocError>
-        ensures { MatchResult result (λ _. self.new ≡ self.old ++ filed.now ∷ []) (λ _. self.new ≡ self.old) }
+    /// Adds frames. After a fault the album is as it was.
+    pub fn add(&mut self, frames: &[Filed]) -> Result<(), AddFault>
+        ensures { spec.AreFramesFiled self.old self.new frames.now result }
     {
-        self.frames.extend_from_slice(&[*filed])
-    }
-
-    /// Adds the frame of a file. After a fault the album is as it was.
-    pub fn add(&mut self, file: usize, frame: &ScreenFrame) -> Result<(), AddFault>
-        ensures { spec.IsFrameFiled self.old self.new file frame.now result }
-    {
-        if self.is_full() {
+        if self.is_over(frames.len()) {
             return Err(AddFault::TooMany);
         }
-        let filed = Filed {
-            file,
-            frame: *frame,
-        };
-        match self.push(&filed) {
+        match self.frames.extend_from_slice(frames) {
             Ok(()) => Ok(()),
             Err(_) => Err(AddFault::Memory),
         }
     }
 
-    /// Sorts the frames by their ids.
-    pub fn sort(&mut self)
-        ensures same { IsPermutation self.old self.new }
-        ensures ascend { IsSortedByKey (λ f. f.frame.id) id_cmp self.new }
-    {
-        self.frames.sort_unstable_by_key(|filed| filed.frame.id);
-    }
-
-    /// The frames, in order.
+    /// The frames, in the order in which they were added.
     pub fn as_slice(&self) -> &[Filed]
         ensures { result.now ≡ self.now }
     {
         self.frames.as_slice()
+    }
+
+    /// Keeps one frame of each id, as [`settle`] does.
+    pub fn settle(self, alloc: Global) -> Result<Settled, AllocError>
+        ensures { IfOk result (IsSettled self) }
+    {
+        settle(alloc, self.frames)
     }
 }
 
@@ -150,20 +131,20 @@ fn push_frames(out: &mut Vec<u8>, frames: &[Filed]) -> Result<(), BaseTextFault>
             Err(_) => return Err(BaseTextFault::Memory),
         }
         if out.len() > MOST_TEXT {
-            return Err(BaseTextFault::TooLong(filed.file));
+            return Err(BaseTextFault::TooLong(filed.origin.file));
         }
         rest = more;
     }
     Ok(())
 }
 
-/// The text of the base of some frames, in their order: no frames make no text. The entry page is the one that is asked for, else
-/// that of the first frame. A frame has `next` if the one after it has the following letter.
-pub fn base_text(
+// The text of the base of some frames.
+fn frames_text(
     alloc: Global,
     asked: Option<PageNo>,
     frames: &[Filed],
 ) -> Result<Vec<u8>, BaseTextFault>
+    requires { Ascend frames.now }
     ensures text { IfOk result (λ text. spec.IsBaseText asked frames.now text.items) }
     ensures fault { IfErr result (spec.IsNoText (spec.over_most asked frames.now)) }
 {
@@ -174,4 +155,17 @@ pub fn base_text(
     push_entry(&mut out, asked.unwrap_or(first.frame.id.page)).map_err(|_| BaseTextFault::Memory)?;
     push_frames(&mut out, frames)?;
     Ok(out)
+}
+
+/// The text of the base of some frames: no frames make no text. The entry page is the one that is asked for, else that of the first
+/// frame. A frame has `next` if the one after it has the following letter.
+pub fn base_text(
+    alloc: Global,
+    asked: Option<PageNo>,
+    settled: &Settled,
+) -> Result<Vec<u8>, BaseTextFault>
+    ensures text { IfOk result (λ text. spec.IsBaseText asked settled.now.frames text.items) }
+    ensures fault { IfErr result (spec.IsNoText (spec.over_most asked settled.now.frames)) }
+{
+    frames_text(alloc, asked, settled.frames())
 }

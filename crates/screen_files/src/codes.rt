@@ -1,9 +1,10 @@
 //! The codes of a file.
 
-ghost use Rattle.std.specs.Prelude.{◌≡◌, ◌≤◌, length, map, take, true};
+ghost use Rattle.std.specs.Prelude.{◌≡◌, ◌≤◌, IfSome, length, map, take, true};
+ghost use Rattle.std.specs.List.{list_any};
+ghost use Rattle.std.specs.Option.{option_copied};
 ghost use Rattle.screen_files.specs.Codes as spec;
-
-use terminal_codes::Terminal;
+ghost use Rattle.screen_files.specs.Loops as loops;
 
 // The code of a byte of a saved screen.
 fn stored_code(byte: u8) -> u8
@@ -24,69 +25,103 @@ fn has_all_rows(size: usize) -> bool
     size == 960 || size == 1000 || size == 1024
 }
 
-// The first 960 bytes.
-fn first_cells(bytes: &[u8]) -> [u8; 960]
+// Whether a file is of the form EP1.
+fn is_ep1(bytes: &[u8]) -> bool
+    ensures value { result ≡ spec.is_ep1 bytes.now }
+    ensures long { result ≡ true → 968 ≤ length bytes.now }
+{
+    (bytes.len() == 968 || bytes.len() == 1008) && bytes[0] == 0xFE && bytes[1] == 0x01
+}
+
+// The first 24 rows.
+fn first_rows(bytes: &[u8]) -> &[u8]
     requires { 960 ≤ length bytes.now }
-    ensures { result ≡ take 960 bytes.now }
+    ensures value { result.now ≡ take 960 bytes.now }
+    ensures sized { length result.now ≡ 960 }
 {
-    let mut cells = [0x20; 960];
-    cells.copy_from_slice(&bytes[..960]);
-    cells
+    &bytes[..960]
 }
 
-// Rows 1 to 22, between blank rows.
-fn inner_cells(bytes: &[u8]) -> [u8; 960]
-    requires { length bytes.now ≡ 880 }
-    ensures { result ≡ spec.between_blank bytes.now }
-{
-    let mut cells = [0x20; 960];
-    cells[40..920].copy_from_slice(bytes);
-    cells
-}
-
-// The bytes of the cells, by the size of the file.
-fn placed(bytes: &[u8]) -> Option<[u8; 960]>
-    ensures { result ≡ spec.placed bytes.now }
+// The bytes of the rows, by the size and the first bytes of the file.
+fn rows_in(bytes: &[u8]) -> Option<&[u8]>
+    ensures value { option_copied result ≡ spec.rows_in bytes.now }
+    ensures sized { IfSome result (λ rows. loops.has_row_size rows.now ≡ true) }
 {
     if has_all_rows(bytes.len()) {
-        Some(first_cells(bytes))
+        Some(first_rows(bytes))
     } else if bytes.len() == 880 {
-        Some(inner_cells(bytes))
+        Some(bytes)
+    } else if is_ep1(bytes) {
+        Some(&bytes[6..966])
     } else {
         None
     }
 }
 
-fn decode(codes: &mut [u8])
-    ensures { codes.new ≡ map spec.stored_code codes.old }
+// All 24 rows.
+fn placed(rows: &[u8]) -> [u8; 960]
+    requires { loops.has_row_size rows.now ≡ true }
+    ensures { result ≡ spec.placed rows.now }
 {
-    for at in 0..codes.len() {
-        codes[at] = stored_code(codes[at]);
+    let mut cells = [0x20; 960];
+    if rows.len() == 880 {
+        cells[40..920].copy_from_slice(rows);
+    } else {
+        cells.copy_from_slice(rows);
+    }
+    cells
+}
+
+fn is_space_byte(byte: u8) -> bool
+    ensures { result ≡ spec.is_space_byte byte }
+{
+    byte == 0x20 || byte == 0xA0
+}
+
+fn has_space(rows: &[u8]) -> bool
+    ensures { result ≡ list_any spec.is_space_byte rows.now }
+{
+    rows.iter().any(|byte| is_space_byte(*byte))
+}
+
+// The code of a byte among rows that have spaces or none: if none, 00 is a space.
+fn row_code(has_space: bool, byte: u8) -> u8
+    ensures { result ≡ spec.row_code has_space byte }
+{
+    if !has_space && byte == 0 {
+        b' '
+    } else {
+        stored_code(byte)
     }
 }
 
-/// The codes of a saved screen, by the size of its file: 960 bytes are 24 rows; 1,000 bytes have a row 24, and 1,024 bytes 24 bytes
-/// more, which are dropped; 880 bytes are rows 1 to 22 alone, between blank ones. No other size is a screen.
+fn decode(has_space: bool, codes: &mut [u8])
+    ensures { codes.new ≡ map (spec.row_code has_space) codes.old }
+{
+    for at in 0..codes.len() {
+        codes[at] = row_code(has_space, codes[at]);
+    }
+}
+
+// The codes of the bytes of rows.
+fn codes_of_rows(rows: &[u8]) -> [u8; 960]
+    requires { loops.has_row_size rows.now ≡ true }
+    ensures { result ≡ spec.codes_of_rows rows.now }
+{
+    let mut cells = placed(rows);
+    decode(has_space(rows), &mut cells);
+    cells
+}
+
+/// The codes of a saved screen, by its size and its first bytes: 960 bytes are 24 rows; 1,000 bytes have a row 24, and 1,024 bytes 24
+/// bytes more, which are dropped; 880 bytes are rows 1 to 22 alone, between blank ones. 968 or 1,008 bytes that begin FE 01 are of
+/// the form EP1: 24 or 25 rows between 6 bytes and 2. Nothing else is a screen.
 ///
-/// The bytes 00 to 1F are attributes as teletext stores them, 80 to 9F, and A0 to FF are 20 to 7F.
+/// The bytes 00 to 1F are attributes as teletext stores them, 80 to 9F, and A0 to FF are 20 to 7F. If none of the rows' bytes is 20 or
+/// A0, 00 is a space.
 pub fn saved_codes(bytes: &[u8]) -> Option<[u8; 960]>
     ensures { result ≡ spec.saved_codes bytes.now }
 {
-    let mut cells = placed(bytes)?;
-    decode(&mut cells);
-    Some(cells)
-}
-
-/// The codes of a new terminal that received these bytes, bit 7 (parity) of each taken off first. No bytes are no screen.
-pub fn sent_codes(bytes: &[u8]) -> Option<[u8; 960]>
-    ensures { result ≡ spec.sent_codes bytes.now }
-{
-    if bytes.is_empty() {
-        return None;
-    }
-    let mut terminal = Terminal::new();
-    for byte in bytes {
-        terminal.step(*byte % 0x80);
-    }
-    Some(*terminal.cells())
+    let rows = rows_in(bytes)?;
+    Some(codes_of_rows(rows))
 }

@@ -1,27 +1,31 @@
-//! The frame that a file gives.
+//! The frames that a file gives.
 
-ghost use Rattle.std.specs.Prelude.{◌≡◌};
-ghost use Rattle.screen_files.specs.Heads.{screen_head};
+ghost use Rattle.std.specs.Prelude.{◌≡◌, ◌++◌, IfOk, OnOk, map};
+ghost use Rattle.std.specs.List.{list_any};
 ghost use Rattle.screen_files.specs.Files as spec;
+ghost use Rattle.screen_files.specs.Loops as loops;
 
-use crate::codes::{saved_codes, sent_codes};
+use crate::capture::{CaptureFault, Shot, capture_screens};
+use crate::codes::saved_codes;
+use crate::filed::{Filed, Origin};
 use crate::frame::ScreenFrame;
 use crate::head::{name_id, screen_head};
-use page_ids::FrameId;
+use crate::settling::{Settled, settle};
+use std::alloc::{AllocError, Global};
 
 /// What a file holds.
 #[derive(Debug, Clone, Copy, PartialEq, Eq)]
 pub enum FileKind {
     /// The cells of a screen.
     Cells,
-    /// What a centre sent.
+    /// What a centre sent: a capture of screens.
     Stream,
 }
 
 /// The most bytes that a file may have.
 pub const MOST_SCREEN: usize = 16_777_216;
 
-/// Why a file gives no frame.
+/// Why a file gives no frames.
 #[derive(Debug, Clone, Copy, PartialEq, Eq)]
 pub enum ScreenFault {
     /// It has no bytes.
@@ -32,18 +36,51 @@ pub enum ScreenFault {
     Size(usize),
     /// Neither the name of the file nor row 0 has a frame's id.
     NoId,
+    /// It has more than 65,535 screens.
+    TooManyScreens,
 }
 
-fn codes_in(kind: FileKind, bytes: &[u8]) -> Option<[u8; 960]>
-    ensures { result ≡ spec.codes_in kind bytes.now }
+/// Why there are no frames.
+#[derive(Debug, Clone, Copy, PartialEq, Eq)]
+pub enum FramesFault {
+    /// What is wrong with the file.
+    Screen(ScreenFault),
+    /// A growth was refused.
+    Memory,
+}
+
+/// The frames that a file gives.
+#[derive(Drop)]
+pub struct FileFrames {
+    /// One of each id.
+    pub frames: Settled,
+    /// The offsets of the screens that are left out, since their row 0 shows no id, ascending.
+    pub unnamed: Vec<usize>,
+}
+
+// The frames of the screens of a file, and the offsets of those that are left out.
+#[derive(Drop)]
+struct FoundScreens {
+    filed: Vec<Filed>,
+    unnamed: Vec<usize>,
+}
+
+// The frame of a screen.
+fn named_frame(path: &str, codes: &[u8; 960]) -> Result<ScreenFrame, ScreenFault>
+    ensures { result ≡ spec.named_frame path.now codes.now }
 {
-    match kind {
-        FileKind::Cells => saved_codes(bytes),
-        FileKind::Stream => sent_codes(bytes),
+    let head = screen_head(codes);
+    match name_id(path).or(head.id) {
+        Some(id) => Ok(ScreenFrame {
+            id,
+            price: head.price,
+            codes: *codes,
+        }),
+        None => Err(ScreenFault::NoId),
     }
 }
 
-// Why bytes are no screen.
+// Why bytes are no saved screen.
 fn no_screen(size: usize) -> ScreenFault
     ensures { result ≡ spec.no_screen size }
 {
@@ -54,48 +91,210 @@ fn no_screen(size: usize) -> ScreenFault
     }
 }
 
-fn read_codes(kind: FileKind, bytes: &[u8]) -> Result<[u8; 960], ScreenFault>
-    ensures { result ≡ spec.read_codes kind bytes.now }
+// The frame of a saved screen.
+fn saved_frame(path: &str, bytes: &[u8]) -> Result<ScreenFrame, ScreenFault>
+    ensures { result ≡ spec.saved_frame path.now bytes.now }
 {
-    if bytes.len() > MOST_SCREEN {
-        return Err(ScreenFault::TooLong);
-    }
-    match codes_in(kind, bytes) {
-        Some(codes) => Ok(codes),
+    match saved_codes(bytes) {
+        Some(codes) => named_frame(path, &codes),
         None => Err(no_screen(bytes.len())),
     }
 }
 
-// The id in the name of a file, else the one that row 0 shows.
-fn id_by(named: Option<FrameId>, shown: Option<FrameId>) -> Option<FrameId>
-    ensures { result ≡ spec.id_by named shown }
+// What was found, if a frame was.
+fn found_one(
+    alloc: Global,
+    origin: Origin,
+    unnamed: Vec<usize>,
+    frame: &Result<ScreenFrame, ScreenFault>,
+) -> Result<FoundScreens, FramesFault>
+    ensures { loops.IsFound (spec.found_one origin.file origin.byte unnamed.items frame.now) result }
 {
-    match named {
-        Some(id) => Some(id),
-        None => shown,
+    let frame = match frame {
+        Ok(frame) => *frame,
+        Err(fault) => return Err(FramesFault::Screen(*fault)),
+    };
+    let mut filed = Vec::new(alloc);
+    match filed.extend_from_slice(&[Filed { origin, frame }]) {
+        Ok(()) => Ok(FoundScreens { filed, unnamed }),
+        Err(_) => Err(FramesFault::Memory),
     }
 }
 
-// The frame of a screen.
-fn frame_of(path: &str, codes: [u8; 960]) -> Result<ScreenFrame, ScreenFault>
-    ensures { result ≡ spec.headed path.now (screen_head codes) codes }
+fn shows_id(shot: &Shot) -> bool
+    ensures { result ≡ spec.shows_id shot.now }
 {
-    let head = screen_head(&codes);
-    match id_by(name_id(path), head.id) {
-        Some(id) => Ok(ScreenFrame {
-            id,
-            price: head.price,
-            codes,
+    screen_head(&shot.codes).id.is_some()
+}
+
+// Adds the frame of a screen, if its row 0 shows an id.
+fn push_filed_shot(filed: &mut Vec<Filed>, file: usize, shot: &Shot) -> Result<(), AllocError>
+    ensures { OnOk result (filed.new.items ≡ filed.old.items ++ spec.filed_shot file shot.now) }
+{
+    let head = screen_head(&shot.codes);
+    let Some(id) = head.id else {
+        return Ok(());
+    };
+    let frame = ScreenFrame {
+        id,
+        price: head.price,
+        codes: shot.codes,
+    };
+    let origin = Origin {
+        file,
+        byte: shot.byte,
+    };
+    filed.extend_from_slice(&[Filed { origin, frame }])
+}
+
+// Adds the offset of a screen, if its row 0 shows no id.
+fn push_unnamed(unnamed: &mut Vec<usize>, shot: &Shot) -> Result<(), AllocError>
+    ensures { OnOk result (unnamed.new.items ≡ unnamed.old.items ++ spec.unnamed_shot shot.now) }
+{
+    if shows_id(shot) {
+        return Ok(());
+    }
+    unnamed.extend_from_slice(&[shot.byte])
+}
+
+// The frames of several screens.
+fn found_shots(alloc: Global, file: usize, shots: &[Shot]) -> Result<FoundScreens, AllocError>
+    ensures { IfOk result (λ found. spec.found_shots file shots.now ≡ record {
+      filed = found.filed.items;
+      unnamed =
+          found.unnamed.items;
+    }) }
+{
+    let mut filed = Vec::new(alloc);
+    let mut unnamed = Vec::new(alloc);
+    for shot in shots {
+        push_filed_shot(&mut filed, file, shot)?;
+        push_unnamed(&mut unnamed, shot)?;
+    }
+    Ok(FoundScreens { filed, unnamed })
+}
+
+// The offsets of screens.
+fn offsets(alloc: Global, shots: &[Shot]) -> Result<Vec<usize>, AllocError>
+    ensures { IfOk result (λ offsets. offsets.items ≡ map (λ s. s.byte) shots.now) }
+{
+    let mut offsets = Vec::new(alloc);
+    for shot in shots {
+        offsets.push(shot.byte)?;
+    }
+    Ok(offsets)
+}
+
+// The frame of the last screen alone.
+fn found_last(
+    alloc: Global,
+    path: &str,
+    file: usize,
+    shots: &[Shot],
+) -> Result<FoundScreens, FramesFault>
+    ensures { loops.IsFound (spec.found_last path.now file shots.now) result }
+{
+    let Some((last, before)) = shots.split_last() else {
+        return Err(FramesFault::Screen(ScreenFault::NoId));
+    };
+    let origin = Origin {
+        file,
+        byte: last.byte,
+    };
+    match offsets(alloc, before) {
+        Ok(unnamed) => found_one(alloc, origin, unnamed, &named_frame(path, &last.codes)),
+        Err(_) => Err(FramesFault::Memory),
+    }
+}
+
+fn show_ids(shots: &[Shot]) -> bool
+    ensures { result ≡ list_any spec.shows_id shots.now }
+{
+    shots.iter().any(|shot| shows_id(shot))
+}
+
+// Whether the file's name counts: there is one screen, or none shows an id.
+fn is_by_name(shots: &[Shot]) -> bool
+    ensures { result ≡ spec.is_by_name shots.now }
+{
+    shots.len() == 1 || !show_ids(shots)
+}
+
+fn found_screens(
+    alloc: Global,
+    path: &str,
+    file: usize,
+    shots: &[Shot],
+) -> Result<FoundScreens, FramesFault>
+    ensures { loops.IsFound (spec.found_screens path.now file shots.now) result }
+{
+    if is_by_name(shots) {
+        return found_last(alloc, path, file, shots);
+    }
+    found_shots(alloc, file, shots).map_err(|_| FramesFault::Memory)
+}
+
+// The frames of a capture.
+fn found_capture(
+    alloc: Global,
+    path: &str,
+    file: usize,
+    bytes: &[u8],
+) -> Result<FoundScreens, FramesFault>
+    ensures { loops.IsFound (spec.found_capture path.now file bytes.now) result }
+{
+    if bytes.is_empty() {
+        return Err(FramesFault::Screen(ScreenFault::Empty));
+    }
+    match capture_screens(alloc, bytes) {
+        Ok(shots) => found_screens(alloc, path, file, shots.as_slice()),
+        Err(CaptureFault::TooMany) => Err(FramesFault::Screen(ScreenFault::TooManyScreens)),
+        Err(CaptureFault::Memory) => Err(FramesFault::Memory),
+    }
+}
+
+fn found_in(
+    alloc: Global,
+    kind: FileKind,
+    path: &str,
+    file: usize,
+    bytes: &[u8],
+) -> Result<FoundScreens, FramesFault>
+    ensures { loops.IsFound (spec.found_in kind path.now file bytes.now) result }
+{
+    if bytes.len() > MOST_SCREEN {
+        return Err(FramesFault::Screen(ScreenFault::TooLong));
+    }
+    let origin = Origin { file, byte: 0 };
+    match kind {
+        FileKind::Cells => found_one(alloc, origin, Vec::new(alloc), &saved_frame(path, bytes)),
+        FileKind::Stream => found_capture(alloc, path, file, bytes),
+    }
+}
+
+/// The frames of a file of these bytes, or why it gives none. `file` is the number that they are filed under.
+///
+/// A saved screen gives one frame, of the id in the file's name, else of the one that row 0 shows. So does a capture of one screen, and
+/// one of several if none shows an id: its last one. Else each screen of a capture gives the frame whose id its row 0 shows, and those
+/// without are left out. The price is the one of row 0.
+pub fn file_frames(
+    alloc: Global,
+    kind: FileKind,
+    path: &str,
+    file: usize,
+    bytes: &[u8],
+) -> Result<FileFrames, FramesFault>
+    ensures { spec.AreFileFrames (spec.found_in kind path.now file bytes.now) result }
+{
+    let found = match found_in(alloc, kind, path, file, bytes) {
+        Ok(found) => found,
+        Err(fault) => return Err(fault),
+    };
+    match settle(alloc, found.filed) {
+        Ok(frames) => Ok(FileFrames {
+            frames,
+            unnamed: found.unnamed,
         }),
-        None => Err(ScreenFault::NoId),
+        Err(_) => Err(FramesFault::Memory),
     }
-}
-
-/// The frame of a file of these bytes, or why it gives none. The id is the one in the file's name, else the one that row 0 shows; the
-/// price is the one of row 0.
-pub fn file_frame(kind: FileKind, path: &str, bytes: &[u8]) -> Result<ScreenFrame, ScreenFault>
-    ensures { result ≡ spec.file_frame kind path.now bytes.now }
-{
-    let codes = read_codes(kind, bytes)?;
-    frame_of(path, codes)
 }

@@ -6,7 +6,7 @@ ghost use Rattle.screen_files.specs.Heads as spec;
 
 use crate::rows::row_copy;
 use frame_records::Pence;
-use page_ids::{FrameId, cut};
+use page_ids::{FrameId, Letter, PageNo, cut};
 
 /// What row 0 of a screen shows.
 #[derive(Debug, Clone, Copy, PartialEq, Eq)]
@@ -147,10 +147,56 @@ fn first_part(text: &[u8], separator: u8) -> &[u8]
     }
 }
 
-/// The id in the name of a file: what follows the last `/` of its path, up to the first dot, if that is an id.
+// The id that a text spells, if its letter may be a capital.
+fn any_case_id(text: &[u8]) -> Option<FrameId>
+    ensures { result ≡ spec.any_case_id text.now }
+{
+    let (last, digits) = text.split_last()?;
+    let page = PageNo::read_bytes(digits)?;
+    let letter = Letter::new(last.to_ascii_lowercase())?;
+    Some(FrameId { page, letter })
+}
+
+// What is before the first space, `-` or `_`.
+fn first_word(text: &[u8]) -> &[u8]
+    ensures { result.now ≡ spec.first_word text.now }
+{
+    first_part(first_part(first_part(text, b' '), b'-'), b'_')
+}
+
+// What is after the last space, `-` or `_`.
+fn last_word(text: &[u8]) -> &[u8]
+    ensures { result.now ≡ spec.last_word text.now }
+{
+    last_part(last_part(last_part(text, b' '), b'-'), b'_')
+}
+
+// The id that ends a stem, unless one begins it.
+fn end_id(stem: &[u8]) -> Option<FrameId>
+    ensures { result ≡ spec.end_id stem.now }
+{
+    if any_case_id(first_word(stem)).is_some() {
+        None
+    } else {
+        any_case_id(last_word(stem))
+    }
+}
+
+// What follows the last `/` of a path, up to the first dot.
+fn name_stem(path: &[u8]) -> &[u8]
+    ensures { result.now ≡ spec.name_stem path.now }
+{
+    first_part(last_part(path, b'/'), b'.')
+}
+
+/// The id in the name of a file: what follows the last `/` of its path, up to the first dot, if that is an id; else what follows the
+/// last space, `-` or `_` of that, unless what is before the first is an id too. The letter may be a capital.
 pub fn name_id(path: &str) -> Option<FrameId>
     ensures { result ≡ spec.name_id path.now }
 {
-    let name = last_part(path.as_bytes(), b'/');
-    FrameId::read_bytes(first_part(name, b'.'))
+    let stem = name_stem(path.as_bytes());
+    match any_case_id(stem) {
+        Some(id) => Some(id),
+        None => end_id(stem),
+    }
 }

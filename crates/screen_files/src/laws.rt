@@ -7,7 +7,7 @@ pub fn frames_show_screens()
     ensures { FramesShowScreens }
 {}
 
-/// Each file that is a screen, and each stream, gives 960 codes that cells can hold, so the law above speaks of it.
+/// Each file that is a screen, and each screen of a capture, gives 960 codes that cells can hold, so the law above speaks of it.
 pub fn files_are_screens()
     ensures { FilesAreScreens }
 {}

@@ -6,28 +6,38 @@
 //! push_frame(&mut out, &frame, false)?; // [[frame]] .. rows = [ .. ], one row a line
 //! ```
 //!
-//! - [`saved_codes`], [`sent_codes`]: the 960 codes of a file, by its size, and of the bytes that a centre sent.
+//! - [`saved_codes`]: the 960 codes of a saved screen, by its size and first bytes. [`capture_screens`], [`Shot`], [`MOST_SHOTS`],
+//!   [`CaptureFault`]: the screens of a capture, which is what a centre sent.
 //! - [`screen_head`], [`Head`]: the id and the price that row 0 shows. [`name_id`]: the id in the name of a file.
 //! - [`ScreenFrame`], [`push_frame`], [`push_entry`]: the text of a base, frame by frame.
-//! - [`file_frame`], [`FileKind`], [`ScreenFault`]: the frame of a file, or why it gives none.
-//! - [`Album`], [`Filed`], [`base_text`]: the frames of several files, and the text of the base that is made of them.
+//! - [`file_frames`], [`FileFrames`], [`FileKind`], [`ScreenFault`], [`FramesFault`], [`MOST_SCREEN`]: the frames of a file, or why it
+//!   gives none.
+//! - [`settle`], [`Settled`], [`Filed`], [`Origin`], [`Twin`]: one frame of each id.
+//! - [`Album`], [`AddFault`], [`base_text`], [`BaseTextFault`]: the frames of several files, and the text of the base that is made of
+//!   them.
 //! - [`frames_show_screens`], [`files_are_screens`]: laws.
 #![tactic(auto)]
 
 mod album;
+mod capture;
 mod codes;
 mod file;
+mod filed;
 mod frame;
 mod head;
 mod keys;
 mod laws;
 mod rows;
+mod settling;
 mod texts;
 
-pub use album::{AddFault, Album, BaseTextFault, Filed, base_text};
-pub use codes::{saved_codes, sent_codes};
-pub use file::{FileKind, MOST_SCREEN, ScreenFault, file_frame};
+pub use album::{AddFault, Album, BaseTextFault, base_text};
+pub use capture::{CaptureFault, MOST_SHOTS, Shot, capture_screens};
+pub use codes::saved_codes;
+pub use file::{FileFrames, FileKind, FramesFault, MOST_SCREEN, ScreenFault, file_frames};
+pub use filed::{Filed, Origin, Twin};
 pub use frame::ScreenFrame;
 pub use head::{Head, name_id, screen_head};
 pub use laws::{files_are_screens, frames_show_screens};
+pub use settling::{Settled, settle};
 pub use texts::{push_entry, push_frame};

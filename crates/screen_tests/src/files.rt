@@ -1,9 +1,7 @@
 use base_text::base_read;
 use frame_records::{Base, Lead, Pence};
 use page_ids::FrameId;
-use screen_files::{
-    ScreenFrame, name_id, push_entry, push_frame, saved_codes, screen_head, sent_codes,
-};
+use screen_files::{ScreenFrame, name_id, push_entry, push_frame, saved_codes, screen_head};
 use std::alloc::Global;
 use std::test::Fail;
 use terminal_codes::{Terminal, lead_bytes};
@@ -80,7 +78,8 @@ fn the_size_says_what_a_file_is(rt: HostRuntime) -> Result<(), Fail> {
 #[test]
 fn bytes_are_stored_codes(_rt: HostRuntime) -> Result<(), Fail> {
     let rows = [
-        (0x00, 0x80),
+        // no byte is a space
+        (0x00, 0x20),
         (0x1f, 0x9f),
         (0x20, 0x20),
         (0x7f, 0x7f),
@@ -100,25 +99,52 @@ fn bytes_are_stored_codes(_rt: HostRuntime) -> Result<(), Fail> {
     Ok(())
 }
 
-// What a centre sent, and the codes at positions 0, 1 and 40.
-const STREAMS: [(&[u8], [u8; 3]); 7] = [
-    (b"AB", [0x41, 0x42, 0x20]),
-    (b"\xc1\x42", [0x41, 0x42, 0x20]),
-    (b"\x1bA\x9bB", [0x81, 0x82, 0x20]),
-    (b"XY\x0cZ", [0x5a, 0x20, 0x20]),
-    (b"XY\x8a\x8dZ", [0x58, 0x59, 0x5a]),
-    (b"\x0a\x41", [0x20, 0x20, 0x41]),
-    (b"A\x08\xff", [0x7f, 0x20, 0x20]),
-];
+// A file of the form EP1, with rows of one byte.
+fn ep1(alloc: Global, size: usize, byte: u8) -> Result<Vec<u8>, Fail> {
+    let mut bytes = Vec::new(alloc);
+    bytes.extend_from_slice(b"\xfe\x01\x09AAA")?;
+    bytes.resize(size.saturating_sub(2), byte)?;
+    bytes.extend_from_slice(b"BB")?;
+    Ok(bytes)
+}
 
 #[test]
-fn a_stream_is_run_through_the_terminal(_rt: HostRuntime) -> Result<(), Fail> {
-    for (bytes, wanted) in STREAMS {
-        let codes = sent_codes(bytes).ok_or("stream")?;
-        let seen = [code_at(&codes, 0), code_at(&codes, 1), code_at(&codes, 40)];
-        same_in(bytes, seen, wanted)?;
+fn an_ep1_file_has_its_rows_between_others(rt: HostRuntime) -> Result<(), Fail> {
+    for (size, is_screen) in [
+        (967, false),
+        (968, true),
+        (969, false),
+        (1007, false),
+        (1008, true),
+    ] {
+        let bytes = ep1(rt.alloc(), size, 0x01)?;
+        let codes = saved_codes(bytes.as_slice());
+        same_in(size, codes, is_screen.then_some([0x81; 960]))?;
     }
-    same(sent_codes(b"").is_some(), false)
+    let mut bytes = ep1(rt.alloc(), 968, b'X')?;
+    if let Some(mark) = bytes.get_mut(1) {
+        *mark = 0x02;
+    }
+    same(saved_codes(bytes.as_slice()).is_some(), false)
+}
+
+// The bytes of a row 1, and what a screen that is blank but for them has there. 00 is the blank if no byte is a space.
+#[test]
+fn a_nul_may_be_a_blank(_rt: HostRuntime) -> Result<(), Fail> {
+    for (blank, row, wanted) in [
+        (0x00, *b"A\x00\x01B", *b"A \x81B"),
+        (0x20, *b"A\x00\x01B", *b"A\x80\x81B"),
+        (0x00, *b"A\x00\xa0B", *b"A\x80 B"),
+    ] {
+        let mut bytes = [blank; 960];
+        bytes[40..44].copy_from_slice(&row);
+        let codes = saved_codes(&bytes).ok_or("screen")?;
+        same_in(row, codes.get(40..44), Some(wanted.as_slice()))?;
+        let inner = saved_codes(&bytes[40..920]).ok_or("rows")?;
+        same_in(row, inner.get(40..44), Some(wanted.as_slice()))?;
+        same_in(row, code_at(&inner, 0), 0x20)?;
+    }
+    Ok(())
 }
 
 // Row 0 (a dot is an attribute), and the id and the price that it shows.
@@ -214,8 +240,17 @@ fn a_name_may_be_an_id(_rt: HostRuntime) -> Result<(), Fail> {
         ("dumps/4786b", Some("4786b")),
         ("a.b/478a.old.bin", Some("478a")),
         ("478a /x.bin", None),
+        ("my 478a/x.bin", None),
         ("my screen.bin", None),
         ("478.bin", None),
+        ("620B.BIN", Some("620b")),
+        ("page-6209C.bin", Some("6209c")),
+        ("town-2_old 4001A.x", Some("4001a")),
+        ("-4a", Some("4a")),
+        ("478a-5p.bin", None),
+        ("478a_b-5p.bin", None),
+        ("x478a-5p.bin", Some("5p")),
+        ("478a-", None),
         (".478a", None),
         ("dumps/", None),
         ("", None),

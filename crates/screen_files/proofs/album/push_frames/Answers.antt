@@ -1,6 +1,6 @@
 use Rattle.std.proofs.Common.{◌≡◌, ◌∙◌, ◌∷◌, ◌++◌, ◌≤◌, ◌<◌, List, ap, sym, rules, length, append-nil}
 use Rattle.std.proofs.lemmas.List.{nil_from_length}
-use Rattle.screen_files.specs.declared.album.Filed.{Filed}
+use Rattle.screen_files.specs.declared.filed.Filed.{Filed}
 use Rattle.base_text.specs.declared.limits.TheConstants.{MOST_TEXT}
 use Rattle.screen_files.specs.Album.{frames_text, first_over}
 use Rattle.screen_files.proofs.Frames.{text_more, over_here, over_later}

@@ -1,0 +1,298 @@
+//! The command `publish`: the folder is opened under its lock, which is held until the program ends.
+
+ghost use Rattle.std.specs.Prelude.{◌≡◌, true, false};
+
+use crate::edition_folder::{FolderFiles, path_in};
+use crate::edition_store::{flush_folder, write_policy};
+use crate::lint_files::print_counts;
+use crate::named_files::{Unfinished, open_base, report, unwritten};
+use audit_report::{FromRead, IntoWrite, RunFault};
+use command_words::Publish as Asked;
+use policy_text::widest_text;
+use publishing::{Publish, PublishFault, PublishStatus, run_publish, status_of_publish};
+use std::alloc::Global;
+use std::fs::{File, OpenOptions};
+use std::rt::Files;
+use std::{fs, io};
+
+// What happened to the folder before the run.
+#[derive(Debug, Clone, Copy, PartialEq, Eq)]
+enum Found {
+    // It has a policy, or editions.
+    Old,
+    // It was made now, with a policy of the widest limits.
+    Made,
+    // It isn't there, and in a dry run it isn't made.
+    Missing,
+}
+
+// Why the folder can't be opened: the name of a file in it, if it is one's, and the reason.
+#[derive(Clone, Copy)]
+struct Shut {
+    name: &'static str,
+    why: Unfinished,
+}
+
+fn shut_by(name: &'static str, error: &io::Error) -> Shut {
+    Shut {
+        name,
+        why: unwritten(error),
+    }
+}
+
+// Opens the file of the lock; it is made if it isn't there.
+fn open_lock<R: Files>(rt: &R, path: &str) -> io::Result<R::File> {
+    match fs::open(rt, path) {
+        Err(error) if error.kind() == io::ErrorKind::NotFound => OpenOptions::new()
+            .write(true)
+            .create(true)
+            .open(rt, path),
+        opened => opened,
+    }
+}
+
+// Takes the lock of a folder, and waits while another program holds it. It is held while the file is open.
+fn lock<R: Files<File = File>>(rt: &R, alloc: Global, folder: &str) -> io::Result<File> {
+    let path = path_in(alloc, folder, "lock")?;
+    let file = open_lock(rt, path.as_str())?;
+    file.lock()?;
+    Ok(file)
+}
+
+// Whether a folder has a file.
+fn has<R: Files>(rt: &R, alloc: Global, folder: &str, name: &str) -> io::Result<bool> {
+    let path = path_in(alloc, folder, name)?;
+    match fs::symlink_metadata(rt, path.as_str()) {
+        Ok(_) => Ok(true),
+        Err(error) if error.kind() == io::ErrorKind::NotFound => Ok(false),
+        Err(error) => Err(error),
+    }
+}
+
+// Whether a folder is new: it has no policy, no edition and no `current`.
+fn is_new<R: Files>(rt: &R, alloc: Global, folder: &str) -> io::Result<bool> {
+    Ok(
+        !has(rt, alloc, folder, "policy.toml")?
+            && !has(rt, alloc, folder, "current")?
+            && !has(rt, alloc, folder, "editions")?,
+    )
+}
+
+// Writes the policy of a new folder.
+fn make_policy<R: Files>(rt: &R, alloc: Global, folder: &str) -> io::Result<Found> {
+    if !is_new(rt, alloc, folder)? {
+        return Ok(Found::Old);
+    }
+    let text = widest_text(alloc)?;
+    write_policy(rt, alloc, folder, text.as_slice())?;
+    Ok(Found::Made)
+}
+
+// Makes the folder, with what leads to it.
+fn make_folder<R: Files>(rt: &R, folder: &str) -> Result<(), Shut> {
+    if folder.is_empty() {
+        return Err(Shut {
+            name: "",
+            why: Unfinished::Unwritten("no such folder"),
+        });
+    }
+    match make_flushed(rt, folder) {
+        Ok(()) => Ok(()),
+        Err(error) => Err(shut_by("", &error)),
+    }
+}
+
+// The folder that has a path's last name.
+fn parent<'a>(path: &'a str) -> &'a str {
+    match path.trim_end_matches('/').rsplit_once('/') {
+        Some(("", _)) => "/",
+        Some((parent, _)) => parent,
+        None => ".",
+    }
+}
+
+// Makes the folder, if it isn't there, and flushes its name to the disk.
+fn make_flushed<R: Files>(rt: &R, folder: &str) -> io::Result<()> {
+    if fs::metadata(rt, folder).is_ok() {
+        return Ok(());
+    }
+    fs::create_dir_all(rt, folder)?;
+    flush_folder(rt, parent(folder))
+}
+
+// A folder whose lock is held, and how it was found.
+#[derive(Drop)]
+struct Locked {
+    // The lock's file; none of a folder that isn't there.
+    lock: Option<File>,
+    found: Found,
+}
+
+// Opens a folder under its lock.
+fn open_folder<R: Files<File = File>>(
+    rt: &R,
+    alloc: Global,
+    folder: &str,
+    dry_run: bool,
+) -> Result<Locked, Shut> {
+    if dry_run && !fs::symlink_metadata(rt, folder).is_ok() {
+        return Ok(Locked {
+            lock: None,
+            found: Found::Missing,
+        });
+    }
+    match make_folder(rt, folder) {
+        Ok(()) => {}
+        Err(shut) => return Err(shut),
+    }
+    let lock = match lock(rt, alloc, folder) {
+        Ok(lock) => Some(lock),
+        Err(error) => return Err(shut_by("lock", &error)),
+    };
+    if dry_run {
+        return Ok(Locked {
+            lock,
+            found: Found::Old,
+        });
+    }
+    match make_policy(rt, alloc, folder) {
+        Ok(found) => Ok(Locked { lock, found }),
+        Err(error) => Err(shut_by("policy.toml", &error)),
+    }
+}
+
+// Says why a file of the folder stops the run; the exit status.
+fn report_in<R: Files + Eprint + AllocGlobal>(
+    rt: &R,
+    folder: &str,
+    name: &str,
+    why: &Unfinished,
+) -> u8 {
+    if name.is_empty() {
+        return report(rt, folder, why);
+    }
+    match path_in(rt.alloc(), folder, name) {
+        Ok(path) => report(rt, path.as_str(), why),
+        Err(_) => report(rt, folder, &Unfinished::Fault(RunFault::Memory)),
+    }
+}
+
+// Says why the edition that is served stops the run; the exit status.
+fn report_edition<R: Files + Eprint + AllocGlobal>(
+    rt: &R,
+    folder: &str,
+    number: u32,
+    name: &str,
+    why: &Unfinished,
+) -> u8 {
+    match format!(in rt.alloc(); "{folder}/editions/{number}/{name}") {
+        Ok(path) => report(rt, path.as_str(), why),
+        Err(_) => report(rt, folder, &Unfinished::Fault(RunFault::Memory)),
+    }
+}
+
+const NO_NUMBER: Unfinished = Unfinished::Unread("no number of an edition and a line end");
+
+const NO_FILE: Unfinished = Unfinished::Unread("no such file");
+
+const UNREAD: Unfinished = Unfinished::Unread("refused: it isn't what was published");
+
+const UNCERTIFIED: Unfinished = Unfinished::Unread("the check refuses the audit's certificate");
+
+const FULL: Unfinished = Unfinished::Unwritten("no number is left");
+
+const MEMORY: Unfinished = Unfinished::Fault(RunFault::Memory);
+
+// Says what the folder's last call that failed was about; the exit status.
+fn report_failed<'a, R: Files + Eprint + AllocGlobal>(rt: &R, store: &FolderFiles<'a, R>) -> u8 {
+    match &store.failed {
+        Some(failed) => report(rt, failed.path.as_str(), &failed.why),
+        None => report(rt, store.path, &MEMORY),
+    }
+}
+
+// Says why a publish ended without its work done; the exit status. A fault of the policy is printed already.
+fn report_fault<'a, R: Files + Eprint + AllocGlobal>(
+    rt: &R,
+    asked: &Asked<'_>,
+    store: &FolderFiles<'a, R>,
+    fault: PublishFault,
+    is_closed: bool,
+) -> u8 {
+    match fault {
+        PublishFault::ReadBase => report(rt, asked.base, &Unfinished::Unread("read failed")),
+        PublishFault::NoPolicy => report_in(rt, asked.folder, "policy.toml", &NO_FILE),
+        PublishFault::Policy(_) => 3,
+        PublishFault::Current => report_in(rt, asked.folder, "current", &NO_NUMBER),
+        PublishFault::Missing(number, file) => {
+            report_edition(rt, asked.folder, number, file.name(), &NO_FILE)
+        }
+        PublishFault::Unread(number, file) => {
+            report_edition(rt, asked.folder, number, file.name(), &UNREAD)
+        }
+        PublishFault::Uncertified => report(rt, asked.base, &UNCERTIFIED),
+        PublishFault::Full => report_in(rt, asked.folder, "editions", &FULL),
+        PublishFault::Folder => report_failed(rt, store),
+        PublishFault::Write(_) if is_closed => 3,
+        PublishFault::Write(wrote) => {
+            report(rt, asked.base, &Unfinished::Fault(RunFault::Write(wrote)))
+        }
+        PublishFault::Memory => report(rt, asked.base, &MEMORY),
+    }
+}
+
+// Publishes a base into a folder whose lock is held; the exit status.
+fn publish_into<R: Files + Input + Print + Eprint + AllocGlobal + Clone + Drop>(
+    rt: &R,
+    asked: &Asked<'_>,
+    found: Found,
+) -> u8 {
+    let Ok(policy_path) = path_in(rt.alloc(), asked.folder, "policy.toml") else {
+        return report(rt, asked.folder, &MEMORY);
+    };
+    let mut base = match open_base(rt, asked.base) {
+        Ok(file) => FromRead::new(file),
+        Err(unfinished) => return report(rt, asked.base, &unfinished),
+    };
+    let mut store = FolderFiles::locked(rt, asked.folder, found == Found::Missing);
+    let mut out = IntoWrite::new(io::writer(rt));
+    let run = run_publish(
+        rt.alloc(),
+        &mut store,
+        &mut base,
+        &mut out,
+        &Publish {
+            base_path: asked.base,
+            policy_path: policy_path.as_str(),
+            dry_run: asked.dry_run,
+            new_callers: asked.new_callers,
+            deny_warnings: asked.deny_warnings,
+        },
+    );
+    match &run {
+        Ok(PublishStatus::Faulty(counts)) => print_counts(rt, counts),
+        Ok(_) => {}
+        Err(fault) => return report_fault(rt, asked, &store, *fault, out.is_closed()),
+    }
+    status_of_publish(&run)
+}
+
+/// Publishes a base into a folder, which is made if it isn't there; the exit status.
+pub fn publish<R: Files<File = File> + Input + Print + Eprint + AllocGlobal + Clone + Drop>(
+    rt: &R,
+    asked: &Asked<'_>,
+) -> u8 {
+    let Locked { lock, found } = match open_folder(rt, rt.alloc(), asked.folder, asked.dry_run) {
+        Ok(locked) => locked,
+        Err(Shut { name, why }) => return report_in(rt, asked.folder, name, &why),
+    };
+    if found == Found::Made {
+        let _ = eprintln!(rt;
+            "{}/policy.toml is new, with the widest limits: write the centre's ceiling and keyings there",
+            asked.folder
+        );
+    }
+    let status = publish_into(rt, asked, found);
+    drop(lock);
+    status
+}
