@@ -447,8 +447,8 @@ fn whole_command<'a>(alloc: Global) -> Result<Command<'a>, AllocError> {
     let whole = with_part(whole, map_command(alloc));
     let whole = with_part(whole, import_command(alloc));
     let whole = with_part(whole, export_command(alloc));
-    let whole = with_part(whole, serve_command(alloc));
     let whole = with_part(whole, publish_command(alloc));
+    let whole = with_part(whole, serve_command(alloc));
     with_part(whole, explain_command(alloc))
 }
 
