@@ -1,0 +1,4 @@
+pub mod FolderLaws
+pub mod KeptReads
+pub mod Policies
+pub mod RightEditions
