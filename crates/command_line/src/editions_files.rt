@@ -91,7 +91,7 @@ fn read_editions<R: Files + Print + Eprint + AllocGlobal + Clone + Drop>(
 }
 
 /// Lists the editions of a folder, or verifies them; the exit status. Nothing is written into the folder.
-pub fn editions<R: Files<File = File> + Print + Eprint + AllocGlobal + Clone + Drop>(
+pub fn show_editions<R: Files<File = File> + Print + Eprint + AllocGlobal + Clone + Drop>(
     rt: &R,
     folder: &str,
     verify: bool,

@@ -259,7 +259,7 @@ fn write_page<'a, R: Files + Input + Print + Eprint + AllocGlobal>(
     let text = match store.read_file(rt.alloc(), number, EditionFile::Policy) {
         Ok(Some(text)) => text,
         Ok(None) => return report_edition(rt, asked.folder, number, "policy.toml", &NO_FILE),
-        Err(_) => return report_failed(rt, store),
+        Err(_) => return report_failed(rt, &*store),
     };
     let policy = match policy_read(rt.alloc(), text.as_slice()) {
         Ok(policy) => policy,

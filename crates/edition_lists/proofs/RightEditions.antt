@@ -1,10 +1,10 @@
 -- Editions that were read and judged are sound, and so is their folder.
-use Rattle.std.proofs.Common.{◌≡◌, ◌≤◌, ℕ, Bool, true, List, [], ◌∷◌, map, Option, Some, None, option_map, refl, sym, ap, ◌∙◌, subst, arith, nat_eq, inl, inr}
+use Rattle.std.proofs.Common.{◌≡◌, ◌≤◌, ℕ, Bool, true, List, [], ◌∷◌, map, Option, Some, None, option_map, refl, sym, ap, ◌∙◌, subst, arith, false, nat_eq, inl, inr}
 use Rattle.std.proofs.lemmas.Bool.Decides.{nat_tests}
 use Rattle.std.proofs.lemmas.List.Elements.{All-contains, Contains-append_left, Contains-append_right, Contains-push}
 use Rattle.std.proofs.lemmas.List.Sorted.{Contains-permutation}
 use Rattle.std.specs.List.{All, Contains}
-use Rattle.std.specs.Prelude.{IfSome}
+use Rattle.std.specs.Prelude.{IfSome, IfOk, Result, Ok, Err}
 use Rattle.editions.specs.declared.edition_file.EditionFile.TheVariants.{Base, Cert, Policy, Follows, Sums}
 use Rattle.editions.specs.Folders.{EditionBytes, FilesSeen, all_files, FolderState, edition_among, file_of}
 use Rattle.editions.specs.NumberLines.{number_line, follows_in, follows_text}
@@ -13,10 +13,11 @@ use Rattle.editions.specs.Chains.{IsEditionText}
 use Rattle.editions.specs.Moments.{IsFollowing, IsSoundEdition, NamesEdition, IsSoundFolder}
 use Rattle.editions.proofs.LineLaws.{lines_numbers}
 use Rattle.edition_lists.specs.declared.kept.KeptEdition.{KeptEdition}
-use Rattle.edition_lists.specs.Kept.{kept_view, IsKeptEdition, IsReadIn}
+use Rattle.edition_lists.specs.Kept.{IsKeptEdition, IsReadIn}
 use Rattle.edition_lists.specs.Verified.{IsNotPassed, IsServedLast, IsVerifiedFolder, IsReadFolder}
-use Rattle.edition_lists.specs.Loops.{HasItsSums, IsFollowingKept, IsWithinNumbers, IsJudgedRight, IsRightNumber, AreNumbersOf, IsRightEdition}
+use Rattle.edition_lists.specs.Loops.{kept_view, HasItsSums, IsFollowingKept, IsWithinNumbers, IsJudgedRight, IsRightNumber, AreNumbersOf, IsRightEdition}
 use Rattle.edition_lists.proofs.FolderLaws.{same_some}
+use Rattle.edition_lists.proofs.KeptReads.{held_too}
 
 -- All files of an edition that was read are there.
 
@@ -150,6 +151,22 @@ pub verified_in : (o : Option FolderState) (numbers : List ℕ) (served : Option
     → IfSome o (λ f. All (IsRightNumber f numbers served) numbers) → IfSome o IsVerifiedFolder
 verified_in None numbers served all named has right = tt
 verified_in (Some f) numbers served all named has right = verified f numbers served all named has right
+
+-- the same of what a call answers
+pub verified_by : {E : Type 0} (o p : Option FolderState) (numbers : List ℕ) (served : Option ℕ) (r : Result Bool E) → p ≡ o → IfSome o (λ f. AreNumbersOf f numbers) → IfSome o (λ f. f.current ≡ option_map number_line served)
+    → IfOk r (λ b. b ≡ true → IfSome served (Contains numbers)) → IfOk r (λ b. b ≡ true → IfSome p (λ f. All (IsRightNumber f numbers served) numbers)) → IfOk r (λ b. b ≡ true → IfSome o IsVerifiedFolder)
+verified_by o p numbers served (Err e) same all named has right = tt
+verified_by o p numbers served (Ok b) same all named has right = λ yes.
+    verified_in o numbers served all named (has yes) (held_too o p (λ f. All (IsRightNumber f numbers served) numbers) same (right yes))
+
+pub never_true : {E : Type 0} (r : Result Bool E) (P : Type 0) → IfOk r (λ b. b ≡ false) → IfOk r (λ b. b ≡ true → P)
+never_true (Err e) P no = tt
+never_true (Ok true) P no = absurd cc
+never_true (Ok false) P no = λ yes. absurd cc
+
+pub numbers_too : (o p : Option FolderState) (numbers slice : List ℕ) → p ≡ o → slice ≡ numbers → IfSome o (λ f. AreNumbersOf f numbers) → IfSome p (λ f. AreNumbersOf f slice)
+numbers_too o p numbers slice same is all =
+    subst (λ (ns : List ℕ). IfSome p (λ f. AreNumbersOf f ns)) (sym is) (held_too p o (λ f. AreNumbersOf f numbers) (sym same) all)
 
 -- each edition that is there is among those that were read
 pub read_in : (o : Option FolderState) (numbers : List ℕ) → IfSome o (λ f. AreNumbersOf f numbers) → IfSome o (λ f. All (IsReadIn f) numbers) → IfSome o IsReadFolder

@@ -3,12 +3,8 @@ use Rattle.std.specs.Prelude.{◌≡◌, ℕ, List, Option, Some}
 use Rattle.editions.specs.declared.edition_file.EditionFile.TheVariants.{Follows, Sums}
 use Rattle.editions.specs.Folders.{FolderState, file_at}
 use Rattle.editions.specs.NumberLines.{follows_in}
-use Rattle.editions.specs.Chains.{EditionView}
-use Rattle.edition_checks.specs.Served.{IsServed, served_view}
+use Rattle.edition_checks.specs.Served.{IsServed}
 use Rattle.edition_lists.specs.declared.kept.KeptEdition.{KeptEdition}
-
-abbrev pub kept_view : KeptEdition → EditionView
-kept_view e = served_view e.follows e.served
 
 -- all five files of the edition are there, and mean what was read of them
 pub record IsKeptEdition (f : FolderState) (e : KeptEdition) : Type 0 where

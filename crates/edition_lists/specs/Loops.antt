@@ -6,15 +6,19 @@ use Rattle.editions.specs.declared.edition_file.EditionFile.TheVariants.{Cert, F
 use Rattle.editions.specs.Folders.{FilesSeen, FolderState, SeenFolder, edition_among, file_at}
 use Rattle.editions.specs.NumberLines.{number_line, follows_in, follows_text}
 use Rattle.editions.specs.Sums.{sums_text}
-use Rattle.editions.specs.Chains.{IsClearedEdition, IsClearedAgainst}
+use Rattle.editions.specs.Chains.{EditionView, IsClearedEdition, IsClearedAgainst}
 use Rattle.editions.specs.Moments.{IsSoundEdition}
+use Rattle.edition_checks.specs.Served.{served_view}
 use Rattle.edition_lists.specs.declared.current.Named.{Named}
 use Rattle.edition_lists.specs.declared.current.Named.TheVariants.{Nothing, Edition, Unread}
 use Rattle.edition_lists.specs.declared.judging.JudgedEdition.{JudgedEdition}
 use Rattle.edition_lists.specs.declared.judging.JudgedEdition.TheVariants.{Right, Wrong}
 use Rattle.edition_lists.specs.declared.kept.KeptEdition.{KeptEdition}
-use Rattle.edition_lists.specs.Kept.{IsKeptEdition, kept_view}
+use Rattle.edition_lists.specs.Kept.{IsKeptEdition}
 use Rattle.edition_lists.specs.Verified.{IsNotPassed}
+
+abbrev pub kept_view : KeptEdition → EditionView
+kept_view e = served_view e.follows e.served
 
 -- the text of `follows` is there, and says this
 pub record SaysFollows (f : FolderState) (number : ℕ) (follows : Option ℕ) : Type 0 where

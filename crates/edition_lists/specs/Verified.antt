@@ -10,14 +10,14 @@ abbrev pub IsLastNumber : List (ℕ × FilesSeen) → ℕ → Type 0
 IsLastNumber editions n = (k : ℕ) (files : FilesSeen) → edition_among editions k ≡ Some files → k ≤ n
 
 -- an edition isn't after the one that is served; or it is the last and follows that one: a stop left it, and it isn't served yet
-abbrev pub IsWithin : List (ℕ × FilesSeen) → Option ℕ → ℕ → ℕ → Type 0
-IsWithin editions None n k = ⊥
-IsWithin editions (Some served) n k = (n ≤ served) ⊎ ((k ≡ served) × IsLastNumber editions n)
+abbrev pub IsNotAfter : List (ℕ × FilesSeen) → Option ℕ → ℕ → ℕ → Type 0
+IsNotAfter editions None n k = ⊥
+IsNotAfter editions (Some served) n k = (n ≤ served) ⊎ ((k ≡ served) × IsLastNumber editions n)
 
 -- the same of each edition that follows one; a new beginning may be after the one that is served
 abbrev pub IsNotPassed : List (ℕ × FilesSeen) → Option ℕ → ℕ → Option ℕ → Type 0
 IsNotPassed editions served n None = Unit {0}
-IsNotPassed editions served n (Some k) = IsWithin editions served n k
+IsNotPassed editions served n (Some k) = IsNotAfter editions served n k
 
 -- `current` names the last edition of its chain
 pub record IsServedLast (f : FolderState) : Type 0 where

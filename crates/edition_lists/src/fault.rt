@@ -28,7 +28,7 @@ pub enum EditionsFault {
 
 /// What is wrong with an edition.
 #[derive(Clone, Copy)]
-pub enum EditionFault {
+pub enum EditionFlaw {
     /// The file isn't there.
     Missing(EditionFile),
     /// The text of the file doesn't read.

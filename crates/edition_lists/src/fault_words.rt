@@ -1,6 +1,6 @@
 //! What is printed of a fault.
 
-use crate::fault::EditionFault;
+use crate::fault::EditionFlaw;
 use audit_report::{change_text, verdict_text};
 use checker::{ChangeVerdict, Verdict};
 use editions::EditionFile;
@@ -90,25 +90,25 @@ pub(crate) fn push_fault(
     out: &mut Vec<u8>,
     folder: &str,
     number: u32,
-    fault: &EditionFault,
+    fault: &EditionFlaw,
 ) -> Result<(), AllocError> {
     match fault {
-        EditionFault::Missing(file) => push_file(alloc, out, folder, number, *file, NO_FILE),
-        EditionFault::Unread(file) => push_file(alloc, out, folder, number, *file, UNREAD),
-        EditionFault::Sum(file) => push_sum(alloc, out, folder, number, *file),
-        EditionFault::Refused(verdict) => push_refused(alloc, out, folder, number, verdict),
-        EditionFault::FollowsNone(k) => push_follows(alloc, out, number, *k, ", which isn't there"),
-        EditionFault::FollowsLater(k) => {
+        EditionFlaw::Missing(file) => push_file(alloc, out, folder, number, *file, NO_FILE),
+        EditionFlaw::Unread(file) => push_file(alloc, out, folder, number, *file, UNREAD),
+        EditionFlaw::Sum(file) => push_sum(alloc, out, folder, number, *file),
+        EditionFlaw::Refused(verdict) => push_refused(alloc, out, folder, number, verdict),
+        EditionFlaw::FollowsNone(k) => push_follows(alloc, out, number, *k, ", which isn't there"),
+        EditionFlaw::FollowsLater(k) => {
             push_follows(alloc, out, number, *k, ", which isn't before it")
         }
-        EditionFault::FollowsWrong(k) => {
+        EditionFlaw::FollowsWrong(k) => {
             push_follows(alloc, out, number, *k, ", which isn't what was published")
         }
-        EditionFault::OtherGroups(k) => {
+        EditionFlaw::OtherGroups(k) => {
             push_follows(alloc, out, number, *k, ", and its policy has other groups")
         }
-        EditionFault::ChangeRefused(k, verdict) => push_change(alloc, out, number, *k, verdict),
-        EditionFault::Passed(k) => {
+        EditionFlaw::ChangeRefused(k, verdict) => push_change(alloc, out, number, *k, verdict),
+        EditionFlaw::Passed(k) => {
             push_follows(alloc, out, number, *k, ", and is after the one that is served")
         }
     }

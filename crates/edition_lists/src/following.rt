@@ -4,10 +4,9 @@ ghost use Rattle.std.specs.Prelude.{◌≡◌, ◌<◌, ◌≤◌, true, None, I
 ghost use Rattle.std.specs.List.{All};
 ghost use Rattle.editions.specs.Chains.{IsClearedAgainst};
 ghost use Rattle.edition_checks.specs.Served.{IsUnchanged};
-ghost use Rattle.edition_lists.specs.Kept.{IsKeptEdition, kept_view};
-ghost use Rattle.edition_lists.specs.Loops.{IsKeptBefore, IsAfterKept, IsFollowingKept, IsNumberWithin, IsWithinNumbers};
+ghost use Rattle.edition_lists.specs.Loops.{kept_view, IsKeptBefore, IsAfterKept, IsFollowingKept, IsNumberWithin, IsWithinNumbers};
 
-use crate::fault::{EditionFault, EditionsFault};
+use crate::fault::{EditionFlaw, EditionsFault};
 use crate::kept::{KeptEdition, read_kept};
 use checker::{ChangeVerdict, check_change};
 use edition_checks::{ServedFault, wider_of};
@@ -21,11 +20,11 @@ fn have_same_groups(old: &KeptEdition, new: &KeptEdition) -> bool
 }
 
 // What is wrong with the change from an edition.
-fn refused_change(old: &KeptEdition, new: &KeptEdition) -> Option<EditionFault>
+fn refused_change(old: &KeptEdition, new: &KeptEdition) -> Option<EditionFlaw>
     ensures { result ≡ None → IsClearedAgainst (kept_view old.now) (kept_view new.now) }
 {
     if !have_same_groups(old, new) {
-        return Some(EditionFault::OtherGroups(old.served.number));
+        return Some(EditionFlaw::OtherGroups(old.served.number));
     }
     let policy = wider_of(&old.served.policy, &new.served.policy);
     match check_change(
@@ -36,7 +35,7 @@ fn refused_change(old: &KeptEdition, new: &KeptEdition) -> Option<EditionFault>
         &policy,
     ) {
         ChangeVerdict::Cleared => None,
-        verdict => Some(EditionFault::ChangeRefused(old.served.number, verdict)),
+        verdict => Some(EditionFlaw::ChangeRefused(old.served.number, verdict)),
     }
 }
 
@@ -46,7 +45,7 @@ fn change_from<F: EditionFolder>(
     folder: &mut F,
     edition: &KeptEdition,
     number: u32,
-) -> Result<Option<EditionFault>, EditionsFault>
+) -> Result<Option<EditionFlaw>, EditionsFault>
     requires held { (F.seen folder.old).held ≡ true }
     requires before { number < edition.now.served.number }
     ensures unchanged { IsUnchanged (F.seen folder.old) (F.seen folder.new) }
@@ -57,7 +56,7 @@ fn change_from<F: EditionFolder>(
         Ok(old) => Ok(refused_change(&old, edition)),
         Err(ServedFault::Folder) => Err(EditionsFault::Folder),
         Err(ServedFault::Memory) => Err(EditionsFault::Memory),
-        Err(_) => Ok(Some(EditionFault::FollowsWrong(number))),
+        Err(_) => Ok(Some(EditionFlaw::FollowsWrong(number))),
     }
 }
 
@@ -68,7 +67,7 @@ fn change_after<F: EditionFolder>(
     edition: &KeptEdition,
     number: u32,
     before: &Option<KeptEdition>,
-) -> Result<Option<EditionFault>, EditionsFault>
+) -> Result<Option<EditionFlaw>, EditionsFault>
     requires held { (F.seen folder.old).held ≡ true }
     requires before { number < edition.now.served.number }
     requires kept { IsKeptBefore (F.seen folder.old) before.now }
@@ -89,7 +88,7 @@ pub fn follows_fault<F: EditionFolder>(
     numbers: &[u32],
     edition: &KeptEdition,
     before: &Option<KeptEdition>,
-) -> Result<Option<EditionFault>, EditionsFault>
+) -> Result<Option<EditionFlaw>, EditionsFault>
     requires held { (F.seen folder.old).held ≡ true }
     requires kept { IsKeptBefore (F.seen folder.old) before.now }
     ensures unchanged { IsUnchanged (F.seen folder.old) (F.seen folder.new) }
@@ -99,9 +98,9 @@ pub fn follows_fault<F: EditionFolder>(
     match edition.follows {
         None => Ok(None),
         Some(number) if number >= edition.served.number => {
-            Ok(Some(EditionFault::FollowsLater(number)))
+            Ok(Some(EditionFlaw::FollowsLater(number)))
         }
-        Some(number) if !numbers.contains(&number) => Ok(Some(EditionFault::FollowsNone(number))),
+        Some(number) if !numbers.contains(&number) => Ok(Some(EditionFlaw::FollowsNone(number))),
         Some(number) => change_after(alloc, folder, edition, number, before),
     }
 }
@@ -126,7 +125,7 @@ pub fn passed_fault(
     numbers: &[u32],
     served: Option<u32>,
     edition: &KeptEdition,
-) -> Option<EditionFault>
+) -> Option<EditionFlaw>
     ensures { result ≡ None →
         IsWithinNumbers numbers.now served edition.now.served.number edition.now.follows }
 {
@@ -136,6 +135,6 @@ pub fn passed_fault(
             if is_within(numbers, served, edition.served.number, follows) => {
             None
         }
-        (Some(follows), _) => Some(EditionFault::Passed(follows)),
+        (Some(follows), _) => Some(EditionFlaw::Passed(follows)),
     }
 }

@@ -5,7 +5,7 @@ ghost use Rattle.edition_checks.specs.Served.{IsUnchanged};
 ghost use Rattle.edition_lists.specs.Kept.{IsKeptEdition};
 ghost use Rattle.edition_lists.specs.Loops.{IsKeptBefore, IsFollowingKept, IsWithinNumbers, IsJudgedRight, IfRight, IsRightNow};
 
-use crate::fault::{EditionFault, EditionsFault};
+use crate::fault::{EditionFlaw, EditionsFault};
 use crate::following::{follows_fault, passed_fault};
 use crate::kept::{KeptEdition, read_kept};
 use crate::sealing::own_fault;
@@ -17,7 +17,7 @@ use std::alloc::Global;
 #[derive(Drop)]
 pub enum JudgedEdition {
     Right(KeptEdition),
-    Wrong(EditionFault),
+    Wrong(EditionFlaw),
 }
 
 // What is wrong with an edition beside others.
@@ -28,7 +28,7 @@ fn place_fault<F: EditionFolder>(
     current: Option<u32>,
     edition: &KeptEdition,
     before: &Option<KeptEdition>,
-) -> Result<Option<EditionFault>, EditionsFault>
+) -> Result<Option<EditionFlaw>, EditionsFault>
     requires held { (F.seen folder.old).held ≡ true }
     requires kept { IsKeptBefore (F.seen folder.old) before.now }
     ensures unchanged { IsUnchanged (F.seen folder.old) (F.seen folder.new) }
@@ -52,7 +52,7 @@ fn edition_fault<F: EditionFolder>(
     current: Option<u32>,
     edition: &KeptEdition,
     before: &Option<KeptEdition>,
-) -> Result<Option<EditionFault>, EditionsFault>
+) -> Result<Option<EditionFlaw>, EditionsFault>
     requires held { (F.seen folder.old).held ≡ true }
     requires kept { IsKeptBefore (F.seen folder.old) before.now }
     ensures unchanged { IsUnchanged (F.seen folder.old) (F.seen folder.new) }
@@ -90,10 +90,10 @@ fn judge_kept<F: EditionFolder>(
 }
 
 // What is wrong with an edition that doesn't read.
-fn unread(fault: ServedFault) -> Result<EditionFault, EditionsFault> {
+fn unread(fault: ServedFault) -> Result<EditionFlaw, EditionsFault> {
     match fault {
-        ServedFault::Missing(file) => Ok(EditionFault::Missing(file)),
-        ServedFault::Unread(file) => Ok(EditionFault::Unread(file)),
+        ServedFault::Missing(file) => Ok(EditionFlaw::Missing(file)),
+        ServedFault::Unread(file) => Ok(EditionFlaw::Unread(file)),
         ServedFault::Folder => Err(EditionsFault::Folder),
         ServedFault::Memory => Err(EditionsFault::Memory),
     }

@@ -5,10 +5,9 @@ ghost use Rattle.editions.specs.NumberLines.{follows_text};
 ghost use Rattle.editions.specs.Sums as spec;
 ghost use Rattle.editions.specs.Chains.{IsClearedEdition};
 ghost use Rattle.edition_checks.specs.Served.{IsUnchanged};
-ghost use Rattle.edition_lists.specs.Kept.{IsKeptEdition, kept_view};
-ghost use Rattle.edition_lists.specs.Loops.{HasItsSums, IsSealed};
+ghost use Rattle.edition_lists.specs.Loops.{kept_view, HasItsSums, IsSealed};
 
-use crate::fault::{EditionFault, EditionsFault, kept_fault};
+use crate::fault::{EditionFlaw, EditionsFault, kept_fault};
 use crate::kept::{KeptEdition, read_text};
 use checker::{Verdict, check};
 use editions::{EditionFile, EditionFolder, follows_text, sums_text};
@@ -106,13 +105,13 @@ fn wrong_sum<F: EditionFolder>(
 }
 
 // What the check refuses of an edition, by its own policy.
-fn refused(edition: &KeptEdition) -> Option<EditionFault>
+fn refused(edition: &KeptEdition) -> Option<EditionFlaw>
     ensures { result ≡ None → IsClearedEdition (kept_view edition.now) }
 {
     let served = &edition.served;
     match check(&served.base, &served.policy, &served.cert) {
         Verdict::Cleared => None,
-        verdict => Some(EditionFault::Refused(verdict)),
+        verdict => Some(EditionFlaw::Refused(verdict)),
     }
 }
 
@@ -121,14 +120,14 @@ pub fn own_fault<F: EditionFolder>(
     alloc: Global,
     folder: &mut F,
     edition: &KeptEdition,
-) -> Result<Option<EditionFault>, EditionsFault>
+) -> Result<Option<EditionFlaw>, EditionsFault>
     requires { (F.seen folder.old).held ≡ true }
     ensures unchanged { IsUnchanged (F.seen folder.old) (F.seen folder.new) }
     ensures right { IfOk result (λ o. o ≡ None → IfSome (F.seen folder.old).state (λ f. IsSealed f edition.now)) }
 {
     match wrong_sum(alloc, folder, edition) {
         Ok(None) => Ok(refused(edition)),
-        Ok(Some(file)) => Ok(Some(EditionFault::Sum(file))),
+        Ok(Some(file)) => Ok(Some(EditionFlaw::Sum(file))),
         Err(fault) => Err(fault),
     }
 }
