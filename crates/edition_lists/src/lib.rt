@@ -6,6 +6,7 @@
 //! status_of_editions(&run) // 0: no caller, in whichever edition they began, met what a cleared change excludes
 //! ```
 //!
+//! - [`run_list`]: a line for each edition, in the order of their numbers.
 //! - [`run_verify`]: checks each edition by itself and against the one that it follows, and that `current` is the last of its chain.
 //!   If it answers [`EditionsStatus::Cleared`], the folder is sound; [`sound_folders_are_safe`] says what that means for callers.
 //! - [`EditionsStatus`], [`EditionsFault`], [`status_of_editions`]: what a run found, why it ended early, and the exit status for it.
@@ -20,6 +21,8 @@ mod following;
 mod judging;
 mod kept;
 mod laws;
+mod list_lines;
+mod listing;
 mod numbers;
 mod saying;
 mod sealing;
@@ -29,5 +32,6 @@ mod verifying;
 
 pub use fault::EditionsFault;
 pub use laws::sound_folders_are_safe;
+pub use listing::run_list;
 pub use status::{EditionsStatus, status_of_editions};
 pub use verifying::run_verify;
