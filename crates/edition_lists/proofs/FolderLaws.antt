@@ -1,6 +1,6 @@
 -- What a sound folder means for callers.
 use Rattle.std.proofs.Common.{◌≡◌, ℕ, List, [], ◌∷◌, map, Option, Some, refl, sym, ap, ◌∙◌, subst}
-use Rattle.std.specs.Prelude.{Ok}
+use Rattle.std.specs.Prelude.{Result, Ok}
 use Rattle.std.specs.List.{AllByRecursion}
 use Rattle.frame_records.specs.Bases.{BaseView, AreApart}
 use Rattle.base_text.specs.Whole.{IsTextBase}
@@ -29,10 +29,13 @@ use Rattle.edition_lists.proofs.Policies.{policy_within}
 pub same_some : {A : Type 0} (a b : A) → Some a ≡ Some b → a ≡ b
 same_some a b e = cc
 
-same_ok : (p q : Policy) → Ok {E = PolicyFault} p ≡ Ok q → p ≡ q
+abbrev read_as : Policy → Result Policy PolicyFault
+read_as p = Ok p
+
+same_ok : (p q : Policy) → read_as p ≡ read_as q → p ≡ q
 same_ok p q e = cc
 
-record IsSameMeaning (v w : EditionView) : Type 0 where
+pub record IsSameMeaning (v w : EditionView) : Type 0 where
   pub base : v.base ≡ w.base
   pub cert : v.cert ≡ w.cert
   pub policy : v.policy ≡ w.policy

@@ -40,7 +40,10 @@ required_within : (f : PolicyField) (most : ℕ) (o : Option Data) (n : ℕ) →
 required_within f most None n e = absurd cc
 required_within f most (Some d) n e = number_within f most d n e
 
-same_policy : (ceiling keyings : ℕ) (groups : List ℕ) (p : Policy) → ceiling ≤ MOST_PENCE → keyings ≤ MOST_RANK → Ok {E = PolicyFault} (policy_with ceiling keyings groups) ≡ Ok p → IsPolicy p
+abbrev read_as : Policy → Result Policy PolicyFault
+read_as p = Ok p
+
+same_policy : (ceiling keyings : ℕ) (groups : List ℕ) (p : Policy) → ceiling ≤ MOST_PENCE → keyings ≤ MOST_RANK → read_as (policy_with ceiling keyings groups) ≡ read_as p → IsPolicy p
 same_policy ceiling keyings groups p a b e = let same : policy_with ceiling keyings groups ≡ p = cc in subst IsPolicy same (a, b)
 
 values_within : (ms : Members) (p : Policy) → values_of ms ≡ Ok p → IsPolicy p

@@ -1,5 +1,5 @@
 -- Editions that were read and judged are sound, and so is their folder.
-use Rattle.std.proofs.Common.{◌≡◌, ◌≤◌, ℕ, Bool, true, List, [], ◌∷◌, map, Option, Some, None, option_map, refl, sym, ap, ◌∙◌, subst, arith, false, nat_eq, inl, inr}
+use Rattle.std.proofs.Common.{◌≡◌, ◌≤◌, ℕ, Bool, true, cond, List, [], ◌∷◌, map, Option, Some, None, option_map, refl, sym, ap, ◌∙◌, subst, arith, false, nat_eq, inl, inr}
 use Rattle.std.proofs.lemmas.Bool.Decides.{nat_tests}
 use Rattle.std.proofs.lemmas.List.Elements.{All-contains, Contains-append_left, Contains-append_right, Contains-push}
 use Rattle.std.proofs.lemmas.List.Sorted.{Contains-permutation}
@@ -46,7 +46,7 @@ kept_text f e kept = record { of_base = kept.served.of_base; of_cert = kept.serv
 here : (x : ℕ) (xs : List ℕ) → Contains (x ∷ xs) x
 here x xs = Contains-append_left (x ∷ []) xs x (Contains-push [] x)
 
-among_by : (b : Bool) (x n : ℕ) (xs : List ℕ) (files : FilesSeen) (o : Option FilesSeen) (found : FilesSeen) → (b ≡ true → x ≡ n) → (o ≡ Some found → Contains xs n) → (if b then Some files else o) ≡ Some found → Contains (x ∷ xs) n
+among_by : (b : Bool) (x n : ℕ) (xs : List ℕ) (files : FilesSeen) (o : Option FilesSeen) (found : FilesSeen) → (b ≡ true → x ≡ n) → (o ≡ Some found → Contains xs n) → cond b (Some files) o ≡ Some found → Contains (x ∷ xs) n
 among_by true x n xs files o found same more e = subst (λ (m : ℕ). Contains (x ∷ xs) m) (same refl) (here x xs)
 among_by false x n xs files o found same more e = Contains-append_right (x ∷ []) xs n (more e)
 
