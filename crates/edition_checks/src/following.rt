@@ -6,8 +6,9 @@ ghost use Rattle.edition_checks.specs.Served.{served_view, candidate_view};
 
 use crate::candidate::Candidate;
 use crate::served::Served;
+use cert_table::Certificate;
 use checker::{ChangeVerdict, Policy, check_change};
-use frame_records::Pence;
+use frame_records::{Base, Pence};
 
 /// What the check of a change from the edition that is served answers.
 #[derive(Clone, Copy)]
@@ -31,10 +32,25 @@ pub fn wider_of(one: &Policy, other: &Policy) -> Policy
     }
 }
 
-fn have_same_groups(served: &Served, new: &Candidate) -> bool
-    ensures { result ≡ true → new.now.policy.groups ≡ served.now.policy.groups }
+fn have_same_groups(served: &Served, policy: &Policy) -> bool
+    ensures { result ≡ true → policy.now.groups ≡ served.now.policy.groups }
 {
-    new.policy.groups.are_same(&served.policy.groups)
+    policy.groups.are_same(&served.policy.groups)
+}
+
+// Checks the change to a base with its certificate and its policy.
+fn change_to(served: &Served, base: &Base, cert: &Certificate, policy: &Policy) -> Following
+    ensures { result ≡ Following.Cleared →
+        IsClearedAgainst (served_view None served.now) (record { base = base.now; cert = cert.now; policy = policy.now; follows = None }) }
+{
+    if !have_same_groups(served, policy) {
+        return Following::OtherGroups;
+    }
+    let wider = wider_of(&served.policy, policy);
+    match check_change(&served.base, &served.cert, base, cert, &wider) {
+        ChangeVerdict::Cleared => Following::Cleared,
+        verdict => Following::Refused(verdict),
+    }
 }
 
 /// Checks the change from the edition that is served, by the wider of the two policies.
@@ -42,12 +58,13 @@ pub fn may_follow(served: &Served, new: &Candidate) -> Following
     ensures { result ≡ Following.Cleared →
         IsClearedAgainst (served_view None served.now) (candidate_view None new.now) }
 {
-    if !have_same_groups(served, new) {
-        return Following::OtherGroups;
-    }
-    let policy = wider_of(&served.policy, &new.policy);
-    match check_change(&served.base, &served.cert, &new.base, &new.cert, &policy) {
-        ChangeVerdict::Cleared => Following::Cleared,
-        verdict => Following::Refused(verdict),
-    }
+    change_to(served, &new.base, &new.cert, &new.policy)
+}
+
+/// The same of an edition of the folder, which may take the place of the one that is served.
+pub fn may_replace(served: &Served, next: &Served) -> Following
+    ensures { result ≡ Following.Cleared →
+        IsClearedAgainst (served_view None served.now) (served_view None next.now) }
+{
+    change_to(served, &next.base, &next.cert, &next.policy)
 }

@@ -2,7 +2,7 @@
 //!
 //! - [`make_candidate`], [`Candidate`], [`CandidateFault`]: a base with a certificate that the check clears.
 //! - [`read_edition`], [`read_served`], [`Served`], [`ServedFault`]: an edition of a folder, without its lock and with it.
-//! - [`may_follow`], [`Following`], [`wider_of`]: whether the one may follow the other.
+//! - [`may_follow`], [`may_replace`], [`Following`], [`wider_of`]: whether the one may follow the other.
 //! - [`put_candidate`], [`PutFault`]: writes the edition of a candidate and makes it current.
 //!   A sound folder stays sound; [`served_may_be_followed`].
 #![tactic(auto)]
@@ -13,6 +13,6 @@ mod putting;
 mod served;
 
 pub use candidate::{Candidate, CandidateFault, make_candidate};
-pub use following::{Following, may_follow, wider_of};
+pub use following::{Following, may_follow, may_replace, wider_of};
 pub use putting::{PutFault, put_candidate, served_may_be_followed};
 pub use served::{Served, ServedFault, read_edition, read_served};
