@@ -40,8 +40,8 @@ fn have_same_groups(served: &Served, policy: &Policy) -> bool
 
 // Checks the change to a base with its certificate and its policy.
 fn change_to(served: &Served, base: &Base, cert: &Certificate, policy: &Policy) -> Following
-    ensures { result ≡ Following.Cleared →
-        IsClearedAgainst (served_view None served.now) (record { base = base.now; cert = cert.now; policy = policy.now; follows = None }) }
+    ensures { result ≡ Following.Cleared → IsClearedAgainst (served_view None served.now)
+        (record { base = base.now; cert = cert.now; policy = policy.now; follows = None }) }
 {
     if !have_same_groups(served, policy) {
         return Following::OtherGroups;

@@ -5,3 +5,9 @@ pub mod Seen
 pub mod Safe
 pub mod Judged
 pub mod Calls
+pub mod PartTurns
+pub mod PartSteps
+pub mod Hops
+pub mod SeenOver
+pub mod SafeOver
+pub mod CallsOver

@@ -24,7 +24,7 @@ so_far_none groups base from old new h = record {
 }
 
 -- a beginning of some bytes is one of more
-front : (old new : Seen) (n : ℕ) (xs ys : List ℕ) → xs ≡ ys → Appends old.bytes new.bytes (take n xs) → Appends old.bytes new.bytes (take n ys)
+pub front : (old new : Seen) (n : ℕ) (xs ys : List ℕ) → xs ≡ ys → Appends old.bytes new.bytes (take n xs) → Appends old.bytes new.bytes (take n ys)
 front old new n xs ys e h = subst (λ (bs : List ℕ). Appends old.bytes new.bytes (take n bs)) e h
 
 pub begin_cut : (groups : List ℕ) (base : BaseView) (from old new : Seen) → IsBegunText old new (first_bytes base) → IsCutCall groups base from from old new

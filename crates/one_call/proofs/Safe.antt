@@ -20,11 +20,11 @@ fairer p q (Missing id) le h = h
 fairer p q (Closed id) le h = h
 fairer p q (Gone page) le h = tt
 
-all_fairer : (p q : ℕ) (replies : List Reply) → p ≤ q → AllByRecursion (IsFairReply p) replies → AllByRecursion (IsFairReply q) replies
+pub all_fairer : (p q : ℕ) (replies : List Reply) → p ≤ q → AllByRecursion (IsFairReply p) replies → AllByRecursion (IsFairReply q) replies
 all_fairer p q [] le h = tt
 all_fairer p q (r ∷ rs) le h = (fairer p q r le h.0, all_fairer p q rs le h.1)
 
-regains_sooner : (groups : List ℕ) (base : BaseView) (p q : ℕ) (state : SessionState) → p ≤ q → LeftOrRegains groups base p state → LeftOrRegains groups base q state
+pub regains_sooner : (groups : List ℕ) (base : BaseView) (p q : ℕ) (state : SessionState) → p ≤ q → LeftOrRegains groups base p state → LeftOrRegains groups base q state
 regains_sooner groups base p q (At id remembered) le h = record { keys = h.keys; few = omega (arith, le, h.few); forward = h.forward; entry = h.entry }
 regains_sooner groups base p q (Left page) le h = tt
 

@@ -3,4 +3,10 @@ pub mod Lines
 pub mod Opened
 pub mod Safety
 pub mod Calls
+pub mod Looks
+pub mod Leading
+pub mod Parts
+pub mod PartLines
+pub mod PartSafety
+pub mod PartCalls
 pub mod Loops

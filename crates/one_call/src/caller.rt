@@ -4,7 +4,8 @@ ghost use Rattle.std.specs.Prelude.{◌≡◌, ◌++◌, false, IfOk, IfErr, OnO
 ghost use Rattle.served_bytes.specs.Sent.{Says, opening_bytes, home, caret_after, sending_bytes, sent_bytes};
 ghost use Rattle.served_bytes.specs.Words.{sending_of};
 ghost use Rattle.one_call.specs.Loops.{IsBeginFault};
-ghost use Rattle.one_call.specs.Turns.{begun_call, bottom_text, first_bytes, is_leaving, said, keyed, turn};
+ghost use Rattle.line_keys.specs.Heard.{hear};
+ghost use Rattle.one_call.specs.Turns.{begun_call, bottom_text, first_bytes, is_leaving, said, keyed, with_hearing, heard_turn, turn};
 
 use crate::fault::ServeFault;
 use arrayvec::ArrayString;
@@ -153,6 +154,35 @@ impl OneCall {
         Ok(())
     }
 
+    /// What the next byte asks for.
+    pub fn listen(&mut self, byte: u8) -> Heard
+        ensures call { self.new ≡ with_hearing self.old (hear self.old.hearing byte).0 }
+        ensures heard { result ≡ (hear self.old.hearing byte).1 }
+    {
+        self.hearing.hear(byte)
+    }
+
+    /// Does what was heard, and writes the answer after a text.
+    pub fn respond(
+        &mut self,
+        alloc: Global,
+        text: &mut Vec<u8>,
+        base: &Base,
+        heard: Heard,
+    ) -> Result<(), AllocError>
+        ensures call { OnOk result (self.new ≡ (heard_turn base.now self.old heard).0) }
+        ensures text { OnOk result (text.new.items ≡ text.old.items ++
+            sent_bytes self.old.caret (heard_turn base.now self.old heard).1) }
+    {
+        match heard {
+            Heard::Nothing => Ok(()),
+            Heard::Changed => self.show_command(text),
+            Heard::Pressed(key) => self.press(alloc, text, base, key),
+            Heard::Page => self.say(text, keyed_page_words(), false),
+            Heard::End => self.say(text, end_words(), true),
+        }
+    }
+
     /// Hears a byte, and writes what it asks for after a text.
     pub fn hear(
         &mut self,
@@ -166,12 +196,7 @@ impl OneCall {
         ensures text { OnOk result (text.new.items ≡ text.old.items ++
             sent_bytes self.old.caret (turn base.now self.old byte).1) }
     {
-        match self.hearing.hear(byte) {
-            Heard::Nothing => Ok(()),
-            Heard::Changed => self.show_command(text),
-            Heard::Pressed(key) => self.press(alloc, text, base, key),
-            Heard::Page => self.say(text, keyed_page_words(), false),
-            Heard::End => self.say(text, end_words(), true),
-        }
+        let heard = self.listen(byte);
+        self.respond(alloc, text, base, heard)
     }
 }

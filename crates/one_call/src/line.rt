@@ -10,8 +10,8 @@ use devices::{Sink, Source, write_whole};
 use frame_records::{Base, Groups};
 use std::alloc::Global;
 
-// Begins the call, and writes its first bytes.
-fn begin<W: Sink>(
+/// Begins the call, and writes its first bytes.
+pub fn begin<W: Sink>(
     alloc: Global,
     base: &Base,
     groups: &Groups,
