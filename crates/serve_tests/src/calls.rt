@@ -1,14 +1,16 @@
 //! Calls of an edition in memory.
 
-use crate::line::{CallerKeys, CallerTerminal, OneEdition, Wire};
+use crate::line::{CallerKeys, CallerTerminal, OneEdition, Wire, codes_of, row};
+use crate::several::CurrentTexts;
 use base_text::base_read;
 use edition_checks::ServedFault;
 use editions::EditionFile;
 use frame_records::Groups;
-use one_call::{CallFault, ServeFault, calls_are_safe, calls_are_seen, serve, serve_line};
+use one_call::{
+    CallFault, ServeFault, calls_are_safe, calls_are_seen, serve, serve_current, serve_line,
+};
 use std::alloc::Global;
 use std::test::Fail;
-use terminal_codes::Terminal;
 use test_support::{CERT, DEMO, FakeSink, FakeSource, same, same_in};
 
 const POLICY: &str = "ceiling = 5\nkeyings = 1\n";
@@ -45,38 +47,17 @@ fn dial(alloc: Global, mut folder: OneEdition, bytes: &[u8], room: usize) -> Cal
         flushes: 0,
         failed: false,
     };
-    let end = serve(alloc, &mut folder, &mut source, &mut sink);
+    let texts = [folder.current];
+    let mut current = CurrentTexts {
+        texts: &texts,
+        events: Vec::new(alloc),
+    };
+    let end = serve_current(alloc, &mut folder, &mut current, &mut source, &mut sink);
     Called {
         taken: sink.taken,
         before: source.before,
         end,
     }
-}
-
-// A row of a terminal that took these bytes.
-fn row(taken: &[u8], row: usize) -> [u8; 40] {
-    let mut terminal = Terminal::new();
-    terminal.run(taken);
-    let mut codes = [0; 40];
-    let cells = terminal.cells();
-    for column in 0..40 {
-        codes[column] = cells
-            .get(row.saturating_mul(40).saturating_add(column))
-            .copied()
-            .unwrap_or(0);
-    }
-    codes
-}
-
-// The codes of a row's text, with blanks after it.
-fn codes_of(words: &str) -> [u8; 40] {
-    let mut codes = [b' '; 40];
-    for (at, code) in words.as_bytes().iter().enumerate() {
-        if at < 40 {
-            codes[at] = *code;
-        }
-    }
-    codes
 }
 
 const ROWS_23: [(&[u8], &str); 10] = [
@@ -214,6 +195,18 @@ fn what_is_not_cleared_is_not_served(rt: HostRuntime) -> Result<(), Fail> {
         same_in(fault, call.before.len(), 0)?;
     }
     Ok(())
+}
+
+#[test]
+fn call_of_one_edition_is_the_same(rt: HostRuntime) -> Result<(), Fail> {
+    let alloc = rt.alloc();
+    let mut folder = edition("7\n", DEMO, POLICY);
+    let mut source = FakeSource::of(b"17*#", 1);
+    let mut sink = FakeSink::of(alloc, 7);
+    let end = serve(alloc, &mut folder, &mut source, &mut sink);
+    same(end.is_ok(), true)?;
+    let call = dial(alloc, edition("7\n", DEMO, POLICY), b"17*#", usize::MAX);
+    same(sink.taken.as_slice(), call.taken.as_slice())
 }
 
 #[test]

@@ -6,6 +6,7 @@ use devices::{Broken, Sink, Source};
 use editions::{EditionFile, EditionFolder, StoreFault};
 use std::alloc::Global;
 use std::cell::Cell;
+use terminal_codes::Terminal;
 
 /// What `current` says, and the texts of the edition 7.
 #[derive(Drop)]
@@ -16,8 +17,8 @@ pub struct OneEdition<'a> {
     pub policy: &'a str,
 }
 
-// A copy of a text; one that is empty isn't there.
-fn copied(alloc: Global, text: &str) -> Result<Option<Vec<u8>>, StoreFault> {
+/// A copy of a text; one that is empty isn't there.
+pub fn copied(alloc: Global, text: &str) -> Result<Option<Vec<u8>>, StoreFault> {
     if text.is_empty() {
         return Ok(None);
     }
@@ -148,4 +149,30 @@ impl Sink for CallerTerminal<'_> {
     fn failed(&self) -> bool {
         self.failed
     }
+}
+
+/// A row of a terminal that took these bytes.
+pub fn row(taken: &[u8], row: usize) -> [u8; 40] {
+    let mut terminal = Terminal::new();
+    terminal.run(taken);
+    let mut codes = [0; 40];
+    let cells = terminal.cells();
+    for column in 0..40 {
+        codes[column] = cells
+            .get(row.saturating_mul(40).saturating_add(column))
+            .copied()
+            .unwrap_or(0);
+    }
+    codes
+}
+
+/// The codes of a row's text, with blanks after it.
+pub fn codes_of(words: &str) -> [u8; 40] {
+    let mut codes = [b' '; 40];
+    for (at, code) in words.as_bytes().iter().enumerate() {
+        if at < 40 {
+            codes[at] = *code;
+        }
+    }
+    codes
 }
