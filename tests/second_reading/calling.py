@@ -1,9 +1,9 @@
-"""A call of a base: which bytes of a caller are keys, and what the caller's terminal shows after them."""
+"""A call: which bytes of a caller are keys, and what the caller's terminal shows after them."""
 
 import re
 
-from .base import Base, FrameId, Groups
-from .screens import codes
+from .base import Base, Frame, Groups
+from .screens import codes_after
 from .session import Session
 
 # Telnet's commands: FF and one byte; FF, one of FB to FE and an option; FF FA up to FF F0.
@@ -19,16 +19,19 @@ WORDS = {
 
 
 class Call:
-    """A caller of these groups who is served one base."""
+    """A caller of these groups, who begins in a base and may be led to others between two keys."""
 
     def __init__(self, base: Base, groups: Groups) -> None:
         self.session = Session(base, groups)
-        self.base = base
         self.keys = ""
-        self.sent: list[FrameId] = [base.entry_id]
+        self.sent: list[Frame] = [base.frames[base.entry_id]]
         self.command = self.words = ""
         self.telnet = b""
         self.is_over = False
+
+    def lead_to(self, base: Base) -> None:
+        """Keys are answered from this base now."""
+        self.session.base = base
 
     def hear(self, data: bytes) -> None:
         """What the caller sends, up to the end of the call."""
@@ -74,9 +77,9 @@ class Call:
         self.is_over = reply == "GONE"
         self.words = WORDS[reply] + rest * self.is_over
         if reply in ("SHOWN", "AGAIN") and self.session.at:
-            self.sent.append(self.session.at)
+            self.sent.append(self.session.base.frames[self.session.at])
 
     def screen(self) -> bytes:
         """The 960 codes of the caller's terminal."""
         bottom = f"{self.command or self.words:<40}".encode()
-        return codes(self.base, self.sent)[:920] + bottom
+        return codes_after(self.sent)[:920] + bottom

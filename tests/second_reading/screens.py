@@ -41,12 +41,17 @@ def cells_after(frames: Iterable[Frame]) -> bytes:
     return cells_after_bytes(b"".join(lead(frame.keep) + frame.body for frame in frames))
 
 
-def codes(base: Base, ids: list[FrameId]) -> bytes:
+def codes_after(frames: list[Frame]) -> bytes:
     """The codes with the centre's rows: the last frame's id ends at column 34, its price at column 39."""
-    cells = cells_after([base.frames[id] for id in ids])
-    price = f"{base.frames[ids[-1]].price}p"
-    top = f"{str(ids[-1]):>35}{price:>5}"
+    cells = cells_after(frames)
+    price = f"{frames[-1].price}p"
+    top = f"{str(frames[-1].id):>35}{price:>5}"
     return top.encode() + cells[40:920] + bytes([BLANK] * 40)
+
+
+def codes(base: Base, ids: list[FrameId]) -> bytes:
+    """The codes after frames of a base."""
+    return codes_after([base.frames[id] for id in ids])
 
 
 def sent(base: Base, groups: Groups, words: list[Key]) -> list[FrameId]:

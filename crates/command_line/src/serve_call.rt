@@ -1,14 +1,17 @@
-//! The command `serve`: the current edition of a folder on standard input and output.
+//! The command `serve`: the current edition of a folder on standard input and output, and the log on standard error.
 
 ghost use Rattle.std.specs.Prelude.{◌≡◌, true, false, None};
 
 use crate::edition_folder::FolderFiles;
 use crate::named_files::report;
+use ansi_line::{AnsiSink, ReturnKeys};
 use audit_report::{Broken, RunFault, Sink, Source, verdict_text};
 use checker::{Cause, Verdict};
+use command_words::{Serve, TerminalKind};
 use edition_checks::ServedFault;
-use editions::EditionFile;
-use one_call::{CallFault, ServeFault, serve};
+use editions::{EditionFile, EditionFolder};
+use one_call::{CallEvent, CallFault, CallLog, CurrentFile, ServeFault, serve_current};
+use std::alloc::Global;
 use std::io;
 use std::io::{ErrorKind, Read, Write};
 use std::rt::Files;
@@ -69,6 +72,17 @@ impl<W> CallerOutput<W> {
         self.failed = true;
         self.is_closed = is_rung_off(error);
         Broken
+    }
+}
+
+fn caller_output<W>(inner: W) -> CallerOutput<W>
+    ensures { result.failed ≡ false }
+{
+    CallerOutput {
+        inner,
+        failed: false,
+        flushes: 0,
+        is_closed: false,
     }
 }
 
@@ -150,20 +164,94 @@ fn report_line<R: Eprint + AllocGlobal>(rt: &R, fault: ServeFault, is_closed: bo
     }
 }
 
-// Serves one call; the exit status.
-pub fn serve_call<R: Files + Input + Print + Eprint + AllocGlobal>(rt: &R, path: &str) -> u8 {
-    let mut folder = FolderFiles::reading(rt, path);
+// The file `current` of a folder, looked at while the call lasts; and the log, if there is one.
+#[derive(Drop)]
+struct CurrentOnDisk<'a, R> {
+    rt: &'a R,
+    path: &'a str,
+    log: bool,
+}
+
+impl<'a, R: Files> CurrentFile for CurrentOnDisk<'a, R> {
+    ghost looks = { λ _. None };
+
+    fn look(&mut self, alloc: Global) -> Option<Vec<u8>> {
+        let mut folder = FolderFiles::reading(self.rt, self.path);
+        match folder.read_current(alloc) {
+            Ok(text) => text,
+            Err(_) => None,
+        }
+    }
+}
+
+impl<'a, R: Files + Eprint> CallLog for CurrentOnDisk<'a, R> {
+    fn note(&mut self, event: CallEvent) {
+        if !self.log {
+            return;
+        }
+        let rt = self.rt;
+        let path = self.path;
+        let _ = match event {
+            CallEvent::Began(edition) => eprintln!(rt;
+                "{path}: a call begins in edition {edition}"
+            ),
+            CallEvent::Led(edition) => eprintln!(rt;
+                "{path}: the call goes on in edition {edition}"
+            ),
+            CallEvent::Ended(edition, keys) => {
+                eprintln!(rt; "{path}: the call ends in edition {edition}, keys: {keys}")
+            }
+        };
+    }
+}
+
+// Serves one call to a terminal of colours; its end, and whether the caller has rung off.
+fn serve_ansi<R: Files + Input + Print + Eprint + AllocGlobal>(
+    rt: &R,
+    folder: &mut FolderFiles<'_, R>,
+    current: &mut CurrentOnDisk<'_, R>,
+) -> (Result<(), CallFault>, bool) {
+    let mut source = ReturnKeys::new(CallerInput {
+        inner: rt.reader(),
+        failed: false,
+    });
+    let mut sink = AnsiSink::new(rt.alloc(), caller_output(io::writer(rt)));
+    let end = serve_current(rt.alloc(), folder, current, &mut source, &mut sink);
+    if sink.is_refused {
+        return (Err(CallFault::Line(ServeFault::Memory)), false);
+    }
+    (end, sink.inner.is_closed)
+}
+
+// The same to a viewdata terminal.
+fn serve_viewdata<R: Files + Input + Print + Eprint + AllocGlobal>(
+    rt: &R,
+    folder: &mut FolderFiles<'_, R>,
+    current: &mut CurrentOnDisk<'_, R>,
+) -> (Result<(), CallFault>, bool) {
     let mut source = CallerInput {
         inner: rt.reader(),
         failed: false,
     };
-    let mut sink = CallerOutput {
-        inner: io::writer(rt),
-        failed: false,
-        flushes: 0,
-        is_closed: false,
+    let mut sink = caller_output(io::writer(rt));
+    let end = serve_current(rt.alloc(), folder, current, &mut source, &mut sink);
+    (end, sink.is_closed)
+}
+
+// Serves one call; the exit status.
+pub fn serve_call<R: Files + Input + Print + Eprint + AllocGlobal>(rt: &R, asked: &Serve) -> u8 {
+    let path = asked.folder;
+    let mut folder = FolderFiles::reading(rt, path);
+    let mut current = CurrentOnDisk {
+        rt,
+        path,
+        log: asked.log,
     };
-    match serve(rt.alloc(), &mut folder, &mut source, &mut sink) {
+    let (end, is_closed) = match asked.terminal {
+        TerminalKind::Viewdata => serve_viewdata(rt, &mut folder, &mut current),
+        TerminalKind::Ansi => serve_ansi(rt, &mut folder, &mut current),
+    };
+    match end {
         Ok(()) => 0,
         Err(CallFault::Unpublished) => {
             let _ = eprintln!(rt; "{path}: nothing is published there");
@@ -179,7 +267,7 @@ pub fn serve_call<R: Files + Input + Print + Eprint + AllocGlobal>(rt: &R, path:
         },
         Err(CallFault::Edition(number, fault)) => report_edition(rt, path, number, fault),
         Err(CallFault::Refused(number, cause)) => report_refused(rt, path, number, cause),
-        Err(CallFault::Line(fault)) => report_line(rt, fault, sink.is_closed),
+        Err(CallFault::Line(fault)) => report_line(rt, fault, is_closed),
         Err(CallFault::Memory) => crate::fail(rt, &RunFault::Memory),
     }
 }

@@ -14,6 +14,9 @@ use std::{env, io};
 // The words for the forms of a screen.
 const FORMS: &[&str] = &["text", "ansi", "svg", "cells", "html"];
 
+// The words for what a caller's terminal is.
+const TERMINALS: &[&str] = &["viewdata", "ansi"];
+
 // The words for the forms of findings.
 const FORMATS: &[&str] = &["full", "line", "json", "github"];
 
@@ -384,6 +387,13 @@ fn export_command<'a>(alloc: Global) -> Result<Command<'a>, AllocError> {
 }
 
 fn serve_command<'a>(alloc: Global) -> Result<Command<'a>, AllocError> {
+    let terminal = Arg::new(alloc, "as")
+        .long("as")
+        .value_name("TERMINAL")
+        .action(ArgAction::Set)
+        .value_parser(TERMINALS)
+        .default_value("viewdata")
+        .help("What the caller's terminal is: a viewdata one, or one of colours and 24 lines");
     Command::new(alloc, "serve")
         .about("Open the current edition of a folder to one caller")
         .after_help(help::SERVE)
@@ -391,6 +401,12 @@ fn serve_command<'a>(alloc: Global) -> Result<Command<'a>, AllocError> {
             alloc,
             "FOLDER",
             "The folder, of which the file current names an edition",
+        ))?
+        .arg(terminal)?
+        .arg(flag(
+            alloc,
+            "log",
+            "Say on standard error when the call begins, changes its edition and ends",
         ))
 }
 
@@ -545,6 +561,24 @@ pub struct Export<'a> {
     pub groups: Groups,
 }
 
+/// What a caller's terminal is.
+#[derive(Clone, Copy)]
+pub enum TerminalKind {
+    /// It takes the centre's own bytes.
+    Viewdata,
+    /// It has colours, and 24 lines of at least 40 columns.
+    Ansi,
+}
+
+/// Which folder is opened to a caller, and how.
+#[derive(Drop)]
+pub struct Serve<'a> {
+    pub folder: &'a str,
+    pub terminal: TerminalKind,
+    /// Whether the call is logged on standard error.
+    pub log: bool,
+}
+
 /// Which base is published, and how.
 #[derive(Drop)]
 pub struct Publish<'a> {
@@ -619,9 +653,7 @@ pub enum Request<'a> {
     /// The screens of a base, each in a file.
     Export(Export<'a>),
     /// A call of the current edition of a folder.
-    Serve {
-        folder: &'a str,
-    },
+    Serve(Serve<'a>),
     /// A base is published as the next edition of a folder.
     Publish(Publish<'a>),
     /// What a printed word means, or all words.
@@ -686,6 +718,15 @@ fn form_of(word: &str) -> Option<Form> {
         "ansi" => Some(Form::Ansi),
         "svg" => Some(Form::Svg),
         "cells" => Some(Form::Cells),
+        _ => None,
+    }
+}
+
+// The terminal that a word names.
+fn terminal_of(word: &str) -> Option<TerminalKind> {
+    match word {
+        "viewdata" => Some(TerminalKind::Viewdata),
+        "ansi" => Some(TerminalKind::Ansi),
         _ => None,
     }
 }
@@ -841,6 +882,14 @@ fn check_of<'a>(words: &'a ArgMatches, groups: Groups) -> Option<Request<'a>> {
 }
 
 // What a publish is asked for.
+fn serve_of<'a>(words: &'a ArgMatches) -> Option<Request<'a>> {
+    Some(Request::Serve(Serve {
+        folder: words.get_str("FOLDER")?,
+        terminal: words.get_str("as").and_then(terminal_of)?,
+        log: words.get_flag("log"),
+    }))
+}
+
 fn publish_of<'a>(words: &'a ArgMatches) -> Option<Request<'a>> {
     Some(Request::Publish(Publish {
         base: words.get_str("BASE")?,
@@ -887,9 +936,7 @@ pub fn asked_for<'a>(matches: &'a ArgMatches, groups: Groups) -> Option<Request<
         }),
         ("import", words) => import_of(words),
         ("export", words) => export_of(words, groups),
-        ("serve", words) => Some(Request::Serve {
-            folder: words.get_str("FOLDER")?,
-        }),
+        ("serve", words) => serve_of(words),
         ("publish", words) => publish_of(words),
         ("explain", words) => Some(Request::Explain {
             word: words.get_str("CODE"),

@@ -4,11 +4,16 @@ ghost use Rattle.std.specs.Prelude.{◌≡◌, false, IfOk};
 ghost use Rattle.one_call.specs.Lines.{IsLineServed};
 ghost use Rattle.one_call.specs.Calls.{IsCallServed, IsKeptCall};
 ghost use Rattle.one_call.specs.Safety.{CallsAreSeen, CallsAreSafe};
+ghost use Rattle.one_call.specs.PartCalls.{IsCurrentServed, IsKeptOver};
+ghost use Rattle.one_call.specs.PartSafety.{PartsAreSeen, PartsAreSafe};
 
 use audit_report::{Sink, Source};
 use editions::EditionFolder;
 use frame_records::{Base, Groups};
-use one_call::{CallFault, ServeFault, calls_are_safe, calls_are_seen, serve, serve_line};
+use one_call::{
+    CallFault, CallLog, ServeFault, calls_are_safe, calls_are_seen, parts_are_safe, parts_are_seen,
+    serve, serve_current, serve_line,
+};
 use std::alloc::Global;
 
 // A call of a folder's current edition.
@@ -26,6 +31,26 @@ fn of_a_call<R: Source, W: Sink, F: EditionFolder>(
         (W.seen sink.old) (W.seen sink.new)) }
 {
     serve(alloc, folder, source, sink)
+}
+
+// A call while others publish.
+fn of_a_changing_call<R: Source, W: Sink, F: EditionFolder, C: CallLog>(
+    alloc: Global,
+    folder: &mut F,
+    current: &mut C,
+    source: &mut R,
+    sink: &mut W,
+) -> Result<(), CallFault>
+    requires reads { (R.seen source.old).failed ≡ false }
+    requires writes { (W.seen sink.old).failed ≡ false }
+    ensures call { IsCurrentServed (F.seen folder.old)
+        (record { source = R.seen source.old; sink = W.seen sink.old; looks = C.looks current.old })
+        (record { source = R.seen source.new; sink = W.seen sink.new; looks = C.looks current.new }) result }
+    ensures kept { IfOk result (λ _. IsKeptOver (F.seen folder.old)
+        (record { source = R.seen source.old; sink = W.seen sink.old; looks = C.looks current.old })
+        (record { source = R.seen source.new; sink = W.seen sink.new; looks = C.looks current.new })) }
+{
+    serve_current(alloc, folder, current, source, sink)
 }
 
 // A call of a base in memory.
@@ -56,4 +81,17 @@ fn safe()
     ensures { CallsAreSafe }
 {
     calls_are_safe();
+}
+
+// The same while the edition changes.
+fn seen_over()
+    ensures { PartsAreSeen }
+{
+    parts_are_seen();
+}
+
+fn safe_over()
+    ensures { PartsAreSafe }
+{
+    parts_are_safe();
 }
