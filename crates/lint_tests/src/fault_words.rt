@@ -188,8 +188,13 @@ fn unreached_frames_and_counts_have_their_words(rt: HostRuntime) -> Result<(), F
         same_in(wanted, printed(rt.alloc(), &given)?.as_str(), wanted)?;
     }
     let words = "UNREACHED: no key leads to frame 3319a from the entry page";
-    let given = unreached_words(rt.alloc(), FrameId::read("3319a")?)?;
+    let given = unreached_words(rt.alloc(), FrameId::read("3319a")?, None)?;
     same_in(words, printed(rt.alloc(), &given)?.as_str(), words)?;
+    let before = Some(FrameId::read("6202d")?);
+    let given = unreached_words(rt.alloc(), FrameId::read("6202e")?, before)?;
+    let wanted =
+        "UNREACHED: no key leads to frame 6202e from the entry page; 6202d has no next = true";
+    same_in(wanted, printed(rt.alloc(), &given)?.as_str(), wanted)?;
     let counts = [
         (0, 0, ""),
         (1, 0, "1 error"),

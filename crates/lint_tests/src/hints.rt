@@ -61,9 +61,49 @@ fn the_text_as_a_whole(rt: HostRuntime) -> Result<(), Fail> {
             "key with no value",
             "; this is a certificate: pageaudit check BASE CERT",
         ),
-        (b"PBC = 1\nPBC1\n", 12, "key with no value", ""),
+        (
+            b"PBC = 1\nPBC1\n",
+            12,
+            "key with no value",
+            "; a key has = after it, a comment # before it",
+        ),
     ];
     have_hints(rt.alloc(), &faults)
+}
+
+// Escapes whose digits aren't four: the code that was meant, if it is known.
+#[test]
+fn escapes_of_too_few_digits(rt: HostRuntime) -> Result<(), Fail> {
+    let red = "; \\u takes four digits: write \\u0081";
+    let any = "; \\u takes four digits, as \\u0082";
+    let backslash = "; write \\\\ for a backslash";
+    let rows: [(&str, &str); 17] = [
+        ("\\u81MOTOR", red),
+        ("\\u081MOTOR", red),
+        ("\\u0O81MOTOR", red),
+        ("\\uOo81MOTOR", red),
+        ("\\u00 81MOTOR", red),
+        ("\\u81AIR", red),
+        ("\\u008MOTOR", any),
+        ("\\u00", any),
+        ("\\u8", any),
+        ("\\uMOTOR", any),
+        ("\\u00AMOTOR", "; \\u takes four digits: write \\u000A"),
+        ("\\u00dMOTOR", "; \\u takes four digits: write \\u000d"),
+        ("\\U0081MOTOR", "; write \\u0081"),
+        ("\\U81MOTOR", "; write \\u0081"),
+        ("\\USERS", backslash),
+        ("\\0081MOTOR", "; write \\u0081"),
+        ("\\MOTOR", backslash),
+    ];
+    for (row, wanted) in rows {
+        let text = format!(in rt.alloc(); "rows = [\"{row}\"]\n")?;
+        let (at, message, given) = read(rt.alloc(), text.as_bytes())?;
+        same_in(row, at, 10)?;
+        same_in(row, message.as_str(), "invalid escape sequence")?;
+        same_in(row, given.as_str(), wanted)?;
+    }
+    Ok(())
 }
 
 #[test]
@@ -80,7 +120,7 @@ fn a_key_that_is_defined_twice(rt: HostRuntime) -> Result<(), Fail> {
             b"[[frame]]\nid = 1\n[[frame]]\n\nid = 2\nid = 3",
             35,
             duplicate,
-            "; \"id\" is defined already on line 5",
+            "; [[frame]] is missing above this line",
         ),
         (
             b"routes = { 0 = 1, 0 = 2 }\n",

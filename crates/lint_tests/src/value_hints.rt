@@ -79,7 +79,7 @@ fn a_value_of_another_kind_by_its_key(rt: HostRuntime) -> Result<(), Fail> {
             Field::Routes,
             ValueKind::Array,
             "[6203, 7]",
-            "; write routes = { 0 = 6203 }",
+            "; write each page with its digit, as { 0 = 6203 }",
         ),
         (
             Field::Routes,
@@ -128,8 +128,9 @@ fn an_id_that_does_not_read(rt: HostRuntime) -> Result<(), Fail> {
     let rows = [
         ("06203a", "; write 6203a"),
         ("6203", "; write 6203a"),
+        ("6203A", "; write 6203a"),
         (
-            "6203A",
+            "6203aa",
             "; write a page number and one small letter, as 1231a",
         ),
         (
@@ -137,6 +138,8 @@ fn an_id_that_does_not_read(rt: HostRuntime) -> Result<(), Fail> {
             "; write a page number and one small letter, as 1231a",
         ),
         ("", "; write a page number and one small letter, as 1231a"),
+        ("62\u{200B}03a", "; leave out U+200B, which can't be seen"),
+        ("6203\u{0430}", "; U+0430 only looks like a: write a"),
     ];
     for (id, wanted) in rows {
         let detail = Detail::BadFrame(Word::of(rt.alloc(), id)?);
@@ -157,6 +160,22 @@ fn a_character_that_has_a_code(rt: HostRuntime) -> Result<(), Fail> {
             "; write the attribute by its code, \\u0080 to \\u009F",
         ),
         ('\u{E9}', ""),
+        ('\u{200B}', "; leave out U+200B, which can't be seen"),
+        ('\u{2003}', "; U+2003 is a blank: write a space"),
+        ('\u{0430}', "; U+0430 only looks like a: write a"),
+        ('\u{82BE}', "; \\u takes four digits: write \\u0082"),
+        (
+            '\u{1FB39}',
+            "; write | after a mosaic code, \\u0091 to \\u0097",
+        ),
+        (
+            '\u{1FB00}',
+            "; write ! after a mosaic code, \\u0091 to \\u0097",
+        ),
+        (
+            '\u{2588}',
+            "; write \\u007F after a mosaic code, \\u0091 to \\u0097",
+        ),
     ];
     for (c, wanted) in rows {
         let given = hint_of(rt.alloc(), Detail::RowCode(1, 1, c), "")?;
@@ -221,7 +240,12 @@ fn a_body_that_touches_has_its_cause(rt: HostRuntime) -> Result<(), Fail> {
         ),
         (Lead::Clear, &many, 21, "; 23 rows are written, 22 are free"),
         (Lead::Clear, &many[1..], 20, ""),
-        (Lead::Clear, b"\x1EA", 1, ""),
+        (
+            Lead::Clear,
+            b"\x1EA",
+            1,
+            "; \\u001E goes to row 0: write \\u001E\\u000A",
+        ),
     ];
     for (lead, body, offset, wanted) in rows {
         let given = touching(rt.alloc(), lead, body, offset)?;

@@ -5,21 +5,20 @@ use Rattle.std.proofs.Math.Utf8.{encodes, scalar, scalars}
 use Rattle.std.proofs.lemmas.Bool.Decides.{nat_tests}
 use Rattle.std.proofs.lemmas.List.Folds.{list_all-append}
 use Rattle.std.proofs.lemmas.Str.{encodes-append}
-use Rattle.std.specs.Char.{is_control, digit_char}
+use Rattle.std.specs.Char.{is_control}
 use Rattle.std.specs.List.{list_all}
+use Rattle.page_ids.specs.Texts.{hex_digit}
 use Rattle.lint_words.specs.Lines.{IsLine, control_digits, printed_char, shown_chars}
 use Rattle.lint_words.proofs.LineParts.{are_printable, is_plain, plain_scalars, plain_printables, IsLine-encodes}
 
-digit_plain : (d : ℕ) → d < 16 → is_plain (digit_char d) ≡ true
+digit_plain : (d : ℕ) → d < 16 → is_plain (hex_digit d) ≡ true
 digit_plain d r = grind (arith, nat_tests)
 
 control_small : (c : ℕ) → is_control c ≡ true → c < 256
 control_small c p = grind (arith, nat_tests)
 
-digits_plain : (c : ℕ) (small : Bool) → c < 256
-    → list_all is_plain ((if small then [] else digit_char (c / 16) ∷ []) ++ digit_char (c % 16) ∷ [] ++ codes "}") ≡ true
-digits_plain c true r = and_from _ _ (digit_plain (c % 16) (omega arith)) refl
-digits_plain c false r =
+digits_plain : (c : ℕ) → c < 256 → list_all is_plain (control_digits c) ≡ true
+digits_plain c r =
     and_from _ _ (digit_plain (c / 16) (omega arith)) (and_from _ _ (digit_plain (c % 16) (omega arith)) refl)
 
 -- what is written for one character
@@ -29,8 +28,8 @@ record Fits (cs : List ℕ) : Type 0 where
 
 one_fits : (c : ℕ) (control : Bool) → is_control c ≡ control → scalar c ≡ true → Fits (printed_char c)
 one_fits c true p s =
-    let plain = digits_plain c (nat_lt c 16) (control_small c p) in
-    rw p record { scalar = plain_scalars (codes "\\u{" ++ control_digits c ++ codes "}") plain; printable = plain_printables (codes "\\u{" ++ control_digits c ++ codes "}") plain }
+    let plain = digits_plain c (control_small c p) in
+    rw p record { scalar = plain_scalars (codes "\\u00" ++ control_digits c) plain; printable = plain_printables (codes "\\u00" ++ control_digits c) plain }
 one_fits c false p s =
     let printable : not (is_control c) ≡ true = rw p refl in
     rw p record { scalar = and_from (scalar c) true s refl; printable = and_from (not (is_control c)) true printable refl }

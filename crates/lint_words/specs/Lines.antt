@@ -1,9 +1,10 @@
 -- Lines of text.
-use Rattle.std.specs.Prelude.{◌≡◌, ℕ, true, not, ◌/◌, ◌%◌, nat_lt, if◌then◌else◌, List, [], ◌∷◌, ◌++◌, codes}
-use Rattle.std.specs.Char.{is_control, digit_char}
+use Rattle.std.specs.Prelude.{◌≡◌, ℕ, true, not, ◌/◌, ◌%◌, if◌then◌else◌, List, [], ◌∷◌, ◌++◌, codes}
+use Rattle.std.specs.Char.{is_control}
 use Rattle.std.specs.List.{list_all}
 use Rattle.std.specs.Str.{IsUtf8, chars, encode_utf8_all}
 use Rattle.std.specs.Str.Lossy.{utf8_lossy}
+use Rattle.page_ids.specs.Texts.{hex_digit}
 
 -- UTF-8 of which no character is a control: none is U+0000 to U+001F, or U+007F to U+009F
 pub record IsLine (bytes : List ℕ) : Type 0 where
@@ -12,13 +13,13 @@ pub record IsLine (bytes : List ℕ) : Type 0 where
 
 -- How a text is shown as a line.
 
--- the digits in base 16 of a control character, of which the greatest is U+009F
+-- the last two digits in base 16 of a control character, of which the greatest is U+009F
 abbrev pub control_digits : ℕ → List ℕ
-control_digits c = (if nat_lt c 16 then [] else digit_char (c / 16) ∷ []) ++ digit_char (c % 16) ∷ []
+control_digits c = hex_digit (c / 16) ∷ hex_digit (c % 16) ∷ []
 
--- a control character as \u{1b}, and any other as it is
+-- a control character as TOML's escape, as \u001B, and any other as it is
 abbrev pub printed_char : ℕ → List ℕ
-printed_char c = if is_control c then codes "\\u{" ++ control_digits c ++ codes "}" else c ∷ []
+printed_char c = if is_control c then codes "\\u00" ++ control_digits c else c ∷ []
 
 abbrev pub shown_chars : List ℕ → List ℕ
 shown_chars [] = []

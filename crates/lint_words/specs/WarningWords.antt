@@ -1,5 +1,5 @@
 -- The words of warnings about what a frame shows.
-use Rattle.std.specs.Prelude.{ℕ, ◌-◌, List, ◌++◌, codes, Some}
+use Rattle.std.specs.Prelude.{ℕ, ◌-◌, Bool, if◌then◌else◌, List, ◌++◌, codes, Some}
 use Rattle.page_ids.specs.Ids.{Id, frame_text}
 use Rattle.base_text.specs.declared.keys.Field.TheVariants as field
 use Rattle.lint_words.specs.KeyPieces.{item_text}
@@ -28,6 +28,16 @@ line_end_message id end = codes "a line of the body of frame " ++ (frame_text id
 abbrev pub escape_message : Id → ℕ → List ℕ
 escape_message id row =
     item_text field.Rows row (Some id) ++ codes " has \\u00 in single quotation marks, which is shown as it is"
+
+-- the row that shows the digits of an escape, of a frame that is given as rows or as a body
+abbrev pub digits_message : Id → ℕ → List ℕ
+digits_message id row = item_text field.Rows row (Some id) ++ codes " shows u00 and two digits, which is no escape"
+
+abbrev pub shown_key : Bool → List ℕ
+shown_key has_rows = if has_rows then codes "rows" else codes "body"
+
+abbrev pub digits_words : Id → ℕ → Bool → WordsView
+digits_words id row has_rows = words_of code.Escape (about_key (Some id) (shown_key has_rows)) (line_of (digits_message id row))
 
 abbrev pub hidden_words : Id → ℕ → WordsView
 hidden_words id row = words_of code.Hidden (about_key (Some id) (codes "rows")) (line_of (hidden_message id row))

@@ -31,7 +31,7 @@ pub enum Code {
     Hidden,
     /// A line end in a body that is a line feed alone.
     LineEnd,
-    /// An escape in single quotation marks.
+    /// An escape that is shown as it is written.
     Escape,
 }
 

@@ -4,6 +4,7 @@ ghost use Rattle.lint_words.specs.FaultWords.{entry_missing_words, entry_closed_
 use crate::about::{About, fault_about};
 use crate::audit_hints::audit_hint;
 use crate::code::Code;
+use crate::hint::hint_of;
 use crate::line::Line;
 use crate::piece::Piece::{Count, Frame, Group, Grouped, Id, Number, Page, Pressed, ShownBy, Text};
 use crate::piece::push_pieces;
@@ -297,8 +298,20 @@ pub fn audit_fault_words(
     Ok(Words::new(code_of(fault.kind), about, message, hint))
 }
 
-/// The words of a frame that no walk reaches.
-pub fn unreached_words(alloc: Global, id: FrameId) -> Result<Words, AllocError>
+// A frame that has no `next`.
+fn no_next_hint(alloc: Global, frame: Option<FrameId>) -> Result<Option<Line>, AllocError> {
+    match frame {
+        None => Ok(None),
+        Some(id) => hint_of(alloc, &[Id(id), Text(" has no next = true")]),
+    }
+}
+
+/// The words of a frame that no walk reaches. The frame before it, if the base has it without `next`, is for the hint alone.
+pub fn unreached_words(
+    alloc: Global,
+    id: FrameId,
+    before: Option<FrameId>,
+) -> Result<Words, AllocError>
     ensures { IfOk result (λ words. words ≡ unreached_words id) }
 {
     let mut message = Vec::new(alloc);
@@ -311,7 +324,8 @@ pub fn unreached_words(alloc: Global, id: FrameId) -> Result<Words, AllocError>
         ],
     )?;
     let about = About::frame(Some(id));
-    Ok(Words::new(Code::Unreached, about, Line::of(alloc, &message)?, None))
+    let hint = no_next_hint(alloc, before)?;
+    Ok(Words::new(Code::Unreached, about, Line::of(alloc, &message)?, hint))
 }
 
 /// The words of the frames that no walk reaches, this many, of a base whose entry frame isn't found.

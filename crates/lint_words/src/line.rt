@@ -1,9 +1,9 @@
 ghost use Rattle.std.specs.Prelude.{◌≡◌, ◌<◌, ◌++◌, IfOk, OnOk};
-ghost use Rattle.std.specs.Char.{digit_char};
 ghost use Rattle.std.specs.Str.{encode_utf8_all, chars};
 ghost use Rattle.std.specs.String.{string_bytes};
 ghost use Rattle.lint_words.specs.Lines.{IsLine, control_digits, printed_char, shown_chars, line_of};
 
+use page_ids::hex_digit;
 use std::alloc::{AllocError, Global};
 use std::marker::Model;
 
@@ -25,27 +25,14 @@ impl Model for Line {
     ghost invariant = { λ l. IsLine (string_bytes l.text) };
 }
 
-fn digit_char(digit: u32) -> char
-    requires { digit < 16 }
-    ensures { result ≡ digit_char digit }
-{
-    if digit < 10 {
-        (b'0' + digit as u8) as char
-    } else {
-        (b'a' + (digit as u8 - 10)) as char
-    }
-}
-
-// The digits of a control character in base 16.
+// The last two digits of a control character in base 16.
 fn push_digits(out: &mut String, c: char) -> Result<(), AllocError>
     requires { c < 256 }
     ensures { OnOk result (string_bytes out.new ≡ string_bytes out.old ++ encode_utf8_all (control_digits c)) }
 {
     let code = c as u32;
-    if code >= 16 {
-        out.push(digit_char(code / 16))?;
-    }
-    out.push(digit_char(code % 16))
+    out.push(hex_digit((code / 16) as u8) as char)?;
+    out.push(hex_digit((code % 16) as u8) as char)
 }
 
 fn push_shown(out: &mut String, c: char) -> Result<(), AllocError>
@@ -54,9 +41,8 @@ fn push_shown(out: &mut String, c: char) -> Result<(), AllocError>
     if !c.is_control() {
         return out.push(c);
     }
-    out.push_str("\\u{")?;
-    push_digits(out, c)?;
-    out.push('}')
+    out.push_str("\\u00")?;
+    push_digits(out, c)
 }
 
 fn shown(alloc: Global, text: &str) -> Result<String, AllocError>
@@ -71,7 +57,7 @@ fn shown(alloc: Global, text: &str) -> Result<String, AllocError>
 }
 
 impl Line {
-    /// Bytes as a line: a control character is written as `\u{1b}`, and U+FFFD in place of what isn't UTF-8. All else is
+    /// Bytes as a line: a control character is written as `\u001B`, and U+FFFD in place of what isn't UTF-8. All else is
     /// left as it is.
     pub fn of(alloc: Global, bytes: &[u8]) -> Result<Line, AllocError>
         ensures { IfOk result (λ line. line ≡ line_of bytes.now) }

@@ -3,127 +3,80 @@
 ghost use Rattle.std.specs.Prelude.{◌≤◌, length};
 
 use crate::brackets::{has_next_key, open_bracket};
+use crate::escape_hints::escape_hint;
+use crate::file_hints::file_hint;
 use crate::hint::{Hint, said};
+use crate::key_hints::{
+    bad_key_hint, cut_header_hint, dotted_hint, duplicate_hint, line_of, no_value_hint,
+};
 use crate::line::Line;
+use crate::list_hints::{COMMA, WrongValue, brackets_hint, second_number};
+use crate::mark_hints::{ends_line, inner_mark_hint, quote_hint};
 use crate::near_bytes::{Class, after, begins_pair, run_len, run_start};
+use crate::odd_chars::odd_of;
+use crate::toml_messages::{
+    BAD_ESCAPE, BAD_KEY, BAD_STRING, BAD_VALUE, NO_COMMA, NO_COMMA_OF_PAIRS, UNEXPECTED,
+};
 use crate::value_hints::{price_hint, word_hint};
 use crate::values::{as_text, is_number};
-use crate::written_keys::{earlier_definition, name_at, name_before, named_field};
+use crate::written_keys::{name_before, named_field};
 use base_text::Field;
 use std::alloc::{AllocError, Global};
 use toml_parser::bytes::byte_at;
-use toml_places::place_in;
-
-const BAD_UTF8: &str = "invalid UTF-8";
-
-const DUPLICATE: &str = "duplicate key";
-
-const BAD_STRING: &str = "invalid string";
-
-const BAD_ESCAPE: &str = "invalid escape sequence";
-
-const BAD_KEY: &str = "invalid key, expected letters, numbers, `-`, `_` or a quoted key";
-
-const UNEXPECTED: &str = "unexpected key or value, expected newline, `#`";
-
-const BAD_VALUE: &str =
-    "invalid value, expected a string, number, boolean, date-time, array or inline table";
-
-const NO_COMMA: &str = "missing comma between array elements, expected `,` or `]`";
-
-const NO_COMMA_OF_PAIRS: &str = "missing comma between key-value pairs, expected `,` or `}`";
 
 const COMMENT: Hint<'static> = Hint::Words("a comment begins with #");
-
-const TWO_BRACKETS: Hint<'static> = Hint::Words("write [[frame]] with two brackets");
-
-const MISSING_QUOTE: Hint<'static> = Hint::Words("a quotation mark is missing");
-
-// The line of a place, from 1.
-fn line_of(text: &[u8], place: usize) -> usize {
-    place_in(text, place).0
-}
-
-// UTF-16 has a byte order mark, or a zero byte beside each of the first letters.
-fn is_utf16(text: &[u8]) -> bool {
-    match text {
-        [0xFF, 0xFE, ..] | [0xFE, 0xFF, ..] | [0, _, ..] | [_, 0, ..] => true,
-        _ => false,
-    }
-}
-
-fn is_certificate(text: &[u8]) -> bool {
-    text.starts_with(b"PBC1\n") || text.starts_with(b"PBC2\n")
-}
-
-fn has_bare_returns(text: &[u8]) -> bool {
-    text.contains(&b'\r') && !text.contains(&b'\n')
-}
-
-// What is wrong with the text as a whole.
-fn file_hint(text: &[u8], message: &str) -> Option<Hint<'static>> {
-    if is_utf16(text) {
-        Some(Hint::Words("this is UTF-16, save the file as UTF-8"))
-    } else if message == BAD_UTF8 {
-        Some(Hint::Words("this is not UTF-8, save the file as UTF-8"))
-    } else if is_certificate(text) {
-        Some(Hint::Words("this is a certificate: pageaudit check BASE CERT"))
-    } else if has_bare_returns(text) {
-        Some(Hint::Words("its lines end with CR alone, save it with LF or CR LF"))
-    } else {
-        None
-    }
-}
 
 fn is_curly(rest: &[u8]) -> bool {
     matches!(rest, [0xE2, 0x80, 0x98..=0x9F, ..])
 }
 
+// Whether a comment of another language begins here.
+fn begins_comment(rest: &[u8], message: &str) -> bool {
+    let after_value = message == UNEXPECTED && !ends_with_byte(rest);
+    rest.starts_with(b"//")
+        || rest.starts_with(b"/*")
+        || rest.starts_with(b"<!--")
+        || (rest.starts_with(b";") && (message == BAD_KEY || after_value))
+        || (rest.starts_with(b"--") && after_value)
+}
+
+// Whether the rest of the line is one byte, blanks aside.
+fn ends_with_byte(rest: &[u8]) -> bool {
+    match rest {
+        [_, more @ ..] => ends_line(after(more, Class::Blank)),
+        [] => false,
+    }
+}
+
+// A comma or a semicolon after a value, at the end of its line.
+fn end_hint(rest: &[u8], message: &str) -> Option<Hint<'static>> {
+    if message != UNEXPECTED || !ends_with_byte(rest) {
+        return None;
+    }
+    match byte_at(rest, 0) {
+        b',' => Some(Hint::Words("leave out the comma at the end")),
+        b';' => Some(Hint::Words("leave out the semicolon at the end")),
+        _ => None,
+    }
+}
+
+// A character that is taken for another.
+fn odd_hint(rest: &[u8]) -> Option<Hint<'static>> {
+    let length = rest.iter().take_while(|b| **b >= 0x80).count();
+    let c = as_text(rest.get(..length)?).chars().next()?;
+    Some(Hint::Odd(c, odd_of(c)?))
+}
+
 // What begins at the place.
 fn token_hint(rest: &[u8], message: &str) -> Option<Hint<'static>> {
-    let may_be_comment = message == BAD_KEY || message == UNEXPECTED;
     if is_curly(rest) {
         Some(Hint::Words("use straight quotation marks"))
-    } else if rest.starts_with(b"//") || (may_be_comment && rest.starts_with(b";")) {
-        Some(COMMENT)
     } else if rest.starts_with(b"\xC2\xA0") {
         Some(Hint::Words("this is a no-break space (U+00A0), write a space"))
+    } else if begins_comment(rest, message) {
+        Some(COMMENT)
     } else {
-        None
-    }
-}
-
-// A header of a frame that lacks a bracket, right before the place.
-fn header_hint(before: &[u8]) -> Option<Hint<'static>> {
-    if before.ends_with(b"[frame]") || before.ends_with(b"[frame") {
-        Some(TWO_BRACKETS)
-    } else {
-        None
-    }
-}
-
-fn second_definition(text: &[u8], at: usize, place: usize) -> Hint<'_>
-    requires { at ≤ length text.now }
-{
-    let line = line_of(text, place);
-    if text[at..].starts_with(b"[[") {
-        Hint::TwoBracketsOn(line)
-    } else {
-        Hint::Defined(as_text(name_at(text, at)), line)
-    }
-}
-
-// A key that is defined twice.
-fn duplicate_hint<'a>(text: &'a [u8], at: usize, message: &str) -> Option<Hint<'a>>
-    requires { at ≤ length text.now }
-{
-    if message != DUPLICATE {
-        None
-    } else if text[at..].starts_with(b"[frame]") {
-        Some(TWO_BRACKETS)
-    } else {
-        let place = earlier_definition(text, at)?;
-        Some(second_definition(text, at, place))
+        odd_hint(rest)
     }
 }
 
@@ -154,74 +107,13 @@ fn bracket_hint(text: &[u8], at: usize, message: &str) -> Option<Hint<'static>>
     Some(Hint::NotClosed(bracket, line_of(text, place)))
 }
 
-fn ends_line(rest: &[u8]) -> bool {
-    match rest {
-        [] => true,
-        [byte, ..] => *byte == b'\n' || *byte == b'\r',
-    }
-}
-
-// Whether the quotation marks so far are odd in number, and whether the next byte is escaped.
-fn marks_after(odd: bool, escaped: bool, byte: u8) -> (bool, bool) {
-    let flips = byte == b'"' && !escaped;
-    (odd != flips, byte == b'\\' && !escaped)
-}
-
-fn has_odd_marks(bytes: &[u8]) -> bool {
-    let mut marks = (false, false);
-    for byte in bytes {
-        marks = marks_after(marks.0, marks.1, *byte);
-    }
-    marks.0
-}
-
-// The line of a place.
-fn line_at(text: &[u8], at: usize) -> &[u8]
-    requires { at ≤ length text.now }
-{
-    let line = &text[run_start(text, at, Class::Line)..];
-    &line[..run_len(line, Class::Line)]
-}
-
-// A string that isn't closed where its line ends, or a line with an odd number of quotation marks.
-fn quote_hint(text: &[u8], at: usize, message: &str) -> Option<Hint<'static>>
-    requires { at ≤ length text.now }
-{
-    if message == BAD_STRING && ends_line(&text[at..]) {
-        Some(MISSING_QUOTE)
-    } else if (message == NO_COMMA || message == BAD_VALUE) && has_odd_marks(line_at(text, at)) {
-        Some(MISSING_QUOTE)
-    } else {
-        None
-    }
-}
-
-// A quotation mark right before a word, which was meant to be inside a text.
-fn inner_mark_hint(before: &[u8], rest: &[u8], message: &str) -> Option<Hint<'static>> {
-    if (message != NO_COMMA && message != UNEXPECTED) || run_len(rest, Class::Bare) == 0 {
-        None
-    } else if before.ends_with(b"\"") {
-        Some(Hint::Words("write \\\" inside a text"))
-    } else if before.ends_with(b"'") {
-        Some(Hint::Words("write a text with ' in it in double quotation marks"))
-    } else {
-        None
-    }
-}
-
-// An escape that isn't TOML's, or a control character as it is.
-fn string_hint<'a>(rest: &'a [u8], message: &str) -> Option<Hint<'a>> {
+// A control character as it is.
+fn string_hint(rest: &[u8], message: &str) -> Option<Hint<'static>> {
     let is_control = byte_at(rest, 0) < b' ' && !ends_line(rest);
-    match rest {
-        [tens, ones, ..]
-            if message == BAD_ESCAPE && tens.is_ascii_digit() && ones.is_ascii_hexdigit() => {
-            Some(Hint::Escape(as_text(rest.get(..2)?)))
-        }
-        _ if message == BAD_ESCAPE => Some(Hint::Words("write \\\\ for a backslash")),
-        _ if message == BAD_STRING && is_control => {
-            Some(Hint::Words("write a control character as an escape, as \\u001B"))
-        }
-        _ => None,
+    if message == BAD_STRING && is_control {
+        Some(Hint::Words("write a control character as an escape, as \\u001B"))
+    } else {
+        None
     }
 }
 
@@ -250,14 +142,6 @@ fn is_letter(bytes: &[u8]) -> bool {
 // Whether a word begins with a letter, or is digits and a letter, as an id.
 fn is_text(word: &[u8]) -> bool {
     byte_at(word, 0).is_ascii_alphabetic() || is_letter(after(word, Class::Digit))
-}
-
-// Whether a number is followed by another on its line.
-fn lacks_comma(rest: &[u8]) -> bool {
-    let number = &rest[..run_len(rest, Class::Digit)];
-    let blanks = after(rest, Class::Digit);
-    let next = after(blanks, Class::Blank);
-    !number.is_empty() && next.len() < blanks.len() && byte_at(next, 0).is_ascii_digit()
 }
 
 // A word or number that is no value, of a key that isn't known.
@@ -307,39 +191,84 @@ fn rest_of_value(text: &[u8], start: usize) -> &[u8] {
     rest.get(..length).unwrap_or(b"")
 }
 
-// A bad value, by its key.
-fn value_hint<'a>(text: &'a [u8], at: usize, message: &str) -> Option<Hint<'a>>
+// A value or what follows it, by its key.
+fn value_hint<'a>(text: &'a [u8], at: usize, message: &'a str) -> Option<Hint<'a>>
     requires { at ≤ length text.now }
 {
     let rest = &text[at..];
-    let word = &rest[..run_len(rest, Class::Bare)];
     let start = value_start(text, at);
     let field = named_field(name_before(text, start.unwrap_or(0)));
+    let value = rest_of_value(text, start.unwrap_or(at));
+    if let Some(field) = field {
+        let wrong = WrongValue {
+            message,
+            value,
+            rest,
+        };
+        let brackets = brackets_hint(field, &wrong);
+        if brackets.is_some() {
+            return brackets;
+        }
+    }
+    plain_value_hint(field, value, rest, message)
+}
+
+// A value that is in no list.
+fn plain_value_hint<'a>(
+    field: Option<Field>,
+    value: &'a [u8],
+    rest: &'a [u8],
+    message: &str,
+) -> Option<Hint<'a>> {
     if field == Some(Field::Price) && (message == BAD_VALUE || message == UNEXPECTED) {
-        Some(price_hint(rest_of_value(text, start.unwrap_or(0))))
+        Some(price_hint(value))
     } else if message != BAD_VALUE || begins_pair(rest) {
         None
-    } else if lacks_comma(rest) {
-        Some(Hint::Words("put a comma between two values"))
+    } else if byte_at(rest, 0) == b'=' {
+        Some(Hint::Words("write one ="))
+    } else if field.is_none() && second_number(rest).is_some() {
+        Some(COMMA)
     } else {
-        bad_word_hint(field, word)
+        bad_word_hint(field, &rest[..run_len(rest, Class::Bare)])
     }
 }
 
-// The first of the rules that applies.
-fn hint_at<'a>(text: &'a [u8], at: usize, message: &str) -> Option<Hint<'a>>
+// A hint at the cause in the line of a place.
+fn line_hint<'a>(text: &'a [u8], at: usize, message: &'a str) -> Option<Hint<'a>>
     requires { at ≤ length text.now }
 {
     let (before, rest) = text.split_at(at);
-    file_hint(text, message)
-        .or(token_hint(rest, message))
-        .or(header_hint(before))
-        .or(duplicate_hint(text, at, message))
-        .or(bracket_hint(text, at, message))
-        .or(quote_hint(text, at, message))
+    if message == BAD_ESCAPE {
+        return Some(escape_hint(rest));
+    }
+    quote_hint(text, at, message)
+        .or(end_hint(rest, message))
+        .or(value_hint(text, at, message))
         .or(inner_mark_hint(before, rest, message))
         .or(string_hint(rest, message))
-        .or(value_hint(text, at, message))
+        .or(no_value_hint(text, at, message))
+}
+
+// A hint at the cause in keys, headers and brackets.
+fn structure_hint<'a>(text: &'a [u8], at: usize, message: &str) -> Option<Hint<'a>>
+    requires { at ≤ length text.now }
+{
+    let (before, _) = text.split_at(at);
+    cut_header_hint(before)
+        .or(duplicate_hint(text, at, message))
+        .or(dotted_hint(text, at, message))
+        .or(bracket_hint(text, at, message))
+        .or(bad_key_hint(text, at, message))
+}
+
+// The first of the rules that applies.
+fn hint_at<'a>(text: &'a [u8], at: usize, message: &'a str) -> Option<Hint<'a>>
+    requires { at ≤ length text.now }
+{
+    file_hint(text, message)
+        .or(token_hint(&text[at..], message))
+        .or(structure_hint(text, at, message))
+        .or(line_hint(text, at, message))
 }
 
 // A hint at the cause of toml's message on a text, if a rule applies. The offset is that of the message's span; one past

@@ -1,7 +1,8 @@
 //! How to write a value, by its key.
 
 use crate::hint::Hint;
-use crate::values::{first_number, is_number, page_of, pence_of, unquoted};
+use crate::list_hints::pages_hint;
+use crate::values::{first_number, has_letter_for_digit, is_number, page_of, pence_of, unquoted};
 use base_text::{Field, ValueKind};
 
 const UNQUOTE: Hint<'static> = Hint::Words("leave out the quotation marks");
@@ -22,6 +23,9 @@ pub(crate) fn price_hint(written: &[u8]) -> Hint<'static> {
 
 // A page that isn't a number.
 pub(crate) fn page_hint(written: &[u8]) -> Hint<'_> {
+    if has_letter_for_digit(unquoted(written)) {
+        return Hint::Words("a page number is digits alone: O isn't 0, and l isn't 1");
+    }
     match page_of(written) {
         Some(page) => Hint::Page(page),
         None => Hint::Words("a page number is digits alone"),
@@ -38,19 +42,25 @@ fn number_hint(field: Field, written: &[u8]) -> Option<Hint<'_>> {
     }
 }
 
-// A page that isn't in a list.
+// A page that isn't in a list, or a list in quotation marks.
 fn outside_hint(written: &[u8]) -> Option<Hint<'_>> {
-    match first_number(written) {
-        None => None,
-        Some(page) => Some(Hint::Outside(page)),
+    let pages = pages_hint(written);
+    if pages.is_some() {
+        return pages;
     }
+    Some(Hint::Outside(first_number(written)?))
 }
 
-// Pages without digits.
+// Pages without digits, or a header of two brackets.
 fn routes_hint(written: &[u8]) -> Option<Hint<'_>> {
-    match first_number(written) {
-        None => None,
-        Some(page) => Some(Hint::Routes(page)),
+    if written.starts_with(b"[[frame") {
+        return Some(Hint::Words("write [frame.routes] with single brackets"));
+    }
+    let page = first_number(written)?;
+    if written.contains(&b',') {
+        Some(Hint::Words("write each page with its digit, as { 0 = 6203 }"))
+    } else {
+        Some(Hint::Routes(page))
     }
 }
 
@@ -76,7 +86,9 @@ fn other_kind_hint(field: Field, kind: ValueKind) -> Option<Hint<'static>> {
     match (field, kind) {
         (Field::Next, ValueKind::String) => Some(TRUE_OR_FALSE),
         (Field::Frame, ValueKind::Table) => Some(Hint::Words("write [[frame]] with two brackets")),
-        (Field::Id | Field::Lead | Field::Body, _) => Some(ENQUOTE),
+        (Field::Lead, _) => Some(Hint::Words("write \"clear\" or \"keep\"")),
+        (Field::Rows, ValueKind::String) => Some(Hint::Words("write [ and ] around all rows")),
+        (Field::Id | Field::Body, _) => Some(ENQUOTE),
         _ => None,
     }
 }
@@ -99,6 +111,9 @@ pub(crate) fn item_hint(field: Field, kind: ValueKind, written: &[u8]) -> Option
             Some(page) => Some(Hint::Page(page)),
             None => Some(Hint::Words("write the page number alone, without quotation marks")),
         },
+        (Field::Rows, ValueKind::Array) => {
+            Some(Hint::Words("write one pair of brackets around all rows"))
+        }
         (Field::Rows, _) => Some(ENQUOTE),
         _ => None,
     }

@@ -91,6 +91,15 @@ pub(crate) fn page_of(written: &[u8]) -> Option<&str> {
     }
 }
 
+// Whether a letter that looks like a digit is among digits: a capital O, or a small l before another.
+pub(crate) fn has_letter_for_digit(word: &[u8]) -> bool {
+    match word {
+        [b'O', ..] | [.., b'O'] => true,
+        [b'l', next, ..] => next.is_ascii_digit(),
+        _ => false,
+    }
+}
+
 // The first number in a value, as of `[6203]`.
 pub(crate) fn first_number(written: &[u8]) -> Option<&str> {
     let start = written.iter().take_while(|b| !b.is_ascii_digit()).count();

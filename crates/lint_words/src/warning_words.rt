@@ -1,7 +1,7 @@
 //! The words of warnings about what a frame shows.
 
 ghost use Rattle.std.specs.Prelude.{◌≡◌, ◌++◌, IfOk, OnOk};
-ghost use Rattle.lint_words.specs.WarningWords.{hidden_message, line_end_text, line_end_message, escape_message, hidden_words, line_end_words, escape_words};
+ghost use Rattle.lint_words.specs.WarningWords.{hidden_message, line_end_text, line_end_message, escape_message, digits_message, shown_key, hidden_words, line_end_words, escape_words, digits_words};
 
 use crate::about::About;
 use crate::code::Code;
@@ -72,6 +72,24 @@ fn push_escape(out: &mut Vec<u8>, id: FrameId, row: usize) -> Result<(), AllocEr
     )
 }
 
+fn push_digits(out: &mut Vec<u8>, id: FrameId, row: usize) -> Result<(), AllocError>
+    ensures { OnOk result (out.new.items ≡ out.old.items ++ digits_message id row) }
+{
+    push_pieces(
+        out,
+        &[
+            Item(Field::Rows, row, Some(id)),
+            Text(" shows u00 and two digits, which is no escape"),
+        ],
+    )
+}
+
+fn shown_key(has_rows: bool) -> &'static str
+    ensures { result.now ≡ shown_key has_rows }
+{
+    if has_rows { "rows" } else { "body" }
+}
+
 /// The words of a row, counted from 1, whose text the double height of the row above hides.
 pub fn hidden_words(alloc: Global, id: FrameId, row: usize) -> Result<Words, AllocError>
     ensures { IfOk result (λ words. words ≡ hidden_words id row) }
@@ -105,5 +123,24 @@ pub fn escape_words(alloc: Global, id: FrameId, row: usize) -> Result<Words, All
     push_escape(&mut message, id, row)?;
     let hint = hint_of(alloc, &[Text("write the row in double quotation marks")])?;
     let about = About::key(alloc, Some(id), "rows")?;
+    Ok(Words::new(Code::Escape, about, Line::of(alloc, &message)?, hint))
+}
+
+/// The words of a row, counted from 1, that shows the digits of an escape, of a frame that is given as `rows` or as a body.
+pub fn digits_words(
+    alloc: Global,
+    id: FrameId,
+    row: usize,
+    has_rows: bool,
+) -> Result<Words, AllocError>
+    ensures { IfOk result (λ words. words ≡ digits_words id row has_rows) }
+{
+    let mut message = Vec::new(alloc);
+    push_digits(&mut message, id, row)?;
+    let hint = hint_of(
+        alloc,
+        &[Text("write one backslash before it, as \\u0081, in double quotation marks")],
+    )?;
+    let about = About::key(alloc, Some(id), shown_key(has_rows))?;
     Ok(Words::new(Code::Escape, about, Line::of(alloc, &message)?, hint))
 }

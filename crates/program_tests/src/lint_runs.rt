@@ -11,7 +11,7 @@ use test_support::same_in;
 const TEXT: &str = "entry = 1\n[[frame]]\nid = \"1a\"\nrows = []\nroutes = { 3 = 4 }\n";
 
 const LINE: &str =
-    "x/b.toml:5:12: error: MISSING: key 3 of frame 1a leads to page 4, which has no frame a (keys 3)\n";
+    "x/b.toml:5:12: error: MISSING: key 3 of frame 1a leads to page 4, which has no frame a (keys 3); give it one, or list 4 in outside\n";
 
 // What a lint answers, its status, how often the file is read and the output flushed, and how many bytes of the line are taken.
 type Linted = (Result<Counts, RunFault>, u8, u32, u32, usize);
