@@ -63,6 +63,10 @@ MOST_FAULTS = 1_000
 JUDGED = ["", "id", "price", "group", "next", "routes", "lead", "text"]
 
 
+# what a frame as a whole lacks: at its id, if it has one
+OF_FRAME: Name = ("frame",)
+
+
 class Fault(NamedTuple):
     """The words of a finding, and what is at fault: its name from the table of a frame, or of the top, on.
 
@@ -131,8 +135,10 @@ class Frame:
         """The faults in the order of judging, with the frame's name in the words."""
         name = f"frame {self.id}" if self.fields.get("id") == self.id else "this frame"
         faults = [fault for field in JUDGED for fault in self.faults_of(field)]
+        whole: Name = ("id", "value") if "id" in self.fields else ("value",)
         for fault in listed(faults, "in {F}"):
-            yield fault._replace(words=fault.words.replace("{F}", name))
+            place = whole if fault.name == OF_FRAME else fault.name
+            yield fault._replace(words=fault.words.replace("{F}", name), name=place)
 
 
 class Written(Chance):
@@ -428,7 +434,7 @@ class FaultyText(Written):
         fields.pop("rows", None)
         fields.pop("body", None)
         if share < 0.1:
-            frame.fault("text", 'X4 Absent: {F} has no "body" and no "rows"', "value")
+            frame.fault("text", 'X4 Absent: {F} has no "body" and no "rows"', *OF_FRAME)
         elif share < 0.25:
             words = 'X7 BodyAndRows: {F} has both "body" and "rows", leave out one'
             frame.fault("text", words, "body", "rows", "later")
@@ -676,12 +682,12 @@ class FaultyWalks(Written):
                 self.lead_astray(frame, key)
         if frame.rank is None:
             words = f"NORETURN: no keys lead from frame {frame.id} back to the entry page"
-            self.tell(frame, words + frame.keys, "value")
+            self.tell(frame, words + frame.keys, "id", "value")
         elif frame.rank > self.keyings:
             away = f"{frame.rank} {'key' if frame.rank == 1 else 'keys'} away"
             allowed = f"at most {self.keyings} {'is' if self.keyings == 1 else 'are'} allowed"
             words = f"NORETURN: from frame {frame.id} the entry page is {away}, {allowed}"
-            self.tell(frame, words + frame.keys, "value")
+            self.tell(frame, words + frame.keys, "id", "value")
 
     def tell(self, frame: Frame, words: str, *name: str | int) -> None:
         self.whole_faults.append(Fault(words, name, frame))
@@ -749,4 +755,4 @@ class FaultyWalks(Written):
                 self.frames.insert(self.random.randrange(len(self.frames) + 1), frame)
         for frame in sorted(stranded, key=lambda frame: frame.place):
             words = f"UNREACHED: no key leads to frame {frame.id} from the entry page"
-            self.warnings.append(Fault(words, ("value",), frame))
+            self.warnings.append(Fault(words, ("id", "value"), frame))

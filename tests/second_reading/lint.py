@@ -14,6 +14,7 @@ from .base import MOST_BYTES, Answer, Asked, FrameId, Policy, answers, id_in
 from .faults import MOST_ROWS, BaseTable, FrameTable, base_in, text_faults
 from .places import Piece, Places, What
 from .screen import State, step
+from .screens import cells_after
 from .toml import Lines, Span, Table, parsed
 from .words import number_of
 
@@ -95,7 +96,7 @@ class Audited:
             case "TOUCHES":
                 return self.touches(id, int(rest[1]), rest[3])
             case "NORETURN":
-                return self.piece(id, What.HEADER), self.no_return(id)
+                return self.piece(id, What.VALUE, "id"), self.no_return(id)
         key = rest[3]
         keys = ("next",) if key == "#" else ("routes", key)
         return self.piece(id, What.PAIR, *keys), f"key {key} of frame {id} leads to {self.lost(word, sought)}"
@@ -136,7 +137,7 @@ class Audited:
             words = f"no key leads to {number_of(len(ids), 'frame', 'frames')} from the entry page"
             yield Piece(What.VALUE, None, ("entry",)), f"UNREACHED: {words}"
         for id in [] if self.survey.unopened else ids:
-            yield self.piece(id, What.HEADER), f"UNREACHED: no key leads to frame {id} from the entry page"
+            yield self.piece(id, What.VALUE, "id"), f"UNREACHED: no key leads to frame {id} from the entry page"
 
     def hidden(self) -> Iterator[tuple[Piece, str]]:
         """The rows with text that the double height of the row above hides, of frames given as rows."""
@@ -157,6 +158,25 @@ class Audited:
                     has = "has \\u00 in single quotation marks, which is shown as it is"
                     yield piece, f"ESCAPE: row {index + 1} of frame {id} {has}"
 
+    def digits(self) -> Iterator[tuple[Piece, str]]:
+        """The rows of the screen that show u00 and two digits where an escape was meant, of bodies that hold u00."""
+        for id in self.in_order:
+            body = self.base.frames[id].body
+            if not any(part in body for part in (b"\x8d", b"\\", b"u00")):
+                continue
+            cells = cells_after([self.base.frames[id]])
+            for row in range(1, 23):
+                shown = cells[40 * row : 40 * row + 40].decode("latin-1")
+                if not re.search(r"""(?:^|[\\/"'])u00[0-9A-Fa-f]{2}""", shown):
+                    continue
+                if "rows" in self.tables[id]:
+                    piece = self.piece(id, What.VALUE, "rows", indexes=(row - 1,))
+                    if "\\u00" in shown and self.places.text[self.places.find(piece).begin] == "'":
+                        continue
+                else:
+                    piece = self.piece(id, What.VALUE, "body")
+                yield piece, f"ESCAPE: row {row} of frame {id} shows u00 and two digits, which is no escape"
+
     def line_ends(self) -> Iterator[tuple[Piece, str]]:
         """In each body the first line end of each kind, if the file writes it as one, before text."""
         for id in self.in_order:
@@ -171,7 +191,7 @@ class Audited:
                     yield piece, f"LINEEND: a line of the body of frame {id} {how}"
 
     def warnings(self) -> list[tuple[Piece, str]]:
-        return [*self.unreached(), *self.hidden(), *self.escapes(), *self.line_ends()]
+        return [*self.unreached(), *self.hidden(), *self.escapes(), *self.digits(), *self.line_ends()]
 
 
 def findings(tree: Table, places: Places, lines: Lines, policy: Policy) -> Iterator[Finding]:

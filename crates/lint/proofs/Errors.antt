@@ -12,13 +12,13 @@ use Rattle.lint.specs.declared.finding.Level.TheVariants.{Error, Warning}
 use Rattle.lint.specs.Findings.{FindingView, warning_at, same_level, count_of, AreInOrder}
 use Rattle.lint.specs.Lint.{Subject, Length, Toml, Text, Whole, finding_of, ranks_of, finds_none, frame_ids, table_of, unreached, warning, warning_if, unreached_findings, look_in, look_finding, look_findings, fault_finding, text_tables, IsAudited}
 use Rattle.lint_words.specs.FaultWords.{none_reached_words}
-use Rattle.lint_words.specs.WarningWords.{line_end_words, escape_words}
+use Rattle.lint_words.specs.WarningWords.{line_end_words, escape_words, digits_words}
 use Rattle.lint_words.specs.WordsOf.{WordsView}
 use Rattle.toml_places.specs.declared.spans.Span.{Span}
 use Rattle.lint.specs.Tables.{TableView, table_at}
-use Rattle.lint.specs.Spots.{has_rows, entry_span, single_at, line_end_at}
+use Rattle.lint.specs.Spots.{has_rows, entry_span, single_at, digits_at, line_end_at}
 use Rattle.lint.specs.declared.looks.Look.{Look}
-use Rattle.lint.specs.declared.looks.Look.TheVariants.{Hidden, Escape, EndsLine}
+use Rattle.lint.specs.declared.looks.Look.TheVariants.{Hidden, Escape, Digits, EndsLine}
 use Rattle.lint.specs.Looks.{looks_of}
 
 abbrev errors : List FindingView → ℕ
@@ -52,6 +52,7 @@ module _ (text : List ℕ) (ms : List Mark) (tables : List (Id × ℕ)) where
   no_look_error : (table : TableView) (id : Id) (look : Look) → errors (look_in table id look) ≡ 0
   no_look_error table id (Hidden row) = warning_or_none (has_rows table) _ refl
   no_look_error table id (Escape row) = warning_if_span (single_at table row) (escape_words id row)
+  no_look_error table id (Digits row has_escape) = warning_if_span (digits_at table row has_escape) (digits_words id row (has_rows table))
   no_look_error table id (EndsLine end index) = warning_if_span (line_end_at table end index) (line_end_words id end)
 
   no_look_errors : (looks : List (Id × Look)) → errors (look_findings text ms tables looks) ≡ 0

@@ -1,6 +1,6 @@
 -- Every span of a finding lies in the text.
 use Rattle.std.proofs.Common.{◌≡◌, ℕ, zero, suc, ◌+◌, ◌-◌, Bool, true, false, cond, nat_lt, List, [], ◌∷◌, length, map, get_or, Option, Some, None, unwrap_or, option_map, option_and_then, le_refl, refl, sym, subst, arith}
-use Rattle.std.specs.Prelude.{All, codes, ◌++◌, ◌==◌, ◌&&◌, slice_get, if◌then◌else◌}
+use Rattle.std.specs.Prelude.{All, is_some, codes, ◌++◌, ◌==◌, ◌&&◌, slice_get, if◌then◌else◌}
 use Rattle.std.specs.Option.{option_or}
 use Rattle.std.proofs.lemmas.List.Elements.{All-map, All-append}
 use Rattle.std.proofs.lemmas.List.Sorted.{All-permutation}
@@ -40,15 +40,15 @@ use Rattle.lint.specs.Findings.{FindingView, warning_at}
 use Rattle.lint.specs.Tables.{TableView, is_in_line, value_at, element_at, frame_element, header_span, frame_whole, whole, table_at}
 use Rattle.frame_records.specs.declared.limits.TheConstants.{MOST_LISTED}
 use Rattle.lint.specs.Outside.{is_page, page_in_span, element_if, page_from, page_at, outside_element}
-use Rattle.lint.specs.Spots.{span_of_key, span_of_pair, key_of, span_of_value, route_key, route_pair, item_of, char_of, later, unknown_at, digit_at, is_routes, listed_at, span_of_row, body_char, detail_at, detail_span, has_rows, shown_at, whole_at, whole_span, pressed_at, byte_at, touched_at, kind_at, audit_span, row_span, entry_span, is_this_byte, is_one, feed_span, ended_span, line_end_at, single_span, single_at, kind_table, whole_table}
+use Rattle.lint.specs.Spots.{span_of_key, span_of_pair, key_of, span_of_value, route_key, route_pair, item_of, char_of, later, unknown_at, digit_at, is_routes, listed_at, span_of_row, body_char, is_entry, id_value, id_span, detail_at, detail_span, has_rows, shown_at, whole_at, whole_span, pressed_at, byte_at, touched_at, kind_at, audit_span, row_span, entry_span, is_this_byte, is_one, feed_span, ended_span, line_end_at, single_span, single_at, shown_row, digits_at, kind_table, whole_table}
 use Rattle.lint.specs.Lint.{Subject, Length, Toml, Text, Whole, finding_of, faulty, IsSpanWithin, AreSubjects, AreSubjectsIf, AreTreeSubjects, IsJudgedBy, text_tables, warning, warning_if, unreached_findings, look_in, look_finding, look_findings, fault_finding, ranks_of, finds_none, frame_ids, unreached, table_of, text_finding, whole_finding, IsAudited}
 use Rattle.lint_words.specs.FaultWords.{none_reached_words}
 use Rattle.lint_words.specs.declared.warning_words.LineEnd.{LineEnd}
 use Rattle.lint_words.specs.declared.warning_words.LineEnd.TheVariants.{Feed, Return}
-use Rattle.lint_words.specs.WarningWords.{line_end_words, escape_words}
+use Rattle.lint_words.specs.WarningWords.{line_end_words, escape_words, digits_words}
 use Rattle.lint_words.specs.WordsOf.{WordsView}
 use Rattle.lint.specs.declared.looks.Look.{Look}
-use Rattle.lint.specs.declared.looks.Look.TheVariants.{Hidden, Escape, EndsLine}
+use Rattle.lint.specs.declared.looks.Look.TheVariants.{Hidden, Escape, Digits, EndsLine}
 use Rattle.lint.specs.Looks.{looks_of}
 use Rattle.page_ids.specs.Ids.{Id}
 use Rattle.lint.specs.Laws.{LintSpansLieIn}
@@ -133,12 +133,15 @@ module _ (t : TableView) (items : (k : ℕ) → Lies t.text (t.item k)) where
   row_lies : (n : ℕ) → Lies t.text (span_of_row t n)
   row_lies n = item_lies (codes "rows") (n - 1)
 
+  shown_row_lies : (n : ℕ) → Lies t.text (shown_row t n)
+  shown_row_lies n = if_lies t.text (has_rows t) (span_of_row t n) (span_of_value t (codes "body")) (row_lies n) (value_of_lies (codes "body"))
+
   body_char_lies : (k : ℕ) → Lies t.text (body_char t k)
   body_char_lies k = map_lies t.text (span_of_value t (codes "body")) (char_of t k) (char_lies k) (value_of_lies (codes "body"))
 
   detail_at_lies : (d : Detail) → Lies t.text (detail_at t d)
   detail_at_lies (UnknownKey k key) = unknown_lies k key
-  detail_at_lies (Absent f) = tt
+  detail_at_lies (Absent f) = if_lies t.text (is_entry f) None (id_value t) tt (value_of_lies (codes "id"))
   detail_at_lies (WrongKind f k) = value_of_lies (field_name f)
   detail_at_lies (WrongItem f n k) = listed_lies f n
   detail_at_lies (Number f z) = value_of_lies (field_name f)
@@ -186,7 +189,7 @@ module _ (t : TableView) (items : (k : ℕ) → Lies t.text (t.item k)) where
   kind_lies fault fault_kind.Touches = touched_lies fault.start
   kind_lies fault fault_kind.Missing = then_lies t.text fault.key (pressed_at t) pressed_lies
   kind_lies fault fault_kind.Closed = then_lies t.text fault.key (pressed_at t) pressed_lies
-  kind_lies fault fault_kind.NoReturn = tt
+  kind_lies fault fault_kind.NoReturn = value_of_lies (codes "id")
 
 module _ (text : List ℕ) where
   frame_lies : (k : ℕ) → IsSpanWithin text (frame_whole text (marks text) k)
@@ -284,6 +287,9 @@ module _ (text : List ℕ) where
   row_span_lies frame n =
       let t = table_at text (marks text) frame in in_table frame (span_of_row t n) (row_lies t (items_lie frame) n)
 
+  id_lies : (frame : Option ℕ) → IsSpanWithin text (id_span (table_at text (marks text) frame))
+  id_lies frame = let t = table_at text (marks text) frame in in_table frame (id_value t) (value_of_lies t (items_lie frame) (codes "id"))
+
   entry_lies : IsSpanWithin text (entry_span (table_at text (marks text) None))
   entry_lies = let t = table_at text (marks text) None in in_table None (span_of_value t (codes "entry")) (value_of_lies t (items_lie None) (codes "entry"))
 
@@ -293,6 +299,11 @@ module _ (text : List ℕ) where
         on : (o : Option Span) → Lies text o → Lies text (option_and_then (single_span text) o)
         on None lies = tt
         on (Some s) lies = if_lies text (is_this_byte 0x27 (slice_get text s.begin)) (Some s) None lies tt
+
+  digits_lies : (frame : Option ℕ) (n : ℕ) (has_escape : Bool) → Lies text (digits_at (table_at text (marks text) frame) n has_escape)
+  digits_lies frame n has_escape =
+      let t = table_at text (marks text) frame in
+      if_lies text (has_escape && is_some (single_at t n)) None (shown_row t n) tt (shown_row_lies t (items_lie frame) n)
 
   kept_lies : (keep : Span → Option Span) → ((s : Span) → IsSpanWithin text s → Lies text (keep s)) → (o : Option Span) → Lies text o → Lies text (option_and_then keep o)
   kept_lies keep keeps None lies = tt
@@ -326,6 +337,9 @@ module _ (text : List ℕ) where
   look_lies : (frame : Option ℕ) (id : Id) (look : Look) → AllLie (look_in (table_at text (marks text) frame) id look)
   look_lies frame id (Hidden row) = one_or_none (has_rows (table_at text (marks text) frame)) _ (row_span_lies frame row)
   look_lies frame id (Escape row) = if_span_lies (single_at (table_at text (marks text) frame) row) (escape_words id row) (single_lies frame row)
+  look_lies frame id (Digits row has_escape) =
+      let t = table_at text (marks text) frame in
+      if_span_lies (digits_at t row has_escape) (digits_words id row (has_rows t)) (digits_lies frame row has_escape)
   look_lies frame id (EndsLine end k) =
       if_span_lies (line_end_at (table_at text (marks text) frame) end k) (line_end_words id end) (line_end_lies frame end k)
 
@@ -340,7 +354,7 @@ module _ (text : List ℕ) where
     on : (b : Bool) → AllLie (if b then [] else warning_at (entry_span (table_at text (marks text) None)) (none_reached_words (length ids)) ∷ [])
     on true = none_lie
     on false = one_lie (warning_at (entry_span (table_at text (marks text) None)) (none_reached_words (length ids))) entry_lies
-  unreached_lie false ids = each (warning text (marks text) (text_tables text)) (λ id. frame_lies (table_of (text_tables text) id)) ids
+  unreached_lie false ids = each (warning text (marks text) (text_tables text)) (λ id. id_lies (Some (table_of (text_tables text) id))) ids
 
   audited_lie : (policy : Policy) (base : BaseView) (findings : List FindingView) → IsAudited text policy base findings → AllLie findings
   audited_lie policy base findings a =

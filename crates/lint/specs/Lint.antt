@@ -13,16 +13,16 @@ use Rattle.toml_places.specs.declared.spans.Span.{Span}
 use Rattle.toml_places.specs.Places.{Mark, marks}
 use Rattle.lint_words.specs.declared.fault_words.Judged.{Judged}
 use Rattle.lint_words.specs.FaultWords.{audit_fault_words, unreached_words, none_reached_words}
-use Rattle.lint_words.specs.WarningWords.{hidden_words, line_end_words, escape_words}
+use Rattle.lint_words.specs.WarningWords.{hidden_words, line_end_words, escape_words, digits_words}
 use Rattle.lint_words.specs.WordsOf.{WordsView}
 use Rattle.lint.specs.Findings.{FindingView, error_at, warning_at, AreInOrder}
 use Rattle.lint.specs.Lookups.{value_of}
-use Rattle.lint.specs.Tables.{TableView, empty_at, frame_whole, table_at, id_place}
+use Rattle.lint.specs.Tables.{TableView, empty_at, table_at, id_place}
 use Rattle.lint.specs.declared.looks.Look.{Look}
-use Rattle.lint.specs.declared.looks.Look.TheVariants.{Hidden, Escape, EndsLine}
+use Rattle.lint.specs.declared.looks.Look.TheVariants.{Hidden, Escape, Digits, EndsLine}
 use Rattle.lint.specs.Looks.{looks_of}
 use Rattle.lint.specs.Outside.{page_at, outside_element}
-use Rattle.lint.specs.Spots.{has_rows, row_span, entry_span, line_end_at, single_at, detail_span, whole_table, whole_span, kind_table, audit_span}
+use Rattle.lint.specs.Spots.{has_rows, row_span, id_span, entry_span, line_end_at, single_at, digits_at, detail_span, whole_table, whole_span, kind_table, audit_span}
 use Rattle.base_text.specs.declared.detail.TextFault.{TextFault}
 use Rattle.base_text.specs.declared.listed.Listed.{Listed}
 use Rattle.base_text.specs.declared.whole_fault.WholeFault.{WholeFault}
@@ -86,7 +86,7 @@ fault_finding text ms tables base policy ranks fault =
     error_at (audit_span table fault) (audit_fault_words (judged table base policy ranks fault) fault)
 
 abbrev pub warning : List ℕ → List Mark → List (Id × ℕ) → Id → FindingView
-warning text ms tables id = warning_at (frame_whole text ms (table_of tables id)) (unreached_words id)
+warning text ms tables id = warning_at (id_span (table_at text ms (Some (table_of tables id)))) (unreached_words id)
 
 -- if the entry frame isn't found, one warning has the number of all these frames
 abbrev pub none_reached : List ℕ → List Mark → ℕ → List FindingView
@@ -104,6 +104,7 @@ warning_if (Some span) words = warning_at span words ∷ []
 abbrev pub look_in : TableView → Id → Look → List FindingView
 look_in table id (Hidden row) = if has_rows table then warning_at (row_span table row) (hidden_words id row) ∷ [] else []
 look_in table id (Escape row) = warning_if (single_at table row) (escape_words id row)
+look_in table id (Digits row has_escape) = warning_if (digits_at table row has_escape) (digits_words id row (has_rows table))
 look_in table id (EndsLine end index) = warning_if (line_end_at table end index) (line_end_words id end)
 
 abbrev pub look_finding : List ℕ → List Mark → List (Id × ℕ) → Id × Look → List FindingView

@@ -1,15 +1,17 @@
 -- What may be wrong with what frames show, by their codes alone; how the text writes it decides.
 use Rattle.std.specs.Prelude.{ℕ, zero, suc, Bool, ◌==◌, ◌&&◌, ◌||◌, not, nat_le, ◌+◌, ◌%◌, false, true, if◌then◌else◌, List, [], ◌∷◌, ◌++◌, flat_map, replicate, Option, Some, None, is_some}
+use Rattle.std.specs.Char.{is_ascii_hexdigit}
 use Rattle.std.specs.List.{list_any}
 use Rattle.page_ids.specs.Ids.{Id}
 use Rattle.frame_records.specs.declared.frame.Frame.{Frame}
+use Rattle.terminal_codes.specs.Bodies.{lead_codes}
 use Rattle.terminal_codes.specs.Screen.{Screen, CaretView, run}
 use Rattle.terminal_codes.specs.Writes.{caret_step}
 use Rattle.screens.specs.Looks.{codes_of_row, hides_text}
 use Rattle.lint_words.specs.declared.warning_words.LineEnd.{LineEnd}
 use Rattle.lint_words.specs.declared.warning_words.LineEnd.TheVariants.{Feed, Return}
 use Rattle.lint.specs.declared.looks.Look.{Look}
-use Rattle.lint.specs.declared.looks.Look.TheVariants.{Hidden, Escape, EndsLine}
+use Rattle.lint.specs.declared.looks.Look.TheVariants.{Hidden, Escape, Digits, EndsLine}
 
 abbrev pub blank : Screen
 blank = record { cells = replicate 960 0x20; at = 0; pending = false; visible = true }
@@ -26,6 +28,39 @@ abbrev pub holds_escape : List ℕ → Bool
 holds_escape [] = false
 holds_escape (b ∷ bs) = begins_escape (b ∷ bs) || holds_escape bs
 
+-- u00 comes first
+abbrev pub begins_zeros : List ℕ → Bool
+begins_zeros (a ∷ b ∷ c ∷ rest) = (a == 0x75) && ((b == 0x30) && (c == 0x30))
+begins_zeros _ = false
+
+-- it is somewhere
+abbrev pub holds_zeros : List ℕ → Bool
+holds_zeros [] = false
+holds_zeros (b ∷ bs) = begins_zeros (b ∷ bs) || holds_zeros bs
+
+-- two digits in base 16 come first
+abbrev pub begins_hex_pair : List ℕ → Bool
+begins_hex_pair (a ∷ b ∷ rest) = is_ascii_hexdigit a && is_ascii_hexdigit b
+begins_hex_pair _ = false
+
+-- u00 and two such digits come first
+abbrev pub begins_digits : List ℕ → Bool
+begins_digits (a ∷ b ∷ c ∷ rest) = begins_zeros (a ∷ b ∷ c ∷ []) && begins_hex_pair rest
+begins_digits _ = false
+
+-- what is typed before them: a backslash, a slash or a quotation mark
+abbrev pub leads_digits : ℕ → Bool
+leads_digits b = (b == 0x5C) || ((b == 0x2F) || ((b == 0x22) || (b == 0x27)))
+
+-- they come somewhere after it
+abbrev pub holds_digits : List ℕ → Bool
+holds_digits [] = false
+holds_digits (b ∷ bs) = (leads_digits b && begins_digits bs) || holds_digits bs
+
+-- or at the start
+abbrev pub shows_digits : List ℕ → Bool
+shows_digits row = begins_digits row || holds_digits row
+
 -- a row with the frame, if its text is hidden
 abbrev pub hidden_if : Id → List ℕ → ℕ → List (Id × Look)
 hidden_if id cells r = if hides_text cells r then (id, Hidden r) ∷ [] else []
@@ -34,21 +69,27 @@ hidden_if id cells r = if hides_text cells r then (id, Hidden r) ∷ [] else []
 abbrev pub escape_if : Id → List ℕ → ℕ → List (Id × Look)
 escape_if id cells r = if holds_escape (codes_of_row cells r) then (id, Escape r) ∷ [] else []
 
+-- a row with the frame, if it shows the digits of an escape; and whether it holds \u00
+abbrev pub digits_if : Id → List ℕ → ℕ → List (Id × Look)
+digits_if id cells r =
+    if shows_digits (codes_of_row cells r) then (id, Digits r (holds_escape (codes_of_row cells r))) ∷ [] else []
+
 abbrev pub row_warnings : Id → List ℕ → ℕ → List (Id × Look)
-row_warnings id cells r = hidden_if id cells r ++ escape_if id cells r
+row_warnings id cells r = hidden_if id cells r ++ (escape_if id cells r ++ digits_if id cells r)
 
 -- those of the rows of a screen, from 1 to this number
 unfoldable pub rows_up_to : Id → List ℕ → ℕ → List (Id × Look)
 rows_up_to id cells zero = []
 rows_up_to id cells (suc n) = rows_up_to id cells n ++ row_warnings id cells (suc n)
 
--- those of a blank screen after a frame's body
+-- those of a blank screen after a frame's lead and body
 abbrev pub body_warnings : Frame → List (Id × Look)
-body_warnings f = rows_up_to f.id (run blank f.body).cells 22
+body_warnings f = rows_up_to f.id (run (run blank (lead_codes f.lead)) f.body).cells 22
 
--- rows have no escapes of the terminal, so without the byte 8D none has double height; nor does one hold \u00 without a \
+-- rows have no escapes of the terminal, so without the byte 8D none has double height; nor does one hold u00 that the body
+-- doesn't hold
 abbrev pub needs_rows : List ℕ → Bool
-needs_rows body = list_any (λ b. b == 0x8D) body || list_any (λ b. b == 0x5C) body
+needs_rows body = list_any (λ b. b == 0x8D) body || (list_any (λ b. b == 0x5C) body || holds_zeros body)
 
 abbrev pub rows_if : Frame → List (Id × Look)
 rows_if f = if needs_rows f.body then body_warnings f else []

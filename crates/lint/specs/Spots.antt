@@ -94,9 +94,20 @@ row_char t n i = option_map (char_of t (i - 1)) (span_of_row t n)
 abbrev pub body_char : TableView → ℕ → Option Span
 body_char t k = option_map (char_of t k) (span_of_value t (codes "body"))
 
+-- the value of the frame's id, for what the frame as a whole lacks
+abbrev pub id_value : TableView → Option Span
+id_value t = span_of_value t (codes "id")
+
+abbrev pub is_entry : Field → Bool
+is_entry field.Entry = true
+is_entry _ = false
+
+abbrev pub absent_at : TableView → Field → Option Span
+absent_at t f = if is_entry f then None else id_value t
+
 abbrev pub detail_at : TableView → Detail → Option Span
 detail_at t (UnknownKey k key) = unknown_at t k key
-detail_at t (Absent f) = None
+detail_at t (Absent f) = absent_at t f
 detail_at t (WrongKind f k) = span_of_value t (field_name f)
 detail_at t (WrongItem f n k) = listed_at t f n
 detail_at t (Number f z) = span_of_value t (field_name f)
@@ -109,7 +120,7 @@ detail_at t BodyAndRows = later (key_of t (codes "body")) (key_of t (codes "rows
 detail_at t (RowTooLong n length) = span_of_row t n
 detail_at t (RowCode n i c) = row_char t n i
 detail_at t (MoreRowCodes n i more) = row_char t n i
-detail_at t (BadFrame text) = span_of_value t (codes "id")
+detail_at t (BadFrame text) = id_value t
 
 abbrev pub detail_span : TableView → Detail → Span
 detail_span t detail = unwrap_or (detail_at t detail) t.whole
@@ -137,7 +148,7 @@ whole_at t (TooManyFrames n) = None
 whole_at t (TooManyOutside n) = item_of t (codes "outside") MOST_LISTED
 whole_at t (BodyTooLong table id n) = shown_at t
 whole_at t (NextAfterZ table id) = pair_of t (codes "next")
-whole_at t (Duplicate table first id) = span_of_value t (codes "id")
+whole_at t (Duplicate table first id) = id_value t
 whole_at t (OutsideInside page) = span_of_value t (codes "outside")
 
 -- in the table of the fault; an element of `outside` counts first
@@ -171,7 +182,7 @@ kind_at t fault fault_kind.Price = span_of_value t (codes "price")
 kind_at t fault fault_kind.Touches = touched_at t fault.start
 kind_at t fault fault_kind.Missing = sought_at t fault.key
 kind_at t fault fault_kind.Closed = sought_at t fault.key
-kind_at t fault fault_kind.NoReturn = None
+kind_at t fault fault_kind.NoReturn = id_value t
 
 abbrev pub audit_span : TableView → Fault → Span
 audit_span t fault = unwrap_or (kind_at t fault fault.kind) t.whole
@@ -181,6 +192,10 @@ abbrev pub row_span : TableView → ℕ → Span
 row_span t n = unwrap_or (span_of_row t n) t.whole
 
 -- Warnings.
+
+-- the id of a frame, or the frame as a whole
+abbrev pub id_span : TableView → Span
+id_span t = unwrap_or (id_value t) t.whole
 
 -- the value of `entry`
 abbrev pub entry_span : TableView → Span
@@ -219,6 +234,14 @@ single_span text s = if is_this_byte 0x27 (slice_get text s.begin) then Some s e
 -- a row, by its number from 1, in single quotation marks
 abbrev pub single_at : TableView → ℕ → Option Span
 single_at t n = t.item (n - 1) >>= single_span t.text
+
+-- a row of the screen, by its number: of a body all of it
+abbrev pub shown_row : TableView → ℕ → Option Span
+shown_row t n = if has_rows t then span_of_row t n else span_of_value t (codes "body")
+
+-- the same, unless the row has an escape in single quotation marks, which is warned of as such
+abbrev pub digits_at : TableView → ℕ → Bool → Option Span
+digits_at t n has_escape = if has_escape && is_some (single_at t n) then None else shown_row t n
 
 -- a missing entry frame is a fault of the top, all else of the frame, which this table writes
 abbrev pub kind_table : ℕ → FaultKind → Option ℕ

@@ -2,7 +2,7 @@ ghost use Rattle.std.specs.Prelude.{◌≡◌, ◌++◌, ℕ, List, Option, map,
 ghost use Rattle.page_ids.specs.Ids.{Id};
 ghost use Rattle.toml_places.specs.Places.{Mark};
 ghost use Rattle.lint.specs.Loops.{KnowsTables, IsTable, table_seen, KnowsValues};
-ghost use Rattle.lint.specs.declared.looks.Look.TheVariants.{Hidden, Escape, EndsLine};
+ghost use Rattle.lint.specs.declared.looks.Look.TheVariants.{Hidden, Escape, Digits, EndsLine};
 ghost use Rattle.lint.specs.Lint as spec;
 ghost use Rattle.lint.specs.Loops as loops;
 
@@ -10,7 +10,8 @@ use crate::finding::Finding;
 use crate::looks::{Look, looks_of};
 use crate::lookup::Lookup;
 use crate::spots::{
-    audit_span, entry_span, has_rows, kind_table, line_end_at, row_span, single_at,
+    audit_span, digits_at, entry_span, has_rows, id_span, kind_table, line_end_at, row_span,
+    single_at,
 };
 use crate::tables::{TableSpots, TextTables};
 use checker::Policy;
@@ -18,10 +19,10 @@ use fault_scripts::{Fault, FaultList, faults_surveyed};
 use finder::{Discovered, Survey};
 use frame_records::{Base, Frame, GroupNo, Groups};
 use lint_words::{
-    Judged, LineEnd, audit_fault_words, escape_words, hidden_words, line_end_words,
+    Judged, LineEnd, audit_fault_words, digits_words, escape_words, hidden_words, line_end_words,
     none_reached_words, unreached_words,
 };
-use page_ids::FrameId;
+use page_ids::{FrameId, Letter};
 use std::alloc::{AllocError, Global};
 
 // The fewest keys from each frame that is reached back to the entry frame.
@@ -167,6 +168,24 @@ fn add_escape(
     Ok(())
 }
 
+fn add_digits(
+    alloc: Global,
+    table: &TableSpots<'_>,
+    id: FrameId,
+    row: usize,
+    has_escape: bool,
+    findings: &mut Vec<Finding>,
+) -> Result<(), AllocError>
+    ensures { OnOk result (findings.new.items
+        ≡ findings.old.items ++ spec.look_in (table_seen table.now) id (Digits row has_escape)) }
+{
+    if let Some(span) = digits_at(table, row, has_escape) {
+        let words = digits_words(alloc, id, row, has_rows(table))?;
+        findings.push(Finding::warning(span, words))?;
+    }
+    Ok(())
+}
+
 fn add_line_end(
     alloc: Global,
     table: &TableSpots<'_>,
@@ -197,6 +216,7 @@ fn add_look(
     match look {
         Look::Hidden(row) => add_hidden(alloc, table, id, *row, findings),
         Look::Escape(row) => add_escape(alloc, table, id, *row, findings),
+        Look::Digits(row, has_escape) => add_digits(alloc, table, id, *row, *has_escape, findings),
         Look::EndsLine(end, index) => add_line_end(alloc, table, id, *end, *index, findings),
     }
 }
@@ -263,12 +283,23 @@ impl<'a> Sources<'a> {
         Ok(())
     }
 
+    // The frame before this one on its page, if the base has it and it has no `next`.
+    fn frame_without_next(&self, id: FrameId) -> Option<FrameId> {
+        let letter = Letter::new(id.letter.get().saturating_sub(1))?;
+        let frame = self.base.find(FrameId {
+            page: id.page,
+            letter,
+        })?;
+        if frame.next { None } else { Some(frame.id) }
+    }
+
     fn warning(&self, alloc: Global, id: FrameId) -> Result<Finding, AllocError>
         ensures { IfOk result (λ f. (ms : List Mark) (tables : List (Id × ℕ)) → loops.AreKnown ms tables self.now
             → f ≡ spec.warning self.now.text.now.text.now ms tables id) }
     {
-        let words = unreached_words(alloc, id)?;
-        Ok(Finding::warning(self.text.frame_whole(self.table_of(id)), words))
+        let table = self.text.table(alloc, Some(self.table_of(id)))?;
+        let words = unreached_words(alloc, id, self.frame_without_next(id))?;
+        Ok(Finding::warning(id_span(&table), words))
     }
 
     fn add_warnings(

@@ -8,7 +8,7 @@ use lint_words::LineEnd;
 use page_ids::FrameId;
 use screens::{hides_text, row_codes};
 use std::alloc::{AllocError, Global};
-use terminal_codes::{Caret, Terminal};
+use terminal_codes::{Caret, Terminal, lead_bytes};
 
 // The attribute double height.
 const DOUBLE: u8 = 0x8d;
@@ -20,6 +20,8 @@ pub enum Look {
     Hidden(usize),
     // A row, by its number, has an escape, which is none in single quotation marks.
     Escape(usize),
+    // A row, by its number, shows the digits of an escape; and whether it has an escape, which is none in single quotation marks.
+    Digits(usize, bool),
     // A line of the body ends so: the code at this index is the line feed, and text goes on after it.
     EndsLine(LineEnd, usize),
 }
@@ -42,6 +44,69 @@ fn holds_escape(codes: &[u8]) -> bool
         [] => false,
         [_, rest @ ..] => begins_escape(codes) || holds_escape(rest),
     }
+}
+
+// Whether codes begin with u00.
+fn begins_zeros(codes: &[u8]) -> bool
+    ensures { result ≡ spec.begins_zeros codes.now }
+{
+    match codes {
+        [a, b, c, ..] => *a == b'u' && *b == b'0' && *c == b'0',
+        _ => false,
+    }
+}
+
+// Whether u00 is among codes.
+fn holds_zeros(codes: &[u8]) -> bool
+    ensures { result ≡ spec.holds_zeros codes.now }
+{
+    match codes {
+        [] => false,
+        [_, rest @ ..] => begins_zeros(codes) || holds_zeros(rest),
+    }
+}
+
+fn begins_hex_pair(codes: &[u8]) -> bool
+    ensures { result ≡ spec.begins_hex_pair codes.now }
+{
+    match codes {
+        [a, b, ..] => a.is_ascii_hexdigit() && b.is_ascii_hexdigit(),
+        _ => false,
+    }
+}
+
+// Whether codes begin with u00 and two digits.
+fn begins_digits(codes: &[u8]) -> bool
+    ensures { result ≡ spec.begins_digits codes.now }
+{
+    match codes {
+        [a, b, c, rest @ ..] => { begins_zeros(&[*a, *b, *c]) && begins_hex_pair(rest) }
+        _ => false,
+    }
+}
+
+// Whether it is typed before the digits of an escape.
+fn leads_digits(code: u8) -> bool
+    ensures { result ≡ spec.leads_digits code }
+{
+    code == b'\\' || code == b'/' || code == b'"' || code == b'\''
+}
+
+// Whether such digits come somewhere after what is typed before them.
+fn holds_digits(codes: &[u8]) -> bool
+    ensures { result ≡ spec.holds_digits codes.now }
+{
+    match codes {
+        [] => false,
+        [first, rest @ ..] => (leads_digits(*first) && begins_digits(rest)) || holds_digits(rest),
+    }
+}
+
+// Whether a row shows the digits of an escape.
+fn shows_digits(codes: &[u8]) -> bool
+    ensures { result ≡ spec.shows_digits codes.now }
+{
+    begins_digits(codes) || holds_digits(codes)
 }
 
 fn add_hidden(
@@ -73,6 +138,22 @@ fn add_escape(
     Ok(())
 }
 
+fn add_digits(
+    frame: FrameId,
+    cells: &[u8; 960],
+    row: usize,
+    looks: &mut Vec<(FrameId, Look)>,
+) -> Result<(), AllocError>
+    requires { row < 24 }
+    ensures { OnOk result (looks.new.items ≡ looks.old.items ++ spec.digits_if frame cells.now row) }
+{
+    let codes = row_codes(cells, row);
+    if shows_digits(codes) {
+        looks.push((frame, Look::Digits(row, holds_escape(codes))))?;
+    }
+    Ok(())
+}
+
 fn add_row(
     frame: FrameId,
     cells: &[u8; 960],
@@ -83,7 +164,8 @@ fn add_row(
     ensures { OnOk result (looks.new.items ≡ looks.old.items ++ spec.row_warnings frame cells.now row) }
 {
     add_hidden(frame, cells, row, looks)?;
-    add_escape(frame, cells, row, looks)
+    add_escape(frame, cells, row, looks)?;
+    add_digits(frame, cells, row, looks)
 }
 
 // Appends what may be wrong with the rows of a screen, from 1 to 22.
@@ -104,15 +186,16 @@ fn add_rows_of(frame: &Frame, looks: &mut Vec<(FrameId, Look)>) -> Result<(), Al
     ensures { OnOk result (looks.new.items ≡ looks.old.items ++ spec.body_warnings frame.now) }
 {
     let mut terminal = Terminal::new();
+    terminal.run(lead_bytes(frame.lead));
     terminal.run(frame.body.as_slice());
     add_rows(frame.id, terminal.cells(), looks)
 }
 
-// Rows have no escapes of the terminal: without the byte 8D none has double height.
+// Rows have no escapes of the terminal: without the byte 8D none has double height. Nor has one u00 that the body doesn't have.
 fn needs_rows(body: &[u8]) -> bool
     ensures { result ≡ spec.needs_rows body.now }
 {
-    body.contains(&DOUBLE) || body.contains(&b'\\')
+    body.contains(&DOUBLE) || body.contains(&b'\\') || holds_zeros(body)
 }
 
 fn add_rows_if(frame: &Frame, looks: &mut Vec<(FrameId, Look)>) -> Result<(), AllocError>

@@ -158,12 +158,29 @@ fn row_char(table: &TableSpots<'_>, row: usize, number: usize) -> Option<Span>
     Some(char_of(table, number.saturating_sub(1), row))
 }
 
+// The value of the frame's id, for what the frame as a whole lacks.
+fn id_value(table: &TableSpots<'_>) -> Option<Span>
+    ensures { result ≡ spec.id_value (table_seen table.now) }
+{
+    value_of(table, "id")
+}
+
+fn absent_at(table: &TableSpots<'_>, field: Field) -> Option<Span>
+    ensures { result ≡ spec.absent_at (table_seen table.now) field }
+{
+    if field == Field::Entry {
+        None
+    } else {
+        id_value(table)
+    }
+}
+
 fn detail_at(table: &TableSpots<'_>, detail: &Detail) -> Option<Span>
     ensures { result ≡ spec.detail_at (table_seen table.now) detail.now }
 {
     match detail {
         Detail::UnknownKey(kind, key) => unknown_at(table, *kind, key.as_str()),
-        Detail::Absent(_) => None,
+        Detail::Absent(field) => absent_at(table, *field),
         Detail::WrongKind(field, _) => value_of(table, field.name()),
         Detail::WrongItem(field, number, _) => listed_at(table, *field, *number),
         Detail::Number(field, _) => value_of(table, field.name()),
@@ -178,24 +195,43 @@ fn detail_at(table: &TableSpots<'_>, detail: &Detail) -> Option<Span>
         Detail::RowCode(row, number, _) | Detail::MoreRowCodes(row, number, _) => {
             row_char(table, *row, *number)
         }
-        Detail::BadFrame(_) => value_of(table, "id"),
+        Detail::BadFrame(_) => id_value(table),
     }
 }
 
-// The value that a detail is about, as it is written, if a hint can use it.
-pub(crate) fn written_value<'t>(table: &'t TableSpots<'_>, detail: &Detail) -> &'t [u8] {
-    let span = match detail {
+// The text from the start of a span's line.
+fn from_line<'t>(table: &'t TableSpots<'_>, span: Span) -> &'t [u8] {
+    let text = table.text().as_bytes();
+    let before = text.get(..span.begin).unwrap_or(b"");
+    let column = before.iter().rev().take_while(|b| **b != b'\n').count();
+    text.get(span.begin.saturating_sub(column)..).unwrap_or(b"")
+}
+
+// The text of a span.
+fn piece<'t>(table: &'t TableSpots<'_>, span: Span) -> &'t [u8] {
+    table
+        .text()
+        .as_bytes()
+        .get(span.begin..span.end)
+        .unwrap_or(b"")
+}
+
+// What a hint uses of the text at a detail: the value at fault, or the text from the line of an unknown key on.
+pub(crate) fn written_at<'t>(table: &'t TableSpots<'_>, detail: &Detail) -> &'t [u8] {
+    let value = match detail {
+        Detail::UnknownKey(kind, key) => {
+            return match unknown_at(table, *kind, key.as_str()) {
+                Some(span) => from_line(table, span),
+                None => b"",
+            };
+        }
         Detail::WrongKind(field, _) => value_of(table, field.name()),
         Detail::WrongItem(Field::Routes, digit, _) => route_value(table, *digit),
         _ => None,
     };
-    match span {
+    match value {
         None => b"",
-        Some(span) => table
-            .text()
-            .as_bytes()
-            .get(span.begin..span.end)
-            .unwrap_or(b""),
+        Some(span) => piece(table, span),
     }
 }
 
@@ -242,7 +278,7 @@ fn whole_at(table: &TableSpots<'_>, fault: &WholeFault) -> Option<Span>
         WholeFault::TooManyOutside(_) => item_of(table, "outside", MOST_LISTED),
         WholeFault::BodyTooLong { .. } => shown_at(table),
         WholeFault::NextAfterZ { .. } => pair_of(table, "next"),
-        WholeFault::Duplicate { .. } => value_of(table, "id"),
+        WholeFault::Duplicate { .. } => id_value(table),
         WholeFault::OutsideInside(_) => value_of(table, "outside"),
     }
 }
@@ -307,7 +343,7 @@ fn kind_at(table: &TableSpots<'_>, fault: &Fault) -> Option<Span>
         FaultKind::Price => value_of(table, "price"),
         FaultKind::Touches => touched_at(table, fault.start),
         FaultKind::Missing | FaultKind::Closed => sought_at(table, &fault.key),
-        FaultKind::NoReturn => None,
+        FaultKind::NoReturn => id_value(table),
     }
 }
 
@@ -323,6 +359,13 @@ pub fn row_span(table: &TableSpots<'_>, row: usize) -> Span
     ensures { result ≡ spec.row_span (table_seen table.now) row }
 {
     row_at(table, row).unwrap_or(table.whole())
+}
+
+// The span of a frame's id, or of the frame as a whole.
+pub fn id_span(table: &TableSpots<'_>) -> Span
+    ensures { result ≡ spec.id_span (table_seen table.now) }
+{
+    id_value(table).unwrap_or(table.whole())
 }
 
 // The span of the entry page, in the top.
@@ -398,6 +441,28 @@ pub fn single_at(table: &TableSpots<'_>, row: usize) -> Option<Span>
     ensures { result ≡ spec.single_at (table_seen table.now) row }
 {
     single_span(table.text(), table.item(row.saturating_sub(1))?)
+}
+
+// A row of the screen, by its number: of a body all of it.
+fn shown_row(table: &TableSpots<'_>, row: usize) -> Option<Span>
+    ensures { result ≡ spec.shown_row (table_seen table.now) row }
+{
+    if has_rows(table) {
+        row_at(table, row)
+    } else {
+        value_of(table, "body")
+    }
+}
+
+// The same, unless the row has an escape in single quotation marks, which is warned of as such.
+pub fn digits_at(table: &TableSpots<'_>, row: usize, has_escape: bool) -> Option<Span>
+    ensures { result ≡ spec.digits_at (table_seen table.now) row has_escape }
+{
+    if has_escape && single_at(table, row).is_some() {
+        None
+    } else {
+        shown_row(table, row)
+    }
 }
 
 // The frame whose table a fault of the audit is about, which this table writes; none if the entry frame is missing.

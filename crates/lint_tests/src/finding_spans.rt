@@ -59,7 +59,7 @@ fn an_unknown_key_is_at_its_first_unknown_part(rt: HostRuntime) -> Result<(), Fa
 }
 
 #[test]
-fn what_is_absent_is_at_the_header_or_in_line_1(rt: HostRuntime) -> Result<(), Fail> {
+fn what_is_absent_is_at_the_id_the_header_or_in_line_1(rt: HostRuntime) -> Result<(), Fail> {
     let text =
         "outside = [] # x\r\n[[ \"frame\" ]] # y\r\nrows = []\r\n\t[[frame]]\r\nid = \"1a\"\r\n";
     let policy = policy(5, 9, "")?;
@@ -67,10 +67,10 @@ fn what_is_absent_is_at_the_header_or_in_line_1(rt: HostRuntime) -> Result<(), F
         rt.alloc(),
         text,
         &policy,
-        "outside = [] # x|[[ \"frame\" ]]|[[frame]]",
+        "outside = [] # x|[[ \"frame\" ]]|\"1a\"",
     )?;
     let text = "entry = 1\nframe = [{ id = '1a' }, {rows = []}]\n";
-    spans_are(rt.alloc(), text, &policy, "{ id = '1a' }|{rows = []}")
+    spans_are(rt.alloc(), text, &policy, "'1a'|{rows = []}")
 }
 
 #[test]

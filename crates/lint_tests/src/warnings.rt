@@ -119,24 +119,54 @@ fn a_line_end_in_a_body_depends_on_the_file(rt: HostRuntime) -> Result<(), Fail>
     all_print(rt.alloc(), &rows)
 }
 
-// An escape in single quotation marks, and none in double ones or in a body.
+// An escape in single quotation marks, or with two backslashes.
 #[test]
 fn a_row_in_single_quotation_marks_has_no_escape(rt: HostRuntime) -> Result<(), Fail> {
     let rows = [
         (
             "[[frame]]\nid = '1a'\nrows = [ '\\u0081RED', \"\\u0082\", \"A\\\\u0083\", '''A\\u00''' ]\n",
             "@4:10: warning: ESCAPE: row 1 of frame 1a has \\u00 in single quotation marks, which is shown as it is; write the row in double quotation marks\n\
+             @4:33: warning: ESCAPE: row 3 of frame 1a shows u00 and two digits, which is no escape; write one backslash before it, as \\u0081, in double quotation marks\n\
              @4:45: warning: ESCAPE: row 4 of frame 1a has \\u00 in single quotation marks, which is shown as it is; write the row in double quotation marks\n",
-            (0, 2),
+            (0, 3),
         ),
         (
             "[[frame]]\nid = '1a'\nrows = ['\\u0', '\\U0081', '\\\\u 00']\n",
             "",
             (0, 0),
         ),
-        ("[[frame]]\nid = '1a'\nbody = '\\u0081RED'\n", "", (0, 0)),
     ];
     all_print(rt.alloc(), &rows)
+}
+
+// What is shown of an escape that lacks its backslash, or has another mark, at the start of a row or in it.
+#[test]
+fn the_digits_of_an_escape_are_shown(rt: HostRuntime) -> Result<(), Fail> {
+    let words =
+        "shows u00 and two digits, which is no escape; write one backslash before it, as \\u0081, in double quotation marks";
+    let body = format!(in rt.alloc(); "@4:8: warning: ESCAPE: row 1 of frame 1a {words}\n")?;
+    let rows = format!(in rt.alloc();
+        "@4:9: warning: ESCAPE: row 1 of frame 1a {words}\n\
+         @4:23: warning: ESCAPE: row 2 of frame 1a {words}\n"
+    )?;
+    let texts = [
+        (
+            "[[frame]]\nid = '1a'\nrows = [\"u0081MOTOR\", \"A /u009fB\", \"Au0081\", 'u00', \"/u00x1\"]\n",
+            rows.as_str(),
+            (0, 2),
+        ),
+        (
+            "[[frame]]\nid = '1a'\nbody = '\\u0081RED'\n",
+            body.as_str(),
+            (0, 1),
+        ),
+        (
+            "[[frame]]\nid = '1a'\nbody = \"RED\\u000D\\u000Au0081\"\n",
+            "@4:8: warning: ESCAPE: row 2 of frame 1a shows u00 and two digits, which is no escape; write one backslash before it, as \\u0081, in double quotation marks\n",
+            (0, 1),
+        ),
+    ];
+    all_print(rt.alloc(), &texts)
 }
 
 // The text below double height, of rows and not of a body.
