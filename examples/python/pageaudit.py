@@ -31,7 +31,7 @@ from dataclasses import dataclass, fields
 from typing import Any, SupportsIndex
 
 __version__ = "1.1.0"
-__all__ = ["Audit", "Finding", "Look", "Policy", "PolicyError", "Screen", "TextError", "Verdict"]
+__all__ = ["Audit", "Finding", "Fix", "Look", "Policy", "PolicyError", "Screen", "TextError", "Verdict"]
 __all__ += ["audit", "change", "check", "lint", "show"]
 
 # What the library answers.
@@ -94,6 +94,18 @@ class Audit:
 
 
 @dataclass(frozen=True)
+class Fix:
+    """The one text that a slip can have meant, and the place that it takes. Lines and columns count from 1."""
+
+    line: int
+    column: int
+    end_line: int
+    end_column: int
+    """The first column after it."""
+    text: str
+
+
+@dataclass(frozen=True)
 class Finding:
     """Something that lint found: what `pageaudit lint --format json` prints of it. Lines and columns count from 1."""
 
@@ -114,6 +126,7 @@ class Finding:
     """The keys that lead there from the entry page."""
     message: str
     hint: str | None
+    fix: Fix | None
 
 
 @dataclass(frozen=True)
@@ -227,7 +240,10 @@ def _verdict(answer: int, text: bytes) -> Verdict:
 def _finding(line: bytes) -> Finding:
     """A finding of an object of JSON, which may have more keys in later versions of the library."""
     found = json.loads(line)
-    return Finding(**{field.name: found[field.name] for field in fields(Finding)})
+    known = {field.name: found[field.name] for field in fields(Finding)}
+    if fix := found["fix"]:
+        known["fix"] = Fix(**{field.name: fix[field.name] for field in fields(Fix)})
+    return Finding(**known)
 
 
 _FILE = "libpageaudit.so.1"

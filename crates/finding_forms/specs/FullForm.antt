@@ -1,5 +1,5 @@
 -- The form `full`: under the line of a finding the line of the text, and carets below the span.
-use Rattle.std.specs.Prelude.{◌≡◌, ℕ, ◌-◌, Bool, ◌==◌, if◌then◌else◌, List, [], ◌∷◌, ◌++◌, codes, decimal, length, drop, replicate, flat_map}
+use Rattle.std.specs.Prelude.{◌≡◌, ℕ, ◌-◌, Bool, ◌&&◌, ◌||◌, ◌==◌, nat_le, if◌then◌else◌, List, [], ◌∷◌, ◌++◌, codes, decimal, length, drop, replicate, flat_map}
 use Rattle.std.specs.Str.{chars, encode_utf8_all}
 use Rattle.std.specs.Str.Lossy.{utf8_lossy}
 use Rattle.lint_words.specs.Lines.{printed_char}
@@ -14,15 +14,32 @@ use Rattle.finding_forms.specs.Excerpts.{mark_length, part, excerpt_of}
 
 -- The characters of a line, and what is below them.
 
--- a tab (9) is kept, and another control character is shown as \u{1b}
+-- a tab (9) is kept, and another control character is shown as \u001B
 abbrev pub kept_char : ℕ → List ℕ
 kept_char c = if c == 9 then c ∷ [] else printed_char c
+
+-- characters of East Asia and pictures, which are as wide as two others
+abbrev pub is_between : ℕ → ℕ → ℕ → Bool
+is_between first last c = nat_le first c && nat_le c last
+
+abbrev pub is_wide_letter : ℕ → Bool
+is_wide_letter c = is_between 0x1100 0x115F c || (is_between 0x2E80 0x303E c || (is_between 0x3041 0xA4CF c || (is_between 0xAC00 0xD7A3 c || is_between 0xF900 0xFAFF c)))
+
+abbrev pub is_wide_form : ℕ → Bool
+is_wide_form c = is_between 0xFF01 0xFF60 c || (is_between 0xFFE0 0xFFE6 c || (is_between 0x1F300 0x1F64F c || (is_between 0x1F900 0x1F9FF c || is_between 0x20000 0x3FFFD c)))
+
+abbrev pub is_wide : ℕ → Bool
+is_wide c = is_wide_letter c || is_wide_form c
+
+-- how many columns a character has
+abbrev pub columns_of : ℕ → ℕ
+columns_of c = if is_wide c then 2 else length (kept_char c)
 
 -- a space or a caret for each column of a character; below a tab a tab
 abbrev pub drawn_char : Drawing → ℕ → List ℕ
 drawn_char Text c = encode_utf8_all (kept_char c)
-drawn_char Blank c = if c == 9 then c ∷ [] else replicate (length (printed_char c)) 32
-drawn_char Carets c = replicate (length (kept_char c)) 94
+drawn_char Blank c = if c == 9 then c ∷ [] else replicate (columns_of c) 32
+drawn_char Carets c = replicate (columns_of c) 94
 
 -- the characters of bytes, with U+FFFD in place of what isn't UTF-8
 abbrev pub drawn_chars : Drawing → List ℕ → List ℕ

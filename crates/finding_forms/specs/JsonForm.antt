@@ -9,6 +9,9 @@ use Rattle.lint_words.specs.Lines.{line_of}
 use Rattle.lint_words.specs.WordsOf.{WordsView}
 use Rattle.lint.specs.declared.finding.Level.{Level}
 use Rattle.lint.specs.Findings.{FindingView}
+use Rattle.slip_fixes.specs.Certain.{certain_fix}
+use Rattle.text_edits.specs.Edits.{ReplacementView}
+use Rattle.toml_places.specs.declared.spans.Span.{Span}
 use Rattle.toml_places.specs.declared.text_lines.Extent.{Extent}
 use Rattle.toml_places.specs.Extents.{extent}
 use Rattle.finding_forms.specs.LineForm.{level_text}
@@ -25,24 +28,43 @@ frame_data (Some id) = string (line_of (frame_text id))
 abbrev pub number_data : ℕ → Data
 number_data n = number (unsigned n)
 
--- the members of an object are in the order of their keys
-abbrev pub object_data : List ℕ → Extent → Level → WordsView → Option (List ℕ) → Data
-object_data file e level words hint =
+-- The members of an object are in the order of their keys.
+
+-- a text and the span whose place it takes
+abbrev pub replacement_data : Extent → List ℕ → Data
+replacement_data e text =
+    object (member (codes "column") (number_data e.column)
+    (member (codes "end_column") (number_data e.end_column)
+    (member (codes "end_line") (number_data e.end_line)
+    (member (codes "line") (number_data e.line)
+    (member (codes "text") (string (utf8_lossy text)) no_members)))))
+
+abbrev pub replaced_span : ReplacementView → Span
+replaced_span r = record { begin = r.begin; end = r.end }
+
+-- the fix of a finding in a text, if it has one that is certain
+abbrev pub fix_data : List ℕ → Option ReplacementView → Data
+fix_data text None = null
+fix_data text (Some r) = replacement_data (extent text (replaced_span r)) r.text
+
+abbrev pub object_data : List ℕ → Extent → Data → Level → WordsView → Option (List ℕ) → Data
+object_data file e fix level words hint =
     object (member (codes "code") (string (code_word words.code))
     (member (codes "column") (number_data e.column)
     (member (codes "end_column") (number_data e.end_column)
     (member (codes "end_line") (number_data e.end_line)
     (member (codes "file") (string file)
+    (member (codes "fix") fix
     (member (codes "frame") (frame_data words.about.frame)
     (member (codes "hint") (text_data hint)
     (member (codes "key") (text_data words.about.key)
     (member (codes "keys") (text_data words.about.keys)
     (member (codes "level") (string (level_text level))
     (member (codes "line") (number_data e.line)
-    (member (codes "message") (string words.message) no_members))))))))))))
+    (member (codes "message") (string words.message) no_members)))))))))))))
 
 -- serde_json's text of it, with some hint or none; the path is as given, with U+FFFD in place of what isn't UTF-8
 pub record IsObject (path text : List ℕ) (f : FindingView) (line : List ℕ) : Type 0 where
   pub hint : Option (List ℕ)
-  pub is : line ≡ compact_text (object_data (utf8_lossy path) (extent text f.span) f.level f.words hint)
+  pub is : line ≡ compact_text (object_data (utf8_lossy path) (extent text f.span) (fix_data text (certain_fix text f)) f.level f.words hint)
   pub no_feed : count_by (λ byte. byte == 10) line ≡ 0

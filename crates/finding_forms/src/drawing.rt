@@ -12,7 +12,7 @@ use std::alloc::{AllocError, Global};
 // How characters are drawn.
 #[derive(Debug, Clone, Copy, PartialEq, Eq)]
 pub enum Drawing {
-    // As they are, but a control character, unless it is a tab, as `\u{1b}`.
+    // As they are, but a control character, unless it is a tab, as `\u001B`.
     Text,
     // As a space for each of their columns; a tab is kept.
     Blank,
@@ -38,16 +38,47 @@ fn push_text(alloc: Global, out: &mut Vec<u8>, c: char) -> Result<(), AllocError
     }
 }
 
-// How many columns a character has, as it is shown.
-fn columns(c: char) -> usize
+fn is_between(first: char, last: char, c: char) -> bool
+    ensures { result ≡ spec.is_between first last c }
+{
+    first <= c && c <= last
+}
+
+fn is_wide_letter(c: char) -> bool
+    ensures { result ≡ spec.is_wide_letter c }
+{
+    is_between('\u{1100}', '\u{115F}', c)
+        || is_between('\u{2E80}', '\u{303E}', c)
+        || is_between('\u{3041}', '\u{A4CF}', c)
+        || is_between('\u{AC00}', '\u{D7A3}', c)
+        || is_between('\u{F900}', '\u{FAFF}', c)
+}
+
+fn is_wide_form(c: char) -> bool
+    ensures { result ≡ spec.is_wide_form c }
+{
+    is_between('\u{FF01}', '\u{FF60}', c)
+        || is_between('\u{FFE0}', '\u{FFE6}', c)
+        || is_between('\u{1F300}', '\u{1F64F}', c)
+        || is_between('\u{1F900}', '\u{1F9FF}', c)
+        || is_between('\u{20000}', '\u{3FFFD}', c)
+}
+
+// How many columns a character has that isn't wide, as it is shown.
+fn narrow_columns(c: char) -> usize
     ensures { result ≡ length (spec.kept_char c) }
 {
-    if c == '\t' || !c.is_control() {
-        1
-    } else if c < '\u{10}' {
-        5
+    if c == '\t' || !c.is_control() { 1 } else { 6 }
+}
+
+// How many columns a character has, as it is shown.
+fn columns(c: char) -> usize
+    ensures { result ≡ spec.columns_of c }
+{
+    if is_wide_letter(c) || is_wide_form(c) {
+        2
     } else {
-        6
+        narrow_columns(c)
     }
 }
 

@@ -12,8 +12,10 @@ use lint::{Finding, Level};
 use lint_words::{Line, Words};
 use page_ids::{FrameId, push_id};
 use serde_json::{Value, json};
+use slip_fixes::certain_fix;
 use std::alloc::{AllocError, Global};
-use toml_places::{Extent, TextLines};
+use text_edits::Replacement;
+use toml_places::{Extent, Span, TextLines};
 
 // A text, or null.
 fn text_value(alloc: Global, text: Option<&Line>) -> Result<Value, AllocError>
@@ -39,16 +41,55 @@ fn frame_value(alloc: Global, frame: Option<FrameId>) -> Result<Value, AllocErro
     }
 }
 
+// A text and the span whose place it takes.
+fn replacement_value(alloc: Global, extent: Extent, text: &[u8]) -> Result<Value, AllocError>
+    ensures value { IfOk result (λ value. view value ≡ spec.replacement_data extent text.now) }
+    ensures no_feed { IfOk result (λ value. count_by (λ byte. byte == 10) (compact_text (view value)) ≡ 0) }
+{
+    let text = String::from_utf8_lossy(alloc, text)?;
+    let text = Value::try_from_str(alloc, &text)?;
+    let (line, end_line) = (extent.line, extent.end_line);
+    json!(in alloc; {
+        "column": extent.column,
+        "end_column": extent.end_column,
+        "end_line": end_line,
+        "line": line,
+        "text": text
+    })
+}
+
+// The fix of a finding, or null.
+fn fix_value(
+    alloc: Global,
+    lines: &TextLines<'_>,
+    fix: &Option<Replacement>,
+) -> Result<Value, AllocError>
+    ensures value { IfOk result (λ value. view value ≡ spec.fix_data lines.now fix.now) }
+    ensures no_feed { IfOk result (λ value. count_by (λ byte. byte == 10) (compact_text (view value)) ≡ 0) }
+{
+    match fix {
+        None => Ok(Value::Null),
+        Some(fix) => {
+            let span = Span {
+                begin: fix.begin,
+                end: fix.end,
+            };
+            replacement_value(alloc, lines.extent(span), fix.text.as_slice())
+        }
+    }
+}
+
 fn object(
     alloc: Global,
     file: &str,
     extent: Extent,
+    fix: Value,
     level: Level,
     words: &Words,
     hint: Option<&Line>,
 ) -> Result<Value, AllocError>
     ensures { IfOk result (λ value. view value
-        ≡ spec.object_data file.now extent level words.now (option_copied hint.entry)) }
+        ≡ spec.object_data file.now extent (view fix) level words.now (option_copied hint.entry)) }
 {
     let about = words.about();
     let frame = frame_value(alloc, about.frame)?;
@@ -61,6 +102,7 @@ fn object(
         "end_column": extent.end_column,
         "end_line": extent.end_line,
         "file": file,
+        "fix": fix,
         "frame": frame,
         "hint": hint,
         "key": key,
@@ -76,17 +118,20 @@ fn push_object_line(
     out: &mut Vec<u8>,
     file: &str,
     extent: Extent,
+    fix: Value,
     level: Level,
     words: &Words,
     hint: Option<&Line>,
 ) -> Result<(), AllocError>
+    requires { count_by (λ byte. byte == 10) (compact_text (view fix)) ≡ 0 }
     ensures line { OnOk result (out.new.items ≡ out.old.items ++
-        (compact_text (spec.object_data file.now extent level words.now (option_copied hint.entry)) ++ codes "\n")) }
+        (compact_text (spec.object_data file.now extent (view fix) level words.now
+        (option_copied hint.entry)) ++ codes "\n")) }
     ensures no_feed { OnOk result (count_by (λ byte.
-        byte == 10) (compact_text (spec.object_data file.now extent level words.now
+        byte == 10) (compact_text (spec.object_data file.now extent (view fix) level words.now
         (option_copied hint.entry))) ≡ 0) }
 {
-    let text = object(alloc, file, extent, level, words, hint)?.to_string(alloc)?;
+    let text = object(alloc, file, extent, fix, level, words, hint)?.to_string(alloc)?;
     out.extend_from_slice(text.as_bytes())?;
     out.extend_from_slice(b"\n")
 }
@@ -96,13 +141,26 @@ pub fn push_object(
     alloc: Global,
     out: &mut Vec<u8>,
     file: &str,
+    text: &[u8],
     lines: &TextLines<'_>,
     finding: &Finding,
 ) -> Result<(), AllocError>
+    requires { lines.now ≡ text.now }
     ensures { OnOk result ((bytes : List ℕ) → file.now ≡ utf8_lossy bytes
         → loops.AddsObject bytes lines.now finding.now out.old.items out.new.items) }
 {
     let extent = lines.extent(finding.span);
     let words = &finding.words;
-    push_object_line(alloc, out, file, extent, finding.level, words, words.hint())
+    let certain = certain_fix(alloc, text, finding)?;
+    let fix = fix_value(alloc, lines, &certain)?;
+    push_object_line(
+        alloc,
+        out,
+        file,
+        extent,
+        fix,
+        finding.level,
+        words,
+        words.hint(),
+    )
 }
