@@ -5,13 +5,13 @@ use Rattle.base_text.specs.declared.fault.BaseFault.{BaseFault}
 use Rattle.screen_files.specs.declared.filed.Filed.{Filed}
 use Rattle.frame_edits.specs.declared.merging.MergeFault.{MergeFault}
 use Rattle.frame_edits.specs.declared.merging.MergeFault.TheVariants.{TooLong, Overlap, Memory, Unread, Spoilt}
-use Rattle.frame_edits.specs.Merging.{AreRefused, IntakeView, IsEdited, IsUnedited, MergedView, ids_of}
+use Rattle.frame_edits.specs.Merging.{AreRefused, IntakeView, IsEdited, IsUnedited, MergedView, filed_ids}
 
 -- the text that comes of what the frames come to
 pub record IsMergeOf (text : List ℕ) (i : IntakeView) (merged : MergedView) : Type 0 where
   pub edits : IsEdited text i.edits i.added merged.text
   pub replaced : merged.replaced ≡ i.replaced
-  pub added : merged.added ≡ ids_of i.added
+  pub added : merged.added ≡ filed_ids i.added
   pub left : merged.left ≡ i.left
 
 abbrev pub IsRefusalOf : List ℕ → IntakeView → MergeFault → Type 0

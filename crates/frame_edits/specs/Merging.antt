@@ -80,21 +80,21 @@ intake_from i places [] = i
 intake_from i [] (f ∷ fs) = i
 intake_from i (p ∷ ps) (f ∷ fs) = intake_from (taken_by i f (fate_of p)) ps fs
 
-abbrev pub ids_of : List Filed → List Id
-ids_of frames = map (λ f. f.frame.id) frames
+abbrev pub filed_ids : List Filed → List Id
+filed_ids frames = map (λ f. f.frame.id) frames
 
 -- of a text that lists these frames
 abbrev pub intake_in : List ℕ → List Listed → List Filed → IntakeView
-intake_in text listed frames = intake_from nothing_taken (map (written_picture text listed) (ids_of frames)) frames
+intake_in text listed frames = intake_from nothing_taken (map (written_picture text listed) (filed_ids frames)) frames
 
 -- What is added at the end.
 
 -- 10 is a line feed; a text without a byte lacks none
-abbrev pub ends_line : List ℕ → Bool
-ends_line text = get_or text (length text - 1) 10 == 10
+abbrev pub is_line_ended : List ℕ → Bool
+is_line_ended text = get_or text (length text - 1) 10 == 10
 
 abbrev pub missing_line_end : List ℕ → List ℕ
-missing_line_end text = if ends_line text then [] else 10 ∷ []
+missing_line_end text = if is_line_ended text then [] else 10 ∷ []
 
 abbrev pub additions : List ℕ → List Filed → List ℕ
 additions text [] = []
@@ -112,19 +112,19 @@ pub record AreEditsInOrder (edits ordered : List ReplacementView) : Type 0 where
   pub ascend : IsSortedByKey (λ (r : ReplacementView). r.begin) nat_cmp ordered
   pub stable : IsStableByKey (λ (r : ReplacementView). r.begin) nat_cmp edits ordered
 
-abbrev pub at_end : List ℕ → List Filed → ReplacementView
-at_end text added = record { begin = length text; end = length text; text = additions text added }
+abbrev pub end_edit : List ℕ → List Filed → ReplacementView
+end_edit text added = record { begin = length text; end = length text; text = additions text added }
 
 -- the edits are made, the frames added, and nothing else of the text is changed
 pub record IsEdited (text : List ℕ) (edits : List ReplacementView) (added : List Filed) (new : List ℕ) : Type 0 where
   pub ordered : List ReplacementView
   pub order : AreEditsInOrder edits ordered
-  pub is : edited text (ordered ++ at_end text added ∷ []) ≡ Some new
+  pub is : edited text (ordered ++ end_edit text added ∷ []) ≡ Some new
 
 pub record AreOverlapping (text : List ℕ) (edits : List ReplacementView) (added : List Filed) : Type 0 where
   pub ordered : List ReplacementView
   pub order : AreEditsInOrder edits ordered
-  pub none : edited text (ordered ++ at_end text added ∷ []) ≡ None
+  pub none : edited text (ordered ++ end_edit text added ∷ []) ≡ None
 
 -- why they aren't
 abbrev pub IsUnedited : List ℕ → List ReplacementView → List Filed → MergeFault → Type 0
@@ -145,7 +145,7 @@ pub record AreMerged (text : List ℕ) (frames : List Filed) (merged : MergedVie
   pub tree : tree_of text ≡ Some members
   pub edits : IsEdited text (intake_of text members frames).edits (intake_of text members frames).added merged.text
   pub replaced : merged.replaced ≡ (intake_of text members frames).replaced
-  pub added : merged.added ≡ ids_of (intake_of text members frames).added
+  pub added : merged.added ≡ filed_ids (intake_of text members frames).added
   pub left : merged.left ≡ (intake_of text members frames).left
 
 -- and it is a base

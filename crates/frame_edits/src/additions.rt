@@ -8,8 +8,8 @@ use screen_files::{BaseTextFault, Filed, push_frames};
 use std::alloc::{AllocError, Global};
 
 // Whether a text ends where a line does.
-fn ends_line(text: &[u8]) -> bool
-    ensures { result ≡ spec.ends_line text.now }
+fn is_line_ended(text: &[u8]) -> bool
+    ensures { result ≡ spec.is_line_ended text.now }
 {
     match text.split_last() {
         Some((last, _)) => *last == b'\n',
@@ -21,7 +21,7 @@ fn ends_line(text: &[u8]) -> bool
 fn push_line_end(out: &mut Vec<u8>, text: &[u8]) -> Result<(), AllocError>
     ensures { OnOk result (out.new.items ≡ out.old.items ++ spec.missing_line_end text.now) }
 {
-    if !ends_line(text) {
+    if !is_line_ended(text) {
         out.push(b'\n')?;
     }
     Ok(())

@@ -65,8 +65,8 @@ fn put_in_order(edits: &mut Vec<Replacement>) -> Result<(), AllocError>
 }
 
 // The ids of frames.
-fn ids_of(alloc: Global, frames: &[Filed]) -> Result<Vec<FrameId>, AllocError>
-    ensures { IfOk result (λ ids. ids.items ≡ spec.ids_of frames.now) }
+fn filed_ids(alloc: Global, frames: &[Filed]) -> Result<Vec<FrameId>, AllocError>
+    ensures { IfOk result (λ ids. ids.items ≡ spec.filed_ids frames.now) }
 {
     frames.iter().map(|filed| filed.frame.id).collect(alloc)
 }
@@ -81,7 +81,7 @@ fn taken(
     requires { IsSome (parse_document text.now) }
     ensures { IfOk result (λ intake. intake ≡ spec.intake_in text.now listed.now frames.now) }
 {
-    let ids = ids_of(alloc, frames)?;
+    let ids = filed_ids(alloc, frames)?;
     let places = picture_places(alloc, text, listed, ids.as_slice())?;
     Intake::of(alloc, places.as_slice(), frames)
 }
@@ -92,7 +92,8 @@ fn push_last(
     end: usize,
     text: Vec<u8>,
 ) -> Result<(), AllocError>
-    ensures { OnOk result (edits.new.items ≡ edits.old.items ++ record { begin = end; end = end; text = text.items } ∷ []) }
+    ensures { OnOk result (edits.new.items ≡ edits.old.items
+        ++ record { begin = end; end = end; text = text.items } ∷ []) }
 {
     edits.push(Replacement {
         begin: end,
@@ -147,7 +148,7 @@ fn merged_text(
         left,
     } = intake;
     let text = edited_text(alloc, text.as_bytes(), edits, added.as_slice())?;
-    match ids_of(alloc, added.as_slice()) {
+    match filed_ids(alloc, added.as_slice()) {
         Ok(added) => Ok(Merged {
             text,
             replaced,

@@ -1,6 +1,7 @@
-//! What `lint` finds, what is printed of it, and what is fixed.
+//! What `lint` finds, what is printed of it, and what is fixed; what `import` changes of a base.
 
 ghost use Rattle.std.specs.Prelude.{◌≡◌, ◌↔◌, All, IfOk, true, length};
+ghost use Rattle.frame_edits.specs.Merging.{IsMerged};
 ghost use Rattle.finding_forms.specs.Forms.{is_one_line};
 ghost use Rattle.finding_forms.specs.Laws.{AreWholeLines};
 ghost use Rattle.lint.specs.declared.finding.Level.TheVariants.{Error};
@@ -11,8 +12,10 @@ ghost use Rattle.promises.specs.Audits.{IsSafeText};
 ghost use Rattle.slip_fixes.specs.Rounds.{IsFixed};
 
 use checker::Policy;
+use frame_edits::{MergeFault, Merged, merged};
 use finding_forms::{Format, findings_text};
 use lint::{Finding, lint};
+use screen_files::Settled;
 use slip_fixes::{Fixed, fix_slips};
 use std::alloc::{AllocError, Global};
 
@@ -47,4 +50,11 @@ fn mended(alloc: Global, text: &[u8], policy: &Policy) -> Result<Fixed, AllocErr
     ensures { IfOk result (λ f. IsFixed policy.now text.now f.text.items f.fixes) }
 {
     fix_slips(alloc, text, policy)
+}
+
+// What comes of a base in which screens are put, and nothing else is changed.
+fn merged_in(alloc: Global, text: &[u8], settled: &Settled) -> Result<Merged, MergeFault>
+    ensures { IfOk result (IsMerged text.now settled.now.frames) }
+{
+    merged(alloc, text, settled)
 }
