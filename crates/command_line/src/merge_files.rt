@@ -36,7 +36,8 @@ fn push_part(text: &mut Vec<u8>, ids: &[FrameId], verb: &[u8]) -> Result<(), All
         }
         push_id(text, *id)?;
     }
-    text.push(b')')
+    text.push(b')')?;
+    Ok(())
 }
 
 // What became of the frames, as `2 frames replaced (4001a 4002a), 1 added (4003a)`.

@@ -91,7 +91,8 @@ impl Intake {
             text: rows_pair(alloc, &filed.frame.codes)?,
         };
         self.edits.push(edit)?;
-        self.replaced.push(filed.frame.id)
+        self.replaced.push(filed.frame.id)?;
+        Ok(())
     }
 
     // Takes a frame.
@@ -104,10 +105,11 @@ impl Intake {
         ensures { OnOk result (self.new ≡ spec.taken_by self.old filed.now (spec.fate_of place)) }
     {
         match fate_of(place) {
-            Fate::Added => self.added.push(*filed),
-            Fate::Left => self.left.push(filed.frame.id),
-            Fate::Replaced(span) => self.replace(alloc, filed, span),
+            Fate::Added => self.added.push(*filed)?,
+            Fate::Left => self.left.push(filed.frame.id)?,
+            Fate::Replaced(span) => self.replace(alloc, filed, span)?,
         }
+        Ok(())
     }
 
     // Takes all frames, whose places in the text are these.

@@ -95,11 +95,9 @@ fn push_last(
     ensures { OnOk result (edits.new.items ≡ edits.old.items
         ++ record { begin = end; end = end; text = text.items } ∷ []) }
 {
-    edits.push(Replacement {
-        begin: end,
-        end,
-        text,
-    })
+    let begin = end;
+    edits.push(Replacement { begin, end, text })?;
+    Ok(())
 }
 
 // The text with the edits made, and these frames added at its end.
