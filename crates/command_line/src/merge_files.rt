@@ -1,6 +1,6 @@
 //! `import --into`: the frames of screens in a base's file.
 
-use crate::diff_lines::diff_text;
+use crate::diff_lines::diff_of_edits;
 use crate::fail;
 use crate::fix_files::{print_text, read_text, replace_text};
 use crate::import_files::path_of;
@@ -8,7 +8,7 @@ use crate::named_files::{Unfinished, is_input, report};
 use audit_report::RunFault;
 use base_text::BaseFault;
 use command_words::Import;
-use frame_edits::{MergeFault, Merged, merged};
+use frame_edits::{MergeFault, Merged, merge_frames};
 use page_ids::{FrameId, push_id, push_number};
 use pageaudit::Settled;
 use std::alloc::{AllocError, Global};
@@ -64,9 +64,10 @@ fn show_diff<R: Files + Print + Eprint + AllocGlobal>(
     rt: &R,
     base: &str,
     old: &[u8],
-    new: &[u8],
+    merged: &Merged,
 ) -> u8 {
-    let Ok(diff) = diff_text(rt.alloc(), base, old, new) else {
+    let (new, edits) = (merged.text.as_slice(), merged.edits.as_slice());
+    let Ok(diff) = diff_of_edits(rt.alloc(), base, old, new, edits) else {
         return report(rt, base, &Unfinished::Fault(RunFault::Memory));
     };
     match print_text(rt, diff.as_slice()) {
@@ -142,10 +143,8 @@ pub fn import_into<R: Files + Input + Print + Eprint + AllocGlobal>(
         Ok(text) => text,
         Err(unfinished) => return report(rt, base, &unfinished),
     };
-    match merged(rt.alloc(), old.as_slice(), settled) {
-        Ok(merged) if asked.is_shown => {
-            show_diff(rt, base, old.as_slice(), merged.text.as_slice())
-        }
+    match merge_frames(rt.alloc(), old.as_slice(), settled) {
+        Ok(merged) if asked.is_shown => show_diff(rt, base, old.as_slice(), &merged),
         Ok(merged) => write_merged(rt, base, old.as_slice(), &merged),
         Err(fault) => report_merge(rt, base, asked, fault),
     }

@@ -1,7 +1,7 @@
 //! Frames that go into a base's text.
 
 use base_text::{BaseCause, Field};
-use frame_edits::{MergeFault, Merged, merged};
+use frame_edits::{MergeFault, Merged, merge_frames};
 use page_ids::FrameId;
 use screen_files::{Album, Filed, Origin, ScreenFrame, Settled};
 use std::alloc::Global;
@@ -31,7 +31,7 @@ fn screens(alloc: Global, ids: &[&str]) -> Result<Settled, Fail> {
 
 fn into(alloc: Global, text: &[u8], ids: &[&str]) -> Result<Result<Merged, MergeFault>, Fail> {
     let settled = screens(alloc, ids)?;
-    Ok(merged(alloc, text, &settled))
+    Ok(merge_frames(alloc, text, &settled))
 }
 
 fn same_ids(found: &[FrameId], wanted: &[&str]) -> Result<(), Fail> {

@@ -9,7 +9,7 @@ use Rattle.frame_edits.specs.Merging.{AreRefused, IntakeView, IsEdited, IsUnedit
 
 -- the text that comes of what the frames come to
 pub record IsMergeOf (text : List ℕ) (i : IntakeView) (merged : MergedView) : Type 0 where
-  pub edits : IsEdited text i.edits i.added merged.text
+  pub edits : IsEdited text i.edits i.added merged.edits merged.text
   pub replaced : merged.replaced ≡ i.replaced
   pub added : merged.added ≡ filed_ids i.added
   pub left : merged.left ≡ i.left

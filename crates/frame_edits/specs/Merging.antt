@@ -33,6 +33,7 @@ pub record IntakeView : Type 0 where
 
 pub record MergedView : Type 0 where
   pub text : List ℕ
+  pub edits : List ReplacementView
   pub replaced : List Id
   pub added : List Id
   pub left : List Id
@@ -115,11 +116,12 @@ pub record AreEditsInOrder (edits ordered : List ReplacementView) : Type 0 where
 abbrev pub end_edit : List ℕ → List Filed → ReplacementView
 end_edit text added = record { begin = length text; end = length text; text = additions text added }
 
--- the edits are made, the frames added, and nothing else of the text is changed
-pub record IsEdited (text : List ℕ) (edits : List ReplacementView) (added : List Filed) (new : List ℕ) : Type 0 where
+-- these edits in order, and the one that adds frames, are made, and nothing else of the text is changed
+pub record IsEdited (text : List ℕ) (edits : List ReplacementView) (added : List Filed) (made : List ReplacementView) (new : List ℕ) : Type 0 where
   pub ordered : List ReplacementView
   pub order : AreEditsInOrder edits ordered
-  pub is : edited text (ordered ++ end_edit text added ∷ []) ≡ Some new
+  pub are : made ≡ ordered ++ end_edit text added ∷ []
+  pub is : edited text made ≡ Some new
 
 pub record AreOverlapping (text : List ℕ) (edits : List ReplacementView) (added : List Filed) : Type 0 where
   pub ordered : List ReplacementView
@@ -143,7 +145,7 @@ intake_of text members frames = intake_in text (draft_of members).frames frames
 pub record AreMerged (text : List ℕ) (frames : List Filed) (merged : MergedView) : Type 0 where
   pub members : Members
   pub tree : tree_of text ≡ Some members
-  pub edits : IsEdited text (intake_of text members frames).edits (intake_of text members frames).added merged.text
+  pub edits : IsEdited text (intake_of text members frames).edits (intake_of text members frames).added merged.edits merged.text
   pub replaced : merged.replaced ≡ (intake_of text members frames).replaced
   pub added : merged.added ≡ filed_ids (intake_of text members frames).added
   pub left : merged.left ≡ (intake_of text members frames).left

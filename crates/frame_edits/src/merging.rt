@@ -20,6 +20,8 @@ use text_edits::{Replacement, edited};
 #[derive(Debug, Drop)]
 pub struct Merged {
     pub text: Vec<u8>,
+    /// What the old text was edited by, in order; the last edit is at its end.
+    pub edits: Vec<Replacement>,
     /// The frames whose rows are new.
     pub replaced: Vec<FrameId>,
     /// The frames that the base didn't have.
@@ -36,6 +38,7 @@ impl Model for Merged {
     ghost view = { λ m.
         record {
           text = m.text.items;
+          edits = m.edits.items;
           replaced = m.replaced.items;
           added = m.added.items;
           left = m.left.items;
@@ -100,14 +103,14 @@ fn push_last(
     Ok(())
 }
 
-// The text with the edits made, and these frames added at its end.
+// The edits in order with the one that adds these frames, and the text with all of them made.
 fn edited_text(
     alloc: Global,
     text: &[u8],
     mut edits: Vec<Replacement>,
     added: &[Filed],
-) -> Result<Vec<u8>, MergeFault>
-    ensures text { IfOk result (spec.IsEdited text.now edits.items added.now) }
+) -> Result<(Vec<Replacement>, Vec<u8>), MergeFault>
+    ensures text { IfOk result (λ done. spec.IsEdited text.now edits.items added.now done.0.items done.1.items) }
     ensures fault { IfErr result (spec.IsUnedited text.now edits.items added.now) }
 {
     let addition = match additions(alloc, text, added) {
@@ -119,7 +122,7 @@ fn edited_text(
         return Err(MergeFault::Memory);
     }
     match edited(alloc, text, edits.as_slice()) {
-        Ok(Some(text)) => Ok(text),
+        Ok(Some(text)) => Ok((edits, text)),
         Ok(None) => Err(MergeFault::Overlap),
         Err(_) => Err(MergeFault::Memory),
     }
@@ -145,10 +148,11 @@ fn merged_text(
         added,
         left,
     } = intake;
-    let text = edited_text(alloc, text.as_bytes(), edits, added.as_slice())?;
+    let (edits, text) = edited_text(alloc, text.as_bytes(), edits, added.as_slice())?;
     match filed_ids(alloc, added.as_slice()) {
         Ok(added) => Ok(Merged {
             text,
+            edits,
             replaced,
             added,
             left,
@@ -191,7 +195,7 @@ fn fault_of(fault: BaseFault, is_old: bool) -> MergeFault {
 /// The rows of each frame that the base has, and whose lead isn't `keep`, take the place of what the text writes as its `rows` or
 /// `body`, the key included; the others are added after the text. Each byte outside of those places is kept, in order. The text is read
 /// twice, and what comes of it once.
-pub fn merged(alloc: Global, text: &[u8], settled: &Settled) -> Result<Merged, MergeFault>
+pub fn merge_frames(alloc: Global, text: &[u8], settled: &Settled) -> Result<Merged, MergeFault>
     ensures merged { IfOk result (spec.IsMerged text.now settled.now.frames) }
     ensures fault { IfErr result (spec.IsNotMerged text.now settled.now.frames) }
 {

@@ -12,7 +12,7 @@ ghost use Rattle.promises.specs.Audits.{IsSafeText};
 ghost use Rattle.slip_fixes.specs.Rounds.{IsFixed};
 
 use checker::Policy;
-use frame_edits::{MergeFault, Merged, merged};
+use frame_edits::{MergeFault, Merged, merge_frames};
 use finding_forms::{Format, findings_text};
 use lint::{Finding, lint};
 use screen_files::Settled;
@@ -56,5 +56,5 @@ fn mended(alloc: Global, text: &[u8], policy: &Policy) -> Result<Fixed, AllocErr
 fn merged_in(alloc: Global, text: &[u8], settled: &Settled) -> Result<Merged, MergeFault>
     ensures { IfOk result (IsMerged text.now settled.now.frames) }
 {
-    merged(alloc, text, settled)
+    merge_frames(alloc, text, settled)
 }
