@@ -143,6 +143,14 @@ impl<'a> TableKeys<'a> {
     }
 }
 
+// The pair of the rows, else of the body.
+fn picture_pair(text: &str, keys: &TableKeys<'_>) -> Option<Span>
+    ensures { result ≡ loops.picture_seen text.now (seen_keys keys.now) }
+{
+    let spot = keys.key("rows").or(keys.key("body"))?;
+    pair_span(text, spot)
+}
+
 impl<'a> TableSpots<'a> {
     pub fn text(&self) -> &str
         ensures { result.now ≡ (table_seen self.now).text }
@@ -273,10 +281,7 @@ impl<'a> TextTables<'a> {
             → span ≡ spec.picture_span self.now.text.now ms frame) }
     {
         let keys = self.keys(alloc, Some(frame))?;
-        match keys.key("rows").or(keys.key("body")) {
-            Some(spot) => Ok(pair_span(self.text, spot)),
-            None => Ok(None),
-        }
+        Ok(picture_pair(self.text, &keys))
     }
 
     // The top, or the table of a frame.
