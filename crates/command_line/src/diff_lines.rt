@@ -54,13 +54,21 @@ impl<'t> Lines<'t> {
         self.starts.get(at).copied().unwrap_or(self.text.len())
     }
 
+    // The line with an offset; after the last line end it is a line that isn't there.
+    fn line_at(&self, offset: usize) -> usize {
+        let count = self.starts.partition_point(|start| *start <= offset);
+        if offset == self.text.len() && self.text.ends_with(b"\n") {
+            count
+        } else {
+            count.saturating_sub(1)
+        }
+    }
+
     // The lines from the one with the first offset up to the one with the second.
     fn around(&self, begin: usize, end: usize) -> LineRange {
-        let first = self.starts.partition_point(|start| *start <= begin);
-        let last = self.starts.partition_point(|start| *start <= end);
         LineRange {
-            begin: first.saturating_sub(1),
-            end: last,
+            begin: self.line_at(begin),
+            end: self.starts.partition_point(|start| *start <= end),
         }
     }
 }
