@@ -6,7 +6,7 @@ use crate::fix_files::{print_text, read_text, replace_text};
 use crate::import_files::path_of;
 use crate::named_files::{Unfinished, is_input, report};
 use audit_report::RunFault;
-use base_text::BaseFault;
+use base_text::{BaseCause, BaseFault};
 use command_words::Import;
 use frame_edits::{MergeFault, Merged, merge_frames};
 use page_ids::{FrameId, push_id, push_number};
@@ -102,6 +102,9 @@ fn write_merged<R: Files + Print + Eprint + AllocGlobal>(
 
 // Says what would be wrong with the new text; the exit status.
 fn report_spoilt<R: Eprint + AllocGlobal>(rt: &R, base: &str, fault: BaseFault) -> u8 {
+    if fault.cause == BaseCause::Memory {
+        return fail(rt, &RunFault::Memory);
+    }
     let _ = eprintln!(rt; "{base}: with these frames it would be no base, so it stays as it is");
     fail(rt, &RunFault::Base(fault))
 }

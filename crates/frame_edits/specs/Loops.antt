@@ -1,7 +1,5 @@
 -- What functions that aren't exported say. No promise rests on it.
-use Rattle.std.specs.Prelude.{◌≡◌, ℕ, List, ⊥}
-use Rattle.toml.specs.Data.{Members}
-use Rattle.base_text.specs.declared.fault.BaseFault.{BaseFault}
+use Rattle.std.specs.Prelude.{◌≡◌, ℕ, List}
 use Rattle.screen_files.specs.declared.filed.Filed.{Filed}
 use Rattle.frame_edits.specs.declared.merging.MergeFault.{MergeFault}
 use Rattle.frame_edits.specs.declared.merging.MergeFault.TheVariants.{TooLong, Overlap, Memory, Unread, Spoilt}

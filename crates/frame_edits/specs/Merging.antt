@@ -1,5 +1,5 @@
 -- Frames that go into a base's text.
-use Rattle.std.specs.Prelude.{◌≡◌, ℕ, Bool, ◌-◌, ◌==◌, IsPermutation, List, [], ◌∷◌, ◌++◌, Unit, ⊥, Option, Some, None, get_or, length, map, take, if◌then◌else◌}
+use Rattle.std.specs.Prelude.{◌≡◌, ℕ, Bool, ◌-◌, ◌==◌, IsPermutation, List, [], ◌∷◌, ◌++◌, Option, Some, None, get_or, length, map, take, if◌then◌else◌}
 use Rattle.std.specs.List.Sorted.{IsSortedByKey, IsStableByKey}
 use Rattle.std.specs.Ordering.{nat_cmp}
 use Rattle.toml.specs.Data.{Members}
@@ -16,7 +16,7 @@ use Rattle.lint.specs.declared.pictures.PicturePlace.{PicturePlace}
 use Rattle.lint.specs.Pictures.{written_picture}
 use Rattle.text_edits.specs.Edits.{ReplacementView, edited}
 use Rattle.screen_files.specs.declared.filed.Filed.{Filed}
-use Rattle.screen_files.specs.Album.{IsNoText, first_over, frames_text}
+use Rattle.screen_files.specs.Album.{first_over, frames_text}
 use Rattle.screen_files.specs.Texts.{rows_text}
 use Rattle.frame_edits.specs.declared.intake.Fate.{Fate}
 use Rattle.frame_edits.specs.declared.intake.Fate.TheVariants as fate
@@ -162,7 +162,7 @@ pub record IsMerged (text : List ℕ) (frames : List Filed) (merged : MergedView
 pub record AreSpoilt (text : List ℕ) (frames : List Filed) (fault : BaseFault) : Type 0 where
   pub merged : MergedView
   pub merge : AreMerged text frames merged
-  pub fault : IsFirstFault merged.text fault
+  pub first : IsFirstFault merged.text fault
 
 pub record AreRefused (text : List ℕ) (frames : List Filed) (fault : MergeFault) : Type 0 where
   pub members : Members

@@ -28,11 +28,7 @@ fn push_line_end(out: &mut Vec<u8>, text: &[u8]) -> Result<(), AllocError>
 }
 
 /// What comes after the text: the frames that are added.
-pub fn additions(
-    alloc: Global,
-    text: &[u8],
-    added: &[Filed],
-) -> Result<Vec<u8>, BaseTextFault>
+pub fn additions(alloc: Global, text: &[u8], added: &[Filed]) -> Result<Vec<u8>, BaseTextFault>
     ensures text { IfOk result (λ new. new.items ≡ spec.additions text.now added.now) }
     ensures fault { IfErr result (IsNoText (spec.addition_over text.now added.now)) }
 {

@@ -1,6 +1,7 @@
 //! What becomes of each frame.
 
 ghost use Rattle.std.specs.Prelude.{◌≡◌, IfOk, OnOk};
+ghost use Rattle.frame_edits.specs.declared.intake.Fate.TheVariants as fate;
 ghost use Rattle.frame_edits.specs.Merging as spec;
 
 use frame_records::Lead;
@@ -83,7 +84,7 @@ impl Intake {
 
     // Takes a frame whose rows are new.
     fn replace(&mut self, alloc: Global, filed: &Filed, span: Span) -> Result<(), AllocError>
-        ensures { OnOk result (self.new ≡ spec.taken_by self.old filed.now (spec.fate.Replaced span)) }
+        ensures { OnOk result (self.new ≡ spec.taken_by self.old filed.now (fate.Replaced span)) }
     {
         let edit = Replacement {
             begin: span.begin,
@@ -105,11 +106,10 @@ impl Intake {
         ensures { OnOk result (self.new ≡ spec.taken_by self.old filed.now (spec.fate_of place)) }
     {
         match fate_of(place) {
-            Fate::Added => self.added.push(*filed)?,
-            Fate::Left => self.left.push(filed.frame.id)?,
-            Fate::Replaced(span) => self.replace(alloc, filed, span)?,
+            Fate::Added => self.added.extend_from_slice(&[*filed]),
+            Fate::Left => self.left.extend_from_slice(&[filed.frame.id]),
+            Fate::Replaced(span) => self.replace(alloc, filed, span),
         }
-        Ok(())
     }
 
     // Takes all frames, whose places in the text are these.
@@ -121,15 +121,15 @@ impl Intake {
         ensures { IfOk result (λ intake. intake ≡ spec.intake_from spec.nothing_taken places.now frames.now) }
     {
         let mut intake = Intake::new(alloc);
-        let mut places = places;
         let mut rest = frames;
+        let mut their_places = places;
         while let Some((filed, more)) = rest.split_first() {
-            let Some((place, others)) = places.split_first() else {
+            let Some((place, others)) = their_places.split_first() else {
                 return Ok(intake);
             };
             intake.take(alloc, filed, *place)?;
-            places = others;
             rest = more;
+            their_places = others;
         }
         Ok(intake)
     }

@@ -8,7 +8,7 @@ ghost use Rattle.frame_edits.specs.Loops.{IsMergeOf, IsRefusal, IsRefusalOf};
 
 use crate::additions::additions;
 use crate::intake::Intake;
-use base_text::{BaseCause, BaseFault, Draft, Listed, base_read, draft_of, tree};
+use base_text::{BaseFault, Draft, Listed, base_read, draft_of, tree};
 use lint::picture_places;
 use page_ids::FrameId;
 use screen_files::{BaseTextFault, Filed, Settled};
@@ -48,9 +48,9 @@ impl Model for Merged {
 /// Why frames don't go into a text.
 #[derive(Debug, Clone, Copy, PartialEq, Eq)]
 pub enum MergeFault {
-    /// The text is no base: its first fault.
+    /// The text is no base: its first fault. Its cause may be `Memory`.
     Unread(BaseFault),
-    /// What would come of it is no base: its first fault.
+    /// What would come of it is no base: its first fault. Its cause may be `Memory`.
     Spoilt(BaseFault),
     /// The added frames alone are longer than a base may be: the file of the first that ends too late.
     TooLong(usize),
@@ -90,11 +90,7 @@ fn taken(
 }
 
 // Adds the edit that comes after all of a text of this length.
-fn push_last(
-    edits: &mut Vec<Replacement>,
-    end: usize,
-    text: Vec<u8>,
-) -> Result<(), AllocError>
+fn push_last(edits: &mut Vec<Replacement>, end: usize, text: Vec<u8>) -> Result<(), AllocError>
     ensures { OnOk result (edits.new.items ≡ edits.old.items
         ++ record { begin = end; end = end; text = text.items } ∷ []) }
 {
@@ -181,15 +177,6 @@ fn merged_base(alloc: Global, text: &[u8], frames: &[Filed]) -> Result<Merged, M
     }
 }
 
-// A base's fault as one of the merge.
-fn fault_of(fault: BaseFault, is_old: bool) -> MergeFault {
-    match (fault.cause, is_old) {
-        (BaseCause::Memory, _) => MergeFault::Memory,
-        (_, true) => MergeFault::Unread(fault),
-        (_, false) => MergeFault::Spoilt(fault),
-    }
-}
-
 /// A base's text with frames of one id each in it. On every fault there is no new text.
 ///
 /// The rows of each frame that the base has, and whose lead isn't `keep`, take the place of what the text writes as its `rows` or
@@ -201,11 +188,11 @@ pub fn merge_frames(alloc: Global, text: &[u8], settled: &Settled) -> Result<Mer
 {
     match base_read(alloc, text) {
         Ok(_) => {}
-        Err(fault) => return Err(fault_of(fault, true)),
+        Err(fault) => return Err(MergeFault::Unread(fault)),
     }
     let merged = merged_base(alloc, text, settled.frames())?;
     match base_read(alloc, merged.text.as_slice()) {
         Ok(_) => Ok(merged),
-        Err(fault) => Err(fault_of(fault, false)),
+        Err(fault) => Err(MergeFault::Spoilt(fault)),
     }
 }
