@@ -47,6 +47,7 @@ void rattle_dealloc(void *at) {
 extern char **environ;
 char *getenv(const char *);
 int *__errno_location(void);
+int openat(int, const char *, int, ...);
 int main(int, char **, char **);
 int __libc_start_main(int (*)(int, char **, char **), int, char **, void (*)(void), void (*)(void), void (*)(void), void *);
 
@@ -100,6 +101,17 @@ ssize rattle_env(const char *name, unsigned char *buffer, size room) {
 /* The same for entry `index` of the environment, by custom 'NAME=value'. */
 ssize rattle_env_at(size index, unsigned char *buffer, size room) {
     return put(entry(environ, index), buffer, room);
+}
+
+/* Opens the directory that a name reaches from the open directory `folder` or, if that is AT_FDCWD, from the working directory: a
+   descriptor for reading, which no other program is given; or -1, also if the name ends in a link or reaches no directory. The flags
+   are O_CLOEXEC, O_DIRECTORY and O_NOFOLLOW; the last two have other numbers on ARM64. */
+int rattle_open_dir_at(int folder, const char *name) {
+#if defined __aarch64__
+    return openat(folder, name, 02000000 | 040000 | 0100000);
+#else
+    return openat(folder, name, 02000000 | 0200000 | 0400000);
+#endif
 }
 
 /* The program's start. The system leaves on the stack the number of arguments, the arguments, null, the environment and null, and the

@@ -2,12 +2,15 @@
    hold. It has to be started with the words 'one', '' and 'two words', and the variables EMPTY= and LONG=12345. The last line is 'N
    passed, M failed'; a function that is called at the end prints it. */
 #include <errno.h>
+#include <fcntl.h>
 #include <malloc.h>
 #include <stddef.h>
 #include <stdint.h>
 #include <stdio.h>
 #include <stdlib.h>
 #include <string.h>
+#include <sys/stat.h>
+#include <unistd.h>
 
 struct tried {
     _Bool is_given;
@@ -23,6 +26,7 @@ size_t rattle_arg_count(void);
 ptrdiff_t rattle_arg(size_t, unsigned char *, size_t);
 ptrdiff_t rattle_env(const char *, unsigned char *, size_t);
 ptrdiff_t rattle_env_at(size_t, unsigned char *, size_t);
+int rattle_open_dir_at(int, const char *);
 
 #define MOST ((size_t)1 << 62)
 #define HOLDS(fact) ((fact) ? (void)passed++ : (void)(failed++, printf("line %d: %s\n", __LINE__, #fact)))
@@ -72,6 +76,22 @@ static void try_texts(void) {
     HOLDS(rattle_env_at(0, room, 8) == -1);
 }
 
+/* In a folder of its own, with a folder, a file and a link to each. */
+static void try_folders(void) {
+    HOLDS(mkdir("in", 0755) == 0 && mkdir("in/side", 0755) == 0 && symlink("in", "link") == 0);
+    int file = open("file", O_CREAT | O_WRONLY, 0644), in = rattle_open_dir_at(AT_FDCWD, "in");
+    struct stat found, wanted;
+    HOLDS(file >= 0 && in >= 0 && fstat(in, &found) == 0 && stat("in", &wanted) == 0 && found.st_ino == wanted.st_ino);
+    HOLDS(fcntl(in, F_GETFD) == FD_CLOEXEC && (fcntl(in, F_GETFL) & O_ACCMODE) == O_RDONLY);
+    int side = rattle_open_dir_at(in, "side");
+    HOLDS(side >= 0 && fstat(side, &found) == 0 && stat("in/side", &wanted) == 0 && found.st_ino == wanted.st_ino);
+    HOLDS(rattle_open_dir_at(AT_FDCWD, "file") == -1 && errno == ENOTDIR);
+    HOLDS(rattle_open_dir_at(AT_FDCWD, "link") == -1 && rattle_open_dir_at(in, "none") == -1);
+    HOLDS(close(rattle_open_dir_at(AT_FDCWD, "link/")) == 0);
+    HOLDS(close(side) == 0 && close(in) == 0 && close(file) == 0);
+    HOLDS(unlink("link") == 0 && unlink("file") == 0 && rmdir("in/side") == 0 && rmdir("in") == 0);
+}
+
 static void try_memory(void) {
     for (size_t length = 0; length < 100; length++) {
         struct tried some = rattle_alloc(length, 16);
@@ -94,6 +114,7 @@ int main(void) {
     rattle_set_errno(ENOENT);
     HOLDS(errno == ENOENT && rattle_errno() == ENOENT);
     try_texts();
+    try_folders();
     try_memory();
     size_t held = mallinfo2().uordblks;
     try_memory();
