@@ -139,7 +139,10 @@ impl<'t> Texts<'t> {
             change.new.begin = change.new.begin.saturating_add(1);
         }
         for _ in 0..change.old.len().min(change.new.len()) {
-            let (old, new) = (change.old.end.saturating_sub(1), change.new.end.saturating_sub(1));
+            let (old, new) = (
+                change.old.end.saturating_sub(1),
+                change.new.end.saturating_sub(1),
+            );
             if self.old.line(old) != self.new.line(new) {
                 break;
             }
@@ -204,7 +207,12 @@ fn push_hunk(
         return Ok(());
     };
     let before = first.old.begin.min(AROUND);
-    let after = texts.old.starts.len().saturating_sub(last.old.end).min(AROUND);
+    let after = texts
+        .old
+        .starts
+        .len()
+        .saturating_sub(last.old.end)
+        .min(AROUND);
     let shown = |begin: usize, end: usize| LineRange {
         begin: begin.saturating_sub(before),
         end: end.saturating_add(after),

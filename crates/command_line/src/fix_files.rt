@@ -11,7 +11,10 @@ use std::io;
 use std::rt::Files;
 
 /// The text of a base: a byte more than one may have is enough.
-pub fn read_text<R: Files + Input + AllocGlobal>(rt: &R, path: &str) -> Result<Vec<u8>, Unfinished> {
+pub fn read_text<R: Files + Input + AllocGlobal>(
+    rt: &R,
+    path: &str,
+) -> Result<Vec<u8>, Unfinished> {
     let file = match open_base(rt, path) {
         Ok(file) => file,
         Err(unfinished) => return Err(unfinished),

@@ -8,7 +8,8 @@ use std::alloc::Global;
 use std::test::Fail;
 use test_support::same;
 
-const BASE: &[u8] = b"entry = 1 # it\n[[frame]]\nid = \"1a\"\nbody = \"OLD\" # more\nprice = 5\n\n[[frame]]\nid = \"1b\"\nlead = \"keep\"\nrows = [\"OLD\"]";
+const BASE: &[u8] =
+    b"entry = 1 # it\n[[frame]]\nid = \"1a\"\nbody = \"OLD\" # more\nprice = 5\n\n[[frame]]\nid = \"1b\"\nlead = \"keep\"\nrows = [\"OLD\"]";
 
 // Frames whose row 1 has one code.
 fn screens(alloc: Global, ids: &[&str]) -> Result<Settled, Fail> {
@@ -45,7 +46,8 @@ fn same_ids(found: &[FrameId], wanted: &[&str]) -> Result<(), Fail> {
 #[test]
 fn rows_are_replaced_and_frames_added(rt: HostRuntime) -> Result<(), Fail> {
     let merged = into(rt.alloc(), BASE, &["2a", "1b", "1a"])??;
-    let text = b"entry = 1 # it\n[[frame]]\nid = \"1a\"\nrows = [\n    \"X\",\n] # more\nprice = 5\n\n[[frame]]\nid = \"1b\"\nlead = \"keep\"\nrows = [\"OLD\"]\n\n[[frame]]\nid = \"2a\"\nroutes = { }\nrows = [\n    \"X\",\n]\n";
+    let text =
+        b"entry = 1 # it\n[[frame]]\nid = \"1a\"\nrows = [\n    \"X\",\n] # more\nprice = 5\n\n[[frame]]\nid = \"1b\"\nlead = \"keep\"\nrows = [\"OLD\"]\n\n[[frame]]\nid = \"2a\"\nroutes = { }\nrows = [\n    \"X\",\n]\n";
     same(merged.text.as_slice(), text.as_slice())?;
     same_ids(merged.replaced.as_slice(), &["1a"])?;
     same_ids(merged.added.as_slice(), &["2a"])?;

@@ -12,8 +12,8 @@ ghost use Rattle.promises.specs.Audits.{IsSafeText};
 ghost use Rattle.slip_fixes.specs.Rounds.{IsFixed};
 
 use checker::Policy;
-use frame_edits::{MergeFault, Merged, merge_frames};
 use finding_forms::{Format, findings_text};
+use frame_edits::{MergeFault, Merged, merge_frames};
 use lint::{Finding, lint};
 use screen_files::Settled;
 use slip_fixes::{Fixed, fix_slips};
