@@ -236,16 +236,17 @@ fn push_hunk(
 
 // How many of the changes from the first on are shown in one hunk: between two are at most the lines around both.
 fn hunk_len(changes: &[Change]) -> usize {
-    let mut count = 1_usize;
-    let mut rest = changes;
-    while let [first, second, ..] = rest {
-        if second.old.begin.saturating_sub(first.old.end) > 2 * AROUND {
-            break;
+    let mut last = match changes.first() {
+        Some(first) => first.old.end,
+        None => return 0,
+    };
+    for (at, change) in changes.iter().enumerate() {
+        if change.old.begin.saturating_sub(last) > 2 * AROUND {
+            return at;
         }
-        count = count.saturating_add(1);
-        rest = rest.get(1..).unwrap_or(&[]);
+        last = change.old.end;
     }
-    count
+    changes.len()
 }
 
 fn push_diff(
@@ -260,10 +261,10 @@ fn push_diff(
         out.extend_from_slice(head.as_bytes())?;
     }
     let mut rest = changes;
-    while !rest.is_empty() {
-        let (hunk, others) = rest.split_at(hunk_len(rest).min(rest.len()));
-        push_hunk(alloc, &mut out, texts, hunk)?;
-        rest = others;
+    for _ in 0..changes.len() {
+        let count = hunk_len(rest);
+        push_hunk(alloc, &mut out, texts, rest.get(..count).unwrap_or(&[]))?;
+        rest = rest.get(count..).unwrap_or(&[]);
     }
     Ok(out)
 }
