@@ -3,7 +3,7 @@ use Rattle.screen_files.specs.declared.capture.TheConstants.{MOST_SHOTS}
 use Rattle.screen_files.specs.Captures.{cleared, wound}
 use Rattle.screen_files.proofs.capture.push_all.Given as goal
 
--- the screens so far and those that the bytes that are left clear are all; the terminal comes to the same end
+-- the screens so far, then those that the remaining bytes clear, are all of them; the terminal ends up the same
 abbrev pub invariant-loop-byte : goal.invariant-loop-byte
 invariant-loop-byte l = record {
   shots : l.shots.items ++ cleared (length l.bytes) l.reel l.left ≡ l.fn.shots.items ++ cleared (length l.bytes) l.fn.reel l.bytes;
