@@ -1,8 +1,8 @@
 """The fixed parts of the HTML file of a base, made from the folder page/ of crates/base_pages, or from another.
 
 page.html has marks, as {{style}}: for the style and the script, for their checksums, and for the header and the
-sections, which the program writes. The style and the script are squeezed by rcssmin and rjsmin (Debian's
-python3-rcssmin and python3-rjsmin); of the page itself the lines lose their indents.
+sections, which the program writes; style.css has one for the font. The style and the script are squeezed by rcssmin and
+rjsmin (Debian's python3-rcssmin and python3-rjsmin); of the page itself the lines lose their indents.
 """
 
 import base64
@@ -31,13 +31,18 @@ def can_squeeze() -> bool:
     return has_module("rcssmin") and has_module("rjsmin")
 
 
+def font_of(path: Path) -> str:
+    """The font of the letters, in base 64."""
+    return base64.b64encode(path.read_bytes()).decode() if path.is_file() else ""
+
+
 def squeezed(path: Path) -> str:
     """A style or a script, which can be between its tags."""
     import rcssmin
     import rjsmin
 
     squeeze: Callable[[str], str] = rcssmin.cssmin if path.suffix == ".css" else rjsmin.jsmin
-    text = squeeze(path.read_text("utf-8"))
+    text = squeeze(path.read_text("utf-8")).replace("{{letters}}", font_of(path.with_name("letters.woff2")))
     if "</" in text or "<!--" in text or not text.isascii():
         raise ValueError(f"{path.name} has </ or <!--, or isn't ASCII")
     return text

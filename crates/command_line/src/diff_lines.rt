@@ -1,49 +1,167 @@
-//! What was changed within lines, as `diff -u` shows it.
+//! What was changed of a text, as `diff -u` shows it.
 
 use std::alloc::{AllocError, Global};
+use text_edits::Replacement;
 
 // Lines around a change that are shown too.
 const AROUND: usize = 3;
 
-// A line of two texts, with its end.
-#[derive(Drop)]
-struct Pair<'t> {
-    old: &'t [u8],
-    new: &'t [u8],
-}
-
-// Lines that are shown together, from the first up to that after the last, from 0.
-#[derive(Drop)]
-struct Hunk {
+// Lines of a text, from the first up to that after the last, from 0.
+#[derive(Debug, Clone, Copy, PartialEq, Eq)]
+struct LineRange {
     begin: usize,
     end: usize,
 }
 
-fn pairs_of<'t>(alloc: Global, old: &'t [u8], new: &'t [u8]) -> Result<Vec<Pair<'t>>, AllocError> {
-    let mut pairs = Vec::new(alloc);
-    let mut news = new.split_inclusive(|byte| *byte == b'\n');
-    for old in old.split_inclusive(|byte| *byte == b'\n') {
-        let new = news.next().unwrap_or(&[]);
-        pairs.push(Pair { old, new })?;
+impl LineRange {
+    fn len(&self) -> usize {
+        self.end.saturating_sub(self.begin)
     }
-    Ok(pairs)
 }
 
-// The lines that have changed, each with those around it.
-fn hunks_of(alloc: Global, pairs: &[Pair]) -> Result<Vec<Hunk>, AllocError> {
-    let mut hunks: Vec<Hunk> = Vec::new(alloc);
-    for (at, pair) in pairs.iter().enumerate() {
-        if pair.old == pair.new {
-            continue;
+// Lines of an old text, and those of the new one in their place.
+#[derive(Debug, Clone, Copy, PartialEq, Eq)]
+struct Change {
+    old: LineRange,
+    new: LineRange,
+}
+
+// A text by its lines, each with its end.
+#[derive(Drop)]
+struct Lines<'t> {
+    text: &'t [u8],
+    // The offset at which each line begins.
+    starts: Vec<usize>,
+}
+
+impl<'t> Lines<'t> {
+    fn of(alloc: Global, text: &'t [u8]) -> Result<Lines<'t>, AllocError> {
+        let mut starts = Vec::new(alloc);
+        let mut at = 0_usize;
+        for line in text.split_inclusive(|byte| *byte == b'\n') {
+            starts.push(at)?;
+            at = at.saturating_add(line.len());
         }
-        let begin = at.saturating_sub(AROUND);
-        let end = at.saturating_add(AROUND + 1).min(pairs.len());
-        match hunks.last_mut() {
-            Some(last) if begin <= last.end => last.end = end,
-            _ => hunks.push(Hunk { begin, end })?,
+        Ok(Lines { text, starts })
+    }
+
+    fn line(&self, at: usize) -> &'t [u8] {
+        let end = self.start(at.saturating_add(1));
+        self.text.get(self.start(at)..end).unwrap_or(&[])
+    }
+
+    fn start(&self, at: usize) -> usize {
+        self.starts.get(at).copied().unwrap_or(self.text.len())
+    }
+
+    // The line with an offset; after the last line end it is a line that isn't there.
+    fn line_at(&self, offset: usize) -> usize {
+        let count = self.starts.partition_point(|start| *start <= offset);
+        if offset == self.text.len() && self.text.ends_with(b"\n") {
+            count
+        } else {
+            count.saturating_sub(1)
         }
     }
-    Ok(hunks)
+
+    // The lines from the one with the first offset up to the one with the second.
+    fn around(&self, begin: usize, end: usize) -> LineRange {
+        LineRange {
+            begin: self.line_at(begin),
+            end: self.starts.partition_point(|start| *start <= end),
+        }
+    }
+}
+
+// An old text and a new one.
+#[derive(Drop)]
+struct Texts<'t> {
+    old: Lines<'t>,
+    new: Lines<'t>,
+}
+
+impl<'t> Texts<'t> {
+    fn of(alloc: Global, old: &'t [u8], new: &'t [u8]) -> Result<Texts<'t>, AllocError> {
+        Ok(Texts {
+            old: Lines::of(alloc, old)?,
+            new: Lines::of(alloc, new)?,
+        })
+    }
+
+    // The lines that differ, if both texts have as many.
+    fn changed(&self, alloc: Global) -> Result<Vec<Change>, AllocError> {
+        let mut changes: Vec<Change> = Vec::new(alloc);
+        for at in 0..self.old.starts.len() {
+            if self.old.line(at) == self.new.line(at) {
+                continue;
+            }
+            let range = LineRange {
+                begin: at,
+                end: at.saturating_add(1),
+            };
+            let change = Change {
+                old: range,
+                new: range,
+            };
+            add(&mut changes, change)?;
+        }
+        Ok(changes)
+    }
+
+    // The lines with edits, whose spans ascend.
+    fn edited(&self, alloc: Global, edits: &[Replacement]) -> Result<Vec<Change>, AllocError> {
+        let mut changes: Vec<Change> = Vec::new(alloc);
+        // where the text after the last edit begins, in both texts
+        let (mut old, mut new) = (0_usize, 0_usize);
+        for edit in edits {
+            let begin = new.saturating_add(edit.begin.saturating_sub(old));
+            (old, new) = (edit.end, begin.saturating_add(edit.text.len()));
+            let change = Change {
+                old: self.old.around(edit.begin, old),
+                new: self.new.around(begin, new),
+            };
+            add(&mut changes, change)?;
+        }
+        for change in changes.iter_mut() {
+            self.trim(change);
+        }
+        changes.retain(|change| change.old.len() > 0 || change.new.len() > 0);
+        Ok(changes)
+    }
+
+    // Leaves out the lines at both ends that are the same.
+    fn trim(&self, change: &mut Change) {
+        for _ in 0..change.old.len().min(change.new.len()) {
+            if self.old.line(change.old.begin) != self.new.line(change.new.begin) {
+                break;
+            }
+            change.old.begin = change.old.begin.saturating_add(1);
+            change.new.begin = change.new.begin.saturating_add(1);
+        }
+        for _ in 0..change.old.len().min(change.new.len()) {
+            let (old, new) = (
+                change.old.end.saturating_sub(1),
+                change.new.end.saturating_sub(1),
+            );
+            if self.old.line(old) != self.new.line(new) {
+                break;
+            }
+            change.old.end = old;
+            change.new.end = new;
+        }
+    }
+}
+
+// Adds a change: one that begins where the last one ends, or before, goes on with that.
+fn add(changes: &mut Vec<Change>, change: Change) -> Result<(), AllocError> {
+    match changes.last_mut() {
+        Some(last) if change.old.begin <= last.old.end => {
+            last.old.end = change.old.end;
+            last.new.end = change.new.end;
+        }
+        _ => changes.push(change)?,
+    }
+    Ok(())
 }
 
 fn push_line(out: &mut Vec<u8>, mark: u8, line: &[u8]) -> Result<(), AllocError> {
@@ -55,57 +173,118 @@ fn push_line(out: &mut Vec<u8>, mark: u8, line: &[u8]) -> Result<(), AllocError>
     Ok(())
 }
 
-// The new lines of a change, after its old ones.
-fn push_added(out: &mut Vec<u8>, added: &mut Vec<&[u8]>) -> Result<(), AllocError> {
-    for line in added.iter() {
-        push_line(out, b'+', line)?;
+fn push_lines(
+    out: &mut Vec<u8>,
+    mark: u8,
+    lines: &Lines<'_>,
+    range: LineRange,
+) -> Result<(), AllocError> {
+    for at in range.begin..range.end {
+        push_line(out, mark, lines.line(at))?;
     }
-    added.clear();
     Ok(())
 }
 
-fn push_lines(alloc: Global, out: &mut Vec<u8>, pairs: &[Pair]) -> Result<(), AllocError> {
-    let mut added = Vec::new(alloc);
-    for pair in pairs {
-        if pair.old == pair.new {
-            push_added(out, &mut added)?;
-            push_line(out, b' ', pair.old)?;
-        } else {
-            push_line(out, b'-', pair.old)?;
-            added.push(pair.new)?;
-        }
-    }
-    push_added(out, &mut added)
-}
-
-// The line above a hunk, as `@@ -3,7 +3,7 @@`; one line has no number of lines.
-fn push_head(alloc: Global, out: &mut Vec<u8>, hunk: &Hunk) -> Result<(), AllocError> {
-    let first = hunk.begin.saturating_add(1);
-    let head = match hunk.end.saturating_sub(hunk.begin) {
-        1 => format!(in alloc; "@@ -{first} +{first} @@\n")?,
-        count => format!(in alloc; "@@ -{first},{count} +{first},{count} @@\n")?,
+// A range in the line above a hunk: one line has no number of lines, and none is said to be after the line before.
+fn push_range(alloc: Global, out: &mut Vec<u8>, range: LineRange) -> Result<(), AllocError> {
+    let first = range.begin.saturating_add(1);
+    let text = match range.len() {
+        0 => format!(in alloc; "{},0", range.begin)?,
+        1 => format!(in alloc; "{first}")?,
+        count => format!(in alloc; "{first},{count}")?,
     };
-    out.extend_from_slice(head.as_bytes())
+    out.extend_from_slice(text.as_bytes())
 }
 
-/// What of a file's text has changed, if both texts have the same number of lines. Nothing if they are the same.
-pub fn diff_text<'t>(
+// Changes that are shown together, with the lines around them.
+fn push_hunk(
+    alloc: Global,
+    out: &mut Vec<u8>,
+    texts: &Texts<'_>,
+    changes: &[Change],
+) -> Result<(), AllocError> {
+    let (Some(first), Some(last)) = (changes.first(), changes.last()) else {
+        return Ok(());
+    };
+    let before = first.old.begin.min(AROUND);
+    let after = texts
+        .old
+        .starts
+        .len()
+        .saturating_sub(last.old.end)
+        .min(AROUND);
+    let shown = |begin: usize, end: usize| LineRange {
+        begin: begin.saturating_sub(before),
+        end: end.saturating_add(after),
+    };
+    out.extend_from_slice(b"@@ -")?;
+    push_range(alloc, out, shown(first.old.begin, last.old.end))?;
+    out.extend_from_slice(b" +")?;
+    push_range(alloc, out, shown(first.new.begin, last.new.end))?;
+    out.extend_from_slice(b" @@\n")?;
+    let mut at = first.old.begin.saturating_sub(before);
+    for change in changes {
+        let end = change.old.begin;
+        push_lines(out, b' ', &texts.old, LineRange { begin: at, end })?;
+        push_lines(out, b'-', &texts.old, change.old)?;
+        push_lines(out, b'+', &texts.new, change.new)?;
+        at = change.old.end;
+    }
+    let end = at.saturating_add(after);
+    push_lines(out, b' ', &texts.old, LineRange { begin: at, end })
+}
+
+// How many of the changes from the first on are shown in one hunk: between two are at most the lines around both.
+fn hunk_len(changes: &[Change]) -> usize {
+    let mut last = match changes.first() {
+        Some(first) => first.old.end,
+        None => return 0,
+    };
+    for (at, change) in changes.iter().enumerate() {
+        if change.old.begin.saturating_sub(last) > 2 * AROUND {
+            return at;
+        }
+        last = change.old.end;
+    }
+    changes.len()
+}
+
+fn push_diff(
     alloc: Global,
     path: &str,
-    old: &'t [u8],
-    new: &'t [u8],
+    texts: &Texts<'_>,
+    changes: &[Change],
 ) -> Result<Vec<u8>, AllocError> {
     let mut out = Vec::new(alloc);
-    let pairs = pairs_of(alloc, old, new)?;
-    let hunks = hunks_of(alloc, &pairs)?;
-    if !hunks.is_empty() {
+    if !changes.is_empty() {
         let head = format!(in alloc; "--- {path}\n+++ {path}\n")?;
         out.extend_from_slice(head.as_bytes())?;
     }
-    for hunk in hunks.iter() {
-        push_head(alloc, &mut out, hunk)?;
-        let shown = pairs.get(hunk.begin..hunk.end).unwrap_or(&[]);
-        push_lines(alloc, &mut out, shown)?;
+    let mut rest = changes;
+    for _ in 0..changes.len() {
+        let count = hunk_len(rest);
+        push_hunk(alloc, &mut out, texts, rest.get(..count).unwrap_or(&[]))?;
+        rest = rest.get(count..).unwrap_or(&[]);
     }
     Ok(out)
+}
+
+/// What of a file's text has changed, if both texts have the same number of lines. Nothing if they are the same.
+pub fn diff_text(alloc: Global, path: &str, old: &[u8], new: &[u8]) -> Result<Vec<u8>, AllocError> {
+    let texts = Texts::of(alloc, old, new)?;
+    let changes = texts.changed(alloc)?;
+    push_diff(alloc, path, &texts, changes.as_slice())
+}
+
+/// What edits change of a file's text; the new text is the old one with them, and their spans ascend. Nothing if they change nothing.
+pub fn diff_of_edits(
+    alloc: Global,
+    path: &str,
+    old: &[u8],
+    new: &[u8],
+    edits: &[Replacement],
+) -> Result<Vec<u8>, AllocError> {
+    let texts = Texts::of(alloc, old, new)?;
+    let changes = texts.edited(alloc, edits)?;
+    push_diff(alloc, path, &texts, changes.as_slice())
 }

@@ -10,8 +10,11 @@ use slip_fixes::{Fixed, fix_slips};
 use std::io;
 use std::rt::Files;
 
-// The text of a base: a byte more than one may have is enough.
-fn read_text<R: Files + Input + AllocGlobal>(rt: &R, path: &str) -> Result<Vec<u8>, Unfinished> {
+/// The text of a base: a byte more than one may have is enough.
+pub fn read_text<R: Files + Input + AllocGlobal>(
+    rt: &R,
+    path: &str,
+) -> Result<Vec<u8>, Unfinished> {
     let file = match open_base(rt, path) {
         Ok(file) => file,
         Err(unfinished) => return Err(unfinished),

@@ -1,5 +1,6 @@
 //! The command `import`: the screens of one file after another, and then the base that is made of them.
 
+use crate::merge_files::import_into;
 use crate::named_files::{Unfinished, ended, open_base, report};
 use audit_report::{FromRead, IntoWrite, RunFault};
 use command_words::Import;
@@ -19,8 +20,8 @@ enum Refused {
     Fault(ImportFault),
 }
 
-// The path of a file by its number.
-fn path_of<'a>(asked: &'a Import, file: usize) -> &'a str {
+/// The path of a file by its number.
+pub fn path_of<'a>(asked: &'a Import, file: usize) -> &'a str {
     match asked.screens.get(file) {
         Some(path) => path,
         None => "",
@@ -176,8 +177,20 @@ fn print_or_report<R: Files + Print + Eprint + AllocGlobal>(
     }
 }
 
-// Prints the base of what isn't at fault, if all is to be left out that is; the exit status.
-fn print_others<R: Files + Print + Eprint + AllocGlobal>(
+// Puts the frames where they are asked for: into a base, or into one of their own; the exit status.
+fn give_frames<R: Files + Input + Print + Eprint + AllocGlobal>(
+    rt: &R,
+    asked: &Import,
+    settled: &Settled,
+) -> u8 {
+    match asked.into {
+        Some(base) => import_into(rt, base, asked, settled),
+        None => print_or_report(rt, asked, settled),
+    }
+}
+
+// Gives what isn't at fault, if all is to be left out that is; the exit status.
+fn print_others<R: Files + Input + Print + Eprint + AllocGlobal>(
     rt: &R,
     asked: &Import,
     settled: &Settled,
@@ -186,14 +199,14 @@ fn print_others<R: Files + Print + Eprint + AllocGlobal>(
     if !asked.skip_bad || settled.frames().is_empty() {
         return refused;
     }
-    match print_or_report(rt, asked, settled) {
+    match give_frames(rt, asked, settled) {
         0 => 1,
         status => status,
     }
 }
 
-// Prints the base of an album's frames, or says why it isn't printed; the exit status. `refused` is that of the files.
-fn print_album<R: Files + Print + Eprint + AllocGlobal>(
+// Gives an album's frames, or says why they aren't given; the exit status. `refused` is that of the files.
+fn print_album<R: Files + Input + Print + Eprint + AllocGlobal>(
     rt: &R,
     asked: &Import,
     album: Album,
@@ -204,13 +217,13 @@ fn print_album<R: Files + Print + Eprint + AllocGlobal>(
         Err(_) => return report(rt, "output", &Unfinished::Fault(RunFault::Memory)),
     };
     match refused.max(report_twins(rt, asked, settled.twins())) {
-        0 => print_or_report(rt, asked, &settled),
+        0 => give_frames(rt, asked, &settled),
         status => print_others(rt, asked, &settled, status),
     }
 }
 
-/// Prints the base of the screens. If files are refused, or several frames have one id, each is named on standard error, nothing is
-/// printed, and the status is 3. If the bad ones are to be skipped, the base of the others is printed, and the status is 1; of frames
+/// Prints the base of the screens, or puts them into one. If files are refused, or several frames have one id, each is named on standard error, nothing is
+/// printed or changed, and the status is 3. If the bad ones are to be skipped, it is the base of the others, and the status is 1; of frames
 /// of one id the first is taken. If there are no others, nothing is printed.
 pub fn import<R: Files + Input + Print + Eprint + AllocGlobal>(rt: &R, asked: &Import) -> u8 {
     let mut album = Album::new(rt.alloc());

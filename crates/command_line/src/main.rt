@@ -12,6 +12,7 @@ mod export_files;
 mod fix_files;
 mod import_files;
 mod lint_files;
+mod merge_files;
 mod named_files;
 mod out_file;
 mod pages_file;

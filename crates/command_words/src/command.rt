@@ -349,10 +349,22 @@ fn import_command<'a>(alloc: Global) -> Result<Command<'a>, AllocError> {
     )
     .num_args(1..)
     .action(ArgAction::Append);
+    let into = Arg::new(alloc, "into")
+        .long("into")
+        .value_name("BASE")
+        .action(ArgAction::Set)
+        .help("Put the frames into BASE, which stays as it is but for what they show")
+        .conflicts_with("entry")?;
     Command::new(alloc, "import")
-        .about("Make a base of saved screens")
+        .about("Make a base of saved screens, or put them into one")
         .after_help(help::IMPORT)
         .arg(screens)?
+        .arg(into)?
+        .arg(flag(
+            alloc,
+            "diff",
+            "Print what --into would change as a diff, and change nothing",
+        ))?
         .arg(flag(
             alloc,
             "stream",
@@ -532,6 +544,10 @@ pub struct Import<'a> {
     pub skip_bad: bool,
     /// The entry page; without it the smallest page.
     pub entry: Option<PageNo>,
+    /// The base that the frames go into; without one they are a base of their own.
+    pub into: Option<&'a str>,
+    /// Whether a diff of that base is printed, and the base stays as it is.
+    pub is_shown: bool,
 }
 
 /// Which base's screens are written, and where.
@@ -803,6 +819,13 @@ fn screen_of<'a>(words: &'a ArgMatches, groups: Groups) -> Option<Request<'a>> {
 
 // Which screens make a base, and how.
 fn import_of<'a>(words: &'a ArgMatches) -> Option<Request<'a>> {
+    let into = words.get_str("into");
+    let is_shown = words.get_flag("diff");
+    if is_shown && into.is_none() {
+        return Some(Request::Misused {
+            why: "--diff shows what --into would change",
+        });
+    }
     Some(Request::Import(Import {
         screens: words.get_strs("SCREEN")?,
         kind: if words.get_flag("stream") {
@@ -812,6 +835,8 @@ fn import_of<'a>(words: &'a ArgMatches) -> Option<Request<'a>> {
         },
         skip_bad: words.get_flag("skip-bad"),
         entry: page_of(words, "entry"),
+        into,
+        is_shown,
     }))
 }
 

@@ -80,9 +80,12 @@ pub const MAP: &str = concat!(
 pub const IMPORT: &str = concat!(
     "A file of 960 bytes is 24 rows of 40 codes; 1,000 and 1,024 bytes have more, which is dropped;\n",
     "880 bytes are rows 1 to 22. An EP1 file has 968 or 1,008 bytes. A capture has many screens: each\n",
-    "is the frame whose id its row 0 shows. The base has no routes: they are yet to be typed.\n\n",
-    "Example: pageaudit import examples/screens/*.bin >town.toml\n\n",
-    "Status: 0 a base, 1 a base without the frames at fault (--skip-bad), 2 bad command line,\n",
+    "is the frame whose id its row 0 shows. The base has no routes: they are yet to be typed.\n",
+    "--into gives the frames of a base new rows, and adds the others at its end: routes, prices,\n",
+    "comments and all else stay to the byte. A frame with lead = \"keep\" is left alone.\n\n",
+    "Example: pageaudit import examples/screens/*.bin >town.toml\n",
+    "         pageaudit import 478a.bin --into town.toml\n\n",
+    "Status: 0 a base, 1 without the frames at fault (--skip-bad), or a diff, 2 bad command line,\n",
     "        3 a file that is refused or can't be read, two frames of one id, or a write that fails,\n",
     "        4 out of memory",
 );

@@ -1,7 +1,9 @@
-//! Tests of `slip_fixes`.
+//! Tests of `slip_fixes` and `frame_edits`.
 #![tactic(auto)]
 
 #[cfg(test)]
 mod fixes;
+#[cfg(test)]
+mod merges;
 #[cfg(test)]
 mod rounds;

@@ -2,6 +2,7 @@ pub mod Lookups
 pub mod Outside
 pub mod Looks
 pub mod Tables
+pub mod Pictures
 pub mod Spots
 pub mod Lint
 pub mod Findings

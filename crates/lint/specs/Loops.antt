@@ -1,5 +1,5 @@
 -- Facts that hold between the turns of loops, and what functions that aren't exported say. No promise rests on them.
-use Rattle.std.specs.Prelude.{◌≡◌, List, Bool, true, false, [], ℕ, ◌∷◌, map, Option, Some, nat_lt, length, nat_eq, None, slice_get}
+use Rattle.std.specs.Prelude.{◌≡◌, List, Bool, true, false, [], ℕ, ◌∷◌, map, Option, Some, nat_lt, length, nat_eq, None, slice_get, codes}
 use Rattle.frame_records.specs.Bases.{BaseView}
 use Rattle.checker.specs.declared.policy.Policy.{Policy}
 use Rattle.finder.specs.declared.found.Discovered.{Discovered}
@@ -16,6 +16,8 @@ use Rattle.toml_places.specs.Places.{Mark, kept_route, kept_key, key_in, route_i
 use Rattle.lint.specs.declared.audit_findings.Sources.{Sources}
 use Rattle.lint.specs.Tables.{TableView, key_spot, dotted_spot, table_at, whole, inline_marks, frame_element}
 use Rattle.toml_places.specs.declared.spans.Span.{Span}
+use Rattle.toml_places.specs.Spans.{pair_span}
+use Rattle.toml_places.specs.Steps.{◌>>=◌}
 use Rattle.lint.specs.Findings.{FindingView}
 use Rattle.base_text.specs.declared.detail.TextFault.{TextFault}
 use Rattle.base_text.specs.declared.listed.Listed.{Listed}
@@ -52,6 +54,10 @@ pub record KeysView : Type 0 where
 -- the keys of a table of the text
 abbrev pub keys_of : List ℕ → List Mark → Option ℕ → KeysView
 keys_of text ms frame = record { frame = frame; key = key_spot text ms frame; dotted = dotted_spot text ms frame }
+
+-- the pair that writes what a frame with these keys shows
+abbrev pub picture_seen : List ℕ → KeysView → Option Span
+picture_seen text k = option_or (k.key (codes "rows")) (k.key (codes "body")) >>= (λ s. pair_span s text)
 
 -- this is a table of the text
 abbrev pub IsTable : List ℕ → List Mark → TableView → Type 0

@@ -6,7 +6,7 @@ use Rattle.toml_places.specs.Steps.{◌>>=◌}
 use Rattle.toml_places.specs.declared.spans.Span.{Span}
 use Rattle.toml_places.specs.declared.spans.KeyPlace.{KeyPlace}
 use Rattle.toml_places.specs.Places.{Mark, first_at, first_spot, frame_key, routes_key, header_place, table_marks}
-use Rattle.toml_places.specs.Spans.{value_span, frame_span, element_span}
+use Rattle.toml_places.specs.Spans.{value_span, frame_span, element_span, pair_span}
 
 abbrev pub empty_at : ℕ → Span
 empty_at at = record { begin = at; end = at }
@@ -104,3 +104,8 @@ offset_or (Some s) at = s.at
 
 abbrev pub id_place : List ℕ → List Mark → ℕ → ℕ
 id_place text ms k = offset_or (first_spot ms (Some k) (codes "id" ∷ [])) (frame_whole text ms k).begin
+
+-- the pair that writes what a frame shows: its rows, else its body
+abbrev pub picture_span : List ℕ → List Mark → ℕ → Option Span
+picture_span text ms k =
+    option_or (key_spot text ms (Some k) (codes "rows")) (key_spot text ms (Some k) (codes "body")) >>= (λ s. pair_span s text)

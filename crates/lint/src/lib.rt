@@ -9,8 +9,9 @@
 //! - A span is that of the smallest piece at fault: a key, a value, an element of a list, a route, a character or a header.
 //!   [`spans_lie_in_the_text`].
 //! - [`Counts`], [`counted_text`]: how many there are.
+//! - [`picture_places`], [`PicturePlace`]: where a text writes what frames show.
 //! - [`lint_follows_base_read`], [`no_error_is_safe`], [`lint_warns_of_unreached`]: what the findings of a text mean.
-//! - Definitions: what is found (`Lint`), where a text writes its tables (`Tables`),
+//! - Definitions: what is found (`Lint`), where a text writes its tables (`Tables`) and what frames show (`Pictures`),
 //!   which piece is at fault (`Spots`, `Outside`), the order (`Findings`), the laws (`Laws`).
 #![tactic(auto)]
 
@@ -23,6 +24,7 @@ mod looks;
 mod lookup;
 mod order;
 mod outside;
+mod pictures;
 mod spots;
 mod tables;
 mod text_findings;
@@ -33,3 +35,4 @@ pub use judging::lint;
 pub use laws::{
     lint_follows_base_read, lint_warns_of_unreached, no_error_is_safe, spans_lie_in_the_text,
 };
+pub use pictures::{PicturePlace, picture_places};

@@ -8,7 +8,9 @@ ghost use Rattle.lint.specs.Loops as loops;
 ghost use Rattle.lint.specs.Loops.{InlineKeeps, KnowsTables, IsTable, seen_keys, table_seen};
 
 use std::alloc::{AllocError, Global};
-use toml_places::{KeyPlace, Places, Span, TablePlaces, element_spans, frame_span, value_span};
+use toml_places::{
+    KeyPlace, Places, Span, TablePlaces, element_spans, frame_span, pair_span, value_span,
+};
 
 // The keys of a table: of the top, or of the frame of an index.
 #[derive(Drop)]
@@ -141,6 +143,14 @@ impl<'a> TableKeys<'a> {
     }
 }
 
+// The pair of the rows, else of the body.
+fn picture_pair(text: &str, keys: &TableKeys<'_>) -> Option<Span>
+    ensures { result ≡ loops.picture_seen text.now (seen_keys keys.now) }
+{
+    let spot = keys.key("rows").or(keys.key("body"))?;
+    pair_span(text, spot)
+}
+
 impl<'a> TableSpots<'a> {
     pub fn text(&self) -> &str
         ensures { result.now ≡ (table_seen self.now).text }
@@ -263,6 +273,15 @@ impl<'a> TextTables<'a> {
             frame,
             inline: inline_table(alloc, self.text, self.element(frame))?,
         })
+    }
+
+    // The pair that writes what a frame shows: its rows, else its body.
+    pub fn picture(&self, alloc: Global, frame: usize) -> Result<Option<Span>, AllocError>
+        ensures { IfOk result (λ span. (ms : List Mark) → KnowsTables ms self.now
+            → span ≡ spec.picture_span self.now.text.now ms frame) }
+    {
+        let keys = self.keys(alloc, Some(frame))?;
+        Ok(picture_pair(self.text, &keys))
     }
 
     // The top, or the table of a frame.

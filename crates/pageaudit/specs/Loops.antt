@@ -4,7 +4,7 @@ use Rattle.pageaudit.specs.declared.edition.EditionFault.{EditionFault}
 use Rattle.pageaudit.specs.declared.edition.EditionFault.TheVariants as part
 use Rattle.pageaudit.specs.Files.{IsUntouched, IsBaseOfFile, Device, base_limit, IsBaseTextFault, IsBaseBroken, IsReadWithin, cert_limit, IsCertTextFault, IsCertBroken, IsCertOfFile, IsTruncated, WasReadSoFar, WasRead}
 use Rattle.pageaudit.specs.ChangeRun.{EditionFiles, IsEditionOf}
-use Rattle.std.specs.Prelude.{Result, MatchResult, ℕ, List, Ok, Err, ◌≡◌, false, ◌≤◌, ◌<◌, ◌++◌, length, None, true, ◌+◌, ◌∷◌, [], Vec}
+use Rattle.std.specs.Prelude.{Result, MatchResult, ℕ, List, Ok, Err, ◌≡◌, false, ◌≤◌, ◌++◌, length, None, true, ◌+◌, Vec}
 use Rattle.cert_table.specs.Table.{CertView}
 use Rattle.base_text.specs.declared.fault.BaseFault.{BaseFault}
 use Rattle.audit_report.specs.declared.run_fault.RunFault.{RunFault}
@@ -16,7 +16,6 @@ use Rattle.base_text.specs.Whole.{IsTextBase}
 use Rattle.checker.specs.Headline.{IsBaseRefused, IsCertRefused}
 use Rattle.std.specs.Io.KnownBytes.{Consumes, IsAtEnd, Keeps}
 use Rattle.cert_text.specs.Reading.{certificate_fault as text_fault, ReaderView, HasRead, lasting}
-use Rattle.screen_files.specs.declared.filed.Filed.{Filed}
 use Rattle.screen_files.specs.declared.file.FileFrames.{FileFrames}
 use Rattle.screen_files.specs.declared.file.FramesFault.TheVariants as frames
 use Rattle.screen_files.specs.declared.file.ScreenFault.{ScreenFault}

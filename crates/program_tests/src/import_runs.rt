@@ -1,7 +1,5 @@
 //! Saved screens as a base.
 
-ghost use Rattle.std.specs.Prelude.{◌≡◌, false};
-
 use crate::expected::{ALL, sink, source, taken};
 use page_ids::PageNo;
 use pageaudit::{

@@ -1,6 +1,7 @@
-//! What `lint` finds, what is printed of it, and what is fixed.
+//! What `lint` finds, what is printed of it, and what is fixed; what `import` changes of a base.
 
 ghost use Rattle.std.specs.Prelude.{◌≡◌, ◌↔◌, All, IfOk, true, length};
+ghost use Rattle.frame_edits.specs.Merging.{IsMerged};
 ghost use Rattle.finding_forms.specs.Forms.{is_one_line};
 ghost use Rattle.finding_forms.specs.Laws.{AreWholeLines};
 ghost use Rattle.lint.specs.declared.finding.Level.TheVariants.{Error};
@@ -12,7 +13,9 @@ ghost use Rattle.slip_fixes.specs.Rounds.{IsFixed};
 
 use checker::Policy;
 use finding_forms::{Format, findings_text};
+use frame_edits::{MergeFault, Merged, merge_frames};
 use lint::{Finding, lint};
+use screen_files::Settled;
 use slip_fixes::{Fixed, fix_slips};
 use std::alloc::{AllocError, Global};
 
@@ -43,8 +46,15 @@ fn printed(
 }
 
 // The certain fixes of what is found, round after round, and nothing else is changed.
-fn mended(alloc: Global, text: &[u8], policy: &Policy) -> Result<Fixed, AllocError>
+fn slips_fixed(alloc: Global, text: &[u8], policy: &Policy) -> Result<Fixed, AllocError>
     ensures { IfOk result (λ f. IsFixed policy.now text.now f.text.items f.fixes) }
 {
     fix_slips(alloc, text, policy)
+}
+
+// What comes of a base in which screens are put, and nothing else is changed.
+fn merged_in(alloc: Global, text: &[u8], settled: &Settled) -> Result<Merged, MergeFault>
+    ensures { IfOk result (IsMerged text.now settled.now.frames) }
+{
+    merge_frames(alloc, text, settled)
 }

@@ -12,6 +12,7 @@ mod checks;
 mod findings;
 mod lists;
 mod looks;
+mod published;
 mod runs;
 mod shown;
 mod texts;

@@ -118,8 +118,8 @@ fn push_filed(out: &mut Vec<u8>, filed: &Filed, rest: &[Filed]) -> Result<(), Al
     push_frame(out, &filed.frame, leads_on(filed.frame.id, rest))
 }
 
-// Writes frames, up to the first that ends too late.
-fn push_frames(out: &mut Vec<u8>, frames: &[Filed]) -> Result<(), BaseTextFault>
+/// Writes frames as [`base_text`] does, up to the first that ends after the most bytes that a base may have; its file is in the fault.
+pub fn push_frames(out: &mut Vec<u8>, frames: &[Filed]) -> Result<(), BaseTextFault>
     ensures text { OnOk result (out.new.items ≡ out.old.items ++ spec.frames_text frames.now) }
     ensures within { OnOk result (spec.first_over (length out.old.items) frames.now ≡ None) }
     ensures fault { IfErr result (spec.IsNoText (spec.first_over (length out.old.items) frames.now)) }

@@ -9,7 +9,7 @@
 //! - [`saved_codes`]: the 960 codes of a saved screen, by its size and first bytes. [`capture_screens`], [`Shot`], [`MOST_SHOTS`],
 //!   [`CaptureFault`]: the screens of a capture, which is what a centre sent.
 //! - [`screen_head`], [`Head`]: the id and the price that row 0 shows. [`name_id`]: the id in the name of a file.
-//! - [`ScreenFrame`], [`push_frame`], [`push_entry`]: the text of a base, frame by frame.
+//! - [`ScreenFrame`], [`push_frame`], [`push_frames`], [`push_rows`], [`push_entry`]: the text of a base, frame by frame.
 //! - [`file_frames`], [`FileFrames`], [`FileKind`], [`ScreenFault`], [`FramesFault`], [`MOST_SCREEN`]: the frames of a file, or why it
 //!   gives none.
 //! - [`settle`], [`Settled`], [`Filed`], [`Origin`], [`Twin`]: one frame of each id.
@@ -31,7 +31,7 @@ mod rows;
 mod settling;
 mod texts;
 
-pub use album::{AddFault, Album, BaseTextFault, base_text};
+pub use album::{AddFault, Album, BaseTextFault, base_text, push_frames};
 pub use capture::{CaptureFault, MOST_SHOTS, Shot, capture_screens};
 pub use codes::saved_codes;
 pub use file::{FileFrames, FileKind, FramesFault, MOST_SCREEN, ScreenFault, file_frames};
@@ -40,4 +40,4 @@ pub use frame::ScreenFrame;
 pub use head::{Head, name_id, screen_head};
 pub use laws::{files_are_screens, frames_show_screens};
 pub use settling::{Settled, settle};
-pub use texts::{push_entry, push_frame};
+pub use texts::{push_entry, push_frame, push_rows};

@@ -62,8 +62,9 @@ fn push_row_lines(out: &mut Vec<u8>, codes: &[u8; 960]) -> Result<(), AllocError
     Ok(())
 }
 
+/// Writes the rows of a frame as [`push_frame`] does, from `rows = [` on, and a line end.
 #[tactic(auto, using(std::proofs::Common::append_assoc))]
-fn push_rows(out: &mut Vec<u8>, codes: &[u8; 960]) -> Result<(), AllocError>
+pub fn push_rows(out: &mut Vec<u8>, codes: &[u8; 960]) -> Result<(), AllocError>
     ensures { OnOk result (out.new.items ≡ out.old.items ++ spec.rows_text codes.now) }
 {
     out.extend_from_slice(b"rows = [\n")?;

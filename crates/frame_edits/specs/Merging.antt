@@ -1,0 +1,177 @@
+-- Frames that go into a base's text.
+use Rattle.std.specs.Prelude.{◌≡◌, ℕ, Bool, ◌-◌, ◌==◌, IsPermutation, List, [], ◌∷◌, ◌++◌, Option, Some, None, get_or, length, map, take, if◌then◌else◌}
+use Rattle.std.specs.List.Sorted.{IsSortedByKey, IsStableByKey}
+use Rattle.std.specs.Ordering.{nat_cmp}
+use Rattle.toml.specs.Data.{Members}
+use Rattle.page_ids.specs.Ids.{Id}
+use Rattle.frame_records.specs.declared.frame.Lead.{Lead}
+use Rattle.frame_records.specs.declared.frame.Lead.TheVariants.{Clear, Keep}
+use Rattle.frame_records.specs.Bases.{BaseView}
+use Rattle.base_text.specs.declared.fault.BaseFault.{BaseFault}
+use Rattle.base_text.specs.declared.listed.Listed.{Listed}
+use Rattle.base_text.specs.Drafts.{draft_of}
+use Rattle.base_text.specs.Whole.{IsTextBase, IsFirstFault, tree_of}
+use Rattle.toml_places.specs.declared.spans.Span.{Span}
+use Rattle.lint.specs.declared.pictures.PicturePlace.{PicturePlace}
+use Rattle.lint.specs.Pictures.{written_picture}
+use Rattle.text_edits.specs.Edits.{ReplacementView, edited}
+use Rattle.screen_files.specs.declared.filed.Filed.{Filed}
+use Rattle.screen_files.specs.Album.{first_over, frames_text}
+use Rattle.screen_files.specs.Texts.{rows_text}
+use Rattle.frame_edits.specs.declared.intake.Fate.{Fate}
+use Rattle.frame_edits.specs.declared.intake.Fate.TheVariants as fate
+use Rattle.frame_edits.specs.declared.merging.MergeFault.{MergeFault}
+use Rattle.frame_edits.specs.declared.merging.MergeFault.TheVariants.{Unread, Spoilt, TooLong, Overlap, Memory}
+
+-- What contracts see.
+
+pub record IntakeView : Type 0 where
+  pub edits : List ReplacementView
+  pub replaced : List Id
+  pub added : List Filed
+  pub left : List Id
+
+pub record MergedView : Type 0 where
+  pub text : List ℕ
+  pub edits : List ReplacementView
+  pub replaced : List Id
+  pub added : List Id
+  pub left : List Id
+
+-- What becomes of a frame, by where the text writes what it shows.
+
+-- a frame over another stays, since its rows aren't all that it shows
+abbrev pub fate_led : Lead → Span → Fate
+fate_led Clear span = fate.Replaced span
+fate_led Keep span = fate.Left
+
+abbrev pub fate_with : Lead → Option Span → Fate
+fate_with lead None = fate.Left
+fate_with lead (Some span) = fate_led lead span
+
+abbrev pub fate_of : Option PicturePlace → Fate
+fate_of None = fate.Added
+fate_of (Some p) = fate_with p.lead p.span
+
+-- the key `rows` with the rows of a screen, without a line end
+abbrev pub rows_pair : List ℕ → List ℕ
+rows_pair codes = take (length (rows_text codes) - 1) (rows_text codes)
+
+abbrev pub rows_edit : Span → Filed → ReplacementView
+rows_edit span f = record { begin = span.begin; end = span.end; text = rows_pair f.frame.codes }
+
+-- What the frames result in.
+
+abbrev pub nothing_taken : IntakeView
+nothing_taken = record { edits = []; replaced = []; added = []; left = [] }
+
+abbrev pub taken_by : IntakeView → Filed → Fate → IntakeView
+taken_by i f fate.Added = record { edits = i.edits; replaced = i.replaced; added = i.added ++ f ∷ []; left = i.left }
+taken_by i f fate.Left = record { edits = i.edits; replaced = i.replaced; added = i.added; left = i.left ++ f.frame.id ∷ [] }
+taken_by i f (fate.Replaced span) = record {
+  edits = i.edits ++ rows_edit span f ∷ [];
+  replaced = i.replaced ++ f.frame.id ∷ [];
+  added = i.added;
+  left = i.left;
+}
+
+-- after frames that are written in these places
+unfoldable pub intake_from : IntakeView → List (Option PicturePlace) → List Filed → IntakeView
+intake_from i places [] = i
+intake_from i [] (f ∷ fs) = i
+intake_from i (p ∷ ps) (f ∷ fs) = intake_from (taken_by i f (fate_of p)) ps fs
+
+abbrev pub filed_ids : List Filed → List Id
+filed_ids frames = map (λ f. f.frame.id) frames
+
+-- the result of these frames, if the text lists those of the second argument
+abbrev pub intake_in : List ℕ → List Listed → List Filed → IntakeView
+intake_in text listed frames = intake_from nothing_taken (map (written_picture text listed) (filed_ids frames)) frames
+
+-- What is added at the end.
+
+-- 10 is a line feed; a text without a byte lacks none
+abbrev pub is_line_ended : List ℕ → Bool
+is_line_ended text = get_or text (length text - 1) 10 == 10
+
+abbrev pub missing_line_end : List ℕ → List ℕ
+missing_line_end text = if is_line_ended text then [] else 10 ∷ []
+
+abbrev pub additions : List ℕ → List Filed → List ℕ
+additions text [] = []
+additions text (f ∷ fs) = missing_line_end text ++ frames_text (f ∷ fs)
+
+-- the file of the first frame that ends too late, counted from the end of the text
+abbrev pub addition_over : List ℕ → List Filed → Option ℕ
+addition_over text added = first_over (length (missing_line_end text)) added
+
+-- The text.
+
+-- the same edits in the order of where they begin
+pub record AreEditsInOrder (edits ordered : List ReplacementView) : Type 0 where
+  pub same : IsPermutation edits ordered
+  pub ascend : IsSortedByKey (λ (r : ReplacementView). r.begin) nat_cmp ordered
+  pub stable : IsStableByKey (λ (r : ReplacementView). r.begin) nat_cmp edits ordered
+
+abbrev pub end_edit : List ℕ → List Filed → ReplacementView
+end_edit text added = record { begin = length text; end = length text; text = additions text added }
+
+-- these edits in order, and the one that adds frames, are made, and nothing else of the text is changed
+pub record IsEdited (text : List ℕ) (edits : List ReplacementView) (added : List Filed) (made : List ReplacementView) (new : List ℕ) : Type 0 where
+  pub ordered : List ReplacementView
+  pub order : AreEditsInOrder edits ordered
+  pub are : made ≡ ordered ++ end_edit text added ∷ []
+  pub is : edited text made ≡ Some new
+
+pub record AreOverlapping (text : List ℕ) (edits : List ReplacementView) (added : List Filed) : Type 0 where
+  pub ordered : List ReplacementView
+  pub order : AreEditsInOrder edits ordered
+  pub none : edited text (ordered ++ end_edit text added ∷ []) ≡ None
+
+-- why they aren't
+abbrev pub IsUnedited : List ℕ → List ReplacementView → List Filed → MergeFault → Type 0
+IsUnedited text edits added (TooLong file) = addition_over text added ≡ Some file
+IsUnedited text edits added Overlap = AreOverlapping text edits added
+IsUnedited text edits added Memory = Unit {0}
+IsUnedited text edits added _ = ⊥
+
+-- The base.
+
+-- what the frames result in, if the text has this tree
+abbrev pub intake_of : List ℕ → Members → List Filed → IntakeView
+intake_of text members frames = intake_in text (draft_of members).frames frames
+
+-- the text of a base after it got the frames
+pub record AreMerged (text : List ℕ) (frames : List Filed) (merged : MergedView) : Type 0 where
+  pub members : Members
+  pub tree : tree_of text ≡ Some members
+  pub edits : IsEdited text (intake_of text members frames).edits (intake_of text members frames).added merged.edits merged.text
+  pub replaced : merged.replaced ≡ (intake_of text members frames).replaced
+  pub added : merged.added ≡ filed_ids (intake_of text members frames).added
+  pub left : merged.left ≡ (intake_of text members frames).left
+
+-- and it is a base
+pub record IsMerged (text : List ℕ) (frames : List Filed) (merged : MergedView) : Type 0 where
+  pub old : BaseView
+  pub was : IsTextBase text old
+  pub merge : AreMerged text frames merged
+  pub new : BaseView
+  pub is : IsTextBase merged.text new
+
+-- why frames don't go into a text
+pub record AreSpoilt (text : List ℕ) (frames : List Filed) (fault : BaseFault) : Type 0 where
+  pub merged : MergedView
+  pub merge : AreMerged text frames merged
+  pub first : IsFirstFault merged.text fault
+
+pub record AreRefused (text : List ℕ) (frames : List Filed) (fault : MergeFault) : Type 0 where
+  pub members : Members
+  pub tree : tree_of text ≡ Some members
+  pub refused : IsUnedited text (intake_of text members frames).edits (intake_of text members frames).added fault
+
+abbrev pub IsNotMerged : List ℕ → List Filed → MergeFault → Type 0
+IsNotMerged text frames (Unread fault) = IsFirstFault text fault
+IsNotMerged text frames (Spoilt fault) = AreSpoilt text frames fault
+IsNotMerged text frames (TooLong file) = AreRefused text frames (TooLong file)
+IsNotMerged text frames Overlap = AreRefused text frames Overlap
+IsNotMerged text frames Memory = Unit {0}

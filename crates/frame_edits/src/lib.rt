@@ -1,0 +1,18 @@
+//! Frames that go into a base's text, which stays as it is but for what they show.
+//!
+//! ```
+//! merge_frames(alloc, text, &settled)? // the rows of 4001a are new, 4003a is at the end; nothing else of the text is changed
+//! ```
+//!
+//! - A frame that the base has gets the rows of the screen: they take the place of its `rows` or its `body`. Its routes, its price and
+//!   all else stay. A frame with `lead = "keep"` is left alone: its rows aren't all that a caller sees.
+//! - A frame that the base doesn't have is added at the end of the text, as `screen_files` writes it.
+//! - The text has to be a base, and what comes of it too.
+//! - [`merge_frames`], [`Merged`], [`MergeFault`].
+#![tactic(auto)]
+
+mod additions;
+mod intake;
+mod merging;
+
+pub use merging::{MergeFault, Merged, merge_frames};
