@@ -1,0 +1,150 @@
+-- Eight codes are seven bytes, and back.
+use Rattle.std.proofs.Common.{◌≡◌, ◌<◌, ◌≤◌, ◌+◌, ◌*◌, ◌/◌, ◌%◌, ℕ, zero, suc, List, [], ◌∷◌, ◌++◌, refl, sym, subst, drop, length, map, take, arith}
+use Rattle.std.proofs.lemmas.List.{nil_from_length}
+use Rattle.std.proofs.lemmas.List.Elements.{All-cons, All-nil}
+use Rattle.std.specs.List.{All}
+use Rattle.screen_forms.specs.Bits.{first_bytes, first_cells, group_bytes, low_bits, packed, unpacked}
+
+-- the first eight of a list
+record StartsWithEight (codes : List ℕ) : Type 0 where
+  a : ℕ
+  b : ℕ
+  c : ℕ
+  d : ℕ
+  e : ℕ
+  f : ℕ
+  g : ℕ
+  h : ℕ
+  rest : List ℕ
+  is : codes ≡ a ∷ b ∷ c ∷ d ∷ e ∷ f ∷ g ∷ h ∷ rest
+
+first_eight : (codes : List ℕ) → 8 ≤ length codes → StartsWithEight codes
+first_eight (a ∷ b ∷ c ∷ d ∷ e ∷ f ∷ g ∷ h ∷ rest) le =
+    record { a = a; b = b; c = c; d = d; e = e; f = f; g = g; h = h; rest = rest; is = refl }
+first_eight [] le = absurd (omega arith)
+first_eight (a ∷ []) le = absurd (omega arith)
+first_eight (a ∷ b ∷ []) le = absurd (omega arith)
+first_eight (a ∷ b ∷ c ∷ []) le = absurd (omega arith)
+first_eight (a ∷ b ∷ c ∷ d ∷ []) le = absurd (omega arith)
+first_eight (a ∷ b ∷ c ∷ d ∷ e ∷ []) le = absurd (omega arith)
+first_eight (a ∷ b ∷ c ∷ d ∷ e ∷ f ∷ []) le = absurd (omega arith)
+first_eight (a ∷ b ∷ c ∷ d ∷ e ∷ f ∷ g ∷ []) le = absurd (omega arith)
+
+-- one group after the other
+more_by : (a b c d e f g h : ℕ) (rest : List ℕ)
+    → packed (a ∷ b ∷ c ∷ d ∷ e ∷ f ∷ g ∷ h ∷ rest) ≡ group_bytes (a ∷ b ∷ c ∷ d ∷ e ∷ f ∷ g ∷ h ∷ []) ++ packed rest
+unfolding packed
+more_by a b c d e f g h rest = refl
+
+pub packed_more : (codes : List ℕ) → 8 ≤ length codes
+    → packed codes ≡ first_bytes (take 8 codes) ++ packed (drop 8 codes)
+packed_more codes le =
+    let s = first_eight codes le in
+    rw s.is (more_by s.a s.b s.c s.d s.e s.f s.g s.h s.rest)
+
+pub packed_none : (codes : List ℕ) → length codes < 8 → packed codes ≡ []
+unfolding packed
+packed_none (a ∷ b ∷ c ∷ d ∷ e ∷ f ∷ g ∷ h ∷ rest) lt = absurd (omega arith)
+packed_none [] lt = refl
+packed_none (a ∷ []) lt = refl
+packed_none (a ∷ b ∷ []) lt = refl
+packed_none (a ∷ b ∷ c ∷ []) lt = refl
+packed_none (a ∷ b ∷ c ∷ d ∷ []) lt = refl
+packed_none (a ∷ b ∷ c ∷ d ∷ e ∷ []) lt = refl
+packed_none (a ∷ b ∷ c ∷ d ∷ e ∷ f ∷ []) lt = refl
+packed_none (a ∷ b ∷ c ∷ d ∷ e ∷ f ∷ g ∷ []) lt = refl
+
+pub unpacked_more : (bytes : List ℕ) → 7 ≤ length bytes
+    → unpacked bytes ≡ first_cells (take 7 bytes) ++ unpacked (drop 7 bytes)
+unfolding unpacked
+unpacked_more (p ∷ q ∷ r ∷ s ∷ t ∷ u ∷ v ∷ rest) le = refl
+unpacked_more [] le = absurd (omega arith)
+unpacked_more (p ∷ []) le = absurd (omega arith)
+unpacked_more (p ∷ q ∷ []) le = absurd (omega arith)
+unpacked_more (p ∷ q ∷ r ∷ []) le = absurd (omega arith)
+unpacked_more (p ∷ q ∷ r ∷ s ∷ []) le = absurd (omega arith)
+unpacked_more (p ∷ q ∷ r ∷ s ∷ t ∷ []) le = absurd (omega arith)
+unpacked_more (p ∷ q ∷ r ∷ s ∷ t ∷ u ∷ []) le = absurd (omega arith)
+
+pub unpacked_none : (bytes : List ℕ) → length bytes < 7 → unpacked bytes ≡ []
+unfolding unpacked
+unpacked_none (p ∷ q ∷ r ∷ s ∷ t ∷ u ∷ v ∷ rest) lt = absurd (omega arith)
+unpacked_none [] lt = refl
+unpacked_none (p ∷ []) lt = refl
+unpacked_none (p ∷ q ∷ []) lt = refl
+unpacked_none (p ∷ q ∷ r ∷ []) lt = refl
+unpacked_none (p ∷ q ∷ r ∷ s ∷ []) lt = refl
+unpacked_none (p ∷ q ∷ r ∷ s ∷ t ∷ []) lt = refl
+unpacked_none (p ∷ q ∷ r ∷ s ∷ t ∷ u ∷ []) lt = refl
+
+-- n groups of codes are n groups of bytes, which are read as the codes' low bits
+pub record ArePacked (n : ℕ) (codes : List ℕ) : Type 0 where
+  pub sized : length (packed codes) ≡ 7 * n
+  pub bytes : All (λ b. b < 256) (packed codes)
+  pub back : unpacked (packed codes) ≡ map low_bits codes
+
+none_packed : ArePacked 0 []
+unfolding packed unpacked
+none_packed = record { sized = refl; bytes = All-nil (λ b. b < 256); back = refl }
+
+group_sized : (n a b c d e f g h : ℕ) (rest : List ℕ) → ArePacked n rest → length (packed (a ∷ b ∷ c ∷ d ∷ e ∷ f ∷ g ∷ h ∷ rest)) ≡ 7 * suc n
+unfolding packed
+group_sized n a b c d e f g h rest are = omega (arith, are.sized)
+
+abbrev IsByte : ℕ → Type 0
+IsByte b = b < 256
+
+group_all : (a b c d e f g h : ℕ) (rest : List ℕ) → All IsByte rest → All IsByte (group_bytes (a ∷ b ∷ c ∷ d ∷ e ∷ f ∷ g ∷ h ∷ []) ++ rest)
+group_all a b c d e f g h rest all =
+    let b0 : IsByte (a % 128 * 2 + b % 128 / 64) = omega arith in
+    let b1 : IsByte (b % 64 * 4 + c % 128 / 32) = omega arith in
+    let b2 : IsByte (c % 32 * 8 + d % 128 / 16) = omega arith in
+    let b3 : IsByte (d % 16 * 16 + e % 128 / 8) = omega arith in
+    let b4 : IsByte (e % 8 * 32 + f % 128 / 4) = omega arith in
+    let b5 : IsByte (f % 4 * 64 + g % 128 / 2) = omega arith in
+    let b6 : IsByte (g % 2 * 128 + h % 128) = omega arith in
+    let l6 : List ℕ = (g % 2 * 128 + h % 128) ∷ rest in
+    let l5 : List ℕ = (f % 4 * 64 + g % 128 / 2) ∷ l6 in
+    let l4 : List ℕ = (e % 8 * 32 + f % 128 / 4) ∷ l5 in
+    let l3 : List ℕ = (d % 16 * 16 + e % 128 / 8) ∷ l4 in
+    let l2 : List ℕ = (c % 32 * 8 + d % 128 / 16) ∷ l3 in
+    let l1 : List ℕ = (b % 64 * 4 + c % 128 / 32) ∷ l2 in
+    let a6 : All IsByte l6 = All-cons IsByte (g % 2 * 128 + h % 128) rest b6 all in
+    let a5 : All IsByte l5 = All-cons IsByte (f % 4 * 64 + g % 128 / 2) l6 b5 a6 in
+    let a4 : All IsByte l4 = All-cons IsByte (e % 8 * 32 + f % 128 / 4) l5 b4 a5 in
+    let a3 : All IsByte l3 = All-cons IsByte (d % 16 * 16 + e % 128 / 8) l4 b3 a4 in
+    let a2 : All IsByte l2 = All-cons IsByte (c % 32 * 8 + d % 128 / 16) l3 b2 a3 in
+    let a1 : All IsByte l1 = All-cons IsByte (b % 64 * 4 + c % 128 / 32) l2 b1 a2 in
+    All-cons IsByte (a % 128 * 2 + b % 128 / 64) l1 b0 a1
+
+group_are_bytes : (n a b c d e f g h : ℕ) (rest : List ℕ) → ArePacked n rest → All IsByte (packed (a ∷ b ∷ c ∷ d ∷ e ∷ f ∷ g ∷ h ∷ rest))
+unfolding packed
+group_are_bytes n a b c d e f g h rest are = group_all a b c d e f g h (packed rest) are.bytes
+
+group_back : (n a b c d e f g h : ℕ) (rest : List ℕ) → ArePacked n rest
+    → unpacked (packed (a ∷ b ∷ c ∷ d ∷ e ∷ f ∷ g ∷ h ∷ rest)) ≡ map low_bits (a ∷ b ∷ c ∷ d ∷ e ∷ f ∷ g ∷ h ∷ rest)
+unfolding packed unpacked
+group_back n a b c d e f g h rest are =
+    let e0 : (a % 128 * 2 + b % 128 / 64) / 2 ≡ a % 128 = omega arith in
+    let e1 : (a % 128 * 2 + b % 128 / 64) % 2 * 64 + (b % 64 * 4 + c % 128 / 32) / 4 ≡ b % 128 = omega arith in
+    let e2 : (b % 64 * 4 + c % 128 / 32) % 4 * 32 + (c % 32 * 8 + d % 128 / 16) / 8 ≡ c % 128 = omega arith in
+    let e3 : (c % 32 * 8 + d % 128 / 16) % 8 * 16 + (d % 16 * 16 + e % 128 / 8) / 16 ≡ d % 128 = omega arith in
+    let e4 : (d % 16 * 16 + e % 128 / 8) % 16 * 8 + (e % 8 * 32 + f % 128 / 4) / 32 ≡ e % 128 = omega arith in
+    let e5 : (e % 8 * 32 + f % 128 / 4) % 32 * 4 + (f % 4 * 64 + g % 128 / 2) / 64 ≡ f % 128 = omega arith in
+    let e6 : (f % 4 * 64 + g % 128 / 2) % 64 * 2 + (g % 2 * 128 + h % 128) / 128 ≡ g % 128 = omega arith in
+    let e7 : (g % 2 * 128 + h % 128) % 128 ≡ h % 128 = omega arith in
+    rw (e0, e1, e2, e3, e4, e5, e6, e7, are.back) refl
+
+group_packed : (n a b c d e f g h : ℕ) (rest : List ℕ) → ArePacked n rest → ArePacked (suc n) (a ∷ b ∷ c ∷ d ∷ e ∷ f ∷ g ∷ h ∷ rest)
+group_packed n a b c d e f g h rest are = record {
+  sized = group_sized n a b c d e f g h rest are;
+  bytes = group_are_bytes n a b c d e f g h rest are;
+  back = group_back n a b c d e f g h rest are;
+}
+
+pub are_packed : (n : ℕ) (codes : List ℕ) → length codes ≡ 8 * n → ArePacked n codes
+are_packed zero codes e = let none : codes ≡ [] = nil_from_length codes (omega (arith, e)) in subst (ArePacked 0) (sym none) none_packed
+are_packed (suc n) codes e =
+    let s = first_eight codes (omega (arith, e)) in
+    let whole : length (s.a ∷ s.b ∷ s.c ∷ s.d ∷ s.e ∷ s.f ∷ s.g ∷ s.h ∷ s.rest) ≡ 8 * suc n = subst (λ cs. length cs ≡ 8 * suc n) s.is e in
+    subst (ArePacked (suc n)) (sym s.is) (group_packed n s.a s.b s.c s.d s.e s.f s.g s.h s.rest (are_packed n s.rest (omega (arith, whole))))

@@ -1,0 +1,22 @@
+//! The forms of screens that other programs read and write.
+//!
+//! ```
+//! push_form(&mut out, SavedForm::Link, id, &codes)? // 478a https://edit.tf/#0:QIECBAgQ..
+//! link_codes(alloc, letters)? // the 960 codes of the letters after `#0:`
+//! ```
+//!
+//! - [`SavedForm`], [`push_form`]: the file of a frame's screen, in each form that is written.
+//! - [`push_address`], [`link_codes`], [`is_link_letter`]: addresses of edit.tf, which hold a screen.
+//! - [`stored_code`]: the code of a byte of a file.
+//! - [`links_keep_screens`]: a law.
+#![tactic(auto)]
+
+mod bits;
+mod forms;
+mod laws;
+mod links;
+
+pub use bits::stored_code;
+pub use forms::{SavedForm, push_form};
+pub use laws::links_keep_screens;
+pub use links::{is_link_letter, link_codes, push_address};
