@@ -7,16 +7,22 @@
 //!
 //! - [`SavedForm`], [`push_form`]: the file of a frame's screen, in each form that is written.
 //! - [`push_address`], [`link_codes`], [`is_link_letter`]: addresses of edit.tf, which hold a screen.
+//! - [`linked_screens`], [`LinkedScreen`], [`LinksFault`], [`LineFault`], [`LinkFault`], [`has_address`]: the addresses among the lines of a
+//!   text. [`any_case_id`]: an id as people type it.
 //! - [`stored_code`]: the code of a byte of a file.
 //! - [`links_keep_screens`]: a law.
 #![tactic(auto)]
 
+mod addresses;
 mod bits;
 mod forms;
 mod laws;
 mod links;
+mod words;
 
+pub use addresses::{LineFault, LinkFault, LinkedScreen, LinksFault, has_address, linked_screens};
 pub use bits::stored_code;
 pub use forms::{SavedForm, push_form};
 pub use laws::links_keep_screens;
 pub use links::{is_link_letter, link_codes, push_address};
+pub use words::any_case_id;
