@@ -1,9 +1,9 @@
 -- The letters of an address are read as the screen that they hold.
-use Rattle.std.proofs.Common.{◌≡◌, ◌∙◌, ◌<◌, ◌+◌, ◌*◌, ◌/◌, ◌%◌, ◌==◌, ℕ, zero, suc, Bool, true, false, List, [], ◌∷◌, ◌++◌, Some, None, Ok, Err, refl, ap, length, map, take, nat_lt, slice_index, arith}
+use Rattle.std.proofs.Common.{◌≡◌, ◌∙◌, ◌<◌, ◌+◌, ◌*◌, ◌/◌, ◌%◌, ◌==◌, ℕ, zero, suc, Bool, true, false, List, [], ◌∷◌, ◌++◌, Option, Some, None, Ok, Err, refl, ap, subst, length, map, take, nat_lt, slice_index, arith}
 use Rattle.std.proofs.lemmas.Bool.Decides.{nat_tests}
 use Rattle.std.proofs.lemmas.List.{length-append, append-nil, take_at}
 use Rattle.std.proofs.lemmas.Bool.{eqb-true}
-use Rattle.std.proofs.lemmas.List.Elements.{All-head, All-tail}
+use Rattle.std.proofs.lemmas.List.Elements.{All-head, All-map, All-tail}
 use Rattle.std.specs.List.{All}
 use Rattle.base64.specs.Engines.{url_safe_no_pad}
 use Rattle.base64.specs.GeneralPurpose.{IsBytes, decode_of, decoded_of, encode_of}
@@ -14,10 +14,10 @@ use Rattle.base64.proofs.RoundTrip.{length-encode_symbols}
 use Rattle.base64.proofs.EngineFacts.{decode_of-encode_of}
 use Rattle.base64.proofs.Tables.{all_below_at}
 use Rattle.terminal_codes.specs.Writes.{IsCode}
-use Rattle.screen_forms.specs.Bits.{low_bits, packed, stored_code}
-use Rattle.screen_forms.specs.Links.{blank_row_letters, rows_codes, usual_letter, whole_screen}
-use Rattle.screen_forms.specs.Laws.{IsSavedScreen, LinksKeepScreens}
-use Rattle.screen_forms.proofs.Packs.{are_packed}
+use Rattle.screen_forms.specs.Bits.{low_bits, packed, stored_code, unpacked}
+use Rattle.screen_forms.specs.Links.{blank_row_letters, cells_of, has_link_size, rows_codes, usual_letter, whole_screen}
+use Rattle.screen_forms.specs.Laws.{IsSavedScreen, LinksAreScreens, LinksKeepScreens}
+use Rattle.screen_forms.proofs.Packs.{are_packed, cells_are_small}
 
 -- Codes.
 
@@ -124,3 +124,40 @@ back screen saved =
     let whole : length (letters ++ blank_row_letters) ≡ 1167 = omega (arith, long, blank_long, length-append letters blank_row_letters) in
     let first : take 1120 (letters ++ blank_row_letters) ≡ letters = take_at letters blank_row_letters 1120 long in
     rw (whole, first) (rows_back screen saved)
+
+-- What is read is a screen.
+
+some_is : {A : Type 0} (x y : A) → (let o : Option A = Some x in o) ≡ Some y → x ≡ y
+some_is x y e = cc
+
+cell_is_code : (c : ℕ) → c < 128 → IsCode (stored_code c)
+cell_is_code c lt = by (nat_lt c 32) refl where
+  high : nat_lt c 32 ≡ false → (b : Bool) → nat_lt c 160 ≡ b → IsCode (stored_code c)
+  high not_low true e = rw (not_low, e) (grind (arith, nat_tests, not_low), grind (arith, nat_tests, lt))
+  high not_low false e = absurd (grind (arith, nat_tests, e, lt))
+
+  by : (b : Bool) → nat_lt c 32 ≡ b → IsCode (stored_code c)
+  by true e = rw e (grind (arith, nat_tests), grind (arith, nat_tests, e))
+  by false e = high e (nat_lt c 160) refl
+
+cells_saved : (cells screen : List ℕ) → All IsCode cells → whole_screen cells ≡ Some screen → IsSavedScreen screen
+cells_saved cells screen codes e = by (length cells == 960) refl where
+  by : (b : Bool) → (length cells == 960) ≡ b → IsSavedScreen screen
+  by true is =
+      let same : cells ≡ screen = some_is cells screen (rw is at e) in
+      subst IsSavedScreen same record { cells = grind (arith, nat_tests, is); codes = codes }
+  by false is = let none = rw is at e in absurd cc
+
+bytes_saved : (bytes screen : List ℕ) → whole_screen (map stored_code (unpacked bytes)) ≡ Some screen → IsSavedScreen screen
+bytes_saved bytes screen e =
+    cells_saved (map stored_code (unpacked bytes)) screen (All-map IsCode stored_code (unpacked bytes) (λ k d lt. cell_is_code _ (cells_are_small bytes k d lt))) e
+
+decoded_saved : (bytes : Option (List ℕ)) (screen : List ℕ) → cells_of bytes ≡ Some screen → IsSavedScreen screen
+decoded_saved None screen e = absurd cc
+decoded_saved (Some bytes) screen e = bytes_saved bytes screen e
+
+pub are : LinksAreScreens
+are letters screen e = by (has_link_size (length letters)) refl where
+  by : (b : Bool) → has_link_size (length letters) ≡ b → IsSavedScreen screen
+  by true is = decoded_saved (decoded_of url_safe_no_pad (map usual_letter (take 1120 letters))) screen (rw is at e)
+  by false is = let none = rw is at e in absurd cc

@@ -3,7 +3,7 @@ use Rattle.std.proofs.Common.{◌≡◌, ◌<◌, ◌≤◌, ◌+◌, ◌*◌, �
 use Rattle.std.proofs.lemmas.List.{nil_from_length}
 use Rattle.std.proofs.lemmas.List.Elements.{All-cons, All-nil}
 use Rattle.std.specs.List.{All}
-use Rattle.screen_forms.specs.Bits.{first_bytes, first_cells, group_bytes, low_bits, packed, unpacked}
+use Rattle.screen_forms.specs.Bits.{first_bytes, first_cells, group_bytes, group_cells, low_bits, packed, unpacked}
 
 -- the first eight of a list
 record StartsWithEight (codes : List ℕ) : Type 0 where
@@ -125,13 +125,13 @@ group_back : (n a b c d e f g h : ℕ) (rest : List ℕ) → ArePacked n rest
     → unpacked (packed (a ∷ b ∷ c ∷ d ∷ e ∷ f ∷ g ∷ h ∷ rest)) ≡ map low_bits (a ∷ b ∷ c ∷ d ∷ e ∷ f ∷ g ∷ h ∷ rest)
 unfolding packed unpacked
 group_back n a b c d e f g h rest are =
-    let e0 : (a % 128 * 2 + b % 128 / 64) / 2 ≡ a % 128 = omega arith in
-    let e1 : (a % 128 * 2 + b % 128 / 64) % 2 * 64 + (b % 64 * 4 + c % 128 / 32) / 4 ≡ b % 128 = omega arith in
-    let e2 : (b % 64 * 4 + c % 128 / 32) % 4 * 32 + (c % 32 * 8 + d % 128 / 16) / 8 ≡ c % 128 = omega arith in
-    let e3 : (c % 32 * 8 + d % 128 / 16) % 8 * 16 + (d % 16 * 16 + e % 128 / 8) / 16 ≡ d % 128 = omega arith in
-    let e4 : (d % 16 * 16 + e % 128 / 8) % 16 * 8 + (e % 8 * 32 + f % 128 / 4) / 32 ≡ e % 128 = omega arith in
-    let e5 : (e % 8 * 32 + f % 128 / 4) % 32 * 4 + (f % 4 * 64 + g % 128 / 2) / 64 ≡ f % 128 = omega arith in
-    let e6 : (f % 4 * 64 + g % 128 / 2) % 64 * 2 + (g % 2 * 128 + h % 128) / 128 ≡ g % 128 = omega arith in
+    let e0 : (a % 128 * 2 + b % 128 / 64) % 256 / 2 ≡ a % 128 = omega arith in
+    let e1 : (a % 128 * 2 + b % 128 / 64) % 2 * 64 + (b % 64 * 4 + c % 128 / 32) % 256 / 4 ≡ b % 128 = omega arith in
+    let e2 : (b % 64 * 4 + c % 128 / 32) % 4 * 32 + (c % 32 * 8 + d % 128 / 16) % 256 / 8 ≡ c % 128 = omega arith in
+    let e3 : (c % 32 * 8 + d % 128 / 16) % 8 * 16 + (d % 16 * 16 + e % 128 / 8) % 256 / 16 ≡ d % 128 = omega arith in
+    let e4 : (d % 16 * 16 + e % 128 / 8) % 16 * 8 + (e % 8 * 32 + f % 128 / 4) % 256 / 32 ≡ e % 128 = omega arith in
+    let e5 : (e % 8 * 32 + f % 128 / 4) % 32 * 4 + (f % 4 * 64 + g % 128 / 2) % 256 / 64 ≡ f % 128 = omega arith in
+    let e6 : (f % 4 * 64 + g % 128 / 2) % 64 * 2 + (g % 2 * 128 + h % 128) % 256 / 128 ≡ g % 128 = omega arith in
     let e7 : (g % 2 * 128 + h % 128) % 128 ≡ h % 128 = omega arith in
     rw (e0, e1, e2, e3, e4, e5, e6, e7, are.back) refl
 
@@ -148,3 +148,45 @@ are_packed (suc n) codes e =
     let s = first_eight codes (omega (arith, e)) in
     let whole : length (s.a ∷ s.b ∷ s.c ∷ s.d ∷ s.e ∷ s.f ∷ s.g ∷ s.h ∷ s.rest) ≡ 8 * suc n = subst (λ cs. length cs ≡ 8 * suc n) s.is e in
     subst (ArePacked (suc n)) (sym s.is) (group_packed n s.a s.b s.c s.d s.e s.f s.g s.h s.rest (are_packed n s.rest (omega (arith, whole))))
+
+-- What is read has seven bits.
+
+abbrev IsCell : ℕ → Type 0
+IsCell c = c < 128
+
+cells_before : (p q r s t u v : ℕ) (more : List ℕ) → All IsCell more → All IsCell (group_cells (p ∷ q ∷ r ∷ s ∷ t ∷ u ∷ v ∷ []) ++ more)
+cells_before p q r s t u v more all =
+    let b0 : IsCell (p % 256 / 2) = omega arith in
+    let b1 : IsCell (p % 2 * 64 + q % 256 / 4) = omega arith in
+    let b2 : IsCell (q % 4 * 32 + r % 256 / 8) = omega arith in
+    let b3 : IsCell (r % 8 * 16 + s % 256 / 16) = omega arith in
+    let b4 : IsCell (s % 16 * 8 + t % 256 / 32) = omega arith in
+    let b5 : IsCell (t % 32 * 4 + u % 256 / 64) = omega arith in
+    let b6 : IsCell (u % 64 * 2 + v % 256 / 128) = omega arith in
+    let b7 : IsCell (v % 128) = omega arith in
+    let l7 : List ℕ = (v % 128) ∷ more in
+    let l6 : List ℕ = (u % 64 * 2 + v % 256 / 128) ∷ l7 in
+    let l5 : List ℕ = (t % 32 * 4 + u % 256 / 64) ∷ l6 in
+    let l4 : List ℕ = (s % 16 * 8 + t % 256 / 32) ∷ l5 in
+    let l3 : List ℕ = (r % 8 * 16 + s % 256 / 16) ∷ l4 in
+    let l2 : List ℕ = (q % 4 * 32 + r % 256 / 8) ∷ l3 in
+    let l1 : List ℕ = (p % 2 * 64 + q % 256 / 4) ∷ l2 in
+    let a7 : All IsCell l7 = All-cons IsCell (v % 128) more b7 all in
+    let a6 : All IsCell l6 = All-cons IsCell (u % 64 * 2 + v % 256 / 128) l7 b6 a7 in
+    let a5 : All IsCell l5 = All-cons IsCell (t % 32 * 4 + u % 256 / 64) l6 b5 a6 in
+    let a4 : All IsCell l4 = All-cons IsCell (s % 16 * 8 + t % 256 / 32) l5 b4 a5 in
+    let a3 : All IsCell l3 = All-cons IsCell (r % 8 * 16 + s % 256 / 16) l4 b3 a4 in
+    let a2 : All IsCell l2 = All-cons IsCell (q % 4 * 32 + r % 256 / 8) l3 b2 a3 in
+    let a1 : All IsCell l1 = All-cons IsCell (p % 2 * 64 + q % 256 / 4) l2 b1 a2 in
+    All-cons IsCell (p % 256 / 2) l1 b0 a1
+
+pub cells_are_small : (bytes : List ℕ) → All (λ c. c < 128) (unpacked bytes)
+unfolding unpacked
+cells_are_small (p ∷ q ∷ r ∷ s ∷ t ∷ u ∷ v ∷ rest) = cells_before p q r s t u v (unpacked rest) (cells_are_small rest)
+cells_are_small [] = All-nil IsCell
+cells_are_small (p ∷ []) = All-nil IsCell
+cells_are_small (p ∷ q ∷ []) = All-nil IsCell
+cells_are_small (p ∷ q ∷ r ∷ []) = All-nil IsCell
+cells_are_small (p ∷ q ∷ r ∷ s ∷ []) = All-nil IsCell
+cells_are_small (p ∷ q ∷ r ∷ s ∷ t ∷ []) = All-nil IsCell
+cells_are_small (p ∷ q ∷ r ∷ s ∷ t ∷ u ∷ []) = All-nil IsCell

@@ -20,8 +20,8 @@ packed _ = []
 -- the bits of seven bytes
 abbrev pub group_cells : List ℕ → List ℕ
 group_cells (p ∷ q ∷ r ∷ s ∷ t ∷ u ∷ v ∷ _) =
-    (p / 2) ∷ (p % 2 * 64 + q / 4) ∷ (q % 4 * 32 + r / 8) ∷ (r % 8 * 16 + s / 16) ∷ (s % 16 * 8 + t / 32)
-    ∷ (t % 32 * 4 + u / 64) ∷ (u % 64 * 2 + v / 128) ∷ (v % 128) ∷ []
+    (p % 256 / 2) ∷ (p % 2 * 64 + q % 256 / 4) ∷ (q % 4 * 32 + r % 256 / 8) ∷ (r % 8 * 16 + s % 256 / 16)
+    ∷ (s % 16 * 8 + t % 256 / 32) ∷ (t % 32 * 4 + u % 256 / 64) ∷ (u % 64 * 2 + v % 256 / 128) ∷ (v % 128) ∷ []
 group_cells _ = []
 
 abbrev pub first_cells : List ℕ → List ℕ

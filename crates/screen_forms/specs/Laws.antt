@@ -12,3 +12,7 @@ pub record IsSavedScreen (screen : List ℕ) : Type 0 where
 -- the letters of a screen are read as that screen
 abbrev pub LinksKeepScreens : Type 0
 LinksKeepScreens = (screen : List ℕ) → IsSavedScreen screen → link_codes (link_letters screen) ≡ Some screen
+
+-- what an address holds is a screen
+abbrev pub LinksAreScreens : Type 0
+LinksAreScreens = (letters screen : List ℕ) → link_codes letters ≡ Some screen → IsSavedScreen screen

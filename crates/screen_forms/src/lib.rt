@@ -10,7 +10,7 @@
 //! - [`linked_screens`], [`LinkedScreen`], [`LinksFault`], [`LineFault`], [`LinkFault`], [`has_address`]: the addresses among the lines of a
 //!   text. [`any_case_id`]: an id as people type it.
 //! - [`stored_code`]: the code of a byte of a file.
-//! - [`links_keep_screens`]: a law.
+//! - [`links_keep_screens`], [`links_are_screens`]: laws.
 #![tactic(auto)]
 
 mod addresses;
@@ -23,6 +23,6 @@ mod words;
 pub use addresses::{LineFault, LinkFault, LinkedScreen, LinksFault, has_address, linked_screens};
 pub use bits::stored_code;
 pub use forms::{SavedForm, push_form};
-pub use laws::links_keep_screens;
+pub use laws::{links_are_screens, links_keep_screens};
 pub use links::{is_link_letter, link_codes, push_address};
 pub use words::any_case_id;
