@@ -13,9 +13,11 @@ use Rattle.terminal_codes.proofs.Stores.{screen_of_run}
 use Rattle.screen_files.specs.declared.capture.Reel.{Reel}
 use Rattle.screen_files.specs.declared.capture.Shot.{Shot}
 use Rattle.screen_files.specs.Captures.{is_blank_screen, clears_screen, shot_at, shot_if_shown, shown_first, shown_since, unwound, offset_in, reel_after, cleared_by, cleared, wound, start_offset, shown_end, shown_screens, end_if_none, capture_screens}
-use Rattle.screen_files.specs.Codes.{stored_code, row_code, blank_codes, codes_of_rows, has_all_rows, is_ep1, is_space_byte, between_blank, placed, rows_in, seven_bits}
+use Rattle.screen_forms.specs.Bits.{stored_code}
+use Rattle.screen_forms.specs.Laws.{IsSavedScreen}
+use Rattle.screen_files.specs.Codes.{row_code, blank_codes, codes_of_rows, has_all_rows, is_ep1, is_space_byte, between_blank, placed, rows_in, seven_bits}
 use Rattle.screen_files.specs.Heads.{screen_head}
-use Rattle.screen_files.specs.Laws.{FilesAreScreens, IsSavedScreen}
+use Rattle.screen_files.specs.Laws.{FilesAreScreens}
 
 abbrev IsByte : ℕ → Type 0
 IsByte b = b < 256

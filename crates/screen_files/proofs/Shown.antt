@@ -15,7 +15,8 @@ use Rattle.base_text.specs.Rows.{row_bytes, rows_bytes, body_of_rows}
 use Rattle.screen_files.specs.Codes.{blank_codes}
 use Rattle.screens.specs.Text.{before, trimmed}
 use Rattle.screen_files.specs.Rows.{screen_row, last_row, rows_to, rows_of}
-use Rattle.screen_files.specs.Laws.{IsSavedScreen, rows_alone}
+use Rattle.screen_forms.specs.Laws.{IsSavedScreen}
+use Rattle.screen_files.specs.Laws.{rows_alone}
 
 -- Rows without the spaces at their ends.
 

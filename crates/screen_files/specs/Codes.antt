@@ -1,16 +1,10 @@
 -- The 960 codes of a file.
-use Rattle.std.specs.Prelude.{ℕ, Bool, false, true, not, List, ◌++◌, Option, Some, None, ◌+◌, ◌-◌, ◌%◌, ◌==◌, ◌&&◌, ◌||◌, drop, get_or, length, map, option_map, nat_lt, replicate, take, if◌then◌else◌}
+use Rattle.std.specs.Prelude.{ℕ, Bool, false, true, not, List, ◌++◌, Option, Some, None, ◌%◌, ◌==◌, ◌&&◌, ◌||◌, drop, get_or, length, map, option_map, replicate, take, if◌then◌else◌}
 use Rattle.std.specs.List.{list_any}
 use Rattle.terminal_codes.specs.Screen.{Screen}
+use Rattle.screen_forms.specs.Bits.{stored_code}
 
 -- A saved screen.
-
--- 00 to 1F are the attributes 80 to 9F as teletext stores them, A0 to FF the codes 20 to 7F
-abbrev pub stored_code : ℕ → ℕ
-stored_code b =
-    if nat_lt b 0x20 then b + 0x80
-    else if nat_lt b 0xA0 then b
-    else b - 0x80
 
 -- 32 is a space
 abbrev pub blank_codes : List ℕ
@@ -21,9 +15,11 @@ abbrev pub has_all_rows : ℕ → Bool
 has_all_rows size = size == 960 || size == 1000 || size == 1024
 
 -- an EP1 file begins FE 01; its rows, 24 or 25, are between 6 bytes and 2
+abbrev pub begins_ep1 : List ℕ → Bool
+begins_ep1 bytes = get_or bytes 0 0 == 0xFE && get_or bytes 1 0 == 0x01
+
 abbrev pub is_ep1 : List ℕ → Bool
-is_ep1 bytes =
-    (length bytes == 968 || length bytes == 1008) && get_or bytes 0 0 == 0xFE && get_or bytes 1 0 == 0x01
+is_ep1 bytes = (length bytes == 968 || length bytes == 1008) && begins_ep1 bytes
 
 -- the bytes of the rows, by the size and the first bytes of the file: 24 rows, or of 880 bytes rows 1 to 22 alone
 abbrev pub rows_in : List ℕ → Option (List ℕ)

@@ -1,15 +1,20 @@
 -- The frames that a file gives.
-use Rattle.std.specs.Prelude.{◌≡◌, ℕ, Bool, not, List, [], ◌∷◌, Option, Some, None, Result, Ok, Err, ◌==◌, ◌||◌, length, map, nat_lt, take, if◌then◌else◌}
+use Rattle.std.specs.Prelude.{◌≡◌, ℕ, Bool, not, List, [], ◌∷◌, Option, Some, None, Result, Ok, Err, ◌==◌, ◌&&◌, ◌||◌, length, map, nat_lt, take, if◌then◌else◌}
 use Rattle.std.specs.List.{flat_map, list_any}
 use Rattle.std.specs.Option.{is_some, ok_or}
 use Rattle.page_ids.specs.Ids.{Id}
 use Rattle.screen_files.specs.declared.filed.Filed.{Filed}
+use Rattle.screen_files.specs.declared.filed.ScreenPlace.{ScreenPlace}
+use Rattle.screen_files.specs.declared.filed.ScreenPlace.TheVariants.{Whole, Byte, Line}
+use Rattle.screen_forms.specs.Addresses.{linked_screens, mark_of}
+use Rattle.screen_forms.specs.declared.addresses.LinkedScreen.{LinkedScreen}
+use Rattle.screen_forms.specs.declared.addresses.LineFault.{LineFault}
 use Rattle.screen_files.specs.declared.capture.Shot.{Shot}
 use Rattle.screen_files.specs.declared.capture.TheConstants.{MOST_SHOTS}
 use Rattle.screen_files.specs.declared.file.FileKind.{FileKind}
 use Rattle.screen_files.specs.declared.file.FileKind.TheVariants.{Cells, Stream}
 use Rattle.screen_files.specs.declared.file.ScreenFault.{ScreenFault}
-use Rattle.screen_files.specs.declared.file.ScreenFault.TheVariants.{Empty, TooLong, Size, NoId, TooManyScreens}
+use Rattle.screen_files.specs.declared.file.ScreenFault.TheVariants.{Address, Empty, TooLong, Size, NoId, NoIdAt, TooManyScreens}
 use Rattle.screen_files.specs.declared.file.TheConstants.{MOST_SCREEN}
 use Rattle.screen_files.specs.declared.file.FramesFault.{FramesFault}
 use Rattle.screen_files.specs.declared.file.FramesFault.TheVariants as frames
@@ -18,7 +23,7 @@ use Rattle.screen_files.specs.declared.frame.ScreenFrame.{ScreenFrame}
 use Rattle.screen_files.specs.declared.head.Head.{Head}
 use Rattle.screen_files.specs.Settling.{IsSettled}
 use Rattle.screen_files.specs.Captures.{capture_screens}
-use Rattle.screen_files.specs.Codes.{saved_codes}
+use Rattle.screen_files.specs.Codes.{begins_ep1, saved_codes}
 use Rattle.screen_files.specs.Heads.{name_id, or_id, screen_head}
 
 -- The frame of a screen.
@@ -54,12 +59,12 @@ pub record ScreenList : Type 0 where
   pub filed : List Filed
   pub unnamed : List ℕ
 
-abbrev pub filed_at : ℕ → ℕ → ScreenFrame → Filed
-filed_at file byte frame = record { origin = record { file = file; byte = byte }; frame = frame }
+abbrev pub filed_at : ℕ → ScreenPlace → ScreenFrame → Filed
+filed_at file place frame = record { origin = record { file = file; place = place }; frame = frame }
 
-abbrev pub found_one : ℕ → ℕ → List ℕ → Result ScreenFrame ScreenFault → Result ScreenList ScreenFault
-found_one file byte unnamed (Err fault) = Err fault
-found_one file byte unnamed (Ok frame) = Ok (record { filed = filed_at file byte frame ∷ []; unnamed = unnamed })
+abbrev pub found_one : ℕ → ScreenPlace → List ℕ → Result ScreenFrame ScreenFault → Result ScreenList ScreenFault
+found_one file place unnamed (Err fault) = Err fault
+found_one file place unnamed (Ok frame) = Ok (record { filed = filed_at file place frame ∷ []; unnamed = unnamed })
 
 -- A capture.
 
@@ -70,7 +75,7 @@ shows_id s = is_some (screen_head s.codes).id
 abbrev pub filed_by : ℕ → Shot → Option Id → Option ℕ → List Filed
 filed_by file s None price = []
 filed_by file s (Some id) price =
-    filed_at file s.byte (record { id = id; price = price; codes = s.codes }) ∷ []
+    filed_at file (Byte s.byte) (record { id = id; price = price; codes = s.codes }) ∷ []
 
 abbrev pub filed_shot : ℕ → Shot → List Filed
 filed_shot file s = filed_by file s (screen_head s.codes).id (screen_head s.codes).price
@@ -91,7 +96,7 @@ last_from s (r ∷ rs) = last_from r rs
 abbrev pub found_last : List ℕ → ℕ → List Shot → Result ScreenList ScreenFault
 found_last path file [] = Err NoId
 found_last path file (s ∷ ss) =
-    found_one file (last_from s ss).byte (map (λ (r : Shot). r.byte) (take (length ss) (s ∷ ss))) (named_frame path (last_from s ss).codes)
+    found_one file (Byte (last_from s ss).byte) (map (λ (r : Shot). r.byte) (take (length ss) (s ∷ ss))) (named_frame path (last_from s ss).codes)
 
 -- whether the file's name counts: there is one screen, or none shows an id
 abbrev pub is_by_name : List Shot → Bool
@@ -107,10 +112,56 @@ found_within path file shots =
 abbrev pub found_capture : List ℕ → ℕ → List ℕ → Result ScreenList ScreenFault
 found_capture path file bytes = if length bytes == 0 then Err Empty else found_within path file (capture_screens bytes)
 
+-- A text with addresses.
+
+-- the id is the word beside the address, else the one in the name of a file of one, else that of row 0, else the page number after it
+abbrev pub link_id : Option Id → LinkedScreen → Option Id
+link_id name s = or_id s.beside (or_id name (or_id (screen_head s.codes).id s.number))
+
+abbrev pub filed_link_by : ℕ → LinkedScreen → Option Id → List Filed
+filed_link_by file s None = []
+filed_link_by file s (Some id) =
+    filed_at file (Line s.line) (record { id = id; price = (screen_head s.codes).price; codes = s.codes }) ∷ []
+
+abbrev pub filed_link : ℕ → Option Id → LinkedScreen → List Filed
+filed_link file name s = filed_link_by file s (link_id name s)
+
+-- the line of the first without an id
+unfoldable pub nameless_line : Option Id → List LinkedScreen → Option ℕ
+nameless_line name [] = None
+nameless_line name (s ∷ ss) = if is_some (link_id name s) then nameless_line name ss else Some s.line
+
+abbrev pub named_links : ℕ → Option Id → List LinkedScreen → Option ℕ → Result ScreenList ScreenFault
+named_links file name screens (Some line) = Err (NoIdAt line)
+named_links file name screens None = Ok (record { filed = flat_map (filed_link file name) screens; unnamed = [] })
+
+-- the name of a file counts if it has one screen
+abbrev pub name_of_one : List ℕ → List LinkedScreen → Option Id
+name_of_one path screens = if length screens == 1 then name_id path else None
+
+abbrev pub found_linked : List ℕ → ℕ → List LinkedScreen → Result ScreenList ScreenFault
+found_linked path file screens =
+    named_links file (name_of_one path screens) screens (nameless_line (name_of_one path screens) screens)
+
+abbrev pub found_links : List ℕ → ℕ → Result (List LinkedScreen) LineFault → Result ScreenList ScreenFault
+found_links path file (Err fault) = Err (Address fault)
+found_links path file (Ok screens) = found_linked path file screens
+
 -- A file.
 
+-- it has an address, and isn't EP1 of another size
+abbrev pub is_link_text : List ℕ → Bool
+is_link_text bytes = is_some (mark_of bytes) && not (begins_ep1 bytes)
+
+-- a screen of the right size, else addresses
+abbrev pub found_saved : List ℕ → ℕ → List ℕ → Result ScreenList ScreenFault
+found_saved path file bytes =
+    if not (is_some (saved_codes bytes)) && is_link_text bytes
+    then found_links path file (linked_screens bytes)
+    else found_one file Whole [] (saved_frame path bytes)
+
 abbrev pub found_of : FileKind → List ℕ → ℕ → List ℕ → Result ScreenList ScreenFault
-found_of Cells path file bytes = found_one file 0 [] (saved_frame path bytes)
+found_of Cells path file bytes = found_saved path file bytes
 found_of Stream path file bytes = found_capture path file bytes
 
 -- what a file of these bytes gives

@@ -1,7 +1,8 @@
 -- The id and the price of a screen, by its row 0 and the name of its file.
 use Rattle.std.specs.Prelude.{ℕ, Bool, false, true, List, [], ◌∷◌, Option, Some, None, ◌+◌, ◌-◌, ◌==◌, ◌&&◌, get_or, length, nat_lt, nat_le, map, take, if◌then◌else◌}
 use Rattle.page_ids.specs.Ids.{Id}
-use Rattle.page_ids.specs.Texts.{id_in, id_with, letter_in, page_in}
+use Rattle.page_ids.specs.Texts.{id_in}
+use Rattle.screen_forms.specs.Words.{any_case_id}
 use Rattle.page_ids.specs.Parts.{parts_of}
 use Rattle.frame_records.specs.declared.limits.TheConstants.{MOST_PENCE}
 use Rattle.screen_files.specs.declared.head.Head.{Head}
@@ -93,17 +94,6 @@ first_part (w ∷ ws) = w
 -- what follows the last `/` (47), up to the first dot (46)
 abbrev pub name_stem : List ℕ → List ℕ
 name_stem path = first_part (parts_of 46 (last_part (parts_of 47 path)))
-
--- `A` to `Z` are 65 to 90
-abbrev pub lower : ℕ → ℕ
-lower b = if nat_le 65 b && nat_le b 90 then b + 32 else b
-
--- the id that a text spells, if its letter may be a capital
-abbrev pub any_case_id : List ℕ → Option Id
-any_case_id text =
-    if length text == 0
-    then None
-    else id_with (page_in (take (length text - 1) text)) (letter_in (lower (get_or text (length text - 1) 0)))
 
 -- what is before the first space (32), `-` (45) or `_` (95), and what is after the last
 abbrev pub first_word : List ℕ → List ℕ

@@ -1,19 +1,14 @@
 -- What a frame that is made of a screen shows.
-use Rattle.std.specs.Prelude.{◌≡◌, ◌<◌, ℕ, List, Some, drop, length, take}
+use Rattle.std.specs.Prelude.{◌≡◌, ◌<◌, ℕ, List, Some, drop, take}
 use Rattle.std.specs.List.{All}
 use Rattle.frame_records.specs.declared.frame.Lead.TheVariants.{Clear}
 use Rattle.terminal_codes.specs.Screen.{Screen, run}
-use Rattle.terminal_codes.specs.Writes.{IsCode}
 use Rattle.terminal_codes.specs.Bodies.{lead_codes}
+use Rattle.screen_forms.specs.Laws.{IsSavedScreen}
 use Rattle.base_text.specs.Rows.{body_of_rows}
 use Rattle.screen_files.specs.Captures.{capture_screens}
 use Rattle.screen_files.specs.Codes.{between_blank, saved_codes}
 use Rattle.screen_files.specs.Rows.{rows_of}
-
--- 960 codes that cells can hold
-pub record IsSavedScreen (screen : List ℕ) : Type 0 where
-  pub cells : length screen ≡ 960
-  pub codes : All IsCode screen
 
 -- rows 1 to 22 of a screen, between blank rows 0 and 23
 abbrev pub rows_alone : List ℕ → List ℕ

@@ -6,6 +6,8 @@ use Rattle.std.specs.declared.cmp.Ordering.TheVariants.{Less}
 use Rattle.page_ids.specs.Ids.{id_cmp, id_eq}
 use Rattle.screen_files.specs.declared.filed.Filed.{Filed}
 use Rattle.screen_files.specs.declared.filed.Twin.{Twin}
+use Rattle.screen_files.specs.declared.filed.ScreenPlace.{ScreenPlace}
+use Rattle.screen_files.specs.declared.filed.ScreenPlace.TheVariants.{Whole, Byte, Line}
 use Rattle.screen_files.specs.declared.frame.ScreenFrame.{ScreenFrame}
 
 -- Which screen shows all that another shows.
@@ -30,9 +32,15 @@ same_price (Some a) (Some b) = a == b
 abbrev pub holds : ScreenFrame → ScreenFrame → Bool
 holds a b = same_price a.price b.price && cells_hold (inner_codes a.codes) (inner_codes b.codes)
 
--- and they are of one file
+-- a screen of a capture
+abbrev pub was_sent : ScreenPlace → Bool
+was_sent Whole = false
+was_sent (Byte at) = true
+was_sent (Line at) = false
+
+-- and they are of one capture
 abbrev pub stands_for : Filed → Filed → Bool
-stands_for a b = a.origin.file == b.origin.file && holds a.frame b.frame
+stands_for a b = (was_sent a.origin.place && a.origin.file == b.origin.file) && holds a.frame b.frame
 
 -- Frames in the order of their ids.
 

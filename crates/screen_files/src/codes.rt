@@ -6,16 +6,7 @@ ghost use Rattle.std.specs.Option.{option_copied};
 ghost use Rattle.screen_files.specs.Codes as spec;
 ghost use Rattle.screen_files.specs.Loops as loops;
 
-// The code of a byte of a saved screen.
-fn stored_code(byte: u8) -> u8
-    ensures { result ≡ spec.stored_code byte }
-{
-    match byte {
-        0x00..=0x1f => byte + 0x80,
-        0x20..=0x9f => byte,
-        0xa0..=0xff => byte - 0x80,
-    }
-}
+use screen_forms::stored_code;
 
 // Whether a file of this size has all rows.
 fn has_all_rows(size: usize) -> bool
@@ -25,12 +16,19 @@ fn has_all_rows(size: usize) -> bool
     size == 960 || size == 1000 || size == 1024
 }
 
+// Whether a file begins as one of the form EP1 does.
+pub fn begins_ep1(bytes: &[u8]) -> bool
+    ensures { result ≡ spec.begins_ep1 bytes.now }
+{
+    bytes.starts_with(&[0xFE, 0x01])
+}
+
 // Whether a file is of the form EP1.
 fn is_ep1(bytes: &[u8]) -> bool
     ensures value { result ≡ spec.is_ep1 bytes.now }
     ensures long { result ≡ true → 968 ≤ length bytes.now }
 {
-    (bytes.len() == 968 || bytes.len() == 1008) && bytes[0] == 0xFE && bytes[1] == 0x01
+    (bytes.len() == 968 || bytes.len() == 1008) && begins_ep1(bytes)
 }
 
 // The first 24 rows.

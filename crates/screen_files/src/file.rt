@@ -6,17 +6,19 @@ ghost use Rattle.screen_files.specs.Files as spec;
 ghost use Rattle.screen_files.specs.Loops as loops;
 
 use crate::capture::{CaptureFault, Shot, capture_screens};
-use crate::codes::saved_codes;
-use crate::filed::{Filed, Origin};
+use crate::codes::{begins_ep1, saved_codes};
+use crate::filed::{Filed, Origin, ScreenPlace};
 use crate::frame::ScreenFrame;
 use crate::head::{name_id, screen_head};
+use crate::linked::found_links;
 use crate::settling::{Settled, settle};
+use screen_forms::{LineFault, has_address};
 use std::alloc::{AllocError, Global};
 
 /// What a file holds.
 #[derive(Debug, Clone, Copy, PartialEq, Eq)]
 pub enum FileKind {
-    /// The cells of a screen.
+    /// The cells of a screen, or addresses that hold screens.
     Cells,
     /// What a centre sent: a capture of screens.
     Stream,
@@ -36,6 +38,10 @@ pub enum ScreenFault {
     Size(usize),
     /// Neither the name of the file nor row 0 has a frame's id.
     NoId,
+    /// The address in this line has no id beside it, row 0 shows none, and no other gives one.
+    NoIdAt(usize),
+    /// What is wrong with an address.
+    Address(LineFault),
     /// It has more than 65,535 screens.
     TooManyScreens,
 }
@@ -60,9 +66,9 @@ pub struct FileFrames {
 
 // The frames of the screens of a file, and the offsets of those that are left out.
 #[derive(Drop)]
-struct FoundScreens {
-    filed: Vec<Filed>,
-    unnamed: Vec<usize>,
+pub struct FoundScreens {
+    pub filed: Vec<Filed>,
+    pub unnamed: Vec<usize>,
 }
 
 // The frame of a screen.
@@ -108,7 +114,7 @@ fn found_one(
     unnamed: Vec<usize>,
     frame: &Result<ScreenFrame, ScreenFault>,
 ) -> Result<FoundScreens, FramesFault>
-    ensures { loops.IsFound (spec.found_one origin.file origin.byte unnamed.items frame.now) result }
+    ensures { loops.IsFound (spec.found_one origin.file origin.place unnamed.items frame.now) result }
 {
     let frame = match frame {
         Ok(frame) => *frame,
@@ -142,7 +148,7 @@ fn push_filed_shot(filed: &mut Vec<Filed>, file: usize, shot: &Shot) -> Result<(
     };
     let origin = Origin {
         file,
-        byte: shot.byte,
+        place: ScreenPlace::Byte(shot.byte),
     };
     filed.extend_from_slice(&[Filed { origin, frame }])
 }
@@ -199,7 +205,7 @@ fn found_last(
     };
     let origin = Origin {
         file,
-        byte: last.byte,
+        place: ScreenPlace::Byte(last.byte),
     };
     match offsets(alloc, before) {
         Ok(unnamed) => found_one(alloc, origin, unnamed, &named_frame(path, &last.codes)),
@@ -253,6 +259,32 @@ fn found_capture(
     }
 }
 
+// Whether a file has addresses, and isn't EP1 of another size.
+fn is_link_text(bytes: &[u8]) -> bool
+    ensures { result ≡ spec.is_link_text bytes.now }
+{
+    has_address(bytes) && !begins_ep1(bytes)
+}
+
+// The frames of a screen of the right size, else of addresses.
+fn found_saved(
+    alloc: Global,
+    path: &str,
+    file: usize,
+    bytes: &[u8],
+) -> Result<FoundScreens, FramesFault>
+    ensures { loops.IsFound (spec.found_saved path.now file bytes.now) result }
+{
+    if saved_codes(bytes).is_none() && is_link_text(bytes) {
+        return found_links(alloc, path, file, bytes);
+    }
+    let origin = Origin {
+        file,
+        place: ScreenPlace::Whole,
+    };
+    found_one(alloc, origin, Vec::new(alloc), &saved_frame(path, bytes))
+}
+
 fn found_in(
     alloc: Global,
     kind: FileKind,
@@ -265,16 +297,16 @@ fn found_in(
     if bytes.len() > MOST_SCREEN {
         return Err(FramesFault::Screen(ScreenFault::TooLong));
     }
-    let origin = Origin { file, byte: 0 };
     match kind {
-        FileKind::Cells => found_one(alloc, origin, Vec::new(alloc), &saved_frame(path, bytes)),
+        FileKind::Cells => found_saved(alloc, path, file, bytes),
         FileKind::Stream => found_capture(alloc, path, file, bytes),
     }
 }
 
 /// The frames of a file of these bytes, or why it gives none. `file` is the number that they are filed under.
 ///
-/// A saved screen gives one frame, of the id in the file's name, else of the one that row 0 shows. So does a capture of one screen, and
+/// A saved screen gives one frame, of the id in the file's name, else of the one that row 0 shows. A text with addresses of edit.tf gives
+/// one for each, of the id beside it, else of the one in the name of a file of one, in row 0 or in its page number. So does a capture of one screen, and
 /// one of several if none shows an id: its last one. Else each screen of a capture gives the frame whose id its row 0 shows, and those
 /// without are left out. The price is the one of row 0.
 pub fn file_frames(

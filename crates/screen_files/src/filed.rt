@@ -1,13 +1,23 @@
 use crate::frame::ScreenFrame;
 use page_ids::FrameId;
 
+/// Where in a file a screen is.
+#[derive(Debug, Clone, Copy, PartialEq, Eq)]
+pub enum ScreenPlace {
+    /// The file is the screen.
+    Whole,
+    /// The offset at which a screen of a capture begins.
+    Byte(usize),
+    /// The line of an address, from 1.
+    Line(usize),
+}
+
 /// Where a frame is from.
 #[derive(Debug, Clone, Copy, PartialEq, Eq)]
 pub struct Origin {
     /// The number of the file.
     pub file: usize,
-    /// The offset in the file at which the screen begins; 0 if the file is one screen.
-    pub byte: usize,
+    pub place: ScreenPlace,
 }
 
 /// A frame, and where it is from.

@@ -6,7 +6,8 @@ ghost use Rattle.screen_files.specs.Heads as spec;
 
 use crate::rows::row_copy;
 use frame_records::Pence;
-use page_ids::{FrameId, Letter, PageNo, cut};
+use page_ids::{FrameId, cut};
+use screen_forms::any_case_id;
 
 /// What row 0 of a screen shows.
 #[derive(Debug, Clone, Copy, PartialEq, Eq)]
@@ -145,16 +146,6 @@ fn first_part(text: &[u8], separator: u8) -> &[u8]
         Some((first, _)) => first,
         None => text,
     }
-}
-
-// The id that a text spells, if its letter may be a capital.
-fn any_case_id(text: &[u8]) -> Option<FrameId>
-    ensures { result ≡ spec.any_case_id text.now }
-{
-    let (last, digits) = text.split_last()?;
-    let page = PageNo::read_bytes(digits)?;
-    let letter = Letter::new(last.to_ascii_lowercase())?;
-    Some(FrameId { page, letter })
 }
 
 // What is before the first space, `-` or `_`.

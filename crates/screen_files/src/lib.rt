@@ -12,7 +12,7 @@
 //! - [`ScreenFrame`], [`push_frame`], [`push_frames`], [`push_rows`], [`push_entry`]: the text of a base, frame by frame.
 //! - [`file_frames`], [`FileFrames`], [`FileKind`], [`ScreenFault`], [`FramesFault`], [`MOST_SCREEN`]: the frames of a file, or why it
 //!   gives none.
-//! - [`settle`], [`Settled`], [`Filed`], [`Origin`], [`Twin`]: one frame of each id.
+//! - [`settle`], [`Settled`], [`Filed`], [`Origin`], [`ScreenPlace`], [`Twin`]: one frame of each id.
 //! - [`Album`], [`AddFault`], [`base_text`], [`BaseTextFault`]: the frames of several files, and the text of the base that is made of
 //!   them.
 //! - [`frames_show_screens`], [`files_are_screens`]: laws.
@@ -27,6 +27,7 @@ mod frame;
 mod head;
 mod keys;
 mod laws;
+mod linked;
 mod rows;
 mod settling;
 mod texts;
@@ -35,7 +36,7 @@ pub use album::{AddFault, Album, BaseTextFault, base_text, push_frames};
 pub use capture::{CaptureFault, MOST_SHOTS, Shot, capture_screens};
 pub use codes::saved_codes;
 pub use file::{FileFrames, FileKind, FramesFault, MOST_SCREEN, ScreenFault, file_frames};
-pub use filed::{Filed, Origin, Twin};
+pub use filed::{Filed, Origin, ScreenPlace, Twin};
 pub use frame::ScreenFrame;
 pub use head::{Head, name_id, screen_head};
 pub use laws::{files_are_screens, frames_show_screens};

@@ -3,7 +3,7 @@
 ghost use Rattle.std.specs.Prelude.{◌≡◌, ◌++◌, ◌∷◌, [], IfOk, OnOk, length};
 ghost use Rattle.screen_files.specs.Settling as spec;
 
-use crate::filed::{Filed, Twin};
+use crate::filed::{Filed, ScreenPlace, Twin};
 use crate::frame::ScreenFrame;
 use frame_records::Pence;
 use std::alloc::{AllocError, Global};
@@ -73,10 +73,19 @@ fn holds(frame: &ScreenFrame, other: &ScreenFrame) -> bool
     same_price(frame.price, other.price) && cells_hold(&frame.codes[40..920], &other.codes[40..920])
 }
 
+// Whether a screen is of a capture.
+fn was_sent(place: ScreenPlace) -> bool
+    ensures { result ≡ spec.was_sent place }
+{
+    matches!(place, ScreenPlace::Byte(_))
+}
+
 fn stands_for(filed: &Filed, other: &Filed) -> bool
     ensures { result ≡ spec.stands_for filed.now other.now }
 {
-    filed.origin.file == other.origin.file && holds(&filed.frame, &other.frame)
+    was_sent(filed.origin.place)
+        && filed.origin.file == other.origin.file
+        && holds(&filed.frame, &other.frame)
 }
 
 fn has_same_id(filed: &Filed, other: &Filed) -> bool
@@ -179,7 +188,7 @@ fn sort(filed: &mut Vec<Filed>) -> Result<(), AllocError>
 }
 
 /// Keeps one frame of each id: the first that shows all that the others of its id show, in rows 1 to 22, at the same price, if all are
-/// of one file. If none does, the others are its twins: they are refused.
+/// of one capture. If none does, the others are its twins: they are refused.
 ///
 /// Of frames of several files that have one id, the first is kept.
 pub fn settle(alloc: Global, filed: Vec<Filed>) -> Result<Settled, AllocError>
