@@ -17,16 +17,28 @@ NAME_ID = re.compile(r"(0|[1-9][0-9]{0,8})([A-Za-z])")
 SEPARATOR = re.compile("[-_ ]")
 MOST_SCREENS = 65_535
 PRICE = re.compile(r"(0|[1-9][0-9]{0,3})p")
+MARK = re.compile(rb"#[0-9A-Fa-f]:")
+LETTERS = "ABCDEFGHIJKLMNOPQRSTUVWXYZabcdefghijklmnopqrstuvwxyz0123456789-_"
+VALUES = {ord(letter): value for value, letter in enumerate(LETTERS)} | {ord("+"): 62, ord("/"): 63}
+BETWEEN_WORDS = re.compile(r"[ \t,;=]|:(?!/)")
+PAGE_NUMBER = re.compile(r":PN=([1-9][0-9]{2})([0-9]{2})?(?![A-Za-z0-9_+/-])")
 ESCAPED = {ord('"'): '\\"', ord("\\"): "\\\\"}
 
 
 class Screen(NamedTuple):
-    """The frame of a screen: its file's path, the offset at which it begins, its price if it shows one, its codes."""
+    """The frame of a screen: its file's path, the offset at which it begins, its price if it shows one, its codes, and
+    the line of its address.
+    """
 
     path: str
     offset: int
     price: int | None
     cells: bytes
+    line: int | None = None
+
+    @property
+    def place(self) -> str:
+        return self.path if self.line is None else f"{self.path}:{self.line}"
 
     def holds(self, other: "Screen") -> bool:
         """Whether the other is this one cut short: its price, and in rows 1 to 22 spaces or the same cells."""
@@ -35,7 +47,11 @@ class Screen(NamedTuple):
 
 
 class NoScreen(Exception):
-    """What is said of a file after its path and a colon."""
+    """What is said of a file, or of a line of it, after its path and a colon."""
+
+    def __init__(self, why: str, line: int | None = None) -> None:
+        super().__init__(why)
+        self.line = line
 
 
 def saved(byte: int) -> int:
@@ -103,6 +119,78 @@ def frame_of(path: str, cells: bytes, offset: int = 0) -> dict[FrameId, list[Scr
     if not id:
         raise NoScreen("no frame id in the name, and row 0 shows none")
     return {id: [Screen(path, offset, price, cells)]}
+
+
+def linked_cells(letters: bytes) -> bytes:
+    """The codes of 24 rows: seven bits a cell, the most significant first, six bits a letter."""
+    bits = "".join(f"{VALUES[letter]:06b}" for letter in letters)
+    cells = (int(bits[at : at + 7], 2) for at in range(0, 7 * 24 * ROW, 7))
+    return bytes(cell + 0x80 if cell < 0x20 else cell for cell in cells)
+
+
+def letters_of(cells: bytes) -> str:
+    """The letters of an address: 24 rows, a blank row 24 and two bits."""
+    bits = "".join(f"{cell & 0x7F:07b}" for cell in cells + BLANK) + "00"
+    return "".join(LETTERS[int(bits[at : at + 6], 2)] for at in range(0, len(bits), 6))
+
+
+def file_of(form: str, id: FrameId, cells: bytes) -> bytes:
+    """The file that `export` writes of a frame's screen."""
+    if form == "ep1":
+        return b"\xfe\x01\x09\0\0\0" + bytes(cell & 0x7F for cell in cells) + b"\0\0"
+    return f"{id} https://edit.tf/#0:{letters_of(cells)}\n".encode() if form == "link" else cells
+
+
+def beside(before: bytes) -> FrameId | None:
+    """The id that is the last word before an address, in any case."""
+    *words, _ = BETWEEN_WORDS.split(before.decode("latin-1"))
+    found = NAME_ID.fullmatch(next((word for word in reversed(words) if word), ""))
+    return FrameId(int(found[1]), found[2].lower()) if found else None
+
+
+def numbered(after: bytes) -> FrameId | None:
+    """The id of the teletext page that zxnet writes after the letters: the first such field counts."""
+    text = after.decode("latin-1")
+    found = PAGE_NUMBER.match(text, max(text.find(":PN="), 0))
+    subpage = int(found[2] or 0) if found else 99
+    return FrameId(int(found[1]), "a" if subpage < 2 else chr(96 + subpage)) if found and subpage <= 26 else None
+
+
+def linked_screens(data: bytes) -> list[tuple[int, FrameId | None, FrameId | None, bytes]]:
+    """The screens of addresses, one in a line: the line, the id beside it, the id by its page number, the codes."""
+    screens = list[tuple[int, FrameId | None, FrameId | None, bytes]]()
+    for number, line in enumerate(data.removeprefix(b"\xef\xbb\xbf").split(b"\n"), 1):
+        before, *others = MARK.split(line)
+        if not others:
+            continue
+        if len(others) > 1:
+            raise NoScreen("two addresses in a line", number)
+        size = next((at for at, byte in enumerate(others[0]) if byte not in VALUES), len(others[0]))
+        if size not in (1120, 1167):
+            raise NoScreen(f"an address with {size} letters; a screen has 1120 or 1167", number)
+        cells = linked_cells(others[0][:1120])
+        screens.append((number, beside(before), numbered(others[0][size:]), cells))
+    return screens
+
+
+def frames_of_links(path: str, data: bytes) -> dict[FrameId, list[Screen]]:
+    """The frames of addresses. The file's name counts if there is one."""
+    screens = linked_screens(data)
+    name = name_id(path) if len(screens) == 1 else None
+    frames = dict[FrameId, list[Screen]]()
+    for line, word, number, cells in screens:
+        shown, price = head(cells)
+        id = word or name or shown or number
+        if not id:
+            raise NoScreen("no frame id before the address, and row 0 shows none", line)
+        frames.setdefault(id, []).append(Screen(path, 0, price, cells, line))
+    return frames
+
+
+def is_links(data: bytes) -> bool:
+    """Whether a file is a text with addresses: it has no size of a screen, and isn't EP1."""
+    is_dump = len(data) in (880, 960, 1000, 1024) or data[:2] == b"\xfe\x01"
+    return not is_dump and MARK.search(data) is not None
 
 
 def screens_in(data: bytes) -> list[tuple[int, bytes]]:
@@ -233,6 +321,11 @@ class Reading:
             raise NoScreen(data)
         if len(data) > MOST_BYTES:
             raise NoScreen("more than 16,777,216 bytes")
+        if not self.stream and is_links(data):
+            frames = frames_of_links(path, data)
+            for id, (kept, *others) in sorted(frames.items()):
+                self.lines += [self.twin_line(id, other, kept) for other in others]
+            return {id: screens[0] for id, screens in frames.items()}
         if not self.stream:
             return {id: screens[0] for id, screens in frame_of(path, cells_of(data)).items()}
         frames, notes = frames_of_capture(path, data)
@@ -250,7 +343,8 @@ class Reading:
         try:
             found = self.frames_in(path, data)
         except NoScreen as why:
-            self.lines.append(f"{path}: {why}\n")
+            place = path if why.line is None else f"{path}:{why.line}"
+            self.lines.append(f"{place}: {why}\n")
             return
         for id, screen in found.items():
             if len(self.frames) == MOST_LISTED and id not in self.frames:
@@ -263,7 +357,7 @@ class Reading:
     def twin_line(self, id: FrameId, screen: Screen, first: Screen) -> str:
         """What is said of a frame that an earlier file has too."""
         if not self.stream:
-            return f"{screen.path}: frame {id} is in {first.path} too\n"
+            return f"{screen.place}: frame {id} is in {first.place} too\n"
         other = f"frame {id} is in {first.path} at byte {first.offset} too"
         return f"{screen.path}: at byte {screen.offset}: {other}\n"
 

@@ -9,7 +9,7 @@ use audit_report::{FromRead, IntoWrite, RunFault};
 use command_words::Export;
 use frame_records::Base;
 use page_ids::FrameId;
-use pageaudit::{Gallery, read_exported, run_export};
+use pageaudit::{Gallery, SavedForm, read_exported, run_export};
 use std::alloc::AllocError;
 use std::rt::Files;
 use std::{fs, io};
@@ -57,12 +57,13 @@ fn replace<R: Files>(rt: &R, new: &str, path: &str) -> Result<(), Unfinished> {
 // Writes the screen of a frame to a new file and closes it.
 fn write_file<R: AllocGlobal, W: io::Write + Drop>(
     rt: &R,
+    asked: &Export,
     gallery: &Gallery,
     id: FrameId,
     file: W,
 ) -> Result<(), Unfinished> {
     let mut out = IntoWrite::new(file);
-    match run_export(rt.alloc(), gallery, id, &mut out) {
+    match run_export(rt.alloc(), gallery, asked.form, id, &mut out) {
         Ok(_) => Ok(()),
         Err(RunFault::Memory) => Err(Unfinished::Fault(RunFault::Memory)),
         Err(_) => Err(Unfinished::Unwritten("write failed")),
@@ -81,7 +82,7 @@ fn write_screen<R: Files + AllocGlobal>(
         Ok(beside) => beside,
         Err(error) => return Err(unwritten(&error)),
     };
-    let named = match write_file(rt, gallery, id, file) {
+    let named = match write_file(rt, asked, gallery, id, file) {
         Ok(()) if asked.force => replace(rt, new.as_str(), path),
         Ok(()) => give_free_name(rt, new.as_str(), path),
         Err(unfinished) => Err(unfinished),
@@ -106,10 +107,20 @@ fn export_screen<R: Files + AllocGlobal>(
     write_screen(rt, asked, gallery, id, path)
 }
 
+// How the names of files of a form end.
+fn ending_of(form: SavedForm) -> &'static str {
+    match form {
+        SavedForm::Cells => "bin",
+        SavedForm::Ep1 => "ep1",
+        SavedForm::Link => "link",
+    }
+}
+
 // The path of a frame's file.
-fn path_of<R: AllocGlobal>(rt: &R, folder: &str, id: FrameId) -> Result<String, AllocError> {
-    let id = id.text();
-    format!(in rt.alloc(); "{folder}/{}.bin", id.as_str())
+fn path_of<R: AllocGlobal>(rt: &R, asked: &Export, id: FrameId) -> Result<String, AllocError> {
+    let (id, ending) = (id.text(), ending_of(asked.form));
+    let (folder, id) = (asked.out, id.as_str());
+    format!(in rt.alloc(); "{folder}/{id}.{ending}")
 }
 
 // Writes the screen of a frame to the file of its id.
@@ -119,7 +130,7 @@ fn export_frame<R: Files + AllocGlobal>(
     gallery: &Gallery,
     id: FrameId,
 ) -> Result<(), Unfinished> {
-    match path_of(rt, asked.out, id) {
+    match path_of(rt, asked, id) {
         Ok(path) => export_screen(rt, asked, gallery, id, path.as_str()),
         Err(_) => Err(Unfinished::Fault(RunFault::Memory)),
     }
@@ -139,7 +150,7 @@ fn report_lost<R: Files + Eprint + AllocGlobal>(
     if !is_first {
         return 3;
     }
-    match path_of(rt, asked.out, id) {
+    match path_of(rt, asked, id) {
         Ok(path) => report(rt, path.as_str(), why),
         Err(_) => report(rt, asked.base, &Unfinished::Fault(RunFault::Memory)),
     }
@@ -190,8 +201,8 @@ fn make_folder<R: Files>(rt: &R, path: &str) -> Result<(), Unfinished> {
     }
 }
 
-/// Writes the screen of each frame of a base as ID.bin into a folder, which is made after the base was read; the exit status. A file
-/// that is there is replaced only if that is asked for.
+/// Writes the screen of each frame of a base to a file of its own in a folder, which is made after the base was read; the exit status.
+/// A file that is there is replaced only if that is asked for.
 pub fn export<R: Files + Input + Eprint + AllocGlobal>(rt: &R, asked: &Export) -> u8 {
     let base = match read_file(rt, asked.base) {
         Ok(base) => base,

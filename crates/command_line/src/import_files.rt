@@ -5,8 +5,8 @@ use crate::named_files::{Unfinished, ended, open_base, report};
 use audit_report::{FromRead, IntoWrite, RunFault};
 use command_words::Import;
 use pageaudit::{
-    Album, FileFrames, FileKind, ImportFault, ImportStatus, ScreenFault, Settled, Twin, run_import,
-    status_of_import, take_frames,
+    Album, FileFrames, ImportFault, ImportStatus, LineFault, LinkFault, ScreenFault, ScreenPlace,
+    Settled, Twin, run_import, status_of_import, take_frames,
 };
 use std::io;
 use std::rt::Files;
@@ -34,17 +34,26 @@ fn report_twin<R: Eprint>(rt: &R, asked: &Import, twin: &Twin) {
         path_of(asked, twin.other.file),
         path_of(asked, twin.kept.file),
     );
-    let (byte, kept) = (twin.other.byte, twin.kept.byte);
+    let is_same = twin.other.file == twin.kept.file;
     let id = twin.id.text();
     let id = id.as_str();
-    let _ = match asked.kind {
-        FileKind::Cells => eprintln!(rt; "{path}: frame {id} is in {other} too"),
-        FileKind::Stream if twin.other.file == twin.kept.file => {
+    let _ = match (twin.other.place, twin.kept.place) {
+        (ScreenPlace::Byte(byte), ScreenPlace::Byte(kept)) if is_same => {
             eprintln!(rt; "{path}: at byte {byte}: frame {id} is at byte {kept} too")
         }
-        FileKind::Stream => {
+        (ScreenPlace::Byte(byte), ScreenPlace::Byte(kept)) => {
             eprintln!(rt; "{path}: at byte {byte}: frame {id} is in {other} at byte {kept} too")
         }
+        (ScreenPlace::Line(line), ScreenPlace::Line(kept)) => {
+            eprintln!(rt; "{path}:{line}: frame {id} is in {other}:{kept} too")
+        }
+        (ScreenPlace::Line(line), _) => {
+            eprintln!(rt; "{path}:{line}: frame {id} is in {other} too")
+        }
+        (_, ScreenPlace::Line(kept)) => {
+            eprintln!(rt; "{path}: frame {id} is in {other}:{kept} too")
+        }
+        _ => eprintln!(rt; "{path}: frame {id} is in {other} too"),
     };
 }
 
@@ -95,6 +104,25 @@ fn report_screen<R: Eprint>(rt: &R, path: &str, fault: ScreenFault) {
             eprintln!(rt;
                 "{path}: size {size}; a screen has 960, 1000, 1024 or 880 bytes, an EP1 file 968 or 1008; --stream reads what a line carried"
             )
+        }
+        ScreenFault::Address(
+            LineFault {
+                line,
+                fault: LinkFault::Two,
+            },
+        ) => eprintln!(rt; "{path}:{line}: two addresses in a line"),
+        ScreenFault::Address(
+            LineFault {
+                line,
+                fault: LinkFault::Letters(letters),
+            },
+        ) => {
+            eprintln!(rt;
+                "{path}:{line}: an address with {letters} letters; a screen has 1120 or 1167"
+            )
+        }
+        ScreenFault::NoIdAt(line) => {
+            eprintln!(rt; "{path}:{line}: no frame id before the address, and row 0 shows none")
         }
         ScreenFault::NoId => {
             eprintln!(rt; "{path}: no frame id in the name, and row 0 shows none")

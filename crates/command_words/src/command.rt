@@ -6,13 +6,16 @@ use checker::Policy;
 use clap::{Arg, ArgAction, ArgMatches, Command, Error, value_parser};
 use frame_records::{Groups, GroupsFault, MOST_PENCE, Pence};
 use page_ids::{FrameId, MOST_PAGE, PageNo};
-use pageaudit::{FileKind, Form, Format, Level, ListForm, View};
+use pageaudit::{FileKind, Form, Format, Level, ListForm, SavedForm, View};
 use std::alloc::{AllocError, Global};
 use std::rt::Env;
 use std::{env, io};
 
 // The words for the forms of a screen.
-const FORMS: &[&str] = &["text", "ansi", "svg", "cells", "html"];
+const FORMS: &[&str] = &["text", "ansi", "svg", "cells", "link", "html"];
+
+// The words for the forms of files of screens.
+const SAVED_FORMS: &[&str] = &["bin", "ep1", "link"];
 
 // The words for the forms of findings.
 const FORMATS: &[&str] = &["full", "line", "json", "github"];
@@ -209,7 +212,7 @@ fn form_option<'a>(alloc: Global) -> Arg<'a> {
         .action(ArgAction::Set)
         .value_parser(FORMS)
         .help(
-            "Write text, colours for a terminal, a picture, the 960 codes, or the whole base for a browser",
+            "Write text, colours for a terminal, a picture, the 960 codes, an address of edit.tf, or the whole base for a browser",
         )
 }
 
@@ -386,11 +389,18 @@ fn export_command<'a>(alloc: Global) -> Result<Command<'a>, AllocError> {
         .required(true)
         .action(ArgAction::Set)
         .help("Write the files into FOLDER, which is made if it isn't there");
+    let form = Arg::new(alloc, "as")
+        .long("as")
+        .value_name("FORM")
+        .action(ArgAction::Set)
+        .value_parser(SAVED_FORMS)
+        .help("Write 960 codes, EP1 files, or addresses of edit.tf; bin without it");
     let command = Command::new(alloc, "export")
         .about("Write the screen of each frame of a base to a file")
         .after_help(help::EXPORT)
         .arg(base(alloc))?
         .arg(out)?
+        .arg(form)?
         .arg(flag(alloc, "force", "Replace files that are there"))?;
     with_groups(alloc, command)
 }
@@ -556,6 +566,8 @@ pub struct Export<'a> {
     pub base: &'a str,
     /// The folder.
     pub out: &'a str,
+    /// The form of each file.
+    pub form: SavedForm,
     /// Whether files that are there are replaced.
     pub force: bool,
     pub groups: Groups,
@@ -702,7 +714,17 @@ fn form_of(word: &str) -> Option<Form> {
         "ansi" => Some(Form::Ansi),
         "svg" => Some(Form::Svg),
         "cells" => Some(Form::Cells),
+        "link" => Some(Form::Link),
         _ => None,
+    }
+}
+
+// The form of files of screens that a word names; without one it is the 960 codes.
+fn saved_form_of(word: Option<&str>) -> SavedForm {
+    match word {
+        Some("ep1") => SavedForm::Ep1,
+        Some("link") => SavedForm::Link,
+        _ => SavedForm::Cells,
     }
 }
 
@@ -845,6 +867,7 @@ fn export_of<'a>(words: &'a ArgMatches, groups: Groups) -> Option<Request<'a>> {
     Some(Request::Export(Export {
         base: words.get_str("BASE")?,
         out: words.get_str("out")?,
+        form: saved_form_of(words.get_str("as")),
         force: words.get_flag("force"),
         groups,
     }))

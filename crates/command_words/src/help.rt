@@ -50,6 +50,7 @@ pub const SHOW: &str = concat!(
     "--as html writes one file for any browser, without a network: all frames with their ways and\n",
     "faults, to walk through by keys. --page and --within take a part of the base, as for 'map'.\n\n",
     "Examples: pageaudit show examples/town.toml --keys '1#'\n",
+    "          xdg-open \"$(pageaudit show examples/town.toml 4785 --as link)\"\n",
     "          pageaudit show examples/town.toml --as html --out town.html\n\n",
     "Status: 0 a screen or file, 1 a session that can't be opened or leaves the base,\n",
     "        2 bad command line or keys, or no frame FRAME,\n",
@@ -79,10 +80,11 @@ pub const MAP: &str = concat!(
 /// After the options of `import`.
 pub const IMPORT: &str = concat!(
     "A file of 960 bytes is 24 rows of 40 codes; 1,000 and 1,024 bytes have more, which is dropped;\n",
-    "880 bytes are rows 1 to 22. An EP1 file has 968 or 1,008 bytes. A capture has many screens: each\n",
-    "is the frame whose id its row 0 shows. The base has no routes: they are yet to be typed.\n",
+    "880 bytes are rows 1 to 22. An EP1 file has 968 or 1,008 bytes. A text has an address of edit.tf\n",
+    "or zxnet in each line, after the frame's id. A capture has many screens: each is the frame whose\n",
+    "id its row 0 shows. The base has no routes: they are yet to be typed.\n",
     "--into gives the frames of a base new rows, and adds the others at its end: routes, prices,\n",
-    "comments and all else stay to the byte. A frame with lead = \"keep\" is left alone.\n\n",
+    "comments and all else stay to the byte. A frame with lead = \"keep\" stays as it is.\n\n",
     "Example: pageaudit import examples/screens/*.bin >town.toml\n",
     "         pageaudit import 478a.bin --into town.toml\n\n",
     "Status: 0 a base, 1 without the frames at fault (--skip-bad), or a diff, 2 bad command line,\n",
@@ -92,9 +94,11 @@ pub const IMPORT: &str = concat!(
 
 /// After the options of `export`.
 pub const EXPORT: &str = concat!(
-    "The files are named by the frames, as 478a.bin, and have the 960 codes that 'show --as cells'\n",
-    "writes.\n\n",
-    "Example: pageaudit export examples/town.toml --out screens\n\n",
+    "The files are named by frame and form, as 478a.bin. One of the form bin has the 960 codes that\n",
+    "'show --as cells' writes, one of ep1 the same for editors of teletext, and one of link a line with\n",
+    "the frame's id and its address, at which edit.tf shows it.\n\n",
+    "Example: pageaudit export examples/town.toml --out screens\n",
+    "         pageaudit export examples/town.toml --out links --as link && cat links/*.link\n\n",
     "Status: 0 all screens, 2 bad command line,\n",
     "        3 a file that is refused or can't be read, is there already, or can't be written,\n",
     "        4 out of memory",

@@ -3,7 +3,7 @@
 use base_text::{BaseCause, Field};
 use frame_edits::{MergeFault, Merged, merge_frames};
 use page_ids::FrameId;
-use screen_files::{Album, Filed, Origin, ScreenFrame, Settled};
+use screen_files::{Album, Filed, Origin, ScreenFrame, ScreenPlace, Settled};
 use std::alloc::Global;
 use std::test::Fail;
 use test_support::same;
@@ -18,7 +18,10 @@ fn screens(alloc: Global, ids: &[&str]) -> Result<Settled, Fail> {
         let mut codes = [b' '; 960];
         codes[40] = b'X';
         let filed = Filed {
-            origin: Origin { file: 3, byte: 0 },
+            origin: Origin {
+                file: 3,
+                place: ScreenPlace::Whole,
+            },
             frame: ScreenFrame {
                 id: FrameId::read(id)?,
                 price: None,

@@ -1,5 +1,5 @@
 -- What a run of show does.
-use Rattle.std.specs.Prelude.{◌≡◌, ℕ, List, [], ◌∷◌, Option, Some, None, Vec, Result, Ok, Err}
+use Rattle.std.specs.Prelude.{◌≡◌, ℕ, List, [], ◌∷◌, ◌++◌, Option, Some, None, Vec, Result, Ok, Err}
 use Rattle.std.specs.declared.alloc.Global.{Global}
 use Rattle.page_ids.specs.Ids.{Id, frame_text}
 use Rattle.page_ids.specs.declared.key.Key.{Key}
@@ -18,6 +18,7 @@ use Rattle.screens.specs.Writing.{written}
 use Rattle.screens.specs.Text.{text}
 use Rattle.screens.specs.Ansi.{ansi}
 use Rattle.screens.specs.Svg.{svg}
+use Rattle.screen_forms.specs.Forms.{address}
 use Rattle.audit_report.specs.declared.run_fault.RunFault.{RunFault}
 use Rattle.pageaudit.specs.declared.show_run.Target.{Target}
 use Rattle.pageaudit.specs.declared.show_run.Target.TheVariants as target
@@ -35,12 +36,17 @@ abbrev pub picture_of : Option Id → List (List Look) → List ℕ
 picture_of None rows = []
 picture_of (Some id) rows = svg id rows None
 
+-- an address, and a line end (10)
+abbrev pub address_line : List ℕ → List ℕ
+address_line screen = address screen ++ 10 ∷ []
+
 -- the screen of frames, in a form
 abbrev pub screen_text : Form → BaseView → List Id → List ℕ
 screen_text form.Text base ids = written Plain (text (looks (screen_codes base ids)))
 screen_text form.Ansi base ids = ansi (looks (screen_codes base ids))
 screen_text form.Svg base ids = picture_of (last_frame ids) (looks (screen_codes base ids))
 screen_text form.Cells base ids = screen_codes base ids
+screen_text form.Link base ids = address_line (screen_codes base ids)
 
 -- What is answered: a screen in a form, or why there is none.
 

@@ -1,14 +1,17 @@
 ghost use Rattle.std.specs.Prelude.{◌≡◌, false};
 ghost use Rattle.pageaudit.specs.Files.{device, IsTextWritten};
 ghost use Rattle.pageaudit.specs.ExportRun.{IsExportRead, IsScreenWritten};
+ghost use Rattle.screen_forms.specs.Forms.{form_bytes};
 ghost use Rattle.audit_report.specs.declared.status.Status.TheVariants.{Clear};
 
 use crate::file_fault::base_fault;
 use crate::input::read_base;
-use audit_report::{RunFault, Sink, Source, Status, write_whole};
+use crate::output::write_text;
+use audit_report::{RunFault, Sink, Source, Status};
 use frame_records::Base;
 use frame_screens::Gallery;
 use page_ids::FrameId;
+use screen_forms::{SavedForm, push_form};
 use std::alloc::Global;
 
 /// Reads the base whose screens are written. A [`Gallery`] of it makes them, one for each of its frames.
@@ -22,32 +25,40 @@ pub fn read_exported<B: Source>(alloc: Global, base: &mut B) -> Result<Base, Run
     }
 }
 
-// Writes the codes of a screen.
-fn write_codes<O: Sink>(out: &mut O, codes: &[u8; 960]) -> Result<Status, RunFault>
+// Writes the file of a frame's screen.
+fn write_form<O: Sink>(
+    alloc: Global,
+    form: SavedForm,
+    id: FrameId,
+    codes: &[u8; 960],
+    out: &mut O,
+) -> Result<Status, RunFault>
     requires { (O.seen out.old).failed ≡ false }
-    ensures { IsTextWritten (device O.seen out.old out.new) codes.now Clear result }
+    ensures { IsTextWritten (device O.seen out.old out.new) (form_bytes form id codes.now) Clear result }
 {
-    match write_whole(out, codes) {
-        Ok(()) => Ok(Status::Clear),
-        Err(fault) => Err(RunFault::Write(fault.wrote)),
+    let mut bytes = Vec::new(alloc);
+    match push_form(alloc, &mut bytes, form, id, codes) {
+        Ok(()) => write_text(out, bytes.as_slice(), Status::Clear),
+        Err(_) => Err(RunFault::Memory),
     }
 }
 
-/// Writes the 960 codes of the screen of a frame, as `show` writes them: those after the keys that lead there, or of the frame alone
-/// if no key does. The status is Clear.
+/// Writes the file of the screen of a frame, in a form. The screen is that of `show`: the one after the keys that lead there, or of the
+/// frame alone if no key does. The status is Clear.
 ///
-/// The screen is made first. On every fault except `Write`, nothing was written.
+/// The file is made first. On every fault except `Write`, nothing was written.
 pub fn run_export<O: Sink>(
     alloc: Global,
     gallery: &Gallery,
+    form: SavedForm,
     id: FrameId,
     out: &mut O,
 ) -> Result<Status, RunFault>
     requires { (O.seen out.old).failed ≡ false }
-    ensures { IsScreenWritten (device O.seen out.old out.new) gallery.now id result }
+    ensures { IsScreenWritten (device O.seen out.old out.new) gallery.now form id result }
 {
     match gallery.screen(alloc, id) {
-        Ok(codes) => write_codes(out, &codes),
+        Ok(codes) => write_form(alloc, form, id, &codes, out),
         Err(_) => Err(RunFault::Memory),
     }
 }

@@ -63,7 +63,10 @@ pub use lint_run::{run_lint, status_of_lint};
 pub use list_run::run_list;
 pub use map_run::{MapStatus, run_map, status_of_map};
 pub use pages_run::{run_pages, status_of_pages};
-pub use screen_files::{Album, FileFrames, FileKind, Filed, Origin, ScreenFault, Settled, Twin};
+pub use screen_files::{
+    Album, FileFrames, FileKind, Filed, Origin, ScreenFault, ScreenPlace, Settled, Twin,
+};
+pub use screen_forms::{LineFault, LinkFault, SavedForm};
 pub use show_run::{Form, ShowStatus, Target, run_show, status_of_show};
 pub use status::status_of;
 pub use walk_run::{read_keys, run_walk};

@@ -1,9 +1,9 @@
-ghost use Rattle.std.specs.Prelude.{◌≡◌, IfOk, false};
+ghost use Rattle.std.specs.Prelude.{◌≡◌, ◌++◌, IfOk, OnOk, false};
 ghost use Rattle.frame_records.specs.Bases.{frame_at};
 ghost use Rattle.frame_records.specs.Seek.{entry_of};
 ghost use Rattle.frame_screens.specs.Frames.{keyed_frames};
 ghost use Rattle.pageaudit.specs.Files.{device};
-ghost use Rattle.pageaudit.specs.ShowRun.{screen_text, IsEntryAnswer, IsWayAnswer, IsFrameAnswer, IsLostAnswer};
+ghost use Rattle.pageaudit.specs.ShowRun.{address_line, screen_text, IsEntryAnswer, IsWayAnswer, IsFrameAnswer, IsLostAnswer};
 ghost use Rattle.pageaudit.specs.ShowRun.{IsKeyedAnswer, IsShown, IsAnswerWritten, IsShowRun, show_number};
 
 use crate::file_fault::base_fault;
@@ -13,6 +13,7 @@ use audit_report::{RunFault, Sink, Source, write_whole};
 use frame_records::{Base, Groups};
 use frame_screens::{FrameList, NoScreen, frames_after, nearest, screen, way_to};
 use page_ids::{FrameId, Key, KeyList, PageNo};
+use screen_forms::push_address;
 use screens::{Writing, push_ansi, push_svg, push_text, screen_looks};
 use std::alloc::{AllocError, Global};
 
@@ -38,6 +39,8 @@ pub enum Form {
     Svg,
     /// Its 960 codes.
     Cells,
+    /// The address at which edit.tf shows it, and a line end.
+    Link,
 }
 
 /// The result of a run of show without a fault. If nothing was shown, nothing was written.
@@ -62,6 +65,15 @@ enum ShowAnswer {
     Nothing(ShowStatus),
 }
 
+// Writes the address of a screen, and a line end.
+#[tactic(auto, using(std::proofs::Common::append_assoc))]
+fn push_address_line(alloc: Global, text: &mut Vec<u8>, codes: &[u8; 960]) -> Result<(), AllocError>
+    ensures { OnOk result (text.new.items ≡ text.old.items ++ address_line codes.now) }
+{
+    push_address(alloc, text, codes)?;
+    text.extend_from_slice(b"\n")
+}
+
 // The screen of frames, in a form.
 fn screen_text(
     alloc: Global,
@@ -78,6 +90,7 @@ fn screen_text(
         Form::Ansi => push_ansi(&mut text, &screen_looks(&codes))?,
         Form::Svg => push_svg(&mut text, frames.last(), &screen_looks(&codes), None)?,
         Form::Cells => text.extend_from_slice(&codes)?,
+        Form::Link => push_address_line(alloc, &mut text, &codes)?,
     }
     Ok(text)
 }

@@ -6,7 +6,7 @@ use crate::expected::{ALL, sink, source, taken};
 use audit_report::RunFault;
 use frame_records::{Base, Groups};
 use page_ids::FrameId;
-use pageaudit::{Gallery, Status, read_exported, run_export, status_of};
+use pageaudit::{Gallery, SavedForm, Status, read_exported, run_export, status_of};
 use std::alloc::Global;
 use std::test::Fail;
 use test_support::{same, same_in};
@@ -48,7 +48,7 @@ fn exported(
     room: usize,
 ) -> (bool, u8, u32, usize) {
     let mut out = sink(alloc, text, room);
-    let run = run_export(alloc, gallery, id, &mut out);
+    let run = run_export(alloc, gallery, SavedForm::Cells, id, &mut out);
     let is_clear = run == Ok(Status::Clear);
     (is_clear, status_of(&run), out.flushes, taken(&out, text))
 }

@@ -3,8 +3,8 @@
 use crate::expected::{ALL, sink, source, taken};
 use page_ids::PageNo;
 use pageaudit::{
-    Album, FileFrames, FileKind, Filed, ImportFault, ImportStatus, ScreenFault, Settled,
-    run_import, status_of_import, take_frames,
+    Album, FileFrames, FileKind, Filed, ImportFault, ImportStatus, ScreenFault, ScreenPlace,
+    Settled, run_import, status_of_import, take_frames,
 };
 use std::alloc::Global;
 use std::test::Fail;
@@ -139,7 +139,8 @@ fn a_capture_gives_its_screens(rt: HostRuntime) -> Result<(), Fail> {
     }
     same(album.as_slice().len(), 2)?;
     for (filed, byte) in album.as_slice().iter().zip([11, 0]) {
-        same((filed.origin.file, filed.origin.byte), (3, byte))?;
+        same(filed.origin.file, 3)?;
+        same(filed.origin.place, ScreenPlace::Byte(byte))?;
     }
     Ok(())
 }

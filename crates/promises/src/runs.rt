@@ -21,10 +21,10 @@ use checker::Policy;
 use frame_records::Groups;
 use page_ids::{FrameId, PageNo};
 use pageaudit::{
-    Counts, Form, Format, Gallery, ImportStatus, Level, ListForm, MapStatus, PagesStatus, Settled,
-    ShowStatus, Status, Target, View, run_audit, run_change, run_check, run_export, run_import,
-    run_lint, run_list, run_map, run_pages, run_show, run_walk, status_of, status_of_import,
-    status_of_lint, status_of_map, status_of_pages, status_of_show,
+    Counts, Form, Format, Gallery, ImportStatus, Level, ListForm, MapStatus, PagesStatus,
+    SavedForm, Settled, ShowStatus, Status, Target, View, run_audit, run_change, run_check,
+    run_export, run_import, run_lint, run_list, run_map, run_pages, run_show, run_walk, status_of,
+    status_of_import, status_of_lint, status_of_map, status_of_pages, status_of_show,
 };
 use std::alloc::Global;
 
@@ -184,13 +184,14 @@ fn import<O: Sink>(
 fn export<O: Sink>(
     alloc: Global,
     gallery: &Gallery,
+    form: SavedForm,
     id: FrameId,
     out: &mut O,
 ) -> Result<Status, RunFault>
     requires { (O.seen out.old).failed ≡ false }
-    ensures { IsScreenWritten (device O.seen out.old out.new) gallery.now id result }
+    ensures { IsScreenWritten (device O.seen out.old out.new) gallery.now form id result }
 {
-    run_export(alloc, gallery, id, out)
+    run_export(alloc, gallery, form, id, out)
 }
 
 // The program's exit status after each.

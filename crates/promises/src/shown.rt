@@ -22,7 +22,8 @@ ghost use Rattle.frame_screens.specs.Frames.{IsKeyed, IsWay};
 ghost use Rattle.frame_screens.specs.Screens.{screen_codes};
 ghost use Rattle.frame_screens.specs.Laws.{IsHeadlineSeen};
 ghost use Rattle.screen_files.specs.Rows.{rows_of};
-ghost use Rattle.screen_files.specs.Laws.{IsSavedScreen, rows_alone};
+ghost use Rattle.screen_forms.specs.Laws.{IsSavedScreen};
+ghost use Rattle.screen_files.specs.Laws.{rows_alone};
 ghost use Rattle.base_pages.specs.Pages.{IsPagesRun};
 
 use audit_report::Sink;

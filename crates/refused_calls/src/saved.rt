@@ -6,8 +6,8 @@ use audit_report::{RunFault, Sink, Source, Status};
 use frame_records::Groups;
 use page_ids::{FrameId, PageNo};
 use pageaudit::{
-    Album, FileKind, Gallery, ImportFault, ImportStatus, read_exported, run_export, run_import,
-    take_frames,
+    Album, FileKind, Gallery, ImportFault, ImportStatus, SavedForm, read_exported, run_export,
+    run_import, take_frames,
 };
 use std::alloc::Global;
 
@@ -62,7 +62,7 @@ pub fn exported<B: Source, O: Sink>(
         Err(fault) => return Err(fault),
     };
     match Gallery::of(alloc, &base, groups) {
-        Ok(gallery) => run_export(alloc, &gallery, id, out),
+        Ok(gallery) => run_export(alloc, &gallery, SavedForm::Link, id, out),
         Err(_) => Err(RunFault::Memory),
     }
 }

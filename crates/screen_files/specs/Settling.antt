@@ -32,15 +32,17 @@ same_price (Some a) (Some b) = a == b
 abbrev pub holds : ScreenFrame → ScreenFrame → Bool
 holds a b = same_price a.price b.price && cells_hold (inner_codes a.codes) (inner_codes b.codes)
 
--- a screen of a capture
-abbrev pub was_sent : ScreenPlace → Bool
-was_sent Whole = false
-was_sent (Byte at) = true
-was_sent (Line at) = false
+-- addresses of two lines
+abbrev pub is_other_line : ScreenPlace → ScreenPlace → Bool
+is_other_line (Line a) (Line b) = not (a == b)
+is_other_line (Line a) Whole = false
+is_other_line (Line a) (Byte b) = false
+is_other_line Whole b = false
+is_other_line (Byte a) b = false
 
--- and they are of one capture
+-- and they are of one file, which is a capture if it has several
 abbrev pub stands_for : Filed → Filed → Bool
-stands_for a b = (was_sent a.origin.place && a.origin.file == b.origin.file) && holds a.frame b.frame
+stands_for a b = (a.origin.file == b.origin.file && not (is_other_line a.origin.place b.origin.place)) && holds a.frame b.frame
 
 -- Frames in the order of their ids.
 

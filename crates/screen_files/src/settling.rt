@@ -73,18 +73,21 @@ fn holds(frame: &ScreenFrame, other: &ScreenFrame) -> bool
     same_price(frame.price, other.price) && cells_hold(&frame.codes[40..920], &other.codes[40..920])
 }
 
-// Whether a screen is of a capture.
-fn was_sent(place: ScreenPlace) -> bool
-    ensures { result ≡ spec.was_sent place }
+// Whether these are addresses of two lines.
+fn is_other_line(place: ScreenPlace, other: ScreenPlace) -> bool
+    ensures { result ≡ spec.is_other_line place other }
 {
-    matches!(place, ScreenPlace::Byte(_))
+    match (place, other) {
+        (ScreenPlace::Line(line), ScreenPlace::Line(other)) => line != other,
+        _ => false,
+    }
 }
 
 fn stands_for(filed: &Filed, other: &Filed) -> bool
     ensures { result ≡ spec.stands_for filed.now other.now }
 {
-    was_sent(filed.origin.place)
-        && filed.origin.file == other.origin.file
+    filed.origin.file == other.origin.file
+        && !is_other_line(filed.origin.place, other.origin.place)
         && holds(&filed.frame, &other.frame)
 }
 

@@ -2,8 +2,8 @@ use frame_records::{MOST_LISTED, Pence};
 use page_ids::{FrameId, PageNo};
 use screen_files::{
     AddFault, Album, BaseTextFault, FileFrames, FileKind, Filed, FramesFault, MOST_SCREEN,
-    MOST_SHOTS, Origin, ScreenFault, ScreenFrame, Settled, base_text, capture_screens, file_frames,
-    settle,
+    MOST_SHOTS, Origin, ScreenFault, ScreenFrame, ScreenPlace, Settled, base_text, capture_screens,
+    file_frames, settle,
 };
 use std::alloc::Global;
 use std::test::Fail;
@@ -12,7 +12,10 @@ use test_support::{same, same_in};
 // The frame of a file, a screen of one code.
 fn filed(file: usize, id: &str, code: u8) -> Result<Filed, Fail> {
     Ok(Filed {
-        origin: Origin { file, byte: 0 },
+        origin: Origin {
+            file,
+            place: ScreenPlace::Whole,
+        },
         frame: ScreenFrame {
             id: FrameId::read(id)?,
             price: None,
@@ -38,7 +41,20 @@ const fn one<'a>(frame: &'a [(&'a str, usize); 1]) -> Given<'a> {
     }
 }
 
-fn check_given(bytes: &[u8], seen: &FileFrames, wanted: &Given) -> Result<(), Fail> {
+// Where a screen is that begins at a byte.
+fn place_at(kind: FileKind, byte: usize) -> ScreenPlace {
+    match kind {
+        FileKind::Cells => ScreenPlace::Whole,
+        FileKind::Stream => ScreenPlace::Byte(byte),
+    }
+}
+
+fn check_given(
+    kind: FileKind,
+    bytes: &[u8],
+    seen: &FileFrames,
+    wanted: &Given,
+) -> Result<(), Fail> {
     same_in(bytes, seen.unnamed.as_slice(), wanted.unnamed)?;
     let (frames, twins) = (seen.frames.frames(), seen.frames.twins());
     same_in(
@@ -53,7 +69,7 @@ fn check_given(bytes: &[u8], seen: &FileFrames, wanted: &Given) -> Result<(), Fa
             filed.origin,
             Origin {
                 file: 7,
-                byte: *byte,
+                place: place_at(kind, *byte),
             },
         )?;
     }
@@ -63,7 +79,7 @@ fn check_given(bytes: &[u8], seen: &FileFrames, wanted: &Given) -> Result<(), Fa
             twin.other,
             Origin {
                 file: 7,
-                byte: *byte,
+                place: place_at(kind, *byte),
             },
         )?;
     }
@@ -75,7 +91,7 @@ type Row<'a> = (&'a str, &'a [u8], Result<Given<'a>, ScreenFault>);
 fn check_rows(alloc: Global, kind: FileKind, rows: &[Row]) -> Result<(), Fail> {
     for (path, bytes, wanted) in rows {
         match (file_frames(alloc, kind, path, 7, bytes), wanted) {
-            (Ok(seen), Ok(wanted)) => check_given(bytes, &seen, wanted)?,
+            (Ok(seen), Ok(wanted)) => check_given(kind, bytes, &seen, wanted)?,
             (Err(FramesFault::Screen(seen)), Err(wanted)) => same_in(*bytes, seen, *wanted)?,
             _ => return Err(Fail::from(*path)),
         }

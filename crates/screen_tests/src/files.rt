@@ -8,7 +8,7 @@ use terminal_codes::{Terminal, lead_bytes};
 use test_support::{same, same_in};
 
 // A screen with these codes from a position on, blank elsewhere.
-fn screen_with(position: usize, codes: &[u8]) -> [u8; 960] {
+pub fn screen_with(position: usize, codes: &[u8]) -> [u8; 960] {
     let mut screen = [0x20; 960];
     for (i, code) in codes.iter().enumerate() {
         if let Some(cell) = screen.get_mut(position.saturating_add(i)) {

@@ -1,10 +1,12 @@
-//! Tests of `near_words`, `screens`, `screen_files`, `frame_screens` and `base_pages`.
+//! Tests of `near_words`, `screens`, `screen_forms`, `screen_files`, `frame_screens` and `base_pages`.
 #![tactic(auto)]
 
 #[cfg(test)]
 mod albums;
 #[cfg(test)]
 mod files;
+#[cfg(test)]
+mod forms;
 #[cfg(test)]
 mod frames;
 #[cfg(test)]
