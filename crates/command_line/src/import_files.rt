@@ -5,8 +5,8 @@ use crate::named_files::{Unfinished, ended, open_base, report};
 use audit_report::{FromRead, IntoWrite, RunFault};
 use command_words::Import;
 use pageaudit::{
-    Album, FileFrames, ImportFault, ImportStatus, LineFault, LinkFault, ScreenFault, ScreenPlace,
-    Settled, Twin, run_import, status_of_import, take_frames,
+    AddressFault, Album, FileFrames, ImportFault, ImportStatus, LinkFault, ScreenFault,
+    ScreenPlace, Settled, Twin, run_import, status_of_import, take_frames,
 };
 use std::io;
 use std::rt::Files;
@@ -106,13 +106,13 @@ fn report_screen<R: Eprint>(rt: &R, path: &str, fault: ScreenFault) {
             )
         }
         ScreenFault::Address(
-            LineFault {
+            AddressFault {
                 line,
                 fault: LinkFault::Two,
             },
         ) => eprintln!(rt; "{path}:{line}: two addresses in a line"),
         ScreenFault::Address(
-            LineFault {
+            AddressFault {
                 line,
                 fault: LinkFault::Letters(letters),
             },

@@ -212,7 +212,7 @@ fn form_option<'a>(alloc: Global) -> Arg<'a> {
         .action(ArgAction::Set)
         .value_parser(FORMS)
         .help(
-            "Write text, colours for a terminal, a picture, the 960 codes, an address of edit.tf, or the whole base for a browser",
+            "Write text, colours for a terminal, a picture, the 960 codes, an edit.tf address, or an html page",
         )
 }
 

@@ -6,9 +6,9 @@ use Rattle.page_ids.specs.Ids.{Id}
 use Rattle.screen_files.specs.declared.filed.Filed.{Filed}
 use Rattle.screen_files.specs.declared.filed.ScreenPlace.{ScreenPlace}
 use Rattle.screen_files.specs.declared.filed.ScreenPlace.TheVariants.{Whole, Byte, Line}
-use Rattle.screen_forms.specs.Addresses.{linked_screens, mark_of}
+use Rattle.screen_forms.specs.Addresses.{linked_screens, address_at}
 use Rattle.screen_forms.specs.declared.addresses.LinkedScreen.{LinkedScreen}
-use Rattle.screen_forms.specs.declared.addresses.LineFault.{LineFault}
+use Rattle.screen_forms.specs.declared.addresses.AddressFault.{AddressFault}
 use Rattle.screen_files.specs.declared.capture.Shot.{Shot}
 use Rattle.screen_files.specs.declared.capture.TheConstants.{MOST_SHOTS}
 use Rattle.screen_files.specs.declared.file.FileKind.{FileKind}
@@ -143,7 +143,7 @@ abbrev pub found_linked : List ℕ → ℕ → List LinkedScreen → Result Scre
 found_linked path file screens =
     named_links file (name_of_one path screens) screens (nameless_line (name_of_one path screens) screens)
 
-abbrev pub found_links : List ℕ → ℕ → Result (List LinkedScreen) LineFault → Result ScreenList ScreenFault
+abbrev pub found_links : List ℕ → ℕ → Result (List LinkedScreen) AddressFault → Result ScreenList ScreenFault
 found_links path file (Err fault) = Err (Address fault)
 found_links path file (Ok screens) = found_linked path file screens
 
@@ -151,7 +151,7 @@ found_links path file (Ok screens) = found_linked path file screens
 
 -- it has an address, and isn't EP1 of another size
 abbrev pub is_link_text : List ℕ → Bool
-is_link_text bytes = is_some (mark_of bytes) && not (begins_ep1 bytes)
+is_link_text bytes = is_some (address_at bytes) && not (begins_ep1 bytes)
 
 -- a screen of the right size, else addresses
 abbrev pub found_saved : List ℕ → ℕ → List ℕ → Result ScreenList ScreenFault

@@ -1,5 +1,5 @@
 -- The id and the price of a screen, by its row 0 and the name of its file.
-use Rattle.std.specs.Prelude.{ℕ, Bool, false, true, List, [], ◌∷◌, Option, Some, None, ◌+◌, ◌-◌, ◌==◌, ◌&&◌, get_or, length, nat_lt, nat_le, map, take, if◌then◌else◌}
+use Rattle.std.specs.Prelude.{ℕ, Bool, false, true, List, [], ◌∷◌, Option, Some, None, ◌+◌, ◌==◌, ◌&&◌, nat_lt, nat_le, map, take, if◌then◌else◌}
 use Rattle.page_ids.specs.Ids.{Id}
 use Rattle.page_ids.specs.Texts.{id_in}
 use Rattle.screen_forms.specs.Words.{any_case_id}

@@ -12,7 +12,7 @@ use crate::frame::ScreenFrame;
 use crate::head::{name_id, screen_head};
 use crate::linked::found_links;
 use crate::settling::{Settled, settle};
-use screen_forms::{LineFault, has_address};
+use screen_forms::{AddressFault, has_address};
 use std::alloc::{AllocError, Global};
 
 /// What a file holds.
@@ -41,7 +41,7 @@ pub enum ScreenFault {
     /// The address in this line has no id beside it, row 0 shows none, and no other gives one.
     NoIdAt(usize),
     /// What is wrong with an address.
-    Address(LineFault),
+    Address(AddressFault),
     /// It has more than 65,535 screens.
     TooManyScreens,
 }

@@ -3,7 +3,8 @@ use Rattle.std.proofs.Common.{◌≡◌, ◌<◌, ◌≤◌, ◌+◌, ◌*◌, �
 use Rattle.std.proofs.lemmas.List.{nil_from_length}
 use Rattle.std.proofs.lemmas.List.Elements.{All-cons, All-nil}
 use Rattle.std.specs.List.{All}
-use Rattle.screen_forms.specs.Bits.{first_bytes, first_cells, group_bytes, group_cells, low_bits, packed, unpacked}
+use Rattle.screen_forms.specs.Loops.{bytes_of_eight, cells_of_seven}
+use Rattle.screen_forms.specs.Bits.{group_bytes, group_cells, low_bits, packed, unpacked}
 
 -- the first eight of a list
 record StartsWithEight (codes : List ℕ) : Type 0 where
@@ -37,7 +38,7 @@ unfolding packed
 more_by a b c d e f g h rest = refl
 
 pub packed_more : (codes : List ℕ) → 8 ≤ length codes
-    → packed codes ≡ first_bytes (take 8 codes) ++ packed (drop 8 codes)
+    → packed codes ≡ bytes_of_eight (take 8 codes) ++ packed (drop 8 codes)
 packed_more codes le =
     let s = first_eight codes le in
     rw s.is (more_by s.a s.b s.c s.d s.e s.f s.g s.h s.rest)
@@ -55,7 +56,7 @@ packed_none (a ∷ b ∷ c ∷ d ∷ e ∷ f ∷ []) lt = refl
 packed_none (a ∷ b ∷ c ∷ d ∷ e ∷ f ∷ g ∷ []) lt = refl
 
 pub unpacked_more : (bytes : List ℕ) → 7 ≤ length bytes
-    → unpacked bytes ≡ first_cells (take 7 bytes) ++ unpacked (drop 7 bytes)
+    → unpacked bytes ≡ cells_of_seven (take 7 bytes) ++ unpacked (drop 7 bytes)
 unfolding unpacked
 unpacked_more (p ∷ q ∷ r ∷ s ∷ t ∷ u ∷ v ∷ rest) le = refl
 unpacked_more [] le = absurd (omega arith)

@@ -1,55 +1,55 @@
 -- Steps of walks over a text.
 use Rattle.std.proofs.Common.{◌≡◌, ◌∙◌, ◌<◌, ◌≤◌, ◌+◌, ◌-◌, ℕ, zero, suc, Some, None, Result, Ok, Err, true, false, List, [], ◌∷◌, refl, sym, ap, subst, drop, get_or, length, arith}
 use Rattle.std.proofs.lemmas.List.{append-nil, drop_more, drop_all}
-use Rattle.screen_forms.specs.Words.{is_gap, word_end, word_start}
+use Rattle.screen_forms.specs.Words.{is_between_words, word_end, word_start}
 use Rattle.screen_forms.specs.declared.addresses.LinkedScreen.{LinkedScreen}
-use Rattle.screen_forms.specs.declared.addresses.LineFault.{LineFault}
+use Rattle.screen_forms.specs.declared.addresses.AddressFault.{AddressFault}
 use Rattle.screen_forms.specs.declared.addresses.LinksFault.{LinksFault}
 use Rattle.screen_forms.specs.declared.addresses.LinksFault.TheVariants.{Line, Memory}
-use Rattle.screen_forms.specs.Loops.{AreLinked, IsLineAdded, after_screens}
+use Rattle.screen_forms.specs.Loops.{IsLineAdded, after_screens}
 use Rattle.screen_forms.specs.Links.{is_link_letter}
-use Rattle.screen_forms.specs.Addresses.{field_id, is_mark, is_number_field, letters_from, line_screen, lines_screens, mark_from, number_among, then_screens}
+use Rattle.screen_forms.specs.Addresses.{AreLinkedScreens, field_id, is_mark, is_number_field, letters_from, line_screen, lines_screens, mark_from, number_among, then_screens}
 
 pub start_none : (text : List ℕ) → word_start text 0 ≡ 0
 unfolding word_start
 start_none text = refl
 
-pub start_step : (text : List ℕ) (n : ℕ) → 0 < n → is_gap text (n - 1) ≡ false → word_start text (n - 1) ≡ word_start text n
+pub start_step : (text : List ℕ) (n : ℕ) → 0 < n → is_between_words text (n - 1) ≡ false → word_start text (n - 1) ≡ word_start text n
 unfolding word_start
 start_step text zero some word = absurd (omega (arith, some))
 start_step text (suc n) some word =
     let less : suc n - 1 ≡ n = omega arith in
-    let not_gap : is_gap text n ≡ false = ap (λ (m : ℕ). is_gap text m) (sym less) ∙ word in
+    let not_gap : is_between_words text n ≡ false = ap (λ (m : ℕ). is_between_words text m) (sym less) ∙ word in
     let here : word_start text n ≡ word_start text (suc n) = rw not_gap refl in
     ap (λ (m : ℕ). word_start text m) less ∙ here
 
-pub start_stop : (text : List ℕ) (n : ℕ) → 0 < n → is_gap text (n - 1) ≡ true → word_start text n ≡ n
+pub start_stop : (text : List ℕ) (n : ℕ) → 0 < n → is_between_words text (n - 1) ≡ true → word_start text n ≡ n
 unfolding word_start
 start_stop text zero some gap = absurd (omega (arith, some))
 start_stop text (suc n) some gap =
     let less : suc n - 1 ≡ n = omega arith in
-    let is : is_gap text n ≡ true = ap (λ (m : ℕ). is_gap text m) (sym less) ∙ gap in
+    let is : is_between_words text n ≡ true = ap (λ (m : ℕ). is_between_words text m) (sym less) ∙ gap in
     rw is refl
 
 pub end_none : (text : List ℕ) → word_end text 0 ≡ 0
 unfolding word_end
 end_none text = refl
 
-pub end_step : (text : List ℕ) (n : ℕ) → 0 < n → is_gap text (n - 1) ≡ true → word_end text (n - 1) ≡ word_end text n
+pub end_step : (text : List ℕ) (n : ℕ) → 0 < n → is_between_words text (n - 1) ≡ true → word_end text (n - 1) ≡ word_end text n
 unfolding word_end
 end_step text zero some gap = absurd (omega (arith, some))
 end_step text (suc n) some gap =
     let less : suc n - 1 ≡ n = omega arith in
-    let is : is_gap text n ≡ true = ap (λ (m : ℕ). is_gap text m) (sym less) ∙ gap in
+    let is : is_between_words text n ≡ true = ap (λ (m : ℕ). is_between_words text m) (sym less) ∙ gap in
     let here : word_end text n ≡ word_end text (suc n) = rw is refl in
     ap (λ (m : ℕ). word_end text m) less ∙ here
 
-pub end_stop : (text : List ℕ) (n : ℕ) → 0 < n → is_gap text (n - 1) ≡ false → word_end text n ≡ n
+pub end_stop : (text : List ℕ) (n : ℕ) → 0 < n → is_between_words text (n - 1) ≡ false → word_end text n ≡ n
 unfolding word_end
 end_stop text zero some word = absurd (omega (arith, some))
 end_stop text (suc n) some word =
     let less : suc n - 1 ≡ n = omega arith in
-    let not_gap : is_gap text n ≡ false = ap (λ (m : ℕ). is_gap text m) (sym less) ∙ word in
+    let not_gap : is_between_words text n ≡ false = ap (λ (m : ℕ). is_between_words text m) (sym less) ∙ word in
     rw not_gap refl
 
 mark_hit : (at c : ℕ) (cs : List ℕ) → is_mark (c ∷ cs) ≡ true → mark_from at (c ∷ cs) ≡ Some at
@@ -123,13 +123,13 @@ line_last line all l e = rw e refl
 
 -- Lines that are read.
 
-pub fault_in : (line : ℕ) (old new : List LinkedScreen) (all : List (List ℕ)) (l : List ℕ) (ls : List (List ℕ)) (whole : Result (List LinkedScreen) LineFault) (fault : LinksFault)
-    → IsLineAdded line old new (line_screen line l) (Err fault) → after_screens old (lines_screens line all) ≡ whole → all ≡ l ∷ ls → AreLinked whole (Err fault)
+pub fault_in : (line : ℕ) (old new : List LinkedScreen) (all : List (List ℕ)) (l : List ℕ) (ls : List (List ℕ)) (whole : Result (List LinkedScreen) AddressFault) (fault : LinksFault)
+    → IsLineAdded line old new (line_screen line l) (Err fault) → after_screens old (lines_screens line all) ≡ whole → all ≡ l ∷ ls → AreLinkedScreens whole (Err fault)
 fault_in line old new all l ls whole (Line f) added e parts =
     sym e ∙ ap (λ m. after_screens old m) (line_first line all l ls parts) ∙ added (lines_screens (line + 1) ls)
 fault_in line old new all l ls whole Memory added e parts = tt
 
-pub screens_in : (line : ℕ) (old new : List LinkedScreen) (all : List (List ℕ)) (l : List ℕ) (whole : Result (List LinkedScreen) LineFault) (u : Unit {0})
+pub screens_in : (line : ℕ) (old new : List LinkedScreen) (all : List (List ℕ)) (l : List ℕ) (whole : Result (List LinkedScreen) AddressFault) (u : Unit {0})
     → IsLineAdded line old new (line_screen line l) (Ok u) → after_screens old (lines_screens line all) ≡ whole → all ≡ l ∷ [] → whole ≡ Ok new
 screens_in line old new all l whole u added e parts =
-    sym e ∙ ap (λ m. after_screens old m) (line_last line all l parts) ∙ added (Ok []) ∙ ap (λ (ss : List LinkedScreen). let r : Result (List LinkedScreen) LineFault = Ok ss in r) (append-nil new)
+    sym e ∙ ap (λ m. after_screens old m) (line_last line all l parts) ∙ added (Ok []) ∙ ap (λ (ss : List LinkedScreen). let r : Result (List LinkedScreen) AddressFault = Ok ss in r) (append-nil new)

@@ -1,5 +1,5 @@
 -- Addresses of edit.tf among the lines of a text.
-use Rattle.std.specs.Prelude.{ℕ, Bool, List, [], ◌∷◌, Option, Some, None, Result, Ok, Err, ◌+◌, ◌==◌, ◌&&◌, ◌||◌, drop, get_or, nat_le, take, if◌then◌else◌}
+use Rattle.std.specs.Prelude.{◌≡◌, ℕ, Bool, List, [], ◌∷◌, Option, Some, None, Result, Ok, Err, Vec, ◌+◌, ◌==◌, ◌&&◌, ◌||◌, drop, get_or, nat_le, take, if◌then◌else◌}
 use Rattle.std.specs.Option.{is_some}
 use Rattle.page_ids.specs.Ids.{Id}
 use Rattle.page_ids.specs.Parts.{parts_of}
@@ -8,7 +8,10 @@ use Rattle.screen_forms.specs.Words.{any_case_id, is_digit_byte, number_id, word
 use Rattle.screen_forms.specs.declared.addresses.LinkedScreen.{LinkedScreen}
 use Rattle.screen_forms.specs.declared.addresses.LinkFault.{LinkFault}
 use Rattle.screen_forms.specs.declared.addresses.LinkFault.TheVariants.{Letters, Two}
-use Rattle.screen_forms.specs.declared.addresses.LineFault.{LineFault}
+use Rattle.screen_forms.specs.declared.addresses.AddressFault.{AddressFault}
+use Rattle.screen_forms.specs.declared.addresses.LinksFault.{LinksFault}
+use Rattle.screen_forms.specs.declared.addresses.LinksFault.TheVariants.{Line, Memory}
+use Rattle.std.specs.declared.alloc.Global.{Global}
 
 -- `A` to `F` are 65 to 70, `a` to `f` 97 to 102
 abbrev pub is_hex_digit : ℕ → Bool
@@ -23,8 +26,8 @@ unfoldable pub mark_from : ℕ → List ℕ → Option ℕ
 mark_from at [] = None
 mark_from at (c ∷ cs) = if is_mark (c ∷ cs) then Some at else mark_from (at + 1) cs
 
-abbrev pub mark_of : List ℕ → Option ℕ
-mark_of text = mark_from 0 text
+abbrev pub address_at : List ℕ → Option ℕ
+address_at text = mark_from 0 text
 
 -- where the letters end that begin a text
 unfoldable pub letters_from : ℕ → List ℕ → ℕ
@@ -63,7 +66,7 @@ linked_by line before after (Some codes) =
 -- before and after a mark
 abbrev pub linked_screen : ℕ → List ℕ → List ℕ → Result (Option LinkedScreen) LinkFault
 linked_screen line before after =
-    if is_some (mark_of after) then Err Two else linked_by line before after (link_codes (first_letters after))
+    if is_some (address_at after) then Err Two else linked_by line before after (link_codes (first_letters after))
 
 abbrev pub linked_at : ℕ → List ℕ → Option ℕ → Result (Option LinkedScreen) LinkFault
 linked_at line text None = Ok None
@@ -71,31 +74,37 @@ linked_at line text (Some at) = linked_screen line (take at text) (drop (at + 3)
 
 -- the screen of a line, if it has an address
 abbrev pub line_screen : ℕ → List ℕ → Result (Option LinkedScreen) LinkFault
-line_screen line text = linked_at line text (mark_of text)
+line_screen line text = linked_at line text (address_at text)
 
 -- The screens of a text.
 
-abbrev pub onto_screens : Option LinkedScreen → Result (List LinkedScreen) LineFault → Result (List LinkedScreen) LineFault
+abbrev pub onto_screens : Option LinkedScreen → Result (List LinkedScreen) AddressFault → Result (List LinkedScreen) AddressFault
 onto_screens s (Err fault) = Err fault
 onto_screens None (Ok more) = Ok more
 onto_screens (Some s) (Ok more) = Ok (s ∷ more)
 
-abbrev pub then_screens : ℕ → Result (Option LinkedScreen) LinkFault → Result (List LinkedScreen) LineFault → Result (List LinkedScreen) LineFault
+abbrev pub then_screens : ℕ → Result (Option LinkedScreen) LinkFault → Result (List LinkedScreen) AddressFault → Result (List LinkedScreen) AddressFault
 then_screens line (Err fault) more = Err (record { line = line; fault = fault })
 then_screens line (Ok s) more = onto_screens s more
 
 -- those of lines, the first of which has this number; a fault is that of the first line at fault
-unfoldable pub lines_screens : ℕ → List (List ℕ) → Result (List LinkedScreen) LineFault
+unfoldable pub lines_screens : ℕ → List (List ℕ) → Result (List LinkedScreen) AddressFault
 lines_screens line [] = Ok []
 lines_screens line (l ∷ ls) = then_screens line (line_screen line l) (lines_screens (line + 1) ls)
 
 -- a byte order mark: EF BB BF
-abbrev pub has_mark : List ℕ → Bool
-has_mark text = get_or text 0 0 == 0xEF && get_or text 1 0 == 0xBB && get_or text 2 0 == 0xBF
+abbrev pub has_byte_mark : List ℕ → Bool
+has_byte_mark text = get_or text 0 0 == 0xEF && get_or text 1 0 == 0xBB && get_or text 2 0 == 0xBF
 
-abbrev pub unmarked : List ℕ → List ℕ
-unmarked text = if has_mark text then drop 3 text else text
+abbrev pub after_byte_mark : List ℕ → List ℕ
+after_byte_mark text = if has_byte_mark text then drop 3 text else text
 
 -- of the lines of a text, between line ends (10)
-abbrev pub linked_screens : List ℕ → Result (List LinkedScreen) LineFault
-linked_screens text = lines_screens 1 (parts_of 10 (unmarked text))
+abbrev pub linked_screens : List ℕ → Result (List LinkedScreen) AddressFault
+linked_screens text = lines_screens 1 (parts_of 10 (after_byte_mark text))
+
+-- the screens of a text, or its first fault
+abbrev pub AreLinkedScreens : Result (List LinkedScreen) AddressFault → Result (Vec LinkedScreen Global) LinksFault → Type 0
+AreLinkedScreens found (Ok screens) = found ≡ Ok screens.items
+AreLinkedScreens found (Err (Line fault)) = found ≡ Err fault
+AreLinkedScreens found (Err Memory) = Unit {0}

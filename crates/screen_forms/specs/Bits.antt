@@ -1,5 +1,5 @@
 -- Eight codes of seven bits as seven bytes, the most significant bit first.
-use Rattle.std.specs.Prelude.{ℕ, List, [], ◌∷◌, ◌++◌, ◌+◌, ◌-◌, ◌*◌, ◌/◌, ◌%◌, get_or, nat_lt, if◌then◌else◌}
+use Rattle.std.specs.Prelude.{ℕ, List, [], ◌∷◌, ◌++◌, ◌+◌, ◌-◌, ◌*◌, ◌/◌, ◌%◌, nat_lt, if◌then◌else◌}
 
 -- the low seven bits of eight codes
 abbrev pub group_bytes : List ℕ → List ℕ
@@ -7,10 +7,6 @@ group_bytes (a ∷ b ∷ c ∷ d ∷ e ∷ f ∷ g ∷ h ∷ _) =
     (a % 128 * 2 + b % 128 / 64) ∷ (b % 64 * 4 + c % 128 / 32) ∷ (c % 32 * 8 + d % 128 / 16) ∷ (d % 16 * 16 + e % 128 / 8)
     ∷ (e % 8 * 32 + f % 128 / 4) ∷ (f % 4 * 64 + g % 128 / 2) ∷ (g % 2 * 128 + h % 128) ∷ []
 group_bytes _ = []
-
-abbrev pub first_bytes : List ℕ → List ℕ
-first_bytes codes =
-    group_bytes (get_or codes 0 0 ∷ get_or codes 1 0 ∷ get_or codes 2 0 ∷ get_or codes 3 0 ∷ get_or codes 4 0 ∷ get_or codes 5 0 ∷ get_or codes 6 0 ∷ get_or codes 7 0 ∷ [])
 
 -- what is left after the last eight is dropped
 unfoldable pub packed : List ℕ → List ℕ
@@ -23,10 +19,6 @@ group_cells (p ∷ q ∷ r ∷ s ∷ t ∷ u ∷ v ∷ _) =
     (p % 256 / 2) ∷ (p % 2 * 64 + q % 256 / 4) ∷ (q % 4 * 32 + r % 256 / 8) ∷ (r % 8 * 16 + s % 256 / 16)
     ∷ (s % 16 * 8 + t % 256 / 32) ∷ (t % 32 * 4 + u % 256 / 64) ∷ (u % 64 * 2 + v % 256 / 128) ∷ (v % 128) ∷ []
 group_cells _ = []
-
-abbrev pub first_cells : List ℕ → List ℕ
-first_cells bytes =
-    group_cells (get_or bytes 0 0 ∷ get_or bytes 1 0 ∷ get_or bytes 2 0 ∷ get_or bytes 3 0 ∷ get_or bytes 4 0 ∷ get_or bytes 5 0 ∷ get_or bytes 6 0 ∷ [])
 
 unfoldable pub unpacked : List ℕ → List ℕ
 unpacked (p ∷ q ∷ r ∷ s ∷ t ∷ u ∷ v ∷ rest) = group_cells (p ∷ q ∷ r ∷ s ∷ t ∷ u ∷ v ∷ []) ++ unpacked rest

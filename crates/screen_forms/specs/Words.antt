@@ -17,20 +17,20 @@ any_case_id text =
 -- What comes before an address.
 
 -- a space (32), a tab (9), `,` (44), `;` (59), `=` (61), and `:` (58) unless `/` (47) follows, is between words
-abbrev pub is_gap : List ℕ → ℕ → Bool
-is_gap text at =
+abbrev pub is_between_words : List ℕ → ℕ → Bool
+is_between_words text at =
     get_or text at 0 == 32 || get_or text at 0 == 9 || get_or text at 0 == 44 || get_or text at 0 == 59 || get_or text at 0 == 61
     || get_or text at 0 == 58 && not (get_or text (at + 1) 0 == 47)
 
 -- where the word begins that goes to the end of the first n bytes
 unfoldable pub word_start : List ℕ → ℕ → ℕ
 word_start text zero = 0
-word_start text (suc n) = if is_gap text n then suc n else word_start text n
+word_start text (suc n) = if is_between_words text n then suc n else word_start text n
 
 -- where the last word ends in the first n bytes
 unfoldable pub word_end : List ℕ → ℕ → ℕ
 word_end text zero = 0
-word_end text (suc n) = if is_gap text n then word_end text n else suc n
+word_end text (suc n) = if is_between_words text n then word_end text n else suc n
 
 abbrev pub bytes_between : List ℕ → ℕ → ℕ → List ℕ
 bytes_between text from to = take (to - from) (drop from text)

@@ -34,7 +34,7 @@ pub enum LinkFault {
 
 /// The first line at fault.
 #[derive(Debug, Clone, Copy, PartialEq, Eq)]
-pub struct LineFault {
+pub struct AddressFault {
     /// Its number, from 1.
     pub line: usize,
     pub fault: LinkFault,
@@ -43,7 +43,7 @@ pub struct LineFault {
 /// Why there are no screens of a text.
 #[derive(Debug, Clone, Copy, PartialEq, Eq)]
 pub enum LinksFault {
-    Line(LineFault),
+    Line(AddressFault),
     /// A growth was refused.
     Memory,
 }
@@ -64,8 +64,8 @@ fn is_mark(text: &[u8]) -> bool
 
 // Where the first one is.
 #[tactic(auto, using(crate::proofs::Walks::mark_here, crate::proofs::Walks::mark_later, crate::proofs::Walks::mark_none))]
-fn mark_of(text: &[u8]) -> Option<usize>
-    ensures value { result ≡ spec.mark_of text.now }
+fn address_at(text: &[u8]) -> Option<usize>
+    ensures value { result ≡ spec.address_at text.now }
     ensures within { IfSome result (λ at. at + 3 ≤ length text.now) }
 {
     for at in 0..text.len() {
@@ -78,9 +78,9 @@ fn mark_of(text: &[u8]) -> Option<usize>
 
 /// Whether a text has an address: `#`, a hex digit and `:`, and then its letters.
 pub fn has_address(text: &[u8]) -> bool
-    ensures { result ≡ is_some (spec.mark_of text.now) }
+    ensures { result ≡ is_some (spec.address_at text.now) }
 {
-    mark_of(text).is_some()
+    address_at(text).is_some()
 }
 
 // How many letters begin a text.
@@ -163,7 +163,7 @@ fn line_screen(
 ) -> Result<Result<Option<LinkedScreen>, LinkFault>, AllocError>
     ensures { IfOk result (λ found. found ≡ spec.line_screen line text.now) }
 {
-    match mark_of(text) {
+    match address_at(text) {
         Some(at) => linked_screen(alloc, line, &text[..at], &text[at + 3..]),
         None => Ok(Ok(None)),
     }
@@ -184,14 +184,14 @@ fn push_line(
             Ok(()) => Ok(()),
             Err(_) => Err(LinksFault::Memory),
         },
-        Ok(Err(fault)) => Err(LinksFault::Line(LineFault { line, fault })),
+        Ok(Err(fault)) => Err(LinksFault::Line(AddressFault { line, fault })),
         Err(_) => Err(LinksFault::Memory),
     }
 }
 
 // The text without a byte order mark.
-fn unmarked(text: &[u8]) -> &[u8]
-    ensures { result.now ≡ spec.unmarked text.now }
+fn after_byte_mark(text: &[u8]) -> &[u8]
+    ensures { result.now ≡ spec.after_byte_mark text.now }
 {
     match text.strip_prefix(b"\xEF\xBB\xBF") {
         Some(rest) => rest,
@@ -206,11 +206,11 @@ fn unmarked(text: &[u8]) -> &[u8]
 /// A fault is that of the first line at fault.
 #[tactic(auto, using(crate::proofs::Walks::line_first, crate::proofs::Walks::line_last))]
 pub fn linked_screens(alloc: Global, text: &[u8]) -> Result<Vec<LinkedScreen>, LinksFault>
-    ensures { loops.AreLinked (spec.linked_screens text.now) result }
+    ensures { spec.AreLinkedScreens (spec.linked_screens text.now) result }
 {
     let mut screens = Vec::new(alloc);
     let mut line = 1;
-    let mut left = unmarked(text);
+    let mut left = after_byte_mark(text);
     while let Some((text, rest)) = cut(left, b'\n') {
         match push_line(alloc, &mut screens, line, text) {
             Ok(()) => {}

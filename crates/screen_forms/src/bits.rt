@@ -2,6 +2,7 @@
 
 ghost use Rattle.std.specs.Prelude.{◌≡◌, ◌≤◌, ◌++◌, IfOk, OnOk, length, map};
 ghost use Rattle.screen_forms.specs.Bits as spec;
+ghost use Rattle.screen_forms.specs.Loops as loops;
 
 use std::alloc::{AllocError, Global};
 
@@ -52,7 +53,7 @@ fn group_cells(bytes: [u8; 7]) -> [u8; 8]
 // Writes the low seven bits of the first eight codes.
 fn push_bytes(bytes: &mut Vec<u8>, codes: &[u8]) -> Result<(), AllocError>
     requires { 8 ≤ length codes.now }
-    ensures { OnOk result (bytes.new.items ≡ bytes.old.items ++ spec.first_bytes codes.now) }
+    ensures { OnOk result (bytes.new.items ≡ bytes.old.items ++ loops.bytes_of_eight codes.now) }
 {
     bytes.extend_from_slice(&group_bytes([
         codes[0], codes[1], codes[2], codes[3], codes[4], codes[5], codes[6], codes[7],
@@ -62,7 +63,7 @@ fn push_bytes(bytes: &mut Vec<u8>, codes: &[u8]) -> Result<(), AllocError>
 // Writes the bits of the first seven bytes.
 fn push_cells(cells: &mut Vec<u8>, bytes: &[u8]) -> Result<(), AllocError>
     requires { 7 ≤ length bytes.now }
-    ensures { OnOk result (cells.new.items ≡ cells.old.items ++ spec.first_cells bytes.now) }
+    ensures { OnOk result (cells.new.items ≡ cells.old.items ++ loops.cells_of_seven bytes.now) }
 {
     cells.extend_from_slice(&group_cells([
         bytes[0], bytes[1], bytes[2], bytes[3], bytes[4], bytes[5], bytes[6],

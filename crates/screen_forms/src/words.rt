@@ -27,9 +27,9 @@ fn byte_at(text: &[u8], at: usize) -> u8
 }
 
 // Whether a byte is between words: `:` isn't if `/` follows.
-fn is_gap(text: &[u8], at: usize) -> bool
+fn is_between_words(text: &[u8], at: usize) -> bool
     requires { at < length text.now }
-    ensures { result ≡ spec.is_gap text.now at }
+    ensures { result ≡ spec.is_between_words text.now at }
 {
     match text[at] {
         b' ' | b'\t' | b',' | b';' | b'=' => true,
@@ -46,7 +46,7 @@ fn word_start(text: &[u8], end: usize) -> usize
     ensures within { result ≤ end }
 {
     let mut start = end;
-    while start > 0 && !is_gap(text, start - 1) {
+    while start > 0 && !is_between_words(text, start - 1) {
         start -= 1;
     }
     start
@@ -60,7 +60,7 @@ fn word_end(text: &[u8], end: usize) -> usize
     ensures within { result ≤ end }
 {
     let mut end = end;
-    while end > 0 && is_gap(text, end - 1) {
+    while end > 0 && is_between_words(text, end - 1) {
         end -= 1;
     }
     end

@@ -1,7 +1,7 @@
 use crate::files::screen_with;
 use page_ids::FrameId;
 use screen_forms::{
-    LineFault, LinkFault, LinkedScreen, LinksFault, SavedForm, any_case_id, has_address,
+    AddressFault, LinkFault, LinkedScreen, LinksFault, SavedForm, any_case_id, has_address,
     is_link_letter, link_codes, linked_screens, push_address, push_form, stored_code,
 };
 use std::alloc::Global;
@@ -108,7 +108,10 @@ fn fault_of(alloc: Global, text: &[u8]) -> Option<LinksFault> {
 #[test]
 fn the_first_line_at_fault_is_named(rt: HostRuntime) -> Result<(), Fail> {
     let alloc = rt.alloc();
-    let fault = |line: usize, fault: LinkFault| Some(LinksFault::Line(LineFault { line, fault }));
+    let fault = |line: usize, fault: LinkFault| Some(LinksFault::Line(AddressFault {
+        line,
+        fault,
+    }));
     same(fault_of(alloc, b"no address\n#1 :\n"), None)?;
     same(
         fault_of(alloc, b"\n4a #1:QIE\n"),

@@ -1,7 +1,7 @@
 use Rattle.std.proofs.Common.{arith}
 use Rattle.std.proofs.lemmas.Grind.{common_steps}
 use Rattle.screen_forms.proofs.Walks.{mark_here, mark_later}
-use Rattle.screen_forms.proofs.addresses.mark_of.Goals as goal
+use Rattle.screen_forms.proofs.addresses.address_at.Goals as goal
 
 pub returns-then-is_mark-clause-value : goal.returns-then-is_mark-clause-value
 returns-then-is_mark-clause-value c =

@@ -1,7 +1,0 @@
-use Rattle.std.proofs.Common.{◌≡◌, drop}
-use Rattle.screen_forms.specs.Addresses.{mark_from, mark_of}
-use Rattle.screen_forms.proofs.addresses.mark_of.Given as goal
-
--- none begins before this place
-abbrev pub invariant-loop-at : goal.invariant-loop-at
-invariant-loop-at l = mark_from l.at (drop l.at l.text) ≡ mark_of l.text
