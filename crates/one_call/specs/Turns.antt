@@ -82,6 +82,14 @@ heard_turn base c (Pressed key) = keyed base c key
 heard_turn base c Page = said c keyed_page_words false
 heard_turn base c End = said c end_words true
 
+-- whether it is a key
+abbrev pub is_key : Heard → Bool
+is_key Nothing = false
+is_key Changed = false
+is_key (Pressed key) = true
+is_key Page = false
+is_key End = false
+
 abbrev pub with_hearing : CallView → HearingView → CallView
 with_hearing c h = record { hearing = h; session = c.session; caret = c.caret; words = c.words; over = c.over }
 
@@ -113,10 +121,6 @@ AllHeard base c (b ∷ bs) = (c.over ≡ false) × AllHeard base (turn base c b)
 -- the first bytes of a call: every terminal is made new, and the entry frame
 abbrev pub first_bytes : BaseView → List ℕ
 first_bytes base = opening_bytes ++ sending_bytes home (painting_of base (entry_of base))
-
--- all that is written in a call in which these bytes are heard
-abbrev pub call_bytes : List ℕ → BaseView → List ℕ → List ℕ
-call_bytes groups base bytes = first_bytes base ++ answers_to base (begun_call groups base) bytes
 
 -- the keys among the bytes, up to the end of the call
 abbrev pub keys_unless_over : Bool → Heard → List Key → List Key
