@@ -59,7 +59,7 @@ fn number_after<F: EditionFolder>(
                 if before == from {
                     return Ok(number);
                 }
-                if before > number {
+                if before >= number {
                     return Err(ReachFault::OtherBeginning);
                 }
                 number = before;
