@@ -1,5 +1,6 @@
 -- Editions that are reached from one another.
-use Rattle.std.proofs.Common.{◌≡◌, true, List, [], ◌∷◌, refl, sym, subst, ◌∙◌}
+use Rattle.std.proofs.Common.{List, [], ◌∷◌, Option, Some, None, refl, subst, ◌∙◌}
+use Rattle.std.specs.Prelude.{IfSome}
 use Rattle.editions.specs.Folders.{FolderState, SeenFolder, IsLater}
 use Rattle.edition_checks.specs.declared.served.Served.{Served}
 use Rattle.edition_checks.specs.Served.{IfHeld}
@@ -34,3 +35,7 @@ reached_one folder s t h = record { editions = t ∷ []; next = (h, tt); is = re
 
 pub reached_more : (folder : SeenFolder) (s t u : Served) → IsReached folder s t → IsNext folder t u → IsReached folder s u
 reached_more folder s t u h next = record { editions = u ∷ h.editions; next = (subst (λ (x : Served). IsNext folder x u) h.is next, h.next); is = refl }
+
+pub if_reached_before : (a b : SeenFolder) (old : Served) (new : Option Served) → IsLater a b → IfSome new (IsReached b old) → IfSome new (IsReached a old)
+if_reached_before a b old None later h = tt
+if_reached_before a b old (Some new) later h = reached_before a b old new later h

@@ -38,12 +38,7 @@ fn have_same_groups(served: &Served, policy: &Policy) -> bool
 }
 
 /// Checks the change from the edition that is served to one of this base, certificate and policy, by the wider of the two policies.
-pub fn may_follow(
-    served: &Served,
-    base: &Base,
-    cert: &Certificate,
-    policy: &Policy,
-) -> Following
+pub fn may_follow(served: &Served, base: &Base, cert: &Certificate, policy: &Policy) -> Following
     ensures { result ≡ Following.Cleared → IsClearedAgainst (served_view None served.now)
         (record { base = base.now; cert = cert.now; policy = policy.now; follows = None }) }
 {

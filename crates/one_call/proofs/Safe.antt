@@ -8,7 +8,7 @@ use Rattle.session_machine.specs.declared.reply.Reply.TheVariants.{Shown, Again,
 use Rattle.session_machine.specs.Sessions.{SessionState, At, Left, opening}
 use Rattle.session_machine.specs.Runs.{state_after, replies_to, IsFairReply, LeftOrRegains}
 use Rattle.checker.specs.Safe.{Safe, HasRows}
-use Rattle.checker.specs.Change.{IsSafeFrom, edition}
+use Rattle.checker.specs.Change.{edition}
 use Rattle.checker.proofs.Steps.{safe, rows_after}
 use Rattle.checker.proofs.Clears.{cleared_good}
 use Rattle.checker.proofs.Editions.{cleared_change, over_changes}
@@ -16,9 +16,9 @@ use Rattle.editions.specs.Chains.{wider_of, IsClearedAgainst}
 use Rattle.edition_checks.specs.declared.served.Served.{Served}
 use Rattle.edition_checks.specs.Served.{served_view}
 use Rattle.edition_checks.specs.NextEditions.{IsFit}
-use Rattle.one_call.specs.Turns.{CallView, begun_call, keys_in_call, call_after}
+use Rattle.one_call.specs.Turns.{begun_call, keys_in_call}
 use Rattle.one_call.specs.Parts.{Parts, First, Then, served_now, call_over}
-use Rattle.one_call.specs.Safety.{first_keys, AreSafeReplies, IsSafeBeginning, IsSafeGoingOn, AreSafeParts, AreClearedInTurn, PartsAreSafe}
+use Rattle.one_call.specs.Safety.{first_keys, AreSafeReplies, IsSafeBeginning, AreSafeParts, AreClearedInTurn, PartsAreSafe}
 use Rattle.one_call.proofs.Seen.{turns_are, are_sent, parts_are_seen}
 use Rattle.std.specs.Prelude.{None}
 

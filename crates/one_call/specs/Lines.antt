@@ -1,8 +1,6 @@
 -- A call on a line.
 use Rattle.std.specs.Prelude.{◌≡◌, ◌⊎◌, ℕ, true, false, List, take, Result, Ok, Err}
 use Rattle.std.specs.Io.KnownBytes.{Appends, Consumes, IsAtEnd}
-use Rattle.frame_records.specs.declared.base.Sought.{Sought}
-use Rattle.frame_records.specs.declared.base.Sought.TheVariants as sought
 use Rattle.devices.specs.Devices.{Seen}
 use Rattle.editions.specs.Folders.{SeenFolder}
 use Rattle.one_call.specs.declared.fault.ServeFault.{ServeFault}

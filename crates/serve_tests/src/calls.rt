@@ -234,8 +234,5 @@ fn line_that_cannot_be_read_has_the_answers_before(rt: HostRuntime) -> Result<()
     let mut broken = FakeSource::broken(b"1", 1, 0);
     let mut other = FakeSink::of(alloc, 7);
     let end = serve(alloc, &mut folder, &mut broken, &mut other, &mut notes);
-    same(
-        matches!(end, Err(CallFault::Line(ServeFault::Read))),
-        true,
-    )
+    same(matches!(end, Err(CallFault::Line(ServeFault::Read))), true)
 }
