@@ -27,9 +27,10 @@ impl<R: Source> AnsiKeys<R> {
     /// The keys that are typed into a source.
     pub fn new(inner: R) -> AnsiKeys<R>
         ensures { ⟦<AnsiKeys<R> as Source>⟧.seen result ≡ record {
-            bytes = option_map (all_typed false) (R.seen inner).bytes;
-            failed = (R.seen inner).failed;
-            flushes = (R.seen inner).flushes } }
+          bytes = option_map (all_typed false) (R.seen inner).bytes;
+          failed = (R.seen inner).failed;
+          flushes = (R.seen inner).flushes;
+        } }
     {
         AnsiKeys {
             inner,
@@ -40,9 +41,10 @@ impl<R: Source> AnsiKeys<R> {
 
 impl<R: Source> Source for AnsiKeys<R> {
     ghost seen = { λ s. record {
-        bytes = option_map (all_typed s.after_return) (R.seen s.inner).bytes;
-        failed = (R.seen s.inner).failed;
-        flushes = (R.seen s.inner).flushes } };
+      bytes = option_map (all_typed s.after_return) (R.seen s.inner).bytes;
+      failed = (R.seen s.inner).failed;
+      flushes = (R.seen s.inner).flushes;
+    } };
 
     fn read(&mut self, into: &mut [u8]) -> Result<usize, Broken> {
         let room = into.len().min(1);

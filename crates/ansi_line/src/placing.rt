@@ -11,7 +11,7 @@ use terminal_codes::Terminal;
 // Puts the cursor at the first column of a row.
 #[tactic(auto, using(std::proofs::Common::append_assoc))]
 fn push_place(out: &mut Vec<u8>, row: u8) -> Result<(), AllocError>
-    ensures { OnOk result (out.new.items ≡ out.old.items ++ spec.line_place row) }
+    ensures { OnOk result (out.new.items ≡ out.old.items ++ spec.row_place row) }
 {
     out.extend_from_slice(b"\x1b[")?;
     push_number(out, u64::from(row))?;

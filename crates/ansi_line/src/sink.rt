@@ -15,12 +15,14 @@ use terminal_codes::Terminal;
 #[derive(Drop)]
 pub struct AnsiScreen<W> {
     alloc: Global,
-    inner: W,
+    /// What the screens are written to.
+    pub inner: W,
     terminal: Terminal,
     is_waiting: bool,
     failed: bool,
     flushes: u8,
-    is_refused: bool,
+    /// Whether it failed because a growth was refused.
+    pub is_refused: bool,
 }
 
 impl<W: Sink> AnsiScreen<W> {
@@ -39,20 +41,6 @@ impl<W: Sink> AnsiScreen<W> {
             flushes: 0,
             is_refused: false,
         }
-    }
-
-    /// Whether it failed because a growth was refused.
-    pub fn is_refused(&self) -> bool
-        ensures { result ≡ self.now.is_refused }
-    {
-        self.is_refused
-    }
-
-    /// What the screens are written to.
-    pub fn inner(&self) -> &W
-        ensures { result.now ≡ self.now.inner }
-    {
-        &self.inner
     }
 
     // Notes a failure.

@@ -82,8 +82,8 @@ fn serve_ansi<R: Files + Eprint + AllocGlobal, I: Read + Drop, W: Write + Drop>(
     let mut keys = AnsiKeys::new(input);
     let mut screen = AnsiScreen::new(rt.alloc(), output);
     let end = serve(rt.alloc(), folder, &mut keys, &mut screen, notes);
-    let is_closed = screen.inner().is_closed;
-    if screen.is_refused() {
+    let is_closed = screen.inner.is_closed;
+    if screen.is_refused {
         (Err(CallFault::Line(ServeFault::Memory)), is_closed)
     } else {
         (end, is_closed)

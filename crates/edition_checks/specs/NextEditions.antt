@@ -23,7 +23,7 @@ pub record SaysFollows (f : FolderState) (number : ℕ) (follows : Option ℕ) :
 
 -- an edition that was read may take the place of another while callers are inside: it is cleared, and so is the change. If nobody
 -- else changes the folder, its texts are there, and it says that it follows the other
-pub record IsNext (folder : SeenFolder) (old new : Served) : Type 0 where
+pub record IsNextEdition (folder : SeenFolder) (old new : Served) : Type 0 where
   pub read : IsReadEdition new
   pub fit : IsFit new
   pub against : IsClearedAgainst (served_view None old) (served_view None new)
@@ -38,10 +38,10 @@ latest_of s (t ∷ earlier) = t
 -- each of them takes the place of the one before it
 abbrev pub AreNext : SeenFolder → Served → List Served → Type 0
 AreNext folder s [] = Unit {0}
-AreNext folder s (t ∷ earlier) = IsNext folder (latest_of s earlier) t × AreNext folder s earlier
+AreNext folder s (t ∷ earlier) = IsNextEdition folder (latest_of s earlier) t × AreNext folder s earlier
 
 -- from an edition to another, along the editions between; or it is the same
-pub record IsReached (folder : SeenFolder) (old new : Served) : Type 0 where
+pub record IsEditionReached (folder : SeenFolder) (old new : Served) : Type 0 where
   pub editions : List Served
   pub next : AreNext folder old editions
   pub is : new ≡ latest_of old editions

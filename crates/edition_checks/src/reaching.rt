@@ -4,7 +4,7 @@ ghost use Rattle.std.specs.Prelude.{◌≡◌, ◌<◌, ◌≤◌, Some, None, I
 ghost use Rattle.editions.specs.Folders.{IsLater};
 ghost use Rattle.editions.specs.Chains.{IsClearedAgainst};
 ghost use Rattle.edition_checks.specs.Served.{IfHeld, served_view};
-ghost use Rattle.edition_checks.specs.NextEditions.{IsFit, SaysFollows, IsNext, IsReached};
+ghost use Rattle.edition_checks.specs.NextEditions.{IsFit, SaysFollows, IsNextEdition, IsEditionReached};
 
 use crate::following::{Following, may_follow};
 use crate::served::{Served, read_edition, read_text};
@@ -94,7 +94,7 @@ fn edition_after<F: EditionFolder>(
     to: u32,
 ) -> Result<Served, ReachFault>
     ensures later { IsLater (F.seen folder.old) (F.seen folder.new) }
-    ensures next { IfOk result (IsNext (F.seen folder.old) old.now) }
+    ensures next { IfOk result (IsNextEdition (F.seen folder.old) old.now) }
     ensures within { IfOk result (λ new. (old.now.number < new.number) × (new.number ≤ to)) }
 {
     let number = match number_after(alloc, folder, old.number, to) {
@@ -118,7 +118,7 @@ pub fn reach_edition<F: EditionFolder>(
     number: u32,
 ) -> Result<Served, ReachFault>
     ensures later { IsLater (F.seen folder.old) (F.seen folder.new) }
-    ensures reached { IfOk result (IsReached (F.seen folder.old) served.now) }
+    ensures reached { IfOk result (IsEditionReached (F.seen folder.old) served.now) }
     ensures number { IfOk result (λ new. new.number ≡ number) }
 {
     let mut here = match edition_after(alloc, folder, served, number) {

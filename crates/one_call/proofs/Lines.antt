@@ -8,7 +8,7 @@ use Rattle.frame_records.specs.declared.base.Sought.{Sought}
 use Rattle.devices.specs.Devices.{Seen}
 use Rattle.editions.specs.Folders.{SeenFolder, IsLater}
 use Rattle.edition_checks.specs.declared.served.Served.{Served}
-use Rattle.edition_checks.specs.NextEditions.{IsReached, AreNext, latest_of}
+use Rattle.edition_checks.specs.NextEditions.{IsEditionReached, AreNext, latest_of}
 use Rattle.edition_checks.proofs.Reached.{all_next_before}
 use Rattle.served_bytes.specs.Sent.{sent_bytes}
 use Rattle.one_call.specs.declared.fault.ServeFault.{ServeFault}
@@ -75,7 +75,7 @@ pub record IsToHear (groups : List ℕ) (from mid to old written : Seen) (parts 
   pub given : Consumes mid.bytes to.bytes (b ∷ [])
 
 -- the editions between are those along which the one that is served now was reached
-pub to_hear : (groups : List ℕ) (at : SeenFolder) (from mid to old written : Seen) (parts : Parts) (before s : Served) (c : CallView) (b : ℕ) (h : IsReached at before s)
+pub to_hear : (groups : List ℕ) (at : SeenFolder) (from mid to old written : Seen) (parts : Parts) (before s : Served) (c : CallView) (b : ℕ) (h : IsEditionReached at before s)
     → IsSoFar groups from mid old written parts → before ≡ served_now parts → c ≡ call_over groups parts → c.over ≡ false → Consumes mid.bytes to.bytes (b ∷ [])
     → IsToHear groups from mid to old written (over_editions parts h.editions) s c b
 to_hear groups at from mid to old written parts before s c b h so_far now call goes_on given = record {
@@ -86,7 +86,7 @@ to_hear groups at from mid to old written parts before s c b h so_far now call g
   given = given;
 }
 
-pub served_more : (groups : List ℕ) (start at : SeenFolder) (parts : Parts) (before s : Served) (h : IsReached at before s)
+pub served_more : (groups : List ℕ) (start at : SeenFolder) (parts : Parts) (before s : Served) (h : IsEditionReached at before s)
     → AreServed groups start parts → before ≡ served_now parts → IsLater start at → AreServed groups start (over_editions parts h.editions)
 served_more groups start at parts before s h served now later =
     served_over groups start parts h.editions served

@@ -3,7 +3,7 @@ use Rattle.std.proofs.Common.{◌≡◌, ℕ, refl, ap, sym, subst, ◌∙◌, f
 use Rattle.frame_records.specs.Bases.{BaseView}
 use Rattle.editions.specs.Folders.{SeenFolder}
 use Rattle.edition_checks.specs.declared.served.Served.{Served}
-use Rattle.edition_checks.specs.NextEditions.{IsNext, AreNext, latest_of}
+use Rattle.edition_checks.specs.NextEditions.{IsNextEdition, AreNext, latest_of}
 use Rattle.served_bytes.specs.Sent.{sent_bytes}
 use Rattle.one_call.specs.Turns.{CallView, begun_call, turn, call_after, answers_to, first_bytes}
 use Rattle.one_call.specs.Parts.{Parts, First, Then, served_now, heard_in, call_over, call_bytes, AreHeard}
@@ -39,7 +39,7 @@ are_heard_over groups parts (s ∷ earlier) h = (are_heard_over groups parts ear
 pub served_over : (groups : List ℕ) (folder : SeenFolder) (parts : Parts) (editions : List Served) → AreServed groups folder parts → AreNext folder (served_now parts) editions → AreServed groups folder (over_editions parts editions)
 served_over groups folder parts [] h next = h
 served_over groups folder parts (s ∷ earlier) h next =
-    (served_over groups folder parts earlier h next.1, subst (λ (old : Served). IsNext folder old s) (sym (now_over parts earlier)) next.0)
+    (served_over groups folder parts earlier h next.1, subst (λ (old : Served). IsNextEdition folder old s) (sym (now_over parts earlier)) next.0)
 
 -- One byte more.
 

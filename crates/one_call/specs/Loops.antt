@@ -1,11 +1,13 @@
 -- Facts that hold between the turns of loops, and what functions that aren't exported say. No promise rests on them.
-use Rattle.std.specs.Prelude.{◌≡◌, ℕ, false, true, List, take, Result, Ok, Err}
+use Rattle.std.specs.Prelude.{◌≡◌, ℕ, Bool, false, true, List, take, Result, Ok, Err}
 use Rattle.std.specs.Io.KnownBytes.{Appends}
 use Rattle.frame_records.specs.Bases.{BaseView}
 use Rattle.frame_records.specs.Seek.{seek_entry}
 use Rattle.frame_records.specs.declared.base.Sought.{Sought}
 use Rattle.frame_records.specs.declared.base.Sought.TheVariants as sought
 use Rattle.devices.specs.Devices.{Seen}
+use Rattle.line_keys.specs.declared.heard.Heard.{Heard}
+use Rattle.line_keys.specs.declared.heard.Heard.TheVariants.{Nothing, Changed, Pressed, Page, End}
 use Rattle.served_bytes.specs.Sent.{sent_bytes}
 use Rattle.one_call.specs.declared.fault.ServeFault.{ServeFault}
 use Rattle.one_call.specs.declared.fault.ServeFault.TheVariants.{NotOpened, Read, Write, Memory}
@@ -61,6 +63,14 @@ IsBegun groups base old new (Err Memory) = IsCutBy old new (first_bytes base) Me
 abbrev pub IsByteAnswered : BaseView → CallView → ℕ → Seen → Seen → CallView → Result (Unit {0}) ServeFault → Type 0
 IsByteAnswered base from byte old new to (Ok _) = (to ≡ (turn base from byte).0) × IsWritten old new (sent_bytes from.caret (turn base from byte).1)
 IsByteAnswered base from byte old new to (Err fault) = IsCutBy old new (sent_bytes from.caret (turn base from byte).1) fault
+
+-- whether a key was heard
+abbrev pub ends_key : Heard → Bool
+ends_key Nothing = false
+ends_key Changed = false
+ends_key (Pressed key) = true
+ends_key Page = false
+ends_key End = false
 
 -- The edition.
 

@@ -7,7 +7,7 @@ use Rattle.editions.specs.Folders.{FolderState, SeenFolder}
 use Rattle.editions.specs.NumberLines.{current_in}
 use Rattle.edition_checks.specs.declared.served.Served.{Served}
 use Rattle.edition_checks.specs.Served.{IfHeld, IsReadEdition, IsServed}
-use Rattle.edition_checks.specs.NextEditions.{IsFit, IsNext}
+use Rattle.edition_checks.specs.NextEditions.{IsFit, IsNextEdition}
 use Rattle.one_call.specs.Parts.{Parts, First, Then, served_now}
 
 -- `current` names this number
@@ -42,4 +42,4 @@ pub record IsToRefuse (folder : SeenFolder) (number : ℕ) (cause : Cause) : Typ
 -- one before it, and it and the change to it were cleared
 abbrev pub AreServed : List ℕ → SeenFolder → Parts → Type 0
 AreServed groups folder (First s bytes) = (s.policy.groups ≡ groups) × IsToServe folder s
-AreServed groups folder (Then before s bytes) = AreServed groups folder before × IsNext folder (served_now before) s
+AreServed groups folder (Then before s bytes) = AreServed groups folder before × IsNextEdition folder (served_now before) s

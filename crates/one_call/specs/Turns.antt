@@ -82,14 +82,6 @@ heard_turn base c (Pressed key) = keyed base c key
 heard_turn base c Page = said c keyed_page_words false
 heard_turn base c End = said c end_words true
 
--- whether it is a key
-abbrev pub is_key : Heard → Bool
-is_key Nothing = false
-is_key Changed = false
-is_key (Pressed key) = true
-is_key Page = false
-is_key End = false
-
 abbrev pub with_hearing : CallView → HearingView → CallView
 with_hearing c h = record { hearing = h; session = c.session; caret = c.caret; words = c.words; over = c.over }
 

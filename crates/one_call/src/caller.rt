@@ -3,9 +3,9 @@
 ghost use Rattle.std.specs.Prelude.{◌≡◌, ◌++◌, false, IfOk, IfErr, OnOk};
 ghost use Rattle.served_bytes.specs.Sent.{Says, opening_bytes, home, caret_after, sending_bytes, sent_bytes};
 ghost use Rattle.served_bytes.specs.Words.{sending_of};
-ghost use Rattle.one_call.specs.Loops.{IsBeginFault};
+ghost use Rattle.one_call.specs.Loops.{IsBeginFault, ends_key};
 ghost use Rattle.line_keys.specs.Heard.{hear};
-ghost use Rattle.one_call.specs.Turns.{begun_call, bottom_text, first_bytes, is_key, is_leaving, said, keyed, turn};
+ghost use Rattle.one_call.specs.Turns.{begun_call, bottom_text, first_bytes, is_leaving, said, keyed, turn};
 
 use crate::fault::ServeFault;
 use arrayvec::ArrayString;
@@ -163,7 +163,7 @@ impl OneCall {
         byte: u8,
     ) -> Result<bool, AllocError>
         requires { self.old.over ≡ false }
-        ensures key { IfOk result (λ k. k ≡ is_key (hear self.old.hearing byte).1) }
+        ensures key { IfOk result (λ k. k ≡ ends_key (hear self.old.hearing byte).1) }
         ensures call { OnOk result (self.new ≡ (turn base.now self.old byte).0) }
         ensures text { OnOk result (text.new.items ≡ text.old.items ++
             sent_bytes self.old.caret (turn base.now self.old byte).1) }

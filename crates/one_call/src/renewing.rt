@@ -3,7 +3,7 @@
 ghost use Rattle.std.specs.Prelude.{◌≡◌, IfSome};
 ghost use Rattle.editions.specs.Folders.{IsLater};
 ghost use Rattle.edition_checks.specs.Served.{IfHeld};
-ghost use Rattle.edition_checks.specs.NextEditions.{IsReached};
+ghost use Rattle.edition_checks.specs.NextEditions.{IsEditionReached};
 ghost use Rattle.one_call.specs.Opened.{NamesCurrent};
 
 use crate::log::CallLog;
@@ -21,7 +21,7 @@ fn reached<F: EditionFolder>(
     refused: &mut Option<u32>,
 ) -> Option<Served>
     ensures later { IsLater (F.seen folder.old) (F.seen folder.new) }
-    ensures reached { IfSome result (IsReached (F.seen folder.old) served.now) }
+    ensures reached { IfSome result (IsEditionReached (F.seen folder.old) served.now) }
     ensures number { IfSome result (λ new. new.number ≡ number) }
 {
     match reach_edition(alloc, folder, served, number) {
@@ -43,17 +43,20 @@ fn new_edition<F: EditionFolder>(
     refused: &mut Option<u32>,
 ) -> Option<Served>
     ensures later { IsLater (F.seen folder.old) (F.seen folder.new) }
-    ensures reached { IfSome result (IsReached (F.seen folder.old) served.now) }
+    ensures reached { IfSome result (IsEditionReached (F.seen folder.old) served.now) }
     ensures current { IfSome result (λ new. IfHeld (F.seen folder.old) (NamesCurrent new.number)) }
 {
     let number = match current_number(alloc, folder) {
         Ok(number) => number,
         Err(_) => return None,
     };
-    if number == served.number || *refused == Some(number) {
+    if *refused == Some(number) {
         return None;
     }
     *refused = None;
+    if number == served.number {
+        return None;
+    }
     reached(alloc, folder, served, number, refused)
 }
 
@@ -66,7 +69,7 @@ pub fn renew<F: EditionFolder, L: CallLog>(
     log: &mut L,
 )
     ensures later { IsLater (F.seen folder.old) (F.seen folder.new) }
-    ensures reached { IsReached (F.seen folder.old) served.old served.new }
+    ensures reached { IsEditionReached (F.seen folder.old) served.old served.new }
 {
     if let Some(new) = new_edition(alloc, folder, served, refused) {
         log.changes(new.number);

@@ -19,7 +19,7 @@ pub struct OneEdition<'a> {
 }
 
 // A copy of a text; one that is empty isn't there.
-fn copied(alloc: Global, text: &str) -> Result<Option<Vec<u8>>, StoreFault> {
+pub fn copied(alloc: Global, text: &str) -> Result<Option<Vec<u8>>, StoreFault> {
     if text.is_empty() {
         return Ok(None);
     }
