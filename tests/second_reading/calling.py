@@ -3,7 +3,8 @@
 import re
 
 from .base import Base, FrameId, Groups
-from .screens import codes
+from .screen import CELLS, State, lead, step
+from .screens import BLANK
 from .session import Session
 
 # Telnet's commands: FF and one byte; FF, one of FB to FE and an option; FF FA up to FF F0.
@@ -19,16 +20,31 @@ WORDS = {
 
 
 class Call:
-    """A caller of these groups who is served one base."""
+    """A caller of these groups who is served one base, and then perhaps others."""
 
     def __init__(self, base: Base, groups: Groups) -> None:
         self.session = Session(base, groups)
-        self.base = base
         self.keys = ""
-        self.sent: list[FrameId] = [base.entry_id]
-        self.command = self.words = ""
+        self.command = self.words = self.top = ""
         self.telnet = b""
         self.is_over = False
+        self.state = State(0, False)
+        self.cells = [BLANK] * CELLS
+        self.send(base.entry_id)
+
+    def exchange(self, base: Base) -> None:
+        """From the next key on another base is served."""
+        self.session.base = base
+
+    def send(self, id: FrameId) -> None:
+        """A frame of the base that is served now."""
+        frame = self.session.base.frames[id]
+        for byte in lead(frame.keep) + frame.body:
+            self.state, written = step(self.state, byte)
+            for at, code in written:
+                self.cells[at] = code
+        price = f"{frame.price}p"
+        self.top = f"{str(id):>35}{price:>5}"
 
     def hear(self, data: bytes) -> None:
         """What the caller sends, up to the end of the call."""
@@ -74,9 +90,9 @@ class Call:
         self.is_over = reply == "GONE"
         self.words = WORDS[reply] + rest * self.is_over
         if reply in ("SHOWN", "AGAIN") and self.session.at:
-            self.sent.append(self.session.at)
+            self.send(self.session.at)
 
     def screen(self) -> bytes:
         """The 960 codes of the caller's terminal."""
-        bottom = f"{self.command or self.words:<40}".encode()
-        return codes(self.base, self.sent)[:920] + bottom
+        bottom = f"{self.command or self.words:<40}"
+        return self.top.encode() + bytes(self.cells[40:920]) + bottom.encode()

@@ -18,6 +18,8 @@ mod out_file;
 mod pages_file;
 mod publish_files;
 mod serve_call;
+mod serve_line;
+mod serve_notes;
 mod show_screen;
 
 use audit_report::{FromRead, IntoWrite, RunFault, fault_text, write_whole};
@@ -219,7 +221,7 @@ fn run_request<R: Files<File = File> + Env + Input + Print + Eprint + AllocGloba
         Request::Pages(asked) => return pages(rt, errors, asked),
         Request::Import(asked) => return import(rt, asked),
         Request::Export(asked) => return export(rt, asked),
-        Request::Serve { folder } => return serve_call(rt, folder),
+        Request::Serve(asked) => return serve_call(rt, asked),
         Request::Publish(asked) => return publish(rt, asked),
         Request::Misused { why } => {
             let _ = eprintln!(rt; "error: {why}");

@@ -1,103 +1,21 @@
 //! The command `serve`: the current edition of a folder on standard input and output.
 
-ghost use Rattle.std.specs.Prelude.{◌≡◌, true, false, None};
+ghost use Rattle.std.specs.Prelude.{◌≡◌, false};
 
 use crate::edition_folder::FolderFiles;
 use crate::named_files::report;
-use audit_report::{Broken, RunFault, Sink, Source, verdict_text};
+use crate::serve_line::{CallerInput, CallerOutput};
+use crate::serve_notes::CallNotes;
+use ansi_line::{AnsiKeys, AnsiScreen};
+use audit_report::{RunFault, verdict_text};
 use checker::{Cause, Verdict};
+use command_words::{CallForm, Serve};
 use edition_checks::ServedFault;
 use editions::EditionFile;
 use one_call::{CallFault, ServeFault, serve};
 use std::io;
-use std::io::{ErrorKind, Read, Write};
+use std::io::{Read, Write};
 use std::rt::Files;
-
-// Whether an error says that the caller has rung off.
-fn is_rung_off(error: &io::Error) -> bool {
-    match error.kind() {
-        ErrorKind::BrokenPipe
-        | ErrorKind::ConnectionReset
-        | ErrorKind::ConnectionAborted
-        | ErrorKind::TimedOut => true,
-        _ => false,
-    }
-}
-
-// What the caller sends. A line on which the caller has rung off is at its end.
-#[derive(Drop)]
-struct CallerInput<I> {
-    inner: I,
-    failed: bool,
-}
-
-impl<I: Read> Source for CallerInput<I> {
-    ghost seen = { λ s. record { bytes = None; failed = s.failed; flushes = 0 } };
-
-    fn read(&mut self, into: &mut [u8]) -> Result<usize, Broken> {
-        match self.inner.read(into) {
-            Ok(count) => Ok(count),
-            Err(error) if is_rung_off(&error) => Ok(0),
-            Err(_) => {
-                self.failed = true;
-                Err(Broken)
-            }
-        }
-    }
-
-    fn failed(&self) -> bool {
-        self.failed
-    }
-}
-
-// What the caller's terminal is sent.
-#[derive(Drop)]
-struct CallerOutput<W> {
-    inner: W,
-    failed: bool,
-    flushes: u8,
-    // Whether the caller has rung off.
-    is_closed: bool,
-}
-
-impl<W> CallerOutput<W> {
-    fn fail(&mut self, error: &io::Error) -> Broken
-        ensures failed { self.new.failed ≡ true }
-        ensures unflushed { self.new.flushes ≡ self.old.flushes }
-        ensures inner { self.new.inner ≡ self.old.inner }
-    {
-        self.failed = true;
-        self.is_closed = is_rung_off(error);
-        Broken
-    }
-}
-
-impl<W: Write> Sink for CallerOutput<W> {
-    ghost seen = { λ s. record { bytes = None; failed = s.failed; flushes = s.flushes } };
-
-    fn write(&mut self, bytes: &[u8]) -> Result<usize, Broken> {
-        match self.inner.write(bytes) {
-            Ok(count) if count > 0 || bytes.is_empty() => Ok(count),
-            Ok(_) => {
-                self.failed = true;
-                Err(Broken)
-            }
-            Err(error) => Err(self.fail(&error)),
-        }
-    }
-
-    fn flush(&mut self) -> Result<(), Broken> {
-        self.flushes = self.flushes.saturating_add(1);
-        match self.inner.flush() {
-            Ok(()) => Ok(()),
-            Err(error) => Err(self.fail(&error)),
-        }
-    }
-
-    fn failed(&self) -> bool {
-        self.failed
-    }
-}
 
 // Says why an edition isn't cleared.
 fn report_refused<R: Eprint + AllocGlobal>(rt: &R, folder: &str, number: u32, cause: Cause) -> u8 {
@@ -150,20 +68,54 @@ fn report_line<R: Eprint + AllocGlobal>(rt: &R, fault: ServeFault, is_closed: bo
     }
 }
 
-// Serves one call; the exit status.
-pub fn serve_call<R: Files + Input + Print + Eprint + AllocGlobal>(rt: &R, path: &str) -> u8 {
+// Serves a caller with a terminal in colours; how the call ended, and whether the caller has rung off.
+fn serve_ansi<R: Files + Eprint + AllocGlobal, I: Read + Drop, W: Write + Drop>(
+    rt: &R,
+    folder: &mut FolderFiles<R>,
+    input: CallerInput<I>,
+    output: CallerOutput<W>,
+    notes: &mut CallNotes<R>,
+) -> (Result<(), CallFault>, bool)
+    requires reads { input.failed ≡ false }
+    requires writes { output.failed ≡ false }
+{
+    let mut keys = AnsiKeys::new(input);
+    let mut screen = AnsiScreen::new(rt.alloc(), output);
+    let end = serve(rt.alloc(), folder, &mut keys, &mut screen, notes);
+    let is_closed = screen.inner.is_closed;
+    if screen.is_refused {
+        (Err(CallFault::Line(ServeFault::Memory)), is_closed)
+    } else {
+        (end, is_closed)
+    }
+}
+
+// Serves a caller; how the call ended, and whether the caller has rung off.
+fn serve_form<R: Files + Input + Print + Eprint + AllocGlobal>(
+    rt: &R,
+    folder: &mut FolderFiles<R>,
+    form: CallForm,
+    notes: &mut CallNotes<R>,
+) -> (Result<(), CallFault>, bool) {
+    let mut input = CallerInput::new(rt.reader());
+    let mut output = CallerOutput::new(io::writer(rt));
+    match form {
+        CallForm::Ansi => serve_ansi(rt, folder, input, output, notes),
+        CallForm::Viewdata => {
+            let end = serve(rt.alloc(), folder, &mut input, &mut output, notes);
+            (end, output.is_closed)
+        }
+    }
+}
+
+/// Serves one call; the exit status.
+pub fn serve_call<R: Files + Input + Print + Eprint + AllocGlobal>(rt: &R, asked: &Serve) -> u8 {
+    let path = asked.folder;
     let mut folder = FolderFiles::reading(rt, path);
-    let mut source = CallerInput {
-        inner: rt.reader(),
-        failed: false,
-    };
-    let mut sink = CallerOutput {
-        inner: io::writer(rt),
-        failed: false,
-        flushes: 0,
-        is_closed: false,
-    };
-    match serve(rt.alloc(), &mut folder, &mut source, &mut sink) {
+    let mut notes = CallNotes::new(rt, path, asked.is_logged);
+    let (end, is_closed) = serve_form(rt, &mut folder, asked.form, &mut notes);
+    notes.end();
+    match end {
         Ok(()) => 0,
         Err(CallFault::Unpublished) => {
             let _ = eprintln!(rt; "{path}: nothing is published there");
@@ -179,7 +131,7 @@ pub fn serve_call<R: Files + Input + Print + Eprint + AllocGlobal>(rt: &R, path:
         },
         Err(CallFault::Edition(number, fault)) => report_edition(rt, path, number, fault),
         Err(CallFault::Refused(number, cause)) => report_refused(rt, path, number, cause),
-        Err(CallFault::Line(fault)) => report_line(rt, fault, sink.is_closed),
+        Err(CallFault::Line(fault)) => report_line(rt, fault, is_closed),
         Err(CallFault::Memory) => crate::fail(rt, &RunFault::Memory),
     }
 }

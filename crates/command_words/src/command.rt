@@ -17,6 +17,9 @@ const FORMS: &[&str] = &["text", "ansi", "svg", "cells", "link", "html"];
 // The words for the forms of files of screens.
 const SAVED_FORMS: &[&str] = &["bin", "ep1", "link"];
 
+// The words for what a caller of `serve` has.
+const CALL_FORMS: &[&str] = &["viewdata", "ansi"];
+
 // The words for the forms of findings.
 const FORMATS: &[&str] = &["full", "line", "json", "github"];
 
@@ -406,6 +409,13 @@ fn export_command<'a>(alloc: Global) -> Result<Command<'a>, AllocError> {
 }
 
 fn serve_command<'a>(alloc: Global) -> Result<Command<'a>, AllocError> {
+    let form = Arg::new(alloc, "as")
+        .long("as")
+        .value_name("FORM")
+        .action(ArgAction::Set)
+        .value_parser(CALL_FORMS)
+        .default_value("viewdata")
+        .help("Serve a viewdata terminal, or any terminal of 24 rows and 80 columns with colours");
     Command::new(alloc, "serve")
         .about("Open the current edition of a folder to one caller")
         .after_help(help::SERVE)
@@ -413,6 +423,12 @@ fn serve_command<'a>(alloc: Global) -> Result<Command<'a>, AllocError> {
             alloc,
             "FOLDER",
             "The folder, of which the file current names an edition",
+        ))?
+        .arg(form)?
+        .arg(flag(
+            alloc,
+            "log",
+            "Note the call's beginning, changes of edition and its end on standard error",
         ))
 }
 
@@ -573,6 +589,25 @@ pub struct Export<'a> {
     pub groups: Groups,
 }
 
+/// What a caller of `serve` has.
+#[derive(Debug, Clone, Copy, PartialEq, Eq)]
+pub enum CallForm {
+    /// A viewdata terminal.
+    Viewdata,
+    /// A terminal of 24 rows and 80 columns with colours.
+    Ansi,
+}
+
+/// Which folder is opened to a caller, and how.
+#[derive(Drop)]
+pub struct Serve<'a> {
+    /// The folder of editions.
+    pub folder: &'a str,
+    pub form: CallForm,
+    /// Whether the call is noted on standard error.
+    pub is_logged: bool,
+}
+
 /// Which base is published, and how.
 #[derive(Drop)]
 pub struct Publish<'a> {
@@ -647,9 +682,7 @@ pub enum Request<'a> {
     /// The screens of a base, each in a file.
     Export(Export<'a>),
     /// A call of the current edition of a folder.
-    Serve {
-        folder: &'a str,
-    },
+    Serve(Serve<'a>),
     /// A base is published as the next edition of a folder.
     Publish(Publish<'a>),
     /// What a printed word means, or all words.
@@ -888,6 +921,19 @@ fn check_of<'a>(words: &'a ArgMatches, groups: Groups) -> Option<Request<'a>> {
     })
 }
 
+// What a call is asked for.
+fn serve_of<'a>(words: &'a ArgMatches) -> Option<Request<'a>> {
+    Some(Request::Serve(Serve {
+        folder: words.get_str("FOLDER")?,
+        form: if words.get_str("as") == Some("ansi") {
+            CallForm::Ansi
+        } else {
+            CallForm::Viewdata
+        },
+        is_logged: words.get_flag("log"),
+    }))
+}
+
 // What a publish is asked for.
 fn publish_of<'a>(words: &'a ArgMatches) -> Option<Request<'a>> {
     Some(Request::Publish(Publish {
@@ -935,9 +981,7 @@ pub fn asked_for<'a>(matches: &'a ArgMatches, groups: Groups) -> Option<Request<
         }),
         ("import", words) => import_of(words),
         ("export", words) => export_of(words, groups),
-        ("serve", words) => Some(Request::Serve {
-            folder: words.get_str("FOLDER")?,
-        }),
+        ("serve", words) => serve_of(words),
         ("publish", words) => publish_of(words),
         ("explain", words) => Some(Request::Explain {
             word: words.get_str("CODE"),

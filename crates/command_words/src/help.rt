@@ -106,10 +106,13 @@ pub const EXPORT: &str = concat!(
 
 /// After the options of `serve`.
 pub const SERVE: &str = concat!(
-    "The caller is on standard input and output, as socat, systemd or sshd puts them on a line, with\n",
-    "a viewdata terminal. The edition is checked by its own policy before anything is sent. *90#\n",
-    "ends the call, and so does the caller who leaves or rings off.\n\n",
-    "Example: socat tcp-listen:6502,fork,reuseaddr,backlog=128 exec:'pageaudit serve live'\n\n",
+    "The caller is on standard input and output, as socat, systemd or sshd puts them on a line. The\n",
+    "edition is checked by its own policy before anything is sent. One that is published during the\n",
+    "call takes its place before the next key, if the check clears the change. *90# ends the call, and\n",
+    "so does the caller who leaves or rings off.\n\n",
+    "With --as ansi each answer is the whole screen, and Enter is #.\n\n",
+    "Example: socat tcp-listen:6502,fork,reuseaddr,backlog=128 exec:'pageaudit serve live'\n",
+    "         sh -c 'stty -icanon -echo; pageaudit serve live --as ansi; stty sane'\n\n",
     "Status: 0 a call that ended, 1 an edition that isn't cleared, 2 bad command line,\n",
     "        3 a file that is missing, refused or can't be read, or a line that fails,\n",
     "        4 out of memory",

@@ -1,3 +1,4 @@
 pub mod FolderReads
 pub mod FollowLaws
 pub mod PutLaws
+pub mod Reached

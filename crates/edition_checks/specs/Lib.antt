@@ -1,3 +1,4 @@
 pub mod Candidates
+pub mod NextEditions
 pub mod Putting
 pub mod Served

@@ -2,12 +2,12 @@
 
 ghost use Rattle.std.specs.Prelude.{◌≡◌, true, None};
 ghost use Rattle.editions.specs.Chains.{wider_of, IsClearedAgainst};
-ghost use Rattle.edition_checks.specs.Served.{served_view, candidate_view};
+ghost use Rattle.edition_checks.specs.Served.{served_view};
 
-use crate::candidate::Candidate;
 use crate::served::Served;
+use cert_table::Certificate;
 use checker::{ChangeVerdict, Policy, check_change};
-use frame_records::Pence;
+use frame_records::{Base, Pence};
 
 /// What the check of a change from the edition that is served answers.
 #[derive(Clone, Copy)]
@@ -31,22 +31,22 @@ pub fn wider_of(one: &Policy, other: &Policy) -> Policy
     }
 }
 
-fn have_same_groups(served: &Served, new: &Candidate) -> bool
-    ensures { result ≡ true → new.now.policy.groups ≡ served.now.policy.groups }
+fn have_same_groups(served: &Served, policy: &Policy) -> bool
+    ensures { result ≡ true → policy.now.groups ≡ served.now.policy.groups }
 {
-    new.policy.groups.are_same(&served.policy.groups)
+    policy.groups.are_same(&served.policy.groups)
 }
 
-/// Checks the change from the edition that is served, by the wider of the two policies.
-pub fn may_follow(served: &Served, new: &Candidate) -> Following
-    ensures { result ≡ Following.Cleared →
-        IsClearedAgainst (served_view None served.now) (candidate_view None new.now) }
+/// Checks the change from the edition that is served to one of this base, certificate and policy, by the wider of the two policies.
+pub fn may_follow(served: &Served, base: &Base, cert: &Certificate, policy: &Policy) -> Following
+    ensures { result ≡ Following.Cleared → IsClearedAgainst (served_view None served.now)
+        (record { base = base.now; cert = cert.now; policy = policy.now; follows = None }) }
 {
-    if !have_same_groups(served, new) {
+    if !have_same_groups(served, policy) {
         return Following::OtherGroups;
     }
-    let policy = wider_of(&served.policy, &new.policy);
-    match check_change(&served.base, &served.cert, &new.base, &new.cert, &policy) {
+    let wider = wider_of(&served.policy, policy);
+    match check_change(&served.base, &served.cert, base, cert, &wider) {
         ChangeVerdict::Cleared => Following::Cleared,
         verdict => Following::Refused(verdict),
     }

@@ -39,7 +39,7 @@ pub enum ServedFault {
 }
 
 // The text of a file, which has to be there.
-fn read_text<F: EditionFolder>(
+pub(crate) fn read_text<F: EditionFolder>(
     alloc: Global,
     folder: &mut F,
     number: u32,

@@ -105,8 +105,12 @@ fn what_an_edition_lacks_is_named(rt: HostRuntime) -> Result<(), Fail> {
 #[test]
 fn an_edition_may_follow_itself(rt: HostRuntime) -> Result<(), Fail> {
     let served = served(rt.alloc())?;
+    let new = demo(rt.alloc())?;
     same(
-        matches!(may_follow(&served, &demo(rt.alloc())?), Following::Cleared),
+        matches!(
+            may_follow(&served, &new.base, &new.cert, &new.policy),
+            Following::Cleared
+        ),
         true,
     )
 }

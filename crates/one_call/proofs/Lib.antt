@@ -1,7 +1,8 @@
 pub mod Heard
 pub mod Turns
-pub mod Lines
+pub mod Parts
 pub mod Seen
 pub mod Safe
+pub mod Lines
 pub mod Judged
 pub mod Calls

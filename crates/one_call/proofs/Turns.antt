@@ -9,7 +9,8 @@ use Rattle.served_bytes.specs.Sent.{Sending, Paints, Says, caret_after, sending_
 use Rattle.served_bytes.specs.Words.{sending_of, sendings_of}
 use Rattle.served_bytes.specs.Seen.{frames_in, last_top, last_words}
 use Rattle.one_call.specs.Turns.{CallView, turn, call_after, answers_to, AllHeard}
-use Rattle.one_call.specs.Safety.{last_sent}
+use Rattle.frame_screens.specs.Screens.{screen_codes}
+use Rattle.one_call.specs.Safety.{top_after}
 
 -- Calls.
 
@@ -34,6 +35,10 @@ heard_one base c (x ∷ xs) b h e = (h.0, heard_one base (turn base c x).0 xs b 
 abbrev pub caret_over : Caret → List Sending → Caret
 caret_over p [] = p
 caret_over p (s ∷ more) = caret_over (caret_after p s) more
+
+pub caret_append : (p : Caret) (xs ys : List Sending) → caret_over p (xs ++ ys) ≡ caret_over (caret_over p xs) ys
+caret_append p [] ys = refl
+caret_append p (s ∷ xs) ys = caret_append (caret_after p s) xs ys
 
 pub sent_append : (p : Caret) (xs ys : List Sending) → sent_bytes p (xs ++ ys) ≡ sent_bytes p xs ++ sent_bytes (caret_over p xs) ys
 sent_append p [] ys = refl
@@ -66,6 +71,6 @@ pub sent_in_append : (xs ys : List Reply) → sent_in (xs ++ ys) ≡ sent_in xs 
 sent_in_append [] ys = refl
 sent_in_append (r ∷ xs) ys = ap (λ (ids : List Id). sent_by r ++ ids) (sent_in_append xs ys) ∙ sym (append_assoc (sent_by r) (sent_in xs) (sent_in ys))
 
-pub last_append : (id : Id) (xs ys : List Id) → last_sent id (xs ++ ys) ≡ last_sent (last_sent id xs) ys
-last_append id [] ys = refl
-last_append id (x ∷ xs) ys = last_append x xs ys
+pub after_sent_append : (base : BaseView) (top : List ℕ) (xs ys : List Id) → top_after base top (xs ++ ys) ≡ top_after base (top_after base top xs) ys
+after_sent_append base top [] ys = refl
+after_sent_append base top (x ∷ xs) ys = after_sent_append base (screen_codes base (x ∷ [])) xs ys

@@ -1,4 +1,5 @@
 pub mod Turns
+pub mod Parts
 pub mod Lines
 pub mod Opened
 pub mod Safety

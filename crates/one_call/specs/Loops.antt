@@ -1,20 +1,23 @@
 -- Facts that hold between the turns of loops, and what functions that aren't exported say. No promise rests on them.
-use Rattle.std.specs.Prelude.{◌≡◌, ℕ, false, true, List, take, Result, Ok, Err}
+use Rattle.std.specs.Prelude.{◌≡◌, ℕ, Bool, false, true, List, take, Result, Ok, Err}
 use Rattle.std.specs.Io.KnownBytes.{Appends}
 use Rattle.frame_records.specs.Bases.{BaseView}
 use Rattle.frame_records.specs.Seek.{seek_entry}
+use Rattle.frame_records.specs.declared.base.Sought.{Sought}
+use Rattle.frame_records.specs.declared.base.Sought.TheVariants as sought
 use Rattle.devices.specs.Devices.{Seen}
+use Rattle.line_keys.specs.declared.heard.Heard.{Heard}
+use Rattle.line_keys.specs.declared.heard.Heard.TheVariants.{Nothing, Changed, Pressed, Page, End}
 use Rattle.served_bytes.specs.Sent.{sent_bytes}
 use Rattle.one_call.specs.declared.fault.ServeFault.{ServeFault}
 use Rattle.one_call.specs.declared.fault.ServeFault.TheVariants.{NotOpened, Read, Write, Memory}
 use Rattle.one_call.specs.Turns.{CallView, begun_call, first_bytes, turn}
-use Rattle.one_call.specs.Lines.{IsEntryRefused}
 use Rattle.one_call.specs.Opened.{IsToRefuse}
-use Rattle.frame_records.specs.Bases.{AreApart}
 use Rattle.checker.specs.declared.verdict.Verdict.TheVariants as verdicts
 use Rattle.checker.specs.Verdict.{verdict}
 use Rattle.editions.specs.Folders.{SeenFolder}
 use Rattle.edition_checks.specs.declared.served.Served.{Served}
+use Rattle.edition_checks.specs.NextEditions.{IsFit}
 use Rattle.one_call.specs.declared.fault.CallFault.{CallFault}
 use Rattle.one_call.specs.declared.fault.CallFault.TheVariants as faults
 
@@ -34,6 +37,12 @@ IsCutBy old new text NotOpened = ⊥
 IsCutBy old new text Read = ⊥
 IsCutBy old new text Write = (new.failed ≡ true) × IsBegunText old new text
 IsCutBy old new text Memory = new ≡ old
+
+-- the entry frame isn't found
+abbrev pub IsEntryRefused : Sought → Type 0
+IsEntryRefused (sought.Found price) = ⊥
+IsEntryRefused sought.Closed = Unit {0}
+IsEntryRefused sought.Missing = Unit {0}
 
 -- why a call isn't begun, before anything is written
 abbrev pub IsBeginFault : List ℕ → BaseView → ServeFault → Type 0
@@ -55,11 +64,19 @@ abbrev pub IsByteAnswered : BaseView → CallView → ℕ → Seen → Seen → 
 IsByteAnswered base from byte old new to (Ok _) = (to ≡ (turn base from byte).0) × IsWritten old new (sent_bytes from.caret (turn base from byte).1)
 IsByteAnswered base from byte old new to (Err fault) = IsCutBy old new (sent_bytes from.caret (turn base from byte).1) fault
 
+-- whether a key was heard
+abbrev pub ends_key : Heard → Bool
+ends_key Nothing = false
+ends_key Changed = false
+ends_key (Pressed key) = true
+ends_key Page = false
+ends_key End = false
+
 -- The edition.
 
 -- what the check of an edition that was read says of it
 abbrev pub IsEditionJudged : Served → Result Served CallFault → Type 0
-IsEditionJudged s (Ok t) = (t ≡ s) × (verdict s.base s.policy s.cert ≡ verdicts.Cleared) × AreApart s.base
+IsEditionJudged s (Ok t) = (t ≡ s) × IsFit s
 IsEditionJudged s (Err (faults.Refused number cause)) = (number ≡ s.number) × (verdict s.base s.policy s.cert ≡ verdicts.Refused cause)
 IsEditionJudged s (Err faults.Unpublished) = ⊥
 IsEditionJudged s (Err faults.Unnamed) = ⊥

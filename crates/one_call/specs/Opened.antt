@@ -1,6 +1,5 @@
--- The edition that is served.
+-- The editions that are served.
 use Rattle.std.specs.Prelude.{◌≡◌, ℕ, List, Some}
-use Rattle.frame_records.specs.Bases.{AreApart}
 use Rattle.checker.specs.declared.verdict.Cause.{Cause}
 use Rattle.checker.specs.declared.verdict.Verdict.TheVariants as verdicts
 use Rattle.checker.specs.Verdict.{verdict}
@@ -8,6 +7,8 @@ use Rattle.editions.specs.Folders.{FolderState, SeenFolder}
 use Rattle.editions.specs.NumberLines.{current_in}
 use Rattle.edition_checks.specs.declared.served.Served.{Served}
 use Rattle.edition_checks.specs.Served.{IfHeld, IsReadEdition, IsServed}
+use Rattle.edition_checks.specs.NextEditions.{IsFit, IsNextEdition}
+use Rattle.one_call.specs.Parts.{Parts, First, Then, served_now}
 
 -- `current` names this number
 pub record NamesCurrent (number : ℕ) (f : FolderState) : Type 0 where
@@ -28,8 +29,7 @@ pub record IsCurrentRead (folder : SeenFolder) (s : Served) : Type 0 where
 -- and the check cleared it by its own policy
 pub record IsToServe (folder : SeenFolder) (s : Served) : Type 0 where
   pub is : IsCurrentRead folder s
-  pub cleared : verdict s.base s.policy s.cert ≡ verdicts.Cleared
-  pub apart : AreApart s.base
+  pub fit : IsFit s
 
 -- or refused it for a cause
 pub record IsToRefuse (folder : SeenFolder) (number : ℕ) (cause : Cause) : Type 0 where
@@ -37,3 +37,9 @@ pub record IsToRefuse (folder : SeenFolder) (number : ℕ) (cause : Cause) : Typ
   pub is : IsCurrentRead folder served
   pub is_number : served.number ≡ number
   pub refused : verdict served.base served.policy served.cert ≡ verdicts.Refused cause
+
+-- the editions of a call of a caller of these groups: the first is the one that was current, and for these groups; each other follows the
+-- one before it, and it and the change to it were cleared
+abbrev pub AreServed : List ℕ → SeenFolder → Parts → Type 0
+AreServed groups folder (First s bytes) = (s.policy.groups ≡ groups) × IsToServe folder s
+AreServed groups folder (Then before s bytes) = AreServed groups folder before × IsNextEdition folder (served_now before) s

@@ -114,10 +114,6 @@ AllHeard base c (b ∷ bs) = (c.over ≡ false) × AllHeard base (turn base c b)
 abbrev pub first_bytes : BaseView → List ℕ
 first_bytes base = opening_bytes ++ sending_bytes home (painting_of base (entry_of base))
 
--- all that is written in a call in which these bytes are heard
-abbrev pub call_bytes : List ℕ → BaseView → List ℕ → List ℕ
-call_bytes groups base bytes = first_bytes base ++ answers_to base (begun_call groups base) bytes
-
 -- the keys among the bytes, up to the end of the call
 abbrev pub keys_unless_over : Bool → Heard → List Key → List Key
 keys_unless_over false heard keys = and_key heard keys

@@ -3,7 +3,8 @@
 ghost use Rattle.std.specs.Prelude.{◌≡◌, ◌++◌, false, IfOk, IfErr, OnOk};
 ghost use Rattle.served_bytes.specs.Sent.{Says, opening_bytes, home, caret_after, sending_bytes, sent_bytes};
 ghost use Rattle.served_bytes.specs.Words.{sending_of};
-ghost use Rattle.one_call.specs.Loops.{IsBeginFault};
+ghost use Rattle.one_call.specs.Loops.{IsBeginFault, ends_key};
+ghost use Rattle.line_keys.specs.Heard.{hear};
 ghost use Rattle.one_call.specs.Turns.{begun_call, bottom_text, first_bytes, is_leaving, said, keyed, turn};
 
 use crate::fault::ServeFault;
@@ -153,25 +154,30 @@ impl OneCall {
         Ok(())
     }
 
-    /// Hears a byte, and writes what it asks for after a text.
+    /// Hears a byte, and writes what it asks for after a text. Returns whether it ended a key.
     pub fn hear(
         &mut self,
         alloc: Global,
         text: &mut Vec<u8>,
         base: &Base,
         byte: u8,
-    ) -> Result<(), AllocError>
+    ) -> Result<bool, AllocError>
         requires { self.old.over ≡ false }
+        ensures key { IfOk result (λ k. k ≡ ends_key (hear self.old.hearing byte).1) }
         ensures call { OnOk result (self.new ≡ (turn base.now self.old byte).0) }
         ensures text { OnOk result (text.new.items ≡ text.old.items ++
             sent_bytes self.old.caret (turn base.now self.old byte).1) }
     {
         match self.hearing.hear(byte) {
-            Heard::Nothing => Ok(()),
-            Heard::Changed => self.show_command(text),
-            Heard::Pressed(key) => self.press(alloc, text, base, key),
-            Heard::Page => self.say(text, keyed_page_words(), false),
-            Heard::End => self.say(text, end_words(), true),
+            Heard::Nothing => {}
+            Heard::Changed => self.show_command(text)?,
+            Heard::Pressed(key) => {
+                self.press(alloc, text, base, key)?;
+                return Ok(true);
+            }
+            Heard::Page => self.say(text, keyed_page_words(), false)?,
+            Heard::End => self.say(text, end_words(), true)?,
         }
+        Ok(false)
     }
 }

@@ -1,12 +1,18 @@
-//! A call of one edition on a line.
+//! A call on a line.
 
 ghost use Rattle.std.specs.Prelude.{◌≡◌, false, IfOk, OnOk};
+ghost use Rattle.editions.specs.Folders.{SeenFolder, IsLater};
 ghost use Rattle.one_call.specs.Lines.{IsLineServed};
 ghost use Rattle.one_call.specs.Loops.{IsBegun, IsByteAnswered};
+ghost use Rattle.one_call.specs.Opened.{IsToServe};
 
 use crate::caller::OneCall;
 use crate::fault::ServeFault;
+use crate::log::CallLog;
+use crate::renewing::renew;
 use devices::{Sink, Source, write_whole};
+use edition_checks::Served;
+use editions::EditionFolder;
 use frame_records::{Base, Groups};
 use std::alloc::Global;
 
@@ -32,12 +38,13 @@ fn begin<W: Sink>(
 }
 
 // Hears a byte, and writes what it asks for.
-fn answer<W: Sink>(
+fn answer<W: Sink, L: CallLog>(
     alloc: Global,
     base: &Base,
     call: &mut OneCall,
     byte: u8,
     sink: &mut W,
+    log: &mut L,
 ) -> Result<(), ServeFault>
     requires open { (W.seen sink.old).failed ≡ false }
     requires goes_on { call.old.over ≡ false }
@@ -45,7 +52,8 @@ fn answer<W: Sink>(
 {
     let mut text = Vec::new(alloc);
     match call.hear(alloc, &mut text, base, byte) {
-        Ok(()) => {}
+        Ok(true) => log.key(),
+        Ok(false) => {}
         Err(_) => return Err(ServeFault::Memory),
     }
     match write_whole(sink, text.as_slice()) {
@@ -54,25 +62,33 @@ fn answer<W: Sink>(
     }
 }
 
-/// Serves a call of a caller of these groups: the entry frame, and then an answer for each byte that asks for one, until the caller
-/// leaves, keys `*90#`, or the source is at its end. Each answer is written and flushed before the next byte is read, of which one is
-/// asked for at a time.
-pub fn serve_line<R: Source, W: Sink>(
+/// Serves a call of a caller of the groups of an edition's policy: the entry frame, and then an answer for each byte that asks for
+/// one, until the caller leaves, keys `*90#`, or the source is at its end. Each answer is written and flushed before the next byte is
+/// read, of which one is asked for at a time. Before a byte is heard, the edition that is current takes the place of the one that is
+/// served, if callers may be taken there.
+pub fn serve_line<F: EditionFolder, R: Source, W: Sink, L: CallLog>(
     alloc: Global,
-    base: &Base,
-    groups: &Groups,
+    folder: &mut F,
+    first: Served,
     source: &mut R,
     sink: &mut W,
+    log: &mut L,
 ) -> Result<(), ServeFault>
     requires reads { (R.seen source.old).failed ≡ false }
     requires writes { (W.seen sink.old).failed ≡ false }
-    ensures { IsLineServed groups.now base.now (R.seen source.old) (R.seen source.new)
+
+    // If the edition was to be served since the folder was as it was at the start.
+    ensures { (start : SeenFolder) → IsLater start (F.seen folder.old) → IsToServe start first →
+        IsLineServed first.policy.groups start (R.seen source.old) (R.seen source.new)
         (W.seen sink.old) (W.seen sink.new) result }
 {
-    let mut call = match begin(alloc, base, groups, sink) {
+    log.begins(first.number);
+    let mut call = match begin(alloc, &first.base, &first.policy.groups, sink) {
         Ok(call) => call,
         Err(fault) => return Err(fault),
     };
+    let mut served = first;
+    let mut refused = None;
     let mut byte = [0; 1];
     for _ in 0..u64::MAX {
         if call.is_over() {
@@ -83,7 +99,8 @@ pub fn serve_line<R: Source, W: Sink>(
             Ok(_) => {}
             Err(_) => return Err(ServeFault::Read),
         }
-        match answer(alloc, base, &mut call, byte[0], sink) {
+        renew(alloc, folder, &mut served, &mut refused, log);
+        match answer(alloc, &served.base, &mut call, byte[0], sink, log) {
             Ok(()) => {}
             Err(fault) => return Err(fault),
         }

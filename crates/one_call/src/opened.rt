@@ -14,7 +14,7 @@ use editions::{EditionFolder, StoreFault, current_in};
 use std::alloc::Global;
 
 // The number of the current edition.
-fn current_number<F: EditionFolder>(alloc: Global, folder: &mut F) -> Result<u32, CallFault>
+pub fn current_number<F: EditionFolder>(alloc: Global, folder: &mut F) -> Result<u32, CallFault>
     ensures later { IsLater (F.seen folder.old) (F.seen folder.new) }
     ensures named { IfOk result (λ n. IfHeld (F.seen folder.old) (NamesCurrent n)) }
     ensures fault { IfErr result IsBeforeCheck }
@@ -43,6 +43,7 @@ fn read_fault(number: u32, fault: ServedFault) -> CallFault
 
 // The current edition, before it is checked.
 fn read_current<F: EditionFolder>(alloc: Global, folder: &mut F) -> Result<Served, CallFault>
+    ensures later { IsLater (F.seen folder.old) (F.seen folder.new) }
     ensures read { IfOk result (IsCurrentRead (F.seen folder.old)) }
     ensures fault { IfErr result IsBeforeCheck }
 {
@@ -68,6 +69,7 @@ fn checked(served: Served) -> Result<Served, CallFault>
 
 /// Reads the current edition and checks it by its own policy.
 pub fn open_edition<F: EditionFolder>(alloc: Global, folder: &mut F) -> Result<Served, CallFault>
+    ensures later { IsLater (F.seen folder.old) (F.seen folder.new) }
     ensures edition { IfOk result (IsToServe (F.seen folder.old)) }
     ensures fault { IfErr result (IsOpenRefused (F.seen folder.old)) }
 {

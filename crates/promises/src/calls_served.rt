@@ -1,22 +1,24 @@
 //! What a caller on a line is promised.
 
 ghost use Rattle.std.specs.Prelude.{◌≡◌, false, IfOk};
-ghost use Rattle.one_call.specs.Lines.{IsLineServed};
+ghost use Rattle.ansi_line.specs.AnsiLines.{screen_bytes};
 ghost use Rattle.one_call.specs.Calls.{IsCallServed, IsKeptCall};
-ghost use Rattle.one_call.specs.Safety.{CallsAreSeen, CallsAreSafe};
+ghost use Rattle.one_call.specs.Safety.{PartsAreSeen, PartsAreSafe};
 
+use ansi_line::screen_text;
 use audit_report::{Sink, Source};
 use editions::EditionFolder;
-use frame_records::{Base, Groups};
-use one_call::{CallFault, ServeFault, calls_are_safe, calls_are_seen, serve, serve_line};
-use std::alloc::Global;
+use one_call::{CallFault, CallLog, parts_are_safe, parts_are_seen, serve};
+use std::alloc::{AllocError, Global};
+use terminal_codes::Terminal;
 
-// A call of a folder's current edition.
-fn of_a_call<R: Source, W: Sink, F: EditionFolder>(
+// A call of a folder's editions.
+fn of_a_call<F: EditionFolder, R: Source, W: Sink, L: CallLog>(
     alloc: Global,
     folder: &mut F,
     source: &mut R,
     sink: &mut W,
+    log: &mut L,
 ) -> Result<(), CallFault>
     requires reads { (R.seen source.old).failed ≡ false }
     requires writes { (W.seen sink.old).failed ≡ false }
@@ -25,35 +27,26 @@ fn of_a_call<R: Source, W: Sink, F: EditionFolder>(
     ensures kept { IfOk result (λ _. IsKeptCall (F.seen folder.old) (R.seen source.old) (R.seen source.new)
         (W.seen sink.old) (W.seen sink.new)) }
 {
-    serve(alloc, folder, source, sink)
+    serve(alloc, folder, source, sink, log)
 }
 
-// A call of a base in memory.
-fn of_a_base<R: Source, W: Sink>(
-    alloc: Global,
-    base: &Base,
-    groups: &Groups,
-    source: &mut R,
-    sink: &mut W,
-) -> Result<(), ServeFault>
-    requires reads { (R.seen source.old).failed ≡ false }
-    requires writes { (W.seen sink.old).failed ≡ false }
-    ensures { IsLineServed groups.now base.now (R.seen source.old) (R.seen source.new)
-        (W.seen sink.old) (W.seen sink.new) result }
+// The screen of a caller whose terminal has colours.
+fn of_a_screen(alloc: Global, terminal: &Terminal) -> Result<Vec<u8>, AllocError>
+    ensures { IfOk result (λ text. text.items ≡ screen_bytes terminal.now.cells) }
 {
-    serve_line(alloc, base, groups, source, sink)
+    screen_text(alloc, terminal)
 }
 
-// What a caller sees, of every base.
+// What a caller sees, of all editions in turn.
 fn seen()
-    ensures { CallsAreSeen }
+    ensures { PartsAreSeen }
 {
-    calls_are_seen();
+    parts_are_seen();
 }
 
-// What callers are promised, of an edition that was cleared.
+// What callers are promised, of editions that were cleared.
 fn safe()
-    ensures { CallsAreSafe }
+    ensures { PartsAreSafe }
 {
-    calls_are_safe();
+    parts_are_safe();
 }

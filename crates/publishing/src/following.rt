@@ -21,7 +21,7 @@ pub enum MayFollow {
 fn judge_change_from(served: &Served, new: &Candidate, new_callers: bool) -> MayFollow
     ensures { IfFollows result (FollowsServed (Some served.now) new.now new_callers) }
 {
-    match may_follow(served, new) {
+    match may_follow(served, &new.base, &new.cert, &new.policy) {
         Following::Cleared => MayFollow::Follows(Some(served.number)),
         Following::OtherGroups => MayFollow::OtherGroups(served.number),
         Following::Refused(_) if new_callers => MayFollow::Follows(None),

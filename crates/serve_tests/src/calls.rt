@@ -1,11 +1,9 @@
 //! Calls of an edition in memory.
 
-use crate::line::{CallerKeys, CallerTerminal, OneEdition, Wire};
-use base_text::base_read;
+use crate::line::{CallerKeys, CallerTerminal, Notes, OneEdition, Wire};
 use edition_checks::ServedFault;
 use editions::EditionFile;
-use frame_records::Groups;
-use one_call::{CallFault, ServeFault, calls_are_safe, calls_are_seen, serve, serve_line};
+use one_call::{CallFault, ServeFault, parts_are_safe, parts_are_seen, serve};
 use std::alloc::Global;
 use std::test::Fail;
 use terminal_codes::Terminal;
@@ -45,7 +43,13 @@ fn dial(alloc: Global, mut folder: OneEdition, bytes: &[u8], room: usize) -> Cal
         flushes: 0,
         failed: false,
     };
-    let end = serve(alloc, &mut folder, &mut source, &mut sink);
+    let end = serve(
+        alloc,
+        &mut folder,
+        &mut source,
+        &mut sink,
+        &mut Notes::new(alloc),
+    );
     Called {
         taken: sink.taken,
         before: source.before,
@@ -155,8 +159,8 @@ fn row_0_has_the_id_and_the_price_of_the_last_frame(rt: HostRuntime) -> Result<(
         same_in(bytes, row(call.taken.as_slice(), 0), codes_of(top))?;
         same_in(bytes, row(call.taken.as_slice(), 1), codes_of(first))?;
     }
-    calls_are_seen();
-    calls_are_safe();
+    parts_are_seen();
+    parts_are_safe();
     Ok(())
 }
 
@@ -217,16 +221,18 @@ fn what_is_not_cleared_is_not_served(rt: HostRuntime) -> Result<(), Fail> {
 }
 
 #[test]
-fn base_in_memory_is_served(rt: HostRuntime) -> Result<(), Fail> {
+fn line_that_cannot_be_read_has_the_answers_before(rt: HostRuntime) -> Result<(), Fail> {
     let alloc = rt.alloc();
-    let base = base_read(alloc, DEMO.as_bytes())?;
+    let mut folder = edition("7\n", DEMO, POLICY);
     let mut source = FakeSource::of(b"1", 1);
     let mut sink = FakeSink::of(alloc, 7);
-    let end = serve_line(alloc, &base, &Groups::none(), &mut source, &mut sink);
-    same(end, Ok(()))?;
+    let mut notes = Notes::new(alloc);
+    let end = serve(alloc, &mut folder, &mut source, &mut sink, &mut notes);
+    same(end.is_ok(), true)?;
     same(sink.flushed, sink.taken.len())?;
+    same(notes.text.as_slice(), b"+7k".as_slice())?;
     let mut broken = FakeSource::broken(b"1", 1, 0);
     let mut other = FakeSink::of(alloc, 7);
-    let end = serve_line(alloc, &base, &Groups::none(), &mut broken, &mut other);
-    same(end, Err(ServeFault::Read))
+    let end = serve(alloc, &mut folder, &mut broken, &mut other, &mut notes);
+    same(matches!(end, Err(CallFault::Line(ServeFault::Read))), true)
 }

@@ -4,6 +4,8 @@ ghost use Rattle.std.specs.Prelude.{◌≡◌, true, false, None, MatchResult};
 
 use devices::{Broken, Sink, Source};
 use editions::{EditionFile, EditionFolder, StoreFault};
+use one_call::CallLog;
+use page_ids::push_number;
 use std::alloc::Global;
 use std::cell::Cell;
 
@@ -17,7 +19,7 @@ pub struct OneEdition<'a> {
 }
 
 // A copy of a text; one that is empty isn't there.
-fn copied(alloc: Global, text: &str) -> Result<Option<Vec<u8>>, StoreFault> {
+pub fn copied(alloc: Global, text: &str) -> Result<Option<Vec<u8>>, StoreFault> {
     if text.is_empty() {
         return Ok(None);
     }
@@ -147,5 +149,38 @@ impl Sink for CallerTerminal<'_> {
 
     fn failed(&self) -> bool {
         self.failed
+    }
+}
+
+/// What was noted of a call: `+7` its beginning in edition 7, `>8` a change to edition 8, `k` a key.
+#[derive(Drop)]
+pub struct Notes {
+    pub text: Vec<u8>,
+}
+
+impl Notes {
+    pub fn new(alloc: Global) -> Notes {
+        Notes {
+            text: Vec::new(alloc),
+        }
+    }
+
+    fn note(&mut self, sign: u8, number: u32) {
+        let _ = self.text.push(sign);
+        let _ = push_number(&mut self.text, u64::from(number));
+    }
+}
+
+impl CallLog for Notes {
+    fn begins(&mut self, number: u32) {
+        self.note(b'+', number);
+    }
+
+    fn changes(&mut self, number: u32) {
+        self.note(b'>', number);
+    }
+
+    fn key(&mut self) {
+        let _ = self.text.push(b'k');
     }
 }

@@ -1,0 +1,2 @@
+pub mod AnsiLines
+pub mod AnsiTyped

@@ -1,0 +1,135 @@
+//! From an edition to a later one, along what each of them follows.
+
+ghost use Rattle.std.specs.Prelude.{◌≡◌, ◌<◌, ◌≤◌, Some, None, IfOk};
+ghost use Rattle.editions.specs.Folders.{IsLater};
+ghost use Rattle.editions.specs.Chains.{IsClearedAgainst};
+ghost use Rattle.edition_checks.specs.Served.{IfHeld, served_view};
+ghost use Rattle.edition_checks.specs.NextEditions.{IsFit, SaysFollows, IsNextEdition, IsEditionReached};
+
+use crate::following::{Following, may_follow};
+use crate::served::{Served, read_edition, read_text};
+use checker::{Verdict, check};
+use editions::{EditionFile, EditionFolder, follows_in};
+use std::alloc::Global;
+
+/// Why an edition isn't reached from another.
+#[derive(Debug, Clone, Copy, PartialEq, Eq)]
+pub enum ReachFault {
+    /// A file on the way is missing or doesn't read, a call of the folder failed, or a growth was refused.
+    Unread,
+    /// What the editions follow doesn't lead back to the first one.
+    OtherBeginning,
+    /// The check refuses an edition on the way, or a change.
+    Refused,
+}
+
+// What an edition follows.
+fn read_follows<F: EditionFolder>(
+    alloc: Global,
+    folder: &mut F,
+    number: u32,
+) -> Result<Option<u32>, ReachFault>
+    ensures later { IsLater (F.seen folder.old) (F.seen folder.new) }
+    ensures says { IfOk result (λ follows. IfHeld (F.seen folder.old) (λ f. SaysFollows f number follows)) }
+{
+    match read_text(alloc, folder, number, EditionFile::Follows) {
+        Ok(text) => match follows_in(text.as_slice()) {
+            Some(follows) => Ok(follows),
+            None => Err(ReachFault::Unread),
+        },
+        Err(_) => Err(ReachFault::Unread),
+    }
+}
+
+// The number of the edition that follows one, on the way to a later one. It is looked for from the later one back.
+fn number_after<F: EditionFolder>(
+    alloc: Global,
+    folder: &mut F,
+    from: u32,
+    to: u32,
+) -> Result<u32, ReachFault>
+    ensures later { IsLater (F.seen folder.old) (F.seen folder.new) }
+    ensures follows { IfOk result (λ n. IfHeld (F.seen folder.old) (λ f. SaysFollows f n (Some from))) }
+    ensures within { IfOk result (λ n. (from < n) × (n ≤ to)) }
+{
+    let mut number = to;
+    while number > from {
+        match read_follows(alloc, folder, number) {
+            Ok(Some(before)) => {
+                if before == from {
+                    return Ok(number);
+                }
+                if before >= number {
+                    return Err(ReachFault::OtherBeginning);
+                }
+                number = before;
+            }
+            Ok(None) => return Err(ReachFault::OtherBeginning),
+            Err(fault) => return Err(fault),
+        }
+    }
+    Err(ReachFault::OtherBeginning)
+}
+
+// The edition, if the check clears it by its own policy, and the change to it.
+fn judged(old: &Served, new: Served) -> Result<Served, ReachFault>
+    ensures same { IfOk result (λ s. s ≡ new) }
+    ensures fit { IfOk result IsFit }
+    ensures against { IfOk result (λ s. IsClearedAgainst (served_view None old.now) (served_view None s)) }
+{
+    if let Verdict::Refused(_) = check(&new.base, &new.policy, &new.cert) {
+        return Err(ReachFault::Refused);
+    }
+    match may_follow(old, &new.base, &new.cert, &new.policy) {
+        Following::Cleared => Ok(new),
+        Following::OtherGroups | Following::Refused(_) => Err(ReachFault::Refused),
+    }
+}
+
+// The edition that follows one, on the way to a later one.
+fn edition_after<F: EditionFolder>(
+    alloc: Global,
+    folder: &mut F,
+    old: &Served,
+    to: u32,
+) -> Result<Served, ReachFault>
+    ensures later { IsLater (F.seen folder.old) (F.seen folder.new) }
+    ensures next { IfOk result (IsNextEdition (F.seen folder.old) old.now) }
+    ensures within { IfOk result (λ new. (old.now.number < new.number) × (new.number ≤ to)) }
+{
+    let number = match number_after(alloc, folder, old.number, to) {
+        Ok(number) => number,
+        Err(fault) => return Err(fault),
+    };
+    match read_edition(alloc, folder, number) {
+        Ok(new) => judged(old, new),
+        Err(_) => Err(ReachFault::Unread),
+    }
+}
+
+/// Reads the edition of a later number, and before it those on the way to it, from what it follows back to the edition that is
+/// given. Each has to be cleared by its own policy, and the change to each by the wider policy of the two.
+///
+/// Besides the given edition at most two are in memory at a time.
+pub fn reach_edition<F: EditionFolder>(
+    alloc: Global,
+    folder: &mut F,
+    served: &Served,
+    number: u32,
+) -> Result<Served, ReachFault>
+    ensures later { IsLater (F.seen folder.old) (F.seen folder.new) }
+    ensures reached { IfOk result (IsEditionReached (F.seen folder.old) served.now) }
+    ensures number { IfOk result (λ new. new.number ≡ number) }
+{
+    let mut here = match edition_after(alloc, folder, served, number) {
+        Ok(next) => next,
+        Err(fault) => return Err(fault),
+    };
+    while here.number < number {
+        here = match edition_after(alloc, folder, &here, number) {
+            Ok(next) => next,
+            Err(fault) => return Err(fault),
+        };
+    }
+    Ok(here)
+}
