@@ -1,2 +1,3 @@
 pub mod PublishLaws
 pub mod ServingLaws
+pub mod SummaryLaws

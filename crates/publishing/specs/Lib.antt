@@ -2,3 +2,4 @@ pub mod ExitStatus
 pub mod Loops
 pub mod Publishing
 pub mod Serving
+pub mod Summaries

@@ -1,5 +1,8 @@
 //! What is printed of an edition: how it differs from the one that is served, and the verdict.
 
+ghost use Rattle.std.specs.Prelude.{length, IfOk};
+ghost use Rattle.publishing.specs.Summaries.{BeginsWithCount};
+
 use audit_report::change_text;
 use checker::ChangeVerdict;
 use edition_checks::Served;
@@ -147,19 +150,46 @@ fn push_differences(
     push_prices(out, differences.prices.as_slice(), old, new)
 }
 
-/// The number of frames of a base, and how it differs from the one that is served: `79 frames, 2 new (4783a 4783b), 5 changed,
-/// prices 4785a 10p -> 15p`. At most eight frames of a kind are named.
+// How a base differs from the one before it, if there is one.
+fn differences_text(
+    alloc: Global,
+    old: Option<&Base>,
+    new: &Base,
+) -> Result<Vec<u8>, AllocError> {
+    let mut out = Vec::new(alloc);
+    if let Some(old) = old {
+        push_differences(alloc, &mut out, old, new)?;
+    }
+    Ok(out)
+}
+
+/// The number of frames of a base, and how it differs from the one before it: `79 frames, 2 new (4783a 4783b), 5 changed,
+/// prices 4785a 10p -> 15p`. At most eight frames of a kind are named. The words of the differences are tested, not proved.
+pub fn base_summary(
+    alloc: Global,
+    old: Option<&Base>,
+    new: &Base,
+) -> Result<Vec<u8>, AllocError>
+    ensures { IfOk result (λ text. BeginsWithCount (length new.now.frames) text.items) }
+{
+    let differences = differences_text(alloc, old, new)?;
+    let mut out = Vec::new(alloc);
+    push_number(&mut out, new.frames().len() as u64)?;
+    out.extend_from_slice(b" frames")?;
+    out.extend_from_slice(differences.as_slice())?;
+    Ok(out)
+}
+
+/// The summary of a base that is to follow the one that is served.
 pub(crate) fn summary(
     alloc: Global,
     served: &Option<Served>,
     new: &Base,
 ) -> Result<Vec<u8>, AllocError> {
-    let mut out = Vec::new(alloc);
-    push_count(&mut out, new.frames().len(), b"frames")?;
-    if let Some(served) = served {
-        push_differences(alloc, &mut out, &served.base, new)?;
+    match served {
+        Some(served) => base_summary(alloc, Some(&served.base), new),
+        None => base_summary(alloc, None, new),
     }
-    Ok(out)
 }
 
 /// The lines of an edition: its number, the summary and the verdict.

@@ -1,0 +1,5 @@
+pub mod FolderLaws
+pub mod InTurn
+pub mod KeptReads
+pub mod Policies
+pub mod RightEditions

@@ -1,0 +1,174 @@
+-- Editions that were read and judged are sound, and so is their folder.
+use Rattle.std.proofs.Common.{◌≡◌, ◌≤◌, ℕ, Bool, true, cond, List, [], ◌∷◌, map, Option, Some, None, option_map, refl, sym, ap, ◌∙◌, subst, arith, false, nat_eq, inl, inr}
+use Rattle.std.proofs.lemmas.Bool.Decides.{nat_tests}
+use Rattle.std.proofs.lemmas.List.Elements.{All-contains, Contains-append_left, Contains-append_right, Contains-push}
+use Rattle.std.proofs.lemmas.List.Sorted.{Contains-permutation}
+use Rattle.std.specs.List.{All, Contains}
+use Rattle.std.specs.Prelude.{IfSome, IfOk, Result, Ok, Err}
+use Rattle.editions.specs.declared.edition_file.EditionFile.TheVariants.{Base, Cert, Policy, Follows, Sums}
+use Rattle.editions.specs.Folders.{EditionBytes, FilesSeen, all_files, FolderState, edition_among, file_of}
+use Rattle.editions.specs.NumberLines.{number_line, follows_in, follows_text}
+use Rattle.editions.specs.Sums.{sums_text}
+use Rattle.editions.specs.Chains.{IsEditionText}
+use Rattle.editions.specs.Moments.{IsFollowing, IsSoundEdition, NamesEdition, IsSoundFolder}
+use Rattle.editions.proofs.LineLaws.{lines_numbers}
+use Rattle.edition_lists.specs.declared.kept.KeptEdition.{KeptEdition}
+use Rattle.edition_lists.specs.Kept.{IsKeptEdition, IsReadIn}
+use Rattle.edition_lists.specs.Verified.{IsNotPassed, IsServedLast, IsVerifiedFolder, IsReadFolder}
+use Rattle.edition_lists.specs.Loops.{kept_view, HasItsSums, IsFollowingKept, IsWithinNumbers, IsJudgedRight, IsRightNumber, AreNumbersOf, IsRightEdition}
+use Rattle.edition_lists.proofs.FolderLaws.{same_some}
+use Rattle.edition_lists.proofs.KeptReads.{held_too}
+
+-- All files of an edition that was read are there.
+
+abbrev five : Option (List ℕ) → Option (List ℕ) → Option (List ℕ) → Option (List ℕ) → Option (List ℕ) → FilesSeen
+five base cert policy follows sums = record { base = base; cert = cert; policy = policy; follows = follows; sums = sums }
+
+five_same : (a b c d e : Option (List ℕ)) (p q r s t : Option (List ℕ)) → a ≡ p → b ≡ q → c ≡ r → d ≡ s → e ≡ t → five a b c d e ≡ five p q r s t
+five_same a b c d e p q r s t base cert policy follows sums = cc
+
+all_there : (o : Option FilesSeen) (e : EditionBytes) → file_of o Base ≡ Some e.base → file_of o Cert ≡ Some e.cert → file_of o Policy ≡ Some e.policy → file_of o Follows ≡ Some e.follows → file_of o Sums ≡ Some e.sums → o ≡ Some (all_files e)
+all_there None e base cert policy follows sums = absurd cc
+all_there (Some files) e base cert policy follows sums =
+    ap Some (five_same files.base files.cert files.policy files.follows files.sums (Some e.base) (Some e.cert) (Some e.policy) (Some e.follows) (Some e.sums) base cert policy follows sums)
+
+abbrev bytes_of : (f : FolderState) (e : KeptEdition) → IsKeptEdition f e → EditionBytes
+bytes_of f e kept = record { base = e.served.base_text.items; cert = kept.served.of_cert.text; policy = e.served.policy_text.items; follows = kept.text; sums = e.sums.items }
+
+kept_there : (f : FolderState) (e : KeptEdition) (kept : IsKeptEdition f e) → edition_among f.editions e.served.number ≡ Some (all_files (bytes_of f e kept))
+kept_there f e kept = all_there (edition_among f.editions e.served.number) (bytes_of f e kept) kept.served.base_there kept.served.of_cert.there kept.served.policy_there kept.there kept.sums
+
+kept_text : (f : FolderState) (e : KeptEdition) (kept : IsKeptEdition f e) → IsEditionText (bytes_of f e kept) (kept_view e)
+kept_text f e kept = record { of_base = kept.served.of_base; of_cert = kept.served.of_cert.is; of_policy = kept.served.of_policy; of_follows = kept.says }
+
+-- The numbers of all editions.
+
+here : (x : ℕ) (xs : List ℕ) → Contains (x ∷ xs) x
+here x xs = Contains-append_left (x ∷ []) xs x (Contains-push [] x)
+
+among_by : (b : Bool) (x n : ℕ) (xs : List ℕ) (files : FilesSeen) (o : Option FilesSeen) (found : FilesSeen) → (b ≡ true → x ≡ n) → (o ≡ Some found → Contains xs n) → cond b (Some files) o ≡ Some found → Contains (x ∷ xs) n
+among_by true x n xs files o found same more e = subst (λ (m : ℕ). Contains (x ∷ xs) m) (same refl) (here x xs)
+among_by false x n xs files o found same more e = Contains-append_right (x ∷ []) xs n (more e)
+
+among : (editions : List (ℕ × FilesSeen)) (n : ℕ) (files : FilesSeen) → edition_among editions n ≡ Some files → Contains (map (λ e. e.0) editions) n
+among [] n files e = absurd cc
+among (x ∷ editions) n files e =
+    among_by (nat_eq x.0 n) x.0 n (map (λ e. e.0) editions) x.1 (edition_among editions n) files (λ same. grind (arith, nat_tests, same)) (λ later. among editions n files later) e
+
+has_number : (f : FolderState) (numbers : List ℕ) (n : ℕ) (files : FilesSeen) → AreNumbersOf f numbers → edition_among f.editions n ≡ Some files → Contains numbers n
+has_number f numbers n files all there = Contains-permutation (map (λ e. e.0) f.editions) numbers n all (among f.editions n files there)
+
+-- An edition that was read and is right.
+
+following : (f : FolderState) (e : KeptEdition) (follows : Option ℕ) → IsFollowingKept f e follows → IsFollowing f.editions e.served.number (kept_view e) follows
+following f e None h = tt
+following f e (Some k) h = record {
+  before = h.before;
+  bytes = bytes_of f h.old h.kept;
+  there = subst (λ (n : ℕ). edition_among f.editions n ≡ Some (all_files (bytes_of f h.old h.kept))) h.named (kept_there f h.old h.kept);
+  old = kept_view h.old;
+  text = kept_text f h.old h.kept;
+  against = record { groups = h.against.groups; change = h.against.change };
+}
+
+its_sums : (f : FolderState) (e : KeptEdition) (kept : IsKeptEdition f e) → HasItsSums f e
+    → e.sums.items ≡ sums_text e.served.base_text.items kept.served.of_cert.text e.served.policy_text.items kept.text
+its_sums f e kept own =
+    let cert : own.cert ≡ kept.served.of_cert.text = same_some own.cert kept.served.of_cert.text (sym own.there ∙ kept.served.of_cert.there) in
+    let follows : kept.text ≡ follows_text e.follows = lines_numbers.follows_found kept.text e.follows kept.says in
+    own.are
+    ∙ ap (λ (c : List ℕ). sums_text e.served.base_text.items c e.served.policy_text.items (follows_text e.follows)) cert
+    ∙ ap (λ (t : List ℕ). sums_text e.served.base_text.items kept.served.of_cert.text e.served.policy_text.items t) (sym follows)
+
+sound_kept : (f : FolderState) (numbers : List ℕ) (served : Option ℕ) (e : KeptEdition) (kept : IsKeptEdition f e) → IsJudgedRight f numbers served e → IsSoundEdition f.editions e.served.number (all_files (bytes_of f e kept))
+sound_kept f numbers served e kept right = record {
+  bytes = bytes_of f e kept;
+  whole = refl;
+  sums = its_sums f e kept right.own.sums;
+  view = kept_view e;
+  text = kept_text f e kept;
+  cleared = right.own.cleared;
+  following = following f e e.follows right.follows;
+}
+
+not_passed : (f : FolderState) (numbers : List ℕ) (served : Option ℕ) (n : ℕ) (follows : Option ℕ) → AreNumbersOf f numbers → IsWithinNumbers numbers served n follows → IsNotPassed f.editions served n follows
+not_passed f numbers served n None all h = tt
+not_passed f numbers None n (Some k) all h = absurd h
+not_passed f numbers (Some c) n (Some k) all (inl le) = inl le
+not_passed f numbers (Some c) n (Some k) all (inr last) = inr (last.0, λ m files there. All-contains (λ (m : ℕ). m ≤ n) numbers m last.1 (has_number f numbers m files all there))
+
+right_kept : (f : FolderState) (numbers : List ℕ) (served : Option ℕ) (e : KeptEdition) → AreNumbersOf f numbers → IsKeptEdition f e → IsJudgedRight f numbers served e → IsRightEdition f served e.served.number
+right_kept f numbers served e all kept right = record {
+  files = all_files (bytes_of f e kept);
+  there = kept_there f e kept;
+  sound = sound_kept f numbers served e kept right;
+  passed = not_passed f numbers served e.served.number e.follows all right.within;
+}
+
+right_number : (f : FolderState) (numbers : List ℕ) (served : Option ℕ) (n : ℕ) → AreNumbersOf f numbers → IsRightNumber f numbers served n → IsRightEdition f served n
+right_number f numbers served n all right = subst (λ (m : ℕ). IsRightEdition f served m) right.named (right_kept f numbers served right.edition all right.kept right.right)
+
+-- A folder of which all editions are right.
+
+module _ (f : FolderState) (numbers : List ℕ) (served : Option ℕ) (all : AreNumbersOf f numbers) (right : All (IsRightNumber f numbers served) numbers) where
+  at_number : (n : ℕ) → Contains numbers n → IsRightEdition f served n
+  at_number n has = right_number f numbers served n all (All-contains (IsRightNumber f numbers served) numbers n right has)
+
+  found : (n : ℕ) (files : FilesSeen) → edition_among f.editions n ≡ Some files → IsRightEdition f served n
+  found n files there = at_number n (has_number f numbers n files all there)
+
+  same_files : (n : ℕ) (files : FilesSeen) (there : edition_among f.editions n ≡ Some files) → (found n files there).files ≡ files
+  same_files n files there = same_some (found n files there).files files (sym (found n files there).there ∙ there)
+
+  each : (n : ℕ) (files : FilesSeen) → edition_among f.editions n ≡ Some files → IsSoundEdition f.editions n files
+  each n files there = subst (λ (fs : FilesSeen). IsSoundEdition f.editions n fs) (same_files n files there) (found n files there).sound
+
+  last : (n : ℕ) (files : FilesSeen) (text : List ℕ) (follows : Option ℕ) → edition_among f.editions n ≡ Some files → files.follows ≡ Some text → follows_in text ≡ Some follows → IsNotPassed f.editions served n follows
+  last n files text follows there is says =
+      let one = found n files there in
+      let bytes : one.sound.bytes.follows ≡ text =
+      same_some one.sound.bytes.follows text (sym (ap (λ (fs : FilesSeen). fs.follows) one.sound.whole) ∙ ap (λ (fs : FilesSeen). fs.follows) (same_files n files there) ∙ is) in
+      let same : one.sound.view.follows ≡ follows = same_some one.sound.view.follows follows (sym one.sound.text.of_follows ∙ ap follows_in bytes ∙ says) in
+      subst (λ (o : Option ℕ). IsNotPassed f.editions served n o) same one.passed
+
+names : (f : FolderState) (numbers : List ℕ) (served : Option ℕ) → AreNumbersOf f numbers → All (IsRightNumber f numbers served) numbers → IfSome served (Contains numbers)
+    → (text : List ℕ) → option_map number_line served ≡ Some text → NamesEdition f.editions text
+names f numbers None all right has text e = absurd cc
+names f numbers (Some c) all right has text e =
+    let one = at_number f numbers (Some c) all right c has in
+    record { number = c; files = one.files; spelled = sym (same_some (number_line c) text e); there = one.there }
+
+verified : (f : FolderState) (numbers : List ℕ) (served : Option ℕ) → AreNumbersOf f numbers → f.current ≡ option_map number_line served → IfSome served (Contains numbers) → All (IsRightNumber f numbers served) numbers → IsVerifiedFolder f
+verified f numbers served all named has right = record {
+  sound = record {
+    each = each f numbers served all right;
+    current = λ text is. names f numbers served all right has text (sym named ∙ is);
+  };
+  last = record { served = served; named = named; last = last f numbers served all right };
+}
+
+pub verified_in : (o : Option FolderState) (numbers : List ℕ) (served : Option ℕ) → IfSome o (λ f. AreNumbersOf f numbers) → IfSome o (λ f. f.current ≡ option_map number_line served) → IfSome served (Contains numbers)
+    → IfSome o (λ f. All (IsRightNumber f numbers served) numbers) → IfSome o IsVerifiedFolder
+verified_in None numbers served all named has right = tt
+verified_in (Some f) numbers served all named has right = verified f numbers served all named has right
+
+-- the same of what a call answers
+pub verified_by : {E : Type 0} (o p : Option FolderState) (numbers : List ℕ) (served : Option ℕ) (r : Result Bool E) → p ≡ o → IfSome o (λ f. AreNumbersOf f numbers) → IfSome o (λ f. f.current ≡ option_map number_line served)
+    → IfOk r (λ b. b ≡ true → IfSome served (Contains numbers)) → IfOk r (λ b. b ≡ true → IfSome p (λ f. All (IsRightNumber f numbers served) numbers)) → IfOk r (λ b. b ≡ true → IfSome o IsVerifiedFolder)
+verified_by o p numbers served (Err e) same all named has right = tt
+verified_by o p numbers served (Ok b) same all named has right = λ yes.
+    verified_in o numbers served all named (has yes) (held_too o p (λ f. All (IsRightNumber f numbers served) numbers) same (right yes))
+
+pub never_true : {E : Type 0} (r : Result Bool E) (P : Type 0) → IfOk r (λ b. b ≡ false) → IfOk r (λ b. b ≡ true → P)
+never_true (Err e) P no = tt
+never_true (Ok true) P no = absurd cc
+never_true (Ok false) P no = λ yes. absurd cc
+
+pub numbers_too : (o p : Option FolderState) (numbers slice : List ℕ) → p ≡ o → slice ≡ numbers → IfSome o (λ f. AreNumbersOf f numbers) → IfSome p (λ f. AreNumbersOf f slice)
+numbers_too o p numbers slice same is all =
+    subst (λ (ns : List ℕ). IfSome p (λ f. AreNumbersOf f ns)) (sym is) (held_too p o (λ f. AreNumbersOf f numbers) (sym same) all)
+
+-- each edition that is there is among those that were read
+pub read_in : (o : Option FolderState) (numbers : List ℕ) → IfSome o (λ f. AreNumbersOf f numbers) → IfSome o (λ f. All (IsReadIn f) numbers) → IfSome o IsReadFolder
+read_in None numbers all read = tt
+read_in (Some f) numbers all read = λ n files there. All-contains (IsReadIn f) numbers n read (has_number f numbers n files all there)

@@ -1,0 +1,111 @@
+-- What private functions say.
+use Rattle.std.specs.Prelude.{◌≡◌, ◌<◌, ◌≤◌, ◌⊎◌, ℕ, List, Option, Some, None, IfSome, map}
+use Rattle.std.specs.List.{All}
+use Rattle.std.specs.List.Sorted.{IsPermutation}
+use Rattle.editions.specs.declared.edition_file.EditionFile.TheVariants.{Cert, Follows}
+use Rattle.editions.specs.Folders.{FilesSeen, FolderState, SeenFolder, edition_among, file_at}
+use Rattle.editions.specs.NumberLines.{number_line, follows_in, follows_text}
+use Rattle.editions.specs.Sums.{sums_text}
+use Rattle.editions.specs.Chains.{EditionView, IsClearedEdition, IsClearedAgainst}
+use Rattle.editions.specs.Moments.{IsSoundEdition}
+use Rattle.edition_checks.specs.Served.{served_view}
+use Rattle.edition_lists.specs.declared.current.Named.{Named}
+use Rattle.edition_lists.specs.declared.current.Named.TheVariants.{Nothing, Edition, Unread}
+use Rattle.edition_lists.specs.declared.judging.JudgedEdition.{JudgedEdition}
+use Rattle.edition_lists.specs.declared.judging.JudgedEdition.TheVariants.{Right, Wrong}
+use Rattle.edition_lists.specs.declared.kept.KeptEdition.{KeptEdition}
+use Rattle.edition_lists.specs.Kept.{IsKeptEdition}
+use Rattle.edition_lists.specs.Verified.{IsNotPassed}
+
+abbrev pub kept_view : KeptEdition → EditionView
+kept_view e = served_view e.follows e.served
+
+-- the text of `follows` is there, and says this
+pub record SaysFollows (f : FolderState) (number : ℕ) (follows : Option ℕ) : Type 0 where
+  pub text : List ℕ
+  pub there : file_at f number Follows ≡ Some text
+  pub says : follows_in text ≡ Some follows
+
+-- what the text of `current` names
+abbrev pub IsNamedBy : List ℕ → Named → Type 0
+IsNamedBy text Nothing = ⊥
+IsNamedBy text (Edition n) = text ≡ number_line n
+IsNamedBy text Unread = Unit {0}
+
+-- what `current` says is what was read
+abbrev pub IsNamed : FolderState → Named → Type 0
+IsNamed f Nothing = f.current ≡ None
+IsNamed f (Edition n) = f.current ≡ Some (number_line n)
+IsNamed f Unread = Unit {0}
+
+-- its SHA256SUMS has the sums of its other files
+pub record HasItsSums (f : FolderState) (e : KeptEdition) : Type 0 where
+  pub cert : List ℕ
+  pub there : file_at f e.served.number Cert ≡ Some cert
+  pub are : e.sums.items ≡ sums_text e.served.base_text.items cert e.served.policy_text.items (follows_text e.follows)
+
+-- it has its own sums, and the check clears it
+pub record IsSealed (f : FolderState) (e : KeptEdition) : Type 0 where
+  pub sums : HasItsSums f e
+  pub cleared : IsClearedEdition (kept_view e)
+
+-- the edition of this number is there, comes before it, and the change from that one is cleared
+pub record IsAfterKept (f : FolderState) (e : KeptEdition) (k : ℕ) : Type 0 where
+  pub before : k < e.served.number
+  pub old : KeptEdition
+  pub named : old.served.number ≡ k
+  pub kept : IsKeptEdition f old
+  pub against : IsClearedAgainst (kept_view old) (kept_view e)
+
+-- the same of what it follows, if it follows one
+abbrev pub IsFollowingKept : FolderState → KeptEdition → Option ℕ → Type 0
+IsFollowingKept f e None = Unit {0}
+IsFollowingKept f e (Some k) = IsAfterKept f e k
+
+-- the edition that is served isn't passed by one that follows this one, by the numbers of all editions
+abbrev pub IsNumberWithin : List ℕ → ℕ → ℕ → ℕ → Type 0
+IsNumberWithin numbers served n k = (n ≤ served) ⊎ ((k ≡ served) × All (λ m. m ≤ n) numbers)
+
+abbrev pub IsWithinNumbers : List ℕ → Option ℕ → ℕ → Option ℕ → Type 0
+IsWithinNumbers numbers served n None = Unit {0}
+IsWithinNumbers numbers None n (Some k) = ⊥
+IsWithinNumbers numbers (Some served) n (Some k) = IsNumberWithin numbers served n k
+
+-- an edition that was read is right, by the numbers of all editions and the one that is served
+pub record IsJudgedRight (f : FolderState) (numbers : List ℕ) (served : Option ℕ) (e : KeptEdition) : Type 0 where
+  pub own : IsSealed f e
+  pub follows : IsFollowingKept f e e.follows
+  pub within : IsWithinNumbers numbers served e.served.number e.follows
+
+-- if an edition is right: of it
+abbrev pub IfRight : JudgedEdition → (KeptEdition → Type 0) → Type 0
+IfRight (Right e) P = P e
+IfRight (Wrong fault) P = Unit {0}
+
+-- the edition of this number was read and is right
+pub record IsRightNow (seen : SeenFolder) (numbers : List ℕ) (served : Option ℕ) (number : ℕ) (e : KeptEdition) : Type 0 where
+  pub named : e.served.number ≡ number
+  pub kept : IfSome seen.state (λ f. IsKeptEdition f e)
+  pub right : IfSome seen.state (λ f. IsJudgedRight f numbers served e)
+
+-- the same of a folder
+pub record IsRightNumber (f : FolderState) (numbers : List ℕ) (served : Option ℕ) (number : ℕ) : Type 0 where
+  pub edition : KeptEdition
+  pub named : edition.served.number ≡ number
+  pub kept : IsKeptEdition f edition
+  pub right : IsJudgedRight f numbers served edition
+
+-- the numbers of all editions, in some order
+abbrev pub AreNumbersOf : FolderState → List ℕ → Type 0
+AreNumbersOf f numbers = IsPermutation (map (λ e. e.0) f.editions) numbers
+
+-- an edition of this number is there and sound, and the one that is served isn't passed by it
+pub record IsRightEdition (f : FolderState) (served : Option ℕ) (n : ℕ) : Type 0 where
+  pub files : FilesSeen
+  pub there : edition_among f.editions n ≡ Some files
+  pub sound : IsSoundEdition f.editions n files
+  pub passed : IsNotPassed f.editions served n sound.view.follows
+
+-- what was read before, if anything was
+abbrev pub IsKeptBefore : SeenFolder → Option KeptEdition → Type 0
+IsKeptBefore seen before = IfSome before (λ e. IfSome seen.state (λ f. IsKeptEdition f e))
