@@ -1,12 +1,12 @@
 //! The command `editions`: a folder is read under its lock, which is shared with others who only read.
 
-ghost use Rattle.std.specs.Prelude.{◌≡◌, true, false};
-
 use crate::edition_folder::{FolderFiles, path_in};
 use crate::named_files::{Unfinished, report, unread};
-use crate::publish_files::{NO_NUMBER, UNREAD, report_edition, report_failed, report_in};
+use crate::publish_files::{
+    MEMORY, NO_FILE, NO_NUMBER, UNREAD, report_edition, report_failed, report_in,
+};
 use audit_report::{IntoWrite, RunFault};
-use edition_lists::{EditionsFault, run_list, run_verify, status_of_editions};
+use edition_lists::{EditionsFault, FolderFault, run_list, run_verify, status_of_editions};
 use std::alloc::Global;
 use std::fs::File;
 use std::rt::Files;
@@ -41,7 +41,26 @@ fn shut<R: Files>(rt: &R, folder: &str) -> Option<Unfinished> {
     }
 }
 
-// Says why a run ended before its last edition; the exit status.
+// Says why a folder isn't read to its last edition; the exit status.
+fn report_folder<'a, R: Files + Eprint + AllocGlobal>(
+    rt: &R,
+    store: &FolderFiles<'a, R>,
+    fault: FolderFault,
+) -> u8 {
+    match fault {
+        FolderFault::Current => report_in(rt, store.path, "current", &NO_NUMBER),
+        FolderFault::Missing(number, file) => {
+            report_edition(rt, store.path, number, file.name(), &NO_FILE)
+        }
+        FolderFault::Unread(number, file) => {
+            report_edition(rt, store.path, number, file.name(), &UNREAD)
+        }
+        FolderFault::Broken => report_failed(rt, store),
+        FolderFault::Memory => report(rt, store.path, &MEMORY),
+    }
+}
+
+// Says why a run ended without its work done; the exit status. A closed pipe has no line.
 fn report_editions<'a, R: Files + Eprint + AllocGlobal>(
     rt: &R,
     store: &FolderFiles<'a, R>,
@@ -49,25 +68,11 @@ fn report_editions<'a, R: Files + Eprint + AllocGlobal>(
     is_closed: bool,
 ) -> u8 {
     match fault {
-        EditionsFault::Current => report_in(rt, store.path, "current", &NO_NUMBER),
-        EditionsFault::Missing(number, file) => report_edition(
-            rt,
-            store.path,
-            number,
-            file.name(),
-            &Unfinished::Unread("no such file"),
-        ),
-        EditionsFault::Unread(number, file) => {
-            report_edition(rt, store.path, number, file.name(), &UNREAD)
-        }
-        EditionsFault::Folder => report_failed(rt, store),
+        EditionsFault::Folder(fault) => report_folder(rt, store, fault),
         EditionsFault::Write(_) if is_closed => 3,
-        EditionsFault::Write(wrote) => report(
-            rt,
-            store.path,
-            &Unfinished::Fault(RunFault::Write(wrote)),
-        ),
-        EditionsFault::Memory => report(rt, store.path, &Unfinished::Fault(RunFault::Memory)),
+        EditionsFault::Write(wrote) => {
+            report(rt, store.path, &Unfinished::Fault(RunFault::Write(wrote)))
+        }
     }
 }
 

@@ -198,7 +198,8 @@ pub fn report_edition<R: Files + Eprint + AllocGlobal>(
 /// What is wrong with a `current` that names nothing.
 pub const NO_NUMBER: Unfinished = Unfinished::Unread("no number of an edition and a line end");
 
-const NO_FILE: Unfinished = Unfinished::Unread("no such file");
+/// What is wrong with a file that isn't there.
+pub const NO_FILE: Unfinished = Unfinished::Unread("no such file");
 
 /// What is wrong with a file of an edition that doesn't read.
 pub const UNREAD: Unfinished = Unfinished::Unread("refused: it isn't what was published");
@@ -207,7 +208,8 @@ const UNCERTIFIED: Unfinished = Unfinished::Unread("the check refuses the audit'
 
 const FULL: Unfinished = Unfinished::Unwritten("no number is left");
 
-const MEMORY: Unfinished = Unfinished::Fault(RunFault::Memory);
+/// A growth was refused.
+pub const MEMORY: Unfinished = Unfinished::Fault(RunFault::Memory);
 
 /// Says what the folder's last call that failed was about; the exit status.
 pub fn report_failed<'a, R: Files + Eprint + AllocGlobal>(rt: &R, store: &FolderFiles<'a, R>) -> u8 {

@@ -6,7 +6,7 @@ use Rattle.std.specs.Prelude.{IfSome, is_some}
 use Rattle.editions.specs.Folders.{FolderState, SeenFolder}
 use Rattle.edition_lists.specs.declared.kept.KeptEdition.{KeptEdition}
 use Rattle.edition_lists.specs.Kept.{IsKeptEdition, IsReadIn}
-use Rattle.edition_lists.specs.Loops.{IsJudgedRight, IsRightNumber, IsRightNow, IsKeptBefore}
+use Rattle.edition_lists.specs.Judged.{IsJudgedRight, IsRightNumber, IsRightNow, IsKeptBefore}
 use Rattle.edition_lists.proofs.KeptReads.{held_too}
 
 pub none_yet : (o : Option FolderState) (P : FolderState → ℕ → Type 0) (numbers : List ℕ) → IfSome o (λ f. All (P f) (take 0 numbers))

@@ -11,7 +11,7 @@ use Rattle.edition_lists.specs.declared.current.Named.{Named}
 use Rattle.edition_lists.specs.declared.current.Named.TheVariants.{Nothing, Edition, Unread}
 use Rattle.edition_lists.specs.declared.kept.KeptEdition.{KeptEdition}
 use Rattle.edition_lists.specs.Kept.{IsKeptEdition, IsReadIn}
-use Rattle.edition_lists.specs.Loops.{kept_view, SaysFollows, IsNamedBy, IsNamed, HasItsSums, IsSealed, IsAfterKept, IsFollowingKept, IsWithinNumbers, IsJudgedRight, IsKeptBefore}
+use Rattle.edition_lists.specs.Judged.{kept_view, SaysFollows, IsNamedBy, IsNamed, HasItsSums, IsSealed, IsAfterKept, IsFollowingKept, IsWithinNumbers, IsJudgedRight, IsKeptBefore}
 
 -- what holds of a folder that is the same
 pub held_too : (o p : Option FolderState) (P : FolderState → Type 0) → p ≡ o → IfSome p P → IfSome o P

@@ -15,7 +15,7 @@ use Rattle.editions.proofs.LineLaws.{lines_numbers}
 use Rattle.edition_lists.specs.declared.kept.KeptEdition.{KeptEdition}
 use Rattle.edition_lists.specs.Kept.{IsKeptEdition, IsReadIn}
 use Rattle.edition_lists.specs.Verified.{IsNotPassed, IsServedLast, IsVerifiedFolder, IsReadFolder}
-use Rattle.edition_lists.specs.Loops.{kept_view, HasItsSums, IsFollowingKept, IsWithinNumbers, IsJudgedRight, IsRightNumber, AreNumbersOf, IsRightEdition}
+use Rattle.edition_lists.specs.Judged.{kept_view, HasItsSums, IsFollowingKept, IsWithinNumbers, IsJudgedRight, IsRightNumber, AreNumbersOf, IsRightEdition}
 use Rattle.edition_lists.proofs.FolderLaws.{same_some}
 use Rattle.edition_lists.proofs.KeptReads.{held_too}
 

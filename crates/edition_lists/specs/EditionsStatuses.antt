@@ -1,7 +1,8 @@
 -- The exit status after a list of editions, and after they were verified.
 use Rattle.std.specs.Prelude.{ℕ, Result, Ok, Err}
 use Rattle.edition_lists.specs.declared.fault.EditionsFault.{EditionsFault}
-use Rattle.edition_lists.specs.declared.fault.EditionsFault.TheVariants as fault
+use Rattle.edition_lists.specs.declared.fault.EditionsFault.TheVariants.{Folder}
+use Rattle.edition_lists.specs.declared.fault.FolderFault.TheVariants.{Memory}
 use Rattle.edition_lists.specs.declared.status.EditionsStatus.{EditionsStatus}
 use Rattle.edition_lists.specs.declared.status.EditionsStatus.TheVariants.{Listed, Cleared, Refused}
 
@@ -9,5 +10,5 @@ abbrev pub editions_number : Result EditionsStatus EditionsFault → ℕ
 editions_number (Ok Listed) = 0
 editions_number (Ok Cleared) = 0
 editions_number (Ok Refused) = 1
-editions_number (Err fault.Memory) = 4
+editions_number (Err (Folder Memory)) = 4
 editions_number (Err _) = 3

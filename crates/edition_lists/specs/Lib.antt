@@ -1,5 +1,12 @@
+pub mod Currents
 pub mod EditionsStatuses
+pub mod Findings
 pub mod FolderChains
+pub mod Judged
 pub mod Kept
-pub mod Loops
+pub mod ListLines
+pub mod Rows
+pub mod Runs
+pub mod Servings
 pub mod Verified
+pub mod VerifyLines

@@ -3,9 +3,9 @@ use edition_checks::ServedFault;
 use editions::{EditionFile, StoreFault};
 use thiserror::Error;
 
-/// Why a run ends before its last edition.
+/// Why a folder isn't read to its last edition.
 #[derive(Debug, Clone, Copy, PartialEq, Eq, Error)]
-pub enum EditionsFault {
+pub enum FolderFault {
     /// `current` names no number: it may be half written.
     #[error("current: no number of an edition")]
     Current,
@@ -17,13 +17,21 @@ pub enum EditionsFault {
     Unread(u32, EditionFile),
     /// A call of the folder failed.
     #[error("the folder failed")]
-    Folder,
-    /// The writer failed; how many bytes it took before.
-    #[error("write failed after {0} bytes")]
-    Write(u64),
+    Broken,
     /// A growth was refused.
     #[error("memory refused")]
     Memory,
+}
+
+/// Why a run ends without its work done.
+#[derive(Debug, Clone, Copy, PartialEq, Eq, Error)]
+pub enum EditionsFault {
+    /// The folder isn't read to its last edition; nothing was written.
+    #[error("the folder isn't read")]
+    Folder(FolderFault),
+    /// The writer failed; how many bytes it took before.
+    #[error("write failed after {0} bytes")]
+    Write(u64),
 }
 
 /// What is wrong with an edition.
@@ -52,18 +60,18 @@ pub enum EditionFlaw {
 }
 
 /// Why the files of an edition end a run.
-pub(crate) fn kept_fault(number: u32, fault: ServedFault) -> EditionsFault {
+pub(crate) fn kept_fault(number: u32, fault: ServedFault) -> FolderFault {
     match fault {
-        ServedFault::Missing(file) => EditionsFault::Missing(number, file),
-        ServedFault::Unread(file) => EditionsFault::Unread(number, file),
-        ServedFault::Folder => EditionsFault::Folder,
-        ServedFault::Memory => EditionsFault::Memory,
+        ServedFault::Missing(file) => FolderFault::Missing(number, file),
+        ServedFault::Unread(file) => FolderFault::Unread(number, file),
+        ServedFault::Folder => FolderFault::Broken,
+        ServedFault::Memory => FolderFault::Memory,
     }
 }
 
-pub(crate) fn folder_fault(fault: StoreFault) -> EditionsFault {
+pub(crate) fn folder_fault(fault: StoreFault) -> FolderFault {
     match fault {
-        StoreFault::Broken => EditionsFault::Folder,
-        StoreFault::Memory => EditionsFault::Memory,
+        StoreFault::Broken => FolderFault::Broken,
+        StoreFault::Memory => FolderFault::Memory,
     }
 }

@@ -4,9 +4,9 @@ ghost use Rattle.std.specs.Prelude.{◌≡◌, ◌<◌, ◌≤◌, true, None, I
 ghost use Rattle.std.specs.List.{All};
 ghost use Rattle.editions.specs.Chains.{IsClearedAgainst};
 ghost use Rattle.edition_checks.specs.Served.{IsUnchanged};
-ghost use Rattle.edition_lists.specs.Loops.{kept_view, IsKeptBefore, IsAfterKept, IsFollowingKept, IsNumberWithin, IsWithinNumbers};
+ghost use Rattle.edition_lists.specs.Judged.{kept_view, IsKeptBefore, IsAfterKept, IsFollowingKept, IsNumberWithin, IsWithinNumbers};
 
-use crate::fault::{EditionFlaw, EditionsFault};
+use crate::fault::{EditionFlaw, FolderFault};
 use crate::kept::{KeptEdition, read_kept};
 use checker::{ChangeVerdict, check_change};
 use edition_checks::{ServedFault, wider_of};
@@ -45,7 +45,7 @@ fn change_from<F: EditionFolder>(
     folder: &mut F,
     edition: &KeptEdition,
     number: u32,
-) -> Result<Option<EditionFlaw>, EditionsFault>
+) -> Result<Option<EditionFlaw>, FolderFault>
     requires held { (F.seen folder.old).held ≡ true }
     requires before { number < edition.now.served.number }
     ensures unchanged { IsUnchanged (F.seen folder.old) (F.seen folder.new) }
@@ -54,8 +54,8 @@ fn change_from<F: EditionFolder>(
 {
     match read_kept(alloc, folder, number) {
         Ok(old) => Ok(refused_change(&old, edition)),
-        Err(ServedFault::Folder) => Err(EditionsFault::Folder),
-        Err(ServedFault::Memory) => Err(EditionsFault::Memory),
+        Err(ServedFault::Folder) => Err(FolderFault::Broken),
+        Err(ServedFault::Memory) => Err(FolderFault::Memory),
         Err(_) => Ok(Some(EditionFlaw::FollowsWrong(number))),
     }
 }
@@ -67,7 +67,7 @@ fn change_after<F: EditionFolder>(
     edition: &KeptEdition,
     number: u32,
     before: &Option<KeptEdition>,
-) -> Result<Option<EditionFlaw>, EditionsFault>
+) -> Result<Option<EditionFlaw>, FolderFault>
     requires held { (F.seen folder.old).held ≡ true }
     requires before { number < edition.now.served.number }
     requires kept { IsKeptBefore (F.seen folder.old) before.now }
@@ -88,7 +88,7 @@ pub fn follows_fault<F: EditionFolder>(
     numbers: &[u32],
     edition: &KeptEdition,
     before: &Option<KeptEdition>,
-) -> Result<Option<EditionFlaw>, EditionsFault>
+) -> Result<Option<EditionFlaw>, FolderFault>
     requires held { (F.seen folder.old).held ≡ true }
     requires kept { IsKeptBefore (F.seen folder.old) before.now }
     ensures unchanged { IsUnchanged (F.seen folder.old) (F.seen folder.new) }
@@ -100,7 +100,9 @@ pub fn follows_fault<F: EditionFolder>(
         Some(number) if number >= edition.served.number => {
             Ok(Some(EditionFlaw::FollowsLater(number)))
         }
-        Some(number) if !numbers.contains(&number) => Ok(Some(EditionFlaw::FollowsNone(number))),
+        Some(number) if numbers.binary_search(&number).is_err() => {
+            Ok(Some(EditionFlaw::FollowsNone(number)))
+        },
         Some(number) => change_after(alloc, folder, edition, number, before),
     }
 }

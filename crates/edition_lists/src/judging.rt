@@ -3,9 +3,9 @@
 ghost use Rattle.std.specs.Prelude.{◌≡◌, true, None, IfOk, IfSome};
 ghost use Rattle.edition_checks.specs.Served.{IsUnchanged};
 ghost use Rattle.edition_lists.specs.Kept.{IsKeptEdition};
-ghost use Rattle.edition_lists.specs.Loops.{IsKeptBefore, IsFollowingKept, IsWithinNumbers, IsJudgedRight, IfRight, IsRightNow};
+ghost use Rattle.edition_lists.specs.Judged.{IsKeptBefore, IsFollowingKept, IsWithinNumbers, IsJudgedRight, IfRight, IsRightNow};
 
-use crate::fault::{EditionFlaw, EditionsFault};
+use crate::fault::{EditionFlaw, FolderFault};
 use crate::following::{follows_fault, passed_fault};
 use crate::kept::{KeptEdition, read_kept};
 use crate::sealing::own_fault;
@@ -28,7 +28,7 @@ fn place_fault<F: EditionFolder>(
     current: Option<u32>,
     edition: &KeptEdition,
     before: &Option<KeptEdition>,
-) -> Result<Option<EditionFlaw>, EditionsFault>
+) -> Result<Option<EditionFlaw>, FolderFault>
     requires held { (F.seen folder.old).held ≡ true }
     requires kept { IsKeptBefore (F.seen folder.old) before.now }
     ensures unchanged { IsUnchanged (F.seen folder.old) (F.seen folder.new) }
@@ -52,7 +52,7 @@ fn edition_fault<F: EditionFolder>(
     current: Option<u32>,
     edition: &KeptEdition,
     before: &Option<KeptEdition>,
-) -> Result<Option<EditionFlaw>, EditionsFault>
+) -> Result<Option<EditionFlaw>, FolderFault>
     requires held { (F.seen folder.old).held ≡ true }
     requires kept { IsKeptBefore (F.seen folder.old) before.now }
     ensures unchanged { IsUnchanged (F.seen folder.old) (F.seen folder.new) }
@@ -74,7 +74,7 @@ fn judge_kept<F: EditionFolder>(
     current: Option<u32>,
     edition: KeptEdition,
     before: &Option<KeptEdition>,
-) -> Result<JudgedEdition, EditionsFault>
+) -> Result<JudgedEdition, FolderFault>
     requires held { (F.seen folder.old).held ≡ true }
     requires read { IfSome (F.seen folder.old).state (λ f. IsKeptEdition f edition) }
     requires kept { IsKeptBefore (F.seen folder.old) before.now }
@@ -90,12 +90,12 @@ fn judge_kept<F: EditionFolder>(
 }
 
 // What is wrong with an edition that doesn't read.
-fn unread(fault: ServedFault) -> Result<EditionFlaw, EditionsFault> {
+fn unread(fault: ServedFault) -> Result<EditionFlaw, FolderFault> {
     match fault {
         ServedFault::Missing(file) => Ok(EditionFlaw::Missing(file)),
         ServedFault::Unread(file) => Ok(EditionFlaw::Unread(file)),
-        ServedFault::Folder => Err(EditionsFault::Folder),
-        ServedFault::Memory => Err(EditionsFault::Memory),
+        ServedFault::Folder => Err(FolderFault::Broken),
+        ServedFault::Memory => Err(FolderFault::Memory),
     }
 }
 
@@ -108,7 +108,7 @@ pub fn judge_edition<F: EditionFolder>(
     current: Option<u32>,
     number: u32,
     before: &Option<KeptEdition>,
-) -> Result<JudgedEdition, EditionsFault>
+) -> Result<JudgedEdition, FolderFault>
     requires held { (F.seen folder.old).held ≡ true }
     requires kept { IsKeptBefore (F.seen folder.old) before.now }
     ensures unchanged { IsUnchanged (F.seen folder.old) (F.seen folder.new) }

@@ -9,14 +9,15 @@
 //! - [`run_list`]: a line for each edition, in the order of their numbers.
 //! - [`run_verify`]: checks each edition by itself and against the one that it follows, and that `current` is the last of its chain.
 //!   If it answers [`EditionsStatus::Cleared`], the folder is sound; [`sound_folders_are_safe`] says what that means for callers.
-//! - [`EditionsStatus`], [`EditionsFault`], [`status_of_editions`]: what a run found, why it ended early, and the exit status for it.
-//! - Definitions: what a run finds in a folder (`Verified`), the chains of a sound folder (`FolderChains`), the exit status
-//!   (`EditionsStatuses`).
+//! - [`EditionsStatus`], [`EditionsFault`], [`FolderFault`], [`status_of_editions`]: what a run found, why it ended early, and the exit
+//!   status for it.
+//! - Definitions: what a run finds in a folder (`Judged`, `Findings`, `Rows`), the texts (`VerifyLines`, `ListLines`, `Runs`), what a
+//!   cleared folder is (`Verified`), its chains (`FolderChains`), the exit status (`EditionsStatuses`).
 #![tactic(auto)]
 
 mod current;
 mod fault;
-mod fault_words;
+mod finding;
 mod following;
 mod judging;
 mod kept;
@@ -24,13 +25,15 @@ mod laws;
 mod list_lines;
 mod listing;
 mod numbers;
+mod rows;
 mod saying;
 mod sealing;
 mod serving;
 mod status;
+mod verify_lines;
 mod verifying;
 
-pub use fault::EditionsFault;
+pub use fault::{EditionsFault, FolderFault};
 pub use laws::sound_folders_are_safe;
 pub use listing::run_list;
 pub use status::{EditionsStatus, status_of_editions};

@@ -1,19 +1,21 @@
 //! The run that lists a folder.
 
-ghost use Rattle.std.specs.Prelude.{◌≡◌, true, false, Ok, IfOk, IfSome};
-ghost use Rattle.std.specs.List.{All};
+ghost use Rattle.std.specs.Prelude.{◌≡◌, true, false, IfOk, IfSome};
 ghost use Rattle.edition_checks.specs.Served.{IsUnchanged};
-ghost use Rattle.edition_lists.specs.Kept.{IsKeptEdition, IsReadIn};
-ghost use Rattle.edition_lists.specs.Loops.{AreNumbersOf};
-ghost use Rattle.edition_lists.specs.Verified.{IsReadFolder};
+ghost use Rattle.edition_lists.specs.Kept.{IsKeptEdition};
+ghost use Rattle.edition_lists.specs.Judged.{AreNumbersOf};
+ghost use Rattle.edition_lists.specs.Currents.{served_of};
+ghost use Rattle.edition_lists.specs.Rows.{IsRowOf, AddsRow, AreRows, AreListedIn, is_read};
+ghost use Rattle.edition_lists.specs.ListLines as lines;
+ghost use Rattle.edition_lists.specs.Runs.{IsListing, IsRun};
 
-use crate::current::{Named, read_named};
-use crate::fault::{EditionsFault, kept_fault};
+use crate::current::{FoundCurrent, read_current, served_of};
+use crate::fault::{EditionsFault, FolderFault, kept_fault};
 use crate::kept::{KeptEdition, read_kept};
-use crate::list_lines::push_line;
+use crate::list_lines::list_text;
 use crate::numbers::sorted_numbers;
-use crate::saying::{added, write_said};
-use crate::serving::{push_nothing, serving_of};
+use crate::rows::{EditionRow, row_of};
+use crate::saying::{Said, say};
 use crate::status::EditionsStatus;
 use devices::Sink;
 use editions::EditionStore;
@@ -24,7 +26,7 @@ fn read_one<S: EditionStore>(
     alloc: Global,
     store: &mut S,
     number: u32,
-) -> Result<KeptEdition, EditionsFault>
+) -> Result<KeptEdition, FolderFault>
     requires { (S.seen store.old).held ≡ true }
     ensures unchanged { IsUnchanged (S.seen store.old) (S.seen store.new) }
     ensures kept { IfOk result (λ e. IfSome (S.seen store.old).state (λ f. IsKeptEdition f e)) }
@@ -36,21 +38,23 @@ fn read_one<S: EditionStore>(
     }
 }
 
-// The edition that another one follows, if it is there and isn't the one that was read before.
+// The edition that another one follows, if it is there.
 fn read_followed<S: EditionStore>(
     alloc: Global,
     store: &mut S,
     numbers: &[u32],
     edition: &KeptEdition,
-) -> Result<Option<KeptEdition>, EditionsFault>
+) -> Result<Option<KeptEdition>, FolderFault>
     requires { (S.seen store.old).held ≡ true }
     ensures { IsUnchanged (S.seen store.old) (S.seen store.new) }
 {
     match edition.follows {
-        Some(number) if numbers.contains(&number) => match read_one(alloc, store, number) {
-            Ok(old) => Ok(Some(old)),
-            Err(fault) => Err(fault),
-        },
+        Some(number) if numbers.binary_search(&number).is_ok() => {
+            match read_one(alloc, store, number) {
+                Ok(old) => Ok(Some(old)),
+                Err(fault) => Err(fault),
+            }
+        }
         _ => Ok(None),
     }
 }
@@ -63,136 +67,174 @@ fn is_next(before: &Option<KeptEdition>, edition: &KeptEdition) -> bool {
     }
 }
 
-// Prints the line of an edition.
-fn list_after<S: EditionStore>(
+fn row_beside(
+    alloc: Global,
+    numbers: &[u32],
+    served: Option<u32>,
+    edition: &KeptEdition,
+    old: &Option<KeptEdition>,
+) -> Result<EditionRow, FolderFault>
+    ensures { IfOk result (IsRowOf numbers.now served edition.now) }
+{
+    match row_of(alloc, numbers, served, edition, old.as_ref()) {
+        Ok(row) => Ok(row),
+        Err(_) => Err(FolderFault::Memory),
+    }
+}
+
+// The row of an edition, beside the one that it follows: the one that was read before it, or another one.
+fn row_after<S: EditionStore>(
     alloc: Global,
     store: &mut S,
-    said: &mut Vec<u8>,
     numbers: &[u32],
-    current: Option<u32>,
+    served: Option<u32>,
     edition: &KeptEdition,
     before: &Option<KeptEdition>,
-) -> Result<(), EditionsFault>
+) -> Result<EditionRow, FolderFault>
     requires { (S.seen store.old).held ≡ true }
-    ensures { IsUnchanged (S.seen store.old) (S.seen store.new) }
+    ensures unchanged { IsUnchanged (S.seen store.old) (S.seen store.new) }
+    ensures row { IfOk result (IsRowOf numbers.now served edition.now) }
 {
-    let serving = serving_of(current, edition);
     if is_next(before, edition) {
-        return added(push_line(alloc, said, edition, before.as_ref(), serving));
+        return row_beside(alloc, numbers, served, edition, before);
     }
     match read_followed(alloc, store, numbers, edition) {
-        Ok(old) => added(push_line(alloc, said, edition, old.as_ref(), serving)),
+        Ok(old) => row_beside(alloc, numbers, served, edition, &old),
         Err(fault) => Err(fault),
     }
 }
 
-// Reads an edition and prints its line.
-fn list_edition<S: EditionStore>(
+// Reads an edition, and adds its row.
+fn list_next<S: EditionStore>(
     alloc: Global,
     store: &mut S,
-    said: &mut Vec<u8>,
+    rows: &mut Vec<EditionRow>,
     numbers: &[u32],
-    current: Option<u32>,
+    served: Option<u32>,
     number: u32,
     before: &Option<KeptEdition>,
-) -> Result<KeptEdition, EditionsFault>
+) -> Result<KeptEdition, FolderFault>
     requires { (S.seen store.old).held ≡ true }
     ensures unchanged { IsUnchanged (S.seen store.old) (S.seen store.new) }
-    ensures read { IfOk result (λ _. IfSome (S.seen store.old).state (λ f. IsReadIn f number)) }
+    ensures kept { IfOk result (λ e. IfSome (S.seen store.old).state (λ f. IsKeptEdition f e)) }
+    ensures number { IfOk result (λ e. e.served.number ≡ number) }
+    ensures row { IfOk result (λ e. AddsRow numbers.now served e rows.old.items rows.new.items) }
 {
     let edition = match read_one(alloc, store, number) {
         Ok(edition) => edition,
         Err(fault) => return Err(fault),
     };
-    match list_after(alloc, store, said, numbers, current, &edition, before) {
+    let row = match row_after(alloc, store, numbers, served, &edition, before) {
+        Ok(row) => row,
+        Err(fault) => return Err(fault),
+    };
+    match rows.push(row) {
         Ok(()) => Ok(edition),
-        Err(fault) => Err(fault),
+        Err(_) => Err(FolderFault::Memory),
     }
 }
 
-// Prints a line for each edition. Two editions at most are in memory.
+// A row for each edition. Two editions at most are in memory.
 fn list_all<S: EditionStore>(
     alloc: Global,
     store: &mut S,
-    said: &mut Vec<u8>,
     numbers: &[u32],
-    current: Option<u32>,
-) -> Result<(), EditionsFault>
+    served: Option<u32>,
+) -> Result<Vec<EditionRow>, FolderFault>
     requires { (S.seen store.old).held ≡ true }
     ensures unchanged { IsUnchanged (S.seen store.old) (S.seen store.new) }
-    ensures read { IfOk result (λ _. IfSome (S.seen store.old).state (λ f. All (IsReadIn f) numbers.now)) }
+    ensures rows { IfOk result (λ rows. IfSome (S.seen store.old).state
+        (λ f. AreRows f numbers.now served numbers.now rows.items)) }
 {
+    let mut rows = Vec::new(alloc);
     let mut before = None;
     for number in numbers {
-        match list_edition(alloc, store, said, numbers, current, *number, &before) {
+        match list_next(alloc, store, &mut rows, numbers, served, *number, &before) {
             Ok(edition) => before = Some(edition),
             Err(fault) => return Err(fault),
         }
     }
-    Ok(())
+    Ok(rows)
 }
 
-// The edition that is served.
-fn current_number<S: EditionStore>(
+// The edition that is served; a `current` that names no number is a fault.
+fn named_number(current: FoundCurrent, numbers: &[u32]) -> Result<Option<u32>, FolderFault>
+    ensures read { IfOk result (λ _. is_read current ≡ true) }
+    ensures number { IfOk result (λ served. served ≡ served_of current numbers.now) }
+{
+    match current {
+        FoundCurrent::Unread => Err(FolderFault::Current),
+        _ => Ok(served_of(current, numbers)),
+    }
+}
+
+// The rows of a folder, by the numbers of its editions.
+fn list_by<S: EditionStore>(
     alloc: Global,
     store: &mut S,
-) -> Result<Option<u32>, EditionsFault>
-    requires { (S.seen store.old).held ≡ true }
-    ensures { IsUnchanged (S.seen store.old) (S.seen store.new) }
+    numbers: &[u32],
+) -> Result<Vec<EditionRow>, FolderFault>
+    requires held { (S.seen store.old).held ≡ true }
+    requires all { IfSome (S.seen store.old).state (λ f. AreNumbersOf f numbers.now) }
+    ensures unchanged { IsUnchanged (S.seen store.old) (S.seen store.new) }
+    ensures rows { IfOk result (λ rows. IfSome (S.seen store.old).state (λ f. AreListedIn f numbers.now rows.items)) }
 {
-    match read_named(alloc, store) {
-        Ok(Named::Nothing) => Ok(None),
-        Ok(Named::Edition(number)) => Ok(Some(number)),
-        Ok(Named::Unread) => Err(EditionsFault::Current),
+    let current = match read_current(alloc, store, numbers) {
+        Ok(current) => current,
+        Err(fault) => return Err(fault),
+    };
+    match named_number(current, numbers) {
+        Ok(served) => list_all(alloc, store, numbers, served),
         Err(fault) => Err(fault),
     }
 }
 
-// Prints the lines of a folder, by the numbers of its editions.
-fn list_numbers<S: EditionStore>(
+fn said_of(alloc: Global, numbers: &[u32], rows: &[EditionRow]) -> Result<Said, FolderFault>
+    ensures text { IfOk result (λ said. said.text.items ≡ lines.list_text numbers.now rows.now) }
+    ensures status { IfOk result (λ said. said.status ≡ EditionsStatus.Listed) }
+{
+    match list_text(alloc, numbers, rows) {
+        Ok(text) => Ok(Said {
+            text,
+            status: EditionsStatus::Listed,
+        }),
+        Err(_) => Err(FolderFault::Memory),
+    }
+}
+
+fn listed_by<S: EditionStore>(
     alloc: Global,
     store: &mut S,
-    said: &mut Vec<u8>,
     numbers: &[u32],
-) -> Result<(), EditionsFault>
+) -> Result<Said, FolderFault>
     requires held { (S.seen store.old).held ≡ true }
     requires all { IfSome (S.seen store.old).state (λ f. AreNumbersOf f numbers.now) }
     ensures unchanged { IsUnchanged (S.seen store.old) (S.seen store.new) }
-    ensures read { IfOk result (λ _. IfSome (S.seen store.old).state IsReadFolder) }
+    ensures said { IfOk result (λ said. IsListing (S.seen store.old) said.text.items said.status) }
 {
-    let current = match current_number(alloc, store) {
-        Ok(current) => current,
-        Err(fault) => return Err(fault),
-    };
-    if numbers.is_empty() {
-        match added(push_nothing(said)) {
-            Ok(()) => {}
-            Err(fault) => return Err(fault),
-        }
+    match list_by(alloc, store, numbers) {
+        Ok(rows) => said_of(alloc, numbers, rows.as_slice()),
+        Err(fault) => Err(fault),
     }
-    list_all(alloc, store, said, numbers, current)
 }
 
-fn list_folder<S: EditionStore>(
-    alloc: Global,
-    store: &mut S,
-    said: &mut Vec<u8>,
-) -> Result<(), EditionsFault>
+// Lists a folder; what is to be printed of it.
+fn listed<S: EditionStore>(alloc: Global, store: &mut S) -> Result<Said, FolderFault>
     requires { (S.seen store.old).held ≡ true }
     ensures unchanged { IsUnchanged (S.seen store.old) (S.seen store.new) }
-    ensures read { IfOk result (λ _. IfSome (S.seen store.old).state IsReadFolder) }
+    ensures said { IfOk result (λ said. IsListing (S.seen store.old) said.text.items said.status) }
 {
     match sorted_numbers(alloc, store) {
-        Ok(numbers) => list_numbers(alloc, store, said, numbers.as_slice()),
+        Ok(numbers) => listed_by(alloc, store, numbers.as_slice()),
         Err(fault) => Err(fault),
     }
 }
 
 /// Lists the editions of a folder, a line for each, in the order of their numbers.
 ///
-/// The folder's lock is held by the caller. A line has the edition's number, its frames, what changed from the edition that it
-/// follows, what that is, and whether the edition is served. An edition of which a file is missing or doesn't read ends the run;
-/// what was printed before is written all the same. Two editions at most are in memory. The words are tested, not proved.
+/// The folder's lock is held by the caller. A line has the edition's number, whether it is served, what it follows, its frames and
+/// what changed from the edition that it follows. An edition of which a file is missing or doesn't read ends the run. Two editions
+/// at most are in memory. The text is written at the end; how it says what changed is tested, not proved.
 pub fn run_list<S: EditionStore, O: Sink>(
     alloc: Global,
     store: &mut S,
@@ -204,19 +246,11 @@ pub fn run_list<S: EditionStore, O: Sink>(
     // It only reads.
     ensures unchanged { IsUnchanged (S.seen store.old) (S.seen store.new) }
 
-    // If it lists them, each edition reads.
-    ensures read { IfOk result (λ _. IfSome (S.seen store.old).state IsReadFolder) }
-    ensures listed { IfOk result (λ s. s ≡ EditionsStatus.Listed) }
+    // What is printed.
+    ensures run { IsRun (IsListing (S.seen store.old)) (O.seen out.old) (O.seen out.new) result }
 {
-    let mut said = Vec::new(alloc);
-    match list_folder(alloc, store, &mut said) {
-        Ok(()) => match write_said(out, said.as_slice()) {
-            Ok(()) => Ok(EditionsStatus::Listed),
-            Err(fault) => Err(fault),
-        },
-        Err(fault) => {
-            let _ = write_said(out, said.as_slice());
-            Err(fault)
-        }
+    match listed(alloc, store) {
+        Ok(said) => say(out, &said),
+        Err(fault) => Err(EditionsFault::Folder(fault)),
     }
 }

@@ -2,9 +2,9 @@
 
 ghost use Rattle.std.specs.Prelude.{◌≡◌, true, IfOk, IfSome};
 ghost use Rattle.edition_checks.specs.Served.{IsUnchanged};
-ghost use Rattle.edition_lists.specs.Loops.{AreNumbersOf};
+ghost use Rattle.edition_lists.specs.Judged.{AreNumbersOf};
 
-use crate::fault::{EditionsFault, folder_fault};
+use crate::fault::{FolderFault, folder_fault};
 use editions::EditionStore;
 use std::alloc::Global;
 
@@ -12,7 +12,7 @@ use std::alloc::Global;
 pub fn sorted_numbers<S: EditionStore>(
     alloc: Global,
     store: &mut S,
-) -> Result<Vec<u32>, EditionsFault>
+) -> Result<Vec<u32>, FolderFault>
     requires { (S.seen store.old).held ≡ true }
     ensures unchanged { IsUnchanged (S.seen store.old) (S.seen store.new) }
     ensures all { IfOk result (λ numbers. IfSome (S.seen store.old).state (λ f. AreNumbersOf f numbers.items)) }

@@ -1,28 +1,28 @@
-//! What is printed.
+//! What is to be printed is written.
 
-ghost use Rattle.std.specs.Prelude.{◌≡◌, true, false};
+ghost use Rattle.std.specs.Prelude.{◌≡◌, false, ℕ, List};
+ghost use Rattle.edition_lists.specs.declared.status.EditionsStatus.{EditionsStatus};
+ghost use Rattle.edition_lists.specs.Runs.{IsRun};
 
 use crate::fault::EditionsFault;
+use crate::status::EditionsStatus;
 use devices::{Sink, write_whole};
-use std::alloc::AllocError;
 
-/// What is wrong if a text can't be added to what is printed.
-pub(crate) fn added(pushed: Result<(), AllocError>) -> Result<(), EditionsFault> {
-    match pushed {
-        Ok(()) => Ok(()),
-        Err(_) => Err(EditionsFault::Memory),
-    }
+/// What is to be printed, and the status after it.
+#[derive(Drop)]
+pub struct Said {
+    pub text: Vec<u8>,
+    pub status: EditionsStatus,
 }
 
-/// Writes what there is to print.
-pub(crate) fn write_said<O: Sink>(out: &mut O, said: &[u8]) -> Result<(), EditionsFault>
+/// Writes what is to be printed.
+pub fn say<O: Sink>(out: &mut O, said: &Said) -> Result<EditionsStatus, EditionsFault>
     requires { (O.seen out.old).failed ≡ false }
+    ensures { (Is : List ℕ → EditionsStatus → Type 0) → Is said.now.text.items said.now.status
+        → IsRun Is (O.seen out.old) (O.seen out.new) result }
 {
-    if said.is_empty() {
-        return Ok(());
-    }
-    match write_whole(out, said) {
-        Ok(()) => Ok(()),
+    match write_whole(out, said.text.as_slice()) {
+        Ok(()) => Ok(said.status),
         Err(fault) => Err(EditionsFault::Write(fault.wrote)),
     }
 }

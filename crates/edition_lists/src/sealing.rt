@@ -5,9 +5,9 @@ ghost use Rattle.editions.specs.NumberLines.{follows_text};
 ghost use Rattle.editions.specs.Sums as spec;
 ghost use Rattle.editions.specs.Chains.{IsClearedEdition};
 ghost use Rattle.edition_checks.specs.Served.{IsUnchanged};
-ghost use Rattle.edition_lists.specs.Loops.{kept_view, HasItsSums, IsSealed};
+ghost use Rattle.edition_lists.specs.Judged.{kept_view, HasItsSums, IsSealed};
 
-use crate::fault::{EditionFlaw, EditionsFault, kept_fault};
+use crate::fault::{EditionFlaw, FolderFault, kept_fault};
 use crate::kept::{KeptEdition, read_text};
 use checker::{Verdict, check};
 use editions::{EditionFile, EditionFolder, follows_text, sums_text};
@@ -87,7 +87,7 @@ fn wrong_sum<F: EditionFolder>(
     alloc: Global,
     folder: &mut F,
     edition: &KeptEdition,
-) -> Result<Option<EditionFile>, EditionsFault>
+) -> Result<Option<EditionFile>, FolderFault>
     requires { (F.seen folder.old).held ≡ true }
     ensures unchanged { IsUnchanged (F.seen folder.old) (F.seen folder.new) }
     ensures sums { IfOk result (λ o. o ≡ None → IfSome (F.seen folder.old).state
@@ -100,7 +100,7 @@ fn wrong_sum<F: EditionFolder>(
     };
     match right_sums(alloc, edition, cert.as_slice()) {
         Ok(right) => Ok(other_sum(right.as_slice(), edition.sums.as_slice())),
-        Err(_) => Err(EditionsFault::Memory),
+        Err(_) => Err(FolderFault::Memory),
     }
 }
 
@@ -120,7 +120,7 @@ pub fn own_fault<F: EditionFolder>(
     alloc: Global,
     folder: &mut F,
     edition: &KeptEdition,
-) -> Result<Option<EditionFlaw>, EditionsFault>
+) -> Result<Option<EditionFlaw>, FolderFault>
     requires { (F.seen folder.old).held ≡ true }
     ensures unchanged { IsUnchanged (F.seen folder.old) (F.seen folder.new) }
     ensures right { IfOk result (λ o. o ≡ None → IfSome (F.seen folder.old).state (λ f. IsSealed f edition.now)) }

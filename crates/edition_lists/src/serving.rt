@@ -1,11 +1,11 @@
 //! What an edition is beside the one that is served.
 
-use crate::kept::KeptEdition;
-use std::alloc::{AllocError, Global};
+ghost use Rattle.std.specs.Prelude.{◌≡◌};
+ghost use Rattle.edition_lists.specs.Servings as spec;
 
 /// What an edition is beside the one that is served.
 #[derive(Debug, Clone, Copy, PartialEq, Eq)]
-pub(crate) enum Serving {
+pub enum Serving {
     /// It was served before that one.
     Earlier,
     Now,
@@ -15,20 +15,30 @@ pub(crate) enum Serving {
     Never,
 }
 
-/// What an edition is, by the number of the one that is served.
-pub(crate) fn serving_of(served: Option<u32>, edition: &KeptEdition) -> Serving {
-    let number = edition.served.number;
-    match served {
-        Some(current) if number == current => Serving::Now,
-        Some(current) if number < current => Serving::Earlier,
-        Some(current) if edition.follows == Some(current) => Serving::NotYet,
+// What an edition after the one that is served is.
+fn serving_after(served: u32, follows: Option<u32>) -> Serving
+    ensures { result ≡ spec.serving_after served follows }
+{
+    match follows {
+        Some(number) if number == served => Serving::NotYet,
         _ => Serving::Never,
     }
 }
 
-const NOTHING: &[u8] = b"nothing is published\n";
-
-/// Says that there is no edition.
-pub(crate) fn push_nothing(out: &mut Vec<u8>) -> Result<(), AllocError> {
-    out.extend_from_slice(NOTHING)
+/// What an edition is, by the number of the one that is served.
+pub fn serving_of(served: Option<u32>, number: u32, follows: Option<u32>) -> Serving
+    ensures { result ≡ spec.serving_of served number follows }
+{
+    match served {
+        None => Serving::Never,
+        Some(served) => {
+            if number == served {
+                Serving::Now
+            } else if number < served {
+                Serving::Earlier
+            } else {
+                serving_after(served, follows)
+            }
+        }
+    }
 }

@@ -1,7 +1,7 @@
 ghost use Rattle.std.specs.Prelude.{◌≡◌};
 ghost use Rattle.edition_lists.specs.EditionsStatuses.{editions_number};
 
-use crate::fault::EditionsFault;
+use crate::fault::{EditionsFault, FolderFault};
 
 /// What a run found.
 #[derive(Debug, Clone, Copy, PartialEq, Eq)]
@@ -21,7 +21,7 @@ pub fn status_of_editions(run: &Result<EditionsStatus, EditionsFault>) -> u8
     match run {
         Ok(EditionsStatus::Refused) => 1,
         Ok(_) => 0,
-        Err(EditionsFault::Memory) => 4,
+        Err(EditionsFault::Folder(FolderFault::Memory)) => 4,
         Err(_) => 3,
     }
 }

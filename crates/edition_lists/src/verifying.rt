@@ -1,281 +1,186 @@
 //! The run that verifies a folder.
 
-ghost use Rattle.std.specs.Prelude.{◌≡◌, true, false, Ok, IfOk, IfSome};
-ghost use Rattle.std.specs.List.{All, Contains};
+ghost use Rattle.std.specs.Prelude.{◌≡◌, ◌++◌, ◌∷◌, [], true, false, Ok, OnOk, IfOk, IfSome};
 ghost use Rattle.edition_checks.specs.Served.{IsUnchanged};
-ghost use Rattle.edition_lists.specs.Loops.{AreNumbersOf, IsRightNumber, IsKeptBefore, IsRightNow};
+ghost use Rattle.edition_lists.specs.Judged.{IsKeptBefore, IsRightNow, IfRight, AreNumbersOf};
+ghost use Rattle.edition_lists.specs.Findings.{AreFindings, IsFoundIn, IsSaidOf};
+ghost use Rattle.edition_lists.specs.Findings as spec;
+ghost use Rattle.edition_lists.specs.Runs.{IsVerification, IsRun};
 ghost use Rattle.edition_lists.specs.Verified.{IsVerifiedFolder};
 
-use crate::current::{Named, read_named};
-use crate::fault::EditionsFault;
-use crate::fault_words::push_fault;
+use crate::current::{FoundCurrent, read_current, served_of};
+use crate::fault::{EditionsFault, FolderFault};
+use crate::finding::{EditionFinding, are_right, note_of};
 use crate::judging::{JudgedEdition, judge_edition};
 use crate::kept::KeptEdition;
 use crate::numbers::sorted_numbers;
-use crate::saying::{added, write_said};
-use crate::serving::{Serving, push_nothing, serving_of};
+use crate::saying::{Said, say};
 use crate::status::EditionsStatus;
+use crate::verify_lines::verify_text;
 use devices::Sink;
 use editions::EditionStore;
-use page_ids::push_number;
-use std::alloc::{AllocError, Global};
+use std::alloc::Global;
 
-// Says that an edition isn't served yet, if it isn't.
-fn push_unserved(
-    out: &mut Vec<u8>,
-    current: Option<u32>,
-    edition: &KeptEdition,
-) -> Result<(), AllocError> {
-    match (serving_of(current, edition), edition.follows) {
-        (Serving::NotYet, Some(follows)) => {
-            out.extend_from_slice(b"edition ")?;
-            push_number(out, u64::from(edition.served.number))?;
-            out.extend_from_slice(b" follows ")?;
-            push_number(out, u64::from(follows))?;
-            out.extend_from_slice(b", and isn't served yet\n")
-        }
-        _ => Ok(()),
-    }
-}
-
-// Judges an edition and prints what is to be said of it; the edition, if it is right.
-fn verify_edition<S: EditionStore>(
+// Judges an edition, and adds what is found of it.
+fn judge_next<S: EditionStore>(
     alloc: Global,
     store: &mut S,
-    said: &mut Vec<u8>,
-    folder: &str,
+    findings: &mut Vec<EditionFinding>,
     numbers: &[u32],
-    current: Option<u32>,
+    served: Option<u32>,
     number: u32,
     before: &Option<KeptEdition>,
-) -> Result<Option<KeptEdition>, EditionsFault>
+) -> Result<JudgedEdition, FolderFault>
     requires held { (S.seen store.old).held ≡ true }
     requires kept { IsKeptBefore (S.seen store.old) before.now }
     ensures unchanged { IsUnchanged (S.seen store.old) (S.seen store.new) }
-    ensures right { IfOk result (λ o. IfSome o (IsRightNow (S.seen store.old) numbers.now current number)) }
+    ensures right { IfOk result (λ j. IfRight j (IsRightNow (S.seen store.old) numbers.now served number)) }
+    ensures added { IfOk result (λ j. findings.new.items ≡ findings.old.items ++ spec.finding_of number j ∷ []) }
 {
-    match judge_edition(alloc, store, numbers, current, number, before) {
-        Ok(JudgedEdition::Right(edition)) => {
-            match added(push_unserved(said, current, &edition)) {
-                Ok(()) => Ok(Some(edition)),
-                Err(fault) => Err(fault),
-            }
-        }
-        Ok(JudgedEdition::Wrong(wrong)) => {
-            match added(push_fault(alloc, said, folder, number, &wrong)) {
-                Ok(()) => Ok(None),
-                Err(fault) => Err(fault),
-            }
-        }
-        Err(fault) => Err(fault),
+    let judged = match judge_edition(alloc, store, numbers, served, number, before) {
+        Ok(judged) => judged,
+        Err(fault) => return Err(fault),
+    };
+    let note = note_of(&judged);
+    match findings.push(EditionFinding { number, note }) {
+        Ok(()) => Ok(judged),
+        Err(_) => Err(FolderFault::Memory),
     }
 }
 
-// Whether all editions are right; what isn't is printed. Two editions at most are in memory: one, and the one before it.
-fn verify_all<S: EditionStore>(
+// The edition that was read, if it is right.
+fn kept_of(judged: JudgedEdition) -> Option<KeptEdition>
+    ensures { result ≡ spec.kept_of judged }
+{
+    match judged {
+        JudgedEdition::Right(edition) => Some(edition),
+        JudgedEdition::Wrong(_) => None,
+    }
+}
+
+// What is found of each edition. Two editions at most are in memory: one, and the one before it.
+fn judge_all<S: EditionStore>(
     alloc: Global,
     store: &mut S,
-    said: &mut Vec<u8>,
-    folder: &str,
     numbers: &[u32],
-    current: Option<u32>,
-) -> Result<bool, EditionsFault>
+    served: Option<u32>,
+) -> Result<Vec<EditionFinding>, FolderFault>
     requires { (S.seen store.old).held ≡ true }
     ensures unchanged { IsUnchanged (S.seen store.old) (S.seen store.new) }
-    ensures right { IfOk result (λ b. b ≡ true → IfSome (S.seen store.old).state
-        (λ f. All (IsRightNumber f numbers.now current) numbers.now)) }
+    ensures found { IfOk result (λ findings. IfSome (S.seen store.old).state
+        (λ f. AreFindings f numbers.now served numbers.now findings.items)) }
 {
-    let mut right = true;
+    let mut findings = Vec::new(alloc);
     let mut before = None;
     for number in numbers {
-        match verify_edition(
-            alloc, store, said, folder, numbers, current, *number, &before,
+        match judge_next(
+            alloc,
+            store,
+            &mut findings,
+            numbers,
+            served,
+            *number,
+            &before,
         ) {
-            Ok(edition) => {
-                right = right && edition.is_some();
-                before = edition;
-            }
+            Ok(judged) => before = kept_of(judged),
             Err(fault) => return Err(fault),
         }
     }
-    Ok(right)
+    Ok(findings)
 }
 
-fn push_lacking(
-    alloc: Global,
-    out: &mut Vec<u8>,
-    folder: &str,
-    number: u32,
-) -> Result<(), AllocError> {
-    let line = format!(in alloc; "{folder}/current: edition {number} isn't there\n")?;
-    out.extend_from_slice(line.as_bytes())
+// What was found in a folder.
+#[derive(Drop)]
+struct FoundFolder {
+    numbers: Vec<u32>,
+    current: FoundCurrent,
+    findings: Vec<EditionFinding>,
 }
 
-// Whether the edition that `current` names is there.
-fn verify_named(
-    alloc: Global,
-    said: &mut Vec<u8>,
-    folder: &str,
-    numbers: &[u32],
-    current: Option<u32>,
-) -> Result<bool, EditionsFault>
-    ensures { IfOk result (λ b. b ≡ true → IfSome current (Contains numbers.now)) }
-{
-    match current {
-        Some(number) if !numbers.contains(&number) => {
-            match added(push_lacking(alloc, said, folder, number)) {
-                Ok(()) => Ok(false),
-                Err(fault) => Err(fault),
-            }
-        }
-        _ => Ok(true),
-    }
-}
-
-// How many editions there are, and which is served.
-fn push_counts(
-    alloc: Global,
-    out: &mut Vec<u8>,
-    count: usize,
-    current: Option<u32>,
-) -> Result<(), AllocError> {
-    let editions = if count == 1 { "edition" } else { "editions" };
-    match current {
-        Some(number) => {
-            let line = format!(in alloc; "{count} {editions}, {number} is served\n")?;
-            out.extend_from_slice(line.as_bytes())
-        }
-        None => push_nothing(out),
-    }
-}
-
-// Whether the editions are right, and the one that is served is there.
-fn verify_from<S: EditionStore>(
+// What is found in a folder, by the numbers of its editions.
+fn find_by<S: EditionStore>(
     alloc: Global,
     store: &mut S,
-    said: &mut Vec<u8>,
-    folder: &str,
-    numbers: &[u32],
-    current: Option<u32>,
-) -> Result<bool, EditionsFault>
-    requires { (S.seen store.old).held ≡ true }
-    ensures unchanged { IsUnchanged (S.seen store.old) (S.seen store.new) }
-    ensures named { IfOk result (λ b. b ≡ true → IfSome current (Contains numbers.now)) }
-    ensures right { IfOk result (λ b. b ≡ true → IfSome (S.seen store.old).state
-        (λ f. All (IsRightNumber f numbers.now current) numbers.now)) }
-{
-    let named = match verify_named(alloc, said, folder, numbers, current) {
-        Ok(named) => named,
-        Err(fault) => return Err(fault),
-    };
-    let right = match verify_all(alloc, store, said, folder, numbers, current) {
-        Ok(right) => right,
-        Err(fault) => return Err(fault),
-    };
-    match added(push_counts(alloc, said, numbers.len(), current)) {
-        Ok(()) => Ok(named && right),
-        Err(fault) => Err(fault),
-    }
-}
-
-fn push_unnamed(alloc: Global, out: &mut Vec<u8>, folder: &str) -> Result<(), AllocError> {
-    let line =
-        format!(in alloc; "{folder}/current: no number of an edition and a line end\n")?;
-    out.extend_from_slice(line.as_bytes())
-}
-
-// A `current` that says nothing is wrong; the editions are then judged as if the last one were served.
-fn verify_unnamed<S: EditionStore>(
-    alloc: Global,
-    store: &mut S,
-    said: &mut Vec<u8>,
-    folder: &str,
-    numbers: &[u32],
-) -> Result<bool, EditionsFault>
-    requires { (S.seen store.old).held ≡ true }
-    ensures unchanged { IsUnchanged (S.seen store.old) (S.seen store.new) }
-    ensures wrong { IfOk result (λ b. b ≡ false) }
-{
-    match added(push_unnamed(alloc, said, folder)) {
-        Ok(()) => {}
-        Err(fault) => return Err(fault),
-    }
-    match verify_all(alloc, store, said, folder, numbers, numbers.last().copied()) {
-        Ok(_) => Ok(false),
-        Err(fault) => Err(fault),
-    }
-}
-
-// Whether a folder is right, by the numbers of its editions.
-fn verify_numbers<S: EditionStore>(
-    alloc: Global,
-    store: &mut S,
-    said: &mut Vec<u8>,
-    folder: &str,
-    numbers: &[u32],
-) -> Result<bool, EditionsFault>
+    numbers: Vec<u32>,
+) -> Result<FoundFolder, FolderFault>
     requires held { (S.seen store.old).held ≡ true }
-    requires all { IfSome (S.seen store.old).state (λ f. AreNumbersOf f numbers.now) }
+    requires all { IfSome (S.seen store.old).state (λ f. AreNumbersOf f numbers.items) }
     ensures unchanged { IsUnchanged (S.seen store.old) (S.seen store.new) }
-    ensures right { IfOk result (λ b. b ≡ true → IfSome (S.seen store.old).state IsVerifiedFolder) }
+    ensures found { IfOk result (λ found. IfSome (S.seen store.old).state
+        (λ f. IsFoundIn f found.numbers.items found.current found.findings.items)) }
 {
-    match read_named(alloc, store) {
-        Ok(Named::Nothing) => verify_from(alloc, store, said, folder, numbers, None),
-        Ok(Named::Edition(number)) => {
-            verify_from(alloc, store, said, folder, numbers, Some(number))
-        }
-        Ok(Named::Unread) => verify_unnamed(alloc, store, said, folder, numbers),
+    let current = match read_current(alloc, store, numbers.as_slice()) {
+        Ok(current) => current,
+        Err(fault) => return Err(fault),
+    };
+    let served = served_of(current, numbers.as_slice());
+    match judge_all(alloc, store, numbers.as_slice(), served) {
+        Ok(findings) => Ok(FoundFolder {
+            numbers,
+            current,
+            findings,
+        }),
         Err(fault) => Err(fault),
     }
 }
 
-// Whether a folder is right; what isn't is printed.
-fn verify_folder<S: EditionStore>(
-    alloc: Global,
-    store: &mut S,
-    said: &mut Vec<u8>,
-    folder: &str,
-) -> Result<bool, EditionsFault>
+fn find_all<S: EditionStore>(alloc: Global, store: &mut S) -> Result<FoundFolder, FolderFault>
     requires { (S.seen store.old).held ≡ true }
     ensures unchanged { IsUnchanged (S.seen store.old) (S.seen store.new) }
-    ensures right { IfOk result (λ b. b ≡ true → IfSome (S.seen store.old).state IsVerifiedFolder) }
+    ensures found { IfOk result (λ found. IfSome (S.seen store.old).state
+        (λ f. IsFoundIn f found.numbers.items found.current found.findings.items)) }
 {
     match sorted_numbers(alloc, store) {
-        Ok(numbers) => verify_numbers(alloc, store, said, folder, numbers.as_slice()),
+        Ok(numbers) => find_by(alloc, store, numbers),
         Err(fault) => Err(fault),
     }
 }
 
-// Prints the verdict.
-fn say_verdict(said: &mut Vec<u8>, is_right: bool) -> Result<EditionsStatus, EditionsFault>
-    ensures { IfOk result (λ s. s ≡ EditionsStatus.Cleared → is_right ≡ true) }
+fn is_right_current(current: FoundCurrent) -> bool
+    ensures { result ≡ spec.is_right_current current }
 {
-    if is_right {
-        match added(said.extend_from_slice(b"CLEARED\n")) {
-            Ok(()) => Ok(EditionsStatus::Cleared),
-            Err(fault) => Err(fault),
-        }
-    } else {
-        match added(said.extend_from_slice(b"REFUSED\n")) {
-            Ok(()) => Ok(EditionsStatus::Refused),
-            Err(fault) => Err(fault),
-        }
+    match current {
+        FoundCurrent::Nothing | FoundCurrent::Edition(_) => true,
+        FoundCurrent::Lacking(_) | FoundCurrent::Unread => false,
     }
 }
 
+fn verify_status(current: FoundCurrent, findings: &[EditionFinding]) -> EditionsStatus
+    ensures { result ≡ spec.verify_status current findings.now }
+{
+    if is_right_current(current) && are_right(findings) {
+        EditionsStatus::Cleared
+    } else {
+        EditionsStatus::Refused
+    }
+}
+
+// What is to be printed of a folder.
+fn said_of(alloc: Global, folder: &str, found: &FoundFolder) -> Result<Said, FolderFault>
+    ensures { IfOk result (λ said. IsSaidOf folder.now found.now.numbers.items found.now.current
+        found.now.findings.items said.text.items said.status) }
+{
+    let findings = found.findings.as_slice();
+    let served = served_of(found.current, found.numbers.as_slice());
+    let status = verify_status(found.current, findings);
+    match verify_text(alloc, folder, found.current, served, findings, status) {
+        Ok(text) => Ok(Said { text, status }),
+        Err(_) => Err(FolderFault::Memory),
+    }
+}
+
+// Verifies a folder; what is to be printed of it.
 fn verified<S: EditionStore>(
     alloc: Global,
     store: &mut S,
-    said: &mut Vec<u8>,
     folder: &str,
-) -> Result<EditionsStatus, EditionsFault>
+) -> Result<Said, FolderFault>
     requires { (S.seen store.old).held ≡ true }
     ensures unchanged { IsUnchanged (S.seen store.old) (S.seen store.new) }
-    ensures right { IfOk result (λ s. s ≡ EditionsStatus.Cleared → IfSome (S.seen store.old).state
-        IsVerifiedFolder) }
+    ensures said { IfOk result (λ said. IsVerification (S.seen store.old) folder.now said.text.items said.status) }
 {
-    match verify_folder(alloc, store, said, folder) {
-        Ok(is_right) => say_verdict(said, is_right),
+    match find_all(alloc, store) {
+        Ok(found) => said_of(alloc, folder, &found),
         Err(fault) => Err(fault),
     }
 }
@@ -285,7 +190,7 @@ fn verified<S: EditionStore>(
 /// The folder's lock is held by the caller. In the order of their numbers, each edition is read, and compared with its sums; the
 /// check is asked about it by its own policy, and about the change from the edition that it follows by the wider of the two. What
 /// is wrong is printed, for each edition the first fault alone, then the number of editions and the verdict. Two editions at most
-/// are in memory. What is printed is written to `out` at the end, after a fault too. Its words are tested, not proved.
+/// are in memory. The text is written at the end, if the folder was read.
 pub fn run_verify<S: EditionStore, O: Sink>(
     alloc: Global,
     store: &mut S,
@@ -298,19 +203,15 @@ pub fn run_verify<S: EditionStore, O: Sink>(
     // It only reads.
     ensures unchanged { IsUnchanged (S.seen store.old) (S.seen store.new) }
 
+    // What is printed, and the status.
+    ensures run { IsRun (IsVerification (S.seen store.old) folder.now) (O.seen out.old) (O.seen out.new) result }
+
     // Cleared: each edition is whole, has its sums, and was cleared, by itself and against the one that it follows; and `current`
     // names the last edition of its chain, but for one that isn't served yet.
     ensures verified { result ≡ Ok EditionsStatus.Cleared → IfSome (S.seen store.old).state IsVerifiedFolder }
 {
-    let mut said = Vec::new(alloc);
-    match verified(alloc, store, &mut said, folder) {
-        Ok(status) => match write_said(out, said.as_slice()) {
-            Ok(()) => Ok(status),
-            Err(fault) => Err(fault),
-        },
-        Err(fault) => {
-            let _ = write_said(out, said.as_slice());
-            Err(fault)
-        }
+    match verified(alloc, store, folder) {
+        Ok(said) => say(out, &said),
+        Err(fault) => Err(EditionsFault::Folder(fault)),
     }
 }

@@ -1,7 +1,7 @@
 //! Runs of `editions` on a folder in memory.
 
 use crate::memory_store::{MemoryStore, copied};
-use edition_lists::{EditionsFault, EditionsStatus, run_list, run_verify, status_of_editions};
+use edition_lists::{EditionsFault, EditionsStatus, FolderFault, run_list, run_verify, status_of_editions};
 use editions::EditionFile;
 use publishing::{Publish, base_summary, run_publish};
 use std::alloc::Global;
@@ -60,9 +60,10 @@ fn refused(alloc: Global, store: &mut MemoryStore, said: &str) -> Result<(), Fai
     )
 }
 
-const LIST: &[u8] = b"edition 1: 3 frames; a new beginning\n\
-edition 2: 3 frames, 1 changed; follows 1\n\
-edition 3: 3 frames, 1 changed; follows 2; served\n";
+const LIST: &[u8] = b"\
+edition 1           follows -  3 frames\n\
+edition 2           follows 1  3 frames, 1 changed\n\
+edition 3  served   follows 2  3 frames, 1 changed\n";
 
 #[test]
 fn each_edition_has_a_line(rt: HostRuntime) -> Result<(), Fail> {
@@ -102,7 +103,7 @@ fn nothing_is_published_in_a_new_folder(rt: HostRuntime) -> Result<(), Fail> {
     same(run, Ok(EditionsStatus::Cleared))?;
     same(
         said.as_slice(),
-        b"nothing is published\nCLEARED\n".as_slice(),
+        b"0 editions, none is served\nCLEARED\n".as_slice(),
     )
 }
 
@@ -119,7 +120,8 @@ fn an_edition_that_a_stop_left_is_no_fault(rt: HostRuntime) -> Result<(), Fail> 
     same(run, Ok(EditionsStatus::Cleared))?;
     let (_, said) = listed(rt.alloc(), &mut store);
     same(
-        said.as_slice().ends_with(b"follows 1; not served yet\n"),
+        said.as_slice()
+            .ends_with(b"edition 2  not yet  follows 1  3 frames, 1 changed\n"),
         true,
     )
 }
@@ -152,10 +154,10 @@ fn a_current_that_names_nothing_is_refused(rt: HostRuntime) -> Result<(), Fail> 
     refused(
         rt.alloc(),
         &mut store,
-        "live/current: no number of an edition and a line end\nREFUSED\n",
+        "live/current: no number of an edition and a line end\n1 edition\nREFUSED\n",
     )?;
     let (run, _) = listed(rt.alloc(), &mut store);
-    same(run, Err(EditionsFault::Current))
+    same(run, Err(EditionsFault::Folder(FolderFault::Current)))
 }
 
 #[test]
@@ -171,7 +173,7 @@ fn a_number_that_is_missing_is_named(rt: HostRuntime) -> Result<(), Fail> {
     same(run, Ok(EditionsStatus::Listed))?;
     same(
         said.as_slice()
-            .ends_with(b"edition 3: 3 frames; follows 2, which isn't there; served\n"),
+            .ends_with(b"edition 3  served   follows 2  3 frames, edition 2 isn't there\n"),
         true,
     )
 }
@@ -222,7 +224,7 @@ fn a_file_that_does_not_read_is_named(rt: HostRuntime) -> Result<(), Fail> {
         "live/editions/1/base.cert: it isn't what was published\n1 edition, 1 is served\nREFUSED\n",
     )?;
     let (run, _) = listed(rt.alloc(), &mut store);
-    same(run, Err(EditionsFault::Unread(1, EditionFile::Cert)))?;
+    same(run, Err(EditionsFault::Folder(FolderFault::Unread(1, EditionFile::Cert))))?;
     same(status_of_editions(&run), 3)
 }
 

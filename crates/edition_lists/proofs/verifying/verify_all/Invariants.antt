@@ -1,7 +1,7 @@
 use Rattle.std.proofs.Common.{◌≡◌, true, take}
 use Rattle.std.specs.List.{All}
 use Rattle.std.specs.Prelude.{IfSome}
-use Rattle.edition_lists.specs.Loops.{IsKeptBefore, IsRightNumber}
+use Rattle.edition_lists.specs.Judged.{IsKeptBefore, IsRightNumber}
 use Rattle.edition_lists.proofs.verifying.verify_all.Given as goal
 
 -- if nothing was wrong, the editions so far are right; nothing has changed

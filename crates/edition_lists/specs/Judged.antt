@@ -1,16 +1,14 @@
--- What private functions say.
+-- How editions are judged.
 use Rattle.std.specs.Prelude.{◌≡◌, ◌<◌, ◌≤◌, ◌⊎◌, ℕ, List, Option, Some, None, IfSome, map}
 use Rattle.std.specs.List.{All}
 use Rattle.std.specs.List.Sorted.{IsPermutation}
 use Rattle.editions.specs.declared.edition_file.EditionFile.TheVariants.{Cert, Follows}
 use Rattle.editions.specs.Folders.{FilesSeen, FolderState, SeenFolder, edition_among, file_at}
-use Rattle.editions.specs.NumberLines.{number_line, follows_in, follows_text}
+use Rattle.editions.specs.NumberLines.{follows_in, follows_text}
 use Rattle.editions.specs.Sums.{sums_text}
 use Rattle.editions.specs.Chains.{EditionView, IsClearedEdition, IsClearedAgainst}
 use Rattle.editions.specs.Moments.{IsSoundEdition}
 use Rattle.edition_checks.specs.Served.{served_view}
-use Rattle.edition_lists.specs.declared.current.Named.{Named}
-use Rattle.edition_lists.specs.declared.current.Named.TheVariants.{Nothing, Edition, Unread}
 use Rattle.edition_lists.specs.declared.judging.JudgedEdition.{JudgedEdition}
 use Rattle.edition_lists.specs.declared.judging.JudgedEdition.TheVariants.{Right, Wrong}
 use Rattle.edition_lists.specs.declared.kept.KeptEdition.{KeptEdition}
@@ -25,18 +23,6 @@ pub record SaysFollows (f : FolderState) (number : ℕ) (follows : Option ℕ) :
   pub text : List ℕ
   pub there : file_at f number Follows ≡ Some text
   pub says : follows_in text ≡ Some follows
-
--- what the text of `current` names
-abbrev pub IsNamedBy : List ℕ → Named → Type 0
-IsNamedBy text Nothing = ⊥
-IsNamedBy text (Edition n) = text ≡ number_line n
-IsNamedBy text Unread = Unit {0}
-
--- what `current` says is what was read
-abbrev pub IsNamed : FolderState → Named → Type 0
-IsNamed f Nothing = f.current ≡ None
-IsNamed f (Edition n) = f.current ≡ Some (number_line n)
-IsNamed f Unread = Unit {0}
 
 -- its SHA256SUMS has the sums of its other files
 pub record HasItsSums (f : FolderState) (e : KeptEdition) : Type 0 where
@@ -88,10 +74,11 @@ pub record IsRightNow (seen : SeenFolder) (numbers : List ℕ) (served : Option 
   pub kept : IfSome seen.state (λ f. IsKeptEdition f e)
   pub right : IfSome seen.state (λ f. IsJudgedRight f numbers served e)
 
--- the same of a folder
-pub record IsRightNumber (f : FolderState) (numbers : List ℕ) (served : Option ℕ) (number : ℕ) : Type 0 where
+-- the same of a folder; and that it follows this one
+pub record IsRightNumber (f : FolderState) (numbers : List ℕ) (served : Option ℕ) (number : ℕ) (follows : Option ℕ) : Type 0 where
   pub edition : KeptEdition
   pub named : edition.served.number ≡ number
+  pub says : edition.follows ≡ follows
   pub kept : IsKeptEdition f edition
   pub right : IsJudgedRight f numbers served edition
 
