@@ -2,7 +2,7 @@
 use Rattle.std.specs.Prelude.{◌≡◌, ◌++◌, ◌∷◌, [], ℕ, Bool, true, false, if◌then◌else◌, length, List, map, Option, Some, None}
 use Rattle.std.specs.List.{All}
 use Rattle.editions.specs.Folders.{FolderState}
-use Rattle.publishing.specs.Summaries.{BeginsWithCount}
+use Rattle.base_differences.specs.Summaries.{BeginsWithCount}
 use Rattle.edition_lists.specs.declared.current.FoundCurrent.{FoundCurrent}
 use Rattle.edition_lists.specs.declared.current.FoundCurrent.TheVariants.{Unread}
 use Rattle.edition_lists.specs.declared.kept.KeptEdition.{KeptEdition}

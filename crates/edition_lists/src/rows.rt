@@ -5,7 +5,7 @@ ghost use Rattle.edition_lists.specs.Rows.{lack_of, IsRowOf};
 
 use crate::kept::KeptEdition;
 use crate::serving::{Serving, serving_of};
-use publishing::base_summary;
+use base_differences::base_summary;
 use std::alloc::{AllocError, Global};
 
 /// The row of an edition.

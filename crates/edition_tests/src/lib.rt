@@ -1,4 +1,4 @@
-//! Tests of `policy_text`, `editions`, `edition_checks`, `publishing` and `edition_lists`.
+//! Tests of `policy_text`, `editions`, `edition_checks`, `base_differences`, `publishing` and `edition_lists`.
 #![tactic(auto)]
 
 #[cfg(test)]

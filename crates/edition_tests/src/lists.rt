@@ -1,9 +1,10 @@
 //! Runs of `editions` on a folder in memory.
 
 use crate::memory_store::{MemoryStore, copied};
+use base_differences::base_summary;
 use edition_lists::{EditionsFault, EditionsStatus, FolderFault, run_list, run_verify, status_of_editions};
 use editions::EditionFile;
-use publishing::{Publish, base_summary, run_publish};
+use publishing::{Publish, run_publish};
 use std::alloc::Global;
 use std::test::Fail;
 use test_support::{DEMO, FakeSink, FakeSource, same, same_in};

@@ -1,3 +1,2 @@
 pub mod PublishLaws
 pub mod ServingLaws
-pub mod SummaryLaws

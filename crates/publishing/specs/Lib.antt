@@ -2,4 +2,3 @@ pub mod ExitStatus
 pub mod Loops
 pub mod Publishing
 pub mod Serving
-pub mod Summaries

@@ -9,9 +9,7 @@
 //! - [`run_publish`], [`Publish`]: lints the base of a text by the folder's policy, certifies and checks it, checks the change
 //!   from the edition that is served, and only then writes the edition.
 //! - [`PublishStatus`], [`PublishFault`], [`status_of_publish`]: what it did, why it ended early, and the exit status for it.
-//! - [`base_summary`]: how a base differs from the one before it, as it is printed.
-//! - Definitions: the edition that is served (`Serving`), what a publish leaves (`Publishing`), the exit status (`ExitStatus`), how
-//!   a summary begins (`Summaries`).
+//! - Definitions: the edition that is served (`Serving`), what a publish leaves (`Publishing`), the exit status (`ExitStatus`).
 #![tactic(auto)]
 
 mod asked;
@@ -29,4 +27,3 @@ pub use asked::Publish;
 pub use fault::PublishFault;
 pub use publish_run::run_publish;
 pub use status::{PublishStatus, status_of_publish};
-pub use summary::base_summary;
