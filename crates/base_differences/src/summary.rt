@@ -89,11 +89,7 @@ fn push_differences(
 }
 
 // How a base differs from the one before it, if there is one.
-fn differences_text(
-    alloc: Global,
-    old: Option<&Base>,
-    new: &Base,
-) -> Result<Vec<u8>, AllocError> {
+fn differences_text(alloc: Global, old: Option<&Base>, new: &Base) -> Result<Vec<u8>, AllocError> {
     let mut out = Vec::new(alloc);
     if let Some(old) = old {
         push_differences(alloc, &mut out, old, new)?;
@@ -103,11 +99,7 @@ fn differences_text(
 
 /// The number of frames of a base, and how it differs from the one before it: `79 frames, 2 new (4783a 4783b), 5 changed,
 /// prices 4785a 10p -> 15p`. At most eight frames of a kind are named. The words of the differences are tested, not proved.
-pub fn base_summary(
-    alloc: Global,
-    old: Option<&Base>,
-    new: &Base,
-) -> Result<Vec<u8>, AllocError>
+pub fn base_summary(alloc: Global, old: Option<&Base>, new: &Base) -> Result<Vec<u8>, AllocError>
     ensures { IfOk result (λ text. BeginsWithCount (length new.now.frames) text.items) }
 {
     let differences = differences_text(alloc, old, new)?;

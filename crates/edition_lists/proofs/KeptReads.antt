@@ -3,15 +3,13 @@ use Rattle.std.proofs.Common.{◌≡◌, ◌<◌, ℕ, List, Option, Some, None,
 use Rattle.std.specs.Prelude.{IfSome}
 use Rattle.editions.specs.declared.edition_file.EditionFile.TheVariants.{Cert, Follows, Sums}
 use Rattle.editions.specs.Folders.{FolderState, SeenFolder, file_at}
-use Rattle.editions.specs.NumberLines.{number_line, follows_in, follows_text}
+use Rattle.editions.specs.NumberLines.{follows_in, follows_text}
 use Rattle.editions.specs.Sums.{sums_text}
 use Rattle.editions.specs.Chains.{IsClearedEdition, IsClearedAgainst}
 use Rattle.edition_checks.specs.Served.{IsServed}
-use Rattle.edition_lists.specs.declared.current.Named.{Named}
-use Rattle.edition_lists.specs.declared.current.Named.TheVariants.{Nothing, Edition, Unread}
 use Rattle.edition_lists.specs.declared.kept.KeptEdition.{KeptEdition}
-use Rattle.edition_lists.specs.Kept.{IsKeptEdition, IsReadIn}
-use Rattle.edition_lists.specs.Judged.{kept_view, SaysFollows, IsNamedBy, IsNamed, HasItsSums, IsSealed, IsAfterKept, IsFollowingKept, IsWithinNumbers, IsJudgedRight, IsKeptBefore}
+use Rattle.edition_lists.specs.Kept.{IsKeptEdition}
+use Rattle.edition_lists.specs.Judged.{kept_view, SaysFollows, HasItsSums, IsSealed, IsAfterKept, IsFollowingKept, IsWithinNumbers, IsJudgedRight, IsKeptBefore}
 
 -- what holds of a folder that is the same
 pub held_too : (o p : Option FolderState) (P : FolderState → Type 0) → p ≡ o → IfSome p P → IfSome o P
@@ -39,23 +37,6 @@ kept_in o p q n e first second named served follows sums =
     kept_now o e served
     (subst (λ (m : ℕ). IfSome o (λ f. SaysFollows f m e.follows)) (sym named) (held_too o p (λ f. SaysFollows f n e.follows) first follows))
     (subst (λ (m : ℕ). IfSome o (λ f. file_at f m Sums ≡ Some e.sums.items)) (sym named) (held_too o p (λ f. file_at f n Sums ≡ Some e.sums.items) first (held_too p q (λ f. file_at f n Sums ≡ Some e.sums.items) second sums)))
-
-named_now : (o : Option FolderState) (text : List ℕ) (named : Named) → IfSome o (λ f. Some text ≡ f.current) → IsNamedBy text named → IfSome o (λ f. IsNamed f named)
-named_now None text named read is = tt
-named_now (Some f) text Nothing read is = absurd is
-named_now (Some f) text (Edition n) read is = sym (subst (λ (t : List ℕ). Some t ≡ f.current) is read)
-named_now (Some f) text Unread read is = tt
-
-pub named_there : (o p : Option FolderState) (text slice : List ℕ) (named : Named) → p ≡ o → slice ≡ text → IfSome p (λ f. Some text ≡ f.current) → IsNamedBy slice named → IfSome o (λ f. IsNamed f named)
-named_there o p text slice named same is read by =
-    named_now o text named (held_too o p (λ f. Some text ≡ f.current) same read) (subst (λ (t : List ℕ). IsNamedBy t named) is by)
-
-none_now : (o : Option FolderState) → IfSome o (λ f. None ≡ f.current) → IfSome o (λ f. f.current ≡ None)
-none_now None read = tt
-none_now (Some f) read = sym read
-
-pub none_named : (o p : Option FolderState) → p ≡ o → IfSome p (λ f. None ≡ f.current) → IfSome o (λ f. f.current ≡ None)
-none_named o p same read = none_now o (held_too o p (λ f. None ≡ f.current) same read)
 
 -- what is judged
 

@@ -49,12 +49,12 @@ same_policy ceiling keyings groups p a b e = let same : policy_with ceiling keyi
 values_within : (ms : Members) (p : Policy) → values_of ms ≡ Ok p → IsPolicy p
 values_within ms p e =
     let a = bind_ok (required_number Ceiling MOST_PENCE (get_member (codes "ceiling") ms)) (λ ceiling.
-        required_number Keyings MOST_RANK (get_member (codes "keyings") ms) >>= λ keyings.
-        groups_value (get_member (codes "groups") ms) >>= λ groups. Ok (policy_with ceiling keyings groups)) p e in
+    required_number Keyings MOST_RANK (get_member (codes "keyings") ms) >>= λ keyings.
+    groups_value (get_member (codes "groups") ms) >>= λ groups. Ok (policy_with ceiling keyings groups)) p e in
     let b = bind_ok (required_number Keyings MOST_RANK (get_member (codes "keyings") ms)) (λ keyings.
-        groups_value (get_member (codes "groups") ms) >>= λ groups. Ok (policy_with a.0 keyings groups)) p a.2 in
+    groups_value (get_member (codes "groups") ms) >>= λ groups. Ok (policy_with a.0 keyings groups)) p a.2 in
     let c = bind_ok (groups_value (get_member (codes "groups") ms)) (λ groups. Ok (policy_with a.0 b.0 groups)) p b.2 in
-    same_policy a.0 b.0 c.0 p (required_within Ceiling MOST_PENCE _ a.0 a.1) (required_within Keyings MOST_RANK _ b.0 b.1) c.2
+    same_policy a.0 b.0 c.0 p (required_within Ceiling MOST_PENCE (get_member (codes "ceiling") ms) a.0 a.1) (required_within Keyings MOST_RANK (get_member (codes "keyings") ms) b.0 b.1) c.2
 
 tree_within : (o : Option Members) (p : Policy) → tree_policy o ≡ Ok p → IsPolicy p
 tree_within None p e = absurd cc

@@ -1,23 +1,35 @@
 -- Editions that were read and judged are sound, and so is their folder.
-use Rattle.std.proofs.Common.{◌≡◌, ◌≤◌, ℕ, Bool, true, cond, List, [], ◌∷◌, map, Option, Some, None, option_map, refl, sym, ap, ◌∙◌, subst, arith, false, nat_eq, inl, inr}
+use Rattle.std.proofs.Common.{◌≡◌, ◌≤◌, ◌||◌, ℕ, Bool, true, cond, List, [], ◌∷◌, map, Option, Some, None, option_map, refl, sym, ap, ◌∙◌, subst, arith, false, nat_eq, inl, inr}
+use Rattle.std.proofs.lemmas.Bool.{and_parts}
 use Rattle.std.proofs.lemmas.Bool.Decides.{nat_tests}
-use Rattle.std.proofs.lemmas.List.Elements.{All-contains, Contains-append_left, Contains-append_right, Contains-push}
+use Rattle.std.proofs.lemmas.List.Elements.{All-nil, All-cons, All-head, All-tail, All-contains, Contains-append_left, Contains-append_right, Contains-push}
 use Rattle.std.proofs.lemmas.List.Sorted.{Contains-permutation}
-use Rattle.std.specs.List.{All, Contains}
-use Rattle.std.specs.Prelude.{IfSome, IfOk, Result, Ok, Err}
+use Rattle.std.specs.List.{All, Contains, list_all, list_any}
+use Rattle.std.specs.Prelude.{IfSome, Result, Ok, Err}
 use Rattle.editions.specs.declared.edition_file.EditionFile.TheVariants.{Base, Cert, Policy, Follows, Sums}
-use Rattle.editions.specs.Folders.{EditionBytes, FilesSeen, all_files, FolderState, edition_among, file_of}
-use Rattle.editions.specs.NumberLines.{number_line, follows_in, follows_text}
+use Rattle.devices.specs.Devices.{Seen}
+use Rattle.editions.specs.Folders.{SeenFolder, EditionBytes, FilesSeen, all_files, FolderState, edition_among, file_of}
+use Rattle.editions.specs.NumberLines.{number_line, current_in, follows_in, follows_text}
 use Rattle.editions.specs.Sums.{sums_text}
 use Rattle.editions.specs.Chains.{IsEditionText}
 use Rattle.editions.specs.Moments.{IsFollowing, IsSoundEdition, NamesEdition, IsSoundFolder}
-use Rattle.editions.proofs.LineLaws.{lines_numbers}
+use Rattle.editions.proofs.LineLaws.{lines_numbers, number_named}
 use Rattle.edition_lists.specs.declared.kept.KeptEdition.{KeptEdition}
-use Rattle.edition_lists.specs.Kept.{IsKeptEdition, IsReadIn}
-use Rattle.edition_lists.specs.Verified.{IsNotPassed, IsServedLast, IsVerifiedFolder, IsReadFolder}
+use Rattle.edition_lists.specs.declared.current.FoundCurrent.{FoundCurrent}
+use Rattle.edition_lists.specs.declared.current.FoundCurrent.TheVariants as current
+use Rattle.edition_lists.specs.declared.fault.EditionsFault.{EditionsFault}
+use Rattle.edition_lists.specs.declared.finding.EditionFinding.{EditionFinding}
+use Rattle.edition_lists.specs.declared.finding.EditionNote.{EditionNote}
+use Rattle.edition_lists.specs.declared.finding.EditionNote.TheVariants as note
+use Rattle.edition_lists.specs.declared.status.EditionsStatus.{EditionsStatus}
+use Rattle.edition_lists.specs.declared.status.EditionsStatus.TheVariants.{Cleared, Refused}
+use Rattle.edition_lists.specs.Kept.{IsKeptEdition}
+use Rattle.edition_lists.specs.Verified.{IsNotPassed, IsServedLast, IsVerifiedFolder}
+use Rattle.edition_lists.specs.Currents.{is_among, found_by, found_current, served_of}
+use Rattle.edition_lists.specs.Findings.{is_right_note, is_right, IsNote, IsFinding, is_right_current, is_all_right, verify_status, IsFoundIn}
+use Rattle.edition_lists.specs.Runs.{IsVerification, IsRun}
 use Rattle.edition_lists.specs.Judged.{kept_view, HasItsSums, IsFollowingKept, IsWithinNumbers, IsJudgedRight, IsRightNumber, AreNumbersOf, IsRightEdition}
 use Rattle.edition_lists.proofs.FolderLaws.{same_some}
-use Rattle.edition_lists.proofs.KeptReads.{held_too}
 
 -- All files of an edition that was read are there.
 
@@ -57,6 +69,11 @@ among (x ∷ editions) n files e =
 
 has_number : (f : FolderState) (numbers : List ℕ) (n : ℕ) (files : FilesSeen) → AreNumbersOf f numbers → edition_among f.editions n ≡ Some files → Contains numbers n
 has_number f numbers n files all there = Contains-permutation (map (λ e. e.0) f.editions) numbers n all (among f.editions n files there)
+
+-- a test of a list, or of its first element
+contains_by : (b : Bool) (x n : ℕ) (xs : List ℕ) → (b ≡ true → x ≡ n) → (list_any (λ m. nat_eq m n) xs ≡ true → Contains xs n) → (b || list_any (λ m. nat_eq m n) xs) ≡ true → Contains (x ∷ xs) n
+contains_by true x n xs same more holds = subst (λ (m : ℕ). Contains (x ∷ xs) m) (same refl) (here x xs)
+contains_by false x n xs same more holds = Contains-append_right (x ∷ []) xs n (more holds)
 
 -- An edition that was read and is right.
 
@@ -98,6 +115,7 @@ not_passed f numbers (Some c) n (Some k) all (inl le) = inl le
 not_passed f numbers (Some c) n (Some k) all (inr last) = inr (last.0, λ m files there. All-contains (λ (m : ℕ). m ≤ n) numbers m last.1 (has_number f numbers m files all there))
 
 right_kept : (f : FolderState) (numbers : List ℕ) (served : Option ℕ) (e : KeptEdition) → AreNumbersOf f numbers → IsKeptEdition f e → IsJudgedRight f numbers served e → IsRightEdition f served e.served.number
+unfolding sound_kept
 right_kept f numbers served e all kept right = record {
   files = all_files (bytes_of f e kept);
   there = kept_there f e kept;
@@ -105,14 +123,17 @@ right_kept f numbers served e all kept right = record {
   passed = not_passed f numbers served e.served.number e.follows all right.within;
 }
 
-right_number : (f : FolderState) (numbers : List ℕ) (served : Option ℕ) (n : ℕ) → AreNumbersOf f numbers → IsRightNumber f numbers served n → IsRightEdition f served n
-right_number f numbers served n all right = subst (λ (m : ℕ). IsRightEdition f served m) right.named (right_kept f numbers served right.edition all right.kept right.right)
+right_number : (f : FolderState) (numbers : List ℕ) (served : Option ℕ) (n : ℕ) (follows : Option ℕ) → AreNumbersOf f numbers → IsRightNumber f numbers served n follows → IsRightEdition f served n
+right_number f numbers served n follows all right = subst (λ (m : ℕ). IsRightEdition f served m) right.named (right_kept f numbers served right.edition all right.kept right.right)
 
 -- A folder of which all editions are right.
 
-module _ (f : FolderState) (numbers : List ℕ) (served : Option ℕ) (all : AreNumbersOf f numbers) (right : All (IsRightNumber f numbers served) numbers) where
+abbrev pub IsRightAt : FolderState → List ℕ → Option ℕ → ℕ → Type 0
+IsRightAt f numbers served n = (follows : Option ℕ) × IsRightNumber f numbers served n follows
+
+module _ (f : FolderState) (numbers : List ℕ) (served : Option ℕ) (all : AreNumbersOf f numbers) (right : All (IsRightAt f numbers served) numbers) where
   at_number : (n : ℕ) → Contains numbers n → IsRightEdition f served n
-  at_number n has = right_number f numbers served n all (All-contains (IsRightNumber f numbers served) numbers n right has)
+  at_number n has = let one = All-contains (IsRightAt f numbers served) numbers n right has in right_number f numbers served n one.0 all one.1
 
   found : (n : ℕ) (files : FilesSeen) → edition_among f.editions n ≡ Some files → IsRightEdition f served n
   found n files there = at_number n (has_number f numbers n files all there)
@@ -131,14 +152,14 @@ module _ (f : FolderState) (numbers : List ℕ) (served : Option ℕ) (all : Are
       let same : one.sound.view.follows ≡ follows = same_some one.sound.view.follows follows (sym one.sound.text.of_follows ∙ ap follows_in bytes ∙ says) in
       subst (λ (o : Option ℕ). IsNotPassed f.editions served n o) same one.passed
 
-names : (f : FolderState) (numbers : List ℕ) (served : Option ℕ) → AreNumbersOf f numbers → All (IsRightNumber f numbers served) numbers → IfSome served (Contains numbers)
+names : (f : FolderState) (numbers : List ℕ) (served : Option ℕ) → AreNumbersOf f numbers → All (IsRightAt f numbers served) numbers → IfSome served (Contains numbers)
     → (text : List ℕ) → option_map number_line served ≡ Some text → NamesEdition f.editions text
 names f numbers None all right has text e = absurd cc
 names f numbers (Some c) all right has text e =
     let one = at_number f numbers (Some c) all right c has in
     record { number = c; files = one.files; spelled = sym (same_some (number_line c) text e); there = one.there }
 
-verified : (f : FolderState) (numbers : List ℕ) (served : Option ℕ) → AreNumbersOf f numbers → f.current ≡ option_map number_line served → IfSome served (Contains numbers) → All (IsRightNumber f numbers served) numbers → IsVerifiedFolder f
+verified : (f : FolderState) (numbers : List ℕ) (served : Option ℕ) → AreNumbersOf f numbers → f.current ≡ option_map number_line served → IfSome served (Contains numbers) → All (IsRightAt f numbers served) numbers → IsVerifiedFolder f
 verified f numbers served all named has right = record {
   sound = record {
     each = each f numbers served all right;
@@ -147,28 +168,69 @@ verified f numbers served all named has right = record {
   last = record { served = served; named = named; last = last f numbers served all right };
 }
 
-pub verified_in : (o : Option FolderState) (numbers : List ℕ) (served : Option ℕ) → IfSome o (λ f. AreNumbersOf f numbers) → IfSome o (λ f. f.current ≡ option_map number_line served) → IfSome served (Contains numbers)
-    → IfSome o (λ f. All (IsRightNumber f numbers served) numbers) → IfSome o IsVerifiedFolder
-verified_in None numbers served all named has right = tt
-verified_in (Some f) numbers served all named has right = verified f numbers served all named has right
+-- What was found of it.
 
--- the same of what a call answers
-pub verified_by : {E : Type 0} (o p : Option FolderState) (numbers : List ℕ) (served : Option ℕ) (r : Result Bool E) → p ≡ o → IfSome o (λ f. AreNumbersOf f numbers) → IfSome o (λ f. f.current ≡ option_map number_line served)
-    → IfOk r (λ b. b ≡ true → IfSome served (Contains numbers)) → IfOk r (λ b. b ≡ true → IfSome p (λ f. All (IsRightNumber f numbers served) numbers)) → IfOk r (λ b. b ≡ true → IfSome o IsVerifiedFolder)
-verified_by o p numbers served (Err e) same all named has right = tt
-verified_by o p numbers served (Ok b) same all named has right = λ yes.
-    verified_in o numbers served all named (has yes) (held_too o p (λ f. All (IsRightNumber f numbers served) numbers) same (right yes))
+right_note : (f : FolderState) (numbers : List ℕ) (served : Option ℕ) (n : ℕ) (r : EditionNote) → is_right_note r ≡ true → IsNote f numbers served n r → IsRightAt f numbers served n
+right_note f numbers served n (note.Right follows) holds is = (follows, is)
+right_note f numbers served n (note.Wrong flaw) holds is = absurd cc
 
-pub never_true : {E : Type 0} (r : Result Bool E) (P : Type 0) → IfOk r (λ b. b ≡ false) → IfOk r (λ b. b ≡ true → P)
-never_true (Err e) P no = tt
-never_true (Ok true) P no = absurd cc
-never_true (Ok false) P no = λ yes. absurd cc
+all_right : (f : FolderState) (numbers : List ℕ) (served : Option ℕ) (findings : List EditionFinding) → list_all is_right findings ≡ true → All (IsFinding f numbers served) findings
+    → All (IsRightAt f numbers served) (map (λ x. x.number) findings)
+all_right f numbers served [] holds are = All-nil (IsRightAt f numbers served)
+all_right f numbers served (x ∷ findings) holds are =
+    let both = and_parts (is_right x) (list_all is_right findings) holds in
+    All-cons (IsRightAt f numbers served) x.number (map (λ x. x.number) findings)
+    (right_note f numbers served x.number x.note both.0 (All-head (IsFinding f numbers served) x findings are))
+    (all_right f numbers served findings both.1 (All-tail (IsFinding f numbers served) x findings are))
 
-pub numbers_too : (o p : Option FolderState) (numbers slice : List ℕ) → p ≡ o → slice ≡ numbers → IfSome o (λ f. AreNumbersOf f numbers) → IfSome p (λ f. AreNumbersOf f slice)
-numbers_too o p numbers slice same is all =
-    subst (λ (ns : List ℕ). IfSome p (λ f. AreNumbersOf f ns)) (sym is) (held_too p o (λ f. AreNumbersOf f numbers) (sym same) all)
+-- what `current` names, if that is right
+pub record IsNamedRight (text : Option (List ℕ)) (numbers : List ℕ) (served : Option ℕ) : Type 0 where
+  pub named : text ≡ option_map number_line served
+  pub has : IfSome served (Contains numbers)
 
--- each edition that is there is among those that were read
-pub read_in : (o : Option FolderState) (numbers : List ℕ) → IfSome o (λ f. AreNumbersOf f numbers) → IfSome o (λ f. All (IsReadIn f) numbers) → IfSome o IsReadFolder
-read_in None numbers all read = tt
-read_in (Some f) numbers all read = λ n files there. All-contains (IsReadIn f) numbers n read (has_number f numbers n files all there)
+named_among : (text numbers : List ℕ) (n : ℕ) (b : Bool) → text ≡ number_line n → (b ≡ true → Contains numbers n) → is_right_current (cond b (current.Edition n) (current.Lacking n)) ≡ true
+    → IsNamedRight (Some text) numbers (served_of (cond b (current.Edition n) (current.Lacking n)) numbers)
+named_among text numbers n true is has holds = record { named = ap Some is; has = has refl }
+named_among text numbers n false is has holds = absurd cc
+
+contains_among : (numbers : List ℕ) (n : ℕ) → is_among numbers n ≡ true → Contains numbers n
+contains_among [] n holds = absurd cc
+contains_among (x ∷ numbers) n holds = contains_by (nat_eq x n) x n numbers (λ same. grind (arith, nat_tests, same)) (λ later. contains_among numbers n later) holds
+
+named_by : (text numbers : List ℕ) (o : Option ℕ) → current_in text ≡ o → is_right_current (found_by numbers o) ≡ true → IsNamedRight (Some text) numbers (served_of (found_by numbers o) numbers)
+named_by text numbers None is holds = absurd cc
+named_by text numbers (Some n) is holds = named_among text numbers n (is_among numbers n) (number_named text n is).1 (contains_among numbers n) holds
+
+named_right : (numbers : List ℕ) (o : Option (List ℕ)) → is_right_current (found_current numbers o) ≡ true → IsNamedRight o numbers (served_of (found_current numbers o) numbers)
+named_right numbers None holds = record { named = refl; has = tt }
+named_right numbers (Some text) holds = named_by text numbers (current_in text) refl holds
+
+abbrev done : EditionsStatus → Result EditionsStatus EditionsFault
+done s = Ok s
+
+same_status : (s t : EditionsStatus) → done s ≡ done t → s ≡ t
+same_status s t e = cc
+
+pub cleared_right : (b : Bool) → cond b Cleared Refused ≡ Cleared → b ≡ true
+cleared_right true e = refl
+cleared_right false e = absurd cc
+
+verified_found : (f : FolderState) (numbers : List ℕ) (c : FoundCurrent) (findings : List EditionFinding) → IsFoundIn f numbers c findings → verify_status c findings ≡ Cleared → IsVerifiedFolder f
+verified_found f numbers c findings found cleared =
+    let both = and_parts (is_right_current c) (list_all is_right findings) (cleared_right (is_all_right c findings) cleared) in
+    let served = served_of c numbers in
+    let named : IsNamedRight f.current numbers served = subst (λ (d : FoundCurrent). IsNamedRight f.current numbers (served_of d numbers)) (sym found.named)
+    (named_right numbers f.current (subst (λ (d : FoundCurrent). is_right_current d ≡ true) found.named both.0)) in
+    verified f numbers served found.all named.named named.has
+    (subst (λ (ns : List ℕ). All (IsRightAt f numbers served) ns) found.each.named (all_right f numbers served findings both.1 found.each.are))
+
+pub verified_in : (o : Option FolderState) (numbers : List ℕ) (c : FoundCurrent) (findings : List EditionFinding) → IfSome o (λ f. IsFoundIn f numbers c findings) → verify_status c findings ≡ Cleared → IfSome o IsVerifiedFolder
+verified_in None numbers c findings found cleared = tt
+verified_in (Some f) numbers c findings found cleared = verified_found f numbers c findings found cleared
+
+-- the same of what a run answers
+pub verified_run : (seen : SeenFolder) (folder : List ℕ) (old new : Seen) (r : Result EditionsStatus EditionsFault) → IsRun (IsVerification seen folder) old new r → r ≡ Ok Cleared → IfSome seen.state IsVerifiedFolder
+verified_run seen folder old new (Err e) run is = absurd cc
+verified_run seen folder old new (Ok s) run is =
+    let v = run.is in
+    verified_in seen.state v.numbers v.current v.findings v.found (sym v.said.status_is ∙ same_status s Cleared is)

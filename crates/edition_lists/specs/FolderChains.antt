@@ -34,8 +34,8 @@ pub record SoundFoldersAreSafe : Type 0 where
       → IsClearedEdition (chained_view follows e)
   pub change : (f : FolderState) (old new : ChainedEdition) → IsSoundFolder f → IsFolderChain f old (new ∷ [])
       → IsSafeChange (wider_of old.edition.policy new.edition.policy) old.edition.edition.base old.edition.edition.cert
-          new.edition.edition.base new.edition.edition.cert
+      new.edition.edition.base new.edition.edition.cert
   pub changes : (f : FolderState) (first second : ChainedEdition) (more : List ChainedEdition) → IsSoundFolder f
       → IsFolderChain f first (second ∷ more)
       → IsSafeOverChanges (widest_of first.edition.policy.groups) first.edition.edition
-          (second.edition.edition ∷ map (λ e. e.edition.edition) more)
+      (second.edition.edition ∷ map (λ e. e.edition.edition) more)

@@ -13,9 +13,3 @@ pub record IsKeptEdition (f : FolderState) (e : KeptEdition) : Type 0 where
   pub text : List ℕ
   pub there : file_at f e.served.number Follows ≡ Some text
   pub says : follows_in text ≡ Some e.follows
-
--- an edition of this number reads
-pub record IsReadIn (f : FolderState) (number : ℕ) : Type 0 where
-  pub edition : KeptEdition
-  pub named : edition.served.number ≡ number
-  pub kept : IsKeptEdition f edition

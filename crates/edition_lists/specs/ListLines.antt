@@ -25,6 +25,7 @@ abbrev pub follows_words : Option ℕ → List ℕ
 follows_words None = codes "-"
 follows_words (Some k) = decimal k
 
+-- at the end of a line: what isn't there
 abbrev pub lack_words : Option ℕ → List ℕ
 lack_words None = codes "\n"
 lack_words (Some k) = codes ", edition " ++ (decimal k ++ codes " isn't there\n")

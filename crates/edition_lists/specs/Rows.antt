@@ -12,10 +12,14 @@ use Rattle.edition_lists.specs.Judged.{AreNumbersOf}
 use Rattle.edition_lists.specs.Currents.{is_among, found_current, served_of}
 use Rattle.edition_lists.specs.Servings.{serving_of}
 
+-- a number, if no edition has it
+abbrev pub unless_there : List ℕ → ℕ → Option ℕ
+unless_there numbers k = if is_among numbers k then None else Some k
+
 -- what an edition follows, if that isn't there
 abbrev pub lack_of : List ℕ → Option ℕ → Option ℕ
 lack_of numbers None = None
-lack_of numbers (Some k) = if is_among numbers k then None else Some k
+lack_of numbers (Some k) = unless_there numbers k
 
 -- the row of an edition that was read, by the numbers of all editions and the one that is served
 pub record IsRowOf (numbers : List ℕ) (served : Option ℕ) (e : KeptEdition) (row : EditionRow) : Type 0 where

@@ -29,6 +29,12 @@ pub record IsListing (seen : SeenFolder) (text : List ℕ) (status : EditionsSta
   pub text_is : text ≡ list_text numbers rows
   pub status_is : status ≡ Listed
 
+-- this text was written, or only its first bytes
+abbrev pub IsSaid : Seen → Seen → List ℕ → EditionsStatus → Result EditionsStatus EditionsFault → Type 0
+IsSaid old new text status (Ok s) = WroteWhole old new text × (s ≡ status)
+IsSaid old new text status (Err (Write count)) = WrotePart old new text count
+IsSaid old new text status (Err (Folder fault)) = ⊥
+
 -- such a text was written whole
 pub record IsWritten (Is : List ℕ → EditionsStatus → Type 0) (old new : Seen) (status : EditionsStatus) : Type 0 where
   pub text : List ℕ

@@ -3,7 +3,6 @@ use Rattle.std.specs.Prelude.{◌≡◌, ◌≤◌, ◌⊎◌, ℕ, List, Option
 use Rattle.editions.specs.Folders.{FilesSeen, FolderState, edition_among}
 use Rattle.editions.specs.NumberLines.{number_line, follows_in}
 use Rattle.editions.specs.Moments.{IsSoundFolder}
-use Rattle.edition_lists.specs.Kept.{IsReadIn}
 
 -- no edition has a greater number
 abbrev pub IsLastNumber : List (ℕ × FilesSeen) → ℕ → Type 0
@@ -31,7 +30,3 @@ pub record IsServedLast (f : FolderState) : Type 0 where
 pub record IsVerifiedFolder (f : FolderState) : Type 0 where
   pub sound : IsSoundFolder f
   pub last : IsServedLast f
-
--- each edition reads
-abbrev pub IsReadFolder : FolderState → Type 0
-IsReadFolder f = (n : ℕ) (files : FilesSeen) → edition_among f.editions n ≡ Some files → IsReadIn f n

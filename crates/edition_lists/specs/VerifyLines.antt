@@ -73,19 +73,25 @@ finding_line folder served x = note_line folder served x.number x.note
 abbrev pub findings_text : List ℕ → Option ℕ → List EditionFinding → List ℕ
 findings_text folder served findings = flat_map (finding_line folder served) findings
 
+abbrev pub lacking_line : List ℕ → ℕ → List ℕ
+lacking_line folder n = folder ++ (codes "/current: edition " ++ (decimal n ++ codes " isn't there\n"))
+
 -- what is wrong with `current`
 abbrev pub current_line : List ℕ → FoundCurrent → List ℕ
-current_line folder (current.Lacking n) = folder ++ (codes "/current: edition " ++ (decimal n ++ codes " isn't there\n"))
+current_line folder (current.Lacking n) = lacking_line folder n
 current_line folder current.Unread = folder ++ codes "/current: no number of an edition and a line end\n"
 current_line folder c = []
 
 abbrev pub count_words : ℕ → List ℕ
 count_words count = decimal count ++ (if count == 1 then codes " edition" else codes " editions")
 
+abbrev pub number_words : ℕ → List ℕ
+number_words n = codes ", " ++ (decimal n ++ codes " is served\n")
+
 abbrev pub served_words : FoundCurrent → List ℕ
 served_words current.Nothing = codes ", none is served\n"
-served_words (current.Edition n) = codes ", " ++ (decimal n ++ codes " is served\n")
-served_words (current.Lacking n) = codes ", " ++ (decimal n ++ codes " is served\n")
+served_words (current.Edition n) = number_words n
+served_words (current.Lacking n) = number_words n
 served_words current.Unread = codes "\n"
 
 -- how many editions there are, and which is served

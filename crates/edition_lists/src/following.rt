@@ -134,9 +134,7 @@ pub fn passed_fault(
     match (edition.follows, served) {
         (None, _) => None,
         (Some(follows), Some(served))
-            if is_within(numbers, served, edition.served.number, follows) => {
-            None
-        }
+            if is_within(numbers, served, edition.served.number, follows) => { None }
         (Some(follows), _) => Some(EditionFlaw::Passed(follows)),
     }
 }

@@ -24,6 +24,7 @@ mod kept;
 mod laws;
 mod list_lines;
 mod listing;
+mod numbered;
 mod numbers;
 mod rows;
 mod saying;

@@ -3,10 +3,10 @@
 ghost use Rattle.std.specs.Prelude.{◌≡◌, ◌++◌, ◌-◌, [], IfOk, OnOk, length, decimal, replicate};
 ghost use Rattle.edition_lists.specs.ListLines as spec;
 
+use crate::numbered::push_numbered;
 use crate::rows::EditionRow;
 use crate::serving::Serving;
 use itoa::Buffer;
-use page_ids::push_number;
 use std::alloc::{AllocError, Global};
 
 fn push_spaces(out: &mut Vec<u8>, count: usize) -> Result<(), AllocError>
@@ -70,11 +70,7 @@ fn push_head(out: &mut Vec<u8>, width: usize, row: &EditionRow) -> Result<(), Al
     out.extend_from_slice(serving_words(row.serving))
 }
 
-fn push_followed(
-    out: &mut Vec<u8>,
-    width: usize,
-    follows: Option<u32>,
-) -> Result<(), AllocError>
+fn push_followed(out: &mut Vec<u8>, width: usize, follows: Option<u32>) -> Result<(), AllocError>
     ensures { OnOk result (out.new.items ≡ out.old.items ++ spec.set_right width (spec.follows_words follows)) }
 {
     match follows {
@@ -87,11 +83,7 @@ fn push_lack(out: &mut Vec<u8>, lacks: Option<u32>) -> Result<(), AllocError>
     ensures { OnOk result (out.new.items ≡ out.old.items ++ spec.lack_words lacks) }
 {
     match lacks {
-        Some(number) => {
-            out.extend_from_slice(b", edition ")?;
-            push_number(out, u64::from(number))?;
-            out.extend_from_slice(b" isn't there\n")
-        }
+        Some(number) => push_numbered(out, b", edition ", number, b" isn't there\n"),
         None => out.extend_from_slice(b"\n"),
     }
 }
@@ -137,11 +129,7 @@ fn nothing_text(alloc: Global) -> Result<Vec<u8>, AllocError>
 /// edition  9           follows -  79 frames
 /// edition 10  served   follows 9  81 frames, 2 new (4783a 4783b), 1 changed
 /// ```
-pub fn list_text(
-    alloc: Global,
-    numbers: &[u32],
-    rows: &[EditionRow],
-) -> Result<Vec<u8>, AllocError>
+pub fn list_text(alloc: Global, numbers: &[u32], rows: &[EditionRow]) -> Result<Vec<u8>, AllocError>
     ensures { IfOk result (λ text. text.items ≡ spec.list_text numbers.now rows.now) }
 {
     match rows {

@@ -1,7 +1,7 @@
 //! The rows of a list of editions.
 
 ghost use Rattle.std.specs.Prelude.{◌≡◌, IfOk};
-ghost use Rattle.edition_lists.specs.Rows.{lack_of, IsRowOf};
+ghost use Rattle.edition_lists.specs.Rows.{unless_there, lack_of, IsRowOf};
 
 use crate::kept::KeptEdition;
 use crate::serving::{Serving, serving_of};
@@ -21,13 +21,24 @@ pub struct EditionRow {
     pub summary: Vec<u8>,
 }
 
+// A number, if no edition has it.
+fn unless_there(numbers: &[u32], number: u32) -> Option<u32>
+    ensures { result ≡ unless_there numbers.now number }
+{
+    if numbers.contains(&number) {
+        None
+    } else {
+        Some(number)
+    }
+}
+
 // What an edition follows, if that isn't there.
 fn lack_of(numbers: &[u32], follows: Option<u32>) -> Option<u32>
     ensures { result ≡ lack_of numbers.now follows }
 {
     match follows {
-        Some(number) if !numbers.contains(&number) => Some(number),
-        _ => None,
+        Some(number) => unless_there(numbers, number),
+        None => None,
     }
 }
 

@@ -1,8 +1,7 @@
 //! What is to be printed is written.
 
-ghost use Rattle.std.specs.Prelude.{◌≡◌, false, ℕ, List};
-ghost use Rattle.edition_lists.specs.declared.status.EditionsStatus.{EditionsStatus};
-ghost use Rattle.edition_lists.specs.Runs.{IsRun};
+ghost use Rattle.std.specs.Prelude.{◌≡◌, false};
+ghost use Rattle.edition_lists.specs.Runs.{IsSaid};
 
 use crate::fault::EditionsFault;
 use crate::status::EditionsStatus;
@@ -18,8 +17,7 @@ pub struct Said {
 /// Writes what is to be printed.
 pub fn say<O: Sink>(out: &mut O, said: &Said) -> Result<EditionsStatus, EditionsFault>
     requires { (O.seen out.old).failed ≡ false }
-    ensures { (Is : List ℕ → EditionsStatus → Type 0) → Is said.now.text.items said.now.status
-        → IsRun Is (O.seen out.old) (O.seen out.new) result }
+    ensures { IsSaid (O.seen out.old) (O.seen out.new) said.now.text.items said.now.status result }
 {
     match write_whole(out, said.text.as_slice()) {
         Ok(()) => Ok(said.status),

@@ -39,9 +39,10 @@ fn first_other(right: &[u8], found: &[u8]) -> EditionFile {
     let mut right = right;
     let mut found = found;
     for file in SUMMED {
-        let (Some((right_line, right_rest)), Some((line, rest))) =
-            (cut(right, b'\n'), cut(found, b'\n'))
-        else {
+        let (Some((right_line, right_rest)), Some((line, rest))) = (
+            cut(right, b'\n'),
+            cut(found, b'\n'),
+        ) else {
             return EditionFile::Sums;
         };
         if !is_sum_of(line, file) {

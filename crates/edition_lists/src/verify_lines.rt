@@ -1,12 +1,12 @@
 //! What `editions --verify` prints.
 
-ghost use Rattle.std.specs.Prelude.{◌≡◌, ◌++◌, IfOk, OnOk, flat_map, length};
+ghost use Rattle.std.specs.Prelude.{◌≡◌, ◌++◌, IfOk, OnOk};
 ghost use Rattle.edition_lists.specs.VerifyLines as spec;
-ghost use Rattle.edition_lists.specs.Findings as findings;
 
 use crate::current::FoundCurrent;
 use crate::fault::EditionFlaw;
 use crate::finding::{EditionFinding, EditionNote};
+use crate::numbered::push_numbered;
 use crate::serving::{Serving, serving_of};
 use crate::status::EditionsStatus;
 use audit_report::{change_text, verdict_text};
@@ -85,9 +85,7 @@ fn push_follows(
 ) -> Result<(), AllocError>
     ensures { OnOk result (out.new.items ≡ out.old.items ++ spec.follows_line number follows wrong.now) }
 {
-    out.extend_from_slice(b"edition ")?;
-    push_number(out, u64::from(number))?;
-    out.extend_from_slice(b" follows ")?;
+    push_numbered(out, b"edition ", number, b" follows ")?;
     push_number(out, u64::from(follows))?;
     out.extend_from_slice(wrong)
 }
@@ -189,21 +187,19 @@ fn findings_text(
     Ok(out)
 }
 
+fn push_lacking(out: &mut Vec<u8>, folder: &str, number: u32) -> Result<(), AllocError>
+    ensures { OnOk result (out.new.items ≡ out.old.items ++ spec.lacking_line folder.now number) }
+{
+    out.extend_from_slice(folder.as_bytes())?;
+    push_numbered(out, b"/current: edition ", number, b" isn't there\n")
+}
+
 // What is wrong with `current`.
-fn push_current(
-    out: &mut Vec<u8>,
-    folder: &str,
-    current: FoundCurrent,
-) -> Result<(), AllocError>
+fn push_current(out: &mut Vec<u8>, folder: &str, current: FoundCurrent) -> Result<(), AllocError>
     ensures { OnOk result (out.new.items ≡ out.old.items ++ spec.current_line folder.now current) }
 {
     match current {
-        FoundCurrent::Lacking(number) => {
-            out.extend_from_slice(folder.as_bytes())?;
-            out.extend_from_slice(b"/current: edition ")?;
-            push_number(out, u64::from(number))?;
-            out.extend_from_slice(b" isn't there\n")
-        }
+        FoundCurrent::Lacking(number) => push_lacking(out, folder, number),
         FoundCurrent::Unread => {
             out.extend_from_slice(folder.as_bytes())?;
             out.extend_from_slice(b"/current: no number of an edition and a line end\n")
@@ -223,24 +219,23 @@ fn push_count(out: &mut Vec<u8>, count: usize) -> Result<(), AllocError>
     }
 }
 
+fn push_served(out: &mut Vec<u8>, current: FoundCurrent) -> Result<(), AllocError>
+    ensures { OnOk result (out.new.items ≡ out.old.items ++ spec.served_words current) }
+{
+    match current {
+        FoundCurrent::Nothing => out.extend_from_slice(b", none is served\n"),
+        FoundCurrent::Edition(number) => push_numbered(out, b", ", number, b" is served\n"),
+        FoundCurrent::Lacking(number) => push_numbered(out, b", ", number, b" is served\n"),
+        FoundCurrent::Unread => out.extend_from_slice(b"\n"),
+    }
+}
+
 // How many editions there are, and which is served.
-fn push_counts(
-    out: &mut Vec<u8>,
-    count: usize,
-    current: FoundCurrent,
-) -> Result<(), AllocError>
+fn push_counts(out: &mut Vec<u8>, count: usize, current: FoundCurrent) -> Result<(), AllocError>
     ensures { OnOk result (out.new.items ≡ out.old.items ++ spec.counts_line count current) }
 {
     push_count(out, count)?;
-    match current {
-        FoundCurrent::Edition(number) | FoundCurrent::Lacking(number) => {
-            out.extend_from_slice(b", ")?;
-            push_number(out, u64::from(number))?;
-            out.extend_from_slice(b" is served\n")
-        }
-        FoundCurrent::Nothing => out.extend_from_slice(b", none is served\n"),
-        FoundCurrent::Unread => out.extend_from_slice(b"\n"),
-    }
+    push_served(out, current)
 }
 
 fn status_line(status: EditionsStatus) -> &'static [u8]
