@@ -16,9 +16,9 @@ use Rattle.checker.specs.Change.{Edition, change_verdict, IsSafeChange, IsSafeOv
 use Rattle.checker.proofs.Editions.{safe_change}
 use Rattle.policy_text.specs.declared.fault.PolicyFault.{PolicyFault}
 use Rattle.policy_text.specs.Policies.{policy_in}
-use Rattle.editions.specs.Folders.{EditionBytes, FilesSeen, all_files, FolderState, edition_among}
+use Rattle.editions.specs.Folders.{EditionBytes, FilesSeen, all_files, FolderState}
 use Rattle.editions.specs.NumberLines.{follows_in}
-use Rattle.editions.specs.Chains.{EditionView, IsEditionText, IsClearedEdition, IsClearedAgainst, ServedEdition, edition_view, IsPolicy, AreChained, wider_of, widest_of}
+use Rattle.editions.specs.Chains.{EditionView, IsEditionText, IsClearedEdition, IsClearedAgainst, ServedEdition, IsPolicy, AreChained, wider_of, widest_of}
 use Rattle.editions.specs.Moments.{IsFollowing, IsFollowed, IsSoundEdition, IsSoundFolder}
 use Rattle.editions.proofs.ChainLaws.{chains_safe}
 use Rattle.edition_lists.specs.FolderChains.{ChainedEdition, chained_view, IsInFolder, AreAfter, IsFolderChain, SoundFoldersAreSafe}

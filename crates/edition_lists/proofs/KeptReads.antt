@@ -1,5 +1,5 @@
 -- What is read and judged of a folder whose lock is held.
-use Rattle.std.proofs.Common.{◌≡◌, ◌<◌, ℕ, List, Option, Some, None, refl, sym, subst}
+use Rattle.std.proofs.Common.{◌≡◌, ◌<◌, ℕ, List, Option, Some, None, sym, subst}
 use Rattle.std.specs.Prelude.{IfSome}
 use Rattle.editions.specs.declared.edition_file.EditionFile.TheVariants.{Cert, Follows, Sums}
 use Rattle.editions.specs.Folders.{FolderState, SeenFolder, file_at}

@@ -1,5 +1,5 @@
 -- The policy of a text is within the limits of policies.
-use Rattle.std.proofs.Common.{◌≡◌, ◌≤◌, ◌+◌, ℕ, Bool, true, false, cond, List, codes, pos, negsuc, Option, Some, None, nat_le, nat_lt, refl, subst, arith, length}
+use Rattle.std.proofs.Common.{◌≡◌, ◌≤◌, ℕ, Bool, true, false, cond, List, codes, pos, negsuc, Option, Some, None, nat_le, refl, subst, arith}
 use Rattle.std.proofs.lemmas.Bool.Decides.{nat_tests}
 use Rattle.std.specs.Prelude.{Result, Ok, Err, is_some}
 use Rattle.frame_records.specs.declared.limits.TheConstants.{MOST_PENCE}
@@ -10,9 +10,9 @@ use Rattle.toml.specs.Data.{Members, Data, string, integer, float, boolean, date
 use Rattle.base_text.specs.Whole.{tree_of}
 use Rattle.checker.specs.declared.policy.Policy.{Policy}
 use Rattle.policy_text.specs.declared.fault.PolicyField.{PolicyField}
-use Rattle.policy_text.specs.declared.fault.PolicyField.TheVariants.{Ceiling, Keyings, Groups}
+use Rattle.policy_text.specs.declared.fault.PolicyField.TheVariants.{Ceiling, Keyings}
 use Rattle.policy_text.specs.declared.fault.PolicyFault.{PolicyFault}
-use Rattle.policy_text.specs.Policies.{policy_number, required_number, groups_value, policy_with, unknown_key, values_of, members_policy, tree_policy, policy_in}
+use Rattle.policy_text.specs.Policies.{policy_number, required_number, groups_value, policy_with, unknown_key, values_of, tree_policy, policy_in}
 use Rattle.editions.specs.Chains.{IsPolicy}
 
 unless_fault : (b : Bool) (fault : PolicyFault) (r : Result Policy PolicyFault) (p : Policy) → cond b (Err fault) r ≡ Ok p → r ≡ Ok p

@@ -12,7 +12,7 @@ use Rattle.editions.specs.Folders.{SeenFolder, EditionBytes, FilesSeen, all_file
 use Rattle.editions.specs.NumberLines.{number_line, current_in, follows_in, follows_text}
 use Rattle.editions.specs.Sums.{sums_text}
 use Rattle.editions.specs.Chains.{IsEditionText}
-use Rattle.editions.specs.Moments.{IsFollowing, IsSoundEdition, NamesEdition, IsSoundFolder}
+use Rattle.editions.specs.Moments.{IsFollowing, IsSoundEdition, NamesEdition}
 use Rattle.editions.proofs.LineLaws.{lines_numbers, number_named}
 use Rattle.edition_lists.specs.declared.kept.KeptEdition.{KeptEdition}
 use Rattle.edition_lists.specs.declared.current.FoundCurrent.{FoundCurrent}
@@ -24,7 +24,7 @@ use Rattle.edition_lists.specs.declared.finding.EditionNote.TheVariants as note
 use Rattle.edition_lists.specs.declared.status.EditionsStatus.{EditionsStatus}
 use Rattle.edition_lists.specs.declared.status.EditionsStatus.TheVariants.{Cleared, Refused}
 use Rattle.edition_lists.specs.Kept.{IsKeptEdition}
-use Rattle.edition_lists.specs.Verified.{IsNotPassed, IsServedLast, IsVerifiedFolder}
+use Rattle.edition_lists.specs.Verified.{IsNotPassed, IsVerifiedFolder}
 use Rattle.edition_lists.specs.Currents.{is_among, found_by, found_current, served_of}
 use Rattle.edition_lists.specs.Findings.{is_right_note, is_right, IsNote, IsFinding, is_right_current, is_all_right, verify_status, IsFoundIn}
 use Rattle.edition_lists.specs.Runs.{IsVerification, IsRun}

@@ -1,5 +1,5 @@
 -- An edition of a folder, as it is read.
-use Rattle.std.specs.Prelude.{◌≡◌, ℕ, List, Option, Some}
+use Rattle.std.specs.Prelude.{◌≡◌, ℕ, List, Some}
 use Rattle.editions.specs.declared.edition_file.EditionFile.TheVariants.{Follows, Sums}
 use Rattle.editions.specs.Folders.{FolderState, file_at}
 use Rattle.editions.specs.NumberLines.{follows_in}

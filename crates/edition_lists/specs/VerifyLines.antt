@@ -1,5 +1,5 @@
 -- What `editions --verify` prints.
-use Rattle.std.specs.Prelude.{ℕ, List, [], ◌++◌, codes, decimal, length, ◌==◌, if◌then◌else◌, Option, Some, None, flat_map}
+use Rattle.std.specs.Prelude.{ℕ, List, [], ◌++◌, codes, decimal, length, ◌==◌, if◌then◌else◌, Option, Some, flat_map}
 use Rattle.checker.specs.declared.verdict.Verdict.{Verdict}
 use Rattle.checker.specs.declared.change.ChangeVerdict.{ChangeVerdict}
 use Rattle.audit_report.specs.Lines.{verdict_text, change_text}
