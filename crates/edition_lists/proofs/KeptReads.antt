@@ -1,6 +1,7 @@
 -- What is read and judged of a folder whose lock is held.
-use Rattle.std.proofs.Common.{◌≡◌, ◌<◌, ℕ, List, Option, Some, None, sym, subst}
+use Rattle.std.proofs.Common.{◌≡◌, ◌<◌, ℕ, List, Option, Some, None, sym, subst, map}
 use Rattle.std.specs.Prelude.{IfSome}
+use Rattle.std.specs.List.Sorted.{IsPermutation, IsNonDecreasing}
 use Rattle.editions.specs.declared.edition_file.EditionFile.TheVariants.{Cert, Follows, Sums}
 use Rattle.editions.specs.Folders.{FolderState, SeenFolder, file_at}
 use Rattle.editions.specs.NumberLines.{follows_in, follows_text}
@@ -9,7 +10,7 @@ use Rattle.editions.specs.Chains.{IsClearedEdition, IsClearedAgainst}
 use Rattle.edition_checks.specs.Served.{IsServed}
 use Rattle.edition_lists.specs.declared.kept.KeptEdition.{KeptEdition}
 use Rattle.edition_lists.specs.Kept.{IsKeptEdition}
-use Rattle.edition_lists.specs.Judged.{kept_view, SaysFollows, HasItsSums, IsSealed, IsAfterKept, IsFollowingKept, IsWithinNumbers, IsJudgedRight, IsKeptBefore}
+use Rattle.edition_lists.specs.Judged.{kept_view, SaysFollows, HasItsSums, IsSealed, IsAfterKept, IsFollowingKept, IsWithinNumbers, IsJudgedRight, IsKeptBefore, AreNumbersOf}
 
 -- what holds of a folder that is the same
 pub held_too : (o p : Option FolderState) (P : FolderState → Type 0) → p ≡ o → IfSome p P → IfSome o P
@@ -73,3 +74,12 @@ right_now (Some f) numbers served e own follows within = record { own = own; fol
 
 pub right_in : (o p : Option FolderState) (numbers : List ℕ) (served : Option ℕ) (e : KeptEdition) → p ≡ o → IfSome o (λ f. IsSealed f e) → IfSome p (λ f. IsFollowingKept f e e.follows) → IsWithinNumbers numbers served e.served.number e.follows → IfSome o (λ f. IsJudgedRight f numbers served e)
 right_in o p numbers served e same own follows within = right_now o numbers served e own (held_too o p (λ f. IsFollowingKept f e e.follows) same follows) within
+
+-- the numbers of all editions, sorted
+
+numbers_now : (o : Option FolderState) (numbers sorted : List ℕ) → IfSome o (λ f. numbers ≡ map (λ e. e.0) f.editions) → IsPermutation numbers sorted → IsNonDecreasing sorted → IfSome o (λ f. AreNumbersOf f sorted)
+numbers_now None numbers sorted read all ascending = tt
+numbers_now (Some f) numbers sorted read all ascending = record { all = subst (λ (ns : List ℕ). IsPermutation ns sorted) read all; ascending = ascending }
+
+pub numbers_there : (o p : Option FolderState) (numbers sorted : List ℕ) → p ≡ o → IfSome p (λ f. numbers ≡ map (λ e. e.0) f.editions) → IsPermutation numbers sorted → IsNonDecreasing sorted → IfSome o (λ f. AreNumbersOf f sorted)
+numbers_there o p numbers sorted same read all ascending = numbers_now o numbers sorted (held_too o p (λ f. numbers ≡ map (λ e. e.0) f.editions) same read) all ascending

@@ -1,4 +1,5 @@
 pub mod FolderLaws
+pub mod NoForks
 pub mod InTurn
 pub mod KeptReads
 pub mod Policies

@@ -1,14 +1,15 @@
 -- Editions that were read and judged are sound, and so is their folder.
-use Rattle.std.proofs.Common.{◌≡◌, ◌≤◌, ◌||◌, ℕ, Bool, true, cond, List, [], ◌∷◌, map, Option, Some, None, option_map, refl, sym, ap, ◌∙◌, subst, arith, false, nat_eq, inl, inr}
+use Rattle.std.proofs.Common.{◌≡◌, ◌≤◌, ◌⊎◌, ◌||◌, ◌&&◌, ℕ, Bool, true, cond, List, [], ◌∷◌, map, Option, Some, None, option_map, refl, sym, ap, ◌∙◌, subst, arith, false, nat_eq, inl, inr}
 use Rattle.std.proofs.lemmas.Bool.{and_parts}
 use Rattle.std.proofs.lemmas.Bool.Decides.{nat_tests}
-use Rattle.std.proofs.lemmas.List.Elements.{All-nil, All-cons, All-head, All-tail, All-contains, Contains-append_left, Contains-append_right, Contains-push}
+use Rattle.std.proofs.lemmas.List.Elements.{Contains-append_cases, Contains-push_cases, All-nil, All-cons, All-head, All-tail, All-contains, Contains-append_left, Contains-append_right, Contains-push}
 use Rattle.std.proofs.lemmas.List.Sorted.{Contains-permutation}
 use Rattle.std.specs.List.{All, Contains, list_all, list_any}
-use Rattle.std.specs.Prelude.{IfSome, Result, Ok, Err}
+use Rattle.std.specs.List.Sorted.{IsNonDecreasing}
+use Rattle.std.specs.Prelude.{IfSome, is_none, Result, Ok, Err}
 use Rattle.editions.specs.declared.edition_file.EditionFile.TheVariants.{Base, Cert, Policy, Follows, Sums}
 use Rattle.devices.specs.Devices.{Seen}
-use Rattle.editions.specs.Folders.{SeenFolder, EditionBytes, FilesSeen, all_files, FolderState, edition_among, file_of}
+use Rattle.editions.specs.Folders.{SeenFolder, EditionBytes, FilesSeen, all_files, FolderState, edition_among, file_of, file_at}
 use Rattle.editions.specs.NumberLines.{number_line, current_in, follows_in, follows_text}
 use Rattle.editions.specs.Sums.{sums_text}
 use Rattle.editions.specs.Chains.{IsEditionText}
@@ -24,12 +25,15 @@ use Rattle.edition_lists.specs.declared.finding.EditionNote.TheVariants as note
 use Rattle.edition_lists.specs.declared.status.EditionsStatus.{EditionsStatus}
 use Rattle.edition_lists.specs.declared.status.EditionsStatus.TheVariants.{Cleared, Refused}
 use Rattle.edition_lists.specs.Kept.{IsKeptEdition}
-use Rattle.edition_lists.specs.Verified.{IsNotPassed, IsVerifiedFolder}
+use Rattle.edition_lists.specs.Verified.{IsNotPassed, FollowsOne, IsUnforked, IsVerifiedFolder}
+use Rattle.edition_lists.specs.declared.forks.Fork.{Fork}
+use Rattle.edition_lists.specs.Forks.{followed, first_fork}
 use Rattle.edition_lists.specs.Currents.{is_among, found_by, found_current, served_of}
-use Rattle.edition_lists.specs.Findings.{is_right_note, is_right, IsNote, IsFinding, is_right_current, is_all_right, verify_status, IsFoundIn}
+use Rattle.edition_lists.specs.Findings.{is_right_note, is_right, IsNote, IsFinding, is_right_current, is_all_right, verify_status, AreFindings, IsFoundIn}
 use Rattle.edition_lists.specs.Runs.{IsVerification, IsRun}
 use Rattle.edition_lists.specs.Judged.{kept_view, HasItsSums, IsFollowingKept, IsWithinNumbers, IsJudgedRight, IsRightNumber, AreNumbersOf, IsRightEdition}
 use Rattle.edition_lists.proofs.FolderLaws.{same_some}
+use Rattle.edition_lists.proofs.NoForks.{Has, straight, ascending, from_zero}
 
 -- All files of an edition that was read are there.
 
@@ -68,7 +72,7 @@ among (x ∷ editions) n files e =
     among_by (nat_eq x.0 n) x.0 n (map (λ e. e.0) editions) x.1 (edition_among editions n) files (λ same. grind (arith, nat_tests, same)) (λ later. among editions n files later) e
 
 has_number : (f : FolderState) (numbers : List ℕ) (n : ℕ) (files : FilesSeen) → AreNumbersOf f numbers → edition_among f.editions n ≡ Some files → Contains numbers n
-has_number f numbers n files all there = Contains-permutation (map (λ e. e.0) f.editions) numbers n all (among f.editions n files there)
+has_number f numbers n files all there = Contains-permutation (map (λ e. e.0) f.editions) numbers n all.all (among f.editions n files there)
 
 -- a test of a list, or of its first element
 contains_by : (b : Bool) (x n : ℕ) (xs : List ℕ) → (b ≡ true → x ≡ n) → (list_any (λ m. nat_eq m n) xs ≡ true → Contains xs n) → (b || list_any (λ m. nat_eq m n) xs) ≡ true → Contains (x ∷ xs) n
@@ -159,12 +163,13 @@ names f numbers (Some c) all right has text e =
     let one = at_number f numbers (Some c) all right c has in
     record { number = c; files = one.files; spelled = sym (same_some (number_line c) text e); there = one.there }
 
-verified : (f : FolderState) (numbers : List ℕ) (served : Option ℕ) → AreNumbersOf f numbers → f.current ≡ option_map number_line served → IfSome served (Contains numbers) → All (IsRightAt f numbers served) numbers → IsVerifiedFolder f
-verified f numbers served all named has right = record {
+verified : (f : FolderState) (numbers : List ℕ) (served : Option ℕ) → AreNumbersOf f numbers → f.current ≡ option_map number_line served → IfSome served (Contains numbers) → All (IsRightAt f numbers served) numbers → IsUnforked f → IsVerifiedFolder f
+verified f numbers served all named has right unforked = record {
   sound = record {
     each = each f numbers served all right;
     current = λ text is. names f numbers served all right has text (sym named ∙ is);
   };
+  unforked = unforked;
   last = record { served = served; named = named; last = last f numbers served all right };
 }
 
@@ -182,6 +187,69 @@ all_right f numbers served (x ∷ findings) holds are =
     All-cons (IsRightAt f numbers served) x.number (map (λ x. x.number) findings)
     (right_note f numbers served x.number x.note both.0 (All-head (IsFinding f numbers served) x findings are))
     (all_right f numbers served findings both.1 (All-tail (IsFinding f numbers served) x findings are))
+
+-- the finding of a right edition
+pub record IsKnown (f : FolderState) (numbers : List ℕ) (served : Option ℕ) (findings : List EditionFinding) (n : ℕ) : Type 0 where
+  pub follows : Option ℕ
+  pub right : IsRightNumber f numbers served n follows
+  pub has : (k : ℕ) → follows ≡ Some k → Has findings n k
+
+none_in : (n : ℕ) → Contains [] n → ⊥
+none_in n has = absurd (omega (arith, has.1))
+
+only_one : (x n : ℕ) → Contains [] n ⊎ (x ≡ n) → x ≡ n
+only_one x n (inl none) = absurd (none_in n none)
+only_one x n (inr same) = same
+
+head_by : (x n : ℕ) (ns : List ℕ) → Contains (x ∷ []) n ⊎ Contains ns n → (x ≡ n) ⊎ Contains ns n
+head_by x n ns (inl one) = inl (only_one x n (Contains-push_cases [] x n one))
+head_by x n ns (inr more) = inr more
+
+head_or : (x n : ℕ) (ns : List ℕ) → Contains (x ∷ ns) n → (x ≡ n) ⊎ Contains ns n
+head_or x n ns has = head_by x n ns (Contains-append_cases (x ∷ []) ns n has)
+
+known_note : (f : FolderState) (numbers : List ℕ) (served : Option ℕ) (x : EditionFinding) (findings : List EditionFinding) (n : ℕ) (r : EditionNote) → x.number ≡ n → x.note ≡ r → is_right_note r ≡ true → IsNote f numbers served n r → IsKnown f numbers served (x ∷ findings) n
+known_note f numbers served x findings n (note.Right follows) same is holds right = record { follows = follows; right = right; has = λ k e. inl (same, ap followed is ∙ e) }
+known_note f numbers served x findings n (note.Wrong flaw) same is holds right = absurd cc
+
+known_by : (f : FolderState) (numbers : List ℕ) (served : Option ℕ) (x : EditionFinding) (findings : List EditionFinding) (n : ℕ) → is_right_note x.note ≡ true → IsFinding f numbers served x
+    → (Contains (map (λ x. x.number) findings) n → IsKnown f numbers served findings n) → (x.number ≡ n) ⊎ Contains (map (λ x. x.number) findings) n → IsKnown f numbers served (x ∷ findings) n
+known_by f numbers served x findings n holds is more (inl same) =
+    known_note f numbers served x findings n x.note same refl holds (subst (λ (m : ℕ). IsNote f numbers served m x.note) same is)
+known_by f numbers served x findings n holds is more (inr later) =
+    let known = more later in
+    record { follows = known.follows; right = known.right; has = λ k e. inr (known.has k e) }
+
+known : (f : FolderState) (numbers : List ℕ) (served : Option ℕ) (findings : List EditionFinding) (n : ℕ) → list_all is_right findings ≡ true → All (IsFinding f numbers served) findings → Contains (map (λ x. x.number) findings) n
+    → IsKnown f numbers served findings n
+known f numbers served [] n holds are has = absurd (none_in n has)
+known f numbers served (x ∷ findings) n holds are has =
+    let both = and_parts (is_right x) (list_all is_right findings) holds in
+    known_by f numbers served x findings n both.0 (All-head (IsFinding f numbers served) x findings are)
+    (λ later. known f numbers served findings n both.1 (All-tail (IsFinding f numbers served) x findings are) later)
+    (head_or x.number n (map (λ x. x.number) findings) has)
+
+follows_known : (f : FolderState) (numbers : List ℕ) (served : Option ℕ) (n : ℕ) (follows : Option ℕ) (k : ℕ) → IsRightNumber f numbers served n follows → FollowsOne f n k → follows ≡ Some k
+follows_known f numbers served n follows k right one =
+    let there : file_at f n Follows ≡ Some right.kept.text = subst (λ (m : ℕ). file_at f m Follows ≡ Some right.kept.text) right.named right.kept.there in
+    let text : right.kept.text ≡ one.text = same_some right.kept.text one.text (sym there ∙ ap (λ (o : Option FilesSeen). file_of o Follows) one.there ∙ one.is) in
+    sym right.says ∙ same_some right.edition.follows (Some k) (sym right.kept.says ∙ ap follows_in text ∙ one.says)
+
+none_of : (o : Option Fork) → is_none o ≡ true → o ≡ None
+none_of None e = refl
+none_of (Some fork) e = absurd cc
+
+module _ (f : FolderState) (numbers : List ℕ) (served : Option ℕ) (findings : List EditionFinding) (all : AreNumbersOf f numbers) (are : AreFindings f numbers served numbers findings) (holds : list_all is_right findings ≡ true) where
+  at_known : (n k : ℕ) → FollowsOne f n k → IsKnown f numbers served findings n
+  at_known n k one = known f numbers served findings n holds are.are (subst (λ (ns : List ℕ). Contains ns n) (sym are.named) (has_number f numbers n one.files all one.there))
+
+  has_one : (n k : ℕ) → FollowsOne f n k → Has findings n k
+  has_one n k one = let known = at_known n k one in known.has k (follows_known f numbers served n known.follows k known.right one)
+
+  unforked : is_none (first_fork 0 findings) ≡ true → IsUnforked f
+  unforked none = λ m j n k one two below.
+      straight 0 findings m j n k (none_of (first_fork 0 findings) none)
+      (ascending findings (subst (λ (ns : List ℕ). IsNonDecreasing ns) (sym are.named) all.ascending)) (from_zero findings) (has_one m j one) (has_one n k two) below
 
 -- what `current` names, if that is right
 pub record IsNamedRight (text : Option (List ℕ)) (numbers : List ℕ) (served : Option ℕ) : Type 0 where
@@ -217,12 +285,14 @@ cleared_right false e = absurd cc
 
 verified_found : (f : FolderState) (numbers : List ℕ) (c : FoundCurrent) (findings : List EditionFinding) → IsFoundIn f numbers c findings → verify_status c findings ≡ Cleared → IsVerifiedFolder f
 verified_found f numbers c findings found cleared =
-    let both = and_parts (is_right_current c) (list_all is_right findings) (cleared_right (is_all_right c findings) cleared) in
+    let parts = and_parts (is_right_current c && list_all is_right findings) (is_none (first_fork 0 findings)) (cleared_right (is_all_right c findings) cleared) in
+    let both = and_parts (is_right_current c) (list_all is_right findings) parts.0 in
     let served = served_of c numbers in
     let named : IsNamedRight f.current numbers served = subst (λ (d : FoundCurrent). IsNamedRight f.current numbers (served_of d numbers)) (sym found.named)
     (named_right numbers f.current (subst (λ (d : FoundCurrent). is_right_current d ≡ true) found.named both.0)) in
     verified f numbers served found.all named.named named.has
     (subst (λ (ns : List ℕ). All (IsRightAt f numbers served) ns) found.each.named (all_right f numbers served findings both.1 found.each.are))
+    (unforked f numbers served findings found.all found.each both.1 parts.1)
 
 pub verified_in : (o : Option FolderState) (numbers : List ℕ) (c : FoundCurrent) (findings : List EditionFinding) → IfSome o (λ f. IsFoundIn f numbers c findings) → verify_status c findings ≡ Cleared → IfSome o IsVerifiedFolder
 verified_in None numbers c findings found cleared = tt

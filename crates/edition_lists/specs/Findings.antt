@@ -1,5 +1,5 @@
 -- What is found of the editions of a folder.
-use Rattle.std.specs.Prelude.{◌≡◌, ℕ, Bool, true, false, ◌&&◌, if◌then◌else◌, List, map, Option, Some, None}
+use Rattle.std.specs.Prelude.{◌≡◌, ℕ, Bool, true, false, ◌&&◌, if◌then◌else◌, List, map, Option, Some, None, is_none}
 use Rattle.std.specs.List.{All, list_all}
 use Rattle.editions.specs.Folders.{FolderState}
 use Rattle.edition_lists.specs.declared.current.FoundCurrent.{FoundCurrent}
@@ -14,6 +14,7 @@ use Rattle.edition_lists.specs.declared.status.EditionsStatus.{EditionsStatus}
 use Rattle.edition_lists.specs.declared.status.EditionsStatus.TheVariants.{Cleared, Refused}
 use Rattle.edition_lists.specs.Currents.{found_current, served_of}
 use Rattle.edition_lists.specs.VerifyLines.{verify_text}
+use Rattle.edition_lists.specs.Forks.{first_fork}
 use Rattle.edition_lists.specs.Judged.{IsRightNumber, AreNumbersOf}
 
 -- what is found of an edition that was judged
@@ -58,7 +59,7 @@ is_right_current Unread = false
 
 -- whether all is right
 abbrev pub is_all_right : FoundCurrent → List EditionFinding → Bool
-is_all_right current findings = is_right_current current && list_all is_right findings
+is_all_right current findings = (is_right_current current && list_all is_right findings) && is_none (first_fork 0 findings)
 
 abbrev pub verify_status : FoundCurrent → List EditionFinding → EditionsStatus
 verify_status current findings = if is_all_right current findings then Cleared else Refused

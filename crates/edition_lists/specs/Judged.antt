@@ -1,7 +1,7 @@
 -- How editions are judged.
 use Rattle.std.specs.Prelude.{◌≡◌, ◌<◌, ◌≤◌, ◌⊎◌, ℕ, List, Option, Some, None, IfSome, map}
 use Rattle.std.specs.List.{All}
-use Rattle.std.specs.List.Sorted.{IsPermutation}
+use Rattle.std.specs.List.Sorted.{IsPermutation, IsNonDecreasing}
 use Rattle.editions.specs.declared.edition_file.EditionFile.TheVariants.{Cert, Follows}
 use Rattle.editions.specs.Folders.{FilesSeen, FolderState, SeenFolder, edition_among, file_at}
 use Rattle.editions.specs.NumberLines.{follows_in, follows_text}
@@ -82,9 +82,10 @@ pub record IsRightNumber (f : FolderState) (numbers : List ℕ) (served : Option
   pub kept : IsKeptEdition f edition
   pub right : IsJudgedRight f numbers served edition
 
--- the numbers of all editions, in some order
-abbrev pub AreNumbersOf : FolderState → List ℕ → Type 0
-AreNumbersOf f numbers = IsPermutation (map (λ e. e.0) f.editions) numbers
+-- the numbers of all editions, ascending
+pub record AreNumbersOf (f : FolderState) (numbers : List ℕ) : Type 0 where
+  pub all : IsPermutation (map (λ e. e.0) f.editions) numbers
+  pub ascending : IsNonDecreasing numbers
 
 -- an edition of this number is there and sound, and the one that is served isn't passed by it
 pub record IsRightEdition (f : FolderState) (served : Option ℕ) (n : ℕ) : Type 0 where

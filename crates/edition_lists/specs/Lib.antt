@@ -2,6 +2,7 @@ pub mod Currents
 pub mod EditionsStatuses
 pub mod Findings
 pub mod FolderChains
+pub mod Forks
 pub mod Judged
 pub mod Kept
 pub mod ListLines

@@ -1,5 +1,5 @@
 -- What is found in a folder.
-use Rattle.std.specs.Prelude.{◌≡◌, ◌≤◌, ◌⊎◌, ℕ, List, Option, Some, None, option_map}
+use Rattle.std.specs.Prelude.{◌≡◌, ◌<◌, ◌≤◌, ◌⊎◌, ℕ, List, Option, Some, None, option_map}
 use Rattle.editions.specs.Folders.{FilesSeen, FolderState, edition_among}
 use Rattle.editions.specs.NumberLines.{number_line, follows_in}
 use Rattle.editions.specs.Moments.{IsSoundFolder}
@@ -25,8 +25,21 @@ pub record IsServedLast (f : FolderState) : Type 0 where
   pub last : (n : ℕ) (files : FilesSeen) (text : List ℕ) (follows : Option ℕ) → edition_among f.editions n ≡ Some files
       → files.follows ≡ Some text → follows_in text ≡ Some follows → IsNotPassed f.editions served n follows
 
+-- an edition of this number is there, and its text says that it follows that one
+pub record FollowsOne (f : FolderState) (n k : ℕ) : Type 0 where
+  pub files : FilesSeen
+  pub text : List ℕ
+  pub there : edition_among f.editions n ≡ Some files
+  pub is : files.follows ≡ Some text
+  pub says : follows_in text ≡ Some (Some k)
+
+-- what an edition follows isn't before another one that follows an edition and comes before it: so no two follow the same one
+abbrev pub IsUnforked : FolderState → Type 0
+IsUnforked f = (m j n k : ℕ) → FollowsOne f m j → FollowsOne f n k → m < n → m ≤ k
+
 -- each edition is whole, has the sums of its files, and was cleared, by itself and against the one that it follows, which is there;
--- and `current` names one, the last of its chain, or nothing is published
+-- no two follow the same one; and `current` names one, the last of its chain, or nothing is published
 pub record IsVerifiedFolder (f : FolderState) : Type 0 where
   pub sound : IsSoundFolder f
+  pub unforked : IsUnforked f
   pub last : IsServedLast f

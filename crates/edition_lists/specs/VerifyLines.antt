@@ -1,5 +1,5 @@
 -- What `editions --verify` prints.
-use Rattle.std.specs.Prelude.{ℕ, List, [], ◌++◌, codes, decimal, length, ◌==◌, if◌then◌else◌, Option, Some, flat_map}
+use Rattle.std.specs.Prelude.{ℕ, List, [], ◌++◌, codes, decimal, length, ◌==◌, if◌then◌else◌, Option, Some, None, flat_map}
 use Rattle.checker.specs.declared.verdict.Verdict.{Verdict}
 use Rattle.checker.specs.declared.change.ChangeVerdict.{ChangeVerdict}
 use Rattle.audit_report.specs.Lines.{verdict_text, change_text}
@@ -17,7 +17,9 @@ use Rattle.edition_lists.specs.declared.serving.Serving.{Serving}
 use Rattle.edition_lists.specs.declared.serving.Serving.TheVariants.{NotYet}
 use Rattle.edition_lists.specs.declared.status.EditionsStatus.{EditionsStatus}
 use Rattle.edition_lists.specs.declared.status.EditionsStatus.TheVariants as status
+use Rattle.edition_lists.specs.declared.forks.Fork.{Fork}
 use Rattle.edition_lists.specs.Servings.{serving_of}
+use Rattle.edition_lists.specs.Forks.{first_fork}
 
 -- the path of an edition's folder
 abbrev pub folder_words : List ℕ → ℕ → List ℕ
@@ -73,6 +75,14 @@ finding_line folder served x = note_line folder served x.number x.note
 abbrev pub findings_text : List ℕ → Option ℕ → List EditionFinding → List ℕ
 findings_text folder served findings = flat_map (finding_line folder served) findings
 
+-- the first edition that doesn't follow the one before it in its chain
+abbrev pub between_line : Fork → List ℕ
+between_line fork = follows_line fork.number fork.follows [] ++ (codes ", but edition " ++ (decimal fork.between ++ codes " comes between them\n"))
+
+abbrev pub fork_line : Option Fork → List ℕ
+fork_line None = []
+fork_line (Some fork) = between_line fork
+
 abbrev pub lacking_line : List ℕ → ℕ → List ℕ
 lacking_line folder n = folder ++ (codes "/current: edition " ++ (decimal n ++ codes " isn't there\n"))
 
@@ -106,4 +116,5 @@ status_line status.Refused = codes "REFUSED\n"
 -- all that is printed
 abbrev pub verify_text : List ℕ → FoundCurrent → Option ℕ → List EditionFinding → EditionsStatus → List ℕ
 verify_text folder c served findings s =
-    current_line folder c ++ (findings_text folder served findings ++ (counts_line (length findings) c ++ status_line s))
+    current_line folder c
+    ++ (findings_text folder served findings ++ (fork_line (first_fork 0 findings) ++ (counts_line (length findings) c ++ status_line s)))

@@ -11,7 +11,7 @@
 //!   If it answers [`EditionsStatus::Cleared`], the folder is sound; [`sound_folders_are_safe`] says what that means for callers.
 //! - [`EditionsStatus`], [`EditionsFault`], [`FolderFault`], [`status_of_editions`]: what a run found, why it ended early, and the exit
 //!   status for it.
-//! - Definitions: what a run finds in a folder (`Judged`, `Findings`, `Rows`), the texts (`VerifyLines`, `ListLines`, `Runs`), what a
+//! - Definitions: what a run finds in a folder (`Judged`, `Findings`, `Forks`, `Rows`), the texts (`VerifyLines`, `ListLines`, `Runs`), what a
 //!   cleared folder is (`Verified`), its chains (`FolderChains`), the exit status (`EditionsStatuses`).
 #![tactic(auto)]
 
@@ -19,6 +19,7 @@ mod current;
 mod fault;
 mod finding;
 mod following;
+mod forks;
 mod judging;
 mod kept;
 mod laws;

@@ -6,6 +6,7 @@ ghost use Rattle.edition_lists.specs.VerifyLines as spec;
 use crate::current::FoundCurrent;
 use crate::fault::EditionFlaw;
 use crate::finding::{EditionFinding, EditionNote};
+use crate::forks::{Fork, first_fork};
 use crate::numbered::push_numbered;
 use crate::serving::{Serving, serving_of};
 use crate::status::EditionsStatus;
@@ -187,6 +188,27 @@ fn findings_text(
     Ok(out)
 }
 
+fn push_between(out: &mut Vec<u8>, fork: &Fork) -> Result<(), AllocError>
+    ensures { OnOk result (out.new.items ≡ out.old.items ++ spec.between_line fork.now) }
+{
+    push_follows(out, fork.number, fork.follows, b"")?;
+    push_numbered(
+        out,
+        b", but edition ",
+        fork.between,
+        b" comes between them\n",
+    )
+}
+
+fn push_fork(out: &mut Vec<u8>, fork: Option<Fork>) -> Result<(), AllocError>
+    ensures { OnOk result (out.new.items ≡ out.old.items ++ spec.fork_line fork) }
+{
+    match fork {
+        Some(fork) => push_between(out, &fork),
+        None => Ok(()),
+    }
+}
+
 fn push_lacking(out: &mut Vec<u8>, folder: &str, number: u32) -> Result<(), AllocError>
     ensures { OnOk result (out.new.items ≡ out.old.items ++ spec.lacking_line folder.now number) }
 {
@@ -248,6 +270,18 @@ fn status_line(status: EditionsStatus) -> &'static [u8]
     }
 }
 
+fn push_end(
+    out: &mut Vec<u8>,
+    count: usize,
+    current: FoundCurrent,
+    status: EditionsStatus,
+) -> Result<(), AllocError>
+    ensures { OnOk result (out.new.items ≡ out.old.items ++ (spec.counts_line count current ++ spec.status_line status)) }
+{
+    push_counts(out, count, current)?;
+    out.extend_from_slice(status_line(status))
+}
+
 /// What is printed of a folder: what is wrong with `current` and with each edition, in the order of their numbers, and which one
 /// isn't served yet; how many editions there are, and the verdict.
 pub fn verify_text(
@@ -264,7 +298,7 @@ pub fn verify_text(
     let mut out = Vec::new(alloc);
     push_current(&mut out, folder, current)?;
     out.extend_from_slice(lines.as_slice())?;
-    push_counts(&mut out, findings.len(), current)?;
-    out.extend_from_slice(status_line(status))?;
+    push_fork(&mut out, first_fork(findings))?;
+    push_end(&mut out, findings.len(), current, status)?;
     Ok(out)
 }

@@ -11,6 +11,7 @@ ghost use Rattle.edition_lists.specs.Verified.{IsVerifiedFolder};
 use crate::current::{FoundCurrent, read_current, served_of};
 use crate::fault::{EditionsFault, FolderFault};
 use crate::finding::{EditionFinding, are_right, note_of};
+use crate::forks::first_fork;
 use crate::judging::{JudgedEdition, judge_edition};
 use crate::kept::KeptEdition;
 use crate::numbers::sorted_numbers;
@@ -148,7 +149,7 @@ fn is_right_current(current: FoundCurrent) -> bool
 fn verify_status(current: FoundCurrent, findings: &[EditionFinding]) -> EditionsStatus
     ensures { result ≡ spec.verify_status current findings.now }
 {
-    if is_right_current(current) && are_right(findings) {
+    if is_right_current(current) && are_right(findings) && first_fork(findings).is_none() {
         EditionsStatus::Cleared
     } else {
         EditionsStatus::Refused
