@@ -4,6 +4,7 @@ import hashlib
 import re
 from dataclasses import dataclass
 from pathlib import Path
+from typing import NamedTuple
 
 from .base import MOST_GROUP, MOST_GROUPS, Answer, Groups, Policy, Refused, lines_text
 from .certificate import certificate_of, refusal
@@ -80,6 +81,15 @@ def number_in(text: bytes) -> int:
     return int(found[1])
 
 
+class Judged(NamedTuple):
+    """An edition, whether it is right, what it then follows, and what is said of it."""
+
+    number: int
+    is_right: bool
+    follows: int | None = None
+    said: str | None = None
+
+
 @dataclass
 class FolderReading:
     """A folder, the path by which it is named, and the numbers of its editions."""
@@ -137,22 +147,32 @@ class FolderReading:
         if fault := change_refusal(old.edition, kept.edition, Policy(ceiling, keyings, kept.policy.groups)):
             raise Wrong(f"{said}: {fault}")
 
-    def line(self, number: int, served: int | None) -> tuple[bool, str | None]:
-        """Whether an edition is right, and what is said of it."""
+    def judge(self, number: int, served: int | None) -> Judged:
         try:
             kept = self.kept(number)
             self.judge_own(number, kept)
             if (follows := kept.follows) is None:
-                return True, None
+                return Judged(number, True)
             self.judge_change(number, kept, follows)
         except Wrong as wrong:
-            return False, str(wrong)
+            return Judged(number, False, None, str(wrong))
         said = f"edition {number} follows {follows}"
         if served is not None and number <= served:
-            return True, None
+            return Judged(number, True, follows)
         if follows == served and number == self.numbers[-1]:
-            return True, f"{said}, and isn't served yet"
-        return False, f"{said}, and is after the one that is served"
+            return Judged(number, True, follows, f"{said}, and isn't served yet")
+        return Judged(number, False, None, f"{said}, and is after the one that is served")
+
+
+def fork_in(judged: list[Judged]) -> str | None:
+    """What is said of the first edition that doesn't follow the last one that follows another."""
+    last = 0
+    for one in judged:
+        if one.follows is not None:
+            if one.follows < last:
+                return f"edition {one.number} follows {one.follows}, but edition {last} comes between them"
+            last = one.number
+    return None
 
 
 def verified(live: Path, name: str) -> Answer:
@@ -170,10 +190,10 @@ def verified(live: Path, name: str) -> Answer:
         except Refused:
             right, ending, served = False, "", numbers[-1] if numbers else None
             lines = [f"{name}/current: no number of an edition and a line end"]
-    for number in numbers:
-        is_right, said = folder.line(number, served)
-        right = right and is_right
-        lines += [said] if said else []
+    judged = [folder.judge(number, served) for number in numbers]
+    fork = fork_in(judged)
+    right = right and fork is None and all(one.is_right for one in judged)
+    lines += [said for said in [*(one.said for one in judged), fork] if said]
     count = f"{len(numbers)} edition" + ("" if len(numbers) == 1 else "s")
     lines += [count + ending, "CLEARED" if right else "REFUSED"]
     return Answer(int(not right), lines_text(lines))

@@ -151,5 +151,5 @@ pub folders_safe : SoundFoldersAreSafe
 folders_safe = record {
   cleared = λ f follows e sound is. clear f sound follows e is;
   change = change_safe;
-  changes = chain_safe;
+  changes = λ f sound first second more chain. chain_safe f first second more sound chain;
 }

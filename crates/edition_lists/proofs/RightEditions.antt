@@ -29,10 +29,12 @@ use Rattle.edition_lists.specs.Verified.{IsNotPassed, FollowsOne, IsUnforked, Is
 use Rattle.edition_lists.specs.declared.forks.Fork.{Fork}
 use Rattle.edition_lists.specs.Forks.{followed, first_fork}
 use Rattle.edition_lists.specs.Currents.{is_among, found_by, found_current, served_of}
-use Rattle.edition_lists.specs.Findings.{is_right_note, is_right, IsNote, IsFinding, is_right_current, is_all_right, verify_status, AreFindings, IsFoundIn}
+use Rattle.edition_lists.specs.Findings.{is_right_note, is_right, IsEditionNote, IsEditionFinding, is_right_current, is_all_right, verify_status, AreFindings, IsFoundIn}
 use Rattle.edition_lists.specs.Runs.{IsVerification, IsRun}
-use Rattle.edition_lists.specs.Judged.{kept_view, HasItsSums, IsFollowingKept, IsWithinNumbers, IsJudgedRight, IsRightNumber, AreNumbersOf, IsRightEdition}
-use Rattle.edition_lists.proofs.FolderLaws.{same_some}
+use Rattle.edition_lists.specs.Judged.{kept_view, HasItsSums, IsFollowingKept, IsWithinNumbers, IsJudgedRight, IsRightNumber, AreNumbersOf}
+use Rattle.edition_lists.specs.FolderChains.{AreChainsSafe}
+use Rattle.edition_lists.specs.Loops.{IsRightEdition}
+use Rattle.edition_lists.proofs.FolderLaws.{same_some, folders_safe}
 use Rattle.edition_lists.proofs.NoForks.{Has, straight, ascending, from_zero}
 
 -- All files of an edition that was read are there.
@@ -175,18 +177,18 @@ verified f numbers served all named has right unforked = record {
 
 -- What was found of it.
 
-right_note : (f : FolderState) (numbers : List ℕ) (served : Option ℕ) (n : ℕ) (r : EditionNote) → is_right_note r ≡ true → IsNote f numbers served n r → IsRightAt f numbers served n
+right_note : (f : FolderState) (numbers : List ℕ) (served : Option ℕ) (n : ℕ) (r : EditionNote) → is_right_note r ≡ true → IsEditionNote f numbers served n r → IsRightAt f numbers served n
 right_note f numbers served n (note.Right follows) holds is = (follows, is)
 right_note f numbers served n (note.Wrong flaw) holds is = absurd cc
 
-all_right : (f : FolderState) (numbers : List ℕ) (served : Option ℕ) (findings : List EditionFinding) → list_all is_right findings ≡ true → All (IsFinding f numbers served) findings
+all_right : (f : FolderState) (numbers : List ℕ) (served : Option ℕ) (findings : List EditionFinding) → list_all is_right findings ≡ true → All (IsEditionFinding f numbers served) findings
     → All (IsRightAt f numbers served) (map (λ x. x.number) findings)
 all_right f numbers served [] holds are = All-nil (IsRightAt f numbers served)
 all_right f numbers served (x ∷ findings) holds are =
     let both = and_parts (is_right x) (list_all is_right findings) holds in
     All-cons (IsRightAt f numbers served) x.number (map (λ x. x.number) findings)
-    (right_note f numbers served x.number x.note both.0 (All-head (IsFinding f numbers served) x findings are))
-    (all_right f numbers served findings both.1 (All-tail (IsFinding f numbers served) x findings are))
+    (right_note f numbers served x.number x.note both.0 (All-head (IsEditionFinding f numbers served) x findings are))
+    (all_right f numbers served findings both.1 (All-tail (IsEditionFinding f numbers served) x findings are))
 
 -- the finding of a right edition
 pub record IsKnown (f : FolderState) (numbers : List ℕ) (served : Option ℕ) (findings : List EditionFinding) (n : ℕ) : Type 0 where
@@ -208,25 +210,25 @@ head_by x n ns (inr more) = inr more
 head_or : (x n : ℕ) (ns : List ℕ) → Contains (x ∷ ns) n → (x ≡ n) ⊎ Contains ns n
 head_or x n ns has = head_by x n ns (Contains-append_cases (x ∷ []) ns n has)
 
-known_note : (f : FolderState) (numbers : List ℕ) (served : Option ℕ) (x : EditionFinding) (findings : List EditionFinding) (n : ℕ) (r : EditionNote) → x.number ≡ n → x.note ≡ r → is_right_note r ≡ true → IsNote f numbers served n r → IsKnown f numbers served (x ∷ findings) n
+known_note : (f : FolderState) (numbers : List ℕ) (served : Option ℕ) (x : EditionFinding) (findings : List EditionFinding) (n : ℕ) (r : EditionNote) → x.number ≡ n → x.note ≡ r → is_right_note r ≡ true → IsEditionNote f numbers served n r → IsKnown f numbers served (x ∷ findings) n
 known_note f numbers served x findings n (note.Right follows) same is holds right = record { follows = follows; right = right; has = λ k e. inl (same, ap followed is ∙ e) }
 known_note f numbers served x findings n (note.Wrong flaw) same is holds right = absurd cc
 
-known_by : (f : FolderState) (numbers : List ℕ) (served : Option ℕ) (x : EditionFinding) (findings : List EditionFinding) (n : ℕ) → is_right_note x.note ≡ true → IsFinding f numbers served x
+known_by : (f : FolderState) (numbers : List ℕ) (served : Option ℕ) (x : EditionFinding) (findings : List EditionFinding) (n : ℕ) → is_right_note x.note ≡ true → IsEditionFinding f numbers served x
     → (Contains (map (λ x. x.number) findings) n → IsKnown f numbers served findings n) → (x.number ≡ n) ⊎ Contains (map (λ x. x.number) findings) n → IsKnown f numbers served (x ∷ findings) n
 known_by f numbers served x findings n holds is more (inl same) =
-    known_note f numbers served x findings n x.note same refl holds (subst (λ (m : ℕ). IsNote f numbers served m x.note) same is)
+    known_note f numbers served x findings n x.note same refl holds (subst (λ (m : ℕ). IsEditionNote f numbers served m x.note) same is)
 known_by f numbers served x findings n holds is more (inr later) =
     let known = more later in
     record { follows = known.follows; right = known.right; has = λ k e. inr (known.has k e) }
 
-known : (f : FolderState) (numbers : List ℕ) (served : Option ℕ) (findings : List EditionFinding) (n : ℕ) → list_all is_right findings ≡ true → All (IsFinding f numbers served) findings → Contains (map (λ x. x.number) findings) n
+known : (f : FolderState) (numbers : List ℕ) (served : Option ℕ) (findings : List EditionFinding) (n : ℕ) → list_all is_right findings ≡ true → All (IsEditionFinding f numbers served) findings → Contains (map (λ x. x.number) findings) n
     → IsKnown f numbers served findings n
 known f numbers served [] n holds are has = absurd (none_in n has)
 known f numbers served (x ∷ findings) n holds are has =
     let both = and_parts (is_right x) (list_all is_right findings) holds in
-    known_by f numbers served x findings n both.0 (All-head (IsFinding f numbers served) x findings are)
-    (λ later. known f numbers served findings n both.1 (All-tail (IsFinding f numbers served) x findings are) later)
+    known_by f numbers served x findings n both.0 (All-head (IsEditionFinding f numbers served) x findings are)
+    (λ later. known f numbers served findings n both.1 (All-tail (IsEditionFinding f numbers served) x findings are) later)
     (head_or x.number n (map (λ x. x.number) findings) has)
 
 follows_known : (f : FolderState) (numbers : List ℕ) (served : Option ℕ) (n : ℕ) (follows : Option ℕ) (k : ℕ) → IsRightNumber f numbers served n follows → FollowsOne f n k → follows ≡ Some k
@@ -297,6 +299,10 @@ verified_found f numbers c findings found cleared =
 pub verified_in : (o : Option FolderState) (numbers : List ℕ) (c : FoundCurrent) (findings : List EditionFinding) → IfSome o (λ f. IsFoundIn f numbers c findings) → verify_status c findings ≡ Cleared → IfSome o IsVerifiedFolder
 verified_in None numbers c findings found cleared = tt
 verified_in (Some f) numbers c findings found cleared = verified_found f numbers c findings found cleared
+
+pub safe_in : (o : Option FolderState) → IfSome o IsVerifiedFolder → IfSome o AreChainsSafe
+safe_in None verified = tt
+safe_in (Some f) verified = folders_safe.changes f verified.sound
 
 -- the same of what a run answers
 pub verified_run : (seen : SeenFolder) (folder : List ℕ) (old new : Seen) (r : Result EditionsStatus EditionsFault) → IsRun (IsVerification seen folder) old new r → r ≡ Ok Cleared → IfSome seen.state IsVerifiedFolder

@@ -16,13 +16,13 @@ abbrev pub found_by : List ℕ → Option ℕ → FoundCurrent
 found_by numbers None = Unread
 found_by numbers (Some n) = found_among numbers n
 
-abbrev pub found_in : List ℕ → List ℕ → FoundCurrent
-found_in numbers text = found_by numbers (current_in text)
+abbrev pub found_by_text : List ℕ → List ℕ → FoundCurrent
+found_by_text numbers text = found_by numbers (current_in text)
 
 -- by the numbers of all editions, and the bytes of `current`, if there
 abbrev pub found_current : List ℕ → Option (List ℕ) → FoundCurrent
 found_current numbers None = Nothing
-found_current numbers (Some text) = found_in numbers text
+found_current numbers (Some text) = found_by_text numbers text
 
 -- the edition beside which the others are judged: the last one, if `current` names no number
 abbrev pub served_of : FoundCurrent → List ℕ → Option ℕ

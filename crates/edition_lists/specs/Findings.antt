@@ -17,11 +17,6 @@ use Rattle.edition_lists.specs.VerifyLines.{verify_text}
 use Rattle.edition_lists.specs.Forks.{first_fork}
 use Rattle.edition_lists.specs.Judged.{IsRightNumber, AreNumbersOf}
 
--- what is found of an edition that was judged
-abbrev pub note_of : JudgedEdition → EditionNote
-note_of (judged.Right e) = note.Right e.follows
-note_of (judged.Wrong flaw) = note.Wrong flaw
-
 abbrev pub is_right_note : EditionNote → Bool
 is_right_note (note.Right follows) = true
 is_right_note (note.Wrong flaw) = false
@@ -29,26 +24,18 @@ is_right_note (note.Wrong flaw) = false
 abbrev pub is_right : EditionFinding → Bool
 is_right x = is_right_note x.note
 
-abbrev pub finding_of : ℕ → JudgedEdition → EditionFinding
-finding_of n j = record { number = n; note = note_of j }
-
--- the edition that was read, if it is right
-abbrev pub kept_of : JudgedEdition → Option KeptEdition
-kept_of (judged.Right e) = Some e
-kept_of (judged.Wrong flaw) = None
-
 -- what is found of the edition of a number is so, by the numbers of all editions and the one that is served
-abbrev pub IsNote : FolderState → List ℕ → Option ℕ → ℕ → EditionNote → Type 0
-IsNote f numbers served n (note.Right follows) = IsRightNumber f numbers served n follows
-IsNote f numbers served n (note.Wrong flaw) = Unit {0}
+abbrev pub IsEditionNote : FolderState → List ℕ → Option ℕ → ℕ → EditionNote → Type 0
+IsEditionNote f numbers served n (note.Right follows) = IsRightNumber f numbers served n follows
+IsEditionNote f numbers served n (note.Wrong flaw) = Unit {0}
 
-abbrev pub IsFinding : FolderState → List ℕ → Option ℕ → EditionFinding → Type 0
-IsFinding f numbers served x = IsNote f numbers served x.number x.note
+abbrev pub IsEditionFinding : FolderState → List ℕ → Option ℕ → EditionFinding → Type 0
+IsEditionFinding f numbers served x = IsEditionNote f numbers served x.number x.note
 
 -- a finding for each of some numbers, in their order
 pub record AreFindings (f : FolderState) (numbers : List ℕ) (served : Option ℕ) (some : List ℕ) (findings : List EditionFinding) : Type 0 where
   pub named : map (λ x. x.number) findings ≡ some
-  pub are : All (IsFinding f numbers served) findings
+  pub are : All (IsEditionFinding f numbers served) findings
 
 -- whether `current` names an edition that is there, or there is no such file
 abbrev pub is_right_current : FoundCurrent → Bool

@@ -27,6 +27,13 @@ AreAfter f e (g ∷ more) = IsInFolder f (Some e.number) g × AreAfter f g more
 abbrev pub IsFolderChain : FolderState → ChainedEdition → List ChainedEdition → Type 0
 IsFolderChain f e more = ((follows : Option ℕ) × IsInFolder f follows e) × AreAfter f e more
 
+-- callers are safe over any number of changes along a chain, from whichever edition on, by the widest policy of these callers
+abbrev pub AreChainsSafe : FolderState → Type 0
+AreChainsSafe f =
+    (first second : ChainedEdition) (more : List ChainedEdition) → IsFolderChain f first (second ∷ more)
+    → IsSafeOverChanges (widest_of first.edition.policy.groups) first.edition.edition
+    (second.edition.edition ∷ map (λ e. e.edition.edition) more)
+
 -- In a sound folder: the check clears each edition of a chain by its own policy; callers are safe over each change, by the wider of
 -- the two policies; and over any number of changes, from whichever edition on, by the widest policy of these callers.
 pub record SoundFoldersAreSafe : Type 0 where
@@ -35,7 +42,4 @@ pub record SoundFoldersAreSafe : Type 0 where
   pub change : (f : FolderState) (old new : ChainedEdition) → IsSoundFolder f → IsFolderChain f old (new ∷ [])
       → IsSafeChange (wider_of old.edition.policy new.edition.policy) old.edition.edition.base old.edition.edition.cert
       new.edition.edition.base new.edition.edition.cert
-  pub changes : (f : FolderState) (first second : ChainedEdition) (more : List ChainedEdition) → IsSoundFolder f
-      → IsFolderChain f first (second ∷ more)
-      → IsSafeOverChanges (widest_of first.edition.policy.groups) first.edition.edition
-      (second.edition.edition ∷ map (λ e. e.edition.edition) more)
+  pub changes : (f : FolderState) → IsSoundFolder f → AreChainsSafe f

@@ -18,12 +18,6 @@ use Rattle.edition_lists.specs.Verified.{IsNotPassed}
 abbrev pub kept_view : KeptEdition → EditionView
 kept_view e = served_view e.follows e.served
 
--- the text of `follows` is there, and says this
-pub record SaysFollows (f : FolderState) (number : ℕ) (follows : Option ℕ) : Type 0 where
-  pub text : List ℕ
-  pub there : file_at f number Follows ≡ Some text
-  pub says : follows_in text ≡ Some follows
-
 -- its SHA256SUMS has the sums of its other files
 pub record HasItsSums (f : FolderState) (e : KeptEdition) : Type 0 where
   pub cert : List ℕ
@@ -63,17 +57,6 @@ pub record IsJudgedRight (f : FolderState) (numbers : List ℕ) (served : Option
   pub follows : IsFollowingKept f e e.follows
   pub within : IsWithinNumbers numbers served e.served.number e.follows
 
--- if an edition is right: of it
-abbrev pub IfRight : JudgedEdition → (KeptEdition → Type 0) → Type 0
-IfRight (Right e) P = P e
-IfRight (Wrong fault) P = Unit {0}
-
--- the edition of this number was read and is right
-pub record IsRightNow (seen : SeenFolder) (numbers : List ℕ) (served : Option ℕ) (number : ℕ) (e : KeptEdition) : Type 0 where
-  pub named : e.served.number ≡ number
-  pub kept : IfSome seen.state (λ f. IsKeptEdition f e)
-  pub right : IfSome seen.state (λ f. IsJudgedRight f numbers served e)
-
 -- the same of a folder; and that it follows this one
 pub record IsRightNumber (f : FolderState) (numbers : List ℕ) (served : Option ℕ) (number : ℕ) (follows : Option ℕ) : Type 0 where
   pub edition : KeptEdition
@@ -86,14 +69,3 @@ pub record IsRightNumber (f : FolderState) (numbers : List ℕ) (served : Option
 pub record AreNumbersOf (f : FolderState) (numbers : List ℕ) : Type 0 where
   pub all : IsPermutation (map (λ e. e.0) f.editions) numbers
   pub ascending : IsNonDecreasing numbers
-
--- an edition of this number is there and sound, and the one that is served isn't passed by it
-pub record IsRightEdition (f : FolderState) (served : Option ℕ) (n : ℕ) : Type 0 where
-  pub files : FilesSeen
-  pub there : edition_among f.editions n ≡ Some files
-  pub sound : IsSoundEdition f.editions n files
-  pub passed : IsNotPassed f.editions served n sound.view.follows
-
--- what was read before, if anything was
-abbrev pub IsKeptBefore : SeenFolder → Option KeptEdition → Type 0
-IsKeptBefore seen before = IfSome before (λ e. IfSome seen.state (λ f. IsKeptEdition f e))

@@ -6,6 +6,7 @@ pub mod Forks
 pub mod Judged
 pub mod Kept
 pub mod ListLines
+pub mod Loops
 pub mod Rows
 pub mod Runs
 pub mod Servings

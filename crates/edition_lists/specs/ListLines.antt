@@ -43,10 +43,10 @@ abbrev pub edition_line : ℕ → EditionRow → List ℕ
 edition_line width row = row_head width row ++ row_rest width row
 
 -- a line for each row
-abbrev pub rows_text : ℕ → List EditionRow → List ℕ
-rows_text width rows = flat_map (edition_line width) rows
+abbrev pub rows_lines : ℕ → List EditionRow → List ℕ
+rows_lines width rows = flat_map (edition_line width) rows
 
 -- the lines, or that there is none; the columns are as wide as the longest of the numbers
 abbrev pub list_text : List ℕ → List EditionRow → List ℕ
 list_text numbers [] = codes "nothing is published\n"
-list_text numbers (row ∷ rows) = rows_text (number_width numbers) (row ∷ rows)
+list_text numbers (row ∷ rows) = rows_lines (number_width numbers) (row ∷ rows)

@@ -29,12 +29,6 @@ pub record IsRowOf (numbers : List ℕ) (served : Option ℕ) (e : KeptEdition) 
   pub lacks : row.lacks ≡ lack_of numbers e.follows
   pub frames : BeginsWithCount (length e.served.base.frames) row.summary.items
 
--- a row was added for an edition
-pub record AddsRow (numbers : List ℕ) (served : Option ℕ) (e : KeptEdition) (old new : List EditionRow) : Type 0 where
-  pub row : EditionRow
-  pub is : IsRowOf numbers served e row
-  pub added : new ≡ old ++ row ∷ []
-
 -- the row of an edition of a folder
 pub record IsRowIn (f : FolderState) (numbers : List ℕ) (served : Option ℕ) (row : EditionRow) : Type 0 where
   pub edition : KeptEdition
@@ -42,7 +36,7 @@ pub record IsRowIn (f : FolderState) (numbers : List ℕ) (served : Option ℕ) 
   pub is : IsRowOf numbers served edition row
 
 -- a row for each of some numbers, in their order
-pub record AreRows (f : FolderState) (numbers : List ℕ) (served : Option ℕ) (some : List ℕ) (rows : List EditionRow) : Type 0 where
+pub record AreEditionRows (f : FolderState) (numbers : List ℕ) (served : Option ℕ) (some : List ℕ) (rows : List EditionRow) : Type 0 where
   pub named : map (λ r. r.number) rows ≡ some
   pub are : All (IsRowIn f numbers served) rows
 
@@ -57,4 +51,4 @@ pub record AreListedIn (f : FolderState) (numbers : List ℕ) (rows : List Editi
   pub current : FoundCurrent
   pub named : current ≡ found_current numbers f.current
   pub read : is_read current ≡ true
-  pub each : AreRows f numbers (served_of current numbers) numbers rows
+  pub each : AreEditionRows f numbers (served_of current numbers) numbers rows

@@ -22,21 +22,15 @@ pub record IsVerification (seen : SeenFolder) (folder text : List ℕ) (status :
   pub said : IsSaidOf folder numbers current findings text status
 
 -- the text is that of the rows of the folder's editions
-pub record IsListing (seen : SeenFolder) (text : List ℕ) (status : EditionsStatus) : Type 0 where
+pub record IsEditionsText (seen : SeenFolder) (text : List ℕ) (status : EditionsStatus) : Type 0 where
   pub numbers : List ℕ
   pub rows : List EditionRow
   pub listed : IfSome seen.state (λ f. AreListedIn f numbers rows)
   pub text_is : text ≡ list_text numbers rows
   pub status_is : status ≡ Listed
 
--- this text was written, or only its first bytes
-abbrev pub IsSaid : Seen → Seen → List ℕ → EditionsStatus → Result EditionsStatus EditionsFault → Type 0
-IsSaid old new text status (Ok s) = WroteWhole old new text × (s ≡ status)
-IsSaid old new text status (Err (Write count)) = WrotePart old new text count
-IsSaid old new text status (Err (Folder fault)) = ⊥
-
 -- such a text was written whole
-pub record IsWritten (Is : List ℕ → EditionsStatus → Type 0) (old new : Seen) (status : EditionsStatus) : Type 0 where
+pub record IsWrittenWhole (Is : List ℕ → EditionsStatus → Type 0) (old new : Seen) (status : EditionsStatus) : Type 0 where
   pub text : List ℕ
   pub is : Is text status
   pub wrote : WroteWhole old new text
@@ -50,6 +44,6 @@ pub record IsCut (Is : List ℕ → EditionsStatus → Type 0) (old new : Seen) 
 
 -- a run writes such a text; if the folder isn't read it writes nothing
 abbrev pub IsRun : (List ℕ → EditionsStatus → Type 0) → Seen → Seen → Result EditionsStatus EditionsFault → Type 0
-IsRun Is old new (Ok status) = IsWritten Is old new status
+IsRun Is old new (Ok status) = IsWrittenWhole Is old new status
 IsRun Is old new (Err (Write count)) = IsCut Is old new count
 IsRun Is old new (Err (Folder fault)) = new ≡ old

@@ -42,8 +42,8 @@ fn found_among(numbers: &[u32], number: u32) -> FoundCurrent
     }
 }
 
-fn found_in(numbers: &[u32], text: &[u8]) -> FoundCurrent
-    ensures { result ≡ spec.found_in numbers.now text.now }
+fn found_by_text(numbers: &[u32], text: &[u8]) -> FoundCurrent
+    ensures { result ≡ spec.found_by_text numbers.now text.now }
 {
     match current_in(text) {
         Some(number) => found_among(numbers, number),
@@ -63,7 +63,7 @@ pub fn read_current<F: EditionFolder>(
         (λ f. current ≡ spec.found_current numbers.now f.current)) }
 {
     match folder.read_current(alloc) {
-        Ok(Some(text)) => Ok(found_in(numbers, text.as_slice())),
+        Ok(Some(text)) => Ok(found_by_text(numbers, text.as_slice())),
         Ok(None) => Ok(FoundCurrent::Nothing),
         Err(fault) => Err(folder_fault(fault)),
     }

@@ -2,7 +2,8 @@
 
 ghost use Rattle.std.specs.Prelude.{◌≡◌};
 ghost use Rattle.std.specs.List.{list_all};
-ghost use Rattle.edition_lists.specs.Findings.{is_right, note_of};
+ghost use Rattle.edition_lists.specs.Findings.{is_right};
+ghost use Rattle.edition_lists.specs.Loops.{note_of};
 
 use crate::fault::EditionFlaw;
 use crate::judging::JudgedEdition;

@@ -4,7 +4,8 @@ ghost use Rattle.std.specs.Prelude.{◌≡◌, ◌<◌, ◌≤◌, true, None, I
 ghost use Rattle.std.specs.List.{All};
 ghost use Rattle.editions.specs.Chains.{IsClearedAgainst};
 ghost use Rattle.edition_checks.specs.Served.{IsUnchanged};
-ghost use Rattle.edition_lists.specs.Judged.{kept_view, IsKeptBefore, IsAfterKept, IsFollowingKept, IsNumberWithin, IsWithinNumbers};
+ghost use Rattle.edition_lists.specs.Judged.{kept_view, IsAfterKept, IsFollowingKept, IsNumberWithin, IsWithinNumbers};
+ghost use Rattle.edition_lists.specs.Loops.{IsKeptBefore};
 
 use crate::fault::{EditionFlaw, FolderFault};
 use crate::kept::{KeptEdition, read_kept};

@@ -3,7 +3,8 @@
 ghost use Rattle.std.specs.Prelude.{◌≡◌, true, None, IfOk, IfSome};
 ghost use Rattle.edition_checks.specs.Served.{IsUnchanged};
 ghost use Rattle.edition_lists.specs.Kept.{IsKeptEdition};
-ghost use Rattle.edition_lists.specs.Judged.{IsKeptBefore, IsFollowingKept, IsWithinNumbers, IsJudgedRight, IfRight, IsRightNow};
+ghost use Rattle.edition_lists.specs.Judged.{IsFollowingKept, IsWithinNumbers, IsJudgedRight};
+ghost use Rattle.edition_lists.specs.Loops.{IsKeptBefore, IfRight, IsRightNow};
 
 use crate::fault::{EditionFlaw, FolderFault};
 use crate::following::{follows_fault, passed_fault};

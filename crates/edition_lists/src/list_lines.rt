@@ -105,8 +105,8 @@ fn push_line(out: &mut Vec<u8>, width: usize, row: &EditionRow) -> Result<(), Al
     push_rest(out, width, row)
 }
 
-fn rows_text(alloc: Global, width: usize, rows: &[EditionRow]) -> Result<Vec<u8>, AllocError>
-    ensures { IfOk result (λ text. text.items ≡ spec.rows_text width rows.now) }
+fn rows_lines(alloc: Global, width: usize, rows: &[EditionRow]) -> Result<Vec<u8>, AllocError>
+    ensures { IfOk result (λ text. text.items ≡ spec.rows_lines width rows.now) }
 {
     let mut out = Vec::new(alloc);
     for row in rows {
@@ -134,6 +134,6 @@ pub fn list_text(alloc: Global, numbers: &[u32], rows: &[EditionRow]) -> Result<
 {
     match rows {
         [] => nothing_text(alloc),
-        _ => rows_text(alloc, number_width(numbers), rows),
+        _ => rows_lines(alloc, number_width(numbers), rows),
     }
 }

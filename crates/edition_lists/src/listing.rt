@@ -5,9 +5,10 @@ ghost use Rattle.edition_checks.specs.Served.{IsUnchanged};
 ghost use Rattle.edition_lists.specs.Kept.{IsKeptEdition};
 ghost use Rattle.edition_lists.specs.Judged.{AreNumbersOf};
 ghost use Rattle.edition_lists.specs.Currents.{served_of};
-ghost use Rattle.edition_lists.specs.Rows.{IsRowOf, AddsRow, AreRows, AreListedIn, is_read};
+ghost use Rattle.edition_lists.specs.Rows.{IsRowOf, AreEditionRows, AreListedIn, is_read};
 ghost use Rattle.edition_lists.specs.ListLines as lines;
-ghost use Rattle.edition_lists.specs.Runs.{IsListing, IsRun};
+ghost use Rattle.edition_lists.specs.Runs.{IsEditionsText, IsRun};
+ghost use Rattle.edition_lists.specs.Loops.{AddsRow};
 
 use crate::current::{FoundCurrent, read_current, served_of};
 use crate::fault::{EditionsFault, FolderFault, kept_fault};
@@ -144,7 +145,7 @@ fn list_all<S: EditionStore>(
     requires { (S.seen store.old).held ≡ true }
     ensures unchanged { IsUnchanged (S.seen store.old) (S.seen store.new) }
     ensures rows { IfOk result (λ rows. IfSome (S.seen store.old).state
-        (λ f. AreRows f numbers.now served numbers.now rows.items)) }
+        (λ f. AreEditionRows f numbers.now served numbers.now rows.items)) }
 {
     let mut rows = Vec::new(alloc);
     let mut before = None;
@@ -210,7 +211,7 @@ fn listed_by<S: EditionStore>(
     requires held { (S.seen store.old).held ≡ true }
     requires all { IfSome (S.seen store.old).state (λ f. AreNumbersOf f numbers.now) }
     ensures unchanged { IsUnchanged (S.seen store.old) (S.seen store.new) }
-    ensures said { IfOk result (λ said. IsListing (S.seen store.old) said.text.items said.status) }
+    ensures said { IfOk result (λ said. IsEditionsText (S.seen store.old) said.text.items said.status) }
 {
     match list_by(alloc, store, numbers) {
         Ok(rows) => said_of(alloc, numbers, rows.as_slice()),
@@ -222,7 +223,7 @@ fn listed_by<S: EditionStore>(
 fn listed<S: EditionStore>(alloc: Global, store: &mut S) -> Result<Said, FolderFault>
     requires { (S.seen store.old).held ≡ true }
     ensures unchanged { IsUnchanged (S.seen store.old) (S.seen store.new) }
-    ensures said { IfOk result (λ said. IsListing (S.seen store.old) said.text.items said.status) }
+    ensures said { IfOk result (λ said. IsEditionsText (S.seen store.old) said.text.items said.status) }
 {
     match sorted_numbers(alloc, store) {
         Ok(numbers) => listed_by(alloc, store, numbers.as_slice()),
@@ -247,7 +248,7 @@ pub fn run_list<S: EditionStore, O: Sink>(
     ensures unchanged { IsUnchanged (S.seen store.old) (S.seen store.new) }
 
     // What is printed.
-    ensures run { IsRun (IsListing (S.seen store.old)) (O.seen out.old) (O.seen out.new) result }
+    ensures run { IsRun (IsEditionsText (S.seen store.old)) (O.seen out.old) (O.seen out.new) result }
 {
     match listed(alloc, store) {
         Ok(said) => say(out, &said),

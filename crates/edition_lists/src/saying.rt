@@ -1,7 +1,7 @@
 //! What is to be printed is written.
 
 ghost use Rattle.std.specs.Prelude.{◌≡◌, false};
-ghost use Rattle.edition_lists.specs.Runs.{IsSaid};
+ghost use Rattle.edition_lists.specs.Loops.{IsSaid};
 
 use crate::fault::EditionsFault;
 use crate::status::EditionsStatus;

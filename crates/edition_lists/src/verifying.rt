@@ -2,11 +2,14 @@
 
 ghost use Rattle.std.specs.Prelude.{◌≡◌, ◌++◌, ◌∷◌, [], true, false, Ok, OnOk, IfOk, IfSome};
 ghost use Rattle.edition_checks.specs.Served.{IsUnchanged};
-ghost use Rattle.edition_lists.specs.Judged.{IsKeptBefore, IsRightNow, IfRight, AreNumbersOf};
+ghost use Rattle.edition_lists.specs.Judged.{AreNumbersOf};
 ghost use Rattle.edition_lists.specs.Findings.{AreFindings, IsFoundIn, IsSaidOf};
 ghost use Rattle.edition_lists.specs.Findings as spec;
+ghost use Rattle.edition_lists.specs.Loops as loops;
 ghost use Rattle.edition_lists.specs.Runs.{IsVerification, IsRun};
+ghost use Rattle.edition_lists.specs.FolderChains.{AreChainsSafe};
 ghost use Rattle.edition_lists.specs.Verified.{IsVerifiedFolder};
+ghost use Rattle.edition_lists.specs.Loops.{IsKeptBefore, IsRightNow, IfRight};
 
 use crate::current::{FoundCurrent, read_current, served_of};
 use crate::fault::{EditionsFault, FolderFault};
@@ -36,7 +39,7 @@ fn judge_next<S: EditionStore>(
     requires kept { IsKeptBefore (S.seen store.old) before.now }
     ensures unchanged { IsUnchanged (S.seen store.old) (S.seen store.new) }
     ensures right { IfOk result (λ j. IfRight j (IsRightNow (S.seen store.old) numbers.now served number)) }
-    ensures added { IfOk result (λ j. findings.new.items ≡ findings.old.items ++ spec.finding_of number j ∷ []) }
+    ensures added { IfOk result (λ j. findings.new.items ≡ findings.old.items ++ loops.finding_with number j ∷ []) }
 {
     let judged = match judge_edition(alloc, store, numbers, served, number, before) {
         Ok(judged) => judged,
@@ -50,8 +53,8 @@ fn judge_next<S: EditionStore>(
 }
 
 // The edition that was read, if it is right.
-fn kept_of(judged: JudgedEdition) -> Option<KeptEdition>
-    ensures { result ≡ spec.kept_of judged }
+fn kept_if_right(judged: JudgedEdition) -> Option<KeptEdition>
+    ensures { result ≡ loops.kept_if_right judged }
 {
     match judged {
         JudgedEdition::Right(edition) => Some(edition),
@@ -83,7 +86,7 @@ fn judge_all<S: EditionStore>(
             *number,
             &before,
         ) {
-            Ok(judged) => before = kept_of(judged),
+            Ok(judged) => before = kept_if_right(judged),
             Err(fault) => return Err(fault),
         }
     }
@@ -190,8 +193,8 @@ fn verified<S: EditionStore>(
 ///
 /// The folder's lock is held by the caller. In the order of their numbers, each edition is read, and compared with its sums; the
 /// check is asked about it by its own policy, and about the change from the edition that it follows by the wider of the two. What
-/// is wrong is printed, for each edition the first fault alone, then the number of editions and the verdict. Two editions at most
-/// are in memory. The text is written at the end, if the folder was read.
+/// is wrong is printed, for each edition the first fault only, then the first edition that another one comes between, the number of
+/// editions and the verdict. Two editions at most are in memory. The text is written at the end, if the folder was read.
 pub fn run_verify<S: EditionStore, O: Sink>(
     alloc: Global,
     store: &mut S,
@@ -207,9 +210,12 @@ pub fn run_verify<S: EditionStore, O: Sink>(
     // What is printed, and the status.
     ensures run { IsRun (IsVerification (S.seen store.old) folder.now) (O.seen out.old) (O.seen out.new) result }
 
-    // Cleared: each edition is whole, has its sums, and was cleared, by itself and against the one that it follows; and `current`
-    // names the last edition of its chain, but for one that isn't served yet.
+    // Cleared: each edition is whole, has its sums, and was cleared, by itself and against the one that it follows; no two follow
+    // the same one; and `current` names the last edition of its chain, but for one that isn't served yet.
     ensures verified { result ≡ Ok EditionsStatus.Cleared → IfSome (S.seen store.old).state IsVerifiedFolder }
+
+    // So callers, in whichever edition they began, were safe along its chain.
+    ensures safe { result ≡ Ok EditionsStatus.Cleared → IfSome (S.seen store.old).state AreChainsSafe }
 {
     match verified(alloc, store, folder) {
         Ok(said) => say(out, &said),

@@ -179,6 +179,25 @@ fn a_number_that_is_missing_is_named(rt: HostRuntime) -> Result<(), Fail> {
     )
 }
 
+#[test]
+fn an_edition_that_comes_between_is_named(rt: HostRuntime) -> Result<(), Fail> {
+    let mut store = published(rt.alloc(), 2)?;
+    let (_, edition) = store.editions.get_mut(2).ok_or("an edition")?;
+    edition.follows = copied(rt.alloc(), b"1\n")?;
+    edition.sums = editions::sums_text(
+        rt.alloc(),
+        edition.base.as_slice(),
+        edition.cert.as_slice(),
+        edition.policy.as_slice(),
+        edition.follows.as_slice(),
+    )?;
+    refused(
+        rt.alloc(),
+        &mut store,
+        "edition 3 follows 1, but edition 2 comes between them\n3 editions, 3 is served\nREFUSED\n",
+    )
+}
+
 // Each file of the second edition, with another text that reads as well.
 const EDITED: [(EditionFile, &str, &str); 4] = [
     (EditionFile::Base, "PART 1", "PART X"),

@@ -1,7 +1,7 @@
 use Rattle.std.proofs.Common.{◌≡◌, Option, subst, arith}
 use Rattle.std.proofs.lemmas.Bool.Decides.{nat_tests}
 use Rattle.edition_lists.specs.declared.kept.KeptEdition.{KeptEdition}
-use Rattle.edition_lists.specs.Judged.{IsKeptBefore}
+use Rattle.edition_lists.specs.Loops.{IsKeptBefore}
 use Rattle.edition_lists.proofs.KeptReads.{after_in}
 use Rattle.edition_lists.proofs.following.change_after.Goals as goal
 

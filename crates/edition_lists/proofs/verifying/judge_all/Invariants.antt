@@ -1,6 +1,6 @@
 use Rattle.std.proofs.Common.{◌≡◌, true, take}
 use Rattle.std.specs.Prelude.{IfSome}
-use Rattle.edition_lists.specs.Judged.{IsKeptBefore}
+use Rattle.edition_lists.specs.Loops.{IsKeptBefore}
 use Rattle.edition_lists.specs.Findings.{AreFindings}
 use Rattle.edition_lists.proofs.verifying.judge_all.Given as goal
 

@@ -1,7 +1,0 @@
-use Rattle.std.proofs.Common.{◌≡◌, ◌++◌, drop}
-use Rattle.edition_lists.specs.ListLines.{rows_text}
-use Rattle.edition_lists.proofs.list_lines.rows_text.Given as goal
-
--- the lines so far, and those of the rows that are left, are the whole text
-abbrev pub invariant-loop-row : goal.invariant-loop-row
-invariant-loop-row l = l.out.items ++ rows_text l.width (drop l.row-index l.rows) ≡ rows_text l.width l.rows
