@@ -9,6 +9,6 @@ text has what.
 - screen.py, screens.py, looks.py: what bytes do to a terminal, which screen is shown, and how its cells look.
 - session.py, audit.py, certificate.py, change.py, listing.py, map.py, html.py, lint.py, saved.py: what each command
 answers.
-- calling.py: what a caller's terminal shows.
+- calling.py: what a caller's terminal shows. editions.py: what is found in a folder of editions.
 - inputs.py: random bases, certificates and keys.
 """

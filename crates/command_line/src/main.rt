@@ -8,6 +8,7 @@
 mod diff_lines;
 mod edition_folder;
 mod edition_store;
+mod editions_files;
 mod export_files;
 mod fix_files;
 mod import_files;
@@ -27,6 +28,7 @@ use checker::Policy;
 use clap::error::ErrorKind;
 use clap::{ArgMatches, Error};
 use command_words::{Pages, Request, Show, WordsFault, asked_for, groups_of, matches, words};
+use editions_files::show_editions;
 use explain::{explanation, nearest, overview};
 use export_files::export;
 use frame_records::Groups;
@@ -222,7 +224,8 @@ fn run_request<R: Files<File = File> + Env + Input + Print + Eprint + AllocGloba
         Request::Import(asked) => return import(rt, asked),
         Request::Export(asked) => return export(rt, asked),
         Request::Serve(asked) => return serve_call(rt, asked),
-        Request::Publish(asked) => return publish(rt, asked),
+        Request::Publish(asked) => return publish(rt, errors, asked),
+        Request::Editions { folder, verify } => return show_editions(rt, folder, *verify),
         Request::Misused { why } => {
             let _ = eprintln!(rt; "error: {why}");
             return 2;

@@ -11,8 +11,8 @@ use pageaudit::{PagesStatus, run_pages, status_of_pages};
 use std::io;
 use std::rt::{Files, Stderr};
 
-// The name of a path's file.
-fn name_of<'a>(path: &'a str) -> &'a str {
+/// The name of a path's file.
+pub fn name_of<'a>(path: &'a str) -> &'a str {
     match path.rfind('/') {
         Some(at) => &path[at + 1..],
         None => path,
@@ -23,10 +23,11 @@ fn pages_file<R: Files + Input + Print + AllocGlobal>(
     rt: &R,
     errors: Stderr,
     asked: &Pages,
+    name: &str,
 ) -> Result<PagesStatus, Unfinished> {
     match open_base(rt, asked.base) {
         Ok(base) => match named_out(rt, asked.out) {
-            Ok(out) => pages_to(rt, errors, base, asked, out),
+            Ok(out) => pages_to(rt, errors, base, asked, name, out),
             Err(unfinished) => Err(unfinished),
         },
         Err(unfinished) => Err(unfinished),
@@ -37,12 +38,12 @@ fn write_to<R: Files + Input + AllocGlobal, W: io::Write>(
     rt: &R,
     base: Opened<R::File, R::Reader>,
     asked: &Pages,
+    name: &str,
     out: &mut IntoWrite<W>,
 ) -> Result<PagesStatus, RunFault>
     requires { out.old.failed ≡ false }
 {
     let mut base = FromRead::new(base);
-    let name = name_of(asked.base);
     run_pages(rt.alloc(), &mut base, &asked.policy, &asked.view, name, out)
 }
 
@@ -51,23 +52,24 @@ fn pages_to<R: Files + Input + Print + AllocGlobal>(
     errors: Stderr,
     base: Opened<R::File, R::Reader>,
     asked: &Pages,
+    name: &str,
     out: Out<R::File>,
 ) -> Result<PagesStatus, Unfinished> {
     match out {
         Out::Output => {
             let mut output = IntoWrite::new(io::writer(rt));
-            let run = write_to(rt, base, asked, &mut output);
+            let run = write_to(rt, base, asked, name, &mut output);
             ended(run, &output)
         }
         Out::Errors => {
             let mut output = IntoWrite::new(io::writer(&errors));
-            let run = write_to(rt, base, asked, &mut output);
+            let run = write_to(rt, base, asked, name, &mut output);
             ended(run, &output)
         }
         Out::File(names, file) => {
             let run = {
                 let mut output = IntoWrite::new(file);
-                write_to(rt, base, asked, &mut output)
+                write_to(rt, base, asked, name, &mut output)
             };
             match names.close(rt, run, &PagesStatus::Written) {
                 Ok(status) => Ok(status),
@@ -77,13 +79,24 @@ fn pages_to<R: Files + Input + Print + AllocGlobal>(
     }
 }
 
-/// Writes a base as an HTML file; a line on standard error if the base lacks the frame `a` of the page. The exit status.
+/// Writes a base as an HTML file, under its own name.
 pub fn pages<R: Files + Input + Print + Eprint + AllocGlobal>(
     rt: &R,
     errors: Stderr,
     asked: &Pages,
 ) -> u8 {
-    match pages_file(rt, errors, asked) {
+    pages_of(rt, errors, asked, name_of(asked.base))
+}
+
+/// Writes a base as an HTML file, in which it has this name; a line on standard error if the base lacks the frame `a` of the page.
+/// The exit status.
+pub fn pages_of<R: Files + Input + Print + Eprint + AllocGlobal>(
+    rt: &R,
+    errors: Stderr,
+    asked: &Pages,
+    name: &str,
+) -> u8 {
+    match pages_file(rt, errors, asked, name) {
         Ok(status) => {
             if let PagesStatus::NoPage = status {
                 tell_no_page(rt, &asked.view);

@@ -5,14 +5,18 @@ ghost use Rattle.std.specs.Prelude.{◌≡◌, true, false};
 use crate::edition_folder::{FolderFiles, path_in};
 use crate::edition_store::{flush_folder, write_policy};
 use crate::lint_files::print_counts;
-use crate::named_files::{Unfinished, open_base, report, unwritten};
+use crate::named_files::{Unfinished, open_base, path_to, report, unwritten};
+use crate::out_file::is_same_file;
+use crate::pages_file::{name_of, pages_of};
 use audit_report::{FromRead, IntoWrite, RunFault};
-use command_words::Publish as Asked;
-use policy_text::widest_text;
+use command_words::{Pages, Publish as Asked};
+use editions::{EditionFile, EditionFolder};
+use pageaudit::View;
+use policy_text::{PolicyFault, policy_read, widest_text};
 use publishing::{Publish, PublishFault, PublishStatus, run_publish, status_of_publish};
 use std::alloc::Global;
 use std::fs::{File, OpenOptions};
-use std::rt::Files;
+use std::rt::{Files, Stderr};
 use std::{fs, io};
 
 // What happened to the folder before the run.
@@ -161,8 +165,8 @@ fn open_folder<R: Files<File = File>>(
     }
 }
 
-// Says why a file of the folder stops the run; the exit status.
-fn report_in<R: Files + Eprint + AllocGlobal>(
+/// Says why a file of the folder stops the run; the exit status.
+pub fn report_in<R: Files + Eprint + AllocGlobal>(
     rt: &R,
     folder: &str,
     name: &str,
@@ -177,8 +181,8 @@ fn report_in<R: Files + Eprint + AllocGlobal>(
     }
 }
 
-// Says why the edition that is served stops the run; the exit status.
-fn report_edition<R: Files + Eprint + AllocGlobal>(
+/// Says why a file of an edition stops the run; the exit status.
+pub fn report_edition<R: Files + Eprint + AllocGlobal>(
     rt: &R,
     folder: &str,
     number: u32,
@@ -191,20 +195,24 @@ fn report_edition<R: Files + Eprint + AllocGlobal>(
     }
 }
 
-const NO_NUMBER: Unfinished = Unfinished::Unread("no number of an edition and a line end");
+/// What is wrong with a `current` that names nothing.
+pub const NO_NUMBER: Unfinished = Unfinished::Unread("no number of an edition and a line end");
 
-const NO_FILE: Unfinished = Unfinished::Unread("no such file");
+/// What is wrong with a file that isn't there.
+pub const NO_FILE: Unfinished = Unfinished::Unread("no such file");
 
-const UNREAD: Unfinished = Unfinished::Unread("refused: it isn't what was published");
+/// What is wrong with a file of an edition that doesn't read.
+pub const UNREAD: Unfinished = Unfinished::Unread("refused: it isn't what was published");
 
 const UNCERTIFIED: Unfinished = Unfinished::Unread("the check refuses the audit's certificate");
 
 const FULL: Unfinished = Unfinished::Unwritten("no number is left");
 
-const MEMORY: Unfinished = Unfinished::Fault(RunFault::Memory);
+/// A growth was refused.
+pub const MEMORY: Unfinished = Unfinished::Fault(RunFault::Memory);
 
-// Says what the folder's last call that failed was about; the exit status.
-fn report_failed<'a, R: Files + Eprint + AllocGlobal>(rt: &R, store: &FolderFiles<'a, R>) -> u8 {
+/// Says what the folder's last call that failed was about; the exit status.
+pub fn report_failed<'a, R: Files + Eprint + AllocGlobal>(rt: &R, store: &FolderFiles<'a, R>) -> u8 {
     match &store.failed {
         Some(failed) => report(rt, failed.path.as_str(), &failed.why),
         None => report(rt, store.path, &MEMORY),
@@ -241,9 +249,57 @@ fn report_fault<'a, R: Files + Eprint + AllocGlobal>(
     }
 }
 
+// Writes the base of an edition for a browser, by the edition's policy; the exit status.
+fn write_page<'a, R: Files + Input + Print + Eprint + AllocGlobal>(
+    rt: &R,
+    errors: Stderr,
+    asked: &Asked<'_>,
+    page: &str,
+    store: &mut FolderFiles<'a, R>,
+    number: u32,
+) -> u8 {
+    let text = match store.read_file(rt.alloc(), number, EditionFile::Policy) {
+        Ok(Some(text)) => text,
+        Ok(None) => return report_edition(rt, asked.folder, number, "policy.toml", &NO_FILE),
+        Err(_) => return report_failed(rt, &*store),
+    };
+    let policy = match policy_read(rt.alloc(), text.as_slice()) {
+        Ok(policy) => policy,
+        Err(PolicyFault::Memory) => return report(rt, asked.folder, &MEMORY),
+        Err(_) => return report_edition(rt, asked.folder, number, "policy.toml", &UNREAD),
+    };
+    let Ok(base) = format!(in rt.alloc(); "{}/editions/{number}/base.toml", asked.folder) else {
+        return report(rt, asked.folder, &MEMORY);
+    };
+    let whole = Pages {
+        base: base.as_str(),
+        policy,
+        view: View::Whole,
+        out: Some(page),
+    };
+    pages_of(rt, errors, &whole, name_of(asked.base))
+}
+
+// Writes the page that is asked for, of the edition that is served now; the exit status.
+fn page_after<'a, R: Files + Input + Print + Eprint + AllocGlobal>(
+    rt: &R,
+    errors: Stderr,
+    asked: &Asked<'_>,
+    store: &mut FolderFiles<'a, R>,
+    status: PublishStatus,
+) -> u8 {
+    match (asked.page, status) {
+        (Some(page), PublishStatus::Published(number) | PublishStatus::AlreadyServed(number)) => {
+            write_page(rt, errors, asked, page, store, number)
+        }
+        _ => status_of_publish(&Ok(status)),
+    }
+}
+
 // Publishes a base into a folder whose lock is held; the exit status.
 fn publish_into<R: Files + Input + Print + Eprint + AllocGlobal + Clone + Drop>(
     rt: &R,
+    errors: Stderr,
     asked: &Asked<'_>,
     found: Found,
 ) -> u8 {
@@ -269,19 +325,29 @@ fn publish_into<R: Files + Input + Print + Eprint + AllocGlobal + Clone + Drop>(
             deny_warnings: asked.deny_warnings,
         },
     );
-    match &run {
-        Ok(PublishStatus::Faulty(counts)) => print_counts(rt, counts),
-        Ok(_) => {}
-        Err(fault) => return report_fault(rt, asked, &store, *fault, out.is_closed()),
+    match run {
+        Ok(status) => {
+            if let PublishStatus::Faulty(counts) = &status {
+                print_counts(rt, counts);
+            }
+            page_after(rt, errors, asked, &mut store, status)
+        }
+        Err(fault) => report_fault(rt, asked, &store, fault, out.is_closed()),
     }
-    status_of_publish(&run)
 }
 
 /// Publishes a base into a folder, which is made if it isn't there; the exit status.
 pub fn publish<R: Files<File = File> + Input + Print + Eprint + AllocGlobal + Clone + Drop>(
     rt: &R,
+    errors: Stderr,
     asked: &Asked<'_>,
 ) -> u8 {
+    if let Some(page) = asked.page
+        && is_same_file(rt, path_to(asked.base), page)
+    {
+        let _ = eprintln!(rt; "error: --page names the base itself");
+        return 2;
+    }
     let Locked { lock, found } = match open_folder(rt, rt.alloc(), asked.folder, asked.dry_run) {
         Ok(locked) => locked,
         Err(Shut { name, why }) => return report_in(rt, asked.folder, name, &why),
@@ -292,7 +358,7 @@ pub fn publish<R: Files<File = File> + Input + Print + Eprint + AllocGlobal + Cl
             asked.folder
         );
     }
-    let status = publish_into(rt, asked, found);
+    let status = publish_into(rt, errors, asked, found);
     drop(lock);
     status
 }

@@ -448,7 +448,26 @@ fn publish_command<'a>(alloc: Global) -> Result<Command<'a>, AllocError> {
             "new-callers",
             "If the change is refused, publish for new callers alone",
         ))?
-        .arg(flag(alloc, "deny-warnings", "Don't publish a base with warnings"))
+        .arg(flag(alloc, "deny-warnings", "Don't publish a base with warnings"))?
+        .arg(
+            Arg::new(alloc, "page")
+                .long("page")
+                .value_name("FILE")
+                .action(ArgAction::Set)
+                .help("Write the base to FILE for a browser, if it is published"),
+        )
+}
+
+fn editions_command<'a>(alloc: Global) -> Result<Command<'a>, AllocError> {
+    Command::new(alloc, "editions")
+        .about("List the editions of a folder, or verify that they are what was published")
+        .after_help(help::EDITIONS)
+        .arg(place(alloc, "FOLDER", "The folder of editions"))?
+        .arg(flag(
+            alloc,
+            "verify",
+            "Check each edition, its sums and the change to it",
+        ))
 }
 
 fn explain_command<'a>(alloc: Global) -> Result<Command<'a>, AllocError> {
@@ -486,6 +505,7 @@ fn whole_command<'a>(alloc: Global) -> Result<Command<'a>, AllocError> {
     let whole = with_part(whole, import_command(alloc));
     let whole = with_part(whole, export_command(alloc));
     let whole = with_part(whole, publish_command(alloc));
+    let whole = with_part(whole, editions_command(alloc));
     let whole = with_part(whole, serve_command(alloc));
     with_part(whole, explain_command(alloc))
 }
@@ -620,6 +640,8 @@ pub struct Publish<'a> {
     pub new_callers: bool,
     /// Whether warnings stop it.
     pub deny_warnings: bool,
+    /// The HTML file of the published base.
+    pub page: Option<&'a str>,
 }
 
 /// What the words ask for. Files are named by their paths.
@@ -685,6 +707,11 @@ pub enum Request<'a> {
     Serve(Serve<'a>),
     /// A base is published as the next edition of a folder.
     Publish(Publish<'a>),
+    /// The editions of a folder, listed or verified.
+    Editions {
+        folder: &'a str,
+        verify: bool,
+    },
     /// What a printed word means, or all words.
     Explain {
         word: Option<&'a str>,
@@ -942,6 +969,7 @@ fn publish_of<'a>(words: &'a ArgMatches) -> Option<Request<'a>> {
         dry_run: words.get_flag("dry-run"),
         new_callers: words.get_flag("new-callers"),
         deny_warnings: words.get_flag("deny-warnings"),
+        page: words.get_str("page"),
     }))
 }
 
@@ -983,6 +1011,10 @@ pub fn asked_for<'a>(matches: &'a ArgMatches, groups: Groups) -> Option<Request<
         ("export", words) => export_of(words, groups),
         ("serve", words) => serve_of(words),
         ("publish", words) => publish_of(words),
+        ("editions", words) => Some(Request::Editions {
+            folder: words.get_str("FOLDER")?,
+            verify: words.get_flag("verify"),
+        }),
         ("explain", words) => Some(Request::Explain {
             word: words.get_str("CODE"),
         }),

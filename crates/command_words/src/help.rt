@@ -134,3 +134,14 @@ pub const PUBLISH: &str = concat!(
     "Status: 0 published, 1 findings or a refused change, 2 bad command line,\n",
     "        3 a file that is refused or can't be read or written, 4 out of memory",
 );
+
+/// After the options of `editions`.
+pub const EDITIONS: &str = concat!(
+    "Without --verify each edition has a line: its frames, what changed from the edition that it\n",
+    "follows, and whether it is served. With --verify what is wrong is named, and the verdict printed:\n",
+    "after CLEARED no caller, in whichever edition they began, met a frame that is missing or closed\n",
+    "while one edition followed another.\n\n",
+    "Example: pageaudit editions live --verify\n\n",
+    "Status: 0 listed, or all is what was published, 1 something isn't, 2 bad command line,\n",
+    "        3 a file that is missing, refused or can't be read, 4 out of memory",
+);

@@ -10,6 +10,7 @@ mod calls_served;
 mod changes;
 mod checks;
 mod findings;
+mod folders;
 mod lists;
 mod looks;
 mod published;

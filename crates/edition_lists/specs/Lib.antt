@@ -1,0 +1,14 @@
+pub mod Currents
+pub mod EditionsStatuses
+pub mod Findings
+pub mod FolderChains
+pub mod Forks
+pub mod Judged
+pub mod Kept
+pub mod ListLines
+pub mod Loops
+pub mod Rows
+pub mod Runs
+pub mod Servings
+pub mod Verified
+pub mod VerifyLines

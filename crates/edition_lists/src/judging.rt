@@ -1,0 +1,125 @@
+//! An edition is judged: by itself, beside the one that it follows, and beside the one that is served.
+
+ghost use Rattle.std.specs.Prelude.{◌≡◌, true, None, IfOk, IfSome};
+ghost use Rattle.edition_checks.specs.Served.{IsUnchanged};
+ghost use Rattle.edition_lists.specs.Kept.{IsKeptEdition};
+ghost use Rattle.edition_lists.specs.Judged.{IsFollowingKept, IsWithinNumbers, IsJudgedRight};
+ghost use Rattle.edition_lists.specs.Loops.{IsKeptBefore, IfRight, IsRightNow};
+
+use crate::fault::{EditionFlaw, FolderFault};
+use crate::following::{follows_fault, passed_fault};
+use crate::kept::{KeptEdition, read_kept};
+use crate::sealing::own_fault;
+use edition_checks::ServedFault;
+use editions::EditionFolder;
+use std::alloc::Global;
+
+/// An edition that is right, or what is wrong with one.
+#[derive(Drop)]
+pub enum JudgedEdition {
+    Right(KeptEdition),
+    Wrong(EditionFlaw),
+}
+
+// What is wrong with an edition beside others.
+fn place_fault<F: EditionFolder>(
+    alloc: Global,
+    folder: &mut F,
+    numbers: &[u32],
+    current: Option<u32>,
+    edition: &KeptEdition,
+    before: &Option<KeptEdition>,
+) -> Result<Option<EditionFlaw>, FolderFault>
+    requires held { (F.seen folder.old).held ≡ true }
+    requires kept { IsKeptBefore (F.seen folder.old) before.now }
+    ensures unchanged { IsUnchanged (F.seen folder.old) (F.seen folder.new) }
+    ensures follows { IfOk result (λ o. o ≡ None → IfSome (F.seen folder.old).state
+        (λ f. IsFollowingKept f edition.now edition.now.follows)) }
+    ensures within { IfOk result (λ o. o ≡ None →
+        IsWithinNumbers numbers.now current edition.now.served.number edition.now.follows) }
+{
+    match follows_fault(alloc, folder, numbers, edition, before) {
+        Ok(None) => Ok(passed_fault(numbers, current, edition)),
+        Ok(Some(fault)) => Ok(Some(fault)),
+        Err(fault) => Err(fault),
+    }
+}
+
+// What is wrong with an edition.
+fn edition_fault<F: EditionFolder>(
+    alloc: Global,
+    folder: &mut F,
+    numbers: &[u32],
+    current: Option<u32>,
+    edition: &KeptEdition,
+    before: &Option<KeptEdition>,
+) -> Result<Option<EditionFlaw>, FolderFault>
+    requires held { (F.seen folder.old).held ≡ true }
+    requires kept { IsKeptBefore (F.seen folder.old) before.now }
+    ensures unchanged { IsUnchanged (F.seen folder.old) (F.seen folder.new) }
+    ensures right { IfOk result (λ o. o ≡ None → IfSome (F.seen folder.old).state
+        (λ f. IsJudgedRight f numbers.now current edition.now)) }
+{
+    match own_fault(alloc, folder, edition) {
+        Ok(None) => place_fault(alloc, folder, numbers, current, edition, before),
+        Ok(Some(fault)) => Ok(Some(fault)),
+        Err(fault) => Err(fault),
+    }
+}
+
+// An edition that was read is judged.
+fn judge_kept<F: EditionFolder>(
+    alloc: Global,
+    folder: &mut F,
+    numbers: &[u32],
+    current: Option<u32>,
+    edition: KeptEdition,
+    before: &Option<KeptEdition>,
+) -> Result<JudgedEdition, FolderFault>
+    requires held { (F.seen folder.old).held ≡ true }
+    requires read { IfSome (F.seen folder.old).state (λ f. IsKeptEdition f edition) }
+    requires kept { IsKeptBefore (F.seen folder.old) before.now }
+    ensures unchanged { IsUnchanged (F.seen folder.old) (F.seen folder.new) }
+    ensures right { IfOk result (λ j. IfRight j (IsRightNow (F.seen folder.old) numbers.now current
+        edition.served.number)) }
+{
+    match edition_fault(alloc, folder, numbers, current, &edition, before) {
+        Ok(None) => Ok(JudgedEdition::Right(edition)),
+        Ok(Some(fault)) => Ok(JudgedEdition::Wrong(fault)),
+        Err(fault) => Err(fault),
+    }
+}
+
+// What is wrong with an edition that doesn't read.
+fn unread(fault: ServedFault) -> Result<EditionFlaw, FolderFault> {
+    match fault {
+        ServedFault::Missing(file) => Ok(EditionFlaw::Missing(file)),
+        ServedFault::Unread(file) => Ok(EditionFlaw::Unread(file)),
+        ServedFault::Folder => Err(FolderFault::Broken),
+        ServedFault::Memory => Err(FolderFault::Memory),
+    }
+}
+
+/// Reads an edition and judges it. `numbers` are those of all editions, `current` is the one that is served; `before` is the edition
+/// that was read before it, if that is right.
+pub fn judge_edition<F: EditionFolder>(
+    alloc: Global,
+    folder: &mut F,
+    numbers: &[u32],
+    current: Option<u32>,
+    number: u32,
+    before: &Option<KeptEdition>,
+) -> Result<JudgedEdition, FolderFault>
+    requires held { (F.seen folder.old).held ≡ true }
+    requires kept { IsKeptBefore (F.seen folder.old) before.now }
+    ensures unchanged { IsUnchanged (F.seen folder.old) (F.seen folder.new) }
+    ensures right { IfOk result (λ j. IfRight j (IsRightNow (F.seen folder.old) numbers.now current number)) }
+{
+    match read_kept(alloc, folder, number) {
+        Ok(edition) => judge_kept(alloc, folder, numbers, current, edition, before),
+        Err(fault) => match unread(fault) {
+            Ok(wrong) => Ok(JudgedEdition::Wrong(wrong)),
+            Err(fault) => Err(fault),
+        },
+    }
+}

@@ -1,0 +1,257 @@
+//! The run that lists a folder.
+
+ghost use Rattle.std.specs.Prelude.{◌≡◌, true, false, IfOk, IfSome};
+ghost use Rattle.edition_checks.specs.Served.{IsUnchanged};
+ghost use Rattle.edition_lists.specs.Kept.{IsKeptEdition};
+ghost use Rattle.edition_lists.specs.Judged.{AreNumbersOf};
+ghost use Rattle.edition_lists.specs.Currents.{served_of};
+ghost use Rattle.edition_lists.specs.Rows.{IsRowOf, AreEditionRows, AreListedIn, is_read};
+ghost use Rattle.edition_lists.specs.ListLines as lines;
+ghost use Rattle.edition_lists.specs.Runs.{IsEditionsText, IsRun};
+ghost use Rattle.edition_lists.specs.Loops.{AddsRow};
+
+use crate::current::{FoundCurrent, read_current, served_of};
+use crate::fault::{EditionsFault, FolderFault, kept_fault};
+use crate::kept::{KeptEdition, read_kept};
+use crate::list_lines::list_text;
+use crate::numbers::sorted_numbers;
+use crate::rows::{EditionRow, row_of};
+use crate::saying::{Said, say};
+use crate::status::EditionsStatus;
+use devices::Sink;
+use editions::EditionStore;
+use std::alloc::Global;
+
+// The edition of a number, which has to read.
+fn read_one<S: EditionStore>(
+    alloc: Global,
+    store: &mut S,
+    number: u32,
+) -> Result<KeptEdition, FolderFault>
+    requires { (S.seen store.old).held ≡ true }
+    ensures unchanged { IsUnchanged (S.seen store.old) (S.seen store.new) }
+    ensures kept { IfOk result (λ e. IfSome (S.seen store.old).state (λ f. IsKeptEdition f e)) }
+    ensures number { IfOk result (λ e. e.served.number ≡ number) }
+{
+    match read_kept(alloc, store, number) {
+        Ok(edition) => Ok(edition),
+        Err(fault) => Err(kept_fault(number, fault)),
+    }
+}
+
+// The edition that another one follows, if it is there.
+fn read_followed<S: EditionStore>(
+    alloc: Global,
+    store: &mut S,
+    numbers: &[u32],
+    edition: &KeptEdition,
+) -> Result<Option<KeptEdition>, FolderFault>
+    requires { (S.seen store.old).held ≡ true }
+    ensures { IsUnchanged (S.seen store.old) (S.seen store.new) }
+{
+    match edition.follows {
+        Some(number) if numbers.binary_search(&number).is_ok() => {
+            match read_one(alloc, store, number) {
+                Ok(old) => Ok(Some(old)),
+                Err(fault) => Err(fault),
+            }
+        }
+        _ => Ok(None),
+    }
+}
+
+// Whether an edition follows the one that was read before it.
+fn is_next(before: &Option<KeptEdition>, edition: &KeptEdition) -> bool {
+    match before {
+        Some(before) => edition.follows == Some(before.served.number),
+        None => false,
+    }
+}
+
+fn row_beside(
+    alloc: Global,
+    numbers: &[u32],
+    served: Option<u32>,
+    edition: &KeptEdition,
+    old: &Option<KeptEdition>,
+) -> Result<EditionRow, FolderFault>
+    ensures { IfOk result (IsRowOf numbers.now served edition.now) }
+{
+    match row_of(alloc, numbers, served, edition, old.as_ref()) {
+        Ok(row) => Ok(row),
+        Err(_) => Err(FolderFault::Memory),
+    }
+}
+
+// The row of an edition, beside the one that it follows: the one that was read before it, or another one.
+fn row_after<S: EditionStore>(
+    alloc: Global,
+    store: &mut S,
+    numbers: &[u32],
+    served: Option<u32>,
+    edition: &KeptEdition,
+    before: &Option<KeptEdition>,
+) -> Result<EditionRow, FolderFault>
+    requires { (S.seen store.old).held ≡ true }
+    ensures unchanged { IsUnchanged (S.seen store.old) (S.seen store.new) }
+    ensures row { IfOk result (IsRowOf numbers.now served edition.now) }
+{
+    if is_next(before, edition) {
+        return row_beside(alloc, numbers, served, edition, before);
+    }
+    match read_followed(alloc, store, numbers, edition) {
+        Ok(old) => row_beside(alloc, numbers, served, edition, &old),
+        Err(fault) => Err(fault),
+    }
+}
+
+// Reads an edition, and adds its row.
+fn list_next<S: EditionStore>(
+    alloc: Global,
+    store: &mut S,
+    rows: &mut Vec<EditionRow>,
+    numbers: &[u32],
+    served: Option<u32>,
+    number: u32,
+    before: &Option<KeptEdition>,
+) -> Result<KeptEdition, FolderFault>
+    requires { (S.seen store.old).held ≡ true }
+    ensures unchanged { IsUnchanged (S.seen store.old) (S.seen store.new) }
+    ensures kept { IfOk result (λ e. IfSome (S.seen store.old).state (λ f. IsKeptEdition f e)) }
+    ensures number { IfOk result (λ e. e.served.number ≡ number) }
+    ensures row { IfOk result (λ e. AddsRow numbers.now served e rows.old.items rows.new.items) }
+{
+    let edition = match read_one(alloc, store, number) {
+        Ok(edition) => edition,
+        Err(fault) => return Err(fault),
+    };
+    let row = match row_after(alloc, store, numbers, served, &edition, before) {
+        Ok(row) => row,
+        Err(fault) => return Err(fault),
+    };
+    match rows.push(row) {
+        Ok(()) => Ok(edition),
+        Err(_) => Err(FolderFault::Memory),
+    }
+}
+
+// A row for each edition. Two editions at most are in memory.
+fn list_all<S: EditionStore>(
+    alloc: Global,
+    store: &mut S,
+    numbers: &[u32],
+    served: Option<u32>,
+) -> Result<Vec<EditionRow>, FolderFault>
+    requires { (S.seen store.old).held ≡ true }
+    ensures unchanged { IsUnchanged (S.seen store.old) (S.seen store.new) }
+    ensures rows { IfOk result (λ rows. IfSome (S.seen store.old).state
+        (λ f. AreEditionRows f numbers.now served numbers.now rows.items)) }
+{
+    let mut rows = Vec::new(alloc);
+    let mut before = None;
+    for number in numbers {
+        match list_next(alloc, store, &mut rows, numbers, served, *number, &before) {
+            Ok(edition) => before = Some(edition),
+            Err(fault) => return Err(fault),
+        }
+    }
+    Ok(rows)
+}
+
+// The edition that is served; a `current` that names no number is a fault.
+fn named_number(current: FoundCurrent, numbers: &[u32]) -> Result<Option<u32>, FolderFault>
+    ensures read { IfOk result (λ _. is_read current ≡ true) }
+    ensures number { IfOk result (λ served. served ≡ served_of current numbers.now) }
+{
+    match current {
+        FoundCurrent::Unread => Err(FolderFault::Current),
+        _ => Ok(served_of(current, numbers)),
+    }
+}
+
+// The rows of a folder, by the numbers of its editions.
+fn list_by<S: EditionStore>(
+    alloc: Global,
+    store: &mut S,
+    numbers: &[u32],
+) -> Result<Vec<EditionRow>, FolderFault>
+    requires held { (S.seen store.old).held ≡ true }
+    requires all { IfSome (S.seen store.old).state (λ f. AreNumbersOf f numbers.now) }
+    ensures unchanged { IsUnchanged (S.seen store.old) (S.seen store.new) }
+    ensures rows { IfOk result (λ rows. IfSome (S.seen store.old).state (λ f. AreListedIn f numbers.now rows.items)) }
+{
+    let current = match read_current(alloc, store, numbers) {
+        Ok(current) => current,
+        Err(fault) => return Err(fault),
+    };
+    match named_number(current, numbers) {
+        Ok(served) => list_all(alloc, store, numbers, served),
+        Err(fault) => Err(fault),
+    }
+}
+
+fn said_of(alloc: Global, numbers: &[u32], rows: &[EditionRow]) -> Result<Said, FolderFault>
+    ensures text { IfOk result (λ said. said.text.items ≡ lines.list_text numbers.now rows.now) }
+    ensures status { IfOk result (λ said. said.status ≡ EditionsStatus.Listed) }
+{
+    match list_text(alloc, numbers, rows) {
+        Ok(text) => Ok(Said {
+            text,
+            status: EditionsStatus::Listed,
+        }),
+        Err(_) => Err(FolderFault::Memory),
+    }
+}
+
+fn listed_by<S: EditionStore>(
+    alloc: Global,
+    store: &mut S,
+    numbers: &[u32],
+) -> Result<Said, FolderFault>
+    requires held { (S.seen store.old).held ≡ true }
+    requires all { IfSome (S.seen store.old).state (λ f. AreNumbersOf f numbers.now) }
+    ensures unchanged { IsUnchanged (S.seen store.old) (S.seen store.new) }
+    ensures said { IfOk result (λ said. IsEditionsText (S.seen store.old) said.text.items said.status) }
+{
+    match list_by(alloc, store, numbers) {
+        Ok(rows) => said_of(alloc, numbers, rows.as_slice()),
+        Err(fault) => Err(fault),
+    }
+}
+
+// Lists a folder; what is to be printed of it.
+fn listed<S: EditionStore>(alloc: Global, store: &mut S) -> Result<Said, FolderFault>
+    requires { (S.seen store.old).held ≡ true }
+    ensures unchanged { IsUnchanged (S.seen store.old) (S.seen store.new) }
+    ensures said { IfOk result (λ said. IsEditionsText (S.seen store.old) said.text.items said.status) }
+{
+    match sorted_numbers(alloc, store) {
+        Ok(numbers) => listed_by(alloc, store, numbers.as_slice()),
+        Err(fault) => Err(fault),
+    }
+}
+
+/// Lists the editions of a folder, a line for each, in the order of their numbers.
+///
+/// The folder's lock is held by the caller. A line has the edition's number, whether it is served, what it follows, its frames and
+/// what changed from the edition that it follows. An edition of which a file is missing or doesn't read ends the run. Two editions
+/// at most are in memory. The text is written at the end; how it says what changed is tested, not proved.
+pub fn run_list<S: EditionStore, O: Sink>(
+    alloc: Global,
+    store: &mut S,
+    out: &mut O,
+) -> Result<EditionsStatus, EditionsFault>
+    requires held { (S.seen store.old).held ≡ true }
+    requires out_open { (O.seen out.old).failed ≡ false }
+
+    // It only reads.
+    ensures unchanged { IsUnchanged (S.seen store.old) (S.seen store.new) }
+
+    // What is printed.
+    ensures run { IsRun (IsEditionsText (S.seen store.old)) (O.seen out.old) (O.seen out.new) result }
+{
+    match listed(alloc, store) {
+        Ok(said) => say(out, &said),
+        Err(fault) => Err(EditionsFault::Folder(fault)),
+    }
+}
