@@ -11,7 +11,8 @@ use Rattle.edition_checks.specs.Served.{IsServed}
 use Rattle.edition_lists.specs.declared.kept.KeptEdition.{KeptEdition}
 use Rattle.edition_lists.specs.Kept.{IsKeptEdition}
 use Rattle.edition_lists.specs.Judged.{kept_view, HasItsSums, IsSealed, IsAfterKept, IsFollowingKept, IsWithinNumbers, IsJudgedRight, AreNumbersOf}
-use Rattle.edition_lists.specs.Loops.{SaysFollows, IsKeptBefore}
+use Rattle.edition_checks.specs.NextEditions.{SaysFollows}
+use Rattle.edition_lists.specs.Loops.{IsKeptBefore}
 
 -- what holds of a folder that is the same
 pub held_too : (o p : Option FolderState) (P : FolderState → Type 0) → p ≡ o → IfSome p P → IfSome o P

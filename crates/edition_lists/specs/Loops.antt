@@ -1,9 +1,7 @@
 -- What private functions say.
 use Rattle.std.specs.Prelude.{◌≡◌, ◌++◌, ◌∷◌, [], ℕ, List, Option, Some, None, Result, Ok, Err, IfSome}
 use Rattle.devices.specs.Devices.{Seen, WroteWhole, WrotePart}
-use Rattle.editions.specs.declared.edition_file.EditionFile.TheVariants.{Follows}
-use Rattle.editions.specs.Folders.{FilesSeen, FolderState, SeenFolder, edition_among, file_at}
-use Rattle.editions.specs.NumberLines.{follows_in}
+use Rattle.editions.specs.Folders.{FilesSeen, FolderState, SeenFolder, edition_among}
 use Rattle.editions.specs.Moments.{IsSoundEdition}
 use Rattle.edition_lists.specs.declared.fault.EditionsFault.{EditionsFault}
 use Rattle.edition_lists.specs.declared.fault.EditionsFault.TheVariants.{Folder, Write}
@@ -19,12 +17,6 @@ use Rattle.edition_lists.specs.Kept.{IsKeptEdition}
 use Rattle.edition_lists.specs.Judged.{IsJudgedRight}
 use Rattle.edition_lists.specs.Rows.{IsRowOf}
 use Rattle.edition_lists.specs.Verified.{IsNotPassed}
-
--- the text of `follows` is there, and says this
-pub record SaysFollows (f : FolderState) (number : ℕ) (follows : Option ℕ) : Type 0 where
-  pub text : List ℕ
-  pub there : file_at f number Follows ≡ Some text
-  pub says : follows_in text ≡ Some follows
 
 -- if an edition is right: of it
 abbrev pub IfRight : JudgedEdition → (KeptEdition → Type 0) → Type 0

@@ -9,34 +9,21 @@ ghost use Rattle.edition_lists.specs.Loops.{IsKeptBefore};
 
 use crate::fault::{EditionFlaw, FolderFault};
 use crate::kept::{KeptEdition, read_kept};
-use checker::{ChangeVerdict, check_change};
-use edition_checks::{ServedFault, wider_of};
+use edition_checks::{Following, ServedFault, may_follow};
 use editions::EditionFolder;
 use std::alloc::Global;
-
-fn have_same_groups(old: &KeptEdition, new: &KeptEdition) -> bool
-    ensures { result ≡ true → new.now.served.policy.groups ≡ old.now.served.policy.groups }
-{
-    new.served.policy.groups.are_same(&old.served.policy.groups)
-}
 
 // What is wrong with the change from an edition.
 fn refused_change(old: &KeptEdition, new: &KeptEdition) -> Option<EditionFlaw>
     ensures { result ≡ None → IsClearedAgainst (kept_view old.now) (kept_view new.now) }
 {
-    if !have_same_groups(old, new) {
-        return Some(EditionFlaw::OtherGroups(old.served.number));
-    }
-    let policy = wider_of(&old.served.policy, &new.served.policy);
-    match check_change(
-        &old.served.base,
-        &old.served.cert,
-        &new.served.base,
-        &new.served.cert,
-        &policy,
-    ) {
-        ChangeVerdict::Cleared => None,
-        verdict => Some(EditionFlaw::ChangeRefused(old.served.number, verdict)),
+    let served = &new.served;
+    match may_follow(&old.served, &served.base, &served.cert, &served.policy) {
+        Following::Cleared => None,
+        Following::OtherGroups => Some(EditionFlaw::OtherGroups(old.served.number)),
+        Following::Refused(verdict) => {
+            Some(EditionFlaw::ChangeRefused(old.served.number, verdict))
+        }
     }
 }
 

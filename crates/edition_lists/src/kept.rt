@@ -6,7 +6,7 @@ ghost use Rattle.editions.specs.Folders.{file_at};
 ghost use Rattle.editions.specs.NumberLines.{follows_in};
 ghost use Rattle.edition_checks.specs.Served.{IsUnchanged};
 ghost use Rattle.edition_lists.specs.Kept.{IsKeptEdition};
-ghost use Rattle.edition_lists.specs.Loops.{SaysFollows};
+ghost use Rattle.edition_checks.specs.NextEditions.{SaysFollows};
 
 use edition_checks::{Served, ServedFault, read_served};
 use editions::{EditionFile, EditionFolder, StoreFault, follows_in};
