@@ -276,8 +276,8 @@ fn push_end(
     current: FoundCurrent,
     status: EditionsStatus,
 ) -> Result<(), AllocError>
-    ensures { OnOk result (out.new.items ≡ out.old.items ++
-        (spec.counts_line count current ++ spec.status_line status)) }
+    ensures { OnOk result (out.new.items ≡
+        out.old.items ++ (spec.counts_line count current ++ spec.status_line status)) }
 {
     push_counts(out, count, current)?;
     out.extend_from_slice(status_line(status))
