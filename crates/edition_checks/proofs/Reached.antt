@@ -27,9 +27,6 @@ all_next_before a b s (t ∷ earlier) later h = (next_before a b (latest_of s ea
 pub reached_before : (a b : SeenFolder) (old new : Served) → IsLater a b → IsEditionReached b old new → IsEditionReached a old new
 reached_before a b old new later h = record { editions = h.editions; next = all_next_before a b old h.editions later h.next; is = h.is }
 
-pub reached_none : (folder : SeenFolder) (s : Served) → IsEditionReached folder s s
-reached_none folder s = record { editions = []; next = tt; is = refl }
-
 pub reached_one : (folder : SeenFolder) (s t : Served) → IsNextEdition folder s t → IsEditionReached folder s t
 reached_one folder s t h = record { editions = t ∷ []; next = (h, tt); is = refl }
 

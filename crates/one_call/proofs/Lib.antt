@@ -1,5 +1,6 @@
 pub mod Heard
 pub mod Turns
+pub mod Renewed
 pub mod Parts
 pub mod Seen
 pub mod Safe

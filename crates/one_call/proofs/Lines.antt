@@ -17,7 +17,8 @@ use Rattle.one_call.specs.Turns.{CallView, turn, first_bytes}
 use Rattle.one_call.specs.Parts.{Parts, First, served_now, heard_in, call_over, call_bytes}
 use Rattle.one_call.specs.Opened.{AreServed}
 use Rattle.one_call.specs.Lines.{IsSoFar, IsCutCall, IsLineServed}
-use Rattle.one_call.specs.Loops.{IsEntryRefused, IsWritten, IsBegunText, IsCutBy, IsBegun}
+use Rattle.one_call.proofs.Renewed.{none_alone}
+use Rattle.one_call.specs.Loops.{IsEntryRefused, IsRenewed, IsWritten, IsBegunText, IsCutBy, IsBegun}
 use Rattle.one_call.proofs.Parts.{over_editions, now_over, call_over_same, heard_same, bytes_same, are_heard_over, served_over, with_byte, call_byte, bytes_byte, heard_byte, are_heard_byte, served_byte}
 use Rattle.one_call.proofs.Safe.{begins}
 
@@ -86,11 +87,12 @@ to_hear groups at from mid to old written parts before s c b h so_far now call g
   given = given;
 }
 
-pub served_more : (groups : List ℕ) (start at : SeenFolder) (parts : Parts) (before s : Served) (h : IsEditionReached at before s)
-    → AreServed groups start parts → before ≡ served_now parts → IsLater start at → AreServed groups start (over_editions parts h.editions)
+pub served_more : (groups : List ℕ) (start at : SeenFolder) (parts : Parts) (before s : Served) (h : IsRenewed at before s)
+    → AreServed groups start parts → before ≡ served_now parts → IsLater start at → AreServed groups start (over_editions parts h.reached.editions)
 served_more groups start at parts before s h served now later =
-    served_over groups start parts h.editions served
-    (subst (λ (x : Served). AreNext start x h.editions) now (all_next_before start at before h.editions later h.next))
+    served_over groups start parts h.reached.editions served
+    (subst (λ (x : Served). AreNext start x h.reached.editions) now (all_next_before start at before h.reached.editions later h.reached.next))
+    (none_alone groups start at parts before s h served now later)
 
 pub call_more : (groups : List ℕ) (parts : Parts) (s : Served) (c d : CallView) (b : ℕ) → s ≡ served_now parts → c ≡ call_over groups parts → d ≡ (turn s.base c b).0 → d ≡ call_over groups (with_byte parts b)
 call_more groups parts s c d b now call is =

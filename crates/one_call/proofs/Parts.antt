@@ -7,7 +7,9 @@ use Rattle.edition_checks.specs.NextEditions.{IsNextEdition, AreNext, latest_of}
 use Rattle.served_bytes.specs.Sent.{sent_bytes}
 use Rattle.one_call.specs.Turns.{CallView, begun_call, turn, call_after, answers_to, first_bytes}
 use Rattle.one_call.specs.Parts.{Parts, First, Then, served_now, heard_in, call_over, call_bytes, AreHeard}
-use Rattle.one_call.specs.Opened.{AreServed}
+use Rattle.edition_checks.specs.Served.{IfHeld}
+use Rattle.one_call.specs.Opened.{AreServed, MayChange}
+use Rattle.one_call.proofs.Renewed.{may_change}
 use Rattle.one_call.proofs.Turns.{after_append, answers_append, heard_one}
 
 -- Other editions, the latest first, without bytes.
@@ -36,10 +38,15 @@ pub are_heard_over : (groups : List ℕ) (parts : Parts) (editions : List Served
 are_heard_over groups parts [] h = h
 are_heard_over groups parts (s ∷ earlier) h = (are_heard_over groups parts earlier h, tt)
 
-pub served_over : (groups : List ℕ) (folder : SeenFolder) (parts : Parts) (editions : List Served) → AreServed groups folder parts → AreNext folder (served_now parts) editions → AreServed groups folder (over_editions parts editions)
-served_over groups folder parts [] h next = h
-served_over groups folder parts (s ∷ earlier) h next =
-    (served_over groups folder parts earlier h next.1, subst (λ (old : Served). IsNextEdition folder old s) (sym (now_over parts earlier)) next.0)
+served_if : (groups : List ℕ) (folder : SeenFolder) (parts : Parts) (editions : List Served) → AreServed groups folder parts → AreNext folder (served_now parts) editions → MayChange folder → AreServed groups folder (over_editions parts editions)
+served_if groups folder parts [] h next may = h
+served_if groups folder parts (s ∷ earlier) h next may =
+    (served_if groups folder parts earlier h next.1 may, subst (λ (old : Served). IsNextEdition folder old s) (sym (now_over parts earlier)) next.0, may)
+
+pub served_over : (groups : List ℕ) (folder : SeenFolder) (parts : Parts) (editions : List Served) → AreServed groups folder parts → AreNext folder (served_now parts) editions → IfHeld folder (λ f. editions ≡ [])
+    → AreServed groups folder (over_editions parts editions)
+served_over groups folder parts [] h next alone = h
+served_over groups folder parts (s ∷ earlier) h next alone = served_if groups folder parts (s ∷ earlier) h next (may_change folder s earlier alone)
 
 -- One byte more.
 

@@ -1,5 +1,5 @@
 -- Facts that hold between the turns of loops, and what functions that aren't exported say. No promise rests on them.
-use Rattle.std.specs.Prelude.{◌≡◌, ℕ, Bool, false, true, List, take, Result, Ok, Err}
+use Rattle.std.specs.Prelude.{◌≡◌, ℕ, Bool, false, true, List, [], take, Result, Ok, Err}
 use Rattle.std.specs.Io.KnownBytes.{Appends}
 use Rattle.frame_records.specs.Bases.{BaseView}
 use Rattle.frame_records.specs.Seek.{seek_entry}
@@ -12,12 +12,13 @@ use Rattle.served_bytes.specs.Sent.{sent_bytes}
 use Rattle.one_call.specs.declared.fault.ServeFault.{ServeFault}
 use Rattle.one_call.specs.declared.fault.ServeFault.TheVariants.{NotOpened, Read, Write, Memory}
 use Rattle.one_call.specs.Turns.{CallView, begun_call, first_bytes, turn}
-use Rattle.one_call.specs.Opened.{IsToRefuse}
+use Rattle.one_call.specs.Opened.{IsToRefuse, NamesCurrent}
 use Rattle.checker.specs.declared.verdict.Verdict.TheVariants as verdicts
 use Rattle.checker.specs.Verdict.{verdict}
 use Rattle.editions.specs.Folders.{SeenFolder}
 use Rattle.edition_checks.specs.declared.served.Served.{Served}
-use Rattle.edition_checks.specs.NextEditions.{IsFit}
+use Rattle.edition_checks.specs.Served.{IfHeld}
+use Rattle.edition_checks.specs.NextEditions.{IsFit, IsEditionReached}
 use Rattle.one_call.specs.declared.fault.CallFault.{CallFault}
 use Rattle.one_call.specs.declared.fault.CallFault.TheVariants as faults
 
@@ -73,6 +74,11 @@ ends_key Page = false
 ends_key End = false
 
 -- The edition.
+
+-- another edition was taken, or none was; none if the one that is served is the current one, and nobody else changes the folder
+pub record IsRenewed (folder : SeenFolder) (old new : Served) : Type 0 where
+  pub reached : IsEditionReached folder old new
+  pub alone : IfHeld folder (λ f. NamesCurrent old.number f → reached.editions ≡ [])
 
 -- what the check of an edition that was read says of it
 abbrev pub IsEditionJudged : Served → Result Served CallFault → Type 0

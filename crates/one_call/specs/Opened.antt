@@ -38,8 +38,12 @@ pub record IsToRefuse (folder : SeenFolder) (number : ℕ) (cause : Cause) : Typ
   pub is_number : served.number ≡ number
   pub refused : verdict served.base served.policy served.cert ≡ verdicts.Refused cause
 
+-- others may change the folder, or it doesn't show what is in it
+abbrev pub MayChange : SeenFolder → Type 0
+MayChange folder = IfHeld folder (λ f. ⊥)
+
 -- the editions of a call of a caller of these groups: the first is the one that was current, and for these groups; each other follows the
--- one before it, and it and the change to it were cleared
+-- one before it, and it and the change to it were cleared. If nobody else changes the folder there is no other
 abbrev pub AreServed : List ℕ → SeenFolder → Parts → Type 0
 AreServed groups folder (First s bytes) = (s.policy.groups ≡ groups) × IsToServe folder s
-AreServed groups folder (Then before s bytes) = AreServed groups folder before × IsNextEdition folder (served_now before) s
+AreServed groups folder (Then before s bytes) = AreServed groups folder before × IsNextEdition folder (served_now before) s × MayChange folder

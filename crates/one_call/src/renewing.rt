@@ -1,9 +1,10 @@
 //! The edition that a caller is served, while others are published.
 
-ghost use Rattle.std.specs.Prelude.{◌≡◌, IfSome};
+ghost use Rattle.std.specs.Prelude.{◌≡◌, ◌≢◌, IfSome};
 ghost use Rattle.editions.specs.Folders.{IsLater};
 ghost use Rattle.edition_checks.specs.Served.{IfHeld};
 ghost use Rattle.edition_checks.specs.NextEditions.{IsEditionReached};
+ghost use Rattle.one_call.specs.Loops.{IsRenewed};
 ghost use Rattle.one_call.specs.Opened.{NamesCurrent};
 
 use crate::log::CallLog;
@@ -45,6 +46,7 @@ fn new_edition<F: EditionFolder>(
     ensures later { IsLater (F.seen folder.old) (F.seen folder.new) }
     ensures reached { IfSome result (IsEditionReached (F.seen folder.old) served.now) }
     ensures current { IfSome result (λ new. IfHeld (F.seen folder.old) (NamesCurrent new.number)) }
+    ensures other { IfSome result (λ new. new.number ≢ served.now.number) }
 {
     let number = match current_number(alloc, folder) {
         Ok(number) => number,
@@ -69,7 +71,7 @@ pub fn renew<F: EditionFolder, L: CallLog>(
     log: &mut L,
 )
     ensures later { IsLater (F.seen folder.old) (F.seen folder.new) }
-    ensures reached { IsEditionReached (F.seen folder.old) served.old served.new }
+    ensures renewed { IsRenewed (F.seen folder.old) served.old served.new }
 {
     if let Some(new) = new_edition(alloc, folder, served, refused) {
         log.changes(new.number);

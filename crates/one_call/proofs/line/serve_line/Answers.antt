@@ -31,12 +31,13 @@ returns-in-Err-answer g c start later is =
     let long : length c.read.new.into ≡ 1 = search rules in
     let b = get_or c.read.new.into 0 0 in
     let given = given_one (R c.loop.source) (R c.read.new.self) c.read.new.into c.in-Ok-read.field-0 long c.in-Ok-read.ensures.fits.0 c.in-Ok-read.field-0-test.1 c.in-Ok-read.ensures.bytes.0 in
-    let reached = c.renew.ensures.reached in
+    let renewed = c.renew.ensures.renewed in
+    let reached = renewed.reached in
     let hear = to_hear groups (F c.loop.folder) (R c.args.source.now) (R c.loop.source) (R c.read.new.self) (W c.args.sink.now) (W c.loop.sink) h.parts c.loop.served c.renew.new.served c.loop.call b
     reached h.so_far h.now h.call (sym c.is_over.ensures ∙ c.if-is_over.false) given in
     cut_by groups start (R c.args.source.now) (R c.loop.source) (R c.read.new.self) (W c.args.sink.now) (W c.loop.sink) (W c.answer.new.sink)
     (over_editions h.parts reached.editions) c.renew.new.served c.loop.call b c.in-Err-answer.fault hear
-    (served_more groups start (F c.loop.folder) h.parts c.loop.served c.renew.new.served reached (h.served start later is) h.now (later_then start (F c.args.folder.now) (F c.loop.folder) later h.later))
+    (served_more groups start (F c.loop.folder) h.parts c.loop.served c.renew.new.served renewed (h.served start later is) h.now (later_then start (F c.args.folder.now) (F c.loop.folder) later h.later))
     c.in-Err-answer.ensures
 
 pub loop-preserved : goal.loop-preserved
@@ -49,7 +50,8 @@ loop-preserved g c =
     let long : length c.read.new.into ≡ 1 = search rules in
     let b = get_or c.read.new.into 0 0 in
     let given = given_one (R c.loop.source) (R c.read.new.self) c.read.new.into c.in-Ok-read.field-0 long c.in-Ok-read.ensures.fits.0 c.in-Ok-read.field-0-test.1 c.in-Ok-read.ensures.bytes.0 in
-    let reached = c.renew.ensures.reached in
+    let renewed = c.renew.ensures.renewed in
+    let reached = renewed.reached in
     let over = over_editions h.parts reached.editions in
     let hear = to_hear groups (F c.loop.folder) (R c.args.source.now) (R c.loop.source) (R c.read.new.self) (W c.args.sink.now) (W c.loop.sink) h.parts c.loop.served c.renew.new.served c.loop.call b
     reached h.so_far h.now h.call (sym c.is_over.ensures ∙ c.if-is_over.false) given in
@@ -61,7 +63,7 @@ loop-preserved g c =
       now = hear.now ∙ sym (now_byte over b);
       later = later_then (F c.args.folder.now) (F c.loop.folder) (F c.renew.new.folder) h.later c.renew.ensures.later;
       served = λ start later is. served_byte groups start over b
-          (served_more groups start (F c.loop.folder) h.parts c.loop.served c.renew.new.served reached (h.served start later is) h.now
+          (served_more groups start (F c.loop.folder) h.parts c.loop.served c.renew.new.served renewed (h.served start later is) h.now
           (later_then start (F c.args.folder.now) (F c.loop.folder) later h.later));
       reads = c.in-Ok-read.ensures.flag ∙ h.reads;
       writes = c.in-Ok-answer.ensures.1.unbroken;
