@@ -250,9 +250,9 @@ fn print_album<R: Files + Input + Print + Eprint + AllocGlobal>(
     }
 }
 
-/// Prints the base of the screens, or puts them into one. If files are refused, or several frames have one id, each is named on standard error, nothing is
-/// printed or changed, and the status is 3. If the bad ones are to be skipped, it is the base of the others, and the status is 1; of frames
-/// of one id the first is taken. If there are no others, nothing is printed.
+/// Prints the base of the screens, or puts them into one; the exit status. If files are refused, or several frames have one id, each is
+/// named on standard error, nothing is printed or changed, and the status is 3. If the bad ones are to be skipped, it is the base of the
+/// others, and the status is 1; the first frame of an id is taken. If there are no others, nothing is printed.
 pub fn import<R: Files + Input + Print + Eprint + AllocGlobal>(rt: &R, asked: &Import) -> u8 {
     let mut album = Album::new(rt.alloc());
     match take_files(rt, asked, &mut album) {

@@ -45,7 +45,7 @@ fn sum_text(alloc: Global, merged: &Merged) -> Result<Vec<u8>, AllocError> {
     let mut text = Vec::new(alloc);
     push_part(&mut text, merged.replaced.as_slice(), b" replaced (")?;
     push_part(&mut text, merged.added.as_slice(), b" added (")?;
-    push_part(&mut text, merged.left.as_slice(), b" left alone (")?;
+    push_part(&mut text, merged.left.as_slice(), b" not replaced (")?;
     Ok(text)
 }
 

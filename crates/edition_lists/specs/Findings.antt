@@ -1,5 +1,5 @@
 -- What is found of the editions of a folder.
-use Rattle.std.specs.Prelude.{◌≡◌, ℕ, Bool, true, false, ◌&&◌, if◌then◌else◌, List, map, Option, Some, None, is_none}
+use Rattle.std.specs.Prelude.{◌≡◌, ℕ, Bool, true, false, ◌&&◌, if◌then◌else◌, List, map, Option, is_none}
 use Rattle.std.specs.List.{All, list_all}
 use Rattle.editions.specs.Folders.{FolderState}
 use Rattle.edition_lists.specs.declared.current.FoundCurrent.{FoundCurrent}
@@ -7,9 +7,7 @@ use Rattle.edition_lists.specs.declared.current.FoundCurrent.TheVariants.{Nothin
 use Rattle.edition_lists.specs.declared.finding.EditionFinding.{EditionFinding}
 use Rattle.edition_lists.specs.declared.finding.EditionNote.{EditionNote}
 use Rattle.edition_lists.specs.declared.finding.EditionNote.TheVariants as note
-use Rattle.edition_lists.specs.declared.judging.JudgedEdition.{JudgedEdition}
 use Rattle.edition_lists.specs.declared.judging.JudgedEdition.TheVariants as judged
-use Rattle.edition_lists.specs.declared.kept.KeptEdition.{KeptEdition}
 use Rattle.edition_lists.specs.declared.status.EditionsStatus.{EditionsStatus}
 use Rattle.edition_lists.specs.declared.status.EditionsStatus.TheVariants.{Cleared, Refused}
 use Rattle.edition_lists.specs.Currents.{found_current, served_of}

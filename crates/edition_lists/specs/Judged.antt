@@ -1,19 +1,15 @@
 -- How editions are judged.
-use Rattle.std.specs.Prelude.{◌≡◌, ◌<◌, ◌≤◌, ◌⊎◌, ℕ, List, Option, Some, None, IfSome, map}
+use Rattle.std.specs.Prelude.{◌≡◌, ◌<◌, ◌≤◌, ◌⊎◌, ℕ, List, Option, Some, None, map}
 use Rattle.std.specs.List.{All}
 use Rattle.std.specs.List.Sorted.{IsPermutation, IsNonDecreasing}
-use Rattle.editions.specs.declared.edition_file.EditionFile.TheVariants.{Cert, Follows}
-use Rattle.editions.specs.Folders.{FilesSeen, FolderState, SeenFolder, edition_among, file_at}
-use Rattle.editions.specs.NumberLines.{follows_in, follows_text}
+use Rattle.editions.specs.declared.edition_file.EditionFile.TheVariants.{Cert}
+use Rattle.editions.specs.Folders.{FolderState, file_at}
+use Rattle.editions.specs.NumberLines.{follows_text}
 use Rattle.editions.specs.Sums.{sums_text}
 use Rattle.editions.specs.Chains.{EditionView, IsClearedEdition, IsClearedAgainst}
-use Rattle.editions.specs.Moments.{IsSoundEdition}
 use Rattle.edition_checks.specs.Served.{served_view}
-use Rattle.edition_lists.specs.declared.judging.JudgedEdition.{JudgedEdition}
-use Rattle.edition_lists.specs.declared.judging.JudgedEdition.TheVariants.{Right, Wrong}
 use Rattle.edition_lists.specs.declared.kept.KeptEdition.{KeptEdition}
 use Rattle.edition_lists.specs.Kept.{IsKeptEdition}
-use Rattle.edition_lists.specs.Verified.{IsNotPassed}
 
 abbrev pub kept_view : KeptEdition → EditionView
 kept_view e = served_view e.follows e.served

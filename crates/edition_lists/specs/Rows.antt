@@ -1,5 +1,5 @@
 -- The rows of a list of editions.
-use Rattle.std.specs.Prelude.{◌≡◌, ◌++◌, ◌∷◌, [], ℕ, Bool, true, false, if◌then◌else◌, length, List, map, Option, Some, None}
+use Rattle.std.specs.Prelude.{◌≡◌, ℕ, Bool, true, false, if◌then◌else◌, length, List, map, Option, Some, None}
 use Rattle.std.specs.List.{All}
 use Rattle.editions.specs.Folders.{FolderState}
 use Rattle.base_differences.specs.Summaries.{BeginsWithCount}

@@ -64,7 +64,7 @@ not_yet_line serving n follows = []
 abbrev pub unserved_line : Option ℕ → ℕ → Option ℕ → List ℕ
 unserved_line served n follows = not_yet_line (serving_of served n follows) n follows
 
--- of a right edition that was served nothing is printed
+-- nothing is printed of a right edition that was served
 abbrev pub note_line : List ℕ → Option ℕ → ℕ → EditionNote → List ℕ
 note_line folder served n (note.Right follows) = unserved_line served n follows
 note_line folder served n (note.Wrong f) = flaw_line folder n f

@@ -1,6 +1,6 @@
 //! The run that verifies a folder.
 
-ghost use Rattle.std.specs.Prelude.{◌≡◌, ◌++◌, ◌∷◌, [], true, false, Ok, OnOk, IfOk, IfSome};
+ghost use Rattle.std.specs.Prelude.{◌≡◌, ◌++◌, ◌∷◌, [], true, false, Ok, IfOk, IfSome};
 ghost use Rattle.edition_checks.specs.Served.{IsUnchanged};
 ghost use Rattle.edition_lists.specs.Judged.{AreNumbersOf};
 ghost use Rattle.edition_lists.specs.Findings.{AreFindings, IsFoundIn, IsSaidOf};

@@ -1,7 +1,7 @@
 //! The frames that are added at the end.
 
-ghost use Rattle.std.specs.Prelude.{◌≡◌, ◌++◌, IfOk, IfErr, OnOk, length};
-ghost use Rattle.screen_files.specs.Album.{IsNoText, first_over};
+ghost use Rattle.std.specs.Prelude.{◌≡◌, ◌++◌, IfOk, IfErr, OnOk};
+ghost use Rattle.screen_files.specs.Album.{IsNoText};
 ghost use Rattle.frame_edits.specs.Merging as spec;
 
 use screen_files::{BaseTextFault, Filed, push_frames};

@@ -5,7 +5,7 @@
 //! ```
 //!
 //! - A frame that the base has gets the rows of the screen: they take the place of its `rows` or its `body`. Its routes, its price and
-//!   all else stay. A frame with `lead = "keep"` is left alone: its rows aren't all that a caller sees.
+//!   all else stay. A frame with `lead = "keep"` stays as it is: its rows aren't all that a caller sees.
 //! - A frame that the base doesn't have is added at the end of the text, as `screen_files` writes it.
 //! - The text has to be a base, and what comes of it too.
 //! - [`merge_frames`], [`Merged`], [`MergeFault`].

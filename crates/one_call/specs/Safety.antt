@@ -53,7 +53,7 @@ abbrev pub IsSeenAs : List ℕ → Parts → Screen → Type 0
 IsSeenAs groups parts t =
     run t (call_bytes groups parts) ≡ with_texts (top_over groups parts) (bottom_text (call_over groups parts)) (shown_terminal groups parts)
 
--- of all editions in turn, cleared or not
+-- all editions in turn, cleared or not
 abbrev pub PartsAreSeen : Type 0
 PartsAreSeen = (groups : List ℕ) (parts : Parts) (t : Screen) → IsSeenAs groups parts t
 
@@ -68,19 +68,19 @@ pub record AreSafeReplies (s : Served) (replies : List Reply) : Type 0 where
 abbrev pub IsSafeState : List ℕ → Served → SessionState → Type 0
 IsSafeState groups s state = LeftOrRegains groups s.base s.policy.keyings state
 
--- of the first edition: the entry frame is found, and is the first reply
+-- the first edition: the entry frame is found, and is the first reply
 pub record IsSafeBeginning (groups : List ℕ) (s : Served) (bytes : List ℕ) : Type 0 where
   pub price : ℕ
   pub found : seek_entry groups s.base ≡ Found price
   pub replies : AreSafeReplies s (replies_of groups s.base (first_keys groups s.base bytes) price)
   pub regains : IsSafeState groups s (state_after groups s.base (opening s.base) (first_keys groups s.base bytes))
 
--- of another: from the call so far
+-- another edition, from the call so far
 pub record IsSafeGoingOn (groups : List ℕ) (s : Served) (c : CallView) (bytes : List ℕ) : Type 0 where
   pub replies : AreSafeReplies s (replies_in s.base c bytes)
   pub regains : IsSafeState groups s (state_after groups s.base c.session.state (keys_in_call s.base c bytes))
 
--- of each in turn
+-- each in turn
 abbrev pub AreSafeParts : List ℕ → Parts → Type 0
 AreSafeParts groups (First s bytes) = IsSafeBeginning groups s bytes
 AreSafeParts groups (Then before s bytes) = AreSafeParts groups before × IsSafeGoingOn groups s (call_over groups before) bytes

@@ -193,7 +193,7 @@ fn sort(filed: &mut Vec<Filed>) -> Result<(), AllocError>
 /// Keeps one frame of each id: the first that shows all that the others of its id show, in rows 1 to 22, at the same price, if all are
 /// of one capture. If none does, the others are its twins: they are refused.
 ///
-/// Of frames of several files that have one id, the first is kept.
+/// If frames of several files have one id, the first is kept.
 pub fn settle(alloc: Global, filed: Vec<Filed>) -> Result<Settled, AllocError>
     ensures { IfOk result (spec.IsSettled filed.items) }
 {

@@ -52,7 +52,7 @@ unfoldable pub number_among : List (List ℕ) → Option Id
 number_among [] = None
 number_among (f ∷ fs) = if is_number_field f then field_id f else number_among fs
 
--- of the fields between colons (58)
+-- the number in the fields between colons (58)
 abbrev pub field_number : List ℕ → Option Id
 field_number text = number_among (parts_of 58 text)
 
@@ -99,7 +99,7 @@ has_byte_mark text = get_or text 0 0 == 0xEF && get_or text 1 0 == 0xBB && get_o
 abbrev pub after_byte_mark : List ℕ → List ℕ
 after_byte_mark text = if has_byte_mark text then drop 3 text else text
 
--- of the lines of a text, between line ends (10)
+-- those of a text's lines, between line ends (10)
 abbrev pub linked_screens : List ℕ → Result (List LinkedScreen) AddressFault
 linked_screens text = lines_screens 1 (parts_of 10 (after_byte_mark text))
 
