@@ -166,7 +166,9 @@ fn a_current_that_names_nothing_is_refused(rt: HostRuntime) -> Result<(), Fail> 
 #[test]
 fn a_number_that_is_missing_is_named(rt: HostRuntime) -> Result<(), Fail> {
     let mut store = published(rt.alloc(), 2)?;
-    let _ = store.editions.remove(1);
+    if store.editions.len() > 1 {
+        let _ = store.editions.remove(1);
+    }
     refused(
         rt.alloc(),
         &mut store,
