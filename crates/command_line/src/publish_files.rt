@@ -212,7 +212,10 @@ const FULL: Unfinished = Unfinished::Unwritten("no number is left");
 pub const MEMORY: Unfinished = Unfinished::Fault(RunFault::Memory);
 
 /// Says what the folder's last call that failed was about; the exit status.
-pub fn report_failed<'a, R: Files + Eprint + AllocGlobal>(rt: &R, store: &FolderFiles<'a, R>) -> u8 {
+pub fn report_failed<'a, R: Files + Eprint + AllocGlobal>(
+    rt: &R,
+    store: &FolderFiles<'a, R>,
+) -> u8 {
     match &store.failed {
         Some(failed) => report(rt, failed.path.as_str(), &failed.why),
         None => report(rt, store.path, &MEMORY),

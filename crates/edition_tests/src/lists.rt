@@ -2,7 +2,9 @@
 
 use crate::memory_store::{MemoryStore, copied};
 use base_differences::base_summary;
-use edition_lists::{EditionsFault, EditionsStatus, FolderFault, run_list, run_verify, status_of_editions};
+use edition_lists::{
+    EditionsFault, EditionsStatus, FolderFault, run_list, run_verify, status_of_editions,
+};
 use editions::EditionFile;
 use publishing::{Publish, run_publish};
 use std::alloc::Global;
@@ -173,8 +175,9 @@ fn a_number_that_is_missing_is_named(rt: HostRuntime) -> Result<(), Fail> {
     let (run, said) = listed(rt.alloc(), &mut store);
     same(run, Ok(EditionsStatus::Listed))?;
     same(
-        said.as_slice()
-            .ends_with(b"edition 3  served   follows 2  3 frames, edition 2 isn't there\n"),
+        said.as_slice().ends_with(
+            b"edition 3  served   follows 2  3 frames, edition 2 isn't there\n",
+        ),
         true,
     )
 }
@@ -244,7 +247,10 @@ fn a_file_that_does_not_read_is_named(rt: HostRuntime) -> Result<(), Fail> {
         "live/editions/1/base.cert: it isn't what was published\n1 edition, 1 is served\nREFUSED\n",
     )?;
     let (run, _) = listed(rt.alloc(), &mut store);
-    same(run, Err(EditionsFault::Folder(FolderFault::Unread(1, EditionFile::Cert))))?;
+    same(
+        run,
+        Err(EditionsFault::Folder(FolderFault::Unread(1, EditionFile::Cert))),
+    )?;
     same(status_of_editions(&run), 3)
 }
 
