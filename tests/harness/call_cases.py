@@ -15,9 +15,10 @@ from pathlib import Path
 from harness.places import TOP
 from harness.running import program, scratch
 from second_reading import audit, session
-from second_reading.base import Asked, Base, Groups, keys_in
+from second_reading.base import Asked, Base, FrameId, Groups, keys_in
 from second_reading.faults import base_of
 from second_reading.map import View, draw
+from second_reading.saved import file_of
 from second_reading.screens import sent
 
 DATA = TOP / "tests" / "data"
@@ -187,8 +188,13 @@ def texts() -> dict[str, str]:
     """The texts of the answers that have names."""
     pages = {"PAGE": page(), "PAGE_1231": page("--page", "1231")}
     maps = {"MAP": MAP, "MAP_1231": draw(DEMO.encode(), Asked(), View("page", 1_231)).stdout}
-    shown = {"CELLS": CELLS, "SHOWN": SHOWN, "PART_TWO": PART_TWO, "BLANK": " " * 960}
-    return TEXTS | {"CERT": CERT, "GROUPED": CERTIFICATES["grouped"]} | pages | maps | shown
+    shown = {"CELLS": CELLS, "SHOWN": SHOWN}
+    saved = {"LINK_123A": (123, "a", CELLS), "LINK_1231B": (1_231, "b", PART_TWO), "LINK_5A": (5, "a", " " * 960)}
+    links = {
+        name: file_of("link", FrameId(page, letter), cells.encode()).decode()
+        for name, (page, letter, cells) in saved.items()
+    }
+    return TEXTS | {"CERT": CERT, "GROUPED": CERTIFICATES["grouped"]} | pages | maps | shown | links
 
 
 def lines_in(name: str) -> Iterator[list[str]]:
