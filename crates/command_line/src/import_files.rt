@@ -2,6 +2,7 @@
 
 use crate::merge_files::import_into;
 use crate::named_files::{Unfinished, ended, open_base, report};
+use crate::screen_paths::{screen_paths, words_of};
 use audit_report::{FromRead, IntoWrite, RunFault};
 use command_words::Import;
 use pageaudit::{
@@ -154,13 +155,15 @@ fn report_file<R: Files + Eprint + AllocGlobal>(rt: &R, path: &str, refused: &Re
     }
 }
 
-// Adds the frames of all files; the exit status, 0 if none is at fault. All faults are named, unless memory is refused.
+// Adds the frames of all files; the exit status, 0 if none is at fault. All faults are named, unless memory is refused. `refused` is
+// the status of the folders.
 fn take_files<R: Files + Input + Eprint + AllocGlobal>(
     rt: &R,
     asked: &Import,
+    refused: u8,
     album: &mut Album,
 ) -> u8 {
-    let mut status = 0;
+    let mut status = refused;
     for (number, path) in asked.screens.iter().enumerate() {
         let taken = match take_file(rt, asked, path, number, album) {
             Ok(status) => status,
@@ -250,13 +253,41 @@ fn print_album<R: Files + Input + Print + Eprint + AllocGlobal>(
     }
 }
 
-/// Prints the base of the screens, or puts them into one; the exit status. If files are refused, or several frames have one id, each is
-/// named on standard error, nothing is printed or changed, and the status is 3. If the bad ones are to be skipped, it is the base of the
-/// others, and the status is 1; the first frame of an id is taken. If there are no others, nothing is printed.
-pub fn import<R: Files + Input + Print + Eprint + AllocGlobal>(rt: &R, asked: &Import) -> u8 {
+// Imports files.
+fn import_files<R: Files + Input + Print + Eprint + AllocGlobal>(
+    rt: &R,
+    asked: &Import,
+    refused: u8,
+) -> u8 {
     let mut album = Album::new(rt.alloc());
-    match take_files(rt, asked, &mut album) {
+    match take_files(rt, asked, refused, &mut album) {
         4 => 4,
         refused => print_album(rt, asked, album, refused),
     }
+}
+
+/// Prints the base of the screens, or puts them into one; the exit status. A folder is the files in it, by their names. If files are refused, or several frames have one id, each is
+/// named on standard error, nothing is printed or changed, and the status is 3. If the bad ones are to be skipped, it is the base of the
+/// others, and the status is 1; the first frame of an id is taken. If there are no others, nothing is printed.
+pub fn import<R: Files + Input + Print + Eprint + AllocGlobal + Clone + Drop>(
+    rt: &R,
+    asked: &Import,
+) -> u8 {
+    let mut paths = Vec::new(rt.alloc());
+    let refused = screen_paths(rt, asked.screens, &mut paths);
+    if refused == 4 {
+        return refused;
+    }
+    let Ok(words) = words_of(rt.alloc(), paths.as_slice()) else {
+        return report(rt, "output", &Unfinished::Fault(RunFault::Memory));
+    };
+    let files = Import {
+        screens: words.as_slice(),
+        kind: asked.kind,
+        skip_bad: asked.skip_bad,
+        entry: asked.entry,
+        into: asked.into,
+        is_shown: asked.is_shown,
+    };
+    import_files(rt, &files, refused)
 }

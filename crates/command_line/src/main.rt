@@ -18,6 +18,7 @@ mod named_files;
 mod out_file;
 mod pages_file;
 mod publish_files;
+mod screen_paths;
 mod serve_call;
 mod serve_line;
 mod serve_notes;
