@@ -97,8 +97,9 @@ fn differences_text(alloc: Global, old: Option<&Base>, new: &Base) -> Result<Vec
     Ok(out)
 }
 
-/// The number of frames of a base, and how it differs from the one before it: `79 frames, 2 new (4783a 4783b), 5 changed,
-/// prices 4785a 10p -> 15p`. At most eight frames of a kind are named. The words of the differences are tested, not proved.
+/// The number of frames of a base, and how it differs from the one before it: `79 frames, 2 new (4783a 4783b), 5
+/// changed, prices 4785a 10p -> 15p`. At most eight frames of a kind are named. The words of the differences are
+/// tested, not proved.
 pub fn base_summary(alloc: Global, old: Option<&Base>, new: &Base) -> Result<Vec<u8>, AllocError>
     ensures { IfOk result (λ text. BeginsWithCount (length new.now.frames) text.items) }
 {
