@@ -3,7 +3,7 @@ it.
 """
 
 import re
-from collections.abc import Iterable
+from collections.abc import Container, Iterable
 from typing import NamedTuple
 
 from .base import MOST_BYTES, MOST_LISTED, Answer, FrameId
@@ -279,8 +279,22 @@ def row_line(row: bytes) -> str:
     return f'    "{text}",\n'
 
 
-def frame_text(id: FrameId, screen: Screen, leads_on: bool) -> str:
-    cells, keys = screen.cells, keys_shown(screen.cells)
+def page_by(page: int, digit: str) -> int:
+    """The page to which a digit leads by its number: the one without the last digit, or the one with this digit more."""
+    return int((str(page)[:-1] or "0") if digit == "0" else f"{page}{digit}")
+
+
+def routes_line(id: FrameId, keys: str, known: Container[FrameId]) -> str:
+    """The routes of a frame. They are guessed if they lead to known frames on other pages."""
+    pages = {digit: page_by(id.page, digit) for digit in keys.split()}
+    pairs = [f"{key} = {page}" for key, page in pages.items() if page != id.page and FrameId(page, "a") in known]
+    if pairs:
+        return f"routes = {{ {', '.join(pairs)} }} # by its number; keys shown:{keys}\n"
+    return "routes = { }" + (f" # keys shown:{keys}" if keys else "") + "\n"
+
+
+def frame_text(id: FrameId, screen: Screen, leads_on: bool, known: Container[FrameId] = ()) -> str:
+    cells = screen.cells
     return "".join(
         [
             "\n[[frame]]\n",
@@ -288,18 +302,18 @@ def frame_text(id: FrameId, screen: Screen, leads_on: bool) -> str:
             f'id = "{id}"\n',
             "" if screen.price is None else f"price = {screen.price}\n",
             "next = true\n" if leads_on else "",
-            "routes = { }" + (f" # keys shown:{keys}" if keys else "") + "\n",
+            routes_line(id, keys_shown(cells), known),
             "rows = [\n" + "".join(map(row_line, rows_of(cells))) + "]\n",
             comment(cells, 23),
         ]
     )
 
 
-def base_lines(frames: dict[FrameId, Screen], entry: int | None) -> Answer:
+def base_lines(frames: dict[FrameId, Screen], entry: int | None, guesses: bool = False) -> Answer:
     """The text of a base: the file of the first frame that ends too late has its line instead."""
     text = f"entry = {min(id.page for id in frames) if entry is None else entry}\n"
     for id in sorted(frames):
-        text += frame_text(id, frames[id], id.following in frames)
+        text += frame_text(id, frames[id], id.following in frames, frames if guesses else ())
         if len(text) > MOST_BYTES:
             return Answer(3, "", f"{frames[id].path}: with this frame the base is longer than 16,777,216 bytes\n")
     return Answer(0, text)
@@ -362,8 +376,22 @@ class Reading:
         return f"{screen.path}: at byte {screen.offset}: {other}\n"
 
 
+def files_in(folder: str, files: Iterable[tuple[str, bytes | str]]) -> list[tuple[str, bytes | str]]:
+    """What stands for a folder: its files, by name, or the reason why there are none."""
+    found = sorted((path, data) for path, data in files if isinstance(data, bytes) and not is_hidden(path))
+    return found or [(folder, "no files in this folder")]
+
+
+def is_hidden(path: str) -> bool:
+    return path.rpartition("/")[2].startswith(".")
+
+
 def imported(
-    files: Iterable[tuple[str, bytes | str]], stream: bool = False, entry: int | None = None, skip_bad: bool = False
+    files: Iterable[tuple[str, bytes | str]],
+    stream: bool = False,
+    entry: int | None = None,
+    skip_bad: bool = False,
+    guesses: bool = False,
 ) -> Answer:
     """What `import` answers to files, each a path and its bytes or the reason why it can't be read."""
     reading = Reading(stream)
@@ -372,8 +400,8 @@ def imported(
     lines = "".join(reading.lines + [line for id in sorted(reading.twins) for line in reading.twins[id]])
     answer = Answer(3, "", lines)
     if not lines:
-        answer = base_lines(reading.frames, entry)
+        answer = base_lines(reading.frames, entry, guesses)
     elif skip_bad and reading.frames:
-        others = base_lines(reading.frames, entry)
+        others = base_lines(reading.frames, entry, guesses)
         answer = Answer(others.status or 1, others.stdout, lines + others.stderr)
     return answer._replace(stderr=reading.notes + answer.stderr)

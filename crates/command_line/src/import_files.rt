@@ -184,7 +184,13 @@ fn print_base<R: Print + AllocGlobal>(
     settled: &Settled,
 ) -> Result<ImportStatus, Unfinished> {
     let mut out = IntoWrite::new(io::writer(rt));
-    let run = run_import(rt.alloc(), settled, asked.entry, &mut out);
+    let run = run_import(
+        rt.alloc(),
+        settled,
+        asked.entry,
+        asked.guesses,
+        &mut out,
+    );
     ended(run, &out)
 }
 
@@ -266,9 +272,10 @@ fn import_files<R: Files + Input + Print + Eprint + AllocGlobal>(
     }
 }
 
-/// Prints the base of the screens, or puts them into one; the exit status. A folder is the files in it, by their names. If files are refused, or several frames have one id, each is
-/// named on standard error, nothing is printed or changed, and the status is 3. If the bad ones are to be skipped, it is the base of the
-/// others, and the status is 1; the first frame of an id is taken. If there are no others, nothing is printed.
+/// Prints the base of the screens, or puts them into one; the exit status. A folder is the files in it, in the order of their names. If
+/// files are refused, or several frames have one id, each is named on standard error, nothing is printed or changed, and the status is 3.
+/// If the bad ones are to be skipped, it is the base of the others, and the status is 1; the first frame of an id is taken. If there are no
+/// others, nothing is printed.
 pub fn import<R: Files + Input + Print + Eprint + AllocGlobal + Clone + Drop>(
     rt: &R,
     asked: &Import,
@@ -285,6 +292,7 @@ pub fn import<R: Files + Input + Print + Eprint + AllocGlobal + Clone + Drop>(
         screens: words.as_slice(),
         kind: asked.kind,
         skip_bad: asked.skip_bad,
+        guesses: asked.guesses,
         entry: asked.entry,
         into: asked.into,
         is_shown: asked.is_shown,

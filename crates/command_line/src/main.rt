@@ -23,6 +23,7 @@ mod serve_call;
 mod serve_line;
 mod serve_notes;
 mod show_screen;
+mod terminal;
 
 use audit_report::{FromRead, IntoWrite, RunFault, fault_text, write_whole};
 use checker::Policy;

@@ -72,7 +72,7 @@ fn push_file<R: Files + AllocGlobal + Clone + Drop>(
 }
 
 /// Adds the files that are asked for, and those of each folder that is. A folder that can't be read or has no files is named on standard
-/// error; the exit status, 0 if none is.
+/// error; the exit status, 0 if there is none.
 pub fn screen_paths<R: Files + Eprint + AllocGlobal + Clone + Drop>(
     rt: &R,
     screens: &[&str],

@@ -6,7 +6,9 @@ pub const VERSION: &str = "1.1.0";
 /// After the options of `lint`.
 pub const LINT: &str = concat!(
     "--fix changes the file and nothing of it but those slips: 'price = \"5\"' is 'price = 5'. What a\n",
-    "frame shows stays. Of standard input the fixed text is printed, and findings on standard error.\n\n",
+    "frame shows stays. Of standard input the fixed text is printed, and findings on standard error.\n",
+    "Warnings that --ignore names don't count; with -q they count and aren't printed. Colours are for\n",
+    "the form full; auto is off if NO_COLOR is set.\n\n",
     "Examples: pageaudit lint examples/town.toml\n",
     "          pageaudit lint town.toml --fix\n\n",
     "Status: 0 no error, 1 errors, or with --deny-warnings warnings, or a diff, 2 bad command line,\n",
@@ -82,7 +84,9 @@ pub const IMPORT: &str = concat!(
     "A file of 960 bytes is 24 rows of 40 codes; 1,000 and 1,024 bytes have more, which is dropped;\n",
     "880 bytes are rows 1 to 22. An EP1 file has 968 or 1,008 bytes. A text has an address of edit.tf\n",
     "or zxnet in each line, after the frame's id. A capture has many screens: each is the frame whose\n",
-    "id its row 0 shows. The base has no routes: they are yet to be typed.\n",
+    "id its row 0 shows. A folder is the files in it, without those in its folders. The base has no\n",
+    "routes: they are yet to be typed, or --routes guesses them: on page 478 a key 2 that the screen\n",
+    "shows leads to page 4782, and 0 to page 47, if the base has it.\n",
     "--into gives the frames of a base new rows, and adds the others at its end: routes, prices,\n",
     "comments and all else stay to the byte. A frame with lead = \"keep\" stays as it is.\n\n",
     "Example: pageaudit import examples/screens/*.bin >town.toml\n",

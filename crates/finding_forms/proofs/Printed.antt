@@ -124,6 +124,7 @@ feeds_line line is = rw (encodes-chars line is.utf8) at (feeds_chars (chars line
 
 feeds_line_in : (f : Format) (line : List ℕ) → IsLineIn f line → feeds line ≡ 0
 feeds_line_in format.Full line is = feeds_line line is
+feeds_line_in format.Coloured line is = feeds_line line is
 feeds_line_in format.Line line is = feeds_line line is
 feeds_line_in format.Json line is = is
 feeds_line_in format.Github line is = feeds_line line is
@@ -135,6 +136,7 @@ record IsOneLine (f : Format) (one : List ℕ) : Type 0 where
 
 one_line : (f : Format) (path text : List ℕ) (v : FindingView) (one : List ℕ) → is_one_line f ≡ true → IsPrinted f path text v one → IsOneLine f one
 one_line format.Full path text v one p is = absurd cc
+one_line format.Coloured path text v one p is = absurd cc
 one_line format.Line path text v one p (line, is, made) = record { line = line; is_line = is.is_line; is = made }
 one_line format.Json path text v one p (line, is, made) = record { line = line; is_line = is.no_feed; is = made }
 one_line format.Github path text v one p (line, is, made) = record { line = line; is_line = is.is_line; is = made }

@@ -8,7 +8,7 @@
 //! - [`lint`], [`Finding`], [`Level`]: the findings in the order of where they begin.
 //! - A span is that of the smallest piece at fault: a key, a value, an element of a list, a route, a character or a header.
 //!   [`spans_lie_in_the_text`].
-//! - [`Counts`], [`counted_text`]: how many there are.
+//! - [`Counts`], [`counted_text`]: how many there are. [`Ignored`], [`remove_warnings`]: the warnings that don't count, or aren't shown.
 //! - [`picture_places`], [`PicturePlace`]: where a text writes what frames show.
 //! - [`lint_follows_base_read`], [`no_error_is_safe`], [`lint_warns_of_unreached`]: what the findings of a text mean.
 //! - Definitions: what is found (`Lint`), where a text writes its tables (`Tables`) and what frames show (`Pictures`),
@@ -18,6 +18,7 @@
 mod audit_findings;
 mod counts;
 mod finding;
+mod ignored;
 mod judging;
 mod laws;
 mod looks;
@@ -31,6 +32,7 @@ mod text_findings;
 
 pub use counts::{Counts, counted_text};
 pub use finding::{Finding, Level};
+pub use ignored::{Ignored, remove_warnings};
 pub use judging::lint;
 pub use laws::{
     lint_follows_base_read, lint_warns_of_unreached, no_error_is_safe, spans_lie_in_the_text,

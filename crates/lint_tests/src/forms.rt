@@ -33,6 +33,26 @@ fn full_has_the_line_of_the_text_and_carets(rt: HostRuntime) -> Result<(), Fail>
 }
 
 #[test]
+fn colours_are_those_of_the_level(rt: HostRuntime) -> Result<(), Fail> {
+    let wanted = "\x1b[1ma,b.toml:4:9:\x1b[0m \x1b[1;31merror:\x1b[0m \
+        X6 Range: \"price\" of frame 1a is 10000, at most 9999 is allowed\n\
+        \x1b[1;34m    4 | \x1b[0mprice = 10000\n\
+        \x1b[1;34m      | \x1b[0m        \x1b[1;31m^^^^^\x1b[0m\n";
+    prints(rt.alloc(), Format::Coloured, PRICE, wanted)?;
+    let escaped = b"entry = 1\n[[frame]]\nid = \"1a\"\nrows = ['\\u0081']\n";
+    let findings = lint(rt.alloc(), escaped, &policy(5, 9, "")?)?;
+    let printed = findings_text(
+        rt.alloc(),
+        Format::Coloured,
+        b"b.toml",
+        escaped,
+        findings.as_slice(),
+    )?;
+    let warned = str::from_utf8(printed.as_slice())?.split_once(" \x1b[1;33mwarning:\x1b[0m ESCAPE");
+    same_in("a warning", warned.map(|(place, _)| place), Some("\x1b[1mb.toml:4:9:\x1b[0m"))
+}
+
+#[test]
 fn line_is_the_line_alone(rt: HostRuntime) -> Result<(), Fail> {
     let wanted =
         "a,b.toml:4:9: error: X6 Range: \"price\" of frame 1a is 10000, at most 9999 is allowed\n";

@@ -4,6 +4,7 @@ pub mod Lines
 pub mod Shown
 pub mod Saved
 pub mod Frames
+pub mod Guesses
 pub mod Rising
 pub mod Groups
 pub mod Holding
