@@ -36,7 +36,8 @@ use Rattle.screens.specs.Svg.{Piece, piece, piece_bytes, markup, svg_pieces, svg
 use Rattle.std.specs.Str.{chars}
 use Rattle.screens.specs.Laws.{tags_reading, is_harmless}
 use Rattle.screens.proofs.Safe.{all_append, harmless, first_of, rest_of}
-use Rattle.screens.proofs.Tags.{is_inner, Inner, Outer, has_inner, Tags, svg_tags}
+use Rattle.screens.proofs.Safe.{is_inner}
+use Rattle.screens.proofs.Tags.{Inner, Outer, has_inner, Tags, svg_tags}
 use Rattle.base_pages.specs.Faults.{item, items, list_begin, listed, fault_list, faults_about, entry_faults, touched_cell}
 use Rattle.base_pages.specs.Ways.{link, marked, way_text}
 use Rattle.base_pages.specs.Screens.{is_reached, screen_of}
