@@ -18,6 +18,7 @@ mod bits;
 mod forms;
 mod laws;
 mod links;
+mod sheet_lines;
 mod words;
 
 pub use addresses::{
