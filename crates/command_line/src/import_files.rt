@@ -5,7 +5,7 @@ use crate::named_files::{Unfinished, ended, open_base, report};
 use audit_report::{FromRead, IntoWrite, RunFault};
 use command_words::Import;
 use pageaudit::{
-    AddressFault, Album, FileFrames, ImportFault, ImportStatus, LinkFault, ScreenFault,
+    TextFault, Album, FileFrames, ImportFault, ImportStatus, TextLineFault, ScreenFault,
     ScreenPlace, Settled, Twin, run_import, status_of_import, take_frames,
 };
 use std::io;
@@ -105,16 +105,16 @@ fn report_screen<R: Eprint>(rt: &R, path: &str, fault: ScreenFault) {
                 "{path}: size {size}; a screen has 960, 1000, 1024 or 880 bytes, an EP1 file 968 or 1008; --stream reads what a line carried"
             )
         }
-        ScreenFault::Address(
-            AddressFault {
+        ScreenFault::Text(
+            TextFault {
                 line,
-                fault: LinkFault::Two,
+                fault: TextLineFault::Two,
             },
         ) => eprintln!(rt; "{path}:{line}: two addresses in a line"),
-        ScreenFault::Address(
-            AddressFault {
+        ScreenFault::Text(
+            TextFault {
                 line,
-                fault: LinkFault::Letters(letters),
+                fault: TextLineFault::Letters(letters),
             },
         ) => {
             eprintln!(rt;

@@ -27,9 +27,9 @@ mod frame;
 mod head;
 mod keys;
 mod laws;
-mod linked;
 mod rows;
 mod settling;
+mod text_screens;
 mod texts;
 
 pub use album::{AddFault, Album, BaseTextFault, base_text, push_frames};

@@ -60,10 +60,22 @@ tti_page page = if nat_le 100 page && nat_le page 899 then page else 100
 abbrev pub tti_place : ℕ → List ℕ
 tti_place letter = (48 + (letter - 96) / 10) ∷ (48 + (letter - 96) % 10) ∷ []
 
+-- the lines before the rows
+
+abbrev pub tti_name : Id → List ℕ
+tti_name id = (codes "DE," ++ frame_text id) ++ tti_end
+
+abbrev pub tti_number : Id → List ℕ
+tti_number id = ((codes "PN," ++ decimal (tti_page id.page)) ++ tti_place id.letter) ++ tti_end
+
+abbrev pub tti_subpage : Id → List ℕ
+tti_subpage id = (codes "SC,00" ++ tti_place id.letter) ++ tti_end
+
+unfoldable pub tti_settings : List ℕ
+tti_settings = codes "PS,8000\r\nRE,0\r\n"
+
 abbrev pub tti_head : Id → List ℕ
-tti_head id =
-    ((((((codes "DE," ++ frame_text id) ++ codes "\r\nPN,") ++ decimal (tti_page id.page)) ++ tti_place id.letter)
-    ++ codes "\r\nSC,00") ++ tti_place id.letter) ++ codes "\r\nPS,8000\r\nRE,0\r\n"
+tti_head id = ((tti_name id ++ tti_number id) ++ tti_subpage id) ++ tti_settings
 
 -- rows 0 to 22
 abbrev pub tti_bytes : Id → List ℕ → List ℕ

@@ -56,6 +56,7 @@ fn push_row(out: &mut Vec<u8>, codes: &[u8; 960], number: usize) -> Result<(), A
     push_row_line(out, number, row)
 }
 
+#[tactic(auto, using(crate::proofs::Pages::rows_more, crate::proofs::Pages::rows_none, std::proofs::Common::append_assoc))]
 fn push_rows(out: &mut Vec<u8>, codes: &[u8; 960]) -> Result<(), AllocError>
     ensures { OnOk result (out.new.items ≡ out.old.items ++ spec.tti_rows codes.now 23 0) }
 {
@@ -83,19 +84,50 @@ fn tti_place(letter: Letter) -> [u8; 2]
     [b'0' + place / 10, b'0' + place % 10]
 }
 
-// Writes the teletext page of a frame.
+#[tactic(auto, using(std::proofs::Common::append_assoc))]
+fn push_name(out: &mut Vec<u8>, id: FrameId) -> Result<(), AllocError>
+    ensures { OnOk result (out.new.items ≡ out.old.items ++ spec.tti_name id) }
+{
+    out.extend_from_slice(b"DE,")?;
+    push_id(out, id)?;
+    out.extend_from_slice(b"\r\n")
+}
+
+#[tactic(auto, using(std::proofs::Common::append_assoc))]
+fn push_page_number(out: &mut Vec<u8>, id: FrameId) -> Result<(), AllocError>
+    ensures { OnOk result (out.new.items ≡ out.old.items ++ spec.tti_number id) }
+{
+    out.extend_from_slice(b"PN,")?;
+    push_number(out, u64::from(tti_page(id.page)))?;
+    out.extend_from_slice(&tti_place(id.letter))?;
+    out.extend_from_slice(b"\r\n")
+}
+
+#[tactic(auto, using(std::proofs::Common::append_assoc))]
+fn push_subpage(out: &mut Vec<u8>, id: FrameId) -> Result<(), AllocError>
+    ensures { OnOk result (out.new.items ≡ out.old.items ++ spec.tti_subpage id) }
+{
+    out.extend_from_slice(b"SC,00")?;
+    out.extend_from_slice(&tti_place(id.letter))?;
+    out.extend_from_slice(b"\r\n")
+}
+
+#[tactic(auto, unfolding(crate::specs::Forms::tti_settings))]
+fn push_settings(out: &mut Vec<u8>) -> Result<(), AllocError>
+    ensures { OnOk result (out.new.items ≡ out.old.items ++ spec.tti_settings) }
+{
+    out.extend_from_slice(b"PS,8000\r\nRE,0\r\n")
+}
+
+// Writes the lines before the rows.
 #[tactic(auto, using(std::proofs::Common::append_assoc))]
 fn push_head(out: &mut Vec<u8>, id: FrameId) -> Result<(), AllocError>
     ensures { OnOk result (out.new.items ≡ out.old.items ++ spec.tti_head id) }
 {
-    out.extend_from_slice(b"DE,")?;
-    push_id(out, id)?;
-    out.extend_from_slice(b"\r\nPN,")?;
-    push_number(out, u64::from(tti_page(id.page)))?;
-    out.extend_from_slice(&tti_place(id.letter))?;
-    out.extend_from_slice(b"\r\nSC,00")?;
-    out.extend_from_slice(&tti_place(id.letter))?;
-    out.extend_from_slice(b"\r\nPS,8000\r\nRE,0\r\n")
+    push_name(out, id)?;
+    push_page_number(out, id)?;
+    push_subpage(out, id)?;
+    push_settings(out)
 }
 
 // Writes the screen of a frame as TTI.
