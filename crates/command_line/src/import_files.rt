@@ -5,8 +5,8 @@ use crate::named_files::{Unfinished, ended, open_base, report};
 use audit_report::{FromRead, IntoWrite, RunFault};
 use command_words::Import;
 use pageaudit::{
-    TextFault, Album, FileFrames, ImportFault, ImportStatus, TextLineFault, ScreenFault,
-    ScreenPlace, Settled, Twin, run_import, status_of_import, take_frames,
+    Album, FileFrames, ImportFault, ImportStatus, ScreenFault, ScreenPlace, Settled, TextFault,
+    TextLineFault, Twin, run_import, status_of_import, take_frames,
 };
 use std::io;
 use std::rt::Files;
@@ -121,8 +121,20 @@ fn report_screen<R: Eprint>(rt: &R, path: &str, fault: ScreenFault) {
                 "{path}:{line}: an address with {letters} letters; a screen has 1120 or 1167"
             )
         }
+        ScreenFault::Text(
+            TextFault {
+                line,
+                fault: TextLineFault::Row,
+            },
+        ) => eprintln!(rt; "{path}:{line}: no row number after OL, of one or two digits"),
+        ScreenFault::Text(
+            TextFault {
+                line,
+                fault: TextLineFault::Pages,
+            },
+        ) => eprintln!(rt; "{path}:{line}: a file has at most 65535 pages"),
         ScreenFault::NoIdAt(line) => {
-            eprintln!(rt; "{path}:{line}: no frame id before the address, and row 0 shows none")
+            eprintln!(rt; "{path}:{line}: no frame id with the screen, and row 0 shows none")
         }
         ScreenFault::NoId => {
             eprintln!(rt; "{path}: no frame id in the name, and row 0 shows none")

@@ -1,7 +1,7 @@
 use crate::files::screen_with;
 use page_ids::FrameId;
 use screen_forms::{
-    TextFault, TextLineFault, TextScreen, TextScreensFault, SavedForm, any_case_id, has_address,
+    SavedForm, TextFault, TextLineFault, TextScreen, TextScreensFault, any_case_id, has_address,
     is_link_letter, link_codes, linked_screens, push_address, push_form, stored_code,
 };
 use std::alloc::Global;
