@@ -112,6 +112,7 @@ fn ending_of(form: SavedForm) -> &'static str {
     match form {
         SavedForm::Cells => "bin",
         SavedForm::Ep1 => "ep1",
+        SavedForm::Tti => "tti",
         SavedForm::Link => "link",
     }
 }

@@ -6,8 +6,8 @@ use crate::screen_paths::{screen_paths, words_of};
 use audit_report::{FromRead, IntoWrite, RunFault};
 use command_words::Import;
 use pageaudit::{
-    AddressFault, Album, FileFrames, ImportFault, ImportStatus, LinkFault, ScreenFault,
-    ScreenPlace, Settled, Twin, run_import, status_of_import, take_frames,
+    Album, FileFrames, ImportFault, ImportStatus, ScreenFault, ScreenPlace, Settled, TextFault,
+    TextLineFault, Twin, run_import, status_of_import, take_frames,
 };
 use std::io;
 use std::rt::Files;
@@ -106,24 +106,36 @@ fn report_screen<R: Eprint>(rt: &R, path: &str, fault: ScreenFault) {
                 "{path}: size {size}; a screen has 960, 1000, 1024 or 880 bytes, an EP1 file 968 or 1008; --stream reads what a line carried"
             )
         }
-        ScreenFault::Address(
-            AddressFault {
+        ScreenFault::Text(
+            TextFault {
                 line,
-                fault: LinkFault::Two,
+                fault: TextLineFault::Two,
             },
         ) => eprintln!(rt; "{path}:{line}: two addresses in a line"),
-        ScreenFault::Address(
-            AddressFault {
+        ScreenFault::Text(
+            TextFault {
                 line,
-                fault: LinkFault::Letters(letters),
+                fault: TextLineFault::Letters(letters),
             },
         ) => {
             eprintln!(rt;
                 "{path}:{line}: an address with {letters} letters; a screen has 1120 or 1167"
             )
         }
+        ScreenFault::Text(
+            TextFault {
+                line,
+                fault: TextLineFault::Row,
+            },
+        ) => eprintln!(rt; "{path}:{line}: no row number after OL, of one or two digits"),
+        ScreenFault::Text(
+            TextFault {
+                line,
+                fault: TextLineFault::Pages,
+            },
+        ) => eprintln!(rt; "{path}:{line}: a file has at most 65535 pages"),
         ScreenFault::NoIdAt(line) => {
-            eprintln!(rt; "{path}:{line}: no frame id before the address, and row 0 shows none")
+            eprintln!(rt; "{path}:{line}: no frame id with the screen, and row 0 shows none")
         }
         ScreenFault::NoId => {
             eprintln!(rt; "{path}: no frame id in the name, and row 0 shows none")

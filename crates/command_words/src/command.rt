@@ -15,7 +15,7 @@ use std::{env, io};
 const FORMS: &[&str] = &["text", "ansi", "svg", "cells", "link", "html"];
 
 // The words for the forms of files of screens.
-const SAVED_FORMS: &[&str] = &["bin", "ep1", "link"];
+const SAVED_FORMS: &[&str] = &["bin", "ep1", "tti", "link"];
 
 // The words for what a caller of `serve` has.
 const CALL_FORMS: &[&str] = &["viewdata", "ansi"];
@@ -436,7 +436,7 @@ fn export_command<'a>(alloc: Global) -> Result<Command<'a>, AllocError> {
         .value_name("FORM")
         .action(ArgAction::Set)
         .value_parser(SAVED_FORMS)
-        .help("Write 960 codes, EP1 files, or addresses of edit.tf; bin without it");
+        .help("Write 960 codes, EP1 or TTI files, or addresses of edit.tf; bin without it");
     let command = Command::new(alloc, "export")
         .about("Write the screen of each frame of a base to a file")
         .after_help(help::EXPORT)
@@ -834,6 +834,7 @@ fn form_of(word: &str) -> Option<Form> {
 fn saved_form_of(word: Option<&str>) -> SavedForm {
     match word {
         Some("ep1") => SavedForm::Ep1,
+        Some("tti") => SavedForm::Tti,
         Some("link") => SavedForm::Link,
         _ => SavedForm::Cells,
     }

@@ -28,10 +28,10 @@ mod frame;
 mod head;
 mod keys;
 mod laws;
-mod linked;
 mod routes;
 mod rows;
 mod settling;
+mod text_screens;
 mod texts;
 
 pub use album::{AddFault, Album, BaseTextFault, base_text, push_frames};

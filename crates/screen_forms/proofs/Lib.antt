@@ -1,3 +1,4 @@
 pub mod Packs
 pub mod Letters
 pub mod Walks
+pub mod Pages

@@ -1,8 +1,9 @@
-//! The frames of a text with addresses.
+//! The frames of a text with screens.
 
 ghost use Rattle.std.specs.Prelude.{◌≡◌, ◌++◌, OnOk, IfOk};
 ghost use Rattle.std.specs.List.{flat_map};
 ghost use Rattle.screen_forms.specs.Addresses.{linked_screens};
+ghost use Rattle.screen_forms.specs.Sheets.{sheet_screens};
 ghost use Rattle.screen_files.specs.Files as spec;
 ghost use Rattle.screen_files.specs.Loops as loops;
 
@@ -11,27 +12,27 @@ use crate::filed::{Filed, Origin, ScreenPlace};
 use crate::frame::ScreenFrame;
 use crate::head::{name_id, screen_head};
 use page_ids::FrameId;
-use screen_forms::{LinkedScreen, LinksFault, linked_screens};
+use screen_forms::{TextScreen, TextScreensFault, linked_screens, sheet_screens};
 use std::alloc::{AllocError, Global};
 
-// The id of a screen: the one beside the address, else the one in the file's name, in row 0 or in the page number.
-fn link_id(name: &Option<FrameId>, screen: &LinkedScreen) -> Option<FrameId>
-    ensures { result ≡ spec.link_id name.now screen.now }
+// The id of a screen: the one beside an address, else the one in the file's name, in row 0 or in the page number.
+fn text_screen_id(name: &Option<FrameId>, screen: &TextScreen) -> Option<FrameId>
+    ensures { result ≡ spec.text_screen_id name.now screen.now }
 {
     let shown = screen_head(&screen.codes).id.or(screen.number);
     screen.beside.or(name.or(shown))
 }
 
 // Adds the frame of a screen, if it has an id.
-fn push_link(
+fn push_text_screen(
     filed: &mut Vec<Filed>,
     file: usize,
     name: &Option<FrameId>,
-    screen: &LinkedScreen,
+    screen: &TextScreen,
 ) -> Result<(), AllocError>
-    ensures { OnOk result (filed.new.items ≡ filed.old.items ++ spec.filed_link file name.now screen.now) }
+    ensures { OnOk result (filed.new.items ≡ filed.old.items ++ spec.filed_text file name.now screen.now) }
 {
-    let Some(id) = link_id(name, screen) else {
+    let Some(id) = text_screen_id(name, screen) else {
         return Ok(());
     };
     let frame = ScreenFrame {
@@ -47,29 +48,29 @@ fn push_link(
 }
 
 // The frames of the screens that have ids.
-fn filed_links(
+fn filed_texts(
     alloc: Global,
     file: usize,
     name: &Option<FrameId>,
-    screens: &[LinkedScreen],
+    screens: &[TextScreen],
 ) -> Result<Vec<Filed>, AllocError>
-    ensures { IfOk result (λ filed. filed.items ≡ flat_map (spec.filed_link file name.now) screens.now) }
+    ensures { IfOk result (λ filed. filed.items ≡ flat_map (spec.filed_text file name.now) screens.now) }
 {
     let mut filed = Vec::new(alloc);
     for screen in screens {
-        push_link(&mut filed, file, name, screen)?;
+        push_text_screen(&mut filed, file, name, screen)?;
     }
     Ok(filed)
 }
 
 // The line of the first screen without an id.
 #[tactic(auto, unfolding(crate::specs::Files::nameless_line))]
-fn nameless_line(name: &Option<FrameId>, screens: &[LinkedScreen]) -> Option<usize>
+fn nameless_line(name: &Option<FrameId>, screens: &[TextScreen]) -> Option<usize>
     ensures { result ≡ spec.nameless_line name.now screens.now }
 {
     let mut left = screens;
     while let Some((screen, rest)) = left.split_first() {
-        if link_id(name, screen).is_none() {
+        if text_screen_id(name, screen).is_none() {
             return Some(screen.line);
         }
         left = rest;
@@ -78,7 +79,7 @@ fn nameless_line(name: &Option<FrameId>, screens: &[LinkedScreen]) -> Option<usi
 }
 
 // The name of a file counts if it has one screen.
-fn name_of_one(path: &str, screens: &[LinkedScreen]) -> Option<FrameId>
+fn name_of_one(path: &str, screens: &[TextScreen]) -> Option<FrameId>
     ensures { result ≡ spec.name_of_one path.now screens.now }
 {
     if screens.len() == 1 {
@@ -89,19 +90,19 @@ fn name_of_one(path: &str, screens: &[LinkedScreen]) -> Option<FrameId>
 }
 
 // The frames of screens, if all have ids.
-fn found_linked(
+fn found_text_screens(
     alloc: Global,
     path: &str,
     file: usize,
-    screens: &[LinkedScreen],
+    screens: &[TextScreen],
 ) -> Result<FoundScreens, FramesFault>
-    ensures { loops.IsFound (spec.found_linked path.now file screens.now) result }
+    ensures { loops.IsFound (spec.found_text_screens path.now file screens.now) result }
 {
     let name = name_of_one(path, screens);
     if let Some(line) = nameless_line(&name, screens) {
         return Err(FramesFault::Screen(ScreenFault::NoIdAt(line)));
     }
-    match filed_links(alloc, file, &name, screens) {
+    match filed_texts(alloc, file, &name, screens) {
         Ok(filed) => Ok(FoundScreens {
             filed,
             unnamed: Vec::new(alloc),
@@ -117,11 +118,27 @@ pub fn found_links(
     file: usize,
     text: &[u8],
 ) -> Result<FoundScreens, FramesFault>
-    ensures { loops.IsFound (spec.found_links path.now file (linked_screens text.now)) result }
+    ensures { loops.IsFound (spec.found_texts path.now file (linked_screens text.now)) result }
 {
     match linked_screens(alloc, text) {
-        Ok(screens) => found_linked(alloc, path, file, screens.as_slice()),
-        Err(LinksFault::Line(fault)) => Err(FramesFault::Screen(ScreenFault::Address(fault))),
-        Err(LinksFault::Memory) => Err(FramesFault::Memory),
+        Ok(screens) => found_text_screens(alloc, path, file, screens.as_slice()),
+        Err(TextScreensFault::Line(fault)) => Err(FramesFault::Screen(ScreenFault::Text(fault))),
+        Err(TextScreensFault::Memory) => Err(FramesFault::Memory),
+    }
+}
+
+// The frames of a text of the form TTI.
+pub fn found_pages(
+    alloc: Global,
+    path: &str,
+    file: usize,
+    text: &[u8],
+) -> Result<FoundScreens, FramesFault>
+    ensures { loops.IsFound (spec.found_texts path.now file (sheet_screens text.now)) result }
+{
+    match sheet_screens(alloc, text) {
+        Ok(screens) => found_text_screens(alloc, path, file, screens.as_slice()),
+        Err(TextScreensFault::Line(fault)) => Err(FramesFault::Screen(ScreenFault::Text(fault))),
+        Err(TextScreensFault::Memory) => Err(FramesFault::Memory),
     }
 }

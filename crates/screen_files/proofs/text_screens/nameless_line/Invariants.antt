@@ -1,6 +1,6 @@
 use Rattle.std.proofs.Common.{◌≡◌, length}
 use Rattle.screen_files.specs.Files.{nameless_line}
-use Rattle.screen_files.proofs.linked.nameless_line.Given as goal
+use Rattle.screen_files.proofs.text_screens.nameless_line.Given as goal
 
 -- the first without an id is in what is left
 abbrev pub invariant-loop-screen : goal.invariant-loop-screen
