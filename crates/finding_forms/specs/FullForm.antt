@@ -11,11 +11,11 @@ use Rattle.toml_places.specs.Extents.{extent}
 use Rattle.finding_forms.specs.declared.drawing.Drawing.{Drawing}
 use Rattle.finding_forms.specs.declared.drawing.Drawing.TheVariants.{Text, Blank, Carets}
 use Rattle.finding_forms.specs.declared.excerpt.Excerpt.{Excerpt}
-use Rattle.finding_forms.specs.declared.paint.Ink.TheVariants.{White}
+use Rattle.finding_forms.specs.declared.paint.Shade.TheVariants.{White}
 use Rattle.finding_forms.specs.declared.paint.Paint.{Paint}
 use Rattle.finding_forms.specs.declared.paint.Paint.TheVariants.{Plain, Of}
 use Rattle.finding_forms.specs.LineForm.{IsFindingLine, level_text, begin_of, line_place, words_text, line_text}
-use Rattle.finding_forms.specs.Paints.{inked, level_ink, begin_number, begin_carets, end_paint}
+use Rattle.finding_forms.specs.Paints.{shaded, level_shade, begin_number, begin_carets, end_paint}
 use Rattle.finding_forms.specs.Excerpts.{mark_length, part, excerpt_of}
 
 -- The characters of a line, and what is below them.
@@ -87,8 +87,8 @@ pub record IsFullFinding (path text : List ℕ) (f : FindingView) (out : List �
 
 abbrev pub coloured_line : List ℕ → ℕ × ℕ → Level → WordsView → Option (List ℕ) → List ℕ
 coloured_line path place level words hint =
-    inked White (line_place path place) ++
-    (codes " " ++ (inked (level_ink level) (level_text level ++ codes ":") ++ (codes " " ++ words_text words hint)))
+    shaded White (line_place path place) ++
+    (codes " " ++ (shaded (level_shade level) (level_text level ++ codes ":") ++ (codes " " ++ words_text words hint)))
 
 -- the first line, but for its line feed
 pub record IsColouredLine (path text : List ℕ) (f : FindingView) (line : List ℕ) : Type 0 where

@@ -5,11 +5,11 @@ ghost use Rattle.lint_words.specs.Lines.{IsLine, line_of};
 ghost use Rattle.finding_forms.specs.FullForm.{coloured_line};
 ghost use Rattle.finding_forms.specs.LineForm.{level_text, line_place, line_text};
 ghost use Rattle.finding_forms.specs.Loops.{AddsColouredLine};
-ghost use Rattle.finding_forms.specs.Paints.{inked, level_ink};
-ghost use Rattle.finding_forms.specs.declared.paint.Ink.TheVariants.{White};
+ghost use Rattle.finding_forms.specs.Paints.{shaded, level_shade};
+ghost use Rattle.finding_forms.specs.declared.paint.Shade.TheVariants.{White};
 
 use crate::line_form::{begin_of, level_text, push_place, push_words};
-use crate::paint::{Ink, begin_ink, level_ink, push_end_ink};
+use crate::paint::{Shade, begin_shade, level_shade, push_end_shade};
 use lint::{Finding, Level};
 use lint_words::{Line, Words};
 use std::alloc::AllocError;
@@ -20,21 +20,22 @@ fn push_coloured_place(
     path: &Line,
     place: (usize, usize),
 ) -> Result<(), AllocError>
-    ensures place { OnOk result (out.new.items ≡ out.old.items ++ inked White (line_place path.now place)) }
+    ensures place { OnOk result (out.new.items ≡ out.old.items ++ shaded White (line_place path.now place)) }
     ensures is_line { OnOk result (IsLine (line_place path.now place)) }
 {
-    out.extend_from_slice(begin_ink(Ink::White))?;
+    out.extend_from_slice(begin_shade(Shade::White))?;
     push_place(out, path, place.0, place.1)?;
-    push_end_ink(out)
+    push_end_shade(out)
 }
 
 fn push_coloured_level(out: &mut Vec<u8>, level: Level) -> Result<(), AllocError>
-    ensures { OnOk result (out.new.items ≡ out.old.items ++ inked (level_ink level) (level_text level ++ codes ":")) }
+    ensures { OnOk result (out.new.items ≡ out.old.items ++
+        shaded (level_shade level) (level_text level ++ codes ":")) }
 {
-    out.extend_from_slice(begin_ink(level_ink(level)))?;
+    out.extend_from_slice(begin_shade(level_shade(level)))?;
     out.extend_from_slice(level_text(level).as_bytes())?;
     out.extend_from_slice(b":")?;
-    push_end_ink(out)
+    push_end_shade(out)
 }
 
 fn push_coloured_line(

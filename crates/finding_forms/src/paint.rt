@@ -16,7 +16,7 @@ pub enum Paint {
 
 /// A colour: it is bold.
 #[derive(Debug, Clone, Copy)]
-pub enum Ink {
+pub enum Shade {
     /// That of the terminal.
     White,
     Blue,
@@ -25,31 +25,31 @@ pub enum Ink {
 }
 
 /// What begins a colour.
-pub fn begin_ink(ink: Ink) -> &'static [u8]
-    ensures { result.now ≡ spec.begin_ink ink }
+pub fn begin_shade(shade: Shade) -> &'static [u8]
+    ensures { result.now ≡ spec.begin_shade shade }
 {
-    match ink {
-        Ink::White => b"\x1b[1m",
-        Ink::Blue => b"\x1b[1;34m",
-        Ink::Red => b"\x1b[1;31m",
-        Ink::Yellow => b"\x1b[1;33m",
+    match shade {
+        Shade::White => b"\x1b[1m",
+        Shade::Blue => b"\x1b[1;34m",
+        Shade::Red => b"\x1b[1;31m",
+        Shade::Yellow => b"\x1b[1;33m",
     }
 }
 
 /// Ends a colour.
-pub fn push_end_ink(out: &mut Vec<u8>) -> Result<(), AllocError>
-    ensures { OnOk result (out.new.items ≡ out.old.items ++ spec.end_ink) }
+pub fn push_end_shade(out: &mut Vec<u8>) -> Result<(), AllocError>
+    ensures { OnOk result (out.new.items ≡ out.old.items ++ spec.end_shade) }
 {
     out.extend_from_slice(b"\x1b[0m")
 }
 
 /// The colour of a level.
-pub fn level_ink(level: Level) -> Ink
-    ensures { result ≡ spec.level_ink level }
+pub fn level_shade(level: Level) -> Shade
+    ensures { result ≡ spec.level_shade level }
 {
     match level {
-        Level::Error => Ink::Red,
-        Level::Warning => Ink::Yellow,
+        Level::Error => Shade::Red,
+        Level::Warning => Shade::Yellow,
     }
 }
 
@@ -60,7 +60,7 @@ impl Paint {
     {
         match self {
             Paint::Plain => Ok(()),
-            Paint::Of(_) => out.extend_from_slice(begin_ink(Ink::Blue)),
+            Paint::Of(_) => out.extend_from_slice(begin_shade(Shade::Blue)),
         }
     }
 
@@ -70,7 +70,7 @@ impl Paint {
     {
         match self {
             Paint::Plain => Ok(()),
-            Paint::Of(level) => out.extend_from_slice(begin_ink(level_ink(level))),
+            Paint::Of(level) => out.extend_from_slice(begin_shade(level_shade(level))),
         }
     }
 
@@ -80,7 +80,7 @@ impl Paint {
     {
         match self {
             Paint::Plain => Ok(()),
-            Paint::Of(_) => push_end_ink(out),
+            Paint::Of(_) => push_end_shade(out),
         }
     }
 }

@@ -17,7 +17,7 @@ use Rattle.lint.specs.declared.pictures.PicturePlace.{PicturePlace}
 use Rattle.lint.specs.Pictures.{written_picture}
 use Rattle.text_edits.specs.Edits.{ReplacementView, edited}
 use Rattle.screen_files.specs.declared.filed.Filed.{Filed}
-use Rattle.screen_files.specs.Routes.{has_frame, is_known}
+use Rattle.screen_files.specs.Routes.{has_frame, knows_frame}
 use Rattle.screen_files.specs.Album.{first_over, frames_text}
 use Rattle.screen_files.specs.Texts.{rows_text}
 use Rattle.frame_edits.specs.declared.intake.Fate.{Fate}
@@ -145,7 +145,7 @@ lists_frame listed id = list_any (λ (l : Listed). id_eq l.frame.id id) listed
 
 -- the frames to which guessed routes may lead: these and those that the text lists, or none if no routes are guessed
 abbrev pub KnowsBoth : Bool → List Listed → List Filed → List Id → Type 0
-KnowsBoth guessed listed frames known = (id : Id) → is_known known id ≡ (guessed && (lists_frame listed id || has_frame frames id))
+KnowsBoth guessed listed frames known = (id : Id) → knows_frame known id ≡ (guessed && (lists_frame listed id || has_frame frames id))
 
 -- the text after it got what the frames result in
 pub record IsMergeOf (text : List ℕ) (i : IntakeView) (known : List Id) (merged : MergedView) : Type 0 where

@@ -2,7 +2,7 @@
 
 ghost use Rattle.std.specs.Prelude.{◌≡◌, ◌++◌, ◌∷◌, [], ◌||◌, IfOk, IfErr, OnOk, IsSome};
 ghost use Rattle.page_ids.specs.Ids.{Id};
-ghost use Rattle.screen_files.specs.Routes.{is_known};
+ghost use Rattle.screen_files.specs.Routes.{knows_frame};
 ghost use Rattle.toml.specs.Parse.{parse_document};
 ghost use Rattle.base_text.specs.Whole.{tree_of};
 ghost use Rattle.frame_edits.specs.Merging as spec;
@@ -109,7 +109,8 @@ fn edited_text(
     known: &Known,
     added: &[Filed],
 ) -> Result<(Vec<Replacement>, Vec<u8>), MergeFault>
-    ensures text { IfOk result (λ done. spec.IsEdited text.now edits.items known.now added.now done.0.items done.1.items) }
+    ensures text { IfOk result (λ done.
+        spec.IsEdited text.now edits.items known.now added.now done.0.items done.1.items) }
     ensures fault { IfErr result (spec.IsUnedited text.now edits.items known.now added.now) }
 {
     let addition = match additions(alloc, text, known, added) {
@@ -129,7 +130,8 @@ fn edited_text(
 
 // Adds the frames of a list.
 fn add_listed(known: &mut Known, listed: &[Listed]) -> Result<(), AllocError>
-    ensures { OnOk result ((id : Id) → is_known known.new id ≡ (spec.lists_frame listed.now id || is_known known.old id)) }
+    ensures { OnOk result ((id : Id) → knows_frame known.new id
+        ≡ (spec.lists_frame listed.now id || knows_frame known.old id)) }
 {
     for listed in listed {
         known.add(listed.frame.id)?;

@@ -4,7 +4,8 @@ use Rattle.std.proofs.lemmas.Bool.Decides.{nat_tests}
 use Rattle.std.proofs.lemmas.List.{append-nil, length-append}
 use Rattle.page_ids.specs.Ids.{Id}
 use Rattle.screens.specs.declared.look.Look.{Look}
-use Rattle.screen_files.specs.Routes.{guessed, is_guessed, page_by, pair_text, routes_from}
+use Rattle.screen_files.specs.Loops.{guessed}
+use Rattle.screen_files.specs.Routes.{is_guessed, page_by, pair_text, routes_from}
 
 -- An option by a test.
 

@@ -8,7 +8,7 @@ use Rattle.screen_files.specs.declared.album.BaseTextFault.TheVariants.{TooLong,
 use Rattle.screen_files.specs.declared.album.AddFault.{AddFault}
 use Rattle.screen_files.specs.declared.album.AddFault.TheVariants as add
 use Rattle.frame_records.specs.declared.limits.TheConstants.{MOST_LISTED}
-use Rattle.screen_files.specs.Routes.{Knows}
+use Rattle.screen_files.specs.Routes.{KnowsFrames}
 use Rattle.screen_files.specs.Settling.{Ascend}
 use Rattle.screen_files.specs.Texts.{entry_key_line, frame_lines}
 
@@ -60,7 +60,7 @@ over_most asked known (f ∷ rest) = first_over known (length (entry_key_line (e
 pub record IsBaseText (asked : Option ℕ) (guessed : Bool) (frames : List Filed) (text : List ℕ) : Type 0 where
   pub ascend : Ascend frames
   pub known : List Id
-  pub knows : Knows guessed frames known
+  pub knows : KnowsFrames guessed frames known
   pub is : text ≡ base_text asked known frames
   pub within : over_most asked known frames ≡ None
 
@@ -70,5 +70,5 @@ IsNoText over (TooLong file) = over ≡ Some file
 IsNoText over Memory = Unit {0}
 
 abbrev pub IsNoBaseText : Option ℕ → Bool → List Filed → BaseTextFault → Type 0
-IsNoBaseText asked guessed frames (TooLong file) = (known : List Id) × Knows guessed frames known × (over_most asked known frames ≡ Some file)
+IsNoBaseText asked guessed frames (TooLong file) = (known : List Id) × KnowsFrames guessed frames known × (over_most asked known frames ≡ Some file)
 IsNoBaseText asked guessed frames Memory = Unit {0}

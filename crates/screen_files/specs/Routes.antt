@@ -1,5 +1,5 @@
 -- Routes that are guessed from the numbers of pages.
-use Rattle.std.specs.Prelude.{◌≡◌, ℕ, length, zero, suc, Bool, true, false, not, List, [], ◌∷◌, ◌++◌, ◌+◌, ◌*◌, ◌/◌, ◌==◌, ◌&&◌, nat_le, Option, Some, None, codes, decimal, if◌then◌else◌}
+use Rattle.std.specs.Prelude.{◌≡◌, ℕ, zero, suc, Bool, true, false, not, List, [], ◌∷◌, ◌++◌, ◌+◌, ◌*◌, ◌/◌, ◌==◌, ◌&&◌, nat_le, codes, decimal, if◌then◌else◌}
 use Rattle.std.specs.List.{list_any}
 use Rattle.page_ids.specs.Ids.{Id, id_eq, first_frame}
 use Rattle.page_ids.specs.declared.limits.TheConstants.{MOST_PAGE}
@@ -8,39 +8,28 @@ use Rattle.screen_files.specs.declared.filed.Filed.{Filed}
 use Rattle.screen_files.specs.Keys.{shows_key}
 
 -- a frame is among these
-abbrev pub is_known : List Id → Id → Bool
-is_known ids id = list_any (λ i. id_eq i id) ids
+abbrev pub knows_frame : List Id → Id → Bool
+knows_frame ids id = list_any (λ i. id_eq i id) ids
 
 abbrev pub has_frame : List Filed → Id → Bool
 has_frame frames id = list_any (λ f. id_eq f.frame.id id) frames
 
 -- those to which guessed routes may lead: these frames, or none if no routes are guessed
-abbrev pub Knows : Bool → List Filed → List Id → Type 0
-Knows guessed frames known = (id : Id) → is_known known id ≡ (guessed && has_frame frames id)
+abbrev pub KnowsFrames : Bool → List Filed → List Id → Type 0
+KnowsFrames guessed frames known = (id : Id) → knows_frame known id ≡ (guessed && has_frame frames id)
 
 -- the page to which a digit leads by its number: `0` to the page without the last digit, or to page 0, another one to the page with this
 -- digit at its end
 abbrev pub page_by : ℕ → ℕ → ℕ
 page_by page digit = if digit == 0 then page / 10 else 10 * page + digit
 
-abbrev pub page_if_in_range : ℕ → Option ℕ
-page_if_in_range page = if nat_le page MOST_PAGE then Some page else None
-
 -- a page that callers can reach from this one by such a digit
 abbrev pub leads_by : List Id → ℕ → ℕ → Bool
 leads_by known page digit =
-    (nat_le (page_by page digit) MOST_PAGE && not (page_by page digit == page)) && is_known known (first_frame (page_by page digit))
-
--- that page, if there is one
-abbrev pub guess : List Id → ℕ → ℕ → Option ℕ
-guess known page digit = if leads_by known page digit then Some (page_by page digit) else None
+    (nat_le (page_by page digit) MOST_PAGE && not (page_by page digit == page)) && knows_frame known (first_frame (page_by page digit))
 
 abbrev pub is_guessed : List Id → ℕ → List (List Look) → ℕ → Bool
 is_guessed known page all digit = shows_key all digit && leads_by known page digit
-
--- where such a digit leads
-abbrev pub guessed : List Id → ℕ → List (List Look) → ℕ → Option ℕ
-guessed known page all digit = if is_guessed known page all digit then Some (page_by page digit) else None
 
 -- what comes before a pair
 abbrev pub route_between : Bool → List ℕ
@@ -61,8 +50,3 @@ routes_from known page all first (suc n) digit =
 -- the routes of a screen of a page
 abbrev pub guessed_routes : List Id → ℕ → List (List Look) → List ℕ
 guessed_routes known page all = routes_from known page all true 10 0
-
--- they are appended, and whether there are some
-pub record AreGuessed (old new : List ℕ) (known : List Id) (page : ℕ) (all : List (List Look)) (some : Bool) : Type 0 where
-  pub appended : new ≡ old ++ guessed_routes known page all
-  pub are_some : some ≡ not (length (guessed_routes known page all) == 0)

@@ -3,7 +3,7 @@
 //! ```
 //! let codes = saved_codes(bytes)?; // 24 rows of 40 codes, from a file of 960, 1,000, 1,024 or 880 bytes
 //! screen_head(&codes) // what row 0 shows: the id 478a, and 0p
-//! push_frame(&mut out, &Known::none(alloc), &frame, false)?; // [[frame]] .. rows = [ .. ], one row a line
+//! push_frame(&mut out, &Known::of(alloc, false, &[])?, &frame, false)?; // [[frame]] .. rows = [ .. ], one row a line
 //! ```
 //!
 //! - [`saved_codes`]: the 960 codes of a saved screen, by its size and first bytes. [`capture_screens`], [`Shot`], [`MOST_SHOTS`],

@@ -2,6 +2,7 @@
 
 ghost use Rattle.std.specs.Prelude.{◌≡◌, ◌++◌, ◌∷◌, [], ◌+◌, ◌<◌, ◌||◌, IfOk, OnOk};
 ghost use Rattle.page_ids.specs.Ids.{Id, id_eq};
+ghost use Rattle.screen_files.specs.Loops as loops;
 ghost use Rattle.screen_files.specs.Routes as spec;
 
 use crate::filed::Filed;
@@ -28,18 +29,10 @@ impl Model for Known {
 }
 
 impl Known {
-    /// No frames, so that no route is guessed.
-    pub fn none(alloc: Global) -> Known
-        ensures { result ≡ [] }
-    {
-        Known {
-            ids: IndexSet::new(alloc),
-        }
-    }
-
     /// Adds a frame. After a fault there are the same as before.
     pub fn add(&mut self, id: FrameId) -> Result<(), AllocError>
-        ensures { OnOk result ((other : Id) → spec.is_known self.new other ≡ (id_eq id other || spec.is_known self.old other)) }
+        ensures { OnOk result ((other : Id) → spec.knows_frame self.new other
+            ≡ (id_eq id other || spec.knows_frame self.old other)) }
     {
         match self.ids.insert(id) {
             Ok(_) => Ok(()),
@@ -49,7 +42,8 @@ impl Known {
 
     /// Adds the frames of a list.
     pub fn add_frames(&mut self, frames: &[Filed]) -> Result<(), AllocError>
-        ensures { OnOk result ((id : Id) → spec.is_known self.new id ≡ (spec.has_frame frames.now id || spec.is_known self.old id)) }
+        ensures { OnOk result ((id : Id) → spec.knows_frame self.new id
+            ≡ (spec.has_frame frames.now id || spec.knows_frame self.old id)) }
     {
         let mut rest = frames;
         while let Some((filed, more)) = rest.split_first() {
@@ -61,9 +55,11 @@ impl Known {
 
     /// The frames of a list, or none if no routes are guessed.
     pub fn of(alloc: Global, guesses: bool, frames: &[Filed]) -> Result<Known, AllocError>
-        ensures { IfOk result (spec.Knows guesses frames.now) }
+        ensures { IfOk result (spec.KnowsFrames guesses frames.now) }
     {
-        let mut known = Known::none(alloc);
+        let mut known = Known {
+            ids: IndexSet::new(alloc),
+        };
         if guesses {
             known.add_frames(frames)?;
         }
@@ -71,7 +67,7 @@ impl Known {
     }
 
     fn has(&self, id: FrameId) -> bool
-        ensures { result ≡ spec.is_known self.now id }
+        ensures { result ≡ spec.knows_frame self.now id }
     {
         self.ids.contains(&id)
     }
@@ -79,7 +75,7 @@ impl Known {
     // The page to which a digit leads by its number, if its first frame is known.
     fn guess(&self, page: PageNo, digit: u8) -> Option<PageNo>
         requires { digit < 10 }
-        ensures { result ≡ spec.guess self.now page digit }
+        ensures { result ≡ loops.guess self.now page digit }
     {
         let to = page_by(page, digit)?;
         if to != page && self.has(FrameId::first(to)) {
@@ -93,7 +89,7 @@ impl Known {
 // The page to which a digit leads, if there can be one.
 fn page_by(page: PageNo, digit: u8) -> Option<PageNo>
     requires { digit < 10 }
-    ensures { result ≡ spec.page_if_in_range (spec.page_by page digit) }
+    ensures { result ≡ loops.page_if_in_range (spec.page_by page digit) }
 {
     let page = page.get();
     let number = if digit == 0 {
@@ -107,7 +103,7 @@ fn page_by(page: PageNo, digit: u8) -> Option<PageNo>
 // The page to which a digit of a screen leads by its number.
 fn guessed(known: &Known, page: PageNo, looks: &Looks, digit: u8) -> Option<PageNo>
     requires { digit < 10 }
-    ensures { result ≡ spec.guessed known.now page looks.now digit }
+    ensures { result ≡ loops.guessed known.now page looks.now digit }
 {
     match known.guess(page, digit) {
         Some(to) if shows_key(looks, digit) => Some(to),
@@ -126,16 +122,16 @@ fn push_pair(out: &mut Vec<u8>, is_first: bool, digit: u8, to: PageNo) -> Result
     push_page(out, to)
 }
 
-/// Writes the guessed routes of a screen of a page, in the order of their keys; whether there are some. A route is guessed of each digit that
-/// the screen shows as a key if the page to which it leads by its number has a known first frame and is another one: `0` leads to the page
-/// without the last digit, which is page 0 for a page of one digit, and any other digit to the page with the digit at its end.
+/// Writes the guessed routes of a screen of a page, in the order of their keys; whether there are some. A digit that the screen shows as a
+/// key has one if the page to which it leads by its number has a known first frame and is another page: `0` leads to the page without the
+/// last digit, which is page 0 for a page of one digit, and any other digit to the page with the digit at its end.
 pub fn push_guesses(
     out: &mut Vec<u8>,
     known: &Known,
     page: PageNo,
     looks: &Looks,
 ) -> Result<bool, AllocError>
-    ensures { IfOk result (λ some. spec.AreGuessed out.old.items out.new.items known.now page looks.now some) }
+    ensures { IfOk result (λ some. loops.AreGuessed out.old.items out.new.items known.now page looks.now some) }
 {
     let mut is_first = true;
     for digit in 0..10 {

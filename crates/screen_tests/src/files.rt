@@ -269,7 +269,7 @@ fn a_name_may_be_an_id(_rt: HostRuntime) -> Result<(), Fail> {
 fn text_of(alloc: Global, frame: &ScreenFrame, next: bool) -> Result<Vec<u8>, Fail> {
     let mut text = Vec::new(alloc);
     push_entry(&mut text, frame.id.page)?;
-    push_frame(&mut text, &Known::none(alloc), frame, next)?;
+    push_frame(&mut text, &Known::of(alloc, false, &[])?, frame, next)?;
     Ok(text)
 }
 
