@@ -21,7 +21,7 @@ use lint_words::{
     Judged, LineEnd, audit_fault_words, escape_words, hidden_words, line_end_words,
     none_reached_words, unreached_words,
 };
-use page_ids::FrameId;
+use page_ids::{FrameId, Letter};
 use std::alloc::{AllocError, Global};
 
 // The fewest keys from each frame that is reached back to the entry frame.
@@ -125,6 +125,16 @@ fn group_of(base: &Base, fault: &Fault) -> Option<GroupNo>
     ensures { result ≡ spec.group_closed_to base.now fault.now }
 {
     base.find(fault.sought.unwrap_or(fault.frame))?.group
+}
+
+// The frame with the letter before this one's, if it has no next frame.
+fn without_next(base: &Base, id: FrameId) -> Option<FrameId> {
+    let letter = Letter::new(id.letter.get().saturating_sub(1))?;
+    let before = base.find(FrameId {
+        page: id.page,
+        letter,
+    })?;
+    if before.next { None } else { Some(before.id) }
 }
 
 fn rank_of(ranks: &Ranks, id: FrameId) -> Option<u16>
@@ -267,7 +277,7 @@ impl<'a> Sources<'a> {
         ensures { IfOk result (λ f. (ms : List Mark) (tables : List (Id × ℕ)) → loops.AreKnown ms tables self.now
             → f ≡ spec.warning self.now.text.now.text.now ms tables id) }
     {
-        let words = unreached_words(alloc, id)?;
+        let words = unreached_words(alloc, id, without_next(self.base, id))?;
         Ok(Finding::warning(self.text.frame_whole(self.table_of(id)), words))
     }
 

@@ -186,6 +186,7 @@ fn detail_at(table: &TableSpots<'_>, detail: &Detail) -> Option<Span>
 pub(crate) fn written_value<'t>(table: &'t TableSpots<'_>, detail: &Detail) -> &'t [u8] {
     let span = match detail {
         Detail::WrongKind(field, _) => value_of(table, field.name()),
+        Detail::UnknownKey(TableKind::Frame, key) => value_of(table, key.as_str()),
         Detail::WrongItem(Field::Routes, digit, _) => route_value(table, *digit),
         _ => None,
     };
@@ -196,6 +197,23 @@ pub(crate) fn written_value<'t>(table: &'t TableSpots<'_>, detail: &Detail) -> &
             .as_bytes()
             .get(span.begin..span.end)
             .unwrap_or(b""),
+    }
+}
+
+// Whether a key of the table is in a header.
+fn is_in_header(table: &TableSpots<'_>, key: &str) -> bool {
+    match table.key(key) {
+        Some(spot) => table.text().as_bytes().get(spot.at) == Some(&b'['),
+        None => false,
+    }
+}
+
+// Whether an unknown key is that of a header, or one of routes that have a header.
+pub(crate) fn in_header(table: &TableSpots<'_>, detail: &Detail) -> bool {
+    match detail {
+        Detail::UnknownKey(TableKind::Routes, _) => is_in_header(table, "routes"),
+        Detail::UnknownKey(_, key) => is_in_header(table, key.as_str()),
+        _ => false,
     }
 }
 

@@ -95,12 +95,12 @@ const SHOP: &str =
 #[test]
 fn an_audit_is_printed_with_the_frames_that_no_key_reaches(rt: HostRuntime) -> Result<(), Fail> {
     let missing =
-        "b.toml:7:12: error: MISSING: key 3 of frame 1a leads to page 4, which has no frame a (keys 3)\n\
+        "b.toml:7:12: error: MISSING: key 3 of frame 1a leads to page 4, which has no frame a (keys 3); write frame 4a, or list 4 in outside\n\
         b.toml:12:1: warning: UNREACHED: no key leads to frame 2a from the entry page\n";
     prints(rt.alloc(), SHOP, &policy(5, 1, "")?, missing, (1, 1))?;
     let closed =
         "b.toml:5:9: error: PRICE: frame 1a costs 5, the ceiling is 4 (at the entry page)\n\
-        b.toml:7:12: error: MISSING: key 3 of frame 1a leads to page 4, which has no frame a (keys 3)\n\
+        b.toml:7:12: error: MISSING: key 3 of frame 1a leads to page 4, which has no frame a (keys 3); write frame 4a, or list 4 in outside\n\
         b.toml:8:1: error: NORETURN: from frame 1b the entry page is 1 key away, at most 0 are allowed (keys #)\n\
         b.toml:12:1: warning: UNREACHED: no key leads to frame 2a from the entry page\n\
         b.toml:15:1: warning: UNREACHED: no key leads to frame 3a from the entry page\n";

@@ -59,7 +59,7 @@ fn json_has_what_a_finding_is_about(rt: HostRuntime) -> Result<(), Fail> {
     prints(rt.alloc(), Format::Json, PRICE, price)?;
     let missing =
         "{\"code\":\"MISSING\",\"column\":12,\"end_column\":17,\"end_line\":5,\"file\":\"a,b.toml\",\
-        \"frame\":\"1a\",\"hint\":null,\"key\":\"3\",\"keys\":\"3\",\"level\":\"error\",\"line\":5,\
+        \"frame\":\"1a\",\"hint\":\"write frame 4a, or list 4 in outside\",\"key\":\"3\",\"keys\":\"3\",\"level\":\"error\",\"line\":5,\
         \"message\":\"key 3 of frame 1a leads to page 4, which has no frame a (keys 3)\"}\n";
     let text = b"entry = 1\n[[frame]]\nid = \"1a\"\nrows = []\nroutes = { 3 = 4 }\n";
     prints(rt.alloc(), Format::Json, text, missing)?;
