@@ -169,7 +169,8 @@ class FrameJudge:
         if "rows" in self.table:
             yield from self.rows_faults(self.table["rows"])
         if "body" not in self.table and "rows" not in self.table:
-            yield Fault("X4 Absent", "body", f'{self.name} has no "body" and no "rows"', self.header)
+            piece = self.piece("id") if "id" in self.table else self.header
+            yield Fault("X4 Absent", "body", f'{self.name} has no "body" and no "rows"', piece)
 
     def body_faults(self, body: object) -> Iterator[Fault]:
         if not isinstance(body, str):

@@ -95,7 +95,7 @@ class Audited:
             case "TOUCHES":
                 return self.touches(id, int(rest[1]), rest[3])
             case "NORETURN":
-                return self.piece(id, What.HEADER), self.no_return(id)
+                return self.piece(id, What.VALUE, "id"), self.no_return(id)
         key = rest[3]
         keys = ("next",) if key == "#" else ("routes", key)
         return self.piece(id, What.PAIR, *keys), f"key {key} of frame {id} leads to {self.lost(word, sought)}"
@@ -136,7 +136,7 @@ class Audited:
             words = f"no key leads to {number_of(len(ids), 'frame', 'frames')} from the entry page"
             yield Piece(What.VALUE, None, ("entry",)), f"UNREACHED: {words}"
         for id in [] if self.survey.unopened else ids:
-            yield self.piece(id, What.HEADER), f"UNREACHED: no key leads to frame {id} from the entry page"
+            yield self.piece(id, What.VALUE, "id"), f"UNREACHED: no key leads to frame {id} from the entry page"
 
     def hidden(self) -> Iterator[tuple[Piece, str]]:
         """The rows with text that the double height of the row above hides, of frames given as rows."""

@@ -10,6 +10,7 @@ use Rattle.page_ids.specs.declared.key.Key.TheVariants as key
 use Rattle.abstract_paint.specs.declared.start.Start.{Start}
 use Rattle.base_text.specs.declared.limits.TheConstants.{MOST_TEXT}
 use Rattle.base_text.specs.declared.keys.Field.{Field}
+use Rattle.base_text.specs.declared.keys.Field.TheVariants as field
 use Rattle.base_text.specs.declared.keys.TableKind.{TableKind}
 use Rattle.base_text.specs.declared.keys.TableKind.TheVariants as kind
 use Rattle.base_text.specs.Fields.{field_name, digit_key}
@@ -37,10 +38,10 @@ use Rattle.toml_places.specs.Places.{marks, first_at, first_spot, frame_key, Pla
 use Rattle.toml_places.proofs.SpanStands.{spans_stand}
 use Rattle.toml_places.proofs.Within.{places_are_within}
 use Rattle.lint.specs.Findings.{FindingView, warning_at}
-use Rattle.lint.specs.Tables.{TableView, is_in_line, value_at, element_at, frame_element, header_span, frame_whole, whole, table_at}
+use Rattle.lint.specs.Tables.{TableView, is_in_line, value_at, element_at, frame_element, header_span, frame_whole, whole, key_spot, table_at, id_span}
 use Rattle.frame_records.specs.declared.limits.TheConstants.{MOST_LISTED}
 use Rattle.lint.specs.Outside.{is_page, page_in_span, element_if, page_from, page_at, outside_element}
-use Rattle.lint.specs.Spots.{span_of_key, span_of_pair, key_of, span_of_value, route_key, route_pair, item_of, char_of, later, unknown_at, digit_at, is_routes, listed_at, span_of_row, body_char, detail_at, detail_span, has_rows, shown_at, whole_at, whole_span, pressed_at, byte_at, touched_at, kind_at, audit_span, row_span, entry_span, is_this_byte, is_one, feed_span, ended_span, line_end_at, single_span, single_at, kind_table, whole_table}
+use Rattle.lint.specs.Spots.{span_of_key, span_of_pair, key_of, span_of_value, route_key, route_pair, item_of, char_of, later, unknown_at, digit_at, is_routes, listed_at, span_of_row, body_char, absent_at, detail_at, detail_span, has_rows, shown_at, whole_at, whole_span, pressed_at, byte_at, touched_at, kind_at, audit_span, row_span, entry_span, is_this_byte, is_one, feed_span, ended_span, line_end_at, single_span, single_at, kind_table, whole_table}
 use Rattle.lint.specs.Lint.{Subject, Length, Toml, Text, Whole, finding_of, faulty, IsSpanWithin, AreSubjects, AreSubjectsIf, AreTreeSubjects, IsJudgedBy, text_tables, warning, warning_if, unreached_findings, look_in, look_finding, look_findings, fault_finding, ranks_of, finds_none, frame_ids, unreached, table_of, text_finding, whole_finding, IsAudited}
 use Rattle.lint_words.specs.FaultWords.{none_reached_words}
 use Rattle.lint_words.specs.declared.warning_words.LineEnd.{LineEnd}
@@ -136,9 +137,22 @@ module _ (t : TableView) (items : (k : ℕ) → Lies t.text (t.item k)) where
   body_char_lies : (k : ℕ) → Lies t.text (body_char t k)
   body_char_lies k = map_lies t.text (span_of_value t (codes "body")) (char_of t k) (char_lies k) (value_of_lies (codes "body"))
 
+  absent_lies : (f : Field) → Lies t.text (absent_at t f)
+  absent_lies field.Entry = tt
+  absent_lies field.Outside = tt
+  absent_lies field.Frame = tt
+  absent_lies field.Id = tt
+  absent_lies field.Price = tt
+  absent_lies field.Group = tt
+  absent_lies field.Next = tt
+  absent_lies field.Routes = tt
+  absent_lies field.Lead = tt
+  absent_lies field.Body = value_of_lies (codes "id")
+  absent_lies field.Rows = tt
+
   detail_at_lies : (d : Detail) → Lies t.text (detail_at t d)
   detail_at_lies (UnknownKey k key) = unknown_lies k key
-  detail_at_lies (Absent f) = tt
+  detail_at_lies (Absent f) = absent_lies f
   detail_at_lies (WrongKind f k) = value_of_lies (field_name f)
   detail_at_lies (WrongItem f n k) = listed_lies f n
   detail_at_lies (Number f z) = value_of_lies (field_name f)
@@ -186,7 +200,7 @@ module _ (t : TableView) (items : (k : ℕ) → Lies t.text (t.item k)) where
   kind_lies fault fault_kind.Touches = touched_lies fault.start
   kind_lies fault fault_kind.Missing = then_lies t.text fault.key (pressed_at t) pressed_lies
   kind_lies fault fault_kind.Closed = then_lies t.text fault.key (pressed_at t) pressed_lies
-  kind_lies fault fault_kind.NoReturn = tt
+  kind_lies fault fault_kind.NoReturn = value_of_lies (codes "id")
 
 module _ (text : List ℕ) where
   frame_lies : (k : ℕ) → IsSpanWithin text (frame_whole text (marks text) k)
@@ -197,6 +211,11 @@ module _ (text : List ℕ) where
       (then_lies text (first_at (marks text) (Some k) []) (λ at. at_offset frame_piece at text) (piece_lies frame_piece spans_stand.frames text))
       (element_lies text (first_spot (marks text) None (frame_key ∷ [])) k))
       (record { ascends = le_refl _; within = (places_are_within text k []).0 })
+
+  id_lies : (k : ℕ) → IsSpanWithin text (id_span text (marks text) k)
+  id_lies k =
+      let spot = key_spot text (marks text) (Some k) (codes "id") in
+      else_lies text (value_at text spot) (frame_whole text (marks text) k) (value_lies text spot) (frame_lies k)
 
   whole_lies : (frame : Option ℕ) → IsSpanWithin text (whole text (marks text) frame)
   whole_lies None = record { ascends = omega arith; within = prefix_len-le-length is_in_line text }
@@ -340,7 +359,7 @@ module _ (text : List ℕ) where
     on : (b : Bool) → AllLie (if b then [] else warning_at (entry_span (table_at text (marks text) None)) (none_reached_words (length ids)) ∷ [])
     on true = none_lie
     on false = one_lie (warning_at (entry_span (table_at text (marks text) None)) (none_reached_words (length ids))) entry_lies
-  unreached_lie false ids = each (warning text (marks text) (text_tables text)) (λ id. frame_lies (table_of (text_tables text) id)) ids
+  unreached_lie false ids = each (warning text (marks text) (text_tables text)) (λ id. id_lies (table_of (text_tables text) id)) ids
 
   audited_lie : (policy : Policy) (base : BaseView) (findings : List FindingView) → IsAudited text policy base findings → AllLie findings
   audited_lie policy base findings a =

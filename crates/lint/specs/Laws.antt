@@ -84,7 +84,7 @@ pub record IsCutOff (groups : List ℕ) (base : BaseView) (f : Frame) : Type 0 w
   pub opens : is_open groups f ≡ true
   pub unreached : IsReached groups base f.id → ⊥
 
--- Besides errors the findings are one warning for each of these frames, at its header; if the entry frame isn't found one for
+-- Besides errors the findings are one warning for each of these frames, at its id; if the entry frame isn't found one for
 -- all frames that are open to the caller, with their number; those of what frames show; and no other.
 pub record WarnsOfCutOff (text : List ℕ) (policy : Policy) (base : BaseView) (findings : List FindingView) : Type 0 where
   pub errors : List FindingView

@@ -17,7 +17,7 @@ use Rattle.lint_words.specs.WarningWords.{hidden_words, line_end_words, escape_w
 use Rattle.lint_words.specs.WordsOf.{WordsView}
 use Rattle.lint.specs.Findings.{FindingView, error_at, warning_at, AreInOrder}
 use Rattle.lint.specs.Lookups.{value_of}
-use Rattle.lint.specs.Tables.{TableView, empty_at, frame_whole, table_at, id_place}
+use Rattle.lint.specs.Tables.{TableView, empty_at, table_at, id_span, id_place}
 use Rattle.lint.specs.declared.looks.Look.{Look}
 use Rattle.lint.specs.declared.looks.Look.TheVariants.{Hidden, Escape, EndsLine}
 use Rattle.lint.specs.Looks.{looks_of}
@@ -86,7 +86,7 @@ fault_finding text ms tables base policy ranks fault =
     error_at (audit_span table fault) (audit_fault_words (judged table base policy ranks fault) fault)
 
 abbrev pub warning : List ℕ → List Mark → List (Id × ℕ) → Id → FindingView
-warning text ms tables id = warning_at (frame_whole text ms (table_of tables id)) (unreached_words id)
+warning text ms tables id = warning_at (id_span text ms (table_of tables id)) (unreached_words id)
 
 -- if the entry frame isn't found, one warning has the number of all these frames
 abbrev pub none_reached : List ℕ → List Mark → ℕ → List FindingView

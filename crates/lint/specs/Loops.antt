@@ -14,7 +14,7 @@ use Rattle.fault_scripts.specs.declared.fault.Fault.{Fault}
 use Rattle.lint.specs.declared.looks.Look.{Look}
 use Rattle.toml_places.specs.Places.{Mark, kept_route, kept_key, key_in, route_in, first_spot, routes_key, Keeps}
 use Rattle.lint.specs.declared.audit_findings.Sources.{Sources}
-use Rattle.lint.specs.Tables.{TableView, key_spot, dotted_spot, table_at, whole, inline_marks, frame_element}
+use Rattle.lint.specs.Tables.{TableView, value_at, key_spot, dotted_spot, table_at, whole, inline_marks, frame_element}
 use Rattle.toml_places.specs.declared.spans.Span.{Span}
 use Rattle.toml_places.specs.Spans.{pair_span}
 use Rattle.toml_places.specs.Steps.{◌>>=◌}
@@ -58,6 +58,10 @@ keys_of text ms frame = record { frame = frame; key = key_spot text ms frame; do
 -- the pair that writes what a frame with these keys shows
 abbrev pub picture_seen : List ℕ → KeysView → Option Span
 picture_seen text k = option_or (k.key (codes "rows")) (k.key (codes "body")) >>= (λ s. pair_span s text)
+
+-- the value of the id of a frame with these keys
+abbrev pub id_seen : List ℕ → KeysView → Option Span
+id_seen text k = value_at text (k.key (codes "id"))
 
 -- this is a table of the text
 abbrev pub IsTable : List ℕ → List Mark → TableView → Type 0

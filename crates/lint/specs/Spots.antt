@@ -94,9 +94,14 @@ row_char t n i = option_map (char_of t (i - 1)) (span_of_row t n)
 abbrev pub body_char : TableView → ℕ → Option Span
 body_char t k = option_map (char_of t k) (span_of_value t (codes "body"))
 
+-- a missing key of a frame; the frame is marked at its id, if what it shows is missing
+abbrev pub absent_at : TableView → Field → Option Span
+absent_at t field.Body = span_of_value t (codes "id")
+absent_at t _ = None
+
 abbrev pub detail_at : TableView → Detail → Option Span
 detail_at t (UnknownKey k key) = unknown_at t k key
-detail_at t (Absent f) = None
+detail_at t (Absent f) = absent_at t f
 detail_at t (WrongKind f k) = span_of_value t (field_name f)
 detail_at t (WrongItem f n k) = listed_at t f n
 detail_at t (Number f z) = span_of_value t (field_name f)
@@ -171,7 +176,7 @@ kind_at t fault fault_kind.Price = span_of_value t (codes "price")
 kind_at t fault fault_kind.Touches = touched_at t fault.start
 kind_at t fault fault_kind.Missing = sought_at t fault.key
 kind_at t fault fault_kind.Closed = sought_at t fault.key
-kind_at t fault fault_kind.NoReturn = None
+kind_at t fault fault_kind.NoReturn = span_of_value t (codes "id")
 
 abbrev pub audit_span : TableView → Fault → Span
 audit_span t fault = unwrap_or (kind_at t fault fault.kind) t.whole

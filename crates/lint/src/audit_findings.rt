@@ -278,7 +278,8 @@ impl<'a> Sources<'a> {
             → f ≡ spec.warning self.now.text.now.text.now ms tables id) }
     {
         let words = unreached_words(alloc, id, without_next(self.base, id))?;
-        Ok(Finding::warning(self.text.frame_whole(self.table_of(id)), words))
+        let span = self.text.id_span(alloc, self.table_of(id))?;
+        Ok(Finding::warning(span, words))
     }
 
     fn add_warnings(

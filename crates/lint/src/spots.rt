@@ -158,12 +158,22 @@ fn row_char(table: &TableSpots<'_>, row: usize, number: usize) -> Option<Span>
     Some(char_of(table, number.saturating_sub(1), row))
 }
 
+// A missing key. A frame that shows nothing is marked at its id.
+fn absent_at(table: &TableSpots<'_>, field: Field) -> Option<Span>
+    ensures { result ≡ spec.absent_at (table_seen table.now) field }
+{
+    match field {
+        Field::Body => value_of(table, "id"),
+        _ => None,
+    }
+}
+
 fn detail_at(table: &TableSpots<'_>, detail: &Detail) -> Option<Span>
     ensures { result ≡ spec.detail_at (table_seen table.now) detail.now }
 {
     match detail {
         Detail::UnknownKey(kind, key) => unknown_at(table, *kind, key.as_str()),
-        Detail::Absent(_) => None,
+        Detail::Absent(field) => absent_at(table, *field),
         Detail::WrongKind(field, _) => value_of(table, field.name()),
         Detail::WrongItem(field, number, _) => listed_at(table, *field, *number),
         Detail::Number(field, _) => value_of(table, field.name()),
@@ -325,7 +335,7 @@ fn kind_at(table: &TableSpots<'_>, fault: &Fault) -> Option<Span>
         FaultKind::Price => value_of(table, "price"),
         FaultKind::Touches => touched_at(table, fault.start),
         FaultKind::Missing | FaultKind::Closed => sought_at(table, &fault.key),
-        FaultKind::NoReturn => None,
+        FaultKind::NoReturn => value_of(table, "id"),
     }
 }
 

@@ -23,7 +23,7 @@ const NOT_YAML: &str = "a base is TOML, not YAML";
 
 // What is before the place on its line, blanks aside.
 #[derive(Clone, Copy)]
-enum Before {
+enum LineFront {
     Any,
     Is(&'static str),
     Has(u8),
@@ -50,146 +50,174 @@ enum Say {
 }
 
 // Toml's message, the key of the line or any, what is before the place, and how the rest of the text begins.
-type Slip = (&'static str, Option<Field>, Before, &'static str, Say);
+type Slip = (&'static str, Option<Field>, LineFront, &'static str, Say);
 
 const SLIPS: &[Slip] = &[
-    (NO_VALUE, None, Before::Is("--"), "", Say::Words(COMMENT)),
-    (UNEXPECTED, None, Before::Any, "--", Say::Words(COMMENT)),
-    (BAD_KEY, None, Before::Any, "/*", Say::Words(COMMENT)),
-    (UNEXPECTED, None, Before::Any, "/*", Say::Words(COMMENT)),
-    (NO_VALUE, None, Before::Is("-"), "", Say::Words(NOT_YAML)),
-    (NO_VALUE, None, Before::Is("---"), "", Say::Words(NOT_YAML)),
+    (NO_VALUE, None, LineFront::Is("--"), "", Say::Words(COMMENT)),
+    (UNEXPECTED, None, LineFront::Any, "--", Say::Words(COMMENT)),
+    (BAD_KEY, None, LineFront::Any, "/*", Say::Words(COMMENT)),
+    (UNEXPECTED, None, LineFront::Any, "/*", Say::Words(COMMENT)),
+    (NO_VALUE, None, LineFront::Is("-"), "", Say::Words(NOT_YAML)),
     (
         NO_VALUE,
         None,
-        Before::Any,
+        LineFront::Is("---"),
+        "",
+        Say::Words(NOT_YAML),
+    ),
+    (
+        NO_VALUE,
+        None,
+        LineFront::Any,
         ":",
         Say::Words("a base is TOML: write = in place of :"),
     ),
     (
         BAD_KEY,
         None,
-        Before::Is(""),
+        LineFront::Is(""),
         "<",
         Say::Words("a base is TOML"),
     ),
     (
         BAD_KEY,
         None,
-        Before::Is(""),
+        LineFront::Is(""),
         "((frame",
         Say::Words(TWO_BRACKETS),
     ),
     (
         BAD_KEY,
         None,
-        Before::Is(""),
+        LineFront::Is(""),
         "(frame",
         Say::Words(TWO_BRACKETS),
     ),
     (
         BAD_KEY,
         None,
-        Before::Is(""),
+        LineFront::Is(""),
         "{{frame",
         Say::Words(TWO_BRACKETS),
     ),
     (
         BAD_KEY,
         None,
-        Before::Is(""),
+        LineFront::Is(""),
         "{frame",
         Say::Words(TWO_BRACKETS),
     ),
-    (DUPLICATE, None, Before::Any, "id", Say::NoFrame),
-    (DUPLICATE, None, Before::Any, "[frame.routes]", Say::Header),
-    (EXTENDS, None, Before::Any, "routes", Say::Braces),
+    (DUPLICATE, None, LineFront::Any, "id", Say::NoFrame),
+    (
+        DUPLICATE,
+        None,
+        LineFront::Any,
+        "[frame.routes]",
+        Say::Header,
+    ),
+    (EXTENDS, None, LineFront::Any, "routes", Say::Braces),
     (
         BAD_KEY,
         Some(Field::Routes),
-        Before::Has(b'{'),
+        LineFront::Has(b'{'),
         "*",
         Say::Words("a route is a digit, 0 to 9"),
     ),
     (
         NO_COMMA,
         Some(Field::Routes),
-        Before::Has(b'['),
+        LineFront::Has(b'['),
         "=",
         Say::Pairs,
     ),
-    (BAD_VALUE, Some(Field::Routes), Before::Any, "(", Say::Pairs),
-    (BAD_VALUE, Some(Field::Rows), Before::Any, "(", Say::List),
-    (BAD_VALUE, Some(Field::Outside), Before::Any, "(", Say::List),
+    (
+        BAD_VALUE,
+        Some(Field::Routes),
+        LineFront::Any,
+        "(",
+        Say::Pairs,
+    ),
+    (BAD_VALUE, Some(Field::Rows), LineFront::Any, "(", Say::List),
+    (
+        BAD_VALUE,
+        Some(Field::Outside),
+        LineFront::Any,
+        "(",
+        Say::List,
+    ),
     (
         NO_VALUE,
         Some(Field::Rows),
-        Before::Has(b'{'),
+        LineFront::Has(b'{'),
         "",
         Say::List,
     ),
     (
         NO_VALUE,
         Some(Field::Outside),
-        Before::Has(b'{'),
+        LineFront::Has(b'{'),
         "",
         Say::List,
     ),
-    (UNEXPECTED, Some(Field::Rows), Before::Any, ",", Say::List),
+    (
+        UNEXPECTED,
+        Some(Field::Rows),
+        LineFront::Any,
+        ",",
+        Say::List,
+    ),
     (
         UNEXPECTED,
         Some(Field::Outside),
-        Before::Any,
+        LineFront::Any,
         ",",
         Say::List,
     ),
     (
         BAD_DATE,
         Some(Field::Outside),
-        Before::Any,
+        LineFront::Any,
         "",
         Say::Words("list each page, as [0, 1]"),
     ),
     (
         BAD_VALUE,
         Some(Field::Routes),
-        Before::Has(b'{'),
+        LineFront::Has(b'{'),
         "",
         Say::Joined,
     ),
     (
         BAD_VALUE,
         Some(Field::Routes),
-        Before::Has(b'.'),
+        LineFront::Has(b'.'),
         "",
         Say::Joined,
     ),
-    (BAD_VALUE, Some(Field::Entry), Before::Any, "", Say::Joined),
-    (UNEXPECTED, Some(Field::Id), Before::Any, "", Say::Id),
+    (
+        BAD_VALUE,
+        Some(Field::Entry),
+        LineFront::Any,
+        "",
+        Say::Joined,
+    ),
+    (UNEXPECTED, Some(Field::Id), LineFront::Any, "", Say::Id),
     (
         BAD_STRING,
         Some(Field::Body),
-        Before::Any,
+        LineFront::Any,
         "\n",
         Say::LineEnd,
     ),
     (
         BAD_STRING,
         Some(Field::Body),
-        Before::Any,
+        LineFront::Any,
         "\r",
         Say::LineEnd,
     ),
-    (BAD_ESCAPE, None, Before::Any, "", Say::Escape),
+    (BAD_ESCAPE, None, LineFront::Any, "", Say::Escape),
 ];
-
-// A text, a place in it and toml's message.
-#[derive(Clone, Copy)]
-pub struct Fault<'a> {
-    pub text: &'a [u8],
-    pub at: usize,
-    pub message: &'a str,
-}
 
 // The key whose value is on the line of a place.
 pub(crate) fn field_at(text: &[u8], at: usize) -> Option<Field>
@@ -206,11 +234,11 @@ fn line_before(text: &[u8], at: usize) -> &[u8]
     before.trim_ascii()
 }
 
-fn is_before(before: Before, line: &[u8]) -> bool {
+fn is_before(before: LineFront, line: &[u8]) -> bool {
     match before {
-        Before::Any => true,
-        Before::Is(words) => line == words.as_bytes(),
-        Before::Has(byte) => line.contains(&byte),
+        LineFront::Any => true,
+        LineFront::Is(words) => line == words.as_bytes(),
+        LineFront::Has(byte) => line.contains(&byte),
     }
 }
 
