@@ -84,7 +84,11 @@ fn carets_go_below_all_columns_of_a_span(rt: HostRuntime) -> Result<(), Fail> {
         ),
         (
             b"entry = 1\n[[frame]]\nid = \"\xC2\x85\t\"\nrows = []\n",
-            "    3 | id = \"\\u{85}\t\"\n      |      ^^^^^^^^^\n",
+            "    3 | id = \"\\u0085\t\"\n      |      ^^^^^^^^^\n",
+        ),
+        (
+            b"entry = 1\n[[frame]]\nid = \"\xEF\xBC\xA1\"\nrows = []\n",
+            "    3 | id = \"\u{FF21}\"\n      |      ^^^^\n",
         ),
         (
             b"\xEF\xBB\xBFentry = -1\n[[frame]]\nid = \"1a\"\nrows = []\n",
