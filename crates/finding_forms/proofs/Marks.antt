@@ -1,11 +1,8 @@
 -- Characters and their marks, one by one.
-use Rattle.std.proofs.Common.{◌≡◌, ℕ, ◌+◌, true, List, [], ◌∷◌, ◌++◌, length, replicate, chars, IsUtf8, refl, ap, sym, ◌∙◌, append_assoc, append-nil, arith}
-use Rattle.std.proofs.lemmas.Bool.{and_from}
-use Rattle.std.proofs.Math.Utf8.{encode, encodes, scalar, scalars}
+use Rattle.std.proofs.Common.{◌≡◌, ℕ, ◌+◌, List, [], ◌∷◌, ◌++◌, length, replicate, chars, ap, ◌∙◌, append_assoc, arith}
 use Rattle.std.proofs.lemmas.List.{replicate-append-replicate}
-use Rattle.std.proofs.lemmas.Str.{chars-encodes, chars-nil, utf8_lossy-IsUtf8}
+use Rattle.std.proofs.lemmas.Str.{chars-nil}
 use Rattle.std.specs.List.{flat_map}
-use Rattle.lint_words.specs.Lines.{printed_char, shown_chars, line_of}
 
 -- one more of the same
 pub one_more : (old : List ℕ) (n a : ℕ) → (old ++ replicate n a) ++ (a ∷ []) ≡ old ++ replicate (n + 1) a
