@@ -132,7 +132,9 @@ class Frame:
         name = f"frame {self.id}" if self.fields.get("id") == self.id else "this frame"
         faults = [fault for field in JUDGED for fault in self.faults_of(field)]
         for fault in listed(faults, "in {F}"):
-            yield fault._replace(words=fault.words.replace("{F}", name))
+            is_empty = fault.words.startswith("X4 Absent: {F}") and "id" in self.fields
+            place = ("id", "value") if is_empty else fault.name
+            yield fault._replace(words=fault.words.replace("{F}", name), name=place)
 
 
 class Written(Chance):
@@ -676,12 +678,12 @@ class FaultyWalks(Written):
                 self.lead_astray(frame, key)
         if frame.rank is None:
             words = f"NORETURN: no keys lead from frame {frame.id} back to the entry page"
-            self.tell(frame, words + frame.keys, "value")
+            self.tell(frame, words + frame.keys, "id", "value")
         elif frame.rank > self.keyings:
             away = f"{frame.rank} {'key' if frame.rank == 1 else 'keys'} away"
             allowed = f"at most {self.keyings} {'is' if self.keyings == 1 else 'are'} allowed"
             words = f"NORETURN: from frame {frame.id} the entry page is {away}, {allowed}"
-            self.tell(frame, words + frame.keys, "value")
+            self.tell(frame, words + frame.keys, "id", "value")
 
     def tell(self, frame: Frame, words: str, *name: str | int) -> None:
         self.whole_faults.append(Fault(words, name, frame))
@@ -749,4 +751,4 @@ class FaultyWalks(Written):
                 self.frames.insert(self.random.randrange(len(self.frames) + 1), frame)
         for frame in sorted(stranded, key=lambda frame: frame.place):
             words = f"UNREACHED: no key leads to frame {frame.id} from the entry page"
-            self.warnings.append(Fault(words, ("value",), frame))
+            self.warnings.append(Fault(words, ("id", "value"), frame))
