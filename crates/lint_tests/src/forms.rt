@@ -73,7 +73,7 @@ fn json_has_what_a_finding_is_about(rt: HostRuntime) -> Result<(), Fail> {
 // The second row's value is on two lines, and the third is of U+0085 alone.
 #[test]
 fn carets_go_below_all_columns_of_a_span(rt: HostRuntime) -> Result<(), Fail> {
-    let rows: [(&[u8], &str); 6] = [
+    let rows: [(&[u8], &str); 7] = [
         (
             b"entry = 1\n[[frame]]\nid = \"1a\"\n\tprice =\t-1\r\nrows = []\n",
             "    4 | \tprice =\t-1\n      | \t       \t^^\n",
