@@ -57,7 +57,7 @@ fn push_finding(
     match format {
         Format::Full => push_full_finding(alloc, out, path, text, lines, finding),
         Format::Line => push_line_finding(out, path, lines, finding),
-        Format::Json => push_object(alloc, out, file, lines, finding),
+        Format::Json => push_object(alloc, out, file, text, lines, finding),
         Format::Github => push_command(out, path, lines, finding),
     }
 }

@@ -1,5 +1,7 @@
 use Rattle.std.proofs.Common.{◌∙◌, ap, subst, option_copied, List, ℕ}
 use Rattle.std.specs.Str.Lossy.{utf8_lossy}
+use Rattle.serde_json.specs.Data.{Data}
+use Rattle.serde_json.specs.View.{view}
 use Rattle.serde_json.specs.Written.{compact_text}
 use Rattle.toml_places.specs.declared.text_lines.Extent.{Extent}
 use Rattle.lint.specs.Findings.{FindingView}
