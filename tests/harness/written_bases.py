@@ -568,6 +568,7 @@ class FaultyWalks(Written):
         if share >= 0.1:
             self.strand()
         self.outside()
+        self.leave_unsought()
         for frame in self.frames:
             if not frame.fields.get("routes") and self.chance(0.5):
                 frame.fields.pop("routes", None)
@@ -594,6 +595,16 @@ class FaultyWalks(Written):
             if "\\u00" in str(row):
                 words = f"row {at + 1} of frame {frame.id} has \\u00 in single quotation marks, which is shown as it is"
                 yield ("rows", at, "value"), "", f"ESCAPE: {words}"
+
+    def leave_unsought(self) -> None:
+        """Warnings of the frames that are closed to the caller and to which no way leads."""
+        sought = {(page, "a") for frame in self.frames for page in frame.routes.values()}
+        sought |= {(frame.page, chr(ord(frame.letter) + 1)) for frame in self.frames if frame.fields.get("next")}
+        for frame in sorted(self.frames, key=lambda frame: frame.place):
+            group = frame.fields.get("group")
+            if group and group not in self.own and frame.place not in sought:
+                words = f"UNSOUGHT: no key of any frame leads to frame {frame.id}, which belongs to group {group}"
+                self.warnings.append(Fault(words, ("id", "value"), frame))
 
     def outside(self) -> None:
         every = [frame.routes for frame in self.reached if self.chance(0.2)]

@@ -7,7 +7,7 @@ use Rattle.finder.specs.Finds.{FindsReached, RanksAreLeast}
 use Rattle.fault_scripts.specs.Faults.{AreFaults}
 use Rattle.lint.specs.declared.audit_findings.Audit.{Audit}
 use Rattle.lint.specs.Lookups.{value_of}
-use Rattle.lint.specs.Looks.{looks_of}
+use Rattle.lint.specs.AllLooks.{all_looks}
 use Rattle.lint.specs.Lint.{Toml, ranks_of, unreached, finds_none, frame_ids, finding_of, IsSpanWithin}
 use Rattle.page_ids.specs.Ids.{Id, id_eq}
 use Rattle.fault_scripts.specs.declared.fault.Fault.{Fault}
@@ -122,7 +122,7 @@ pub record IsAudit (base : BaseView) (policy : Policy) (audit : Audit) : Type 0 
   pub known : KnowsValues (ranks_of found) audit.ranks
   pub finds_none : audit.finds_none ≡ finds_none found
   pub unreached : audit.unreached.items ≡ frame_ids (unreached policy.groups (ranks_of found) base.frames)
-  pub looks : audit.looks.items ≡ looks_of base.frames
+  pub looks : audit.looks.items ≡ all_looks policy.groups base.frames
 
 -- nothing was found
 abbrev pub is_clear : List Fault → List Id → List (Id × Look) → Bool

@@ -138,7 +138,7 @@ abbrev pub shown_at : TableView → Option Span
 shown_at t = span_of_value t (if has_rows t then codes "rows" else codes "body")
 
 abbrev pub whole_at : TableView → WholeFault → Option Span
-whole_at t (TooManyFrames n) = None
+whole_at t (TooManyFrames n) = span_of_value t (codes "id")
 whole_at t (TooManyOutside n) = item_of t (codes "outside") MOST_LISTED
 whole_at t (BodyTooLong table id n) = shown_at t
 whole_at t (NextAfterZ table id) = pair_of t (codes "next")
@@ -224,6 +224,23 @@ single_span text s = if is_this_byte 0x27 (slice_get text s.begin) then Some s e
 -- a row, by its number from 1, in single quotation marks
 abbrev pub single_at : TableView → ℕ → Option Span
 single_at t n = t.item (n - 1) >>= single_span t.text
+
+-- what a frame shows is written under this key
+abbrev pub shown_field : TableView → Field
+shown_field t = if has_rows t then field.Rows else field.Body
+
+-- the code of the body at an index, if it is known
+abbrev pub byte_written : TableView → Option ℕ → Option Span
+byte_written t None = span_of_value t (codes "body")
+byte_written t (Some k) = body_char t k
+
+-- a row of the screen: of a frame that is given as rows that row, else the code of the body
+abbrev pub sight_span : TableView → ℕ → Option ℕ → Span
+sight_span t row at = unwrap_or (if has_rows t then span_of_row t row else byte_written t at) t.whole
+
+-- the value of the frame's id
+abbrev pub named_span : TableView → Span
+named_span t = unwrap_or (span_of_value t (codes "id")) t.whole
 
 -- a missing entry frame is a fault of the top, all else of the frame, which this table writes
 abbrev pub kind_table : ℕ → FaultKind → Option ℕ

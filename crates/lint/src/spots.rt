@@ -266,7 +266,7 @@ fn whole_at(table: &TableSpots<'_>, fault: &WholeFault) -> Option<Span>
     ensures { result ≡ spec.whole_at (table_seen table.now) fault.now }
 {
     match fault {
-        WholeFault::TooManyFrames(_) => None,
+        WholeFault::TooManyFrames(_) => value_of(table, "id"),
         WholeFault::TooManyOutside(_) => item_of(table, "outside", MOST_LISTED),
         WholeFault::BodyTooLong { .. } => shown_at(table),
         WholeFault::NextAfterZ { .. } => pair_of(table, "next"),
@@ -426,6 +426,46 @@ pub fn single_at(table: &TableSpots<'_>, row: usize) -> Option<Span>
     ensures { result ≡ spec.single_at (table_seen table.now) row }
 {
     single_span(table.text(), table.item(row.saturating_sub(1))?)
+}
+
+// Under which key what a frame shows is written.
+pub fn shown_field(table: &TableSpots<'_>) -> Field
+    ensures { result ≡ spec.shown_field (table_seen table.now) }
+{
+    if has_rows(table) {
+        Field::Rows
+    } else {
+        Field::Body
+    }
+}
+
+// The code of the body at an index, if it is known.
+fn byte_written(table: &TableSpots<'_>, index: Option<usize>) -> Option<Span>
+    ensures { result ≡ spec.byte_written (table_seen table.now) index }
+{
+    match index {
+        Some(index) => body_char(table, index),
+        None => value_of(table, "body"),
+    }
+}
+
+// The span of a row of the screen: of a frame that is given as rows that row, else the code of the body at an index.
+pub fn sight_span(table: &TableSpots<'_>, row: usize, index: Option<usize>) -> Span
+    ensures { result ≡ spec.sight_span (table_seen table.now) row index }
+{
+    let span = if has_rows(table) {
+        row_at(table, row)
+    } else {
+        byte_written(table, index)
+    };
+    span.unwrap_or(table.whole())
+}
+
+// The span of the value of the frame's id.
+pub fn named_span(table: &TableSpots<'_>) -> Span
+    ensures { result ≡ spec.named_span (table_seen table.now) }
+{
+    value_of(table, "id").unwrap_or(table.whole())
 }
 
 // The frame whose table a fault of the audit is about, which this table writes; none if the entry frame is missing.
