@@ -1,4 +1,4 @@
-"""The fixes of findings, each made alone: what `lint` finds afterwards has to be what it found before, but for that one."""
+"""The fixes of findings, each made alone: what `lint` finds then has to be what it found before, but for that one."""
 
 import json
 from collections import Counter
@@ -52,7 +52,10 @@ def found(folder: Path, text: str, *caller: str) -> list[Said]:
 
 
 def fixed_alone(test: Test, name: str, text: str, *caller: str) -> list[str]:
-    """The texts that each fix alone makes of a text. In each the finding is gone and no other has come, unless TOML reads on."""
+    """The texts that each fix alone makes of a text. In each the finding is gone and no other has come.
+
+    Of a text that isn't TOML others may come, since reading goes on.
+    """
     before, texts = found(test.folder, text, *caller), list[str]()
     for said in before:
         if said.fix is None:

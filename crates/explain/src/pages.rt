@@ -699,9 +699,8 @@ again; or publish when no caller is inside."#;
 
 const P196: &str = r#"UNREACHED"#;
 
-const P197: &str = r#"A warning: no key leads to this frame from the entry page, so no caller sees
-it. If the entry frame isn't found, one line has the number of all frames that
-are open to the caller."#;
+const P197: &str = r#"A warning: no key leads to this frame from the entry page. If the entry frame
+isn't found, one line has the number of all frames that are open to the caller."#;
 
 const P198: &str = r#"The file base:"#;
 
@@ -756,8 +755,7 @@ const P207: &str = r#"    FRAME 1a RANK 0 PRICE 0 GROUP - SCRIPT -
 
 const P208: &str = r#"HIDDEN"#;
 
-const P209: &str = r#"A warning: this row has text, but the row above has double height (8D), which
-takes up both rows. No caller sees the text."#;
+const P209: &str = r#"A warning: the double height (8D) of the row above hides this row's text."#;
 
 const P210: &str = r#"    sed '0,/rows = .*/s//rows = ["\\u008DTITLE", "text"]/' base >two
     pageaudit lint two 2>&1 | sed -n 's/^two:5:24: //; s/;.*//; 1p'"#;
@@ -769,10 +767,9 @@ const P212: &str = r#"Fix: leave the row below double height empty."#;
 
 const P213: &str = r#"LINEEND"#;
 
-const P214: &str =
-    r#"A warning: a line of this 'body' ends with the file's own line end. A line feed
-alone (0A) goes one row down in the same column, where the text goes on; CR LF
-is right until the file is saved with LF. It is the first such line end."#;
+const P214: &str = r#"A warning: a line of this 'body' ends with the file's own line end, the first
+to do so. After a line feed alone (0A) the text goes on in the same column; CR
+LF is right until the file is saved with LF."#;
 
 const P215: &str = r#"    printf '[[frame]]\nid = "1b"\nbody = """\nONE\nTWO"""\n' | cat base - >two
     pageaudit lint two 2>/dev/null | sed -n 's/,.*//; s/^two:13:4: .*g: //p'"#;
@@ -786,19 +783,20 @@ const P218: &str = r#"ESCAPE"#;
 
 const P219: &str = r#"A warning: this row has '\u00' in single quotation marks, in which TOML has no
 escapes; or a row or 'body' shows 'u00' and two digits at a row's start, or
-after '\', '/' or a quotation mark. The screen shows it as it is written."#;
+after '\', '/' or a quotation mark. It is shown as written."#;
 
 const P220: &str = r#"    sed "0,/rows = .*/s//rows = ['\\\\u0081RED']/" base >two
     pageaudit lint two 2>&1 | sed -n 's/^two:5:9: //; s/,.*//; /ESCAPE/p'"#;
 
 const P221: &str = r#"    warning: ESCAPE: row 1 of frame 1a has \u00 in single quotation marks"#;
 
-const P222: &str = r#"Fix: write the row in double quotation marks, with one '\'."#;
+const P222: &str = r#"Fix: use double quotation marks and one '\'."#;
 
 const P223: &str = r#"MENU"#;
 
-const P224: &str = r#"A warning: this row begins with a digit that has no route, and two others of
-the frame, in the same column and colour, have one."#;
+const P224: &str =
+    r#"A warning: this row begins with a digit without a route, and two others, in the
+same column and colour, have theirs."#;
 
 const P225: &str =
     r#"    sed '0,/rows = .*/s//rows = ["1 SEA", "2 SAND", "3 CREW"]\nroutes = { 1 = 2, 2 = 2 }/' base >two
@@ -810,9 +808,7 @@ const P227: &str = r#"Fix: add the route, or begin the row with a word."#;
 
 const P228: &str = r#"UNSOUGHT"#;
 
-const P229: &str =
-    r#"A warning: this frame is closed to these callers, and no route or 'next' of any
-frame leads to it."#;
+const P229: &str = r#"A warning: no route or 'next' leads to this frame, closed to these callers."#;
 
 const P230: &str = r#"    sed '8s/$/\ngroup = 7/' base >two
     pageaudit lint two --format line 2>/dev/null"#;

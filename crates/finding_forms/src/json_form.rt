@@ -41,14 +41,14 @@ fn frame_value(alloc: Global, frame: Option<FrameId>) -> Result<Value, AllocErro
     }
 }
 
-fn replacing(alloc: Global, extent: Extent, text: &str) -> Result<Value, AllocError>
-    ensures { IfOk result (λ value. view value ≡ spec.replacing_data extent text.now) }
+fn replacing(alloc: Global, at: Extent, text: &str) -> Result<Value, AllocError>
+    ensures { IfOk result (λ value. view value ≡ spec.replacing_data at text.now) }
 {
     json!(in alloc; {
-        "column": extent.column,
-        "end_column": extent.end_column,
-        "end_line": extent.end_line,
-        "line": extent.line,
+        "column": at.column,
+        "end_column": at.end_column,
+        "end_line": at.end_line,
+        "line": at.line,
         "text": text
     })
 }

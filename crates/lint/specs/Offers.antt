@@ -1,5 +1,5 @@
 -- What one sees of a frame alone, on a cleared screen: escapes that are shown as they are written, and menus.
-use Rattle.std.specs.Prelude.{ℕ, ◌+◌, ◌-◌, ◌*◌, ◌%◌, Bool, true, false, ◌==◌, ◌&&◌, ◌||◌, not, nat_le, if◌then◌else◌, List, [], ◌∷◌, ◌++◌, map, filter, length, count_by, Option, Some, None, is_some, is_none, option_and_then}
+use Rattle.std.specs.Prelude.{ℕ, ◌+◌, ◌-◌, ◌/◌, ◌%◌, Bool, true, false, ◌==◌, ◌&&◌, ◌||◌, not, nat_le, if◌then◌else◌, List, [], ◌∷◌, ◌++◌, map, filter, length, count_by, Option, Some, None, is_some, is_none, option_and_then}
 use Rattle.std.specs.Char.{is_ascii_digit, is_ascii_hexdigit}
 use Rattle.std.specs.List.{list_any}
 use Rattle.page_ids.specs.Ids.{Id}
@@ -7,6 +7,7 @@ use Rattle.frame_records.specs.declared.frame.Frame.{Frame}
 use Rattle.frame_records.specs.Seek.{route_of}
 use Rattle.terminal_codes.specs.Screen.{CaretView, code_of, run}
 use Rattle.terminal_codes.specs.Writes.{caret_step}
+use Rattle.screens.specs.declared.look.Colour.{Colour}
 use Rattle.screens.specs.declared.look.Glyph.{Glyph}
 use Rattle.screens.specs.declared.look.Glyph.TheVariants.{Char, Block}
 use Rattle.screens.specs.declared.look.Height.{Height}
@@ -25,16 +26,20 @@ use Rattle.lint.specs.Looks.{blank, holds_escape}
 abbrev pub cells_alone : Frame → List ℕ
 cells_alone f = (run (run blank (0x0A ∷ [])) f.body).cells
 
-abbrev pub writer_if : ℕ → CaretView → Option ℕ → ℕ → ℕ → Option ℕ
-writer_if p c last n b = if (c.at == p) && is_some (code_of c.pending b) then Some n else last
+-- a position in a row and a column
+abbrev pub is_place : ℕ → ℕ → ℕ → Bool
+is_place at r column = (at / 40 == r) && (at % 40 == column)
 
--- the index of the last byte that writes a code at a position
-abbrev pub writer_from : ℕ → CaretView → Option ℕ → ℕ → List ℕ → Option ℕ
-writer_from p c last n [] = last
-writer_from p c last n (b ∷ bs) = writer_from p (caret_step c b) (writer_if p c last n b) (n + 1) bs
+abbrev pub writer_if : ℕ → ℕ → CaretView → Option ℕ → ℕ → ℕ → Option ℕ
+writer_if r column c last n b = if is_place c.at r column && is_some (code_of c.pending b) then Some n else last
 
-abbrev pub writer_at : List ℕ → ℕ → Option ℕ
-writer_at body p = writer_from p (record { at = 40; pending = false }) None 0 body
+-- the index of the last byte that writes a code there
+abbrev pub writer_from : ℕ → ℕ → CaretView → Option ℕ → ℕ → List ℕ → Option ℕ
+writer_from r column c last n [] = last
+writer_from r column c last n (b ∷ bs) = writer_from r column (caret_step c b) (writer_if r column c last n b) (n + 1) bs
+
+abbrev pub writer_at : List ℕ → ℕ → ℕ → Option ℕ
+writer_at body r column = writer_from r column (record { at = 40; pending = false }) None 0 body
 
 -- What one sees of a cell.
 
@@ -51,9 +56,9 @@ is_lower Single = false
 is_lower Upper = false
 is_lower Lower = true
 
-abbrev pub letter_of : Glyph → ℕ
-letter_of (Char c) = c
-letter_of (Block m) = 0x20
+abbrev pub read_glyph : Glyph → ℕ
+read_glyph (Char c) = c
+read_glyph (Block m) = 0x20
 
 -- what it holds isn't seen, or only the lower half of it
 abbrev pub is_unread : Cell → Bool
@@ -61,7 +66,7 @@ is_unread a = a.concealed || is_lower a.height
 
 -- its character; a space, if it is concealed or covered, or a mosaic
 abbrev pub read_char : Cell → ℕ
-read_char a = if is_unread a then 0x20 else letter_of a.glyph
+read_char a = if is_unread a then 0x20 else read_glyph a.glyph
 
 abbrev pub is_gap_cell : Cell → Bool
 is_gap_cell a = read_char a == 0x20
@@ -95,7 +100,7 @@ shown_column may (a ∷ as) =
 abbrev pub shown_look : Frame → List ℕ → ℕ → Option ℕ → List (Id × Look)
 shown_look f cells r None = []
 shown_look f cells r (Some column) =
-    (f.id, Shown r (writer_at f.body (40 * r + column)) (holds_escape (codes_of_row cells r))) ∷ []
+    (f.id, Shown r (writer_at f.body r column) (holds_escape (codes_of_row cells r))) ∷ []
 
 -- those of rows, from a number on, after others
 abbrev pub shown_from : Frame → List ℕ → List (Id × Look) → ℕ → List (List Cell) → List (Id × Look)
@@ -106,16 +111,28 @@ shown_from f cells so_far r (row ∷ rows) =
 -- Menus.
 
 abbrev pub digit_of : ℕ → Option ℕ
-digit_of c = if is_ascii_digit c then Some (c - 0x30) else None
+digit_of c =
+    if c == 0x30 then Some 0
+    else if c == 0x31 then Some 1
+    else if c == 0x32 then Some 2
+    else if c == 0x33 then Some 3
+    else if c == 0x34 then Some 4
+    else if c == 0x35 then Some 5
+    else if c == 0x36 then Some 6
+    else if c == 0x37 then Some 7
+    else if c == 0x38 then Some 8
+    else if c == 0x39 then Some 9
+    else None
 
--- a digit at this cell is the first word, and others come after it
-abbrev pub menu_if : ℕ → ℕ → Cell → Bool → Option ℕ → Option MenuLine
-menu_if r column a true (Some digit) = Some (record { row = r; column = column; digit = digit; colour = a.foreground })
-menu_if r column a _ _ = None
+-- a digit is the first word, and others come after it
+abbrev pub menu_if : ℕ → ℕ → Colour → Bool → Option ℕ → Option MenuLine
+menu_if r column colour is_first None = None
+menu_if r column colour is_first (Some digit) =
+    if is_first then Some (record { row = r; column = column; digit = digit; colour = colour }) else None
 
 abbrev pub menu_here : ℕ → ℕ → Cell → List Cell → Option MenuLine
 menu_here r column a [] = None
-menu_here r column a (b ∷ bs) = menu_if r column a (is_gap_cell b && list_any has_ink bs) (digit_of (read_char a))
+menu_here r column a (b ∷ bs) = menu_if r column a.foreground (is_gap_cell b && list_any has_ink bs) (digit_of (read_char a))
 
 -- by the first word of the last cells of a row
 abbrev pub menu_after : ℕ → List Cell → Option MenuLine
@@ -151,7 +168,7 @@ abbrev pub lacks_route : Frame → List MenuLine → MenuLine → Bool
 lacks_route f menu line = not (has_route f line.digit) && nat_le 2 (count_by (is_peer f line) menu)
 
 abbrev pub offers_look : Frame → MenuLine → Id × Look
-offers_look f line = (f.id, Offers line.row (writer_at f.body (40 * line.row + line.column)) line.digit)
+offers_look f line = (f.id, Offers line.row (writer_at f.body line.row line.column) line.digit)
 
 abbrev pub offers_if : Frame → List MenuLine → MenuLine → List (Id × Look)
 offers_if f menu line = if lacks_route f menu line then offers_look f line ∷ [] else []

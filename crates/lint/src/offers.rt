@@ -20,9 +20,17 @@ pub struct MenuLine {
     pub colour: Colour,
 }
 
-// The index of the last byte of a body that writes a code at a position.
-fn writer_at(body: &[u8], position: usize) -> Option<usize>
-    ensures { result ≡ spec.writer_at body.now position }
+// Whether a position is in a row and a column.
+fn is_place(at: u16, row: usize, column: usize) -> bool
+    ensures { result ≡ spec.is_place at row column }
+{
+    let at = usize::from(at);
+    at / 40 == row && at % 40 == column
+}
+
+// The index of the last byte of a body that writes a code in a row and a column.
+fn writer_at(body: &[u8], row: usize, column: usize) -> Option<usize>
+    ensures { result ≡ spec.writer_at body.now row column }
 {
     let mut caret = Caret {
         at: 40,
@@ -30,7 +38,7 @@ fn writer_at(body: &[u8], position: usize) -> Option<usize>
     };
     let mut last = None;
     for (index, byte) in body.iter().enumerate() {
-        if usize::from(caret.at) == position && code_written(caret.pending, *byte).is_some() {
+        if is_place(caret.at, row, column) && code_written(caret.pending, *byte).is_some() {
             last = Some(index);
         }
         caret = caret.step(*byte);
@@ -38,24 +46,41 @@ fn writer_at(body: &[u8], position: usize) -> Option<usize>
     last
 }
 
-fn shows_block(cell: &Cell) -> bool
-    ensures { result ≡ spec.shows_block cell.now }
+fn holds_block(glyph: &Glyph) -> bool
+    ensures { result ≡ spec.holds_block glyph.now }
 {
-    match cell.glyph {
+    match glyph {
         Glyph::Char(_) => false,
-        Glyph::Block(_) => !cell.concealed,
+        Glyph::Block(_) => true,
     }
 }
 
+// Whether it is a mosaic that isn't concealed.
+fn shows_block(cell: &Cell) -> bool
+    ensures { result ≡ spec.shows_block cell.now }
+{
+    !cell.concealed && holds_block(&cell.glyph)
+}
+
+fn is_lower(height: Height) -> bool
+    ensures { result ≡ spec.is_lower height }
+{
+    match height {
+        Height::Single | Height::Upper => false,
+        Height::Lower => true,
+    }
+}
+
+// Whether what it holds isn't seen, or only the lower half of it.
 fn is_unread(cell: &Cell) -> bool
     ensures { result ≡ spec.is_unread cell.now }
 {
-    cell.concealed || cell.height == Height::Lower
+    cell.concealed || is_lower(cell.height)
 }
 
 // The character of what a cell holds.
-fn letter_of(glyph: &Glyph) -> char
-    ensures { result ≡ spec.letter_of glyph.now }
+fn read_glyph(glyph: &Glyph) -> char
+    ensures { result ≡ spec.read_glyph glyph.now }
 {
     match glyph {
         Glyph::Char(c) => *c,
@@ -70,7 +95,7 @@ fn read_char(cell: &Cell) -> char
     if is_unread(cell) {
         ' '
     } else {
-        letter_of(&cell.glyph)
+        read_glyph(&cell.glyph)
     }
 }
 
@@ -137,7 +162,7 @@ fn add_shown(
     ensures { OnOk result (looks.new.items ≡ looks.old.items ++ spec.shown_look frame.now cells.now row column) }
 {
     if let Some(column) = column {
-        let at = writer_at(frame.body.as_slice(), 40 * row + column);
+        let at = writer_at(frame.body.as_slice(), row, column);
         let escaped = holds_escape(row_codes(cells, row));
         looks.push((frame.id, Look::Shown(row, at, escaped)))?;
     }
@@ -163,10 +188,45 @@ fn shown(
 fn digit_of(c: char) -> Option<u8>
     ensures { result ≡ spec.digit_of c }
 {
-    if c.is_ascii_digit() {
-        Some((c as u32 - 0x30) as u8)
-    } else {
-        None
+    match c {
+        '0' => Some(0),
+        '1' => Some(1),
+        '2' => Some(2),
+        '3' => Some(3),
+        '4' => Some(4),
+        '5' => Some(5),
+        '6' => Some(6),
+        '7' => Some(7),
+        '8' => Some(8),
+        '9' => Some(9),
+        _ => None,
+    }
+}
+
+// The line of a digit, if it is the first word and others come after it.
+fn menu_if(
+    row: usize,
+    column: usize,
+    colour: Colour,
+    is_first: bool,
+    digit: Option<u8>,
+) -> Option<MenuLine>
+    ensures { result ≡ spec.menu_if row column colour is_first digit }
+{
+    match digit {
+        None => None,
+        Some(digit) => {
+            if is_first {
+                Some(MenuLine {
+                    row,
+                    column,
+                    digit,
+                    colour,
+                })
+            } else {
+                None
+            }
+        }
     }
 }
 
@@ -177,16 +237,8 @@ fn menu_here(row: usize, column: usize, first: &Cell, rest: &[Cell]) -> Option<M
     match rest {
         [] => None,
         [gap, more @ ..] => {
-            let is_menu = is_gap(gap) && more.iter().any(|cell| !is_gap(cell));
-            match digit_of(read_char(first)) {
-                Some(digit) if is_menu => Some(MenuLine {
-                    row,
-                    column,
-                    digit,
-                    colour: first.foreground,
-                }),
-                _ => None,
-            }
+            let is_first = is_gap(gap) && more.iter().any(|cell| !is_gap(cell));
+            menu_if(row, column, first.foreground, is_first, digit_of(read_char(first)))
         }
     }
 }
@@ -210,7 +262,7 @@ fn menu_after(row: usize, cells: &[Cell]) -> Option<MenuLine>
 fn menu_line(row: usize, cells: &[Cell]) -> Option<MenuLine>
     ensures { result ≡ spec.menu_line row cells.now }
 {
-    if row >= 1 && row <= 22 && !cells.iter().any(shows_block) {
+    if row >= 1 && row <= 22 && !cells.iter().any(|cell| shows_block(cell)) {
         menu_after(row, cells)
     } else {
         None
@@ -271,7 +323,7 @@ fn add_offer(
     ensures { OnOk result (looks.new.items ≡ looks.old.items ++ spec.offers_if frame.now menu.now line.now) }
 {
     if lacks_route(frame, menu, line) {
-        let at = writer_at(frame.body.as_slice(), 40 * line.row + line.column);
+        let at = writer_at(frame.body.as_slice(), line.row, line.column);
         looks.push((frame.id, Look::Offers(line.row, at, line.digit)))?;
     }
     Ok(())
@@ -296,7 +348,7 @@ fn may_show_routed(frame: &Frame, byte: u8) -> bool
     ensures { result ≡ spec.may_show_routed frame.now byte }
 {
     let code = byte % 128;
-    code.is_ascii_digit() && has_route(frame, code - 0x30)
+    code.is_ascii_digit() && has_route(frame, code.saturating_sub(0x30))
 }
 
 // Whether a byte may show a digit that has no route.
@@ -304,7 +356,7 @@ fn may_show_unrouted(frame: &Frame, byte: u8) -> bool
     ensures { result ≡ spec.may_show_unrouted frame.now byte }
 {
     let code = byte % 128;
-    code.is_ascii_digit() && !has_route(frame, code - 0x30)
+    code.is_ascii_digit() && !has_route(frame, code.saturating_sub(0x30))
 }
 
 fn may_have_menu(frame: &Frame) -> bool
