@@ -231,7 +231,7 @@ def base_faults(
     whole = Piece(What.VALUE, None, ("outside",))
     if len(frames) > MOST_LISTED:
         words = f"the base has {len(frames):,} frames, at most {MOST_LISTED:,} are allowed"
-        yield Fault("B4 TooMany", "", words, Piece(What.HEADER, frames[MOST_LISTED][0]))
+        yield Fault("B4 TooMany", "", words, Piece(What.VALUE, frames[MOST_LISTED][0], ("id",)))
     if len(outside) > MOST_LISTED:
         words = f'"outside" has {len(outside):,} pages, at most {MOST_LISTED:,} are allowed'
         yield Fault("B4 TooMany", "", words, whole._replace(indexes=(MOST_LISTED,)))

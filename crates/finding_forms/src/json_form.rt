@@ -4,6 +4,7 @@ ghost use Rattle.std.specs.Prelude.{◌≡◌, ◌++◌, ℕ, List, codes, optio
 ghost use Rattle.std.specs.Str.Lossy.{utf8_lossy};
 ghost use Rattle.serde_json.specs.View.{view};
 ghost use Rattle.serde_json.specs.Written.{compact_text};
+ghost use Rattle.slip_fixes.specs.Certain.{certain_fix};
 ghost use Rattle.finding_forms.specs.JsonForm as spec;
 ghost use Rattle.finding_forms.specs.Loops as loops;
 
@@ -87,6 +88,20 @@ fn fix_value(
     }
 }
 
+// The fix of a finding that is certain, or null.
+fn finding_fix(
+    alloc: Global,
+    text: &[u8],
+    lines: &TextLines<'_>,
+    finding: &Finding,
+) -> Result<Value, AllocError>
+    requires { lines.now ≡ text.now }
+    ensures value { IfOk result (λ value. view value ≡ spec.fix_data lines.now (certain_fix lines.now finding.now)) }
+    ensures no_feed { IfOk result (λ value. count_by (λ byte. byte == 10) (compact_text (view value)) ≡ 0) }
+{
+    fix_value(alloc, lines, certain_fix(alloc, text, finding)?)
+}
+
 fn object(
     alloc: Global,
     file: &str,
@@ -158,7 +173,7 @@ pub fn push_object(
         → loops.AddsObject bytes lines.now finding.now out.old.items out.new.items) }
 {
     let extent = lines.extent(finding.span);
-    let fix = fix_value(alloc, lines, certain_fix(alloc, text, finding)?)?;
+    let fix = finding_fix(alloc, text, lines, finding)?;
     let words = &finding.words;
     push_object_line(alloc, out, file, extent, finding.level, words, words.hint(), fix)
 }
