@@ -27,7 +27,7 @@ const FORMATS: &[&str] = &["full", "line", "json", "github"];
 const COLOURINGS: &[&str] = &["auto", "always", "never"];
 
 // The codes of warnings.
-const WARNINGS: &[&str] = &["UNREACHED", "HIDDEN", "LINEEND", "ESCAPE"];
+const WARNINGS: &[&str] = &["UNREACHED", "UNSOUGHT", "HIDDEN", "LINEEND", "ESCAPE", "MENU"];
 
 // The words for the forms of a list.
 const LIST_FORMATS: &[&str] = &["line", "json"];
@@ -887,6 +887,8 @@ fn ignored_of(words: &[&str]) -> Ignored {
             "HIDDEN" => ignored.hidden = true,
             "LINEEND" => ignored.line_end = true,
             "ESCAPE" => ignored.escape = true,
+            "MENU" => ignored.menu = true,
+            "UNSOUGHT" => ignored.unsought = true,
             _ => (),
         }
     }

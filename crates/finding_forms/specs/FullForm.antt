@@ -1,8 +1,10 @@
 -- The form `full`: under the line of a finding the line of the text, and carets below the span.
-use Rattle.std.specs.Prelude.{◌≡◌, ℕ, ◌-◌, Bool, ◌==◌, if◌then◌else◌, List, [], ◌∷◌, ◌++◌, codes, decimal, length, drop, replicate, flat_map, Option}
-use Rattle.std.specs.Str.{chars, encode_utf8_all}
+use Rattle.std.specs.Prelude.{◌≡◌, ℕ, ◌-◌, ◌/◌, ◌%◌, Bool, not, ◌&&◌, ◌||◌, ◌==◌, nat_le, if◌then◌else◌, List, [], ◌∷◌, ◌++◌, codes, decimal, length, drop, replicate, flat_map, Option}
+use Rattle.std.specs.Char.{is_control, encode_utf8}
+use Rattle.std.specs.Str.{chars}
 use Rattle.std.specs.Str.Lossy.{utf8_lossy}
-use Rattle.lint_words.specs.Lines.{IsLine, line_of, printed_char}
+use Rattle.page_ids.specs.Texts.{hex_digit}
+use Rattle.lint_words.specs.Lines.{IsLine, line_of}
 use Rattle.lint_words.specs.WordsOf.{WordsView}
 use Rattle.lint.specs.declared.finding.Level.{Level}
 use Rattle.lint.specs.Findings.{FindingView}
@@ -20,15 +22,29 @@ use Rattle.finding_forms.specs.Excerpts.{mark_length, part, excerpt_of}
 
 -- The characters of a line, and what is below them.
 
--- a tab (9) is kept, and another control character is shown as \u{1b}
-abbrev pub kept_char : ℕ → List ℕ
-kept_char c = if c == 9 then c ∷ [] else printed_char c
+-- a control character but a tab (9)
+abbrev pub is_shown_control : ℕ → Bool
+is_shown_control c = is_control c && not (c == 9)
+
+-- it is shown as TOML takes it, as \u001B
+abbrev pub drawn_text : ℕ → List ℕ
+drawn_text c = if is_shown_control c then codes "\\u00" ++ hex_digit (c / 16) ∷ hex_digit (c % 16) ∷ [] else encode_utf8 c
+
+-- a letter of double width: of the alphabets of East Asia, or a full-width one
+abbrev pub is_wide : ℕ → Bool
+is_wide c =
+    (nat_le 0x1100 c && nat_le c 0x115F) || (nat_le 0x2E80 c && nat_le c 0xA4CF) || (nat_le 0xAC00 c && nat_le c 0xD7A3)
+    || (nat_le 0xF900 c && nat_le c 0xFAFF) || (nat_le 0xFF01 c && nat_le c 0xFF60)
+
+-- how many columns a character has
+abbrev pub columns : ℕ → ℕ
+columns c = if is_shown_control c then 6 else if is_wide c then 2 else 1
 
 -- a space or a caret for each column of a character; below a tab a tab
 abbrev pub drawn_char : Drawing → ℕ → List ℕ
-drawn_char Text c = encode_utf8_all (kept_char c)
-drawn_char Blank c = if c == 9 then c ∷ [] else replicate (length (printed_char c)) 32
-drawn_char Carets c = replicate (length (kept_char c)) 94
+drawn_char Text c = drawn_text c
+drawn_char Blank c = if c == 9 then c ∷ [] else replicate (columns c) 32
+drawn_char Carets c = replicate (columns c) 94
 
 -- the characters of bytes, with U+FFFD in place of what isn't UTF-8
 abbrev pub drawn_chars : Drawing → List ℕ → List ℕ

@@ -84,7 +84,7 @@ fn push_finding(
         Format::Full => push_full_finding(alloc, out, path, text, lines, finding),
         Format::Coloured => push_full_coloured(alloc, out, path, text, lines, finding),
         Format::Line => push_line_finding(out, path, lines, finding),
-        Format::Json => push_object(alloc, out, file, lines, finding),
+        Format::Json => push_object(alloc, out, file, text, lines, finding),
         Format::Github => push_command(out, path, lines, finding),
     }
 }
@@ -112,8 +112,8 @@ fn printed(
 
 /// What is printed of findings in a text, in their order.
 ///
-/// A control character of the path or of the text's lines is written as `\u{1b}`, unless it is a tab of a line, and U+FFFD in
-/// place of what isn't UTF-8. Lines and columns are from 1; a column counts characters. In [`Format::Full`] a line of more than
+/// A control character of the path is written as `\u{1b}`, and one of the text's lines but a tab as TOML takes it, `\u001B`; U+FFFD
+/// is in place of what isn't UTF-8. A letter of East Asia has two carets. Lines and columns are from 1; a column counts characters. In [`Format::Full`] a line of more than
 /// 120 characters is cut: up to 37 are left before the span and 77 from its first on. The carets end with the span or the line,
 /// and there is one at least.
 #[tactic(auto, using(crate::proofs::Printed::whole))]

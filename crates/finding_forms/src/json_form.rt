@@ -4,6 +4,7 @@ ghost use Rattle.std.specs.Prelude.{◌≡◌, ◌++◌, ℕ, List, codes, optio
 ghost use Rattle.std.specs.Str.Lossy.{utf8_lossy};
 ghost use Rattle.serde_json.specs.View.{view};
 ghost use Rattle.serde_json.specs.Written.{compact_text};
+ghost use Rattle.slip_fixes.specs.Certain.{certain_fix};
 ghost use Rattle.finding_forms.specs.JsonForm as spec;
 ghost use Rattle.finding_forms.specs.Loops as loops;
 
@@ -12,8 +13,10 @@ use lint::{Finding, Level};
 use lint_words::{Line, Words};
 use page_ids::{FrameId, push_id};
 use serde_json::{Value, json};
+use slip_fixes::certain_fix;
 use std::alloc::{AllocError, Global};
-use toml_places::{Extent, TextLines};
+use text_edits::Replacement;
+use toml_places::{Extent, Span, TextLines};
 
 // A text, or null.
 fn text_value(alloc: Global, text: Option<&Line>) -> Result<Value, AllocError>
@@ -39,6 +42,66 @@ fn frame_value(alloc: Global, frame: Option<FrameId>) -> Result<Value, AllocErro
     }
 }
 
+fn replacing(alloc: Global, at: Extent, text: &str) -> Result<Value, AllocError>
+    ensures { IfOk result (λ value. view value ≡ spec.replacing_data at text.now) }
+{
+    json!(in alloc; {
+        "column": at.column,
+        "end_column": at.end_column,
+        "end_line": at.end_line,
+        "line": at.line,
+        "text": text
+    })
+}
+
+fn replacement_value(
+    alloc: Global,
+    extent: Extent,
+    text: &[u8],
+) -> Result<Value, AllocError>
+    ensures value { IfOk result (λ value. view value ≡ spec.replacing_data extent (utf8_lossy text.now)) }
+    ensures no_feed { IfOk result (λ value. count_by (λ byte. byte == 10) (compact_text (view value)) ≡ 0) }
+{
+    let text = String::from_utf8_lossy(alloc, text)?;
+    let value = replacing(alloc, extent, &text)?;
+    Ok(value)
+}
+
+// A fix, or null.
+fn fix_value(
+    alloc: Global,
+    lines: &TextLines<'_>,
+    fix: Option<Replacement>,
+) -> Result<Value, AllocError>
+    ensures value { IfOk result (λ value. view value ≡ spec.fix_data lines.now fix) }
+    ensures no_feed { IfOk result (λ value. count_by (λ byte. byte == 10) (compact_text (view value)) ≡ 0) }
+{
+    match fix {
+        None => Ok(Value::Null),
+        Some(fix) => {
+            let extent = lines.extent(Span {
+                begin: fix.begin,
+                end: fix.end,
+            });
+            replacement_value(alloc, extent, fix.text.as_slice())
+        }
+    }
+}
+
+// The fix of a finding that is certain, or null.
+fn finding_fix(
+    alloc: Global,
+    text: &[u8],
+    lines: &TextLines<'_>,
+    finding: &Finding,
+) -> Result<Value, AllocError>
+    requires { lines.now ≡ text.now }
+    ensures value { IfOk result (λ value. view value ≡ spec.fix_data lines.now (certain_fix lines.now finding.now)) }
+    ensures no_feed { IfOk result (λ value. count_by (λ byte. byte == 10) (compact_text (view value)) ≡ 0) }
+{
+    fix_value(alloc, lines, certain_fix(alloc, text, finding)?)
+}
+
 fn object(
     alloc: Global,
     file: &str,
@@ -46,9 +109,10 @@ fn object(
     level: Level,
     words: &Words,
     hint: Option<&Line>,
+    fix: Value,
 ) -> Result<Value, AllocError>
     ensures { IfOk result (λ value. view value
-        ≡ spec.object_data file.now extent level words.now (option_copied hint.entry)) }
+        ≡ spec.object_data file.now extent level words.now (option_copied hint.entry) (view fix)) }
 {
     let about = words.about();
     let frame = frame_value(alloc, about.frame)?;
@@ -61,6 +125,7 @@ fn object(
         "end_column": extent.end_column,
         "end_line": extent.end_line,
         "file": file,
+        "fix": fix,
         "frame": frame,
         "hint": hint,
         "key": key,
@@ -79,14 +144,17 @@ fn push_object_line(
     level: Level,
     words: &Words,
     hint: Option<&Line>,
+    fix: Value,
 ) -> Result<(), AllocError>
+    requires { count_by (λ byte. byte == 10) (compact_text (view fix)) ≡ 0 }
     ensures line { OnOk result (out.new.items ≡ out.old.items ++
-        (compact_text (spec.object_data file.now extent level words.now (option_copied hint.entry)) ++ codes "\n")) }
+        (compact_text (spec.object_data file.now extent level words.now
+        (option_copied hint.entry) (view fix)) ++ codes "\n")) }
     ensures no_feed { OnOk result (count_by (λ byte.
         byte == 10) (compact_text (spec.object_data file.now extent level words.now
-        (option_copied hint.entry))) ≡ 0) }
+        (option_copied hint.entry) (view fix))) ≡ 0) }
 {
-    let text = object(alloc, file, extent, level, words, hint)?.to_string(alloc)?;
+    let text = object(alloc, file, extent, level, words, hint, fix)?.to_string(alloc)?;
     out.extend_from_slice(text.as_bytes())?;
     out.extend_from_slice(b"\n")
 }
@@ -96,13 +164,16 @@ pub fn push_object(
     alloc: Global,
     out: &mut Vec<u8>,
     file: &str,
+    text: &[u8],
     lines: &TextLines<'_>,
     finding: &Finding,
 ) -> Result<(), AllocError>
+    requires { lines.now ≡ text.now }
     ensures { OnOk result ((bytes : List ℕ) → file.now ≡ utf8_lossy bytes
         → loops.AddsObject bytes lines.now finding.now out.old.items out.new.items) }
 {
     let extent = lines.extent(finding.span);
+    let fix = finding_fix(alloc, text, lines, finding)?;
     let words = &finding.words;
-    push_object_line(alloc, out, file, extent, finding.level, words, words.hint())
+    push_object_line(alloc, out, file, extent, finding.level, words, words.hint(), fix)
 }

@@ -7,7 +7,7 @@ use Rattle.lint_words.specs.WordsOf.{WordsView}
 use Rattle.lint.specs.declared.counts.Counts.{Counts}
 use Rattle.lint.specs.declared.ignored.Ignored.{Ignored}
 use Rattle.lint_words.specs.declared.code.Code.{Code}
-use Rattle.lint_words.specs.declared.code.Code.TheVariants.{Unreached, Hidden, LineEnd, Escape}
+use Rattle.lint_words.specs.declared.code.Code.TheVariants.{Unreached, Hidden, LineEnd, Escape, Menu, Unsought}
 use Rattle.std.specs.Ordering.{nat_cmp}
 use Rattle.std.specs.List.Sorted.{IsSortedByKey, IsStableByKey}
 use Rattle.toml_places.specs.declared.spans.Span.{Span}
@@ -42,6 +42,8 @@ ignores ignored Unreached = ignored.unreached
 ignores ignored Hidden = ignored.hidden
 ignores ignored LineEnd = ignored.line_end
 ignores ignored Escape = ignored.escape
+ignores ignored Menu = ignored.menu
+ignores ignored Unsought = ignored.unsought
 ignores _ _ = false
 
 abbrev pub is_counted : Ignored → FindingView → Bool

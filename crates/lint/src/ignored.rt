@@ -11,6 +11,8 @@ pub struct Ignored {
     pub hidden: bool,
     pub line_end: bool,
     pub escape: bool,
+    pub menu: bool,
+    pub unsought: bool,
 }
 
 impl Ignored {
@@ -20,6 +22,8 @@ impl Ignored {
         hidden: false,
         line_end: false,
         escape: false,
+        menu: false,
+        unsought: false,
     };
 
     fn has(&self, code: Code) -> bool
@@ -30,6 +34,8 @@ impl Ignored {
             Code::Hidden => self.hidden,
             Code::LineEnd => self.line_end,
             Code::Escape => self.escape,
+            Code::Menu => self.menu,
+            Code::Unsought => self.unsought,
             _ => false,
         }
     }

@@ -11,10 +11,12 @@
 //! - [`Counts`], [`counted_text`]: how many there are. [`Ignored`], [`remove_warnings`]: the warnings that don't count, or aren't shown.
 //! - [`picture_places`], [`PicturePlace`]: where a text writes what frames show.
 //! - [`lint_follows_base_read`], [`no_error_is_safe`], [`lint_warns_of_unreached`]: what the findings of a text mean.
-//! - Definitions: what is found (`Lint`), where a text writes its tables (`Tables`) and what frames show (`Pictures`),
+//! - Definitions: what is found (`Lint`), what may be wrong with frames (`Looks`, `Offers`, `AllLooks`), where a text writes its
+//!   tables (`Tables`) and what frames show (`Pictures`),
 //!   which piece is at fault (`Spots`, `Outside`), the order (`Findings`), the laws (`Laws`).
 #![tactic(auto)]
 
+mod all_looks;
 mod audit_findings;
 mod counts;
 mod finding;
@@ -23,6 +25,7 @@ mod judging;
 mod laws;
 mod looks;
 mod lookup;
+mod offers;
 mod order;
 mod outside;
 mod pictures;

@@ -19,7 +19,7 @@ counts_of findings = record { errors = count_of Error findings; warnings = count
 
 -- each warning counts
 abbrev pub all_count : Ignored
-all_count = record { unreached = false; hidden = false; line_end = false; escape = false }
+all_count = record { unreached = false; hidden = false; line_end = false; escape = false; menu = false; unsought = false }
 
 -- the findings in a text that count, and their numbers
 abbrev pub AreCounted : List ℕ → Policy → Ignored → List FindingView → Counts → Type 0
