@@ -6,7 +6,7 @@ use crate::screen_paths::{screen_paths, words_of};
 use audit_report::{FromRead, IntoWrite, RunFault};
 use command_words::Import;
 use pageaudit::{
-    Album, FileFrames, ImportFault, ImportStatus, ScreenFault, ScreenPlace, Settled, TextFault,
+    Album, FaultyLine, FileFrames, ImportFault, ImportStatus, ScreenFault, ScreenPlace, Settled,
     TextLineFault, Twin, run_import, status_of_import, take_frames,
 };
 use std::io;
@@ -107,13 +107,13 @@ fn report_screen<R: Eprint>(rt: &R, path: &str, fault: ScreenFault) {
             )
         }
         ScreenFault::Text(
-            TextFault {
+            FaultyLine {
                 line,
                 fault: TextLineFault::Two,
             },
         ) => eprintln!(rt; "{path}:{line}: two addresses in a line"),
         ScreenFault::Text(
-            TextFault {
+            FaultyLine {
                 line,
                 fault: TextLineFault::Letters(letters),
             },
@@ -123,13 +123,13 @@ fn report_screen<R: Eprint>(rt: &R, path: &str, fault: ScreenFault) {
             )
         }
         ScreenFault::Text(
-            TextFault {
+            FaultyLine {
                 line,
                 fault: TextLineFault::Row,
             },
         ) => eprintln!(rt; "{path}:{line}: no row number after OL, of one or two digits"),
         ScreenFault::Text(
-            TextFault {
+            FaultyLine {
                 line,
                 fault: TextLineFault::Pages,
             },

@@ -72,8 +72,8 @@ abbrev pub is_gap_cell : Cell → Bool
 is_gap_cell a = read_char a == 0x20
 
 -- it is of a word
-abbrev pub has_ink : Cell → Bool
-has_ink a = not (is_gap_cell a)
+abbrev pub shows_character : Cell → Bool
+shows_character a = not (is_gap_cell a)
 
 -- the column of the first of the last cells of a row
 abbrev pub column_of : List Cell → ℕ
@@ -110,8 +110,8 @@ shown_from f cells so_far r (row ∷ rows) =
 
 -- Menus.
 
-abbrev pub digit_of : ℕ → Option ℕ
-digit_of c =
+abbrev pub char_digit : ℕ → Option ℕ
+char_digit c =
     if c == 0x30 then Some 0
     else if c == 0x31 then Some 1
     else if c == 0x32 then Some 2
@@ -132,7 +132,7 @@ menu_if r column colour is_first (Some digit) =
 
 abbrev pub menu_here : ℕ → ℕ → Cell → List Cell → Option MenuLine
 menu_here r column a [] = None
-menu_here r column a (b ∷ bs) = menu_if r column a.foreground (is_gap_cell b && list_any has_ink bs) (digit_of (read_char a))
+menu_here r column a (b ∷ bs) = menu_if r column a.foreground (is_gap_cell b && list_any shows_character bs) (char_digit (read_char a))
 
 -- by the first word of the last cells of a row
 abbrev pub menu_after : ℕ → List Cell → Option MenuLine

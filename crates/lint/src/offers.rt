@@ -185,8 +185,8 @@ fn shown(
     Ok(looks)
 }
 
-fn digit_of(c: char) -> Option<u8>
-    ensures { result ≡ spec.digit_of c }
+fn char_digit(c: char) -> Option<u8>
+    ensures { result ≡ spec.char_digit c }
 {
     match c {
         '0' => Some(0),
@@ -238,7 +238,7 @@ fn menu_here(row: usize, column: usize, first: &Cell, rest: &[Cell]) -> Option<M
         [] => None,
         [gap, more @ ..] => {
             let is_first = is_gap(gap) && more.iter().any(|cell| !is_gap(cell));
-            menu_if(row, column, first.foreground, is_first, digit_of(read_char(first)))
+            menu_if(row, column, first.foreground, is_first, char_digit(read_char(first)))
         }
     }
 }

@@ -10,3 +10,4 @@ pub mod Groups
 pub mod Holding
 pub mod Reels
 pub mod Lasts
+pub mod Kept

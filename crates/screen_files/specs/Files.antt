@@ -9,7 +9,7 @@ use Rattle.screen_files.specs.declared.filed.ScreenPlace.TheVariants.{Whole, Byt
 use Rattle.screen_forms.specs.Addresses.{linked_screens, address_at}
 use Rattle.screen_forms.specs.Sheets.{is_sheet, sheet_screens}
 use Rattle.screen_forms.specs.declared.text_screens.TextScreen.{TextScreen}
-use Rattle.screen_forms.specs.declared.text_screens.TextFault.{TextFault}
+use Rattle.screen_forms.specs.declared.text_screens.FaultyLine.{FaultyLine}
 use Rattle.screen_files.specs.declared.capture.Shot.{Shot}
 use Rattle.screen_files.specs.declared.capture.TheConstants.{MOST_SHOTS}
 use Rattle.screen_files.specs.declared.file.FileKind.{FileKind}
@@ -144,7 +144,7 @@ abbrev pub found_text_screens : List ℕ → ℕ → List TextScreen → Result 
 found_text_screens path file screens =
     named_texts file (name_of_one path screens) screens (nameless_line (name_of_one path screens) screens)
 
-abbrev pub found_texts : List ℕ → ℕ → Result (List TextScreen) TextFault → Result ScreenList ScreenFault
+abbrev pub found_texts : List ℕ → ℕ → Result (List TextScreen) FaultyLine → Result ScreenList ScreenFault
 found_texts path file (Err fault) = Err (Text fault)
 found_texts path file (Ok screens) = found_text_screens path file screens
 

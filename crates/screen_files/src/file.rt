@@ -12,7 +12,7 @@ use crate::frame::ScreenFrame;
 use crate::head::{name_id, screen_head};
 use crate::text_screens::{found_links, found_pages};
 use crate::settling::{Settled, settle};
-use screen_forms::{TextFault, has_address, is_sheet};
+use screen_forms::{FaultyLine, has_address, is_sheet};
 use std::alloc::{AllocError, Global};
 
 /// What a file holds.
@@ -41,7 +41,7 @@ pub enum ScreenFault {
     /// The screen of this line has no id: none is beside an address, row 0 shows none, and no other gives one.
     NoIdAt(usize),
     /// What is wrong with a line of a text.
-    Text(TextFault),
+    Text(FaultyLine),
     /// It has more than 65,535 screens.
     TooManyScreens,
 }

@@ -16,7 +16,7 @@
 //! - [`settle`], [`Settled`], [`Filed`], [`Origin`], [`ScreenPlace`], [`Twin`]: one frame of each id.
 //! - [`Album`], [`AddFault`], [`base_text`], [`BaseTextFault`]: the frames of several files, and the text of the base that is made of
 //!   them.
-//! - [`frames_show_screens`], [`files_are_screens`]: laws.
+//! - [`frames_show_screens`], [`files_are_screens`], [`ep1_keeps_screens`]: laws.
 #![tactic(auto)]
 
 mod album;
@@ -41,7 +41,7 @@ pub use file::{FileFrames, FileKind, FramesFault, MOST_SCREEN, ScreenFault, file
 pub use filed::{Filed, Origin, ScreenPlace, Twin};
 pub use frame::ScreenFrame;
 pub use head::{Head, name_id, screen_head};
-pub use laws::{files_are_screens, frames_show_screens};
+pub use laws::{ep1_keeps_screens, files_are_screens, frames_show_screens};
 pub use routes::Known;
 pub use settling::{Settled, settle};
 pub use texts::{push_entry, push_frame, push_rows};

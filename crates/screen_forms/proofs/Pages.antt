@@ -6,11 +6,11 @@ use Rattle.std.proofs.lemmas.List.Splits.{length-slice_split}
 use Rattle.page_ids.specs.Parts.{parts_of}
 use Rattle.screen_forms.specs.Forms.{tti_row, tti_rows}
 use Rattle.screen_forms.specs.Loops.{IsSheetRead, sheet_of}
-use Rattle.screen_forms.specs.Sheets.{Sheet, after_cell, byte_from, ended_line, first_cell, in_line, line_added, sheet_cells, then_lines, without_return}
+use Rattle.screen_forms.specs.Sheets.{Sheet, after_cell, byte_from, text_of_line, first_cell, in_line, line_added, sheet_cells, then_lines, without_return}
 use Rattle.screen_forms.specs.declared.sheets.SheetReader.{SheetReader}
 use Rattle.screen_forms.specs.declared.text_screens.TextScreensFault.{TextScreensFault}
 use Rattle.screen_forms.specs.declared.text_screens.TextScreensFault.TheVariants.{Line, Memory}
-use Rattle.screen_forms.specs.declared.text_screens.TextFault.{TextFault}
+use Rattle.screen_forms.specs.declared.text_screens.FaultyLine.{FaultyLine}
 
 pub rows_more : (screen : List ℕ) (n : ℕ) → n < 23 → tti_rows screen (23 - n) n ≡ tti_row screen n ++ tti_rows screen (23 - (n + 1)) (n + 1)
 unfolding tti_rows
@@ -30,11 +30,11 @@ rows_none screen n le =
 some_part : (text : List ℕ) → 0 < length (parts_of 10 text)
 some_part text = omega (arith, length-slice_split (λ b. b == 10) text)
 
-ended : (l : List ℕ) (ls : List (List ℕ)) → 0 < length ls → ended_line l ls ≡ without_return l
+ended : (l : List ℕ) (ls : List (List ℕ)) → 0 < length ls → text_of_line l ls ≡ without_return l
 ended l [] some = absurd (omega arith)
 ended l (m ∷ ms) some = refl
 
-pub lines_err : (fault : TextFault) (line : ℕ) (ls : List (List ℕ)) → then_lines (Err fault) line ls ≡ Err fault
+pub lines_err : (fault : FaultyLine) (line : ℕ) (ls : List (List ℕ)) → then_lines (Err fault) line ls ≡ Err fault
 unfolding then_lines
 lines_err fault line [] = refl
 lines_err fault line (l ∷ ls) = lines_err fault (line + 1) ls
@@ -52,7 +52,7 @@ pub lines_last : (s : Sheet) (line : ℕ) (all : List (List ℕ)) (l : List ℕ)
 unfolding then_lines
 lines_last s line all l e = rw e refl
 
-module _ (s : Sheet) (line : ℕ) (all : List (List ℕ)) (l rest text : List ℕ) (whole : Result Sheet TextFault) (new : SheetReader)
+module _ (s : Sheet) (line : ℕ) (all : List (List ℕ)) (l rest text : List ℕ) (whole : Result Sheet FaultyLine) (new : SheetReader)
     (before : then_lines (Ok s) line all ≡ whole) where
   more_by : all ≡ l ∷ parts_of 10 rest → text ≡ without_return l → then_lines (in_line line (line_added s line text)) (line + 1) (parts_of 10 rest) ≡ whole
   more_by parts is =
@@ -63,18 +63,18 @@ module _ (s : Sheet) (line : ℕ) (all : List (List ℕ)) (l rest text : List �
   pub fault_after : (fault : TextScreensFault) → all ≡ l ∷ parts_of 10 rest → text ≡ without_return l
       → IsSheetRead (in_line line (line_added s line text)) new (Err fault) → IsSheetRead whole new (Err fault)
   fault_after (Line f) parts is read =
-      sym (more_by parts is) ∙ ap (λ (r : Result Sheet TextFault). then_lines r (line + 1) (parts_of 10 rest)) read ∙ lines_err f (line + 1) (parts_of 10 rest)
+      sym (more_by parts is) ∙ ap (λ (r : Result Sheet FaultyLine). then_lines r (line + 1) (parts_of 10 rest)) read ∙ lines_err f (line + 1) (parts_of 10 rest)
   fault_after Memory parts is read = tt
 
   pub sheet_after : (u : Unit {0}) → all ≡ l ∷ parts_of 10 rest → text ≡ without_return l
       → IsSheetRead (in_line line (line_added s line text)) new (Ok u) → then_lines (Ok (sheet_of new)) (line + 1) (parts_of 10 rest) ≡ whole
   sheet_after u parts is read =
-      ap (λ (r : Result Sheet TextFault). then_lines r (line + 1) (parts_of 10 rest)) (sym read) ∙ more_by parts is
+      ap (λ (r : Result Sheet FaultyLine). then_lines r (line + 1) (parts_of 10 rest)) (sym read) ∙ more_by parts is
 
   pub sheet_at_last : (r : Result (Unit {0}) TextScreensFault) → all ≡ l ∷ []
       → IsSheetRead (in_line line (line_added s line l)) new r → IsSheetRead whole new r
   sheet_at_last r parts read =
-      subst (λ (w : Result Sheet TextFault). IsSheetRead w new r) (sym (lines_last s line all l parts) ∙ before) read
+      subst (λ (w : Result Sheet FaultyLine). IsSheetRead w new r) (sym (lines_last s line all l parts) ∙ before) read
 
 -- Where a byte first is.
 

@@ -3,7 +3,7 @@ use Rattle.std.proofs.Common.{◌≡◌, ◌∙◌, ◌<◌, ◌≤◌, ◌+◌,
 use Rattle.std.proofs.lemmas.List.{append-nil, drop_more, drop_all}
 use Rattle.screen_forms.specs.Words.{is_between_words, word_end, word_start}
 use Rattle.screen_forms.specs.declared.text_screens.TextScreen.{TextScreen}
-use Rattle.screen_forms.specs.declared.text_screens.TextFault.{TextFault}
+use Rattle.screen_forms.specs.declared.text_screens.FaultyLine.{FaultyLine}
 use Rattle.screen_forms.specs.declared.text_screens.TextScreensFault.{TextScreensFault}
 use Rattle.screen_forms.specs.declared.text_screens.TextScreensFault.TheVariants.{Line, Memory}
 use Rattle.screen_forms.specs.Loops.{IsLineAdded, after_screens}
@@ -124,13 +124,13 @@ line_last line all l e = rw e refl
 
 -- Lines that are read.
 
-pub fault_in : (line : ℕ) (old new : List TextScreen) (all : List (List ℕ)) (l : List ℕ) (ls : List (List ℕ)) (whole : Result (List TextScreen) TextFault) (fault : TextScreensFault)
+pub fault_in : (line : ℕ) (old new : List TextScreen) (all : List (List ℕ)) (l : List ℕ) (ls : List (List ℕ)) (whole : Result (List TextScreen) FaultyLine) (fault : TextScreensFault)
     → IsLineAdded line old new (line_screen line l) (Err fault) → after_screens old (lines_screens line all) ≡ whole → all ≡ l ∷ ls → AreTextScreens whole (Err fault)
 fault_in line old new all l ls whole (Line f) added e parts =
     sym e ∙ ap (λ m. after_screens old m) (line_first line all l ls parts) ∙ added (lines_screens (line + 1) ls)
 fault_in line old new all l ls whole Memory added e parts = tt
 
-pub screens_in : (line : ℕ) (old new : List TextScreen) (all : List (List ℕ)) (l : List ℕ) (whole : Result (List TextScreen) TextFault) (u : Unit {0})
+pub screens_in : (line : ℕ) (old new : List TextScreen) (all : List (List ℕ)) (l : List ℕ) (whole : Result (List TextScreen) FaultyLine) (u : Unit {0})
     → IsLineAdded line old new (line_screen line l) (Ok u) → after_screens old (lines_screens line all) ≡ whole → all ≡ l ∷ [] → whole ≡ Ok new
 screens_in line old new all l whole u added e parts =
-    sym e ∙ ap (λ m. after_screens old m) (line_last line all l parts) ∙ added (Ok []) ∙ ap (λ (ss : List TextScreen). let r : Result (List TextScreen) TextFault = Ok ss in r) (append-nil new)
+    sym e ∙ ap (λ m. after_screens old m) (line_last line all l parts) ∙ added (Ok []) ∙ ap (λ (ss : List TextScreen). let r : Result (List TextScreen) FaultyLine = Ok ss in r) (append-nil new)

@@ -1,5 +1,5 @@
 -- Addresses of edit.tf among the lines of a text.
-use Rattle.std.specs.Prelude.{◌≡◌, ℕ, Bool, List, [], ◌∷◌, Option, Some, None, Result, Ok, Err, Vec, ◌+◌, ◌==◌, ◌&&◌, ◌||◌, drop, get_or, nat_le, take, if◌then◌else◌}
+use Rattle.std.specs.Prelude.{ℕ, Bool, List, [], ◌∷◌, Option, Some, None, Result, Ok, Err, ◌+◌, ◌==◌, ◌&&◌, ◌||◌, drop, get_or, nat_le, take, if◌then◌else◌}
 use Rattle.std.specs.Option.{is_some}
 use Rattle.page_ids.specs.Ids.{Id}
 use Rattle.page_ids.specs.Parts.{parts_of}
@@ -8,7 +8,7 @@ use Rattle.screen_forms.specs.Words.{any_case_id, is_digit_byte, number_id, word
 use Rattle.screen_forms.specs.declared.text_screens.TextScreen.{TextScreen}
 use Rattle.screen_forms.specs.declared.text_screens.TextLineFault.{TextLineFault}
 use Rattle.screen_forms.specs.declared.text_screens.TextLineFault.TheVariants.{Letters, Two}
-use Rattle.screen_forms.specs.declared.text_screens.TextFault.{TextFault}
+use Rattle.screen_forms.specs.declared.text_screens.FaultyLine.{FaultyLine}
 use Rattle.screen_forms.specs.TextScreens.{after_byte_mark}
 
 -- `A` to `F` are 65 to 70, `a` to `f` 97 to 102
@@ -76,20 +76,20 @@ line_screen line text = linked_at line text (address_at text)
 
 -- The screens of a text.
 
-abbrev pub onto_screens : Option TextScreen → Result (List TextScreen) TextFault → Result (List TextScreen) TextFault
+abbrev pub onto_screens : Option TextScreen → Result (List TextScreen) FaultyLine → Result (List TextScreen) FaultyLine
 onto_screens s (Err fault) = Err fault
 onto_screens None (Ok more) = Ok more
 onto_screens (Some s) (Ok more) = Ok (s ∷ more)
 
-abbrev pub then_screens : ℕ → Result (Option TextScreen) TextLineFault → Result (List TextScreen) TextFault → Result (List TextScreen) TextFault
+abbrev pub then_screens : ℕ → Result (Option TextScreen) TextLineFault → Result (List TextScreen) FaultyLine → Result (List TextScreen) FaultyLine
 then_screens line (Err fault) more = Err (record { line = line; fault = fault })
 then_screens line (Ok s) more = onto_screens s more
 
 -- those of lines, the first of which has this number; a fault is that of the first line at fault
-unfoldable pub lines_screens : ℕ → List (List ℕ) → Result (List TextScreen) TextFault
+unfoldable pub lines_screens : ℕ → List (List ℕ) → Result (List TextScreen) FaultyLine
 lines_screens line [] = Ok []
 lines_screens line (l ∷ ls) = then_screens line (line_screen line l) (lines_screens (line + 1) ls)
 
 -- those of a text's lines, between line ends (10)
-abbrev pub linked_screens : List ℕ → Result (List TextScreen) TextFault
+abbrev pub linked_screens : List ℕ → Result (List TextScreen) FaultyLine
 linked_screens text = lines_screens 1 (parts_of 10 (after_byte_mark text))

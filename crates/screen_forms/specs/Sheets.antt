@@ -10,7 +10,7 @@ use Rattle.screen_forms.specs.declared.sheets.TheConstants.{MOST_SHEET_PAGES}
 use Rattle.screen_forms.specs.declared.text_screens.TextScreen.{TextScreen}
 use Rattle.screen_forms.specs.declared.text_screens.TextLineFault.{TextLineFault}
 use Rattle.screen_forms.specs.declared.text_screens.TextLineFault.TheVariants.{Pages, Row}
-use Rattle.screen_forms.specs.declared.text_screens.TextFault.{TextFault}
+use Rattle.screen_forms.specs.declared.text_screens.FaultyLine.{FaultyLine}
 
 -- The text of a row.
 
@@ -44,21 +44,21 @@ unfoldable pub byte_from : ℕ → ℕ → List ℕ → ℕ
 byte_from byte at [] = at
 byte_from byte at (c ∷ cs) = if c == byte then at else byte_from byte (at + 1) cs
 
-abbrev pub before_byte : ℕ → List ℕ → List ℕ
-before_byte byte text = take (byte_from byte 0 text) text
+abbrev pub before_first_byte : ℕ → List ℕ → List ℕ
+before_first_byte byte text = take (byte_from byte 0 text) text
 
-abbrev pub after_byte : ℕ → List ℕ → List ℕ
-after_byte byte text = drop (byte_from byte 0 text + 1) text
+abbrev pub after_first_byte : ℕ → List ℕ → List ℕ
+after_first_byte byte text = drop (byte_from byte 0 text + 1) text
 
 -- The number of a row.
 
-abbrev pub is_space : ℕ → Bool
-is_space b = b == 32
+abbrev pub is_blank_byte : ℕ → Bool
+is_blank_byte b = b == 32
 
 -- from the first byte on that is no space
 unfoldable pub after_spaces : List ℕ → List ℕ
 after_spaces [] = []
-after_spaces (c ∷ cs) = if is_space c then after_spaces cs else c ∷ cs
+after_spaces (c ∷ cs) = if is_blank_byte c then after_spaces cs else c ∷ cs
 
 abbrev pub digit_of : ℕ → Option ℕ
 digit_of b = if is_digit_byte b then Some (b - 48) else None
@@ -77,7 +77,7 @@ digits_number text =
 
 -- what is before the next space; after it are only spaces
 abbrev pub number_alone : List ℕ → Option ℕ
-number_alone text = if list_all is_space (after_byte 32 text) then digits_number (before_byte 32 text) else None
+number_alone text = if list_all is_blank_byte (after_first_byte 32 text) then digits_number (before_first_byte 32 text) else None
 
 -- with spaces around or none
 abbrev pub row_number : List ℕ → Option ℕ
@@ -113,14 +113,14 @@ abbrev pub no_page : Sheet
 no_page = record { done = []; page = blank_page 0 None; begun = false }
 
 -- all pages so far
-abbrev pub pages_of : Sheet → List TextScreen
-pages_of s = if s.begun then s.done ++ s.page ∷ [] else s.done
+abbrev pub pages_so_far : Sheet → List TextScreen
+pages_so_far s = if s.begun then s.done ++ s.page ∷ [] else s.done
 
 abbrev pub page_begun : Sheet → ℕ → Option Id → Sheet
-page_begun s line number = record { done = pages_of s; page = blank_page line number; begun = true }
+page_begun s line number = record { done = pages_so_far s; page = blank_page line number; begun = true }
 
 abbrev pub then_page : Sheet → ℕ → Option Id → Result Sheet TextLineFault
-then_page s line number = if nat_lt (length (pages_of s)) MOST_SHEET_PAGES then Ok (page_begun s line number) else Err Pages
+then_page s line number = if nat_lt (length (pages_so_far s)) MOST_SHEET_PAGES then Ok (page_begun s line number) else Err Pages
 
 -- a row before the first page begins one without a number
 abbrev pub with_page : Sheet → ℕ → Sheet
@@ -143,7 +143,7 @@ with_row_by s (Some n) text = Ok (with_row s n text)
 
 -- the number is before the first comma (44), the text after it
 abbrev pub row_added : Sheet → List ℕ → Result Sheet TextLineFault
-row_added s rest = with_row_by s (row_number (before_byte 44 rest)) (after_byte 44 rest)
+row_added s rest = with_row_by s (row_number (before_first_byte 44 rest)) (after_first_byte 44 rest)
 
 -- other lines don't count
 abbrev pub line_added : Sheet → ℕ → List ℕ → Result Sheet TextLineFault
@@ -159,27 +159,27 @@ abbrev pub without_return : List ℕ → List ℕ
 without_return text = if get_or text (length text - 1) 0 == 13 then take (length text - 1) text else text
 
 -- the text of a line that others follow, or none
-abbrev pub ended_line : List ℕ → List (List ℕ) → List ℕ
-ended_line text [] = text
-ended_line text (l ∷ ls) = without_return text
+abbrev pub text_of_line : List ℕ → List (List ℕ) → List ℕ
+text_of_line text [] = text
+text_of_line text (l ∷ ls) = without_return text
 
-abbrev pub in_line : ℕ → Result Sheet TextLineFault → Result Sheet TextFault
+abbrev pub in_line : ℕ → Result Sheet TextLineFault → Result Sheet FaultyLine
 in_line line (Err fault) = Err (record { line = line; fault = fault })
 in_line line (Ok s) = Ok s
 
-abbrev pub then_line : Result Sheet TextFault → ℕ → List ℕ → Result Sheet TextFault
+abbrev pub then_line : Result Sheet FaultyLine → ℕ → List ℕ → Result Sheet FaultyLine
 then_line (Err fault) line text = Err fault
 then_line (Ok s) line text = in_line line (line_added s line text)
 
 -- after lines, the first of which has this number; a fault is that of the first line at fault
-unfoldable pub then_lines : Result Sheet TextFault → ℕ → List (List ℕ) → Result Sheet TextFault
+unfoldable pub then_lines : Result Sheet FaultyLine → ℕ → List (List ℕ) → Result Sheet FaultyLine
 then_lines s line [] = s
-then_lines s line (l ∷ ls) = then_lines (then_line s line (ended_line l ls)) (line + 1) ls
+then_lines s line (l ∷ ls) = then_lines (then_line s line (text_of_line l ls)) (line + 1) ls
 
-abbrev pub sheet_pages : Result Sheet TextFault → Result (List TextScreen) TextFault
+abbrev pub sheet_pages : Result Sheet FaultyLine → Result (List TextScreen) FaultyLine
 sheet_pages (Err fault) = Err fault
-sheet_pages (Ok s) = Ok (pages_of s)
+sheet_pages (Ok s) = Ok (pages_so_far s)
 
 -- the screens of a text's lines
-abbrev pub sheet_screens : List ℕ → Result (List TextScreen) TextFault
+abbrev pub sheet_screens : List ℕ → Result (List TextScreen) FaultyLine
 sheet_screens text = sheet_pages (then_lines (Ok no_page) 1 (parts_of 10 (after_byte_mark text)))

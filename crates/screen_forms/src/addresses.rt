@@ -7,8 +7,10 @@ ghost use Rattle.screen_forms.specs.TextScreens.{AreTextScreens};
 ghost use Rattle.screen_forms.specs.Loops as loops;
 
 use crate::links::{is_link_letter, link_codes};
+use crate::text_screens::{
+    FaultyLine, TextLineFault, TextScreen, TextScreensFault, after_byte_mark,
+};
 use crate::words::{any_case_id, number_id, word_before};
-use crate::text_screens::{TextFault, TextLineFault, TextScreen, TextScreensFault, after_byte_mark};
 use page_ids::{FrameId, cut};
 use std::alloc::{AllocError, Global};
 
@@ -148,7 +150,7 @@ fn push_line(
             Ok(()) => Ok(()),
             Err(_) => Err(TextScreensFault::Memory),
         },
-        Ok(Err(fault)) => Err(TextScreensFault::Line(TextFault { line, fault })),
+        Ok(Err(fault)) => Err(TextScreensFault::Line(FaultyLine { line, fault })),
         Err(_) => Err(TextScreensFault::Memory),
     }
 }

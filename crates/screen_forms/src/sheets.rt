@@ -10,7 +10,7 @@ ghost use Rattle.screen_forms.specs.declared.text_screens.TextScreensFault.TheVa
 
 use crate::bits::stored_code;
 use crate::text_screens::{
-    TextFault, TextLineFault, TextScreen, TextScreensFault, after_byte_mark,
+    FaultyLine, TextLineFault, TextScreen, TextScreensFault, after_byte_mark,
 };
 use crate::words::number_id;
 use page_ids::{FrameId, cut};
@@ -107,7 +107,7 @@ fn after_spaces(text: &[u8]) -> &[u8]
 }
 
 fn are_spaces(text: &[u8]) -> bool
-    ensures { result ≡ list_all spec.is_space text.now }
+    ensures { result ≡ list_all spec.is_blank_byte text.now }
 {
     text.iter().all(|byte| *byte == b' ')
 }
@@ -148,8 +148,8 @@ fn first_place(text: &[u8], byte: u8) -> usize
     text.len()
 }
 
-fn before_byte(text: &[u8], byte: u8) -> &[u8]
-    ensures { result.now ≡ spec.before_byte byte text.now }
+fn before_first_byte(text: &[u8], byte: u8) -> &[u8]
+    ensures { result.now ≡ spec.before_first_byte byte text.now }
 {
     &text[..first_place(text, byte)]
 }
@@ -162,8 +162,8 @@ fn text_from(text: &[u8], at: usize) -> &[u8]
     if at < text.len() { &text[at..] } else { &[] }
 }
 
-fn after_byte(text: &[u8], byte: u8) -> &[u8]
-    ensures { result.now ≡ spec.after_byte byte text.now }
+fn after_first_byte(text: &[u8], byte: u8) -> &[u8]
+    ensures { result.now ≡ spec.after_first_byte byte text.now }
 {
     text_from(text, first_place(text, byte) + 1)
 }
@@ -172,8 +172,8 @@ fn after_byte(text: &[u8], byte: u8) -> &[u8]
 fn number_alone(text: &[u8]) -> Option<usize>
     ensures { result ≡ spec.number_alone text.now }
 {
-    if are_spaces(after_byte(text, b' ')) {
-        digits_number(before_byte(text, b' '))
+    if are_spaces(after_first_byte(text, b' ')) {
+        digits_number(before_first_byte(text, b' '))
     } else {
         None
     }
@@ -243,7 +243,7 @@ struct SheetReader {
 fn fault_in(line: usize, fault: TextLineFault) -> TextScreensFault
     ensures { result ≡ Line (record { line = line; fault = fault }) }
 {
-    TextScreensFault::Line(TextFault { line, fault })
+    TextScreensFault::Line(FaultyLine { line, fault })
 }
 
 fn blank_page(line: usize, number: Option<FrameId>) -> TextScreen
@@ -270,7 +270,7 @@ impl SheetReader {
 
     // Adds the page so far to those before it.
     fn close(&mut self) -> Result<(), AllocError>
-        ensures { OnOk result (self.new.done.items ≡ spec.pages_of (loops.sheet_of self.old)) }
+        ensures { OnOk result (self.new.done.items ≡ spec.pages_so_far (loops.sheet_of self.old)) }
     {
         if self.begun {
             self.done.extend_from_slice(&[self.page])?;
@@ -318,10 +318,10 @@ impl SheetReader {
         ensures { loops.IsSheetRead (spec.in_line line (spec.row_added (loops.sheet_of self.old) rest.now))
             self.new result }
     {
-        match row_number(before_byte(rest, b',')) {
-            Some(number) => self.put_row(number, after_byte(rest, b',')),
+        match row_number(before_first_byte(rest, b',')) {
+            Some(number) => self.put_row(number, after_first_byte(rest, b',')),
             None => {
-                return Err(TextScreensFault::Line(TextFault {
+                return Err(TextScreensFault::Line(FaultyLine {
                     line,
                     fault: TextLineFault::Row,
                 }));

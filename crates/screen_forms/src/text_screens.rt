@@ -33,7 +33,7 @@ pub enum TextLineFault {
 
 /// The first line at fault.
 #[derive(Debug, Clone, Copy, PartialEq, Eq)]
-pub struct TextFault {
+pub struct FaultyLine {
     /// Its number, from 1.
     pub line: usize,
     pub fault: TextLineFault,
@@ -42,7 +42,7 @@ pub struct TextFault {
 /// Why there are no screens of a text.
 #[derive(Debug, Clone, Copy, PartialEq, Eq)]
 pub enum TextScreensFault {
-    Line(TextFault),
+    Line(FaultyLine),
     /// A growth was refused.
     Memory,
 }

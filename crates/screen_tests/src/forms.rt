@@ -1,7 +1,7 @@
 use crate::files::screen_with;
 use page_ids::FrameId;
 use screen_forms::{
-    SavedForm, TextFault, TextLineFault, TextScreen, TextScreensFault, any_case_id, has_address,
+    FaultyLine, SavedForm, TextLineFault, TextScreen, TextScreensFault, any_case_id, has_address,
     is_link_letter, link_codes, linked_screens, push_address, push_form, stored_code,
 };
 use std::alloc::Global;
@@ -9,7 +9,7 @@ use std::test::Fail;
 use test_support::{same, same_in};
 
 // Row 0 is `478a   5p` at column 31, row 1 a red `HELLO`.
-fn example() -> [u8; 960] {
+pub fn example() -> [u8; 960] {
     let mut screen = screen_with(31, b"478a   5p");
     screen[40] = 0x81;
     screen[41..46].copy_from_slice(b"HELLO");
@@ -108,7 +108,7 @@ fn fault_of(alloc: Global, text: &[u8]) -> Option<TextScreensFault> {
 #[test]
 fn the_first_line_at_fault_is_named(rt: HostRuntime) -> Result<(), Fail> {
     let alloc = rt.alloc();
-    let fault = |line: usize, fault: TextLineFault| Some(TextScreensFault::Line(TextFault {
+    let fault = |line: usize, fault: TextLineFault| Some(TextScreensFault::Line(FaultyLine {
         line,
         fault,
     }));

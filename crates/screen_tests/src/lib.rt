@@ -20,4 +20,6 @@ mod pages;
 #[cfg(test)]
 mod parts;
 #[cfg(test)]
+mod sheets;
+#[cfg(test)]
 mod texts;

@@ -1,4 +1,4 @@
-use Rattle.std.proofs.Common.{◌≡◌, ◌∙◌, length, arith}
+use Rattle.std.proofs.Common.{◌∙◌, length, arith}
 use Rattle.std.proofs.lemmas.List.{length-set}
 use Rattle.screen_forms.specs.Sheets.{sheet_cells}
 use Rattle.screen_forms.proofs.Pages.{cell_more, cells_done}
