@@ -4,7 +4,7 @@ from collections.abc import Iterator
 from pathlib import Path
 
 from harness.edits import Change
-from refusals import FACT, as_fact, fault_of, names_a_goal, of_paths
+from refusals import FACT, UNTRIED, as_fact, fault_of, names_a_goal, of_paths
 
 DIFFER = (
     "./proofs/key_text/keys_read/Answers.antt:18:5: error: `returns-in_default`: computed as far as they go, "
@@ -30,7 +30,7 @@ ONLY_CALLS = (
 )
 OTHER = "fn page_ids::parts::cut: not proved"
 
-STILL_PROVED, UNKNOWN = "it is still proved", "it can't be tried"
+STILL_PROVED = "it is still proved"
 ANSWER_ALONE = "no goal is named, only an answer in proofs/ that no longer fits"
 UNPROVED = "fn page_ids::key_text::keys_read: no proof: expected answers in ./proofs/key_text/keys_read/Answers.antt"
 # What a check prints, and why the edit of `keys_read` isn't refused for its meaning.
@@ -41,8 +41,8 @@ CHECKS = [
     ([SOUGHT, NOT_PROVED], None),
     ([NOT_PROVED], ANSWER_ALONE),
     ([ENSURES, OTHER, NOT_PROVED], ANSWER_ALONE),
-    ([ONLY_CALLS], UNKNOWN),
-    ([OTHER], UNKNOWN),
+    ([ONLY_CALLS], UNTRIED),
+    ([OTHER], UNTRIED),
 ]
 # What rt prints after "refused, as it must be", cut at 160 characters, and whether it names a goal.
 RT_LINES = [(ENSURES[:160], True), (LOOP[:160], True), (SOUGHT[:160], True), (DIFFER[:160], False), ("", False)]

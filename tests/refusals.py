@@ -11,11 +11,13 @@ import re
 import shutil
 import subprocess
 import sys
-from collections.abc import Collection, Iterable, Mapping
+from collections.abc import Collection, Iterable, Iterator, Mapping
 from dataclasses import dataclass, field
 from pathlib import Path
 from tempfile import TemporaryDirectory
 from typing import Any
+
+from harness.edits import Edit
 
 NOTE = re.compile(r"note: src/\S+: it is not proved that ")
 GOAL = re.compile(r"\(`([\w-]+)`\)")
@@ -25,6 +27,7 @@ ANSWER = re.compile(r"(?:\./)?(proofs/\S+/Answers\.antt):\d+:\d+: error: `([\w-]
 SEARCH = re.compile(r"`(?:search|grind|omega|cc|tauto)`")
 CALLS = re.compile(r"(?:^no proof: |; )it calls `.*?, which (?:is|are) not proved")
 FACT = "written_answer"
+UNTRIED = "it can't be tried"
 # How an answer may begin: what it names first, and what it takes.
 BEGINNING = re.compile(r"let .*? in\n\s*|λ (?:\([^()]*\)|[^().])+\.\s+", re.S)
 # A field of a record with a value that is no record, on lines of its own.
@@ -160,13 +163,13 @@ def of_paths(printed: str, paths: Collection[str]) -> list[Said]:
     return [said for name, said in said_of(printed).items() if not paths or any(is_of(name, path) for path in paths)]
 
 
-def fault_of(crate: Any, texts: Mapping[Path, str], paths: Collection[str], said: list[Said]) -> str | None:
-    """Why the edit that makes these texts isn't refused for its meaning, or None. A check of these functions, or of
-    all, said this.
-    """
-    answers = [answer for one in said for answer in one.answers]
-    if answers and not any(one.goals for one in said):
-        said = of_paths(check(crate, with_facts(crate, texts, answers), paths), paths)
+def lacks_goals(said: list[Said]) -> bool:
+    """Whether only answers don't fit: as facts, they can show which goals aren't proved."""
+    return any(one.answers for one in said) and not any(one.goals for one in said)
+
+
+def verdict(said: list[Said]) -> str | None:
+    """Why an edit of which a check said this isn't refused for its meaning, or None."""
     if any(one.goals for one in said):
         return None
     if said and all(one.is_proved() for one in said):
@@ -174,5 +177,75 @@ def fault_of(crate: Any, texts: Mapping[Path, str], paths: Collection[str], said
     return (
         "no goal is named, only an answer in proofs/ that no longer fits"
         if any(one.is_refused() for one in said)
-        else "it can't be tried"
+        else UNTRIED
     )
+
+
+def fault_of(crate: Any, texts: Mapping[Path, str], paths: Collection[str], said: list[Said]) -> str | None:
+    """Why the edit that makes these texts isn't refused for its meaning, or None. A check of these functions, or of
+    all, said this.
+    """
+    if lacks_goals(said):
+        answers = [answer for one in said for answer in one.answers]
+        said = of_paths(check(crate, with_facts(crate, texts, answers), paths), paths)
+    return verdict(said)
+
+
+# Edits
+
+
+def batches(tried: Iterable[Edit]) -> Iterator[tuple[list[Edit], dict[Path, str]]]:
+    """Edits that can be tried together: no function is changed twice, and each text can still be changed. With their
+    texts.
+    """
+    waiting = list(tried)
+    while waiting:
+        batch, texts, taken, later = list[Edit](), dict[Path, str](), set[str](), list[Edit]()
+        for edit in waiting:
+            paths = set(edit.paths())
+            applied = None if paths & taken else edit.applied(texts)
+            if applied is None:
+                later.append(edit)
+            else:
+                batch, texts, taken = [*batch, edit], applied, taken | paths
+        if not batch:
+            raise ValueError(f"the texts of {' '.join(edit.name for edit in later)} aren't there once")
+        yield batch, texts
+        waiting = later
+
+
+def said_of_batch(crate: Any, batch: Iterable[Edit], texts: Mapping[Path, str]) -> dict[str, list[Said]]:
+    """What is said of each edit of a batch, by its name: first of all, and then, if only answers don't fit, with these
+    answers as facts.
+    """
+    paths = {edit.name: edit.paths() for edit in batch}
+    printed = check(crate, texts, sum(paths.values(), []))
+    said = {name: of_paths(printed, of) for name, of in paths.items()}
+    if again := [name for name in paths if lacks_goals(said[name])]:
+        answers = [answer for name in again for one in said[name] for answer in one.answers]
+        printed = check(crate, with_facts(crate, texts, answers), sum((paths[name] for name in again), []))
+        said |= {name: of_paths(printed, paths[name]) for name in again}
+    return said
+
+
+def alone(crate: Any, edit: Edit) -> str | None:
+    """Why an edit that is tried alone isn't refused for its meaning, or None. A check of a trait's method is made with
+    all others.
+    """
+    texts, paths = edit.applied({}) or {}, edit.paths() if edit.is_of_functions() else []
+    return fault_of(crate, texts, paths, of_paths(check(crate, texts, paths), paths))
+
+
+def judged(crate: Any, tried: Iterable[Edit]) -> Iterator[tuple[Edit, str | None]]:
+    """Each edit, and why it isn't refused for its meaning, or None. Those that change different functions are tried by
+    one check, of these functions alone; what such a check doesn't show is tried alone.
+    """
+    every = list(tried)
+    for batch, texts in batches(edit for edit in every if edit.is_of_functions()):
+        said = said_of_batch(crate, batch, texts)
+        for edit in batch:
+            why = verdict(said[edit.name])
+            yield edit, why and alone(crate, edit)
+    for edit in every:
+        if not edit.is_of_functions():
+            yield edit, alone(crate, edit)

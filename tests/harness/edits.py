@@ -117,6 +117,14 @@ class Edit:
     def name(self) -> str:
         return self.path.stem
 
+    def is_of_functions(self) -> bool:
+        """Whether it changes functions alone, of no trait."""
+        return all(place and not place.trait for place in self.functions())
+
+    def paths(self) -> list[str]:
+        """The functions that it changes, as rt has them."""
+        return sorted({place.path for place in self.functions() if place})
+
     def functions(self) -> list[Function | None]:
         """The functions that it changes, None for what is outside of all."""
         return [place for change in self.changes for place in change.places()]

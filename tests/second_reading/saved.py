@@ -344,7 +344,7 @@ def row_line(row: bytes) -> str:
 
 
 def page_by(page: int, digit: str) -> int:
-    """The page to which a digit leads by its number: the one without the last digit, or the one with this digit more."""
+    """The page to which a digit leads by its number: without the last digit, or with this digit more."""
     return int((str(page)[:-1] or "0") if digit == "0" else f"{page}{digit}")
 
 
@@ -442,7 +442,10 @@ class Reading:
 
 def files_in(folder: str, files: Iterable[tuple[str, bytes | str]]) -> list[tuple[str, bytes | str]]:
     """What stands for a folder: its files, by name, or the reason why there are none."""
-    found = sorted((path, data) for path, data in files if isinstance(data, bytes) and not is_hidden(path))
+    found: list[tuple[str, bytes | str]] = []
+    for path, data in sorted(files, key=lambda file: file[0]):
+        if isinstance(data, bytes) and not is_hidden(path):
+            found.append((path, data))
     return found or [(folder, "no files in this folder")]
 
 
