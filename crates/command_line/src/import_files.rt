@@ -196,13 +196,7 @@ fn print_base<R: Print + AllocGlobal>(
     settled: &Settled,
 ) -> Result<ImportStatus, Unfinished> {
     let mut out = IntoWrite::new(io::writer(rt));
-    let run = run_import(
-        rt.alloc(),
-        settled,
-        asked.entry,
-        asked.guesses,
-        &mut out,
-    );
+    let run = run_import(rt.alloc(), settled, asked.entry, asked.guesses, &mut out);
     ended(run, &out)
 }
 

@@ -56,14 +56,7 @@ fn lint_path<R: Files + Input + Print + AllocGlobal>(
         Ok(base) => {
             let mut base = FromRead::new(base);
             let mut out = IntoWrite::new(io::writer(rt));
-            let run = run_lint(
-                rt.alloc(),
-                &mut base,
-                &mut out,
-                path,
-                &asked.policy,
-                how,
-            );
+            let run = run_lint(rt.alloc(), &mut base, &mut out, path, &asked.policy, how);
             match ended(run, &out) {
                 Ok(counts) => Ok(found(counts, 0)),
                 Err(unfinished) => Err(unfinished),
@@ -84,14 +77,7 @@ fn lint_text<W: io::Write + Drop>(
 ) -> Result<Counts, Unfinished> {
     let mut base = FromRead::new(text);
     let mut out = IntoWrite::new(out);
-    let run = run_lint(
-        alloc,
-        &mut base,
-        &mut out,
-        path,
-        &asked.policy,
-        how,
-    );
+    let run = run_lint(alloc, &mut base, &mut out, path, &asked.policy, how);
     ended(run, &out)
 }
 

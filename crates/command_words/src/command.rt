@@ -27,7 +27,14 @@ const FORMATS: &[&str] = &["full", "line", "json", "github"];
 const COLOURINGS: &[&str] = &["auto", "always", "never"];
 
 // The codes of warnings.
-const WARNINGS: &[&str] = &["UNREACHED", "UNSOUGHT", "HIDDEN", "LINEEND", "ESCAPE", "MENU"];
+const WARNINGS: &[&str] = &[
+    "UNREACHED",
+    "UNSOUGHT",
+    "HIDDEN",
+    "LINEEND",
+    "ESCAPE",
+    "MENU",
+];
 
 // The words for the forms of a list.
 const LIST_FORMATS: &[&str] = &["line", "json"];
@@ -145,7 +152,11 @@ fn color_option<'a>(alloc: Global) -> Arg<'a> {
 // The options of what is printed.
 fn with_report<'a>(alloc: Global, command: Command<'a>) -> Result<Command<'a>, AllocError> {
     let quiet = flag(alloc, "quiet", "Print no warnings and no count").short('q');
-    command.arg(format_option(alloc))?.arg(color_option(alloc))?.arg(ignore_option(alloc))?.arg(quiet)
+    command
+        .arg(format_option(alloc))?
+        .arg(color_option(alloc))?
+        .arg(ignore_option(alloc))?
+        .arg(quiet)
 }
 
 // The options of what is done about slips.

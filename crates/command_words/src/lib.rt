@@ -13,6 +13,6 @@ mod command;
 mod help;
 
 pub use command::{
-    CallForm, Colouring, Export, Fixing, Import, Lint, Pages, Publish, Request, Serve, Show, WordsFault,
-    asked_for, groups_of, matches, words,
+    CallForm, Colouring, Export, Fixing, Import, Lint, Pages, Publish, Request, Serve, Show,
+    WordsFault, asked_for, groups_of, matches, words,
 };

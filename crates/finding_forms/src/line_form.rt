@@ -37,7 +37,12 @@ pub fn begin_of(lines: &TextLines<'_>, span: Span) -> (usize, usize)
 }
 
 // The path, the line and the column, each with a colon.
-pub fn push_place(out: &mut Vec<u8>, path: &Line, line: usize, column: usize) -> Result<(), AllocError>
+pub fn push_place(
+    out: &mut Vec<u8>,
+    path: &Line,
+    line: usize,
+    column: usize,
+) -> Result<(), AllocError>
     ensures place { OnOk result (out.new.items ≡ out.old.items ++ line_place path.now (line, column)) }
     ensures is_line { OnOk result (IsLine (line_place path.now (line, column))) }
 {

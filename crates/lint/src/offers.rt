@@ -238,7 +238,13 @@ fn menu_here(row: usize, column: usize, first: &Cell, rest: &[Cell]) -> Option<M
         [] => None,
         [gap, more @ ..] => {
             let is_first = is_gap(gap) && more.iter().any(|cell| !is_gap(cell));
-            menu_if(row, column, first.foreground, is_first, char_digit(read_char(first)))
+            menu_if(
+                row,
+                column,
+                first.foreground,
+                is_first,
+                char_digit(read_char(first)),
+            )
         }
     }
 }

@@ -48,8 +48,14 @@ fn colours_are_those_of_the_level(rt: HostRuntime) -> Result<(), Fail> {
         escaped,
         findings.as_slice(),
     )?;
-    let warned = str::from_utf8(printed.as_slice())?.split_once(" \x1b[1;33mwarning:\x1b[0m ESCAPE");
-    same_in("a warning", warned.map(|(place, _)| place), Some("\x1b[1mb.toml:4:9:\x1b[0m"))
+    let warned = str::from_utf8(printed.as_slice())?.split_once(
+        " \x1b[1;33mwarning:\x1b[0m ESCAPE",
+    );
+    same_in(
+        "a warning",
+        warned.map(|(place, _)| place),
+        Some("\x1b[1mb.toml:4:9:\x1b[0m"),
+    )
 }
 
 #[test]

@@ -84,7 +84,13 @@ fn the_entry_page_may_be_named(rt: HostRuntime) -> Result<(), Fail> {
     let text =
         "entry = 9\n\n[[frame]]\nid = \"4a\"\nroutes = { } # keys shown: 1\nrows = [\n    \"1 News\",\n]\n";
     let mut out = sink(alloc, text, ALL);
-    let run = run_import(alloc, &settled(alloc, album)?, PageNo::new(9), false, &mut out);
+    let run = run_import(
+        alloc,
+        &settled(alloc, album)?,
+        PageNo::new(9),
+        false,
+        &mut out,
+    );
     same(run == Ok(ImportStatus::Printed), true)?;
     same(taken(&out, text), text.len())
 }

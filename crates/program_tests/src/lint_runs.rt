@@ -19,7 +19,14 @@ type Linted = (Result<Counts, RunFault>, u8, u32, u32, usize);
 fn linted(alloc: Global, kept: usize, room: usize, policy: &Policy) -> Linted {
     let mut base = source(TEXT, ALL, kept);
     let mut out = sink(alloc, LINE, room);
-    let answer = run_lint(alloc, &mut base, &mut out, "x/b.toml", policy, &LintReport::all(Format::Line));
+    let answer = run_lint(
+        alloc,
+        &mut base,
+        &mut out,
+        "x/b.toml",
+        policy,
+        &LintReport::all(Format::Line),
+    );
     let status = status_of_lint(&answer, Level::Error);
     (answer, status, base.calls, out.flushes, taken(&out, LINE))
 }
@@ -109,10 +116,20 @@ const UNREACHED: &str =
     "b.toml:6:6: warning: UNREACHED: no keys lead to frame 2a, which is open to callers\n";
 
 // The numbers of findings, the exit status if warnings count, and how many bytes of the line are written.
-fn reported(alloc: Global, report: &LintReport) -> Result<(Result<Counts, RunFault>, u8, usize), Fail> {
+fn reported(
+    alloc: Global,
+    report: &LintReport,
+) -> Result<(Result<Counts, RunFault>, u8, usize), Fail> {
     let mut base = source(WARNED, ALL, ALL);
     let mut out = sink(alloc, UNREACHED, ALL);
-    let answer = run_lint(alloc, &mut base, &mut out, "b.toml", &policy(50, 3)?, report);
+    let answer = run_lint(
+        alloc,
+        &mut base,
+        &mut out,
+        "b.toml",
+        &policy(50, 3)?,
+        report,
+    );
     let status = status_of_lint(&answer, Level::Warning);
     Ok((answer, status, taken(&out, UNREACHED)))
 }
@@ -136,7 +153,11 @@ fn ignored_warnings_do_not_count_and_quiet_ones_are_not_written(
         ignored: escape,
         ..all
     };
-    same_in("one", reported(rt.alloc(), &one)?, (counts(1), 1, UNREACHED.len()))?;
+    same_in(
+        "one",
+        reported(rt.alloc(), &one)?,
+        (counts(1), 1, UNREACHED.len()),
+    )?;
     let none = LintReport {
         ignored: Ignored {
             unreached: true,

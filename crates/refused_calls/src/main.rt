@@ -26,9 +26,9 @@ use finder::find;
 use frame_screens::{frames_after, nearest, way_to};
 use page_ids::keys_read;
 use pageaudit::{
-    Counts, Format, Level, LintReport, ListForm, run_audit, run_change, run_check, run_lint, run_list, run_map,
-    run_pages, run_show, run_walk, status_of, status_of_import, status_of_lint, status_of_map,
-    status_of_pages, status_of_show,
+    Counts, Format, Level, LintReport, ListForm, run_audit, run_change, run_check, run_lint,
+    run_list, run_map, run_pages, run_show, run_walk, status_of, status_of_import, status_of_lint,
+    status_of_map, status_of_pages, status_of_show,
 };
 use saved::{exported, imported};
 use std::env;

@@ -125,11 +125,7 @@ fn push_filed(
 }
 
 /// Writes frames as [`base_text`] does, up to the first that ends after the most bytes that a base may have; its file is in the fault.
-pub fn push_frames(
-    out: &mut Vec<u8>,
-    known: &Known,
-    frames: &[Filed],
-) -> Result<(), BaseTextFault>
+pub fn push_frames(out: &mut Vec<u8>, known: &Known, frames: &[Filed]) -> Result<(), BaseTextFault>
     ensures text { OnOk result (out.new.items ≡ out.old.items ++ spec.frames_text known.now frames.now) }
     ensures within { OnOk result (spec.first_over known.now (length out.old.items) frames.now ≡ None) }
     ensures fault { IfErr result (spec.IsNoText (spec.first_over known.now (length out.old.items) frames.now)) }

@@ -344,7 +344,11 @@ fn routes_are_guessed_by_numbers(rt: HostRuntime) -> Result<(), Fail> {
         "routes = { } # keys shown: 0 9",
     ];
     let mut count = 0;
-    for (line, wanted) in text.lines().filter(|line| line.starts_with("routes")).zip(lines) {
+    for (line, wanted) in text
+        .lines()
+        .filter(|line| line.starts_with("routes"))
+        .zip(lines)
+    {
         same_in(count, line, wanted)?;
         count += 1;
     }

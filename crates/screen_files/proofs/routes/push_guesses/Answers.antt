@@ -36,5 +36,5 @@ returns c =
     record {
       appended = appended;
       are_some = ap not c.loop-digit.invariant.none
-      ∙ some_by_length c.args.out.now.items c.loop-digit.out.items (guessed_routes known page all) appended;
+          ∙ some_by_length c.args.out.now.items c.loop-digit.out.items (guessed_routes known page all) appended;
     }
