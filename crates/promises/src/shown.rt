@@ -16,8 +16,9 @@ ghost use Rattle.screens.specs.Looks.{looks};
 ghost use Rattle.screens.specs.declared.look.Look.{Look};
 ghost use Rattle.screens.specs.Writing.{written};
 ghost use Rattle.screens.specs.Text.{text};
-ghost use Rattle.screens.specs.Svg.{svg, svg_pieces};
-ghost use Rattle.screens.specs.Laws.{IsItsLines, IsSafe, raw, tags_of};
+ghost use Rattle.screens.specs.Svg.{picture, picture_pieces, svg, svg_pieces};
+ghost use Rattle.screens.specs.declared.look.Height.{Height};
+ghost use Rattle.screens.specs.Laws.{IsItsLines, IsRounded, IsSafe, raw, tags_of};
 ghost use Rattle.frame_screens.specs.Frames.{IsKeyed, IsWay};
 ghost use Rattle.frame_screens.specs.Screens.{screen_codes};
 ghost use Rattle.frame_screens.specs.Laws.{IsHeadlineSeen};
@@ -35,8 +36,8 @@ use frame_screens::{FrameList, NoScreen, frames_after, headline_is_seen, screen,
 use page_ids::{FrameId, Key};
 use screen_files::frames_show_screens;
 use screens::{
-    Looks, Writing, characters_are_safe, push_svg, push_text, screen_looks, svg_reads_back,
-    text_is_its_lines,
+    Looks, Writing, characters_are_safe, outlines_are_rounded, picture_reads_back, push_picture,
+    push_svg, push_text, screen_looks, svg_reads_back, text_is_its_lines,
 };
 use std::alloc::{AllocError, Global};
 
@@ -105,7 +106,21 @@ fn text_lines()
     text_is_its_lines();
 }
 
-fn picture_of(
+fn picture_of(out: &mut Vec<u8>, id: FrameId, looks: &Looks) -> Result<(), AllocError>
+    ensures { OnOk result (out.new.items ≡ out.old.items ++ picture id looks.now) }
+{
+    push_picture(out, id, looks)
+}
+
+// The letters of a picture are their dots, rounded.
+fn rounded_letters()
+    ensures { (h : Height) (c : ℕ) → IsRounded h c }
+{
+    outlines_are_rounded();
+}
+
+// That of an HTML file has letters as texts.
+fn page_picture_of(
     out: &mut Vec<u8>,
     id: FrameId,
     looks: &Looks,
@@ -118,6 +133,13 @@ fn picture_of(
 
 // A picture has its form's tags and no others, whatever a base holds.
 fn picture_tags()
+    ensures { (id : Id) (rows : List (List Look)) →
+        tags_of (picture id rows) ≡ map raw (picture_pieces id rows) }
+{
+    picture_reads_back();
+}
+
+fn page_picture_tags()
     ensures { (id : Id) (rows : List (List Look)) (cell : Option ℕ) →
         tags_of (svg id rows cell) ≡ map raw (svg_pieces id rows cell) }
 {
