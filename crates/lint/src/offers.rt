@@ -6,7 +6,7 @@ ghost use Rattle.lint.specs.Offers as spec;
 use crate::looks::{Look, holds_escape};
 use frame_records::Frame;
 use page_ids::FrameId;
-use screens::{Colour, Glyph, Height, Look as Cell, Looks, row_codes, screen_looks};
+use screens::{Colour, Glyph, Height, Look as Cell, row_codes, screen_looks};
 use std::alloc::{AllocError, Global};
 use terminal_codes::{Caret, Terminal, code_written};
 
@@ -174,12 +174,12 @@ fn shown(
     alloc: Global,
     frame: &Frame,
     cells: &[u8; 960],
-    rows: &Looks,
+    rows: &[[Cell; 40]; 24],
 ) -> Result<Vec<(FrameId, Look)>, AllocError>
     ensures { IfOk result (λ looks. looks.items ≡ spec.shown_from frame.now cells.now [] 0 rows.now) }
 {
     let mut looks = Vec::new(alloc);
-    for (row, shown) in rows.rows().iter().enumerate() {
+    for (row, shown) in rows.iter().enumerate() {
         add_shown(frame, cells, row, shown_column(true, shown), &mut looks)?;
     }
     Ok(looks)
@@ -278,11 +278,11 @@ fn add_line(line: Option<MenuLine>, menu: &mut Vec<MenuLine>) -> Result<(), Allo
     Ok(())
 }
 
-fn menu_of(alloc: Global, rows: &Looks) -> Result<Vec<MenuLine>, AllocError>
+fn menu_of(alloc: Global, rows: &[[Cell; 40]; 24]) -> Result<Vec<MenuLine>, AllocError>
     ensures { IfOk result (λ menu. menu.items ≡ spec.menu_of rows.now) }
 {
     let mut menu = Vec::new(alloc);
-    for (row, cells) in rows.rows().iter().enumerate() {
+    for (row, cells) in rows.iter().enumerate() {
         add_line(menu_line(row, cells), &mut menu)?;
     }
     Ok(menu)
@@ -380,7 +380,7 @@ fn sights_on(
     alloc: Global,
     frame: &Frame,
     cells: &[u8; 960],
-    rows: &Looks,
+    rows: &[[Cell; 40]; 24],
 ) -> Result<Vec<(FrameId, Look)>, AllocError>
     ensures { IfOk result (λ looks. looks.items ≡ spec.sights_on frame.now cells.now rows.now) }
 {
@@ -397,7 +397,8 @@ fn sights_of(alloc: Global, frame: &Frame) -> Result<Vec<(FrameId, Look)>, Alloc
     terminal.run(b"\n");
     terminal.run(frame.body.as_slice());
     let cells = terminal.cells();
-    sights_on(alloc, frame, cells, &screen_looks(cells))
+    let looks = screen_looks(cells);
+    sights_on(alloc, frame, cells, looks.rows())
 }
 
 // Appends what may be wrong with what one sees of a frame.
