@@ -54,11 +54,7 @@ fn replacing(alloc: Global, at: Extent, text: &str) -> Result<Value, AllocError>
     })
 }
 
-fn replacement_value(
-    alloc: Global,
-    extent: Extent,
-    text: &[u8],
-) -> Result<Value, AllocError>
+fn replacement_value(alloc: Global, extent: Extent, text: &[u8]) -> Result<Value, AllocError>
     ensures value { IfOk result (λ value. view value ≡ spec.replacing_data extent (utf8_lossy text.now)) }
     ensures no_feed { IfOk result (λ value. count_by (λ byte. byte == 10) (compact_text (view value)) ≡ 0) }
 {
@@ -175,5 +171,14 @@ pub fn push_object(
     let extent = lines.extent(finding.span);
     let fix = finding_fix(alloc, text, lines, finding)?;
     let words = &finding.words;
-    push_object_line(alloc, out, file, extent, finding.level, words, words.hint(), fix)
+    push_object_line(
+        alloc,
+        out,
+        file,
+        extent,
+        finding.level,
+        words,
+        words.hint(),
+        fix,
+    )
 }

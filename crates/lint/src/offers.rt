@@ -244,7 +244,13 @@ fn menu_here(row: usize, column: usize, first: &Cell, rest: &[Cell]) -> Option<M
         [] => None,
         [gap, more @ ..] => {
             let is_first = is_gap(gap) && has_words(more);
-            menu_if(row, column, first.foreground, is_first, digit_of(read_char(first)))
+            menu_if(
+                row,
+                column,
+                first.foreground,
+                is_first,
+                digit_of(read_char(first)),
+            )
         }
     }
 }

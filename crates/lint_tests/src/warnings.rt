@@ -212,14 +212,17 @@ fn a_row_that_shows_an_escape(rt: HostRuntime) -> Result<(), Fail> {
 // A line of a menu without a route, beside two that have theirs in the same column and colour.
 #[test]
 fn a_menu_offers_a_key_without_a_route(rt: HostRuntime) -> Result<(), Fail> {
-    let offers =
-        "offers key 7, which has no route; add route 7, or begin the row with a word\n";
+    let offers = "offers key 7, which has no route; add route 7, or begin the row with a word\n";
     let third = format!(in rt.alloc(); "@5:28: warning: MENU: row 3 of frame 1a {offers}")?;
     let body = format!(in rt.alloc(); "@5:29: warning: MENU: row 3 of frame 1a {offers}")?;
     let frame = "[[frame]]\nid = '1a'\nroutes = { 1 = 1, 2 = 1 }\n";
     let rows = [
         ("rows = ['1 Sand', '2 Sea', '7 Crew']\n", third.as_str(), 1),
-        ("body = \"1 Sand\\r\\n2 Sea\\r\\n7 Crew\"\n", body.as_str(), 1),
+        (
+            "body = \"1 Sand\\r\\n2 Sea\\r\\n7 Crew\"\n",
+            body.as_str(),
+            1,
+        ),
         ("rows = ['1 Sand', '2 Sea', ' 7 Crew']\n", "", 0),
         ("rows = ['1 Sand', '2 Sea', '7']\n", "", 0),
         ("rows = ['1 Sand', '2 Sea', '77 Crew']\n", "", 0),
@@ -243,7 +246,13 @@ fn a_menu_offers_a_key_without_a_route(rt: HostRuntime) -> Result<(), Fail> {
     for (shown, wanted, warnings) in &rows {
         let text = ["entry = 1\n", frame, *shown].concat(rt.alloc())?;
         let lines = wanted.replace(rt.alloc(), "@", "b.toml:")?;
-        prints(rt.alloc(), &text, &policy(5, 9, "")?, lines.as_str(), (0, *warnings))?;
+        prints(
+            rt.alloc(),
+            &text,
+            &policy(5, 9, "")?,
+            lines.as_str(),
+            (0, *warnings),
+        )?;
     }
     Ok(())
 }
@@ -252,7 +261,8 @@ fn a_menu_offers_a_key_without_a_route(rt: HostRuntime) -> Result<(), Fail> {
 #[test]
 fn a_closed_frame_that_no_way_seeks(rt: HostRuntime) -> Result<(), Fail> {
     let top = "[[frame]]\nid = '1a'\nroutes.7 = 7\nrows = []\n";
-    let closed = "[[frame]]\nid = '7a'\ngroup = 3\nnext = true\nrows = []\n[[frame]]\nid = '7b'\ngroup = 3\nroutes = { 0 = 7 }\nrows = []\n";
+    let closed =
+        "[[frame]]\nid = '7a'\ngroup = 3\nnext = true\nrows = []\n[[frame]]\nid = '7b'\ngroup = 3\nroutes = { 0 = 7 }\nrows = []\n";
     let more = "[[frame]]\nid = '8a'\ngroup = 3\nroutes = { 0 = 7 }\nrows = []\n";
     let text = ["entry = 1\n", top, closed, more].concat(rt.alloc())?;
     prints(

@@ -163,21 +163,14 @@ pub fn shown_escape_words(
     push_shown_escape(&mut message, id, row)?;
     let hint = hint_of(
         alloc,
-        &[Text(
-            "an escape is one \\, u and four digits, in double quotation marks",
-        )],
+        &[Text("an escape is one \\, u and four digits, in double quotation marks")],
     )?;
     let about = About::key(alloc, Some(id), shown.name())?;
     Ok(Words::new(Code::Escape, about, Line::of(alloc, &message)?, hint))
 }
 
 /// The words of a row of the screen, counted from 0, that begins with a digit which has no route.
-pub fn menu_words(
-    alloc: Global,
-    id: FrameId,
-    row: usize,
-    digit: u8,
-) -> Result<Words, AllocError>
+pub fn menu_words(alloc: Global, id: FrameId, row: usize, digit: u8) -> Result<Words, AllocError>
     ensures { IfOk result (λ words. words ≡ menu_words id row digit) }
 {
     let digit = u64::from(digit);
