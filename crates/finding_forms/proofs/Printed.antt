@@ -74,6 +74,8 @@ code_plain code.Unreached = refl
 code_plain code.Hidden = refl
 code_plain code.LineEnd = refl
 code_plain code.Escape = refl
+code_plain code.Menu = refl
+code_plain code.Unsought = refl
 
 IsLine-hint : (hint : Option (List ℕ)) → IfSome hint IsLine → IsLine (line_hint hint)
 IsLine-hint None is = IsLine-plain [] refl

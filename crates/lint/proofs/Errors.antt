@@ -12,11 +12,11 @@ use Rattle.lint.specs.declared.finding.Level.TheVariants.{Error, Warning}
 use Rattle.lint.specs.Findings.{FindingView, warning_at, same_level, count_of, AreInOrder}
 use Rattle.lint.specs.Lint.{Subject, Length, Toml, Text, Whole, finding_of, ranks_of, finds_none, frame_ids, table_of, unreached, warning, warning_if, unreached_findings, look_in, look_finding, look_findings, fault_finding, text_tables, IsAudited}
 use Rattle.lint_words.specs.FaultWords.{none_reached_words}
-use Rattle.lint_words.specs.WarningWords.{line_end_words, escape_words}
+use Rattle.lint_words.specs.WarningWords.{line_end_words, escape_words, shown_escape_words, menu_words, unsought_words}
 use Rattle.lint_words.specs.WordsOf.{WordsView}
 use Rattle.toml_places.specs.declared.spans.Span.{Span}
 use Rattle.lint.specs.Tables.{TableView, table_at}
-use Rattle.lint.specs.Spots.{has_rows, entry_span, single_at, line_end_at}
+use Rattle.lint.specs.Spots.{has_rows, entry_span, single_at, line_end_at, sight_span, shown_field, named_span}
 use Rattle.lint.specs.declared.looks.Look.{Look}
 use Rattle.lint.specs.declared.looks.Look.TheVariants.{Hidden, Escape, EndsLine, Shown, Offers, Unsought}
 use Rattle.lint.specs.AllLooks.{all_looks}
@@ -57,9 +57,10 @@ module _ (text : List ℕ) (ms : List Mark) (tables : List (Id × ℕ)) where
   no_look_error table id (Hidden row) = warning_or_none (has_rows table) _ refl
   no_look_error table id (Escape row) = warning_if_span (single_at table row) (escape_words id row)
   no_look_error table id (EndsLine end index) = warning_if_span (line_end_at table end index) (line_end_words id end)
-  no_look_error table id (Shown row at escaped) = none_or_warning (escaped && is_some (single_at table row)) _ refl
-  no_look_error table id (Offers row at digit) = one_warning _ refl
-  no_look_error table id (Unsought group) = one_warning _ refl
+  no_look_error table id (Shown row at escaped) =
+      none_or_warning (escaped && is_some (single_at table row)) (warning_at (sight_span table row at) (shown_escape_words id row (shown_field table))) refl
+  no_look_error table id (Offers row at digit) = one_warning (warning_at (sight_span table row at) (menu_words id row digit)) refl
+  no_look_error table id (Unsought group) = one_warning (warning_at (named_span table) (unsought_words id group)) refl
 
   no_look_errors : (looks : List (Id × Look)) → errors (look_findings text ms tables looks) ≡ 0
   no_look_errors [] = refl

@@ -75,6 +75,12 @@ is_gap_cell a = read_char a == 0x20
 abbrev pub shows_character : Cell → Bool
 shows_character a = not (is_gap_cell a)
 
+abbrev pub has_words : List Cell → Bool
+has_words cells = list_any shows_character cells
+
+abbrev pub has_blocks : List Cell → Bool
+has_blocks cells = list_any shows_block cells
+
 -- the column of the first of the last cells of a row
 abbrev pub column_of : List Cell → ℕ
 column_of cells = 40 - length cells
@@ -94,8 +100,8 @@ may_open c = (c == 0xBD) || ((c == 0x2F) || ((c == 0x22) || (c == 0x27)))
 -- the column of the first one; one may come first of the cells, or not
 abbrev pub shown_column : Bool → List Cell → Option ℕ
 shown_column may [] = None
-shown_column may (a ∷ as) =
-    if may && begins_shown (a ∷ as) then Some (column_of (a ∷ as)) else shown_column (may_open (read_char a)) as
+shown_column may (a ∷ more) =
+    if may && begins_shown (a ∷ more) then Some (column_of (a ∷ more)) else shown_column (may_open (read_char a)) more
 
 abbrev pub shown_look : Frame → List ℕ → ℕ → Option ℕ → List (Id × Look)
 shown_look f cells r None = []
@@ -132,16 +138,16 @@ menu_if r column colour is_first (Some digit) =
 
 abbrev pub menu_here : ℕ → ℕ → Cell → List Cell → Option MenuLine
 menu_here r column a [] = None
-menu_here r column a (b ∷ bs) = menu_if r column a.foreground (is_gap_cell b && list_any shows_character bs) (char_digit (read_char a))
+menu_here r column a (b ∷ bs) = menu_if r column a.foreground (is_gap_cell b && has_words bs) (char_digit (read_char a))
 
 -- by the first word of the last cells of a row
 abbrev pub menu_after : ℕ → List Cell → Option MenuLine
 menu_after r [] = None
-menu_after r (a ∷ as) = if is_gap_cell a then menu_after r as else menu_here r (column_of (a ∷ as)) a as
+menu_after r (a ∷ more) = if is_gap_cell a then menu_after r more else menu_here r (column_of (a ∷ more)) a more
 
 -- a row between the service rows, without mosaics, whose first word is a single digit and has more words after it
 abbrev pub menu_line : ℕ → List Cell → Option MenuLine
-menu_line r cells = if (nat_le 1 r && nat_le r 22) && not (list_any shows_block cells) then menu_after r cells else None
+menu_line r cells = if (nat_le 1 r && nat_le r 22) && not (has_blocks cells) then menu_after r cells else None
 
 abbrev pub listed_line : Option MenuLine → List MenuLine
 listed_line None = []
@@ -190,12 +196,21 @@ may_show_routed f b = is_ascii_digit (b % 128) && has_route f (b % 128 - 0x30)
 abbrev pub may_show_unrouted : Frame → ℕ → Bool
 may_show_unrouted f b = is_ascii_digit (b % 128) && not (has_route f (b % 128 - 0x30))
 
+abbrev pub holds_routed : Frame → List ℕ → Bool
+holds_routed f body = list_any (may_show_routed f) body
+
+abbrev pub holds_unrouted : Frame → List ℕ → Bool
+holds_unrouted f body = list_any (may_show_unrouted f) body
+
 abbrev pub may_have_menu : Frame → Bool
-may_have_menu f = list_any (may_show_routed f) f.body && list_any (may_show_unrouted f) f.body
+may_have_menu f = holds_routed f f.body && holds_unrouted f f.body
+
+abbrev pub holds_u : List ℕ → Bool
+holds_u body = list_any (may_show 0x75) body
 
 -- without a u it shows no escape, and without digits of both kinds it has no menu that offers too much
 abbrev pub needs_looks : Frame → Bool
-needs_looks f = list_any (may_show 0x75) f.body || may_have_menu f
+needs_looks f = holds_u f.body || may_have_menu f
 
 abbrev pub sights_on : Frame → List ℕ → List (List Cell) → List (Id × Look)
 sights_on f cells rows = offers_from f (menu_of rows) (shown_from f cells [] 0 rows) (menu_of rows)

@@ -1,12 +1,12 @@
 //! What one sees of a frame alone, on a cleared screen: escapes that are shown as they are written, and menus.
 
-ghost use Rattle.std.specs.Prelude.{◌≡◌, ◌++◌, [], IfOk, OnOk, Some};
+ghost use Rattle.std.specs.Prelude.{◌≡◌, ◌++◌, ◌<◌, [], true, IfOk, OnOk};
 ghost use Rattle.lint.specs.Offers as spec;
 
 use crate::looks::{Look, holds_escape};
 use frame_records::Frame;
 use page_ids::FrameId;
-use screens::{Colour, Glyph, Height, Look as Cell, Looks, row_codes, screen_looks};
+use screens::{Colour, Glyph, Height, Look as Cell, row_codes, screen_looks};
 use std::alloc::{AllocError, Global};
 use terminal_codes::{Caret, Terminal, code_written};
 
@@ -174,12 +174,12 @@ fn shown(
     alloc: Global,
     frame: &Frame,
     cells: &[u8; 960],
-    rows: &Looks,
+    rows: &[[Cell; 40]; 24],
 ) -> Result<Vec<(FrameId, Look)>, AllocError>
     ensures { IfOk result (λ looks. looks.items ≡ spec.shown_from frame.now cells.now [] 0 rows.now) }
 {
     let mut looks = Vec::new(alloc);
-    for (row, shown) in rows.rows().iter().enumerate() {
+    for (row, shown) in rows.iter().enumerate() {
         add_shown(frame, cells, row, shown_column(true, shown), &mut looks)?;
     }
     Ok(looks)
@@ -230,6 +230,12 @@ fn menu_if(
     }
 }
 
+fn has_words(cells: &[Cell]) -> bool
+    ensures { result ≡ spec.has_words cells.now }
+{
+    cells.iter().any(|cell| !is_gap(cell))
+}
+
 // The line of a row whose first word begins with a cell.
 fn menu_here(row: usize, column: usize, first: &Cell, rest: &[Cell]) -> Option<MenuLine>
     ensures { result ≡ spec.menu_here row column first.now rest.now }
@@ -237,7 +243,7 @@ fn menu_here(row: usize, column: usize, first: &Cell, rest: &[Cell]) -> Option<M
     match rest {
         [] => None,
         [gap, more @ ..] => {
-            let is_first = is_gap(gap) && more.iter().any(|cell| !is_gap(cell));
+            let is_first = is_gap(gap) && has_words(more);
             menu_if(
                 row,
                 column,
@@ -264,11 +270,17 @@ fn menu_after(row: usize, cells: &[Cell]) -> Option<MenuLine>
     }
 }
 
+fn has_blocks(cells: &[Cell]) -> bool
+    ensures { result ≡ spec.has_blocks cells.now }
+{
+    cells.iter().any(|cell| shows_block(cell))
+}
+
 // The line of a row between the service rows, without mosaics.
 fn menu_line(row: usize, cells: &[Cell]) -> Option<MenuLine>
     ensures { result ≡ spec.menu_line row cells.now }
 {
-    if row >= 1 && row <= 22 && !cells.iter().any(|cell| shows_block(cell)) {
+    if row >= 1 && row <= 22 && !has_blocks(cells) {
         menu_after(row, cells)
     } else {
         None
@@ -284,11 +296,11 @@ fn add_line(line: Option<MenuLine>, menu: &mut Vec<MenuLine>) -> Result<(), Allo
     Ok(())
 }
 
-fn menu_of(alloc: Global, rows: &Looks) -> Result<Vec<MenuLine>, AllocError>
+fn menu_of(alloc: Global, rows: &[[Cell; 40]; 24]) -> Result<Vec<MenuLine>, AllocError>
     ensures { IfOk result (λ menu. menu.items ≡ spec.menu_of rows.now) }
 {
     let mut menu = Vec::new(alloc);
-    for (row, cells) in rows.rows().iter().enumerate() {
+    for (row, cells) in rows.iter().enumerate() {
         add_line(menu_line(row, cells), &mut menu)?;
     }
     Ok(menu)
@@ -365,20 +377,36 @@ fn may_show_unrouted(frame: &Frame, byte: u8) -> bool
     code.is_ascii_digit() && !has_route(frame, code.saturating_sub(0x30))
 }
 
+fn holds_routed(frame: &Frame, body: &[u8]) -> bool
+    ensures { result ≡ spec.holds_routed frame.now body.now }
+{
+    body.iter().any(|byte| may_show_routed(frame, *byte))
+}
+
+fn holds_unrouted(frame: &Frame, body: &[u8]) -> bool
+    ensures { result ≡ spec.holds_unrouted frame.now body.now }
+{
+    body.iter().any(|byte| may_show_unrouted(frame, *byte))
+}
+
 fn may_have_menu(frame: &Frame) -> bool
     ensures { result ≡ spec.may_have_menu frame.now }
 {
     let body = frame.body.as_slice();
-    body.iter().any(|byte| may_show_routed(frame, *byte))
-        && body.iter().any(|byte| may_show_unrouted(frame, *byte))
+    holds_routed(frame, body) && holds_unrouted(frame, body)
+}
+
+fn holds_u(body: &[u8]) -> bool
+    ensures { result ≡ spec.holds_u body.now }
+{
+    body.iter().any(|byte| *byte % 128 == b'u')
 }
 
 // Whether one has to see the screen: without a u it shows no escape.
 fn needs_looks(frame: &Frame) -> bool
     ensures { result ≡ spec.needs_looks frame.now }
 {
-    let body = frame.body.as_slice();
-    body.iter().any(|byte| *byte % 128 == b'u') || may_have_menu(frame)
+    holds_u(frame.body.as_slice()) || may_have_menu(frame)
 }
 
 // The cells of a screen, as one sees them.
@@ -386,7 +414,7 @@ fn sights_on(
     alloc: Global,
     frame: &Frame,
     cells: &[u8; 960],
-    rows: &Looks,
+    rows: &[[Cell; 40]; 24],
 ) -> Result<Vec<(FrameId, Look)>, AllocError>
     ensures { IfOk result (λ looks. looks.items ≡ spec.sights_on frame.now cells.now rows.now) }
 {
@@ -403,7 +431,8 @@ fn sights_of(alloc: Global, frame: &Frame) -> Result<Vec<(FrameId, Look)>, Alloc
     terminal.run(b"\n");
     terminal.run(frame.body.as_slice());
     let cells = terminal.cells();
-    sights_on(alloc, frame, cells, &screen_looks(cells))
+    let looks = screen_looks(cells);
+    sights_on(alloc, frame, cells, looks.rows())
 }
 
 // Appends what may be wrong with what one sees of a frame.

@@ -85,7 +85,7 @@ fn push_shown_escape(out: &mut Vec<u8>, id: FrameId, row: usize) -> Result<(), A
     )
 }
 
-fn push_menu(out: &mut Vec<u8>, id: FrameId, row: usize, digit: u8) -> Result<(), AllocError>
+fn push_menu(out: &mut Vec<u8>, id: FrameId, row: usize, digit: u64) -> Result<(), AllocError>
     ensures { OnOk result (out.new.items ≡ out.old.items ++ menu_message id row digit) }
 {
     push_pieces(
@@ -93,7 +93,7 @@ fn push_menu(out: &mut Vec<u8>, id: FrameId, row: usize, digit: u8) -> Result<()
         &[
             Item(Field::Rows, row, Some(id)),
             Text(" offers key "),
-            Number(u64::from(digit)),
+            Number(digit),
             Text(", which has no route"),
         ],
     )
@@ -173,13 +173,14 @@ pub fn shown_escape_words(
 pub fn menu_words(alloc: Global, id: FrameId, row: usize, digit: u8) -> Result<Words, AllocError>
     ensures { IfOk result (λ words. words ≡ menu_words id row digit) }
 {
+    let digit = u64::from(digit);
     let mut message = Vec::new(alloc);
     push_menu(&mut message, id, row, digit)?;
     let hint = hint_of(
         alloc,
         &[
             Text("add route "),
-            Number(u64::from(digit)),
+            Number(digit),
             Text(", or begin the row with a word"),
         ],
     )?;
