@@ -18,9 +18,9 @@ space_kept : (c : ℕ) → IsCode c → is_space_byte c ≡ true → is_space_by
 space_kept c is e =
     let other : (c == 0xA0) ≡ false = grind (arith, nat_tests, is.1) in
     by (c == 0x20) refl (rw other at e) where
-  by : (b : Bool) → (c == 0x20) ≡ b → ((c == 0x20) || false) ≡ true → is_space_byte (low_bits c) ≡ true
-  by true f g = rw (eqb-true c 0x20 f) refl
-  by false f g = let none = rw f at g in absurd cc
+      by : (b : Bool) → (c == 0x20) ≡ b → ((c == 0x20) || false) ≡ true → is_space_byte (low_bits c) ≡ true
+      by true f g = rw (eqb-true c 0x20 f) refl
+      by false f g = let none = rw f at g in absurd cc
 
 or_true : (b : Bool) → (b || true) ≡ true
 or_true true = refl

@@ -10,8 +10,8 @@ use crate::codes::{begins_ep1, saved_codes};
 use crate::filed::{Filed, Origin, ScreenPlace};
 use crate::frame::ScreenFrame;
 use crate::head::{name_id, screen_head};
-use crate::text_screens::{found_links, found_pages};
 use crate::settling::{Settled, settle};
+use crate::text_screens::{found_links, found_pages};
 use screen_forms::{FaultyLine, has_address, is_sheet};
 use std::alloc::{AllocError, Global};
 

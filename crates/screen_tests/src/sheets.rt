@@ -10,7 +10,8 @@ use std::test::Fail;
 use test_support::{same, same_in};
 
 // The file of the example, without the spaces of its rows.
-const EXAMPLE: &str = "DE,478a\r\nPN,47801\r\nSC,0001\r\nPS,8000\r\nRE,0\r\nOL,0,                               478a   5p\r\nOL,1,\u{1b}AHELLO";
+const EXAMPLE: &str =
+    "DE,478a\r\nPN,47801\r\nSC,0001\r\nPS,8000\r\nRE,0\r\nOL,0,                               478a   5p\r\nOL,1,\u{1b}AHELLO";
 
 #[test]
 fn the_sheet_of_the_example(rt: HostRuntime) -> Result<(), Fail> {
@@ -45,8 +46,20 @@ const PAGES: [(&str, usize, Option<&str>, usize, &[u8]); 10] = [
     ("\nOL,01,A,B\nSC,1", 2, None, 40, b"A,B "),
     ("OL,1,ABC\nOL,1,D\nFL,1,2", 1, None, 40, b"D  "),
     ("OL,1,ABC\nOL,1\n", 1, None, 40, b"   "),
-    ("OL,0,\u{1b}A\u{10}\u{1b}`\u{1}B", 1, None, 0, b"\x81\x8d\x9b`\x81B "),
-    ("OL,2,A2345678901234567890123456789012345678Z!X", 1, None, 80, b"A2345678901234567890123456789012345678Z!"),
+    (
+        "OL,0,\u{1b}A\u{10}\u{1b}`\u{1}B",
+        1,
+        None,
+        0,
+        b"\x81\x8d\x9b`\x81B ",
+    ),
+    (
+        "OL,2,A2345678901234567890123456789012345678Z!X",
+        1,
+        None,
+        80,
+        b"A2345678901234567890123456789012345678Z!",
+    ),
     ("OL,1,A\rB\r\r\n", 1, None, 40, b"A\x8dB\x8d "),
 ];
 
@@ -82,7 +95,11 @@ fn the_first_row_without_a_number_is_named(rt: HostRuntime) -> Result<(), Fail> 
     for (text, line) in BAD_ROWS {
         let fault = TextLineFault::Row;
         let wanted = TextScreensFault::Line(FaultyLine { line, fault });
-        same_in(text, sheet_screens(alloc, text.as_bytes()).err(), Some(wanted))?;
+        same_in(
+            text,
+            sheet_screens(alloc, text.as_bytes()).err(),
+            Some(wanted),
+        )?;
     }
     same(is_sheet(b"OL\n PN,\nol,1"), false)
 }
