@@ -54,15 +54,16 @@ def found(folder: Path, text: str, *caller: str) -> list[Said]:
 def fixed_alone(test: Test, name: str, text: str, *caller: str) -> list[str]:
     """The texts that each fix alone makes of a text. In each the finding is gone and no other has come.
 
-    Of a text that isn't TOML others may come, since reading goes on.
+    Of a text that isn't TOML others may come, since reading goes on: the first fault has another place then.
     """
     before, texts = found(test.folder, text, *caller), list[str]()
     for said in before:
         if said.fix is None:
             continue
         texts.append(said.fix.applied(text))
-        after = Counter(one.words for one in found(test.folder, texts[-1], *caller))
+        again = found(test.folder, texts[-1], *caller)
+        after = Counter(one.words for one in again)
         rest = Counter(one.words for one in before) - Counter([said.words])
-        come = after - rest if said.code != "X2" else Counter({said.words: after[said.words]})
-        test.check(not +come, f"{name}: {said.words} is fixed by {said.fix}, and then there is {+come}")
+        come = after - rest if said.code != "X2" else Counter(one for one in again if one == said)
+        test.check(not +come, f"{name}: {said} is made alone, and then there is {+come}")
     return texts
