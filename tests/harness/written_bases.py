@@ -579,7 +579,11 @@ class FaultyWalks(Written):
             for name, before, words in self.shown(frame):
                 begin, end = self.span(frame, name)
                 piece, start = self.sheet.text[begin:end], self.sheet.text[:begin]
-                if start.endswith(before) and (piece == "\n" or name[0] == "rows" and piece[0] == "'"):
+                if name[0] == "rows":
+                    is_bare = piece[0] == "'"
+                    how = "has \\u00 in single quotation marks, which is shown as it is"
+                    yield begin, "warning", f"{words} {how if is_bare else 'shows an escape as it is written'}"
+                elif start.endswith(before) and piece == "\n":
                     yield begin, "warning", words
 
     def shown(self, frame: Frame) -> Iterator[tuple[Name, str, str]]:
@@ -593,8 +597,7 @@ class FaultyWalks(Written):
             yield ("body", RETURNS[body], "character"), "\r", f"{line} {how}"
         for at, row in enumerate(frame.rows):
             if "\\u00" in str(row):
-                words = f"row {at + 1} of frame {frame.id} has \\u00 in single quotation marks, which is shown as it is"
-                yield ("rows", at, "value"), "", f"ESCAPE: {words}"
+                yield ("rows", at, "value"), "", f"ESCAPE: row {at + 1} of frame {frame.id}"
 
     def leave_unsought(self) -> None:
         """Warnings of the frames that are closed to the caller and to which no way leads."""
