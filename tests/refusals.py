@@ -195,15 +195,16 @@ def fault_of(crate: Any, texts: Mapping[Path, str], paths: Collection[str], said
 
 
 def batches(tried: Iterable[Edit]) -> Iterator[tuple[list[Edit], dict[Path, str]]]:
-    """Edits that can be tried together: no function is changed twice, and each text can still be changed. With their
-    texts.
+    """Edits that can be tried together, with their texts: no function is changed twice, no name of one is the end of
+    another's, and each text can still be changed.
     """
     waiting = list(tried)
     while waiting:
         batch, texts, taken, later = list[Edit](), dict[Path, str](), set[str](), list[Edit]()
         for edit in waiting:
             paths = set(edit.paths())
-            applied = None if paths & taken else edit.applied(texts)
+            clash = any(is_of(one, other) or is_of(other, one) for one in paths for other in taken)
+            applied = None if clash else edit.applied(texts)
             if applied is None:
                 later.append(edit)
             else:
