@@ -42,21 +42,25 @@ fix_data text None = null
 fix_data text (Some r) = replacing_data (extent text (record { begin = r.begin; end = r.end })) (utf8_lossy r.text)
 
 -- the members of an object are in the order of their keys
-abbrev pub object_data : List ℕ → Extent → Level → WordsView → Option (List ℕ) → Data → Data
-object_data file e level words hint fix =
+abbrev pub object_with : List ℕ → Extent → Level → WordsView → Data → Data → Data → Data → Data → Data
+object_with file e level words fix frame hint key keys =
     object (member (codes "code") (string (code_word words.code))
     (member (codes "column") (number_data e.column)
     (member (codes "end_column") (number_data e.end_column)
     (member (codes "end_line") (number_data e.end_line)
     (member (codes "file") (string file)
     (member (codes "fix") fix
-    (member (codes "frame") (frame_data words.about.frame)
-    (member (codes "hint") (text_data hint)
-    (member (codes "key") (text_data words.about.key)
-    (member (codes "keys") (text_data words.about.keys)
+    (member (codes "frame") frame
+    (member (codes "hint") hint
+    (member (codes "key") key
+    (member (codes "keys") keys
     (member (codes "level") (string (level_text level))
     (member (codes "line") (number_data e.line)
     (member (codes "message") (string words.message) no_members)))))))))))))
+
+abbrev pub object_data : List ℕ → Extent → Level → WordsView → Option (List ℕ) → Data → Data
+object_data file e level words hint fix =
+    object_with file e level words fix (frame_data words.about.frame) (text_data hint) (text_data words.about.key) (text_data words.about.keys)
 
 -- serde_json's text of it, with some hint or none, and the fix if it has one that is certain; the path is as given, with U+FFFD in place of what isn't UTF-8
 pub record IsObject (path text : List ℕ) (f : FindingView) (line : List ℕ) : Type 0 where

@@ -38,6 +38,7 @@ fn push_coloured_level(out: &mut Vec<u8>, level: Level) -> Result<(), AllocError
     push_end_shade(out)
 }
 
+#[tactic(auto, using(std::proofs::Common::append_assoc))]
 fn push_coloured_line(
     out: &mut Vec<u8>,
     path: &Line,

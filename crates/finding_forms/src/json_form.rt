@@ -98,23 +98,34 @@ fn finding_fix(
     fix_value(alloc, lines, certain_fix(alloc, text, finding)?)
 }
 
-fn object(
+// The members that may be null.
+#[derive(Drop)]
+struct Parts {
+    fix: Value,
+    frame: Value,
+    hint: Value,
+    key: Value,
+    keys: Value,
+}
+
+fn object_with(
     alloc: Global,
     file: &str,
     extent: Extent,
     level: Level,
     words: &Words,
-    hint: Option<&Line>,
-    fix: Value,
+    parts: Parts,
 ) -> Result<Value, AllocError>
-    ensures { IfOk result (λ value. view value
-        ≡ spec.object_data file.now extent level words.now (option_copied hint.entry) (view fix)) }
+    ensures { IfOk result (λ value. view value ≡ spec.object_with file.now extent level words.now
+        (view parts.fix) (view parts.frame) (view parts.hint) (view parts.key) (view parts.keys)) }
 {
-    let about = words.about();
-    let frame = frame_value(alloc, about.frame)?;
-    let hint = text_value(alloc, hint)?;
-    let key = text_value(alloc, about.key.as_ref())?;
-    let keys = text_value(alloc, about.keys.as_ref())?;
+    let Parts {
+        fix,
+        frame,
+        hint,
+        key,
+        keys,
+    } = parts;
     json!(in alloc; {
         "code": words.code().word(),
         "column": extent.column,
@@ -130,6 +141,29 @@ fn object(
         "line": extent.line,
         "message": words.message().as_str()
     })
+}
+
+fn object(
+    alloc: Global,
+    file: &str,
+    extent: Extent,
+    level: Level,
+    words: &Words,
+    hint: Option<&Line>,
+    fix: Value,
+) -> Result<Value, AllocError>
+    ensures { IfOk result (λ value. view value
+        ≡ spec.object_data file.now extent level words.now (option_copied hint.entry) (view fix)) }
+{
+    let about = words.about();
+    let parts = Parts {
+        fix,
+        frame: frame_value(alloc, about.frame)?,
+        hint: text_value(alloc, hint)?,
+        key: text_value(alloc, about.key.as_ref())?,
+        keys: text_value(alloc, about.keys.as_ref())?,
+    };
+    object_with(alloc, file, extent, level, words, parts)
 }
 
 fn push_object_line(

@@ -133,8 +133,10 @@ fn add_listed(known: &mut Known, listed: &[Listed]) -> Result<(), AllocError>
     ensures { OnOk result ((id : Id) → knows_frame known.new id
         ≡ (spec.lists_frame listed.now id || knows_frame known.old id)) }
 {
-    for listed in listed {
-        known.add(listed.frame.id)?;
+    let mut rest = listed;
+    while let Some((one, more)) = rest.split_first() {
+        known.add(one.frame.id)?;
+        rest = more;
     }
     Ok(())
 }
