@@ -6,7 +6,7 @@ use Rattle.std.proofs.lemmas.Bool.Decides.{nat_tests}
 use Rattle.std.proofs.lemmas.Fmt.{decimal_is_IsNumeral}
 use Rattle.json.specs.Print.{escape_byte, escape, quoted}
 use Rattle.serde_json.specs.Data.{Data, Members, string, member, no_members}
-use Rattle.serde_json.specs.Written.{comma_if, compact_text, members_text}
+use Rattle.serde_json.specs.Written.{comma_if, compact_text, has_float, members_text}
 use Rattle.page_ids.specs.Ids.{Id}
 use Rattle.lint_words.specs.Codes.{code_word}
 use Rattle.lint_words.specs.WordsOf.{WordsView}
@@ -117,3 +117,18 @@ feeds_object file e level words hint fix a b c d no_fix =
     feeds-append (123 ∷ []) (members_text false from_code) in
     let brace : feeds (123 ∷ []) ≡ 0 = refl in
     omega (arith, all, brace, code_none)
+
+-- No number of an object is a float.
+
+no_float_text : (text : Option (List ℕ)) → has_float (text_data text) ≡ false
+no_float_text None = refl
+no_float_text (Some text) = refl
+
+no_float_frame : (frame : Option Id) → has_float (frame_data frame) ≡ false
+no_float_frame None = refl
+no_float_frame (Some id) = refl
+
+pub no_float_object : (file : List ℕ) (e : Extent) (level : Level) (words : WordsView) (hint : Option (List ℕ)) (fix : Data)
+    → has_float fix ≡ false → has_float (object_data file e level words hint fix) ≡ false
+no_float_object file e level words hint fix none =
+    rw (none, no_float_frame words.about.frame, no_float_text hint, no_float_text words.about.key, no_float_text words.about.keys) refl

@@ -1,5 +1,5 @@
 -- Lines that are printed of findings.
-use Rattle.std.proofs.Common.{◌≡◌, ℕ, suc, ◌+◌, ◌<◌, ◌^◌, true, not, ◌==◌, if◌then◌else◌, List, [], ◌∷◌, ◌++◌, codes, decimal, chars, length, refl, ap, ◌∙◌, arith, Option, Some, None, IfSome, Result, Ok, Err, OnOk}
+use Rattle.std.proofs.Common.{◌≡◌, ℕ, suc, ◌+◌, ◌<◌, ◌^◌, true, not, ◌==◌, if◌then◌else◌, List, [], ◌∷◌, ◌++◌, codes, decimal, chars, length, refl, ap, ◌∙◌, arith, Option, Some, None, IfSome, Result, Ok, Err, IfOk, OnOk}
 use Rattle.std.proofs.lemmas.Bool.{and_from, and_parts}
 use Rattle.std.specs.Prelude.{count_by}
 use Rattle.std.specs.List.{list_all}
@@ -168,6 +168,10 @@ whole format path text (f ∷ fs) out p (one, rest, is, are, joined) =
     }
 
 -- What a call gives if it isn't out of memory.
+
+pub if_ok : {A E : Type 0} {P Q : A → Type 0} (r : Result A E) → IfOk r P → ((a : A) → P a → Q a) → IfOk r Q
+if_ok (Ok a) p f = f a p
+if_ok (Err e) p f = tt
 
 pub always : {A E P : Type 0} (r : Result A E) → P → OnOk r P
 always (Ok a) p = p

@@ -1,9 +1,9 @@
 //! The form `json`.
 
-ghost use Rattle.std.specs.Prelude.{◌≡◌, ◌++◌, ℕ, List, codes, option_copied, IfOk, OnOk, count_by, ◌==◌};
+ghost use Rattle.std.specs.Prelude.{◌≡◌, ◌++◌, ℕ, List, codes, option_copied, IfOk, OnOk, count_by, false, ◌==◌, string_bytes};
 ghost use Rattle.std.specs.Str.Lossy.{utf8_lossy};
 ghost use Rattle.serde_json.specs.View.{view};
-ghost use Rattle.serde_json.specs.Written.{compact_text};
+ghost use Rattle.serde_json.specs.Written.{compact_text, has_float};
 ghost use Rattle.slip_fixes.specs.Certain.{certain_fix};
 ghost use Rattle.finding_forms.specs.JsonForm as spec;
 ghost use Rattle.finding_forms.specs.Loops as loops;
@@ -57,6 +57,7 @@ fn replacing(alloc: Global, at: Extent, text: &str) -> Result<Value, AllocError>
 fn replacement_value(alloc: Global, extent: Extent, text: &[u8]) -> Result<Value, AllocError>
     ensures value { IfOk result (λ value. view value ≡ spec.replacing_data extent (utf8_lossy text.now)) }
     ensures no_feed { IfOk result (λ value. count_by (λ byte. byte == 10) (compact_text (view value)) ≡ 0) }
+    ensures no_float { IfOk result (λ value. has_float (view value) ≡ false) }
 {
     let text = String::from_utf8_lossy(alloc, text)?;
     let value = replacing(alloc, extent, &text)?;
@@ -71,6 +72,7 @@ fn fix_value(
 ) -> Result<Value, AllocError>
     ensures value { IfOk result (λ value. view value ≡ spec.fix_data lines.now fix) }
     ensures no_feed { IfOk result (λ value. count_by (λ byte. byte == 10) (compact_text (view value)) ≡ 0) }
+    ensures no_float { IfOk result (λ value. has_float (view value) ≡ false) }
 {
     match fix {
         None => Ok(Value::Null),
@@ -94,6 +96,7 @@ fn finding_fix(
     requires { lines.now ≡ text.now }
     ensures value { IfOk result (λ value. view value ≡ spec.fix_data lines.now (certain_fix lines.now finding.now)) }
     ensures no_feed { IfOk result (λ value. count_by (λ byte. byte == 10) (compact_text (view value)) ≡ 0) }
+    ensures no_float { IfOk result (λ value. has_float (view value) ≡ false) }
 {
     fix_value(alloc, lines, certain_fix(alloc, text, finding)?)
 }
@@ -108,6 +111,7 @@ struct Parts {
     keys: Value,
 }
 
+// The members are put in from the last key on: each comes first then.
 fn object_with(
     alloc: Global,
     file: &str,
@@ -127,19 +131,19 @@ fn object_with(
         keys,
     } = parts;
     json!(in alloc; {
-        "code": words.code().word(),
-        "column": extent.column,
-        "end_column": extent.end_column,
-        "end_line": extent.end_line,
-        "file": file,
-        "fix": fix,
-        "frame": frame,
-        "hint": hint,
-        "key": key,
-        "keys": keys,
-        "level": level_text(level),
+        "message": words.message().as_str(),
         "line": extent.line,
-        "message": words.message().as_str()
+        "level": level_text(level),
+        "keys": keys,
+        "key": key,
+        "hint": hint,
+        "frame": frame,
+        "fix": fix,
+        "file": file,
+        "end_line": extent.end_line,
+        "end_column": extent.end_column,
+        "column": extent.column,
+        "code": words.code().word()
     })
 }
 
@@ -166,6 +170,29 @@ fn object(
     object_with(alloc, file, extent, level, words, parts)
 }
 
+fn object_text(
+    alloc: Global,
+    file: &str,
+    extent: Extent,
+    level: Level,
+    words: &Words,
+    hint: Option<&Line>,
+    fix: Value,
+) -> Result<String, AllocError>
+    requires { has_float (view fix) ≡ false }
+    ensures { IfOk result (λ text. string_bytes text ≡ compact_text (spec.object_data file.now extent level words.now
+        (option_copied hint.entry) (view fix))) }
+{
+    object(alloc, file, extent, level, words, hint, fix)?.to_string(alloc)
+}
+
+fn push_line(out: &mut Vec<u8>, text: &str) -> Result<(), AllocError>
+    ensures { OnOk result (out.new.items ≡ out.old.items ++ (text.now ++ codes "\n")) }
+{
+    out.extend_from_slice(text.as_bytes())?;
+    out.extend_from_slice(b"\n")
+}
+
 fn push_object_line(
     alloc: Global,
     out: &mut Vec<u8>,
@@ -176,7 +203,8 @@ fn push_object_line(
     hint: Option<&Line>,
     fix: Value,
 ) -> Result<(), AllocError>
-    requires { count_by (λ byte. byte == 10) (compact_text (view fix)) ≡ 0 }
+    requires no_feed { count_by (λ byte. byte == 10) (compact_text (view fix)) ≡ 0 }
+    requires no_float { has_float (view fix) ≡ false }
     ensures line { OnOk result (out.new.items ≡ out.old.items ++
         (compact_text (spec.object_data file.now extent level words.now
         (option_copied hint.entry) (view fix)) ++ codes "\n")) }
@@ -184,9 +212,8 @@ fn push_object_line(
         byte == 10) (compact_text (spec.object_data file.now extent level words.now
         (option_copied hint.entry) (view fix))) ≡ 0) }
 {
-    let text = object(alloc, file, extent, level, words, hint, fix)?.to_string(alloc)?;
-    out.extend_from_slice(text.as_bytes())?;
-    out.extend_from_slice(b"\n")
+    let text = object_text(alloc, file, extent, level, words, hint, fix)?;
+    push_line(out, text.as_str())
 }
 
 // The object of a finding.

@@ -11,5 +11,5 @@ returns-clause-no_feed c =
     let column : e.column < 2 ^ 64 = omega (arith, c.well_formed) in
     let end_line : e.end_line < 2 ^ 64 = omega (arith, c.well_formed) in
     let end_column : e.end_column < 2 ^ 64 = omega (arith, c.well_formed) in
-    always c.extend_from_slice-2.result
-    (feeds_object c.args.file.now e c.args.level c.args.words.now (option_copied c.args.hint) (view c.args.fix) line column end_line end_column c.requires)
+    always c.push_line.result
+    (feeds_object c.args.file.now e c.args.level c.args.words.now (option_copied c.args.hint) (view c.args.fix) line column end_line end_column c.requires.no_feed)
