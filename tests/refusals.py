@@ -237,16 +237,31 @@ def alone(crate: Any, edit: Edit) -> str | None:
     return fault_of(crate, texts, paths, of_paths(check(crate, texts, paths), paths))
 
 
-def judged(crate: Any, tried: Iterable[Edit]) -> Iterator[tuple[Edit, str | None]]:
-    """Each edit, and why it isn't refused for its meaning, or None. Those that change different functions are tried by
-    one check, of these functions alone; what such a check doesn't show is tried alone.
+Part = tuple[list[Edit], dict[Path, str] | None]
+
+
+def parts(tried: Iterable[Edit]) -> list[Part]:
+    """Edits as they are tried: those of other places than functions alone, which takes longest, and then batches with
+    their texts.
     """
     every = list(tried)
-    for batch, texts in batches(edit for edit in every if edit.is_of_functions()):
-        said = said_of_batch(crate, batch, texts)
-        for edit in batch:
-            why = verdict(said[edit.name])
-            yield edit, why and alone(crate, edit)
-    for edit in every:
-        if not edit.is_of_functions():
-            yield edit, alone(crate, edit)
+    single: list[Part] = [([edit], None) for edit in every if not edit.is_of_functions()]
+    return single + list(batches(edit for edit in every if edit.is_of_functions()))
+
+
+def judged_part(crate: Any, part: Part) -> list[tuple[Edit, str | None]]:
+    """Each edit of a part, and why it isn't refused for its meaning, or None. What a check of a batch doesn't show is
+    tried alone.
+    """
+    batch, texts = part
+    if texts is None:
+        return [(edit, alone(crate, edit)) for edit in batch]
+    said = said_of_batch(crate, batch, texts)
+    whys = {edit.name: verdict(said[edit.name]) for edit in batch}
+    return [(edit, whys[edit.name] and alone(crate, edit)) for edit in batch]
+
+
+def judged(crate: Any, tried: Iterable[Edit]) -> Iterator[tuple[Edit, str | None]]:
+    """Each edit, and why it isn't refused for its meaning, or None."""
+    for part in parts(tried):
+        yield from judged_part(crate, part)
