@@ -4,7 +4,7 @@ from collections.abc import Iterator
 from pathlib import Path
 
 from harness.edits import Change
-from refusals import FACT, UNTRIED, as_fact, fault_of, names_a_goal, of_paths
+from refusals import FACT, UNTRIED, as_fact, fault_of, names_a_goal, of_paths, verdict
 
 DIFFER = (
     "./proofs/key_text/keys_read/Answers.antt:18:5: error: `returns-in_default`: computed as far as they go, "
@@ -44,6 +44,9 @@ CHECKS = [
     ([ONLY_CALLS], UNTRIED),
     ([OTHER], UNTRIED),
 ]
+# What a check of two edits prints, and why that of each function isn't refused for its meaning.
+BATCH = ["fn page_ids::parts::cut: proved", LOOP, NOT_PROVED]
+OF_BATCH = [("key_text::keys_read", None), ("parts::cut", STILL_PROVED)]
 # What rt prints after "refused, as it must be", cut at 160 characters, and whether it names a goal.
 RT_LINES = [(ENSURES[:160], True), (LOOP[:160], True), (SOUGHT[:160], True), (DIFFER[:160], False), ("", False)]
 
@@ -70,6 +73,7 @@ def faults() -> Iterator[str | None]:
     rows: list[tuple[object, object]] = [
         (fault_of(None, {}, path, of_paths("\n".join(lines), path)), wanted) for lines, wanted in CHECKS
     ]
+    rows += [(verdict(of_paths("\n".join(BATCH), [name])), wanted) for name, wanted in OF_BATCH]
     answer = "proofs/key_text/keys_read/Answers.antt", "returns-in_default"
     rows.append((of_paths(f"{DIFFER}\n{NOT_PROVED}", path)[0].answers, [answer]))
     rows += [(names_a_goal(line), wanted) for line, wanted in RT_LINES]
