@@ -114,6 +114,8 @@ class Finding:
     """The keys that lead there from the entry page."""
     message: str
     hint: str | None
+    fix: dict[str, int | str] | None = None
+    """If only one text can have been meant: that `text`, and the span that it replaces, by these four names."""
 
 
 @dataclass(frozen=True)

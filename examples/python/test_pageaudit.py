@@ -200,7 +200,7 @@ class Lint(unittest.TestCase):
     def test_finds_a_fault_at_its_place(self) -> None:
         found = pageaudit.lint(b'entry = 1\n\n[[frame]]\nid = "1a"\nlead = "keep"\n', POLICY, file="own.toml")
         self.assertEqual(
-            [(it.file, it.line, it.column, it.level, it.code) for it in found], [("own.toml", 3, 1, "error", "X4")]
+            [(it.file, it.line, it.column, it.level, it.code) for it in found], [("own.toml", 4, 6, "error", "X4")]
         )
 
     def test_a_file_name_may_be_no_utf8(self) -> None:
@@ -210,7 +210,8 @@ class Lint(unittest.TestCase):
     def test_a_finding_has_what_json_has(self) -> None:
         (missing,) = pageaudit.lint(CLOSED, Policy(9_999, 65_535, [7]))
         message = "key 9 of frame 1231a leads to page 555, which has no frame a (keys 19)"
-        self.assertEqual(missing, Finding("MISSING", "error", "", 14, 21, 14, 28, "1231a", "9", "19", message, None))
+        hint = "write frame 555a, or list 555 in outside"
+        self.assertEqual(missing, Finding("MISSING", "error", "", 14, 21, 14, 28, "1231a", "9", "19", message, hint))
 
     def test_a_text_that_is_no_base_is_a_finding(self) -> None:
         self.assertEqual([type(it) for it in pageaudit.lint(b"\xff", POLICY)], [Finding])

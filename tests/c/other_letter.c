@@ -29,7 +29,7 @@ static void change_lines(char *text, size_t length) {
 
 static void change_prices(char *text, size_t length) {
     for (char *at = text; at + 4 < text + length; at++)
-        if (isdigit((unsigned char)*at) && memcmp(at + 1, "p</", 3) == 0) change_letter(at);
+        if (isdigit((unsigned char)*at) && (memcmp(at + 1, "p</", 3) == 0 || memcmp(at + 1, "p\n", 2) == 0)) change_letter(at);
 }
 
 // A file that isn't empty; what is no such file stays as it is.

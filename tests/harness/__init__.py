@@ -22,6 +22,7 @@ others.
 - copies.py, stand_in_kit.py, parts.py: copies of the repository, a stand-in for the kit, and the parts of ./test.
 - calls.py, call_cases.py: the program of single calls. refusing.py, peaks.py: runs with refused memory, and their
 peaks.
+- fixing.py: the fixes of findings, each made alone.
 - edits.py, promises.py, tried.py: the functions of the crates, what their promises reach, and their edits.
 - writing.py, written_bases.py, breaking.py: random texts whose faults and spans are known, and broken ones.
 """

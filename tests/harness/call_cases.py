@@ -167,8 +167,9 @@ UNWRITTEN = "output: write failed after {} bytes"
 CELLS = f"{'123a':>35}{'0p':>5}{'WELCOME':<920}"
 SHOWN = f"{'1231b':>35}{'0p':>5}\nPART TWO" + "\n" * 23
 PART_TWO = f"{'1231b':>35}{'0p':>5}{'PART TWO':<920}"
-# A saved screen, what a centre sent, and the base of either.
+# A saved screen, as a dump and as TTI, what a centre sent, and the base of each.
 SCREEN = f"{'THE HERALD':<28}{'478a':>7}{'0p':>5}{'1 News':<920}"
+SHEET = file_of("tti", FrameId(478, "a"), SCREEN.encode()).decode()
 STREAM = "\x0c\x1e\x0a1 News"
 SCREEN_BASE = TEXTS["SCREEN_BASE"]
 
@@ -310,7 +311,7 @@ def large_cases(files: Mapping[str, str]) -> Iterator[Case]:
 def small_files() -> dict[str, str]:
     bad_bases = {f"bad_base_{place}": text for place, text in enumerate(BAD_BASES.values())}
     bad_certs = {f"bad_cert_{place}": text for place, text in enumerate(BAD_CERTS.values())}
-    others = {"truncated": CERT[:80], "screen": SCREEN, "stream": STREAM}
+    others = {"truncated": CERT[:80], "screen": SCREEN, "sheet": SHEET, "stream": STREAM}
     return BASES | CERTIFICATES | bad_bases | bad_certs | others
 
 

@@ -1,4 +1,5 @@
-"""The letters of the HTML file: page/letters.txt of crates/base_pages has their dots, letters.woff2 is the font.
+"""The letters of pictures and of the HTML file: letters.txt of crates/screens has their dots; page/letters.woff2 of
+crates/base_pages is the font.
 
 A cell is 6 × 10 dots, drawn as 12 × 20 half dots. If two dots meet at a corner alone, each of the two unlit dots at
 that corner gets a half dot there, as a character generator of the SAA5050 kind rounds its letters: so a diagonal is as
@@ -15,7 +16,8 @@ from harness.running import has_module
 
 WIDTH, HEIGHT = 6, 10
 ASCENT, DESCENT, ADVANCE, EM = 16, 4, 12, 20
-TABLE, FONT, SUMS = PAGE / "letters.txt", PAGE / "letters.woff2", PAGE / "letters.sha256"
+TABLE = PAGE.parents[1] / "screens" / "letters.txt"
+FONT, SUMS = PAGE / "letters.woff2", PAGE / "letters.sha256"
 # the codes that aren't the characters of ASCII
 CHARACTERS = {
     **{0x23: "£", 0x5B: "←", 0x5C: "½", 0x5D: "→", 0x5E: "↑", 0x5F: "#", 0x60: "—"},

@@ -132,7 +132,9 @@ class Frame:
         name = f"frame {self.id}" if self.fields.get("id") == self.id else "this frame"
         faults = [fault for field in JUDGED for fault in self.faults_of(field)]
         for fault in listed(faults, "in {F}"):
-            yield fault._replace(words=fault.words.replace("{F}", name))
+            is_empty = fault.words.startswith("X4 Absent: {F}") and "id" in self.fields
+            place = ("id", "value") if is_empty else fault.name
+            yield fault._replace(words=fault.words.replace("{F}", name), name=place)
 
 
 class Written(Chance):
@@ -566,6 +568,7 @@ class FaultyWalks(Written):
         if share >= 0.1:
             self.strand()
         self.outside()
+        self.leave_unsought()
         for frame in self.frames:
             if not frame.fields.get("routes") and self.chance(0.5):
                 frame.fields.pop("routes", None)
@@ -576,7 +579,11 @@ class FaultyWalks(Written):
             for name, before, words in self.shown(frame):
                 begin, end = self.span(frame, name)
                 piece, start = self.sheet.text[begin:end], self.sheet.text[:begin]
-                if start.endswith(before) and (piece == "\n" or name[0] == "rows" and piece[0] == "'"):
+                if name[0] == "rows":
+                    is_bare = piece[0] == "'"
+                    how = "has \\u00 in single quotation marks, which is shown as it is"
+                    yield begin, "warning", f"{words} {how if is_bare else 'shows an escape as it is written'}"
+                elif start.endswith(before) and piece == "\n":
                     yield begin, "warning", words
 
     def shown(self, frame: Frame) -> Iterator[tuple[Name, str, str]]:
@@ -590,8 +597,17 @@ class FaultyWalks(Written):
             yield ("body", RETURNS[body], "character"), "\r", f"{line} {how}"
         for at, row in enumerate(frame.rows):
             if "\\u00" in str(row):
-                words = f"row {at + 1} of frame {frame.id} has \\u00 in single quotation marks, which is shown as it is"
-                yield ("rows", at, "value"), "", f"ESCAPE: {words}"
+                yield ("rows", at, "value"), "", f"ESCAPE: row {at + 1} of frame {frame.id}"
+
+    def leave_unsought(self) -> None:
+        """Warnings of the frames that are closed to the caller and to which no way leads."""
+        sought = {(page, "a") for frame in self.frames for page in frame.routes.values()}
+        sought |= {(frame.page, chr(ord(frame.letter) + 1)) for frame in self.frames if frame.fields.get("next")}
+        for frame in sorted(self.frames, key=lambda frame: frame.place):
+            group = frame.fields.get("group")
+            if group and group not in self.own and frame.place not in sought:
+                words = f"UNSOUGHT: no key of any frame leads to frame {frame.id}, which belongs to group {group}"
+                self.warnings.append(Fault(words, ("id", "value"), frame))
 
     def outside(self) -> None:
         every = [frame.routes for frame in self.reached if self.chance(0.2)]
@@ -676,12 +692,12 @@ class FaultyWalks(Written):
                 self.lead_astray(frame, key)
         if frame.rank is None:
             words = f"NORETURN: no keys lead from frame {frame.id} back to the entry page"
-            self.tell(frame, words + frame.keys, "value")
+            self.tell(frame, words + frame.keys, "id", "value")
         elif frame.rank > self.keyings:
             away = f"{frame.rank} {'key' if frame.rank == 1 else 'keys'} away"
             allowed = f"at most {self.keyings} {'is' if self.keyings == 1 else 'are'} allowed"
             words = f"NORETURN: from frame {frame.id} the entry page is {away}, {allowed}"
-            self.tell(frame, words + frame.keys, "value")
+            self.tell(frame, words + frame.keys, "id", "value")
 
     def tell(self, frame: Frame, words: str, *name: str | int) -> None:
         self.whole_faults.append(Fault(words, name, frame))
@@ -749,4 +765,4 @@ class FaultyWalks(Written):
                 self.frames.insert(self.random.randrange(len(self.frames) + 1), frame)
         for frame in sorted(stranded, key=lambda frame: frame.place):
             words = f"UNREACHED: no key leads to frame {frame.id} from the entry page"
-            self.warnings.append(Fault(words, ("value",), frame))
+            self.warnings.append(Fault(words, ("id", "value"), frame))

@@ -169,7 +169,8 @@ class FrameJudge:
         if "rows" in self.table:
             yield from self.rows_faults(self.table["rows"])
         if "body" not in self.table and "rows" not in self.table:
-            yield Fault("X4 Absent", "body", f'{self.name} has no "body" and no "rows"', self.header)
+            piece = self.piece("id") if "id" in self.table else self.header
+            yield Fault("X4 Absent", "body", f'{self.name} has no "body" and no "rows"', piece)
 
     def body_faults(self, body: object) -> Iterator[Fault]:
         if not isinstance(body, str):
@@ -230,7 +231,7 @@ def base_faults(
     whole = Piece(What.VALUE, None, ("outside",))
     if len(frames) > MOST_LISTED:
         words = f"the base has {len(frames):,} frames, at most {MOST_LISTED:,} are allowed"
-        yield Fault("B4 TooMany", "", words, Piece(What.HEADER, frames[MOST_LISTED][0]))
+        yield Fault("B4 TooMany", "", words, Piece(What.VALUE, frames[MOST_LISTED][0], ("id",)))
     if len(outside) > MOST_LISTED:
         words = f'"outside" has {len(outside):,} pages, at most {MOST_LISTED:,} are allowed'
         yield Fault("B4 TooMany", "", words, whole._replace(indexes=(MOST_LISTED,)))

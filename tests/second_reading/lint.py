@@ -10,10 +10,12 @@ from itertools import pairwise
 from typing import Literal, NamedTuple, cast
 
 from .audit import Survey
-from .base import MOST_BYTES, Answer, Asked, FrameId, Policy, answers, id_in
+from .base import MOST_BYTES, Answer, Asked, Base, Frame, FrameId, Policy, answers, id_in
 from .faults import MOST_ROWS, BaseTable, FrameTable, base_in, text_faults
+from .looks import COLUMNS, Look, looks
 from .places import Piece, Places, What
 from .screen import State, step
+from .screens import cells_after_bytes
 from .toml import Lines, Span, Table, parsed
 from .words import number_of
 
@@ -23,6 +25,11 @@ LINE_ENDS = {
     False: "ends with a line feed alone, so the text goes on in the same column",
     True: "ends with CR LF as the file does: saved with LF, the text goes on in the same column",
 }
+
+# u00 and two digits of base 16 at the start, or after a slash, a quotation mark or what the code of a backslash shows
+SHOWN_ESCAPE = re.compile("(?:^|(?<=[½/\"']))u00[0-9A-Fa-f]{2}")
+# a single digit and more words
+MENU_LINE = re.compile("( *)([0-9]) +[^ ]")
 
 
 class Finding(NamedTuple):
@@ -46,6 +53,54 @@ def first_feed(body: bytes, returns: bool) -> int | None:
         returned = byte == 0x0D and is_inside
         state = step(state, byte).state
     return None
+
+
+class Sights:
+    """What one sees of a frame alone."""
+
+    def __init__(self, frame: Frame) -> None:
+        self.frame = frame
+        self.cells = cells_after_bytes(b"\x0a" + frame.body)
+        self.rows = looks(self.cells)
+        self.texts = ["".join(look.character() for look in row) for row in self.rows]
+
+    def byte_at(self, row: int, column: int) -> int:
+        """The index of the byte of the body that writes a cell last."""
+        state, last = State(40, False), 0
+        for index, byte in enumerate(self.frame.body):
+            state, written = step(state, byte)
+            if len(written) == 1 and written[0].at == COLUMNS * row + column:
+                last = index
+        return last
+
+    def escapes(self) -> Iterator[tuple[int, int]]:
+        """The row and the byte of the first escape that a row shows."""
+        for row, text in enumerate(self.texts):
+            if found := SHOWN_ESCAPE.search(text):
+                yield row, self.byte_at(row, found.start())
+
+    def menu(self) -> Iterator[tuple[int, int, Look]]:
+        """The row and the column of each digit that begins a line of a menu, and its look."""
+        for row in range(1, 23):
+            has_blocks = any(isinstance(look.holds, int) and not look.concealed for look in self.rows[row])
+            found = MENU_LINE.match(self.texts[row])
+            if found and not has_blocks:
+                column = found.end(1)
+                yield row, column, self.rows[row][column]
+
+    def offers(self) -> Iterator[tuple[int, int, str]]:
+        """The row, the byte and the digit of each line without a route beside two that have one."""
+        menu = [(row, column, str(look.holds), look.foreground) for row, column, look in self.menu()]
+        routed = [(column, colour) for _, column, digit, colour in menu if digit in self.frame.routes]
+        for row, column, digit, colour in menu:
+            if digit not in self.frame.routes and routed.count((column, colour)) >= 2:
+                yield row, self.byte_at(row, column), digit
+
+
+def sought_in(base: Base) -> set[FrameId]:
+    """The frames to which ways of frames lead."""
+    sought = (frame.sought(key) for frame in base.frames.values() for key in [*frame.routes, "#"])
+    return {id for id in sought if id}
 
 
 class Audited:
@@ -95,7 +150,7 @@ class Audited:
             case "TOUCHES":
                 return self.touches(id, int(rest[1]), rest[3])
             case "NORETURN":
-                return self.piece(id, What.HEADER), self.no_return(id)
+                return self.piece(id, What.VALUE, "id"), self.no_return(id)
         key = rest[3]
         keys = ("next",) if key == "#" else ("routes", key)
         return self.piece(id, What.PAIR, *keys), f"key {key} of frame {id} leads to {self.lost(word, sought)}"
@@ -136,7 +191,7 @@ class Audited:
             words = f"no key leads to {number_of(len(ids), 'frame', 'frames')} from the entry page"
             yield Piece(What.VALUE, None, ("entry",)), f"UNREACHED: {words}"
         for id in [] if self.survey.unopened else ids:
-            yield self.piece(id, What.HEADER), f"UNREACHED: no key leads to frame {id} from the entry page"
+            yield self.piece(id, What.VALUE, "id"), f"UNREACHED: no key leads to frame {id} from the entry page"
 
     def hidden(self) -> Iterator[tuple[Piece, str]]:
         """The rows with text that the double height of the row above hides, of frames given as rows."""
@@ -170,8 +225,36 @@ class Audited:
                 if self.places.text[begin:end] == "\n" and (not returns or self.places.text[begin - 1] == "\r"):
                     yield piece, f"LINEEND: a line of the body of frame {id} {how}"
 
+    def sight(self, id: FrameId, row: int, byte: int) -> Piece:
+        """A row of the screen: of a frame that is given as rows the row, else the byte of its body."""
+        if "rows" in self.tables[id]:
+            return self.piece(id, What.VALUE, "rows", indexes=(row - 1,))
+        return self.piece(id, What.VALUE, "body", indexes=(byte,))
+
+    def sights(self) -> Iterator[tuple[Piece, str]]:
+        """The rows that show an escape, and those that offer a key without a route."""
+        escaped = {piece for piece, _ in self.escapes()}
+        for id in self.in_order:
+            seen = Sights(self.base.frames[id])
+            for row, byte in seen.escapes():
+                if (piece := self.sight(id, row, byte)) not in escaped:
+                    yield piece, f"ESCAPE: row {row} of frame {id} shows an escape as it is written"
+            for row, byte, digit in seen.offers():
+                words = f"MENU: row {row} of frame {id} offers key {digit}, which has no route"
+                yield self.sight(id, row, byte), words
+
+    def unsought(self) -> Iterator[tuple[Piece, str]]:
+        """The closed frames to which no way of any frame leads."""
+        sought = sought_in(self.base)
+        for id in self.in_order:
+            frame = self.base.frames[id]
+            if not frame.is_open(self.policy.groups) and id not in sought:
+                words = f"UNSOUGHT: no key of any frame leads to frame {id}, which belongs to group {frame.group}"
+                yield self.piece(id, What.VALUE, "id"), words
+
     def warnings(self) -> list[tuple[Piece, str]]:
-        return [*self.unreached(), *self.hidden(), *self.escapes(), *self.line_ends()]
+        shown = [*self.hidden(), *self.escapes(), *self.line_ends(), *self.sights()]
+        return [*self.unreached(), *shown, *self.unsought()]
 
 
 def findings(tree: Table, places: Places, lines: Lines, policy: Policy) -> Iterator[Finding]:

@@ -3,7 +3,7 @@ it.
 """
 
 import re
-from collections.abc import Iterable
+from collections.abc import Container, Iterable
 from typing import NamedTuple
 
 from .base import MOST_BYTES, MOST_LISTED, Answer, FrameId
@@ -21,13 +21,16 @@ MARK = re.compile(rb"#[0-9A-Fa-f]:")
 LETTERS = "ABCDEFGHIJKLMNOPQRSTUVWXYZabcdefghijklmnopqrstuvwxyz0123456789-_"
 VALUES = {ord(letter): value for value, letter in enumerate(LETTERS)} | {ord("+"): 62, ord("/"): 63}
 BETWEEN_WORDS = re.compile(r"[ \t,;=]|:(?!/)")
+SHEET_ROW = re.compile(rb"OL,\x20*([0-9]{1,2})\x20*(?:,(.*))?", re.DOTALL)
+SHEET_NUMBER = re.compile(rb"PN,([1-9][0-9]{2})([0-9]{2})?")
+SHEET_CELL = re.compile(rb"\x1b[\x40-\x5f]|.", re.DOTALL)
 PAGE_NUMBER = re.compile(r":PN=([1-9][0-9]{2})([0-9]{2})?(?![A-Za-z0-9_+/-])")
 ESCAPED = {ord('"'): '\\"', ord("\\"): "\\\\"}
 
 
 class Screen(NamedTuple):
     """The frame of a screen: its file's path, the offset at which it begins, its price if it shows one, its codes, and
-    the line of its address.
+    the line of its address or page.
     """
 
     path: str
@@ -138,7 +141,28 @@ def file_of(form: str, id: FrameId, cells: bytes) -> bytes:
     """The file that `export` writes of a frame's screen."""
     if form == "ep1":
         return b"\xfe\x01\x09\0\0\0" + bytes(cell & 0x7F for cell in cells) + b"\0\0"
+    if form == "tti":
+        return sheet_of(id, cells)
     return f"{id} https://edit.tf/#0:{letters_of(cells)}\n".encode() if form == "link" else cells
+
+
+def sheet_of(id: FrameId, cells: bytes) -> bytes:
+    """A TTI file: the lines before the rows, and rows 0 to 22 that aren't blank."""
+    place = f"{ord(id.letter) - 96:02}"
+    page = id.page if 100 <= id.page <= 899 else 100
+    lines = [f"DE,{id}", f"PN,{page}{place}", f"SC,00{place}", "PS,8000", "RE,0"]
+    sheet = [line.encode() for line in lines]
+    for number in range(23):
+        row = cells[ROW * number : ROW * (number + 1)]
+        text = b"".join(b"\x1b%c" % (code - 0x40) if code >= 0x80 else bytes([code]) for code in row)
+        sheet += [b"OL,%d,%b" % (number, text)] if row != BLANK else []
+    return b"".join(line + b"\r\n" for line in sheet)
+
+
+def subpage_id(page: bytes, subpage: bytes | None) -> FrameId | None:
+    """The id of a teletext page: its subpage is a letter, if it is one of 26."""
+    number = int(subpage or 0)
+    return FrameId(int(page), "a" if number < 2 else chr(96 + number)) if number <= 26 else None
 
 
 def beside(before: bytes) -> FrameId | None:
@@ -152,8 +176,7 @@ def numbered(after: bytes) -> FrameId | None:
     """The id of the teletext page that zxnet writes after the letters: the first such field counts."""
     text = after.decode("latin-1")
     found = PAGE_NUMBER.match(text, max(text.find(":PN="), 0))
-    subpage = int(found[2] or 0) if found else 99
-    return FrameId(int(found[1]), "a" if subpage < 2 else chr(96 + subpage)) if found and subpage <= 26 else None
+    return subpage_id(found[1].encode(), (found[2] or "").encode()) if found else None
 
 
 def linked_screens(data: bytes) -> list[tuple[int, FrameId | None, FrameId | None, bytes]]:
@@ -173,24 +196,65 @@ def linked_screens(data: bytes) -> list[tuple[int, FrameId | None, FrameId | Non
     return screens
 
 
-def frames_of_links(path: str, data: bytes) -> dict[FrameId, list[Screen]]:
-    """The frames of addresses. The file's name counts if there is one."""
-    screens = linked_screens(data)
+def lines_of(data: bytes) -> list[bytes]:
+    """The lines of a text, which end with LF or CR LF, without a byte order mark."""
+    *ended, last = data.removeprefix(b"\xef\xbb\xbf").split(b"\n")
+    return [line.removesuffix(b"\r") for line in ended] + [last]
+
+
+def sheet_cell(text: bytes) -> int:
+    """The code of a byte of a row, or of 1B and a byte from 40 to 5F."""
+    if len(text) == 2:
+        return text[1] + 0x40
+    return 0x8D if text == b"\x10" else saved(text[0])
+
+
+def sheet_row(text: bytes) -> bytes:
+    """The cells of a row: what is past the last is dropped, what is absent a space."""
+    return bytes(map(sheet_cell, SHEET_CELL.findall(text)[:ROW])).ljust(ROW)
+
+
+def sheet_screens(data: bytes) -> list[tuple[int, FrameId | None, FrameId | None, bytes]]:
+    """The pages of a TTI file: the line in which each begins, no id beside it, the id by its number, and the codes."""
+    pages = list[tuple[int, FrameId | None, dict[int, bytes]]]()
+    for number, line in enumerate(lines_of(data), 1):
+        is_row = line.startswith(b"OL,")
+        if line.startswith(b"PN,") or is_row and not pages:
+            if len(pages) == MOST_SCREENS:
+                raise NoScreen("a file has at most 65535 pages", number)
+            found = SHEET_NUMBER.fullmatch(line)
+            pages.append((number, subpage_id(found[1], found[2]) if found else None, {}))
+        if is_row:
+            row = SHEET_ROW.fullmatch(line)
+            if not row:
+                raise NoScreen("no row number after OL, of one or two digits", number)
+            pages[-1][2][int(row[1])] = sheet_row(row[2] or b"")
+    return [(line, None, id, b"".join(rows.get(at, BLANK) for at in range(24))) for line, id, rows in pages]
+
+
+def frames_of_text(path: str, data: bytes) -> dict[FrameId, list[Screen]]:
+    """The frames of a text. The file's name counts if it has one screen."""
+    screens = sheet_screens(data) if is_sheet(data) else linked_screens(data)
     name = name_id(path) if len(screens) == 1 else None
     frames = dict[FrameId, list[Screen]]()
     for line, word, number, cells in screens:
         shown, price = head(cells)
         id = word or name or shown or number
         if not id:
-            raise NoScreen("no frame id before the address, and row 0 shows none", line)
+            raise NoScreen("no frame id with the screen, and row 0 shows none", line)
         frames.setdefault(id, []).append(Screen(path, 0, price, cells, line))
     return frames
 
 
-def is_links(data: bytes) -> bool:
-    """Whether a file is a text with addresses: it has no size of a screen, and isn't EP1."""
+def is_sheet(data: bytes) -> bool:
+    """Whether a file is TTI: a line begins so."""
+    return any(line.startswith((b"PN,", b"OL,")) for line in lines_of(data))
+
+
+def is_text(data: bytes) -> bool:
+    """Whether a file is TTI, or a text with addresses: it has no size of a screen, and isn't EP1."""
     is_dump = len(data) in (880, 960, 1000, 1024) or data[:2] == b"\xfe\x01"
-    return not is_dump and MARK.search(data) is not None
+    return is_sheet(data) or not is_dump and MARK.search(data) is not None
 
 
 def screens_in(data: bytes) -> list[tuple[int, bytes]]:
@@ -279,8 +343,22 @@ def row_line(row: bytes) -> str:
     return f'    "{text}",\n'
 
 
-def frame_text(id: FrameId, screen: Screen, leads_on: bool) -> str:
-    cells, keys = screen.cells, keys_shown(screen.cells)
+def page_by(page: int, digit: str) -> int:
+    """The page to which a digit leads by its number: without the last digit, or with this digit more."""
+    return int((str(page)[:-1] or "0") if digit == "0" else f"{page}{digit}")
+
+
+def routes_line(id: FrameId, keys: str, known: Container[FrameId]) -> str:
+    """The routes of a frame. They are guessed if they lead to known frames on other pages."""
+    pages = {digit: page_by(id.page, digit) for digit in keys.split()}
+    pairs = [f"{key} = {page}" for key, page in pages.items() if page != id.page and FrameId(page, "a") in known]
+    if pairs:
+        return f"routes = {{ {', '.join(pairs)} }} # by its number; keys shown:{keys}\n"
+    return "routes = { }" + (f" # keys shown:{keys}" if keys else "") + "\n"
+
+
+def frame_text(id: FrameId, screen: Screen, leads_on: bool, known: Container[FrameId] = ()) -> str:
+    cells = screen.cells
     return "".join(
         [
             "\n[[frame]]\n",
@@ -288,18 +366,18 @@ def frame_text(id: FrameId, screen: Screen, leads_on: bool) -> str:
             f'id = "{id}"\n',
             "" if screen.price is None else f"price = {screen.price}\n",
             "next = true\n" if leads_on else "",
-            "routes = { }" + (f" # keys shown:{keys}" if keys else "") + "\n",
+            routes_line(id, keys_shown(cells), known),
             "rows = [\n" + "".join(map(row_line, rows_of(cells))) + "]\n",
             comment(cells, 23),
         ]
     )
 
 
-def base_lines(frames: dict[FrameId, Screen], entry: int | None) -> Answer:
+def base_lines(frames: dict[FrameId, Screen], entry: int | None, guesses: bool = False) -> Answer:
     """The text of a base: the file of the first frame that ends too late has its line instead."""
     text = f"entry = {min(id.page for id in frames) if entry is None else entry}\n"
     for id in sorted(frames):
-        text += frame_text(id, frames[id], id.following in frames)
+        text += frame_text(id, frames[id], id.following in frames, frames if guesses else ())
         if len(text) > MOST_BYTES:
             return Answer(3, "", f"{frames[id].path}: with this frame the base is longer than 16,777,216 bytes\n")
     return Answer(0, text)
@@ -321,8 +399,8 @@ class Reading:
             raise NoScreen(data)
         if len(data) > MOST_BYTES:
             raise NoScreen("more than 16,777,216 bytes")
-        if not self.stream and is_links(data):
-            frames = frames_of_links(path, data)
+        if not self.stream and is_text(data):
+            frames = frames_of_text(path, data)
             for id, (kept, *others) in sorted(frames.items()):
                 self.lines += [self.twin_line(id, other, kept) for other in others]
             return {id: screens[0] for id, screens in frames.items()}
@@ -362,8 +440,25 @@ class Reading:
         return f"{screen.path}: at byte {screen.offset}: {other}\n"
 
 
+def files_in(folder: str, files: Iterable[tuple[str, bytes | str]]) -> list[tuple[str, bytes | str]]:
+    """What stands for a folder: its files, by name, or the reason why there are none."""
+    found: list[tuple[str, bytes | str]] = []
+    for path, data in sorted(files, key=lambda file: file[0]):
+        if isinstance(data, bytes) and not is_hidden(path):
+            found.append((path, data))
+    return found or [(folder, "no files in this folder")]
+
+
+def is_hidden(path: str) -> bool:
+    return path.rpartition("/")[2].startswith(".")
+
+
 def imported(
-    files: Iterable[tuple[str, bytes | str]], stream: bool = False, entry: int | None = None, skip_bad: bool = False
+    files: Iterable[tuple[str, bytes | str]],
+    stream: bool = False,
+    entry: int | None = None,
+    skip_bad: bool = False,
+    guesses: bool = False,
 ) -> Answer:
     """What `import` answers to files, each a path and its bytes or the reason why it can't be read."""
     reading = Reading(stream)
@@ -372,8 +467,8 @@ def imported(
     lines = "".join(reading.lines + [line for id in sorted(reading.twins) for line in reading.twins[id]])
     answer = Answer(3, "", lines)
     if not lines:
-        answer = base_lines(reading.frames, entry)
+        answer = base_lines(reading.frames, entry, guesses)
     elif skip_bad and reading.frames:
-        others = base_lines(reading.frames, entry)
+        others = base_lines(reading.frames, entry, guesses)
         answer = Answer(others.status or 1, others.stdout, lines + others.stderr)
     return answer._replace(stderr=reading.notes + answer.stderr)

@@ -1,2 +1,4 @@
 pub mod AnsiLines
 pub mod AnsiTyped
+pub mod AnsiReading
+pub mod Laws

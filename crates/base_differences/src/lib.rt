@@ -5,7 +5,7 @@
 //! ```
 //!
 //! - [`base_summary`]: the number of frames, and what differs.
-//! - Definition: how a summary begins (`Summaries`).
+//! - Definitions: what differs (`Differences`), and what is printed of it (`Summaries`).
 #![tactic(auto)]
 
 mod differences;

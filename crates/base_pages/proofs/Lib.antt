@@ -1,3 +1,10 @@
+pub mod Attributes
+pub mod Bytes
+pub mod Certified
+pub mod Files
+pub mod Links
 pub mod Numbering
 pub mod OnTheWay
-pub mod Tags
+pub mod Parts
+pub mod Picture
+pub mod Sections

@@ -1,16 +1,20 @@
 -- The numbers of a frame's faults, and the faults that they pick.
-use Rattle.std.proofs.Common.{◌≡◌, ◌∙◌, ◌<◌, ◌+◌, ℕ, zero, suc, sym, ap, cond, Bool, true, false, List, [], ◌∷◌, ◌++◌, Option, Some, None, append-nil, append_assoc, refl, drop, length, get_or, arith}
+use Rattle.std.proofs.Common.{◌≡◌, ◌∙◌, ◌<◌, ◌+◌, ℕ, zero, suc, sym, ap, cond, Bool, true, false, List, [], ◌∷◌, ◌++◌, Option, Some, None, append-nil, append_assoc, refl, drop, length, get_or, codes, ◌==◌, arith}
 use Rattle.std.specs.Prelude.{slice_get}
 use Rattle.std.specs.Option.{option_map_or}
+use Rattle.std.proofs.lemmas.Bool.Decides.{nat_tests}
 use Rattle.std.proofs.lemmas.Grind.{flat_map-append}
 use Rattle.std.proofs.lemmas.List.{drop_more}
 use Rattle.std.proofs.lemmas.Option.{slice_get_within, slice_get_read, get_or_from_slice_get}
 use Rattle.page_ids.specs.Ids.{Id, id_eq}
 use Rattle.page_ids.specs.IdLaws.{id_eq_same}
 use Rattle.fault_scripts.specs.declared.fault.Fault.{Fault}
-use Rattle.base_pages.specs.Faults.{is_entry_kind, faults_about, item, items, entry_faults, start_or, first_start}
+use Rattle.screens.specs.Svg.{markup}
+use Rattle.base_pages.specs.Elements.{opening_pieces, ending}
+use Rattle.base_pages.specs.Faults.{is_entry_kind, faults_about, item, items, listed, fault_list, entry_faults, start_or, first_start}
 use Rattle.base_pages.specs.declared.index.Numbered.{Numbered}
-use Rattle.base_pages.specs.Loops.{number_by, numbers_of, numbered_one, numbered_faults, option_list, picked, numbered_items, item_lines, entry_items, first_numbered_start, earliest_start}
+use Rattle.base_pages.specs.Loops.{number_by, numbers_of, numbered_one, numbered_faults, option_list, picked, numbered_items, item_lines, entry_items, wrapped, first_numbered_start, earliest_start}
+use Rattle.base_pages.proofs.Bytes.{markup_append, nothing, around_bytes}
 
 pub chosen : {A : Type 0} (f : A → List ℕ) (b : Bool) (v : A) (o : Option A) → option_map_or f (cond b (Some v) o) [] ≡ cond b (f v) (option_map_or f o [])
 chosen f true v o = refl
@@ -64,23 +68,40 @@ picks_all all id = picks all id 0 all refl
 
 -- The lines of picked faults, and the first start that they name.
 
-one_item : (o : Option Fault) → item_lines o ≡ items (option_list o)
-one_item None = refl
-one_item (Some fault) = sym (append-nil (item fault))
+-- lines in a list, if there are any
+some : (b : ℕ) (bs : List ℕ) → wrapped (b ∷ bs) ≡ markup (opening_pieces (codes "ul") ((codes "class", codes "faults") ∷ [])) ++ (b ∷ bs) ++ markup (ending (codes "ul"))
+some b bs = let is : (length (b ∷ bs) == 0) ≡ false = grind (arith, nat_tests) in rw is refl
 
-pub items_picked : (all : List Fault) (ns : List ℕ) → numbered_items all ns ≡ items (picked all ns)
-items_picked all [] = refl
-items_picked all (n ∷ ns) =
+list_of : (fs : List Fault) → wrapped (markup (items fs)) ≡ markup (fault_list fs)
+unfolding markup listed
+list_of [] = refl
+list_of (f ∷ fs) = some 0x3C _ ∙ sym (around_bytes (codes "ul") ((codes "class", codes "faults") ∷ []) (items (f ∷ fs)))
+
+one_item : (o : Option Fault) → item_lines o ≡ markup (items (option_list o))
+one_item None = nothing []
+one_item (Some fault) = ap markup (sym (append-nil (item fault)))
+
+each_picked : (all : List Fault) (ns : List ℕ) → numbered_items all ns ≡ markup (items (picked all ns))
+each_picked all [] = nothing []
+each_picked all (n ∷ ns) =
+    let fs = option_list (slice_get all n) in
     ap (λ xs. xs ++ numbered_items all ns) (one_item (slice_get all n))
-    ∙ ap (λ xs. items (option_list (slice_get all n)) ++ xs) (items_picked all ns)
-    ∙ sym (flat_map-append item (option_list (slice_get all n)) (picked all ns))
+    ∙ ap (λ xs. markup (items fs) ++ xs) (each_picked all ns)
+    ∙ sym (markup_append (items fs) (items (picked all ns)))
+    ∙ ap markup (sym (flat_map-append item fs (picked all ns)))
 
-pub entry_items_are : (fs : List Fault) → entry_items fs ≡ items (entry_faults fs)
-entry_items_are [] = refl
-entry_items_are (f ∷ fs) = by (is_entry_kind f.kind) (entry_items_are fs) where
-  by : (b : Bool) → entry_items fs ≡ items (entry_faults fs) → cond b (item f) [] ++ entry_items fs ≡ items (cond b (f ∷ entry_faults fs) (entry_faults fs))
-  by true later = ap (λ xs. item f ++ xs) later
+pub items_picked : (all : List Fault) (ns : List ℕ) → wrapped (numbered_items all ns) ≡ markup (fault_list (picked all ns))
+items_picked all ns = ap wrapped (each_picked all ns) ∙ list_of (picked all ns)
+
+each_entry : (fs : List Fault) → entry_items fs ≡ markup (items (entry_faults fs))
+each_entry [] = nothing []
+each_entry (f ∷ fs) = by (is_entry_kind f.kind) (each_entry fs) where
+  by : (b : Bool) → entry_items fs ≡ markup (items (entry_faults fs)) → cond b (markup (item f)) [] ++ entry_items fs ≡ markup (items (cond b (f ∷ entry_faults fs) (entry_faults fs)))
+  by true later = ap (λ xs. markup (item f) ++ xs) later ∙ sym (markup_append (item f) (items (entry_faults fs)))
   by false later = later
+
+pub entry_items_are : (fs : List Fault) → wrapped (entry_items fs) ≡ markup (fault_list (entry_faults fs))
+entry_items_are fs = ap wrapped (each_entry fs) ∙ list_of (entry_faults fs)
 
 pub start_picked : (all : List Fault) (ns : List ℕ) → first_numbered_start all ns ≡ first_start (picked all ns)
 start_picked all [] = refl

@@ -1,5 +1,5 @@
 -- The faults of a base, frame by frame, in HTML.
-use Rattle.std.specs.Prelude.{ℕ, ◌==◌, ◌&&◌, not, Bool, true, false, List, [], ◌∷◌, ◌++◌, Option, Some, None, codes, filter, get_or, length, nat_lt, take, if◌then◌else◌}
+use Rattle.std.specs.Prelude.{ℕ, ◌==◌, ◌&&◌, not, Bool, true, false, List, [], ◌∷◌, Option, Some, None, codes, filter, get_or, nat_lt, take, if◌then◌else◌}
 use Rattle.std.specs.List.{flat_map}
 use Rattle.page_ids.specs.Ids.{Id, id_eq}
 use Rattle.frame_records.specs.declared.frame.Frame.{Frame}
@@ -11,8 +11,8 @@ use Rattle.fault_scripts.specs.declared.fault.Fault.{Fault}
 use Rattle.fault_scripts.specs.declared.fault.FaultKind.{FaultKind}
 use Rattle.fault_scripts.specs.declared.fault.FaultKind.TheVariants.{EntryMissing, EntryClosed, Price, Touches, Missing, Closed, NoReturn}
 use Rattle.audit_report.specs.ReportLines.{words_as}
-use Rattle.screens.specs.declared.writing.Writing.TheVariants.{Markup}
-use Rattle.screens.specs.Writing.{written}
+use Rattle.screens.specs.Svg.{Piece}
+use Rattle.base_pages.specs.Elements.{element_pieces, around}
 
 -- the fault is that the entry frame isn't found
 abbrev pub is_entry_kind : FaultKind → Bool
@@ -37,25 +37,20 @@ abbrev pub entry_faults : List Fault → List Fault
 entry_faults faults = filter (λ fault. is_entry_kind fault.kind) faults
 
 -- the audit's line about a fault
-abbrev pub item : Fault → List ℕ
-item fault = codes "<li>" ++ written Markup (words_as fault.kind fault) ++ codes "</li>\n"
+abbrev pub item : Fault → List Piece
+item fault = element_pieces (codes "li") [] (words_as fault.kind fault)
 
-abbrev pub items : List Fault → List ℕ
+abbrev pub items : List Fault → List Piece
 items faults = flat_map item faults
 
--- items in a list
-unfoldable pub list_begin : List ℕ
-list_begin = codes "<ul class=\"faults\">\n"
-
-unfoldable pub listed : List ℕ → List ℕ
-listed bs = list_begin ++ bs ++ codes "</ul>\n"
+-- in a list
+unfoldable pub listed : List Fault → List Piece
+listed faults = around (codes "ul") ((codes "class", codes "faults") ∷ []) (items faults)
 
 -- if there are any
-abbrev pub wrapped : List ℕ → List ℕ
-wrapped bs = if length bs == 0 then [] else listed bs
-
-unfoldable pub fault_list : List Fault → List ℕ
-fault_list faults = wrapped (items faults)
+abbrev pub fault_list : List Fault → List Piece
+fault_list [] = []
+fault_list (fault ∷ faults) = listed (fault ∷ faults)
 
 -- The cell that a frame wrongly writes.
 

@@ -1,7 +1,7 @@
 -- What comes before the sections: the name of the base's file, the policy and the verdict.
-use Rattle.std.specs.Prelude.{ℕ, List, [], ◌++◌, codes, decimal, length, ◌==◌, if◌then◌else◌}
+use Rattle.std.specs.Prelude.{ℕ, List, [], ◌∷◌, ◌++◌, codes, decimal, length, ◌==◌, if◌then◌else◌}
 use Rattle.std.specs.Str.{chars}
-use Rattle.page_ids.specs.Ids.{Id, frame_text}
+use Rattle.page_ids.specs.Ids.{frame_text}
 use Rattle.frame_records.specs.declared.limits.TheConstants.{MOST_PENCE}
 use Rattle.frame_records.specs.Bases.{BaseView}
 use Rattle.frame_records.specs.Seek.{entry_of}
@@ -12,12 +12,9 @@ use Rattle.checker.specs.declared.policy.Policy.{Policy}
 use Rattle.fault_scripts.specs.declared.fault.Fault.{Fault}
 use Rattle.fault_scripts.specs.declared.outcome.Outcome.{Outcome}
 use Rattle.fault_scripts.specs.declared.outcome.Outcome.TheVariants.{Certified, Faulty}
-use Rattle.screens.specs.declared.writing.Writing.TheVariants.{Markup}
-use Rattle.screens.specs.Writing.{written}
+use Rattle.screens.specs.Svg.{Piece, markup}
+use Rattle.base_pages.specs.Elements.{element_pieces, around}
 use Rattle.base_pages.specs.Faults.{entry_faults, fault_list}
-
-unfoldable pub name_line : List ℕ → List ℕ
-name_line name = codes "<h1>" ++ written Markup (chars name) ++ codes "</h1>\n"
 
 -- how many there are of a thing
 unfoldable pub fault_count : ℕ → List ℕ → List ℕ
@@ -30,24 +27,23 @@ ceiling_text ceiling = codes ", at most " ++ decimal ceiling ++ codes "p a frame
 unfoldable pub keyings_text : ℕ → List ℕ
 keyings_text keyings = codes ", at most " ++ fault_count keyings (codes "key") ++ codes " back"
 
-unfoldable pub certified_begin : List ℕ
-certified_begin = codes "<p class=\"verdict certified\">CERTIFIED</p>\n<p>"
-
 -- how many frames the certificate has, and its ceiling and keyings
-unfoldable pub certified : CertView → List ℕ
-certified cert =
-    certified_begin ++ fault_count (length cert.rows) (codes "frame") ++ ceiling_text cert.ceiling ++ keyings_text cert.keyings ++ codes "</p>\n"
+unfoldable pub certified_words : CertView → List ℕ
+certified_words cert = fault_count (length cert.rows) (codes "frame") ++ ceiling_text cert.ceiling ++ keyings_text cert.keyings
 
-unfoldable pub faulty_begin : List ℕ
-faulty_begin = codes "<p class=\"verdict faulty\">"
+unfoldable pub certified : List Piece
+certified = element_pieces (codes "p") ((codes "class", codes "verdict certified") ∷ []) (codes "CERTIFIED")
+
+unfoldable pub paragraph : List ℕ → List Piece
+paragraph words = element_pieces (codes "p") [] words
 
 -- how many faults there are
-unfoldable pub faulty_words : List Fault → List ℕ
-faulty_words faults = faulty_begin ++ fault_count (length faults) (codes "fault") ++ codes "</p>\n"
+unfoldable pub faulty_pieces : List Fault → List Piece
+faulty_pieces faults = element_pieces (codes "p") ((codes "class", codes "verdict faulty") ∷ []) (fault_count (length faults) (codes "fault"))
 
-abbrev pub outcome_text : Outcome → List ℕ
-outcome_text (Certified cert) = certified cert
-outcome_text (Faulty faults) = faulty_words faults
+abbrev pub outcome_pieces : Outcome → List Piece
+outcome_pieces (Certified cert) = certified ++ paragraph (certified_words cert)
+outcome_pieces (Faulty faults) = faulty_pieces faults
 
 -- groups, with a space before each
 unfoldable pub callers_text : List ℕ → List ℕ
@@ -60,23 +56,22 @@ ceiling_asked ceiling = if ceiling == MOST_PENCE then [] else ceiling_text ceili
 abbrev pub keyings_asked : ℕ → List ℕ
 keyings_asked keyings = if keyings == MOST_RANK then [] else keyings_text keyings
 
-unfoldable pub policy_line : Policy → List ℕ
-policy_line policy =
-    codes "<p>For a caller in " ++ callers_text policy.groups ++ ceiling_asked policy.ceiling ++ keyings_asked policy.keyings ++ codes "</p>\n"
+unfoldable pub policy_words : Policy → List ℕ
+policy_words policy = codes "For a caller in " ++ callers_text policy.groups ++ ceiling_asked policy.ceiling ++ keyings_asked policy.keyings
+
+unfoldable pub name_line : List ℕ → List Piece
+name_line name = element_pieces (codes "h1") [] (chars name)
 
 -- the faults of an outcome
 abbrev pub outcome_faults : Outcome → List Fault
 outcome_faults (Certified cert) = []
 outcome_faults (Faulty faults) = faults
 
--- it names the entry frame
-unfoldable pub header_begin : Id → List ℕ
-header_begin entry = codes "<header data-entry=\"" ++ frame_text entry ++ codes "\">\n"
-
-unfoldable pub header_end : Outcome → List ℕ
-header_end outcome = codes "</header>\n" ++ fault_list (entry_faults (outcome_faults outcome))
-
 -- the header, which names the entry frame, and that it isn't found if it isn't
+unfoldable pub header_pieces : List ℕ → BaseView → Policy → Outcome → List Piece
+header_pieces name base policy outcome =
+    around (codes "header") ((codes "data-entry", frame_text (entry_of base)) ∷ []) (name_line name ++ outcome_pieces outcome ++ paragraph (policy_words policy))
+    ++ fault_list (entry_faults (outcome_faults outcome))
+
 abbrev pub header : List ℕ → BaseView → Policy → Outcome → List ℕ
-header name base policy outcome =
-    header_begin (entry_of base) ++ name_line name ++ outcome_text outcome ++ policy_line policy ++ header_end outcome
+header name base policy outcome = markup (header_pieces name base policy outcome)

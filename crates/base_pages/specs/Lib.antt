@@ -1,3 +1,4 @@
+pub mod Elements
 pub mod Ways
 pub mod Faults
 pub mod Screens
@@ -6,5 +7,8 @@ pub mod Head
 pub mod Pages
 pub mod Shell
 pub mod Tags
+pub mod Reading
+pub mod Said
+pub mod Links
 pub mod Laws
 pub mod Loops

@@ -1,5 +1,5 @@
 -- Facts that hold between the turns of loops, and what functions that aren't exported say. No promise rests on them.
-use Rattle.std.specs.Prelude.{◌≡◌, ◌+◌, ℕ, List, [], ◌∷◌, ◌++◌, Option, Some, None, if◌then◌else◌, slice_get}
+use Rattle.std.specs.Prelude.{◌≡◌, ◌+◌, ℕ, List, [], ◌∷◌, ◌++◌, Option, Some, None, codes, length, ◌==◌, if◌then◌else◌, slice_get}
 use Rattle.std.specs.Option.{option_map_or}
 use Rattle.std.specs.List.{flat_map}
 use Rattle.indexmap.specs.IndexMap.{get}
@@ -15,6 +15,8 @@ use Rattle.base_pages.specs.declared.index.Numbered.{Numbered}
 use Rattle.base_pages.specs.declared.book.Book.{Book}
 use Rattle.base_pages.specs.declared.pages.Prepared.{Prepared}
 use Rattle.base_pages.specs.declared.pages.FrontMatter.{FrontMatter}
+use Rattle.screens.specs.Svg.{markup}
+use Rattle.base_pages.specs.Elements.{opening_pieces, ending}
 use Rattle.base_pages.specs.Faults.{is_entry_kind, item, start_or}
 use Rattle.base_pages.specs.Head.{outcome_faults}
 use Rattle.base_pages.specs.Sections.{BookView}
@@ -57,7 +59,7 @@ picked faults numbers = flat_map (λ n. option_list (slice_get faults n)) number
 -- their lines
 abbrev pub item_lines : Option Fault → List ℕ
 item_lines None = []
-item_lines (Some fault) = item fault
+item_lines (Some fault) = markup (item fault)
 
 abbrev pub numbered_item : List Fault → ℕ → List ℕ
 numbered_item faults n = item_lines (slice_get faults n)
@@ -66,10 +68,16 @@ abbrev pub numbered_items : List Fault → List ℕ → List ℕ
 numbered_items faults numbers = flat_map (numbered_item faults) numbers
 
 abbrev pub entry_item : Fault → List ℕ
-entry_item fault = if is_entry_kind fault.kind then item fault else []
+entry_item fault = if is_entry_kind fault.kind then markup (item fault) else []
 
 abbrev pub entry_items : List Fault → List ℕ
 entry_items faults = flat_map entry_item faults
+
+-- lines in a list, if there are any
+abbrev pub wrapped : List ℕ → List ℕ
+wrapped bs =
+    if length bs == 0 then []
+    else markup (opening_pieces (codes "ul") ((codes "class", codes "faults") ∷ [])) ++ bs ++ markup (ending (codes "ul"))
 
 -- and the first start that they name
 abbrev pub earliest_start : Option Fault → Option Start

@@ -1,5 +1,5 @@
 -- The file of a base, and what was written of it.
-use Rattle.std.specs.Prelude.{◌≡◌, ℕ, List, [], ◌++◌, ◌⊎◌, Option, Some, None, Result, Ok, Err}
+use Rattle.std.specs.Prelude.{◌≡◌, ℕ, List, [], ◌++◌, ◌⊎◌, Option, Some, None, Result, Ok, Err, map}
 use Rattle.page_ids.specs.Ids.{Id}
 use Rattle.frame_records.specs.Bases.{BaseView}
 use Rattle.finder.specs.declared.found.Discovered.{Discovered}
@@ -14,10 +14,14 @@ use Rattle.base_pages.specs.declared.pages.PagesStatus.{PagesStatus}
 use Rattle.base_pages.specs.declared.pages.PagesStatus.TheVariants.{Written, NoPage}
 use Rattle.base_pages.specs.declared.fault.PagesFault.{PagesFault}
 use Rattle.base_pages.specs.declared.fault.PagesFault.TheVariants.{Write, Memory}
-use Rattle.base_pages.specs.Sections.{BookView, sections}
+use Rattle.screens.specs.Laws.{tags_of}
+use Rattle.base_pages.specs.Sections.{BookView, sections, shown_frames}
 use Rattle.base_pages.specs.Head.{header, outcome_faults}
 use Rattle.base_pages.specs.Shell.{head, middle, foot}
-use Rattle.base_pages.specs.Tags.{tag_list, page_tags}
+use Rattle.base_pages.specs.Tags.{page_tags}
+use Rattle.base_pages.specs.Reading.{sections_in}
+use Rattle.base_pages.specs.Said.{section_said}
+use Rattle.base_pages.specs.Links.{AllLinksAreWays, NoneFails}
 
 -- the fixed head with the style, the header, and the fixed views and keypad
 abbrev pub front : List ℕ → BaseView → Policy → Outcome → List ℕ
@@ -40,17 +44,32 @@ pub record IsPage (name : List ℕ) (base : BaseView) (policy : Policy) (part : 
   pub audited : IsOutcome base policy outcome
   pub is : text ≡ page name policy outcome (book base policy part found outcome)
 
--- read as markup, it has the tags of its form and no others
+-- read as markup, it has the tags of its form and no others, with the form's characters between them
 abbrev pub HasItsTags : (name : List ℕ) (base : BaseView) (policy : Policy) (part : Option (List Id)) (text : List ℕ)
     → IsPage name base policy part text → Type 0
 HasItsTags name base policy part text is =
-    tag_list text ≡ page_tags is.outcome (book base policy part is.found is.outcome)
+    tags_of text ≡ page_tags name policy is.outcome (book base policy part is.found is.outcome)
 
--- the file was written whole
+-- its sections are the frames that are shown, and say of them what `show` and the audit say
+abbrev pub SaysWhatIsShown : (name : List ℕ) (base : BaseView) (policy : Policy) (part : Option (List Id)) (text : List ℕ)
+    → IsPage name base policy part text → Type 0
+SaysWhatIsShown name base policy part text is =
+    let b = book base policy part is.found is.outcome in
+    sections_in text ≡ map (section_said b) (shown_frames b base.frames)
+
+-- its links are the ways that lead to frames of the file
+abbrev pub LinksTheWays : (name : List ℕ) (base : BaseView) (policy : Policy) (part : Option (List Id)) (text : List ℕ)
+    → IsPage name base policy part text → Type 0
+LinksTheWays name base policy part text is = AllLinksAreWays (book base policy part is.found is.outcome)
+
+-- the file was written whole; if the base is certified, no way of a section that callers reach fails
 pub record IsFileWritten (old new : Seen) (name : List ℕ) (base : BaseView) (policy : Policy) (part : Option (List Id)) : Type 0 where
   pub text : List ℕ
   pub is : IsPage name base policy part text
   pub tags : HasItsTags name base policy part text is
+  pub says : SaysWhatIsShown name base policy part text is
+  pub links : LinksTheWays name base policy part text is
+  pub lead : NoneFails is.outcome (sections_in text)
   pub written : WroteWhole old new text
 
 -- a sink took the front of a text, wasn't flushed and has not failed

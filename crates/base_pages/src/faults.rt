@@ -1,39 +1,25 @@
 //! Lists of faults, and the cell that a frame wrongly writes.
 
 ghost use Rattle.std.specs.Prelude.{◌≡◌, ◌++◌, ◌∷◌, [], OnOk};
-ghost use Rattle.screens.specs.declared.writing.Writing.TheVariants.{Markup};
-ghost use Rattle.screens.specs.Writing.{written};
+ghost use Rattle.screens.specs.Svg.{markup};
 ghost use Rattle.base_pages.specs.Faults as spec;
-ghost use Rattle.base_pages.specs.Loops.{picked, numbered_item, numbered_items, entry_item, entry_items, numbered_start, first_numbered_start};
+ghost use Rattle.base_pages.specs.Loops.{picked, numbered_item, numbered_items, entry_item, entry_items, wrapped, numbered_start, first_numbered_start};
 
+use crate::element::{Attribute, push_element, push_ending, push_opening};
 use crate::index::is_entry_kind;
 use abstract_paint::Start;
 use audit_report::push_fault;
 use fault_scripts::Fault;
 use frame_records::Frame;
-use screens::{Writing, push_char};
 use std::alloc::{AllocError, Global};
 use terminal_codes::{Caret, lead_bytes};
 
-// Bytes as characters, written for markup.
-pub fn push_bytes(out: &mut Vec<u8>, bytes: &[u8]) -> Result<(), AllocError>
-    ensures { OnOk result (out.new.items ≡ out.old.items ++ written Markup bytes.now) }
-{
-    for byte in bytes {
-        push_char(out, Writing::Markup, char::from(*byte))?;
-    }
-    Ok(())
-}
-
-#[tactic(auto, using(std::proofs::Common::append_assoc))]
 fn push_item(alloc: Global, out: &mut Vec<u8>, fault: &Fault) -> Result<(), AllocError>
-    ensures { OnOk result (out.new.items ≡ out.old.items ++ spec.item fault.now) }
+    ensures { OnOk result (out.new.items ≡ out.old.items ++ markup (spec.item fault.now)) }
 {
     let mut line = Vec::new(alloc);
     push_fault(&mut line, fault)?;
-    out.extend_from_slice(b"<li>")?;
-    push_bytes(out, line.as_slice())?;
-    out.extend_from_slice(b"</li>\n")
+    push_element(out, b"li", &[], line.as_slice())
 }
 
 // The line of the fault of a number, if there is one.
@@ -66,43 +52,28 @@ fn push_items(
     Ok(())
 }
 
-#[tactic(auto, unfolding(crate::specs::Faults::list_begin))]
-fn list_begin() -> &'static [u8]
-    ensures { result.now ≡ spec.list_begin }
-{
-    b"<ul class=\"faults\">\n"
-}
-
-// Items in a list.
-#[tactic(auto, using(std::proofs::Common::append_assoc), unfolding(crate::specs::Faults::listed))]
-fn push_list(out: &mut Vec<u8>, items: &[u8]) -> Result<(), AllocError>
-    ensures { OnOk result (out.new.items ≡ out.old.items ++ spec.listed items.now) }
-{
-    out.extend_from_slice(list_begin())?;
-    out.extend_from_slice(items)?;
-    out.extend_from_slice(b"</ul>\n")
-}
-
-// The same, if there are any.
+// Items in a list, if there are any.
+#[tactic(auto, using(std::proofs::Common::append_assoc))]
 fn push_wrapped(out: &mut Vec<u8>, items: &[u8]) -> Result<(), AllocError>
-    ensures { OnOk result (out.new.items ≡ out.old.items ++ spec.wrapped items.now) }
+    ensures { OnOk result (out.new.items ≡ out.old.items ++ wrapped items.now) }
 {
     if items.len() == 0 {
-        out.extend_from_slice(b"")
-    } else {
-        push_list(out, items)
+        return Ok(());
     }
+    push_opening(out, b"ul", &[Attribute::of(b"class", b"faults")])?;
+    out.extend_from_slice(items)?;
+    push_ending(out, b"ul")
 }
 
 // The list of the faults of numbers.
-#[tactic(auto, using(crate::proofs::Numbering::items_picked), unfolding(crate::specs::Faults::fault_list))]
+#[tactic(auto, using(crate::proofs::Numbering::items_picked))]
 pub fn push_faults(
     alloc: Global,
     out: &mut Vec<u8>,
     faults: &[Fault],
     numbers: &[usize],
 ) -> Result<(), AllocError>
-    ensures { OnOk result (out.new.items ≡ out.old.items ++ spec.fault_list (picked faults.now numbers.now)) }
+    ensures { OnOk result (out.new.items ≡ out.old.items ++ markup (spec.fault_list (picked faults.now numbers.now))) }
 {
     let mut items = Vec::new(alloc);
     push_items(alloc, &mut items, faults, numbers)?;
@@ -130,13 +101,13 @@ fn push_entry_items(alloc: Global, out: &mut Vec<u8>, faults: &[Fault]) -> Resul
 }
 
 // The list of those that the entry frame isn't found.
-#[tactic(auto, using(crate::proofs::Numbering::entry_items_are), unfolding(crate::specs::Faults::fault_list))]
+#[tactic(auto, using(crate::proofs::Numbering::entry_items_are))]
 pub fn push_entry_faults(
     alloc: Global,
     out: &mut Vec<u8>,
     faults: &[Fault],
 ) -> Result<(), AllocError>
-    ensures { OnOk result (out.new.items ≡ out.old.items ++ spec.fault_list (spec.entry_faults faults.now)) }
+    ensures { OnOk result (out.new.items ≡ out.old.items ++ markup (spec.fault_list (spec.entry_faults faults.now))) }
 {
     let mut items = Vec::new(alloc);
     push_entry_items(alloc, &mut items, faults)?;

@@ -1,38 +1,26 @@
 //! What comes before the sections.
 
-ghost use Rattle.std.specs.Prelude.{◌≡◌, ◌++◌, OnOk, length};
-ghost use Rattle.std.specs.Str.{chars};
-ghost use Rattle.screens.specs.declared.writing.Writing.TheVariants.{Markup};
-ghost use Rattle.screens.specs.Writing.{written};
+ghost use Rattle.std.specs.Prelude.{◌≡◌, ◌++◌, ◌∷◌, [], OnOk, IfOk, codes, length};
+ghost use Rattle.page_ids.specs.Ids.{frame_text};
+ghost use Rattle.screens.specs.Svg.{markup};
 ghost use Rattle.cert_text.specs.Grammar.{spaced_groups};
+ghost use Rattle.base_pages.specs.Elements.{opening_pieces};
 ghost use Rattle.base_pages.specs.Head as spec;
 
+use crate::element::{Attribute, push_element, push_ending, push_opening, push_text_element};
 use crate::faults::push_entry_faults;
 use cert_table::{Certificate, Cover, MOST_RANK};
 use checker::Policy;
 use fault_scripts::{Fault, Outcome};
 use frame_records::{Base, Groups, MOST_PENCE, Pence};
-use page_ids::{FrameId, push_id, push_number};
-use screens::{Writing, push_char};
+use page_ids::{FrameId, push_number};
 use std::alloc::{AllocError, Global};
 
-// Characters, written for markup.
-fn push_chars(out: &mut Vec<u8>, text: &str) -> Result<(), AllocError>
-    ensures { OnOk result (out.new.items ≡ out.old.items ++ written Markup (chars text.now)) }
-{
-    for c in text.chars() {
-        push_char(out, Writing::Markup, c)?;
-    }
-    Ok(())
-}
-
-#[tactic(auto, using(std::proofs::Common::append_assoc), unfolding(crate::specs::Head::name_line))]
+#[tactic(auto, unfolding(crate::specs::Head::name_line))]
 fn push_name(out: &mut Vec<u8>, name: &str) -> Result<(), AllocError>
-    ensures { OnOk result (out.new.items ≡ out.old.items ++ spec.name_line name.now) }
+    ensures { OnOk result (out.new.items ≡ out.old.items ++ markup (spec.name_line name.now)) }
 {
-    out.extend_from_slice(b"<h1>")?;
-    push_chars(out, name)?;
-    out.extend_from_slice(b"</h1>\n")
+    push_text_element(out, b"h1", name)
 }
 
 // How many there are of a thing.
@@ -69,13 +57,6 @@ fn push_keyings(out: &mut Vec<u8>, keyings: u16) -> Result<(), AllocError>
     out.extend_from_slice(b" back")
 }
 
-#[tactic(auto, unfolding(crate::specs::Head::certified_begin))]
-fn certified_begin() -> &'static [u8]
-    ensures { result.now ≡ spec.certified_begin }
-{
-    b"<p class=\"verdict certified\">CERTIFIED</p>\n<p>"
-}
-
 // How many rows a certificate has.
 fn count_of<C: Cover + Drop>(cert: &Certificate<C>) -> usize
     ensures { result ≡ length cert.now.rows }
@@ -83,43 +64,60 @@ fn count_of<C: Cover + Drop>(cert: &Certificate<C>) -> usize
     cert.cover().len()
 }
 
-#[tactic(auto, using(std::proofs::Common::append_assoc), unfolding(crate::specs::Head::certified))]
-fn push_certified<C: Cover + Drop>(
-    out: &mut Vec<u8>,
+#[tactic(auto, using(std::proofs::Common::append_assoc), unfolding(crate::specs::Head::certified_words))]
+fn certified_words<C: Cover + Drop>(
+    alloc: Global,
     cert: &Certificate<C>,
-) -> Result<(), AllocError>
-    ensures { OnOk result (out.new.items ≡ out.old.items ++ spec.certified cert.now) }
+) -> Result<Vec<u8>, AllocError>
+    ensures { IfOk result (λ words. words.items ≡ spec.certified_words cert.now) }
 {
-    out.extend_from_slice(certified_begin())?;
-    push_counted(out, count_of(cert), b"frame")?;
-    push_ceiling(out, cert.ceiling())?;
-    push_keyings(out, cert.keyings())?;
-    out.extend_from_slice(b"</p>\n")
+    let mut words = Vec::new(alloc);
+    push_counted(&mut words, count_of(cert), b"frame")?;
+    push_ceiling(&mut words, cert.ceiling())?;
+    push_keyings(&mut words, cert.keyings())?;
+    Ok(words)
+}
+
+#[tactic(auto, unfolding(crate::specs::Head::certified))]
+fn push_certified(out: &mut Vec<u8>) -> Result<(), AllocError>
+    ensures { OnOk result (out.new.items ≡ out.old.items ++ markup spec.certified) }
+{
+    let class = Attribute {
+        name: b"class",
+        value: b"verdict certified",
+    };
+    push_element(out, b"p", &[class], b"CERTIFIED")
+}
+
+#[tactic(auto, unfolding(crate::specs::Head::paragraph))]
+fn push_paragraph(out: &mut Vec<u8>, words: &[u8]) -> Result<(), AllocError>
+    ensures { OnOk result (out.new.items ≡ out.old.items ++ markup (spec.paragraph words.now)) }
+{
+    push_element(out, b"p", &[], words)
 }
 
 // How many faults there are.
-#[tactic(auto, unfolding(crate::specs::Head::faulty_begin))]
-fn faulty_begin() -> &'static [u8]
-    ensures { result.now ≡ spec.faulty_begin }
+#[tactic(auto, unfolding(crate::specs::Head::faulty_pieces))]
+fn push_faulty(alloc: Global, out: &mut Vec<u8>, faults: &[Fault]) -> Result<(), AllocError>
+    ensures { OnOk result (out.new.items ≡ out.old.items ++ markup (spec.faulty_pieces faults.now)) }
 {
-    b"<p class=\"verdict faulty\">"
+    let mut words = Vec::new(alloc);
+    push_counted(&mut words, faults.len(), b"fault")?;
+    let class = Attribute::of(b"class", b"verdict faulty");
+    push_element(out, b"p", &[class], words.as_slice())
 }
 
-#[tactic(auto, using(std::proofs::Common::append_assoc), unfolding(crate::specs::Head::faulty_words))]
-fn push_faulty(out: &mut Vec<u8>, faults: &[Fault]) -> Result<(), AllocError>
-    ensures { OnOk result (out.new.items ≡ out.old.items ++ spec.faulty_words faults.now) }
-{
-    out.extend_from_slice(faulty_begin())?;
-    push_counted(out, faults.len(), b"fault")?;
-    out.extend_from_slice(b"</p>\n")
-}
-
-fn push_verdict(out: &mut Vec<u8>, outcome: &Outcome) -> Result<(), AllocError>
-    ensures { OnOk result (out.new.items ≡ out.old.items ++ spec.outcome_text outcome.now) }
+#[tactic(auto, using(std::proofs::Common::append_assoc, crate::proofs::Bytes::markup_append))]
+fn push_verdict(alloc: Global, out: &mut Vec<u8>, outcome: &Outcome) -> Result<(), AllocError>
+    ensures { OnOk result (out.new.items ≡ out.old.items ++ markup (spec.outcome_pieces outcome.now)) }
 {
     match outcome {
-        Outcome::Certified(cert) => push_certified(out, cert),
-        Outcome::Faulty(faults) => push_faulty(out, faults.as_slice()),
+        Outcome::Certified(cert) => {
+            let words = certified_words(alloc, cert)?;
+            push_certified(out)?;
+            push_paragraph(out, words.as_slice())
+        }
+        Outcome::Faulty(faults) => push_faulty(alloc, out, faults.as_slice()),
     }
 }
 
@@ -167,15 +165,16 @@ fn push_keyings_asked(out: &mut Vec<u8>, keyings: u16) -> Result<(), AllocError>
     }
 }
 
-#[tactic(auto, using(std::proofs::Common::append_assoc), unfolding(crate::specs::Head::policy_line))]
-fn push_policy(out: &mut Vec<u8>, policy: &Policy) -> Result<(), AllocError>
-    ensures { OnOk result (out.new.items ≡ out.old.items ++ spec.policy_line policy.now) }
+#[tactic(auto, using(std::proofs::Common::append_assoc), unfolding(crate::specs::Head::policy_words))]
+fn policy_words(alloc: Global, policy: &Policy) -> Result<Vec<u8>, AllocError>
+    ensures { IfOk result (λ words. words.items ≡ spec.policy_words policy.now) }
 {
-    out.extend_from_slice(b"<p>For a caller in ")?;
-    push_groups(out, &policy.groups)?;
-    push_ceiling_asked(out, policy.ceiling)?;
-    push_keyings_asked(out, policy.keyings)?;
-    out.extend_from_slice(b"</p>\n")
+    let mut words = Vec::new(alloc);
+    words.extend_from_slice(b"For a caller in ")?;
+    push_groups(&mut words, &policy.groups)?;
+    push_ceiling_asked(&mut words, policy.ceiling)?;
+    push_keyings_asked(&mut words, policy.keyings)?;
+    Ok(words)
 }
 
 // The faults of an outcome.
@@ -188,25 +187,18 @@ pub fn faults_in<'a>(outcome: &'a Outcome) -> &'a [Fault]
     }
 }
 
-#[tactic(auto, using(std::proofs::Common::append_assoc), unfolding(crate::specs::Head::header_begin))]
+// It names the entry frame.
 fn push_begin(out: &mut Vec<u8>, entry: FrameId) -> Result<(), AllocError>
-    ensures { OnOk result (out.new.items ≡ out.old.items ++ spec.header_begin entry) }
+    ensures { OnOk result (out.new.items ≡ out.old.items ++
+        markup (opening_pieces (codes "header") ((codes "data-entry", frame_text entry) ∷ []))) }
 {
-    out.extend_from_slice(b"<header data-entry=\"")?;
-    push_id(out, entry)?;
-    out.extend_from_slice(b"\">\n")
-}
-
-#[tactic(auto, using(std::proofs::Common::append_assoc), unfolding(crate::specs::Head::header_end))]
-fn push_end(alloc: Global, out: &mut Vec<u8>, outcome: &Outcome) -> Result<(), AllocError>
-    ensures { OnOk result (out.new.items ≡ out.old.items ++ spec.header_end outcome.now) }
-{
-    out.extend_from_slice(b"</header>\n")?;
-    push_entry_faults(alloc, out, faults_in(outcome))
+    let text = entry.text();
+    let own = Attribute::of(b"data-entry", text.as_str().as_bytes());
+    push_opening(out, b"header", &[own])
 }
 
 // The header, and that the entry frame isn't found if it isn't.
-#[tactic(auto, using(std::proofs::Common::append_assoc))]
+#[tactic(auto, using(std::proofs::Common::append_assoc, crate::proofs::Bytes::markup_append), unfolding(crate::specs::Head::header_pieces))]
 pub fn push_header(
     alloc: Global,
     out: &mut Vec<u8>,
@@ -217,9 +209,11 @@ pub fn push_header(
 ) -> Result<(), AllocError>
     ensures { OnOk result (out.new.items ≡ out.old.items ++ spec.header name.now base.now policy.now outcome.now) }
 {
+    let words = policy_words(alloc, policy)?;
     push_begin(out, base.entry_frame())?;
     push_name(out, name)?;
-    push_verdict(out, outcome)?;
-    push_policy(out, policy)?;
-    push_end(alloc, out, outcome)
+    push_verdict(alloc, out, outcome)?;
+    push_paragraph(out, words.as_slice())?;
+    push_ending(out, b"header")?;
+    push_entry_faults(alloc, out, faults_in(outcome))
 }

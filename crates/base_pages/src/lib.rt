@@ -11,11 +11,15 @@
 //!
 //! - [`write_pages`], [`PagesStatus`], [`PagesFault`]: the file of a view of a base.
 //! - [`file_has_its_tags`]: a law; names, texts and faults of a base add no tag.
+//! - [`file_says_what_is_shown`], [`links_lead`], [`certified_ways_lead`]: laws of what a reader of markup finds; each section says what
+//!   `show` and the audit say of its frame, links are the ways, and on a certified base those lead.
 //! - Definitions: the file (`Pages`), its header (`Head`), a section (`Sections`) with its ways (`Ways`), faults (`Faults`) and
-//!   screen (`Screens`), the fixed parts (`Shell`).
+//!   screen (`Screens`), of elements (`Elements`), and the fixed parts (`Shell`); the reader (`Reading`), and what it finds of
+//!   frames (`Said`) and of ways (`Links`).
 #![tactic(auto)]
 
 mod book;
+mod element;
 mod fault;
 mod faults;
 mod header;
@@ -27,5 +31,5 @@ mod shell;
 mod ways;
 
 pub use fault::PagesFault;
-pub use laws::file_has_its_tags;
+pub use laws::{certified_ways_lead, file_has_its_tags, file_says_what_is_shown, links_lead};
 pub use pages::{PagesStatus, write_pages};

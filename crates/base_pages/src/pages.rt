@@ -2,10 +2,11 @@
 
 ghost use Rattle.std.specs.Prelude.{◌≡◌, ◌<◌, ◌++◌, ◌∷◌, List, ℕ, [], false, OnOk, IfOk, IfErr};
 ghost use Rattle.std.specs.Vec.{vec_len};
+ghost use Rattle.frame_records.specs.Bases.{IsBase};
 ghost use Rattle.devices.specs.Devices.{Seen, IsOnItsWay, WroteWhole};
 ghost use Rattle.base_pages.specs.Sections.{sections};
 ghost use Rattle.base_pages.specs.Shell as Shell;
-ghost use Rattle.base_pages.specs.Tags.{HasLetter, HaveLetters, tag_list, page_tags};
+ghost use Rattle.base_pages.specs.Tags.{HasId, HaveIds};
 ghost use Rattle.base_pages.specs.Loops.{IsReady, IsFilePrepared, book_view, book_file, IsStopped};
 ghost use Rattle.base_pages.specs.Pages.{IsPartWritten, IsPagesRun, front};
 
@@ -65,7 +66,7 @@ fn push_shown(
 ) -> Result<(), AllocError>
     requires { IsReady book.now }
     ensures text { OnOk result (out.new.items ≡ out.old.items ++ sections (book_view book.now) (frame.now ∷ [])) }
-    ensures letter { OnOk result (HasLetter book.now.part.now frame.now) }
+    ensures id { OnOk result (HasId book.now.part.now frame.now) }
 {
     if book.part.shows(frame.id) {
         book.push_section(alloc, out, frame)
@@ -87,7 +88,7 @@ fn write_section<S: Sink>(
     requires open { (S.seen sink.old).failed ≡ false }
     ensures few { OnOk result (vec_len kept.new < 65536) }
     ensures open { OnOk result ((S.seen sink.new).failed ≡ false) }
-    ensures letter { OnOk result (HasLetter book.now.part.now frame.now) }
+    ensures id { OnOk result (HasId book.now.part.now frame.now) }
     ensures taken { (start : Seen) (before : List ℕ) → IsOnItsWay start (S.seen sink.old) kept.old.items wrote before
         → IfOk result (λ n. IsOnItsWay start (S.seen sink.new) kept.new.items n (before ++
         sections (book_view book.now) (frame.now ∷ []))) }
@@ -113,7 +114,7 @@ fn write_sections<S: Sink>(
     requires ready { IsReady book.now }
     requires open { (S.seen sink.old).failed ≡ false }
     ensures open { OnOk result ((S.seen sink.new).failed ≡ false) }
-    ensures letters { OnOk result (HaveLetters book.now.part.now frames.now) }
+    ensures ids { OnOk result (HaveIds book.now.part.now frames.now) }
     ensures taken { (start : Seen) (before : List ℕ) → IsOnItsWay start (S.seen sink.old) kept.old.items 0 before
         → IfOk result (λ n. IsOnItsWay start (S.seen sink.new) kept.new.items n (before ++
         sections (book_view book.now) frames.now)) }
@@ -155,17 +156,18 @@ fn write_book<S: Sink>(
     requires ready { IsReady book.now }
     requires open { (S.seen sink.old).failed ≡ false }
     ensures whole { OnOk result (WroteWhole (S.seen sink.old) (S.seen sink.new) (book_file cover.now book.now)) }
-    ensures tags { OnOk result (tag_list (book_file cover.now book.now) ≡
-        page_tags cover.now.outcome.now (book_view book.now)) }
+    ensures ids { OnOk result (HaveIds book.now.part.now book.now.base.now.frames) }
+    ensures valid { IsBase book.now.base.now }
     ensures part { IfErr result (λ fault.
         IsStopped (S.seen sink.old) (S.seen sink.new) (book_file cover.now book.now) fault) }
 {
     let mut kept = Vec::new(alloc);
+    let frames = book.base.frames();
     match push_front(alloc, &mut kept, book.base, cover) {
         Ok(()) => {}
         Err(_) => return Err(PagesFault::Memory),
     }
-    match write_sections(alloc, sink, &mut kept, book, book.base.frames()) {
+    match write_sections(alloc, sink, &mut kept, book, frames) {
         Ok(wrote) => write_foot(sink, &mut kept, wrote),
         Err(fault) => Err(fault),
     }

@@ -3,8 +3,7 @@
 //! What is written is first a part, under a name that nobody reads; it is flushed to the disk, and then a rename gives it its name,
 //! which is flushed too.
 
-ghost use Rattle.std.specs.Prelude.{◌≡◌, true};
-ghost use Rattle.editions.specs.Folders.{FolderStep, RemoveParts, WriteEdition, SetCurrent, IsLater, TakesStep};
+ghost use Rattle.std.specs.Prelude.{◌≡◌};
 
 use crate::edition_folder::{FolderFiles, edition_path, path_in};
 use editions::{EditionFile, EditionStore, MOST_EDITION, StoreFault, WholeEdition, current_text};

@@ -1,8 +1,6 @@
 //! The command `export`: the screen of each frame of a base, in a file of its own. A screen is written beside it under another name,
 //! which then becomes its own, so that no half file is left.
 
-ghost use Rattle.std.specs.Prelude.{◌≡◌, false};
-
 use crate::named_files::{Unfinished, open_base, report, unwritten};
 use crate::out_file::new_beside;
 use audit_report::{FromRead, IntoWrite, RunFault};
@@ -112,6 +110,7 @@ fn ending_of(form: SavedForm) -> &'static str {
     match form {
         SavedForm::Cells => "bin",
         SavedForm::Ep1 => "ep1",
+        SavedForm::Tti => "tti",
         SavedForm::Link => "link",
     }
 }

@@ -2,11 +2,12 @@
 
 use crate::merge_files::import_into;
 use crate::named_files::{Unfinished, ended, open_base, report};
+use crate::screen_paths::{screen_paths, words_of};
 use audit_report::{FromRead, IntoWrite, RunFault};
 use command_words::Import;
 use pageaudit::{
-    AddressFault, Album, FileFrames, ImportFault, ImportStatus, LinkFault, ScreenFault,
-    ScreenPlace, Settled, Twin, run_import, status_of_import, take_frames,
+    Album, FaultyLine, FileFrames, ImportFault, ImportStatus, ScreenFault, ScreenPlace, Settled,
+    TextLineFault, Twin, run_import, status_of_import, take_frames,
 };
 use std::io;
 use std::rt::Files;
@@ -105,24 +106,36 @@ fn report_screen<R: Eprint>(rt: &R, path: &str, fault: ScreenFault) {
                 "{path}: size {size}; a screen has 960, 1000, 1024 or 880 bytes, an EP1 file 968 or 1008; --stream reads what a line carried"
             )
         }
-        ScreenFault::Address(
-            AddressFault {
+        ScreenFault::Text(
+            FaultyLine {
                 line,
-                fault: LinkFault::Two,
+                fault: TextLineFault::Two,
             },
         ) => eprintln!(rt; "{path}:{line}: two addresses in a line"),
-        ScreenFault::Address(
-            AddressFault {
+        ScreenFault::Text(
+            FaultyLine {
                 line,
-                fault: LinkFault::Letters(letters),
+                fault: TextLineFault::Letters(letters),
             },
         ) => {
             eprintln!(rt;
                 "{path}:{line}: an address with {letters} letters; a screen has 1120 or 1167"
             )
         }
+        ScreenFault::Text(
+            FaultyLine {
+                line,
+                fault: TextLineFault::Row,
+            },
+        ) => eprintln!(rt; "{path}:{line}: no row number after OL, of one or two digits"),
+        ScreenFault::Text(
+            FaultyLine {
+                line,
+                fault: TextLineFault::Pages,
+            },
+        ) => eprintln!(rt; "{path}:{line}: a file has at most 65535 pages"),
         ScreenFault::NoIdAt(line) => {
-            eprintln!(rt; "{path}:{line}: no frame id before the address, and row 0 shows none")
+            eprintln!(rt; "{path}:{line}: no frame id with the screen, and row 0 shows none")
         }
         ScreenFault::NoId => {
             eprintln!(rt; "{path}: no frame id in the name, and row 0 shows none")
@@ -154,13 +167,15 @@ fn report_file<R: Files + Eprint + AllocGlobal>(rt: &R, path: &str, refused: &Re
     }
 }
 
-// Adds the frames of all files; the exit status, 0 if none is at fault. All faults are named, unless memory is refused.
+// Adds the frames of all files; the exit status, 0 if none is at fault. All faults are named, unless memory is refused. `refused` is
+// the status of the folders.
 fn take_files<R: Files + Input + Eprint + AllocGlobal>(
     rt: &R,
     asked: &Import,
+    refused: u8,
     album: &mut Album,
 ) -> u8 {
-    let mut status = 0;
+    let mut status = refused;
     for (number, path) in asked.screens.iter().enumerate() {
         let taken = match take_file(rt, asked, path, number, album) {
             Ok(status) => status,
@@ -181,7 +196,7 @@ fn print_base<R: Print + AllocGlobal>(
     settled: &Settled,
 ) -> Result<ImportStatus, Unfinished> {
     let mut out = IntoWrite::new(io::writer(rt));
-    let run = run_import(rt.alloc(), settled, asked.entry, &mut out);
+    let run = run_import(rt.alloc(), settled, asked.entry, asked.guesses, &mut out);
     ended(run, &out)
 }
 
@@ -250,13 +265,43 @@ fn print_album<R: Files + Input + Print + Eprint + AllocGlobal>(
     }
 }
 
-/// Prints the base of the screens, or puts them into one; the exit status. If files are refused, or several frames have one id, each is
-/// named on standard error, nothing is printed or changed, and the status is 3. If the bad ones are to be skipped, it is the base of the
-/// others, and the status is 1; the first frame of an id is taken. If there are no others, nothing is printed.
-pub fn import<R: Files + Input + Print + Eprint + AllocGlobal>(rt: &R, asked: &Import) -> u8 {
+// Imports files.
+fn import_files<R: Files + Input + Print + Eprint + AllocGlobal>(
+    rt: &R,
+    asked: &Import,
+    refused: u8,
+) -> u8 {
     let mut album = Album::new(rt.alloc());
-    match take_files(rt, asked, &mut album) {
+    match take_files(rt, asked, refused, &mut album) {
         4 => 4,
         refused => print_album(rt, asked, album, refused),
     }
+}
+
+/// Prints the base of the screens, or puts them into one; the exit status. A folder is the files in it, in the order of their names. If
+/// files are refused, or several frames have one id, each is named on standard error, nothing is printed or changed, and the status is 3.
+/// If the bad ones are to be skipped, it is the base of the others, and the status is 1; the first frame of an id is taken. If there are no
+/// others, nothing is printed.
+pub fn import<R: Files + Input + Print + Eprint + AllocGlobal + Clone + Drop>(
+    rt: &R,
+    asked: &Import,
+) -> u8 {
+    let mut paths = Vec::new(rt.alloc());
+    let refused = screen_paths(rt, asked.screens, &mut paths);
+    if refused == 4 {
+        return refused;
+    }
+    let Ok(words) = words_of(rt.alloc(), paths.as_slice()) else {
+        return report(rt, "output", &Unfinished::Fault(RunFault::Memory));
+    };
+    let files = Import {
+        screens: words.as_slice(),
+        kind: asked.kind,
+        skip_bad: asked.skip_bad,
+        guesses: asked.guesses,
+        entry: asked.entry,
+        into: asked.into,
+        is_shown: asked.is_shown,
+    };
+    import_files(rt, &files, refused)
 }

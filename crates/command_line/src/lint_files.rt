@@ -2,12 +2,13 @@
 
 use crate::fix_files::{fixed_text, print_diff, print_text, replace_text};
 use crate::named_files::{Unfinished, ended, is_input, open_base, report};
-use audit_report::{FromRead, IntoWrite};
-use command_words::{Fixing, Lint};
-use pageaudit::{Counts, counted_text, run_lint, status_of_lint};
+use crate::terminal::shows_colours;
+use audit_report::{FromRead, IntoWrite, RunFault};
+use command_words::{Colouring, Fixing, Lint};
+use pageaudit::{Counts, Format, LintReport, counted_text, run_lint, status_of_lint};
 use std::alloc::Global;
 use std::io;
-use std::rt::{Files, Stderr};
+use std::rt::{Env, Files, Stderr};
 
 // What was found and done in all.
 #[derive(Clone, Copy)]
@@ -49,19 +50,13 @@ fn lint_path<R: Files + Input + Print + AllocGlobal>(
     rt: &R,
     path: &str,
     asked: &Lint,
+    how: &LintReport,
 ) -> Result<Sum, Unfinished> {
     match open_base(rt, path) {
         Ok(base) => {
             let mut base = FromRead::new(base);
             let mut out = IntoWrite::new(io::writer(rt));
-            let run = run_lint(
-                rt.alloc(),
-                &mut base,
-                &mut out,
-                path,
-                &asked.policy,
-                asked.format,
-            );
+            let run = run_lint(rt.alloc(), &mut base, &mut out, path, &asked.policy, how);
             match ended(run, &out) {
                 Ok(counts) => Ok(found(counts, 0)),
                 Err(unfinished) => Err(unfinished),
@@ -78,17 +73,11 @@ fn lint_text<W: io::Write + Drop>(
     path: &str,
     text: &[u8],
     asked: &Lint,
+    how: &LintReport,
 ) -> Result<Counts, Unfinished> {
     let mut base = FromRead::new(text);
     let mut out = IntoWrite::new(out);
-    let run = run_lint(
-        alloc,
-        &mut base,
-        &mut out,
-        path,
-        &asked.policy,
-        asked.format,
-    );
+    let run = run_lint(alloc, &mut base, &mut out, path, &asked.policy, how);
     ended(run, &out)
 }
 
@@ -98,6 +87,7 @@ fn fix_path<R: Files + Input + Print + AllocGlobal>(
     errors: &Stderr,
     path: &str,
     asked: &Lint,
+    how: &LintReport,
 ) -> Result<Sum, Unfinished> {
     let fixed = match fixed_text(rt, path, &asked.policy) {
         Ok((_, fixed)) => fixed,
@@ -106,14 +96,14 @@ fn fix_path<R: Files + Input + Print + AllocGlobal>(
     let text = fixed.text.as_slice();
     let counts = if is_input(path) {
         match print_text(rt, text) {
-            Ok(()) => lint_text(rt.alloc(), io::writer(errors), path, text, asked),
+            Ok(()) => lint_text(rt.alloc(), io::writer(errors), path, text, asked, how),
             Err(unfinished) => Err(unfinished),
         }
     } else if fixed.fixes == 0 {
-        lint_text(rt.alloc(), io::writer(rt), path, text, asked)
+        lint_text(rt.alloc(), io::writer(rt), path, text, asked, how)
     } else {
         match replace_text(rt, path, text) {
-            Ok(()) => lint_text(rt.alloc(), io::writer(rt), path, text, asked),
+            Ok(()) => lint_text(rt.alloc(), io::writer(rt), path, text, asked, how),
             Err(unfinished) => Err(unfinished),
         }
     };
@@ -154,20 +144,50 @@ pub fn print_counts<R: Eprint + AllocGlobal>(rt: &R, counts: &Counts) {
     print_sum(rt, &found(*counts, 0));
 }
 
+// What is printed of findings: the form `full` is in colour if it was asked for, or suits standard output.
+fn report_of<R: Files + Env + AllocGlobal>(rt: &R, asked: &Lint) -> Result<LintReport, RunFault> {
+    let is_coloured = match (asked.report.format, asked.colouring) {
+        (Format::Full, Colouring::Always) => true,
+        (Format::Full, Colouring::Auto) => shows_colours(rt)?,
+        _ => false,
+    };
+    let format = if is_coloured {
+        Format::Coloured
+    } else {
+        asked.report.format
+    };
+    Ok(LintReport {
+        format,
+        ..asked.report
+    })
+}
+
 /// Prints the findings of each base, or what would be fixed in it, and on standard error how many fixes and findings there are in
-/// all; the exit status. A base that can't be read or replaced is named there and makes the status 3, and the others are judged.
-/// Nothing is judged after a write that failed or memory that was refused.
-pub fn lint<R: Files + Input + Print + Eprint + AllocGlobal>(
+/// all, unless it is to be quiet; the exit status. A base that can't be read or replaced is named there and makes the status 3, and the
+/// others are judged. Nothing is judged after a write that failed or memory that was refused.
+pub fn lint<R: Files + Env + Input + Print + Eprint + AllocGlobal>(
     rt: &R,
     errors: Stderr,
     asked: &Lint,
+) -> u8 {
+    match report_of(rt, asked) {
+        Ok(report) => lint_bases(rt, errors, asked, report),
+        Err(fault) => report(rt, "output", &Unfinished::Fault(fault)),
+    }
+}
+
+fn lint_bases<R: Files + Input + Print + Eprint + AllocGlobal>(
+    rt: &R,
+    errors: Stderr,
+    asked: &Lint,
+    how: LintReport,
 ) -> u8 {
     let mut sum = NOTHING;
     let mut failed = None;
     for path in asked.bases {
         let done = match asked.fixing {
-            Fixing::None => lint_path(rt, path, asked),
-            Fixing::Made => fix_path(rt, &errors, path, asked),
+            Fixing::None => lint_path(rt, path, asked, &how),
+            Fixing::Made => fix_path(rt, &errors, path, asked, &how),
             Fixing::Shown => diff_path(rt, path, asked),
         };
         match done {
@@ -181,7 +201,9 @@ pub fn lint<R: Files + Input + Print + Eprint + AllocGlobal>(
             }
         }
     }
-    print_sum(rt, &sum);
+    if !how.is_quiet {
+        print_sum(rt, &sum);
+    }
     let status = status_of_lint(&Ok(sum.counts), asked.denied);
     failed.unwrap_or(status.max(u8::from(sum.differs)))
 }

@@ -18,10 +18,12 @@ mod named_files;
 mod out_file;
 mod pages_file;
 mod publish_files;
+mod screen_paths;
 mod serve_call;
 mod serve_line;
 mod serve_notes;
 mod show_screen;
+mod terminal;
 
 use audit_report::{FromRead, IntoWrite, RunFault, fault_text, write_whole};
 use checker::Policy;

@@ -146,7 +146,7 @@ pub fn import_into<R: Files + Input + Print + Eprint + AllocGlobal>(
         Ok(text) => text,
         Err(unfinished) => return report(rt, base, &unfinished),
     };
-    match merge_frames(rt.alloc(), old.as_slice(), settled) {
+    match merge_frames(rt.alloc(), old.as_slice(), asked.guesses, settled) {
         Ok(merged) if asked.is_shown => show_diff(rt, base, old.as_slice(), &merged),
         Ok(merged) => write_merged(rt, base, old.as_slice(), &merged),
         Err(fault) => report_merge(rt, base, asked, fault),

@@ -87,7 +87,8 @@ pub fn unwritten(error: &io::Error) -> Unfinished {
     }
 }
 
-fn is_folder<R: Files>(rt: &R, path: &str) -> bool {
+/// Whether a path names a folder.
+pub fn is_folder<R: Files>(rt: &R, path: &str) -> bool {
     match fs::metadata(rt, path_to(path)) {
         Ok(there) => there.is_dir(),
         Err(_) => false,

@@ -1,6 +1,6 @@
 //! The command `publish`: the folder is opened under its lock, which is held until the program ends.
 
-ghost use Rattle.std.specs.Prelude.{◌≡◌, true, false};
+ghost use Rattle.std.specs.Prelude.{true, false};
 
 use crate::edition_folder::{FolderFiles, path_in};
 use crate::edition_store::{flush_folder, write_policy};

@@ -6,7 +6,7 @@ use checker::Policy;
 use clap::{Arg, ArgAction, ArgMatches, Command, Error, value_parser};
 use frame_records::{Groups, GroupsFault, MOST_PENCE, Pence};
 use page_ids::{FrameId, MOST_PAGE, PageNo};
-use pageaudit::{FileKind, Form, Format, Level, ListForm, SavedForm, View};
+use pageaudit::{FileKind, Form, Format, Ignored, Level, LintReport, ListForm, SavedForm, View};
 use std::alloc::{AllocError, Global};
 use std::rt::Env;
 use std::{env, io};
@@ -15,13 +15,26 @@ use std::{env, io};
 const FORMS: &[&str] = &["text", "ansi", "svg", "cells", "link", "html"];
 
 // The words for the forms of files of screens.
-const SAVED_FORMS: &[&str] = &["bin", "ep1", "link"];
+const SAVED_FORMS: &[&str] = &["bin", "ep1", "tti", "link"];
 
 // The words for what a caller of `serve` has.
 const CALL_FORMS: &[&str] = &["viewdata", "ansi"];
 
 // The words for the forms of findings.
 const FORMATS: &[&str] = &["full", "line", "json", "github"];
+
+// The words for when findings are in colour.
+const COLOURINGS: &[&str] = &["auto", "always", "never"];
+
+// The codes of warnings.
+const WARNINGS: &[&str] = &[
+    "UNREACHED",
+    "UNSOUGHT",
+    "HIDDEN",
+    "LINEEND",
+    "ESCAPE",
+    "MENU",
+];
 
 // The words for the forms of a list.
 const LIST_FORMATS: &[&str] = &["line", "json"];
@@ -114,6 +127,38 @@ fn format_option<'a>(alloc: Global) -> Arg<'a> {
         )
 }
 
+// Which warnings don't count.
+fn ignore_option<'a>(alloc: Global) -> Arg<'a> {
+    Arg::new(alloc, "ignore")
+        .long("ignore")
+        .value_name("CODES")
+        .action(ArgAction::Append)
+        .value_delimiter(',')
+        .value_parser(WARNINGS)
+        .help("Leave out the warnings of these codes, e.g. 'UNREACHED,HIDDEN'")
+}
+
+// When findings are in colour.
+fn color_option<'a>(alloc: Global) -> Arg<'a> {
+    Arg::new(alloc, "color")
+        .long("color")
+        .value_name("WHEN")
+        .action(ArgAction::Set)
+        .value_parser(COLOURINGS)
+        .default_value("auto")
+        .help("Print the form full in colour; auto is if standard output is a terminal")
+}
+
+// The options of what is printed.
+fn with_report<'a>(alloc: Global, command: Command<'a>) -> Result<Command<'a>, AllocError> {
+    let quiet = flag(alloc, "quiet", "Print no warnings and no count").short('q');
+    command
+        .arg(format_option(alloc))?
+        .arg(color_option(alloc))?
+        .arg(ignore_option(alloc))?
+        .arg(quiet)
+}
+
 // The options of what is done about slips.
 fn with_fixes<'a>(alloc: Global, command: Command<'a>) -> Result<Command<'a>, AllocError> {
     let fix = flag(
@@ -137,8 +182,8 @@ fn lint_command<'a>(alloc: Global) -> Result<Command<'a>, AllocError> {
     let command = Command::new(alloc, "lint")
         .about("Find every fault of bases, each at its line and column")
         .after_help(help::LINT)
-        .arg(bases)?
-        .arg(format_option(alloc))?
+        .arg(bases)?;
+    let command = with_report(alloc, command)?
         .arg(flag(
             alloc,
             "deny-warnings",
@@ -351,7 +396,7 @@ fn import_command<'a>(alloc: Global) -> Result<Command<'a>, AllocError> {
     let screens = place(
         alloc,
         "SCREEN",
-        "Files of screens, named by a frame, e.g. 478a.bin, or with its id in row 0",
+        "Files of screens, named by a frame, e.g. 478a.bin, or with its id in row 0, or folders of them",
     )
     .num_args(1..)
     .action(ArgAction::Append);
@@ -381,6 +426,11 @@ fn import_command<'a>(alloc: Global) -> Result<Command<'a>, AllocError> {
             "skip-bad",
             "Print the base of the other frames if some are at fault",
         ))?
+        .arg(flag(
+            alloc,
+            "routes",
+            "Guess the routes of new frames from the numbers of pages and the keys that are shown",
+        ))?
         .arg(entry_option(alloc))
 }
 
@@ -397,7 +447,7 @@ fn export_command<'a>(alloc: Global) -> Result<Command<'a>, AllocError> {
         .value_name("FORM")
         .action(ArgAction::Set)
         .value_parser(SAVED_FORMS)
-        .help("Write 960 codes, EP1 files, or addresses of edit.tf; bin without it");
+        .help("Write 960 codes, EP1 or TTI files, or addresses of edit.tf; bin without it");
     let command = Command::new(alloc, "export")
         .about("Write the screen of each frame of a base to a file")
         .after_help(help::EXPORT)
@@ -492,18 +542,19 @@ fn whole_command<'a>(alloc: Global) -> Result<Command<'a>, AllocError> {
     let whole = Command::new(alloc, "pageaudit")
         .bin_name("pageaudit")?
         .about("Audit the page base of a viewdata information provider")
+        .after_help(help::COMMANDS)
         .version(help::VERSION)
         .subcommand_required(true);
-    let whole = with_part(Ok(whole), lint_command(alloc));
-    let whole = with_part(whole, audit_command(alloc));
-    let whole = with_part(whole, check_command(alloc));
-    let whole = with_part(whole, change_command(alloc));
-    let whole = with_part(whole, walk_command(alloc));
-    let whole = with_part(whole, show_command(alloc));
+    let whole = with_part(Ok(whole), show_command(alloc));
     let whole = with_part(whole, list_command(alloc));
+    let whole = with_part(whole, walk_command(alloc));
     let whole = with_part(whole, map_command(alloc));
     let whole = with_part(whole, import_command(alloc));
     let whole = with_part(whole, export_command(alloc));
+    let whole = with_part(whole, lint_command(alloc));
+    let whole = with_part(whole, audit_command(alloc));
+    let whole = with_part(whole, check_command(alloc));
+    let whole = with_part(whole, change_command(alloc));
     let whole = with_part(whole, publish_command(alloc));
     let whole = with_part(whole, editions_command(alloc));
     let whole = with_part(whole, serve_command(alloc));
@@ -543,12 +594,22 @@ pub enum Fixing {
     Shown,
 }
 
+/// When findings in the form `full` are in colour.
+#[derive(Debug, Clone, Copy, PartialEq, Eq)]
+pub enum Colouring {
+    /// If standard output is a terminal and `NO_COLOR` is unset or empty.
+    Auto,
+    Always,
+    Never,
+}
+
 /// Which bases are linted, and how.
 #[derive(Drop)]
 pub struct Lint<'a> {
     /// At least one. `-` is standard input.
     pub bases: &'a [&'a str],
-    pub format: Format,
+    pub report: LintReport,
+    pub colouring: Colouring,
     pub policy: Policy,
     pub fixing: Fixing,
     /// The least level of a finding that makes the exit status 1.
@@ -583,11 +644,13 @@ pub struct Pages<'a> {
 /// Which screens make a base, and how.
 #[derive(Drop)]
 pub struct Import<'a> {
-    /// The files, at least one.
+    /// The files and folders, at least one.
     pub screens: &'a [&'a str],
     pub kind: FileKind,
     /// Whether the base of the others is printed if some are at fault.
     pub skip_bad: bool,
+    /// Whether the routes of new frames are guessed.
+    pub guesses: bool,
     /// The entry page; without it the smallest page.
     pub entry: Option<PageNo>,
     /// The base that the frames go into; without one they are a base of their own.
@@ -783,6 +846,7 @@ fn form_of(word: &str) -> Option<Form> {
 fn saved_form_of(word: Option<&str>) -> SavedForm {
     match word {
         Some("ep1") => SavedForm::Ep1,
+        Some("tti") => SavedForm::Tti,
         Some("link") => SavedForm::Link,
         _ => SavedForm::Cells,
     }
@@ -818,11 +882,46 @@ fn fixing_of(words: &ArgMatches) -> Fixing {
     }
 }
 
+fn colouring_of(word: Option<&str>) -> Colouring {
+    match word {
+        Some("always") => Colouring::Always,
+        Some("never") => Colouring::Never,
+        _ => Colouring::Auto,
+    }
+}
+
+// The warnings whose codes are among these words.
+fn ignored_of(words: &[&str]) -> Ignored {
+    let mut ignored = Ignored::NONE;
+    for word in words {
+        match *word {
+            "UNREACHED" => ignored.unreached = true,
+            "HIDDEN" => ignored.hidden = true,
+            "LINEEND" => ignored.line_end = true,
+            "ESCAPE" => ignored.escape = true,
+            "MENU" => ignored.menu = true,
+            "UNSOUGHT" => ignored.unsought = true,
+            _ => (),
+        }
+    }
+    ignored
+}
+
+// What is printed of findings.
+fn report_of(words: &ArgMatches) -> Option<LintReport> {
+    Some(LintReport {
+        format: words.get_str("format").and_then(format_of)?,
+        ignored: ignored_of(words.get_strs("ignore").unwrap_or(&[])),
+        is_quiet: words.get_flag("quiet"),
+    })
+}
+
 // Which bases are linted, and how.
 fn lint_of<'a>(words: &'a ArgMatches, groups: Groups) -> Option<Request<'a>> {
     Some(Request::Lint(Lint {
         bases: words.get_strs("BASE")?,
-        format: words.get_str("format").and_then(format_of)?,
+        report: report_of(words)?,
+        colouring: colouring_of(words.get_str("color")),
         policy: policy_of(words, groups)?,
         fixing: fixing_of(words),
         denied: if words.get_flag("deny-warnings") {
@@ -916,6 +1015,7 @@ fn import_of<'a>(words: &'a ArgMatches) -> Option<Request<'a>> {
             FileKind::Cells
         },
         skip_bad: words.get_flag("skip-bad"),
+        guesses: words.get_flag("routes"),
         entry: page_of(words, "entry"),
         into,
         is_shown,

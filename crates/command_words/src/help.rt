@@ -3,10 +3,20 @@
 /// The program's version, which the list of changes names too.
 pub const VERSION: &str = "1.1.0";
 
+/// After the commands.
+pub const COMMANDS: &str = concat!(
+    "Look: show, list, walk, map. Draw: import, export. Judge: lint, audit, check, change.\n",
+    "Publish: publish, editions, serve. Look up a printed word: explain.",
+);
+
 /// After the options of `lint`.
 pub const LINT: &str = concat!(
     "--fix changes the file and nothing of it but those slips: 'price = \"5\"' is 'price = 5'. What a\n",
-    "frame shows stays. Of standard input the fixed text is printed, and findings on standard error.\n\n",
+    "frame shows stays. Of standard input the fixed text is printed, and findings on standard error.\n",
+    "Warnings that --ignore names don't count; with -q they count and aren't printed. Colours are for\n",
+    "the form full; auto is off if NO_COLOR is set. An object of JSON has file, level, code, message,\n",
+    "hint, frame, key and keys, its span as line, column, end_line and end_column, both counted from 1,\n",
+    "and fix: null, or a span and its new text.\n\n",
     "Examples: pageaudit lint examples/town.toml\n",
     "          pageaudit lint town.toml --fix\n\n",
     "Status: 0 no error, 1 errors, or with --deny-warnings warnings, or a diff, 2 bad command line,\n",
@@ -80,9 +90,11 @@ pub const MAP: &str = concat!(
 /// After the options of `import`.
 pub const IMPORT: &str = concat!(
     "A file of 960 bytes is 24 rows of 40 codes; 1,000 and 1,024 bytes have more, which is dropped;\n",
-    "880 bytes are rows 1 to 22. An EP1 file has 968 or 1,008 bytes. A text has an address of edit.tf\n",
-    "or zxnet in each line, after the frame's id. A capture has many screens: each is the frame whose\n",
-    "id its row 0 shows. The base has no routes: they are yet to be typed.\n",
+    "880 bytes are rows 1 to 22. An EP1 file has 968 or 1,008 bytes. A text has pages of TTI, or an\n",
+    "address of edit.tf or zxnet in each line, after the frame's id. A capture has many screens: each\n",
+    "is the frame whose id its row 0 shows. A folder is the files in it, without those in its folders.\n",
+    "The base has no routes: they are yet to be typed, or --routes guesses them: on page 478 a key 2\n",
+    "that the screen shows leads to page 4782, and 0 to page 47, if the base has it.\n",
     "--into gives the frames of a base new rows, and adds the others at its end: routes, prices,\n",
     "comments and all else stay to the byte. A frame with lead = \"keep\" stays as it is.\n\n",
     "Example: pageaudit import examples/screens/*.bin >town.toml\n",
@@ -95,8 +107,9 @@ pub const IMPORT: &str = concat!(
 /// After the options of `export`.
 pub const EXPORT: &str = concat!(
     "The files are named by frame and form, as 478a.bin. One of the form bin has the 960 codes that\n",
-    "'show --as cells' writes, one of ep1 the same for editors of teletext, and one of link a line with\n",
-    "the frame's id and its address, at which edit.tf shows it.\n\n",
+    "'show --as cells' writes, one of ep1 the same for editors of teletext, one of tti its rows 0 to 22\n",
+    "as lines for them, and one of link a line with the frame's id and its address, at which edit.tf\n",
+    "shows it.\n\n",
     "Example: pageaudit export examples/town.toml --out screens\n",
     "         pageaudit export examples/town.toml --out links --as link && cat links/*.link\n\n",
     "Status: 0 all screens, 2 bad command line,\n",

@@ -5,7 +5,7 @@
 //!
 //! - [`words`], [`WordsFault`]: the program's words, or why there are none.
 //! - [`matches`]: what clap makes of them, or its error: a usage text, or help.
-//! - [`groups_of`], [`asked_for`], [`Request`], [`Lint`], [`Fixing`], [`Show`], [`Pages`], [`Import`], [`Export`],
+//! - [`groups_of`], [`asked_for`], [`Request`], [`Lint`], [`Colouring`], [`Fixing`], [`Show`], [`Pages`], [`Import`], [`Export`],
 //!   [`Publish`], [`Serve`], [`CallForm`]: the caller's groups, and what is asked for.
 #![tactic(auto)]
 
@@ -13,6 +13,6 @@ mod command;
 mod help;
 
 pub use command::{
-    CallForm, Export, Fixing, Import, Lint, Pages, Publish, Request, Serve, Show, WordsFault,
-    asked_for, groups_of, matches, words,
+    CallForm, Colouring, Export, Fixing, Import, Lint, Pages, Publish, Request, Serve, Show,
+    WordsFault, asked_for, groups_of, matches, words,
 };

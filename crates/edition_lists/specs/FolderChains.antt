@@ -27,15 +27,17 @@ AreAfter f e (g ∷ more) = IsInFolder f (Some e.number) g × AreAfter f g more
 abbrev pub IsFolderChain : FolderState → ChainedEdition → List ChainedEdition → Type 0
 IsFolderChain f e more = ((follows : Option ℕ) × IsInFolder f follows e) × AreAfter f e more
 
--- callers are safe over any number of changes along a chain, from whichever edition on, by the widest policy of these callers
+-- callers are safe over any number of changes along a chain, from whichever edition on, by the widest policy of these
+-- callers
 abbrev pub AreChainsSafe : FolderState → Type 0
 AreChainsSafe f =
     (first second : ChainedEdition) (more : List ChainedEdition) → IsFolderChain f first (second ∷ more)
     → IsSafeOverChanges (widest_of first.edition.policy.groups) first.edition.edition
     (second.edition.edition ∷ map (λ e. e.edition.edition) more)
 
--- In a sound folder: the check clears each edition of a chain by its own policy; callers are safe over each change, by the wider of
--- the two policies; and over any number of changes, from whichever edition on, by the widest policy of these callers.
+-- In a sound folder: the check clears each edition of a chain by its own policy; callers are safe over each change, by
+-- the wider of the two policies; and over any number of changes, from whichever edition on, by the widest policy of
+-- these callers.
 pub record SoundFoldersAreSafe : Type 0 where
   pub cleared : (f : FolderState) (follows : Option ℕ) (e : ChainedEdition) → IsSoundFolder f → IsInFolder f follows e
       → IsClearedEdition (chained_view follows e)

@@ -1,8 +1,9 @@
 -- The rows of a list of editions.
-use Rattle.std.specs.Prelude.{◌≡◌, ℕ, Bool, true, false, if◌then◌else◌, length, List, map, Option, Some, None}
+use Rattle.std.specs.Prelude.{◌≡◌, ℕ, Bool, true, false, if◌then◌else◌, List, map, Option, Some, None}
 use Rattle.std.specs.List.{All}
 use Rattle.editions.specs.Folders.{FolderState}
-use Rattle.base_differences.specs.Summaries.{BeginsWithCount}
+use Rattle.base_differences.specs.Summaries.{summary}
+use Rattle.frame_records.specs.Bases.{BaseView}
 use Rattle.edition_lists.specs.declared.current.FoundCurrent.{FoundCurrent}
 use Rattle.edition_lists.specs.declared.current.FoundCurrent.TheVariants.{Unread}
 use Rattle.edition_lists.specs.declared.kept.KeptEdition.{KeptEdition}
@@ -27,7 +28,8 @@ pub record IsRowOf (numbers : List ℕ) (served : Option ℕ) (e : KeptEdition) 
   pub serving : row.serving ≡ serving_of served e.served.number e.follows
   pub follows : row.follows ≡ e.follows
   pub lacks : row.lacks ≡ lack_of numbers e.follows
-  pub frames : BeginsWithCount (length e.served.base.frames) row.summary.items
+  pub old : Option BaseView
+  pub summary : row.summary.items ≡ summary old e.served.base
 
 -- the row of an edition of a folder
 pub record IsRowIn (f : FolderState) (numbers : List ℕ) (served : Option ℕ) (row : EditionRow) : Type 0 where

@@ -8,7 +8,8 @@ use Rattle.editions.specs.Moments.{IsSoundFolder}
 abbrev pub IsLastNumber : List (ℕ × FilesSeen) → ℕ → Type 0
 IsLastNumber editions n = (k : ℕ) (files : FilesSeen) → edition_among editions k ≡ Some files → k ≤ n
 
--- an edition isn't after the one that is served; or it is the last and follows that one: a stop left it, and it isn't served yet
+-- an edition isn't after the one that is served; or it is the last and follows that one: a stop left it, and it isn't
+-- served yet
 abbrev pub IsNotAfter : List (ℕ × FilesSeen) → Option ℕ → ℕ → ℕ → Type 0
 IsNotAfter editions None n k = ⊥
 IsNotAfter editions (Some served) n k = (n ≤ served) ⊎ ((k ≡ served) × IsLastNumber editions n)
@@ -33,12 +34,13 @@ pub record FollowsOne (f : FolderState) (n k : ℕ) : Type 0 where
   pub is : files.follows ≡ Some text
   pub says : follows_in text ≡ Some (Some k)
 
--- what an edition follows isn't before another one that follows an edition and comes before it: so no two follow the same one
+-- what an edition follows isn't before another one that follows an edition and comes before it: so no two follow the
+-- same one
 abbrev pub IsUnforked : FolderState → Type 0
 IsUnforked f = (m j n k : ℕ) → FollowsOne f m j → FollowsOne f n k → m < n → m ≤ k
 
--- each edition is whole, has the sums of its files, and was cleared, by itself and against the one that it follows, which is there;
--- no two follow the same one; and `current` names one, the last of its chain, or nothing is published
+-- each edition is whole, has the sums of its files, and was cleared, by itself and against the one that it follows,
+-- which is there; no two follow the same one; and `current` names one, the last of its chain, or nothing is published
 pub record IsVerifiedFolder (f : FolderState) : Type 0 where
   pub sound : IsSoundFolder f
   pub unforked : IsUnforked f

@@ -21,7 +21,8 @@ pub enum FoundCurrent {
     Unread,
 }
 
-/// The edition beside which the others are judged. If `current` names no number that is the last one, so that only one line says so.
+/// The edition beside which the others are judged. If `current` names no number that is the last one, so that only one
+/// line says so.
 pub fn served_of(current: FoundCurrent, numbers: &[u32]) -> Option<u32>
     ensures { result ≡ spec.served_of current numbers.now }
 {

@@ -55,7 +55,8 @@ pub enum EditionFlaw {
     OtherGroups(u32),
     /// The change from the edition of this number, which it follows, is refused.
     ChangeRefused(u32, ChangeVerdict),
-    /// It follows the edition of this number, and comes after the one that is served; so `current` isn't the last of its chain.
+    /// It follows the edition of this number, and comes after the one that is served; so `current` isn't the last of
+    /// its chain.
     Passed(u32),
 }
 

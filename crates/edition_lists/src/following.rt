@@ -69,7 +69,8 @@ fn change_after<F: EditionFolder>(
     }
 }
 
-/// What is wrong with an edition beside the one that it follows. `before` is the edition that was read before it, if that is right.
+/// What is wrong with an edition beside the one that it follows. `before` is the edition that was read before it, if
+/// that is right.
 pub fn follows_fault<F: EditionFolder>(
     alloc: Global,
     folder: &mut F,
@@ -102,8 +103,8 @@ fn is_last(numbers: &[u32], number: u32) -> bool
     numbers.iter().all(|one| *one <= number)
 }
 
-// Whether the edition that is served isn't passed by one that follows another: that one isn't after it, or is the last and follows
-// it.
+// Whether the edition that is served isn't passed by one that follows another: that one isn't after it, or is the last
+// and follows it.
 fn is_within(numbers: &[u32], served: u32, number: u32, follows: u32) -> bool
     ensures { result ≡ true → IsNumberWithin numbers.now served number follows }
 {

@@ -46,7 +46,8 @@ fn last_after(last: u32, number: u32, follows: Option<u32>) -> u32
     }
 }
 
-/// The first right edition that doesn't follow the one before it in its chain, by findings in the order of their numbers.
+/// The first right edition that doesn't follow the one before it in its chain, by findings in the order of their
+/// numbers.
 pub fn first_fork(findings: &[EditionFinding]) -> Option<Fork>
     ensures { result ≡ spec.first_fork 0 findings.now }
 {

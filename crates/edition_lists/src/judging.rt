@@ -100,8 +100,8 @@ fn unread(fault: ServedFault) -> Result<EditionFlaw, FolderFault> {
     }
 }
 
-/// Reads an edition and judges it. `numbers` are those of all editions, `current` is the one that is served; `before` is the edition
-/// that was read before it, if that is right.
+/// Reads an edition and judges it. `numbers` are those of all editions, `current` is the one that is served; `before`
+/// is the edition that was read before it, if that is right.
 pub fn judge_edition<F: EditionFolder>(
     alloc: Global,
     folder: &mut F,

@@ -66,8 +66,8 @@ fn read_follows<F: EditionFolder>(
     }
 }
 
-/// Reads an edition of a folder, of which the lock is held: first the base, the certificate and the policy, then `follows` and
-/// SHA256SUMS, whose sums aren't looked at.
+/// Reads an edition of a folder, of which the lock is held: first the base, the certificate and the policy, then
+/// `follows` and SHA256SUMS, whose sums aren't looked at.
 pub fn read_kept<F: EditionFolder>(
     alloc: Global,
     folder: &mut F,

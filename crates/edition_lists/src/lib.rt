@@ -7,12 +7,14 @@
 //! ```
 //!
 //! - [`run_list`]: a line for each edition, in the order of their numbers.
-//! - [`run_verify`]: checks each edition by itself and against the one that it follows, and that `current` is the last of its chain.
-//!   If it answers [`EditionsStatus::Cleared`], the folder is sound; [`sound_folders_are_safe`] says what that means for callers.
-//! - [`EditionsStatus`], [`EditionsFault`], [`FolderFault`], [`status_of_editions`]: what a run found, why it ended early, and the exit
-//!   status for it.
-//! - Definitions: what a run finds in a folder (`Judged`, `Findings`, `Forks`, `Rows`), the texts (`VerifyLines`, `ListLines`, `Runs`), what a
-//!   cleared folder is (`Verified`), its chains (`FolderChains`), the exit status (`EditionsStatuses`).
+//! - [`run_verify`]: checks each edition by itself and against the one that it follows, and that `current` is the last
+//!   of its chain. If it answers [`EditionsStatus::Cleared`], the folder is sound; [`sound_folders_are_safe`] says what
+//!   that means for callers.
+//! - [`EditionsStatus`], [`EditionsFault`], [`FolderFault`], [`status_of_editions`]: what a run found, why it ended
+//!   early, and the exit status for it.
+//! - Definitions: what a run finds in a folder (`Judged`, `Findings`, `Forks`, `Rows`), the texts (`VerifyLines`,
+//!   `ListLines`, `Runs`), what a cleared folder is (`Verified`), its chains (`FolderChains`), the exit status
+//!   (`EditionsStatuses`).
 #![tactic(auto)]
 
 mod current;

@@ -233,9 +233,10 @@ fn listed<S: EditionStore>(alloc: Global, store: &mut S) -> Result<Said, FolderF
 
 /// Lists the editions of a folder, a line for each, in the order of their numbers.
 ///
-/// The folder's lock is held by the caller. A line has the edition's number, whether it is served, what it follows, its frames and
-/// what changed from the edition that it follows. An edition of which a file is missing or doesn't read ends the run. Two editions
-/// at most are in memory. The text is written at the end; how it says what changed is tested, not proved.
+/// The folder's lock is held by the caller. A line has the edition's number, whether it is served, what it follows, its
+/// frames and what changed from the edition that it follows. An edition of which a file is missing or doesn't read ends
+/// the run. Two editions at most are in memory. The text is written at the end; how it says what changed is tested, not
+/// proved.
 pub fn run_list<S: EditionStore, O: Sink>(
     alloc: Global,
     store: &mut S,

@@ -283,8 +283,8 @@ fn push_end(
     out.extend_from_slice(status_line(status))
 }
 
-/// What is printed of a folder: what is wrong with `current` and with each edition, in the order of their numbers, and which one
-/// isn't served yet; how many editions there are, and the verdict.
+/// What is printed of a folder: what is wrong with `current` and with each edition, in the order of their numbers, and
+/// which one isn't served yet; how many editions there are, and the verdict.
 pub fn verify_text(
     alloc: Global,
     folder: &str,

@@ -191,10 +191,11 @@ fn verified<S: EditionStore>(
 
 /// Verifies a folder of editions. `folder` is its path, as it is printed before the files in it.
 ///
-/// The folder's lock is held by the caller. In the order of their numbers, each edition is read, and compared with its sums; the
-/// check is asked about it by its own policy, and about the change from the edition that it follows by the wider of the two. What
-/// is wrong is printed, for each edition the first fault only, then the first edition that another one comes between, the number of
-/// editions and the verdict. Two editions at most are in memory. The text is written at the end, if the folder was read.
+/// The folder's lock is held by the caller. In the order of their numbers, each edition is read, and compared with its
+/// sums; the check is asked about it by its own policy, and about the change from the edition that it follows by the
+/// wider of the two. What is wrong is printed, for each edition the first fault only, then the first edition that
+/// another one comes between, the number of editions and the verdict. Two editions at most are in memory. The text is
+/// written at the end, if the folder was read.
 pub fn run_verify<S: EditionStore, O: Sink>(
     alloc: Global,
     store: &mut S,
@@ -210,8 +211,8 @@ pub fn run_verify<S: EditionStore, O: Sink>(
     // What is printed, and the status.
     ensures run { IsRun (IsVerification (S.seen store.old) folder.now) (O.seen out.old) (O.seen out.new) result }
 
-    // Cleared: each edition is whole, has its sums, and was cleared, by itself and against the one that it follows; no two follow
-    // the same one; and `current` names the last edition of its chain, but for one that isn't served yet.
+    // Cleared: each edition is whole, has its sums, and was cleared, by itself and against the one that it follows; no
+    // two follow the same one; and `current` names the last edition of its chain, but for one that isn't served yet.
     ensures verified { result ≡ Ok EditionsStatus.Cleared → IfSome (S.seen store.old).state IsVerifiedFolder }
 
     // So callers, in whichever edition they began, were safe along its chain.

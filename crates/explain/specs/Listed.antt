@@ -77,6 +77,8 @@ listed_words =
     codes "HIDDEN" ∷
     codes "LINEEND" ∷
     codes "ESCAPE" ∷
+    codes "MENU" ∷
+    codes "UNSOUGHT" ∷
     codes "FRAME" ∷
     codes "RANK" ∷
     codes "GROUP" ∷

@@ -1,7 +1,7 @@
 //! The words and the paragraphs of their texts: written by tools/explain-words from docs/CODES.md.
 
 /// Each word; its place is that of its paragraphs.
-pub static WORDS: [&str; 133] = [
+pub static WORDS: [&str; 135] = [
     "PBC1",
     "entry",
     "ceiling",
@@ -75,6 +75,8 @@ pub static WORDS: [&str; 133] = [
     "HIDDEN",
     "LINEEND",
     "ESCAPE",
+    "MENU",
+    "UNSOUGHT",
     "FRAME",
     "RANK",
     "GROUP",
@@ -697,9 +699,8 @@ again; or publish when no caller is inside."#;
 
 const P196: &str = r#"UNREACHED"#;
 
-const P197: &str = r#"A warning: no key leads to this frame from the entry page, so no caller sees
-it. If the entry frame isn't found, one line has the number of all frames that
-are open to the caller."#;
+const P197: &str = r#"A warning: no key leads to this frame from the entry page. If the entry frame
+isn't found, one line has the number of all frames that are open to the caller."#;
 
 const P198: &str = r#"The file base:"#;
 
@@ -716,7 +717,7 @@ const P199: &str = r#"    entry = 1
 const P200: &str = r#"    pageaudit lint base --format line 2>/dev/null"#;
 
 const P201: &str =
-    r#"    base:7:1: warning: UNREACHED: no key leads to frame 2a from the entry page"#;
+    r#"    base:8:6: warning: UNREACHED: no key leads to frame 2a from the entry page"#;
 
 const P202: &str =
     r#"Fix: add a route or 'next = true' that leads to the frame, or remove it. If the
@@ -754,8 +755,7 @@ const P207: &str = r#"    FRAME 1a RANK 0 PRICE 0 GROUP - SCRIPT -
 
 const P208: &str = r#"HIDDEN"#;
 
-const P209: &str = r#"A warning: this row has text, but the row above has double height (8D), which
-takes up both rows. No caller sees the text."#;
+const P209: &str = r#"A warning: the double height (8D) of the row above hides this row's text."#;
 
 const P210: &str = r#"    sed '0,/rows = .*/s//rows = ["\\u008DTITLE", "text"]/' base >two
     pageaudit lint two 2>&1 | sed -n 's/^two:5:24: //; s/;.*//; 1p'"#;
@@ -767,10 +767,9 @@ const P212: &str = r#"Fix: leave the row below double height empty."#;
 
 const P213: &str = r#"LINEEND"#;
 
-const P214: &str =
-    r#"A warning: a line of this 'body' ends with the file's own line end. A line feed
-alone (0A) goes one row down in the same column, where the text goes on; CR LF
-is right until the file is saved with LF. It is the first such line end."#;
+const P214: &str = r#"A warning: a line of this 'body' ends with the file's own line end, the first
+to do so. After a line feed alone (0A) the text goes on in the same column; CR
+LF is right until the file is saved with LF."#;
 
 const P215: &str = r#"    printf '[[frame]]\nid = "1b"\nbody = """\nONE\nTWO"""\n' | cat base - >two
     pageaudit lint two 2>/dev/null | sed -n 's/,.*//; s/^two:13:4: .*g: //p'"#;
@@ -783,107 +782,133 @@ const P217: &str = r#"Fix: write '\u000D\u000A' and a backslash at the end of ea
 const P218: &str = r#"ESCAPE"#;
 
 const P219: &str = r#"A warning: this row has '\u00' in single quotation marks, in which TOML has no
-escapes. The screen shows it as it is written."#;
+escapes; or a row or 'body' shows 'u00' and two digits at a row's start, or
+after '\', '/' or a quotation mark. It is shown as written."#;
 
 const P220: &str = r#"    sed "0,/rows = .*/s//rows = ['\\\\u0081RED']/" base >two
     pageaudit lint two 2>&1 | sed -n 's/^two:5:9: //; s/,.*//; /ESCAPE/p'"#;
 
 const P221: &str = r#"    warning: ESCAPE: row 1 of frame 1a has \u00 in single quotation marks"#;
 
-const P222: &str = r#"Fix: write the row in double quotation marks."#;
+const P222: &str = r#"Fix: use double quotation marks and one '\'."#;
 
-const P223: &str = r#"X1 TooLong"#;
+const P223: &str = r#"MENU"#;
 
-const P224: &str = r#"The file has more than 16,777,216 bytes."#;
+const P224: &str =
+    r#"A warning: this row begins with a digit without a route, and two others, in the
+same column and colour, have theirs."#;
 
-const P225: &str = r#"    head -c 16777217 /dev/zero >base.toml
+const P225: &str =
+    r#"    sed '0,/rows = .*/s//rows=["1 A","2 B","3 C"]\nroutes={1=2,2=2}/' base >two
+    pageaudit lint two 2>&1 | sed -n 's/^two:5:19: //; s/;.*//; /MENU/p'"#;
+
+const P226: &str = r#"    warning: MENU: row 3 of frame 1a offers key 3, which has no route"#;
+
+const P227: &str = r#"Fix: add the route, or begin the row with a word."#;
+
+const P228: &str = r#"UNSOUGHT"#;
+
+const P229: &str = r#"A warning: no route or 'next' leads to this frame, closed to these callers."#;
+
+const P230: &str = r#"    sed '8s/$/\ngroup = 7/' base >two
+    pageaudit lint two 2>&1 | sed -n 's/^two:8:6: //; s/,.*//; /UNSOUGHT/p'"#;
+
+const P231: &str = r#"    warning: UNSOUGHT: no key of any frame leads to frame 2a"#;
+
+const P232: &str = r#"Fix: add a route that leads to the frame, or remove it."#;
+
+const P233: &str = r#"X1 TooLong"#;
+
+const P234: &str = r#"The file has more than 16,777,216 bytes."#;
+
+const P235: &str = r#"    head -c 16777217 /dev/zero >base.toml
     pageaudit walk base.toml ''"#;
 
-const P226: &str = r#"    base: X1 TooLong"#;
+const P236: &str = r#"    base: X1 TooLong"#;
 
-const P227: &str = r#"Fix: split the base, or shorten bodies."#;
+const P237: &str = r#"Fix: split the base, or shorten bodies."#;
 
-const P228: &str = r#"X2 NotToml"#;
+const P238: &str = r#"X2 NotToml"#;
 
-const P229: &str = r#"The file isn't UTF-8 or TOML: a quotation mark or bracket is missing, a key
+const P239: &str = r#"The file isn't UTF-8 or TOML: a quotation mark or bracket is missing, a key
 comes twice, an integer is outside 64 bits, or one of several frames begins
 with '[frame]'."#;
 
-const P230: &str = r#"    printf '%s\n' 'entry = 1' '[[frame]]' 'id = "1a"' "$@" >base.toml
+const P240: &str = r#"    printf '%s\n' 'entry = 1' '[[frame]]' 'id = "1a"' "$@" >base.toml
     pageaudit walk base.toml ''"#;
 
-const P231: &str = r#"    sh try 'rows = ["HELLO]'"#;
+const P241: &str = r#"    sh try 'rows = ["HELLO]'"#;
 
-const P232: &str = r#"    base: X2 NotToml"#;
+const P242: &str = r#"    base: X2 NotToml"#;
 
-const P233: &str = r#"Fix: 'pageaudit lint' names the line and what is wrong there."#;
+const P243: &str = r#"Fix: 'pageaudit lint' names the line and what is wrong there."#;
 
-const P234: &str = r#"X3 UnknownKey"#;
+const P244: &str = r#"X3 UnknownKey"#;
 
-const P235: &str = r#"A base has the keys 'entry', 'outside' and 'frame'; a frame 'id', 'price',
+const P245: &str = r#"A base has the keys 'entry', 'outside' and 'frame'; a frame 'id', 'price',
 'group', 'next', 'routes', 'lead', 'body' and 'rows'; 'routes' the digits '0'
 to '9'."#;
 
-const P236: &str = r#"    sh try 'title = "Town"'"#;
+const P246: &str = r#"    sh try 'title = "Town"'"#;
 
-const P237: &str = r#"    base: frame 0: X3 UnknownKey"#;
+const P247: &str = r#"    base: frame 0: X3 UnknownKey"#;
 
-const P238: &str = r#"Fix: correct the spelling, or put '#' before it."#;
+const P248: &str = r#"Fix: correct the spelling, or put '#' before it."#;
 
-const P239: &str = r#"X4 Absent"#;
+const P249: &str = r#"X4 Absent"#;
 
-const P240: &str = r#"A required key is missing: 'entry', a frame's 'id', or its text, 'body' or
+const P250: &str = r#"A required key is missing: 'entry', a frame's 'id', or its text, 'body' or
 'rows'."#;
 
-const P241: &str = r#"    sh try
+const P251: &str = r#"    sh try
     printf 'entry = 1\n[[frame]]\n' >base.toml
     pageaudit walk base.toml ''"#;
 
-const P242: &str = r#"    base: frame 0: X4 Absent body
+const P252: &str = r#"    base: frame 0: X4 Absent body
     base: frame 0: X4 Absent id"#;
 
-const P243: &str = r#"Fix: add it. A frame without text has 'rows = []'."#;
+const P253: &str = r#"Fix: add it. A frame without text has 'rows = []'."#;
 
-const P244: &str = r#"X5 WrongKind"#;
+const P254: &str = r#"X5 WrongKind"#;
 
-const P245: &str = r#"'entry', 'price', 'group' and routes are integers, 'outside' is an array of
+const P255: &str = r#"'entry', 'price', 'group' and routes are integers, 'outside' is an array of
 integers, 'id', 'lead' and 'body' are strings, 'rows' is an array of strings,
 'next' a boolean, 'routes' a table, each frame a '[[frame]]'."#;
 
-const P246: &str = r#"    sh try 'next = 1'"#;
+const P256: &str = r#"    sh try 'next = 1'"#;
 
-const P247: &str = r#"    base: frame 0: X5 WrongKind next"#;
+const P257: &str = r#"    base: frame 0: X5 WrongKind next"#;
 
-const P248: &str = r#"Fix: write the value in its kind."#;
+const P258: &str = r#"Fix: write the value in its kind."#;
 
-const P249: &str = r#"X6 Range"#;
+const P259: &str = r#"X6 Range"#;
 
-const P250: &str = r#"'entry', pages of 'outside' and routes are 0 to 999,999,999, 'price' is 0 to
+const P260: &str = r#"'entry', pages of 'outside' and routes are 0 to 999,999,999, 'price' is 0 to
 9,999, 'group' 1 to 65,535. 'lead' is 'clear' or 'keep', codes of 'body' are 0
 to FF, and there are at most 22 'rows'."#;
 
-const P251: &str = r#"    sh try 'price = 10000'
+const P261: &str = r#"    sh try 'price = 10000'
     sh try 'group = 0'
     sh try 'routes = { 2 = -1 }'
     sh try 'lead = "Clear"'
     printf 'entry = 1\noutside = [-1]\n' >base.toml
     pageaudit walk base.toml ''"#;
 
-const P252: &str = r#"    base: frame 0: X6 Range price
+const P262: &str = r#"    base: frame 0: X6 Range price
     base: frame 0: X6 Range group
     base: frame 0: X6 Range routes
     base: frame 0: X6 Range lead
     base: X6 Range outside"#;
 
-const P253: &str = r#"Fix: bring the value into its range. Curly quotation marks and long dashes are
+const P263: &str = r#"Fix: bring the value into its range. Curly quotation marks and long dashes are
 above FF."#;
 
-const P254: &str = r#"Range"#;
+const P264: &str = r#"Range"#;
 
-const P255: &str = r#"A number is above its limit: 999,999,999 for 'entry', 9,999 for 'ceiling',
+const P265: &str = r#"A number is above its limit: 999,999,999 for 'entry', 9,999 for 'ceiling',
 65,535 for all others. Or a group is 0, or the seventeenth."#;
 
-const P256: &str = r#"    PBC1
+const P266: &str = r#"    PBC1
     entry 1
     ceiling 0
     keyings 0
@@ -891,244 +916,244 @@ const P256: &str = r#"    PBC1
     1a 0 s40
     end"#;
 
-const P257: &str = r#"    sed "$1" base.cert >other.cert
+const P267: &str = r#"    sed "$1" base.cert >other.cert
     pageaudit check base.toml other.cert --ceiling 0 --keyings 0"#;
 
-const P258: &str = r#"    sh try 's/^ceiling 0/ceiling 10000/'"#;
+const P268: &str = r#"    sh try 's/^ceiling 0/ceiling 10000/'"#;
 
-const P259: &str = r#"    certificate: line 3: Range"#;
+const P269: &str = r#"    certificate: line 3: Range"#;
 
-const P260: &str = r#"Fix: take the file as 'audit' printed it."#;
+const P270: &str = r#"Fix: take the file as 'audit' printed it."#;
 
-const P261: &str = r#"X7 BodyAndRows"#;
+const P271: &str = r#"X7 BodyAndRows"#;
 
-const P262: &str = r#"The frame has both 'body' and 'rows'."#;
+const P272: &str = r#"The frame has both 'body' and 'rows'."#;
 
-const P263: &str = r#"    sh try 'body = ""' 'rows = []'"#;
+const P273: &str = r#"    sh try 'body = ""' 'rows = []'"#;
 
-const P264: &str = r#"    base: frame 0: X7 BodyAndRows"#;
+const P274: &str = r#"    base: frame 0: X7 BodyAndRows"#;
 
-const P265: &str = r#"Fix: remove one of them."#;
+const P275: &str = r#"Fix: remove one of them."#;
 
-const P266: &str = r#"X8 RowTooLong"#;
+const P276: &str = r#"X8 RowTooLong"#;
 
-const P267: &str = r#"A row has more than 40 codes."#;
+const P277: &str = r#"A row has more than 40 codes."#;
 
-const P268: &str = r#"    sh try "rows = ['$(seq -s '' 25)']""#;
+const P278: &str = r#"    sh try "rows = ['$(seq -s '' 25)']""#;
 
-const P269: &str = r#"    base: frame 0: X8 RowTooLong"#;
+const P279: &str = r#"    base: frame 0: X8 RowTooLong"#;
 
-const P270: &str = r#"Fix: cut the row in two."#;
+const P280: &str = r#"Fix: cut the row in two."#;
 
-const P271: &str = r#"X9 RowCode"#;
+const P281: &str = r#"X9 RowCode"#;
 
-const P272: &str = r#"A row has a code outside 20 to 7F (characters) and 80 to 9F (attributes)."#;
+const P282: &str = r#"A row has a code outside 20 to 7F (characters) and 80 to 9F (attributes)."#;
 
-const P273: &str = r#"    sh try 'rows = ["CAF\u00C9"]'"#;
+const P283: &str = r#"    sh try 'rows = ["CAF\u00C9"]'"#;
 
-const P274: &str = r#"    base: frame 0: X9 RowCode"#;
+const P284: &str = r#"    base: frame 0: X9 RowCode"#;
 
-const P275: &str = r#"Fix: replace the code. For control codes use 'body'."#;
+const P285: &str = r#"Fix: replace the code. For control codes use 'body'."#;
 
-const P276: &str = r#"I2 BadFrame"#;
+const P286: &str = r#"I2 BadFrame"#;
 
-const P277: &str = r#"The 'id' isn't a page number, 0 to 999,999,999 without leading zeros, and a
+const P287: &str = r#"The 'id' isn't a page number, 0 to 999,999,999 without leading zeros, and a
 letter, 'a' to 'z'."#;
 
-const P278: &str = r#"    entry = 1
+const P288: &str = r#"    entry = 1
 
     [[frame]]
     id = "1A"
     rows = []"#;
 
-const P279: &str = r#"    pageaudit walk base.toml ''"#;
+const P289: &str = r#"    pageaudit walk base.toml ''"#;
 
-const P280: &str = r#"    base: frame 0: I2 BadFrame"#;
+const P290: &str = r#"    base: frame 0: I2 BadFrame"#;
 
-const P281: &str = r#"Fix: correct the id."#;
+const P291: &str = r#"Fix: correct the id."#;
 
-const P282: &str = r#"B1 Duplicate"#;
+const P292: &str = r#"B1 Duplicate"#;
 
-const P283: &str = r#"Two frames have this id (the smallest is named)."#;
+const P293: &str = r#"Two frames have this id (the smallest is named)."#;
 
-const P284: &str = r#"    sh try 'rows = []' '[[frame]]' 'id = "1a"' 'rows = []'"#;
+const P294: &str = r#"    sh try 'rows = []' '[[frame]]' 'id = "1a"' 'rows = []'"#;
 
-const P285: &str = r#"    base: B1 Duplicate 1a"#;
+const P295: &str = r#"    base: B1 Duplicate 1a"#;
 
-const P286: &str = r#"Fix: remove a frame, or give it another id."#;
+const P296: &str = r#"Fix: remove a frame, or give it another id."#;
 
-const P287: &str = r#"B2 OutsideInside"#;
+const P297: &str = r#"B2 OutsideInside"#;
 
-const P288: &str = r#"This page (the smallest is named) is in 'outside' and has frames."#;
+const P298: &str = r#"This page (the smallest is named) is in 'outside' and has frames."#;
 
-const P289: &str = r#"    entry = 1
+const P299: &str = r#"    entry = 1
     outside = [1]
 
     [[frame]]
     id = "1a"
     rows = []"#;
 
-const P290: &str = r#"    base: B2 OutsideInside 1"#;
+const P300: &str = r#"    base: B2 OutsideInside 1"#;
 
-const P291: &str = r#"Fix: remove the page from 'outside', or its frames."#;
+const P301: &str = r#"Fix: remove the page from 'outside', or its frames."#;
 
-const P292: &str = r#"B3 NextAfterZ"#;
+const P302: &str = r#"B3 NextAfterZ"#;
 
-const P293: &str = r#"This frame 'z' (the smallest is named) has 'next = true'."#;
+const P303: &str = r#"This frame 'z' (the smallest is named) has 'next = true'."#;
 
-const P294: &str = r#"    entry = 1
+const P304: &str = r#"    entry = 1
 
     [[frame]]
     id = "1z"
     next = true
     rows = []"#;
 
-const P295: &str = r#"    base: B3 NextAfterZ 1z"#;
+const P305: &str = r#"    base: B3 NextAfterZ 1z"#;
 
-const P296: &str = r#"Fix: remove 'next = true', and lead on by a route."#;
+const P306: &str = r#"Fix: remove 'next = true', and lead on by a route."#;
 
-const P297: &str = r#"B4 TooMany"#;
+const P307: &str = r#"B4 TooMany"#;
 
-const P298: &str = r#"There are more than 65,535 frames or entries of 'outside'."#;
+const P308: &str = r#"There are more than 65,535 frames or entries of 'outside'."#;
 
-const P299: &str = r#"    printf 'entry = 1\noutside = [%s]\n' $(seq -s , 0 65535) >base.toml
+const P309: &str = r#"    printf 'entry = 1\noutside = [%s]\n' $(seq -s , 0 65535) >base.toml
     pageaudit walk base.toml ''"#;
 
-const P300: &str = r#"    base: B4 TooMany"#;
+const P310: &str = r#"    base: B4 TooMany"#;
 
-const P301: &str = r#"Fix: split the base."#;
+const P311: &str = r#"Fix: split the base."#;
 
-const P302: &str = r#"B5 BodyTooLong"#;
+const P312: &str = r#"B5 BodyTooLong"#;
 
-const P303: &str = r#"This frame's body (the smallest id is named) has more than 4,096 bytes."#;
+const P313: &str = r#"This frame's body (the smallest id is named) has more than 4,096 bytes."#;
 
-const P304: &str = r#"    sh try "$(printf 'body = "%4097s"')""#;
+const P314: &str = r#"    sh try "$(printf 'body = "%4097s"')""#;
 
-const P305: &str = r#"    base: B5 BodyTooLong 1a"#;
+const P315: &str = r#"    base: B5 BodyTooLong 1a"#;
 
-const P306: &str = r#"Fix: shorten the body, or cut the frame in two with 'next = true'."#;
+const P316: &str = r#"Fix: shorten the body, or cut the frame in two with 'next = true'."#;
 
-const P307: &str = r#"Magic"#;
+const P317: &str = r#"Magic"#;
 
-const P308: &str = r#"Line 1 is neither PBC1 nor PBC2. Often the file is a list of faults, or its
+const P318: &str = r#"Line 1 is neither PBC1 nor PBC2. Often the file is a list of faults, or its
 lines end with 0D 0A."#;
 
-const P309: &str = r#"    sh try 's/$/\r/'"#;
+const P319: &str = r#"    sh try 's/$/\r/'"#;
 
-const P310: &str = r#"    certificate: line 1: Magic"#;
+const P320: &str = r#"    certificate: line 1: Magic"#;
 
-const P311: &str = r#"Word"#;
+const P321: &str = r#"Word"#;
 
-const P312: &str = r#"A line before the rows doesn't begin with its word and one space (on line 5
+const P322: &str = r#"A line before the rows doesn't begin with its word and one space (on line 5
 'groups' for PBC2, 'rows' for PBC1). Or a row lacks its id or two spaces, or a
 line has over 128 bytes."#;
 
-const P313: &str = r#"    sh try 's/^entry/Entry/'"#;
+const P323: &str = r#"    sh try 's/^entry/Entry/'"#;
 
-const P314: &str = r#"    certificate: line 2: Word"#;
+const P324: &str = r#"    certificate: line 2: Word"#;
 
-const P315: &str = r#"Number"#;
+const P325: &str = r#"Number"#;
 
-const P316: &str = r#"A number isn't in decimal digits without leading zeros, or a group isn't after
+const P326: &str = r#"A number isn't in decimal digits without leading zeros, or a group isn't after
 one space."#;
 
-const P317: &str = r#"    sh try 's/^entry 1/entry 01/'"#;
+const P327: &str = r#"    sh try 's/^entry 1/entry 01/'"#;
 
-const P318: &str = r#"    certificate: line 2: Number"#;
+const P328: &str = r#"    certificate: line 2: Number"#;
 
-const P319: &str = r#"Order"#;
+const P329: &str = r#"Order"#;
 
-const P320: &str = r#"An id isn't greater than the one before, by page, then by letter; or a group
+const P330: &str = r#"An id isn't greater than the one before, by page, then by letter; or a group
 isn't."#;
 
-const P321: &str = r#"    sh try 's/^rows 1/rows 2/; s/^1a.*/&\n&/'"#;
+const P331: &str = r#"    sh try 's/^rows 1/rows 2/; s/^1a.*/&\n&/'"#;
 
-const P322: &str = r#"    certificate: line 7: Order"#;
+const P332: &str = r#"    certificate: line 7: Order"#;
 
-const P323: &str = r#"Cursor"#;
+const P333: &str = r#"Cursor"#;
 
-const P324: &str = r#"A row's cursor isn't one: see 'any'."#;
+const P334: &str = r#"A row's cursor isn't one: see 'any'."#;
 
-const P325: &str = r#"    sh try 's/s40/s960/'"#;
+const P335: &str = r#"    sh try 's/s40/s960/'"#;
 
-const P326: &str = r#"    certificate: line 6: Cursor"#;
+const P336: &str = r#"    certificate: line 6: Cursor"#;
 
-const P327: &str = r#"Count"#;
+const P337: &str = r#"Count"#;
 
-const P328: &str = r#"There are more or fewer rows than the line 'rows' says."#;
+const P338: &str = r#"There are more or fewer rows than the line 'rows' says."#;
 
-const P329: &str = r#"    sh try 's/^rows 1/rows 2/'"#;
+const P339: &str = r#"    sh try 's/^rows 1/rows 2/'"#;
 
-const P330: &str = r#"    certificate: line 7: Count"#;
+const P340: &str = r#"    certificate: line 7: Count"#;
 
-const P331: &str = r#"Tail"#;
+const P341: &str = r#"Tail"#;
 
-const P332: &str = r#"Something follows the line 'end'."#;
+const P342: &str = r#"Something follows the line 'end'."#;
 
-const P333: &str = r#"    sh try 's/^end/&\n&/'"#;
+const P343: &str = r#"    sh try 's/^end/&\n&/'"#;
 
-const P334: &str = r#"    certificate: line 8: Tail"#;
+const P344: &str = r#"    certificate: line 8: Tail"#;
 
-const P335: &str = r#"Truncated"#;
+const P345: &str = r#"Truncated"#;
 
-const P336: &str = r#"The file ends before the line 'end', or in it."#;
+const P346: &str = r#"The file ends before the line 'end', or in it."#;
 
-const P337: &str = r#"    sh try '/^end/d'"#;
+const P347: &str = r#"    sh try '/^end/d'"#;
 
-const P338: &str = r#"    certificate: line 7: Truncated"#;
+const P348: &str = r#"    certificate: line 7: Truncated"#;
 
-const P339: &str = r#"I4 BadGroups"#;
+const P349: &str = r#"I4 BadGroups"#;
 
-const P340: &str = r#"--groups isn't 1 to 16 numbers, 1 to 65,535 without leading zeros, ascending,
+const P350: &str = r#"--groups isn't 1 to 16 numbers, 1 to 65,535 without leading zeros, ascending,
 with only commas between."#;
 
-const P341: &str = r#"    pageaudit walk base.toml '' --groups 9,7"#;
+const P351: &str = r#"    pageaudit walk base.toml '' --groups 9,7"#;
 
-const P342: &str = r#"    groups: I4 BadGroups"#;
+const P352: &str = r#"    groups: I4 BadGroups"#;
 
-const P343: &str = r#"Fix: write them as '7,9'. For callers in no group leave the option out."#;
+const P353: &str = r#"Fix: write them as '7,9'. For callers in no group leave the option out."#;
 
-const P344: &str = r#"read failed"#;
+const P354: &str = r#"read failed"#;
 
-const P345: &str = r#"The file can't be opened, or reading it failed, as it does for a folder.
+const P355: &str = r#"The file can't be opened, or reading it failed, as it does for a folder.
 'lint', 'show', 'list' and 'map' name it, with the reason."#;
 
-const P346: &str = r#"    pageaudit walk a ''
+const P356: &str = r#"    pageaudit walk a ''
     pageaudit check base.toml a -c 0 -k 0
     pageaudit change base.toml base.toml a a -c 0 -k 0
     pageaudit change base.toml base.toml base.toml a -c 0 -k 0
     pageaudit lint a"#;
 
-const P347: &str = r#"    base: read failed
+const P357: &str = r#"    base: read failed
     certificate: read failed
     new base: read failed
     new certificate: read failed
     a: no such file"#;
 
-const P348: &str = r#"Fix: look at the path, and at who may read the file."#;
+const P358: &str = r#"Fix: look at the path, and at who may read the file."#;
 
-const P349: &str = r#"write failed"#;
+const P359: &str = r#"write failed"#;
 
-const P350: &str = r#"Standard output took only this many bytes. No answer was given, whatever was
+const P360: &str = r#"Standard output took only this many bytes. No answer was given, whatever was
 printed."#;
 
-const P351: &str = r#"    pageaudit walk base.toml '' >/dev/full"#;
+const P361: &str = r#"    pageaudit walk base.toml '' >/dev/full"#;
 
-const P352: &str = r#"    output: write failed after 0 bytes"#;
+const P362: &str = r#"    output: write failed after 0 bytes"#;
 
-const P353: &str = r#"Fix: make room, or see why the reader of the output ended, and run again."#;
+const P363: &str = r#"Fix: make room, or see why the reader of the output ended, and run again."#;
 
-const P354: &str = r#"memory refused"#;
+const P364: &str = r#"memory refused"#;
 
-const P355: &str =
+const P365: &str =
     r#"There isn't enough memory. If there isn't even enough for this line, nothing is
 printed."#;
 
-const P356: &str = r#"Fix: run with more. The largest base takes some 200 MB."#;
+const P366: &str = r#"Fix: run with more. The largest base takes some 200 MB."#;
 
-const P357: &str = r#"I1"#;
+const P367: &str = r#"I1"#;
 
-const P358: &str = r#"Codes of the libraries, which no run prints: I1 no page number, L1 a
+const P368: &str = r#"Codes of the libraries, which no run prints: I1 no page number, L1 a
 certificate's line at fault, L2 a reader used after that, S1 ENTRYMISSING, S2
 ENTRYCLOSED, C1 rows out of order, C2 too many rows, C3 no cursor. Nor is
 'certificate: failed' printed, or '*#', '*00' or '*09' in a script."#;
@@ -1216,60 +1241,62 @@ pub(crate) fn paragraphs_at(place: usize) -> &'static [&'static str] {
         ..=70 => &[P208, P209, P198, P199, P4, P210, P6, P211, P212],
         ..=71 => &[P213, P214, P198, P199, P4, P215, P6, P216, P217],
         ..=72 => &[P218, P219, P198, P199, P4, P220, P6, P221, P222],
-        ..=76 => &[P203, P204, P2, P205, P4, P206, P6, P207],
-        ..=78 => &[P223, P224, P4, P225, P183, P226, P227],
-        ..=80 => &[P228, P229, P39, P230, P4, P231, P183, P232, P233],
-        ..=82 => &[P234, P235, P39, P230, P4, P236, P183, P237, P238],
-        ..=84 => &[P239, P240, P39, P230, P4, P241, P183, P242, P243],
-        ..=86 => &[P244, P245, P39, P230, P4, P246, P183, P247, P248],
-        ..=87 => &[P249, P250, P39, P230, P4, P251, P183, P252, P253],
-        ..=88 => &[
-            P249, P250, P39, P230, P4, P251, P183, P252, P253, P254, P255, P2, P26, P37, P256, P39,
-            P257, P4, P258, P183, P259, P260,
+        ..=73 => &[P223, P224, P198, P199, P4, P225, P6, P226, P227],
+        ..=74 => &[P228, P229, P198, P199, P4, P230, P6, P231, P232],
+        ..=78 => &[P203, P204, P2, P205, P4, P206, P6, P207],
+        ..=80 => &[P233, P234, P4, P235, P183, P236, P237],
+        ..=82 => &[P238, P239, P39, P240, P4, P241, P183, P242, P243],
+        ..=84 => &[P244, P245, P39, P240, P4, P246, P183, P247, P248],
+        ..=86 => &[P249, P250, P39, P240, P4, P251, P183, P252, P253],
+        ..=88 => &[P254, P255, P39, P240, P4, P256, P183, P257, P258],
+        ..=89 => &[P259, P260, P39, P240, P4, P261, P183, P262, P263],
+        ..=90 => &[
+            P259, P260, P39, P240, P4, P261, P183, P262, P263, P264, P265, P2, P26, P37, P266, P39,
+            P267, P4, P268, P183, P269, P270,
         ],
-        ..=90 => &[P261, P262, P39, P230, P4, P263, P183, P264, P265],
-        ..=92 => &[P266, P267, P39, P230, P4, P268, P183, P269, P270],
-        ..=94 => &[P271, P272, P39, P230, P4, P273, P183, P274, P275],
-        ..=96 => &[P276, P277, P2, P278, P4, P279, P183, P280, P281],
-        ..=98 => &[P282, P283, P39, P230, P4, P284, P183, P285, P286],
-        ..=100 => &[P287, P288, P2, P289, P4, P279, P183, P290, P291],
-        ..=102 => &[P292, P293, P2, P294, P4, P279, P183, P295, P296],
-        ..=104 => &[P297, P298, P4, P299, P183, P300, P301],
-        ..=106 => &[P302, P303, P39, P230, P4, P304, P183, P305, P306],
-        ..=107 => &[
-            P307, P308, P2, P26, P37, P256, P39, P257, P4, P309, P183, P310, P260,
-        ],
-        ..=108 => &[
-            P311, P312, P2, P26, P37, P256, P39, P257, P4, P313, P183, P314, P260,
-        ],
+        ..=92 => &[P271, P272, P39, P240, P4, P273, P183, P274, P275],
+        ..=94 => &[P276, P277, P39, P240, P4, P278, P183, P279, P280],
+        ..=96 => &[P281, P282, P39, P240, P4, P283, P183, P284, P285],
+        ..=98 => &[P286, P287, P2, P288, P4, P289, P183, P290, P291],
+        ..=100 => &[P292, P293, P39, P240, P4, P294, P183, P295, P296],
+        ..=102 => &[P297, P298, P2, P299, P4, P289, P183, P300, P301],
+        ..=104 => &[P302, P303, P2, P304, P4, P289, P183, P305, P306],
+        ..=106 => &[P307, P308, P4, P309, P183, P310, P311],
+        ..=108 => &[P312, P313, P39, P240, P4, P314, P183, P315, P316],
         ..=109 => &[
-            P315, P316, P2, P26, P37, P256, P39, P257, P4, P317, P183, P318, P260,
+            P317, P318, P2, P26, P37, P266, P39, P267, P4, P319, P183, P320, P270,
         ],
         ..=110 => &[
-            P254, P255, P2, P26, P37, P256, P39, P257, P4, P258, P183, P259, P260,
+            P321, P322, P2, P26, P37, P266, P39, P267, P4, P323, P183, P324, P270,
         ],
         ..=111 => &[
-            P319, P320, P2, P26, P37, P256, P39, P257, P4, P321, P183, P322, P260,
+            P325, P326, P2, P26, P37, P266, P39, P267, P4, P327, P183, P328, P270,
         ],
         ..=112 => &[
-            P323, P324, P2, P26, P37, P256, P39, P257, P4, P325, P183, P326, P260,
+            P264, P265, P2, P26, P37, P266, P39, P267, P4, P268, P183, P269, P270,
         ],
         ..=113 => &[
-            P327, P328, P2, P26, P37, P256, P39, P257, P4, P329, P183, P330, P260,
+            P329, P330, P2, P26, P37, P266, P39, P267, P4, P331, P183, P332, P270,
         ],
         ..=114 => &[
-            P331, P332, P2, P26, P37, P256, P39, P257, P4, P333, P183, P334, P260,
+            P333, P334, P2, P26, P37, P266, P39, P267, P4, P335, P183, P336, P270,
         ],
         ..=115 => &[
-            P335, P336, P2, P26, P37, P256, P39, P257, P4, P337, P183, P338, P260,
+            P337, P338, P2, P26, P37, P266, P39, P267, P4, P339, P183, P340, P270,
         ],
-        ..=116 => &[P180, P181, P2, P26, P4, P182, P183, P184, P185],
-        ..=118 => &[P339, P340, P2, P26, P4, P341, P28, P342, P343],
-        ..=121 => &[P24, P25, P2, P26, P4, P27, P28, P29, P30],
-        ..=122 => &[P344, P345, P2, P26, P4, P346, P183, P347, P348],
-        ..=123 => &[P349, P350, P2, P26, P4, P351, P183, P352, P353],
-        ..=124 => &[P354, P355, P356],
-        _ => &[P357, P358],
+        ..=116 => &[
+            P341, P342, P2, P26, P37, P266, P39, P267, P4, P343, P183, P344, P270,
+        ],
+        ..=117 => &[
+            P345, P346, P2, P26, P37, P266, P39, P267, P4, P347, P183, P348, P270,
+        ],
+        ..=118 => &[P180, P181, P2, P26, P4, P182, P183, P184, P185],
+        ..=120 => &[P349, P350, P2, P26, P4, P351, P28, P352, P353],
+        ..=123 => &[P24, P25, P2, P26, P4, P27, P28, P29, P30],
+        ..=124 => &[P354, P355, P2, P26, P4, P356, P183, P357, P358],
+        ..=125 => &[P359, P360, P2, P26, P4, P361, P183, P362, P363],
+        ..=126 => &[P364, P365, P366],
+        _ => &[P367, P368],
     }
 }
 
@@ -1314,6 +1341,8 @@ UNREACHED               no key leads to a frame
 HIDDEN                  a row under double height
 LINEEND                 text that goes on in the same column
 ESCAPE                  an escape that is none
+MENU                    a key that has no route
+UNSOUGHT                no key leads to a closed frame
 FRAME, RANK, GROUP, UNREACHED  a frame of a list
 X1, TooLong             the file is too long
 X2, NotToml             the file isn't TOML

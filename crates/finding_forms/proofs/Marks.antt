@@ -1,24 +1,12 @@
 -- Characters and their marks, one by one.
-use Rattle.std.proofs.Common.{◌≡◌, ℕ, ◌+◌, true, List, [], ◌∷◌, ◌++◌, length, replicate, chars, IsUtf8, refl, ap, sym, ◌∙◌, append_assoc, append-nil, arith}
-use Rattle.std.proofs.lemmas.Bool.{and_from}
-use Rattle.std.proofs.Math.Utf8.{encode, encodes, scalar, scalars}
+use Rattle.std.proofs.Common.{◌≡◌, ℕ, ◌+◌, List, [], ◌∷◌, ◌++◌, length, replicate, chars, ap, ◌∙◌, append_assoc, arith}
 use Rattle.std.proofs.lemmas.List.{replicate-append-replicate}
-use Rattle.std.proofs.lemmas.Str.{chars-encodes, chars-nil, utf8_lossy-IsUtf8}
+use Rattle.std.proofs.lemmas.Str.{chars-nil}
 use Rattle.std.specs.List.{flat_map}
-use Rattle.lint_words.specs.Lines.{printed_char, shown_chars, line_of}
 
 -- one more of the same
 pub one_more : (old : List ℕ) (n a : ℕ) → (old ++ replicate n a) ++ (a ∷ []) ≡ old ++ replicate (n + 1) a
 one_more old n a = append_assoc old (replicate n a) (a ∷ []) ∙ ap (λ (x : List ℕ). old ++ x) (replicate-append-replicate n 1 a)
-
--- the line of one character
-pub line_of-char : (c : ℕ) → scalar c ≡ true → line_of (encode c) ≡ encodes (printed_char c)
-line_of-char c s =
-    let are : scalars (c ∷ []) ≡ true = and_from (scalar c) true s refl in
-    let utf8 : IsUtf8 (encodes (c ∷ [])) = (c ∷ [], (are, refl)) in
-    ap line_of (sym (append-nil (encode c)))
-    ∙ (ap (λ (bs : List ℕ). encodes (shown_chars (chars bs))) (utf8_lossy-IsUtf8 (encodes (c ∷ [])) utf8)
-    ∙ (ap (λ (cs : List ℕ). encodes (shown_chars cs)) (chars-encodes (c ∷ []) are) ∙ ap encodes (append-nil (printed_char c))))
 
 pub empty : (bs : List ℕ) → length bs ≡ 0 → chars bs ≡ []
 empty [] e = chars-nil

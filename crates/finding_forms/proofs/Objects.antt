@@ -6,14 +6,14 @@ use Rattle.std.proofs.lemmas.Bool.Decides.{nat_tests}
 use Rattle.std.proofs.lemmas.Fmt.{decimal_is_IsNumeral}
 use Rattle.json.specs.Print.{escape_byte, escape, quoted}
 use Rattle.serde_json.specs.Data.{Data, Members, string, member, no_members}
-use Rattle.serde_json.specs.Written.{comma_if, compact_text, members_text}
+use Rattle.serde_json.specs.Written.{comma_if, compact_text, has_float, members_text}
 use Rattle.page_ids.specs.Ids.{Id}
 use Rattle.lint_words.specs.Codes.{code_word}
 use Rattle.lint_words.specs.WordsOf.{WordsView}
 use Rattle.lint.specs.declared.finding.Level.{Level}
 use Rattle.toml_places.specs.declared.text_lines.Extent.{Extent}
 use Rattle.finding_forms.specs.LineForm.{level_text}
-use Rattle.finding_forms.specs.JsonForm.{text_data, frame_data, number_data, object_data}
+use Rattle.finding_forms.specs.JsonForm.{text_data, frame_data, number_data, replacing_data, object_data}
 use Rattle.finding_forms.proofs.Printed.{feeds, feeds-append}
 
 feeds_escape : (b : ℕ) → feeds (escape_byte b) ≡ 0
@@ -65,9 +65,28 @@ feeds_member later k d ms one more =
     feeds-append (comma_if later) (quoted k ++ 58 ∷ (compact_text d ++ members_text true ms)) in
     omega (arith, all, feeds_comma later, named)
 
-pub feeds_object : (file : List ℕ) (e : Extent) (level : Level) (words : WordsView) (hint : Option (List ℕ))
-    → e.line < 2 ^ 64 → e.column < 2 ^ 64 → e.end_line < 2 ^ 64 → e.end_column < 2 ^ 64 → feeds (compact_text (object_data file e level words hint)) ≡ 0
-feeds_object file e level words hint a b c d =
+pub feeds_replacing : (e : Extent) (text : List ℕ) → e.line < 2 ^ 64 → e.column < 2 ^ 64 → e.end_line < 2 ^ 64 → e.end_column < 2 ^ 64
+    → feeds (compact_text (replacing_data e text)) ≡ 0
+feeds_replacing e text a b c d =
+    let from_text : Members = member (codes "text") (string text) no_members in
+    let from_line : Members = member (codes "line") (number_data e.line) from_text in
+    let from_end_line : Members = member (codes "end_line") (number_data e.end_line) from_line in
+    let from_end_column : Members = member (codes "end_column") (number_data e.end_column) from_end_line in
+    let from_column : Members = member (codes "column") (number_data e.column) from_end_column in
+    let text_none = feeds_member true (codes "text") (string text) no_members (feeds_quoted text) refl in
+    let line_none = feeds_member true (codes "line") (number_data e.line) from_text (feeds_number e.line a) text_none in
+    let end_line_none = feeds_member true (codes "end_line") (number_data e.end_line) from_line (feeds_number e.end_line c) line_none in
+    let end_column_none = feeds_member true (codes "end_column") (number_data e.end_column) from_end_line (feeds_number e.end_column d) end_line_none in
+    let column_none = feeds_member false (codes "column") (number_data e.column) from_end_column (feeds_number e.column b) end_column_none in
+    let all : feeds (compact_text (replacing_data e text)) ≡ feeds (123 ∷ []) + feeds (members_text false from_column) =
+    feeds-append (123 ∷ []) (members_text false from_column) in
+    let brace : feeds (123 ∷ []) ≡ 0 = refl in
+    omega (arith, all, brace, column_none)
+
+pub feeds_object : (file : List ℕ) (e : Extent) (level : Level) (words : WordsView) (hint : Option (List ℕ)) (fix : Data)
+    → e.line < 2 ^ 64 → e.column < 2 ^ 64 → e.end_line < 2 ^ 64 → e.end_column < 2 ^ 64 → feeds (compact_text fix) ≡ 0
+    → feeds (compact_text (object_data file e level words hint fix)) ≡ 0
+feeds_object file e level words hint fix a b c d no_fix =
     let from_message : Members = member (codes "message") (string words.message) no_members in
     let from_line : Members = member (codes "line") (number_data e.line) from_message in
     let from_level : Members = member (codes "level") (string (level_text level)) from_line in
@@ -75,7 +94,8 @@ feeds_object file e level words hint a b c d =
     let from_key : Members = member (codes "key") (text_data words.about.key) from_keys in
     let from_hint : Members = member (codes "hint") (text_data hint) from_key in
     let from_frame : Members = member (codes "frame") (frame_data words.about.frame) from_hint in
-    let from_file : Members = member (codes "file") (string file) from_frame in
+    let from_fix : Members = member (codes "fix") fix from_frame in
+    let from_file : Members = member (codes "file") (string file) from_fix in
     let from_end_line : Members = member (codes "end_line") (number_data e.end_line) from_file in
     let from_end_column : Members = member (codes "end_column") (number_data e.end_column) from_end_line in
     let from_column : Members = member (codes "column") (number_data e.column) from_end_column in
@@ -87,12 +107,28 @@ feeds_object file e level words hint a b c d =
     let key_none = feeds_member true (codes "key") (text_data words.about.key) from_keys (feeds_text words.about.key) keys_none in
     let hint_none = feeds_member true (codes "hint") (text_data hint) from_key (feeds_text hint) key_none in
     let frame_none = feeds_member true (codes "frame") (frame_data words.about.frame) from_hint (feeds_frame words.about.frame) hint_none in
-    let file_none = feeds_member true (codes "file") (string file) from_frame (feeds_quoted file) frame_none in
+    let fix_none = feeds_member true (codes "fix") fix from_frame no_fix frame_none in
+    let file_none = feeds_member true (codes "file") (string file) from_fix (feeds_quoted file) fix_none in
     let end_line_none = feeds_member true (codes "end_line") (number_data e.end_line) from_file (feeds_number e.end_line c) file_none in
     let end_column_none = feeds_member true (codes "end_column") (number_data e.end_column) from_end_line (feeds_number e.end_column d) end_line_none in
     let column_none = feeds_member true (codes "column") (number_data e.column) from_end_column (feeds_number e.column b) end_column_none in
     let code_none = feeds_member false (codes "code") (string (code_word words.code)) from_column (feeds_quoted (code_word words.code)) column_none in
-    let all : feeds (compact_text (object_data file e level words hint)) ≡ feeds (123 ∷ []) + feeds (members_text false from_code) =
+    let all : feeds (compact_text (object_data file e level words hint fix)) ≡ feeds (123 ∷ []) + feeds (members_text false from_code) =
     feeds-append (123 ∷ []) (members_text false from_code) in
     let brace : feeds (123 ∷ []) ≡ 0 = refl in
     omega (arith, all, brace, code_none)
+
+-- No number of an object is a float.
+
+no_float_text : (text : Option (List ℕ)) → has_float (text_data text) ≡ false
+no_float_text None = refl
+no_float_text (Some text) = refl
+
+no_float_frame : (frame : Option Id) → has_float (frame_data frame) ≡ false
+no_float_frame None = refl
+no_float_frame (Some id) = refl
+
+pub no_float_object : (file : List ℕ) (e : Extent) (level : Level) (words : WordsView) (hint : Option (List ℕ)) (fix : Data)
+    → has_float fix ≡ false → has_float (object_data file e level words hint fix) ≡ false
+no_float_object file e level words hint fix none =
+    rw (none, no_float_frame words.about.frame, no_float_text hint, no_float_text words.about.key, no_float_text words.about.keys) refl

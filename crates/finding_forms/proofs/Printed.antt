@@ -1,5 +1,5 @@
 -- Lines that are printed of findings.
-use Rattle.std.proofs.Common.{◌≡◌, ℕ, suc, ◌+◌, ◌<◌, ◌^◌, true, not, ◌==◌, if◌then◌else◌, List, [], ◌∷◌, ◌++◌, codes, decimal, chars, length, refl, ap, ◌∙◌, arith, Option, Some, None, IfSome, Result, Ok, Err, OnOk}
+use Rattle.std.proofs.Common.{◌≡◌, ℕ, suc, ◌+◌, ◌<◌, ◌^◌, true, not, ◌==◌, if◌then◌else◌, List, [], ◌∷◌, ◌++◌, codes, decimal, chars, length, refl, ap, ◌∙◌, arith, Option, Some, None, IfSome, Result, Ok, Err, IfOk, OnOk}
 use Rattle.std.proofs.lemmas.Bool.{and_from, and_parts}
 use Rattle.std.specs.Prelude.{count_by}
 use Rattle.std.specs.List.{list_all}
@@ -74,6 +74,8 @@ code_plain code.Unreached = refl
 code_plain code.Hidden = refl
 code_plain code.LineEnd = refl
 code_plain code.Escape = refl
+code_plain code.Menu = refl
+code_plain code.Unsought = refl
 
 IsLine-hint : (hint : Option (List ℕ)) → IfSome hint IsLine → IsLine (line_hint hint)
 IsLine-hint None is = IsLine-plain [] refl
@@ -124,6 +126,7 @@ feeds_line line is = rw (encodes-chars line is.utf8) at (feeds_chars (chars line
 
 feeds_line_in : (f : Format) (line : List ℕ) → IsLineIn f line → feeds line ≡ 0
 feeds_line_in format.Full line is = feeds_line line is
+feeds_line_in format.Coloured line is = feeds_line line is
 feeds_line_in format.Line line is = feeds_line line is
 feeds_line_in format.Json line is = is
 feeds_line_in format.Github line is = feeds_line line is
@@ -135,6 +138,7 @@ record IsOneLine (f : Format) (one : List ℕ) : Type 0 where
 
 one_line : (f : Format) (path text : List ℕ) (v : FindingView) (one : List ℕ) → is_one_line f ≡ true → IsPrinted f path text v one → IsOneLine f one
 one_line format.Full path text v one p is = absurd cc
+one_line format.Coloured path text v one p is = absurd cc
 one_line format.Line path text v one p (line, is, made) = record { line = line; is_line = is.is_line; is = made }
 one_line format.Json path text v one p (line, is, made) = record { line = line; is_line = is.no_feed; is = made }
 one_line format.Github path text v one p (line, is, made) = record { line = line; is_line = is.is_line; is = made }
@@ -164,6 +168,10 @@ whole format path text (f ∷ fs) out p (one, rest, is, are, joined) =
     }
 
 -- What a call gives if it isn't out of memory.
+
+pub if_ok : {A E : Type 0} {P Q : A → Type 0} (r : Result A E) → IfOk r P → ((a : A) → P a → Q a) → IfOk r Q
+if_ok (Ok a) p f = f a p
+if_ok (Err e) p f = tt
 
 pub always : {A E P : Type 0} (r : Result A E) → P → OnOk r P
 always (Ok a) p = p

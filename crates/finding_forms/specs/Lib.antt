@@ -6,3 +6,4 @@ pub mod JsonForm
 pub mod Forms
 pub mod Laws
 pub mod Loops
+pub mod Paints

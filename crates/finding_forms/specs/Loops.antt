@@ -3,6 +3,7 @@ use Rattle.std.specs.Prelude.{◌≡◌, ℕ, List, ◌++◌, codes}
 use Rattle.lint.specs.Findings.{FindingView}
 use Rattle.finding_forms.specs.declared.format.Format.{Format}
 use Rattle.finding_forms.specs.Forms.{IsPrinted}
+use Rattle.finding_forms.specs.FullForm.{IsColouredLine}
 use Rattle.finding_forms.specs.GithubForm.{IsCommand}
 use Rattle.finding_forms.specs.JsonForm.{IsObject}
 use Rattle.finding_forms.specs.LineForm.{IsFindingLine}
@@ -13,6 +14,11 @@ use Rattle.finding_forms.specs.LineForm.{IsFindingLine}
 abbrev pub AddsLine : List ℕ → List ℕ → FindingView → List ℕ → List ℕ → Type 0
 AddsLine path text f old new =
     (line : List ℕ) × IsFindingLine path text f line × (new ≡ old ++ (line ++ codes "\n"))
+
+-- in colour
+abbrev pub AddsColouredLine : List ℕ → List ℕ → FindingView → List ℕ → List ℕ → Type 0
+AddsColouredLine path text f old new =
+    (line : List ℕ) × IsColouredLine path text f line × (new ≡ old ++ (line ++ codes "\n"))
 
 -- in the form `json`
 abbrev pub AddsObject : List ℕ → List ℕ → FindingView → List ℕ → List ℕ → Type 0

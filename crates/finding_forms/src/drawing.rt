@@ -1,18 +1,15 @@
 //! The characters of a line, and what is below them.
 
-ghost use Rattle.std.specs.Prelude.{◌≡◌, ◌++◌, ◌∷◌, [], replicate, length, IfOk, OnOk};
-ghost use Rattle.std.specs.Str.{encode_utf8_all};
-ghost use Rattle.lint_words.specs.Lines.{printed_char, line_of};
+ghost use Rattle.std.specs.Prelude.{◌≡◌, ◌++◌, replicate, OnOk};
 ghost use Rattle.finding_forms.specs.FullForm as spec;
 
-use lint_words::Line;
-use page_ids::push_utf8;
+use page_ids::{hex_digit, push_utf8};
 use std::alloc::{AllocError, Global};
 
 // How characters are drawn.
 #[derive(Debug, Clone, Copy, PartialEq, Eq)]
 pub enum Drawing {
-    // As they are, but a control character, unless it is a tab, as `\u{1b}`.
+    // As they are, but a control character, unless it is a tab, as `\u001B`.
     Text,
     // As a space for each of their columns; a tab is kept.
     Blank,
@@ -20,34 +17,44 @@ pub enum Drawing {
     Carets,
 }
 
-// A character as a line.
-fn line_of(alloc: Global, c: char) -> Result<Line, AllocError>
-    ensures { IfOk result (λ line. line ≡ encode_utf8_all (printed_char c)) }
+fn is_shown_control(c: char) -> bool
+    ensures { result ≡ spec.is_shown_control c }
 {
-    let mut bytes = [0; 4];
-    Line::of(alloc, c.encode_utf8(&mut bytes).as_bytes())
+    c.is_control() && c != '\t'
 }
 
-fn push_text(alloc: Global, out: &mut Vec<u8>, c: char) -> Result<(), AllocError>
-    ensures { OnOk result (out.new.items ≡ out.old.items ++ encode_utf8_all (spec.kept_char c)) }
+fn push_text(out: &mut Vec<u8>, c: char) -> Result<(), AllocError>
+    ensures { OnOk result (out.new.items ≡ out.old.items ++ spec.drawn_text c) }
 {
-    if c == '\t' || !c.is_control() {
-        push_utf8(out, c)
-    } else {
-        out.extend_from_slice(line_of(alloc, c)?.as_str().as_bytes())
+    if !is_shown_control(c) {
+        return push_utf8(out, c);
     }
+    let code = c as u8;
+    out.extend_from_slice(b"\\u00")?;
+    out.extend_from_slice(&[hex_digit(code / 16), hex_digit(code % 16)])
+}
+
+// Whether a letter has the width of two.
+fn is_wide(c: char) -> bool
+    ensures { result ≡ spec.is_wide c }
+{
+    ('\u{1100}' <= c && c <= '\u{115F}')
+        || ('\u{2E80}' <= c && c <= '\u{A4CF}')
+        || ('\u{AC00}' <= c && c <= '\u{D7A3}')
+        || ('\u{F900}' <= c && c <= '\u{FAFF}')
+        || ('\u{FF01}' <= c && c <= '\u{FF60}')
 }
 
 // How many columns a character has, as it is shown.
 fn columns(c: char) -> usize
-    ensures { result ≡ length (spec.kept_char c) }
+    ensures { result ≡ spec.columns c }
 {
-    if c == '\t' || !c.is_control() {
-        1
-    } else if c < '\u{10}' {
-        5
-    } else {
+    if is_shown_control(c) {
         6
+    } else if is_wide(c) {
+        2
+    } else {
+        1
     }
 }
 
@@ -61,16 +68,11 @@ pub fn push_times(out: &mut Vec<u8>, byte: u8, times: usize) -> Result<(), Alloc
     Ok(())
 }
 
-fn push_drawn_char(
-    alloc: Global,
-    out: &mut Vec<u8>,
-    drawing: Drawing,
-    c: char,
-) -> Result<(), AllocError>
+fn push_drawn_char(out: &mut Vec<u8>, drawing: Drawing, c: char) -> Result<(), AllocError>
     ensures { OnOk result (out.new.items ≡ out.old.items ++ spec.drawn_char drawing c) }
 {
     match drawing {
-        Drawing::Text => push_text(alloc, out, c),
+        Drawing::Text => push_text(out, c),
         Drawing::Blank if c == '\t' => out.extend_from_slice(b"\t"),
         Drawing::Blank => push_times(out, b' ', columns(c)),
         Drawing::Carets => push_times(out, b'^', columns(c)),
@@ -88,7 +90,7 @@ pub fn push_drawn(
 {
     let text = String::from_utf8_lossy(alloc, bytes)?;
     'chars: for c in text.chars() {
-        push_drawn_char(alloc, out, drawing, c)?;
+        push_drawn_char(out, drawing, c)?;
     }
     Ok(())
 }

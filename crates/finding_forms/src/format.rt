@@ -3,6 +3,9 @@
 pub enum Format {
     /// The line of [`Format::Line`], then the line of the text and carets below the span.
     Full,
+    /// [`Format::Full`] in the colours of a terminal (SGR of ECMA-48): the place is bold, the level and the carets are red or yellow, and
+    /// the lines' numbers are blue.
+    Coloured,
     /// `PATH:LINE:COLUMN: error: CODE NAME: MESSAGE; HINT`.
     Line,
     /// An object of JSON on one line: `code`, `column`, `end_column`, `end_line`, `file`, `frame`, `hint`, `key`, `keys`, `level`,

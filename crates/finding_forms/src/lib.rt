@@ -7,11 +7,12 @@
 //! ```
 //!
 //! - [`Format`]: the forms. [`findings_text`]: the text of findings, one after another.
-//! - [`findings_are_whole_lines`]: in every form but `full` a finding is one line, whatever is in the base and the path.
+//! - [`findings_are_whole_lines`]: in every form but `full`, in colour or not, a finding is one line, whatever is in the base and the path.
 //! - Definitions: each form's text of a finding (`LineForm`, `FullForm`, `JsonForm`, `GithubForm`), which part of a line is shown (`Excerpts`),
 //!   the texts of all findings (`Forms`), the laws (`Laws`).
 #![tactic(auto)]
 
+mod coloured_form;
 mod drawing;
 mod excerpt;
 mod format;
@@ -21,6 +22,7 @@ mod github_form;
 mod json_form;
 mod laws;
 mod line_form;
+mod paint;
 
 pub use format::Format;
 pub use forms::findings_text;

@@ -1,6 +1,6 @@
 //! The form `line`.
 
-ghost use Rattle.std.specs.Prelude.{◌≡◌, ◌++◌, ◌∷◌, [], ℕ, List, length, IfOk, OnOk, IfSome, option_copied, codes, decimal};
+ghost use Rattle.std.specs.Prelude.{◌≡◌, ◌++◌, ◌∷◌, [], ℕ, List, OnOk, IfSome, option_copied, codes, decimal};
 ghost use Rattle.lint_words.specs.Lines.{IsLine, line_of};
 ghost use Rattle.finding_forms.specs.LineForm.{level_text, begin_of, line_place, code_text, line_hint, words_text, line_text};
 ghost use Rattle.finding_forms.specs.Loops.{AddsLine};
@@ -29,7 +29,7 @@ fn push_part(out: &mut Vec<u8>, number: usize) -> Result<(), AllocError>
 }
 
 // The line and the column at which a span begins.
-fn begin_of(lines: &TextLines<'_>, span: Span) -> (usize, usize)
+pub fn begin_of(lines: &TextLines<'_>, span: Span) -> (usize, usize)
     ensures { result ≡ begin_of lines.now span }
 {
     let extent = lines.extent(span);
@@ -37,7 +37,12 @@ fn begin_of(lines: &TextLines<'_>, span: Span) -> (usize, usize)
 }
 
 // The path, the line and the column, each with a colon.
-fn push_place(out: &mut Vec<u8>, path: &Line, line: usize, column: usize) -> Result<(), AllocError>
+pub fn push_place(
+    out: &mut Vec<u8>,
+    path: &Line,
+    line: usize,
+    column: usize,
+) -> Result<(), AllocError>
     ensures place { OnOk result (out.new.items ≡ out.old.items ++ line_place path.now (line, column)) }
     ensures is_line { OnOk result (IsLine (line_place path.now (line, column))) }
 {
@@ -73,7 +78,7 @@ fn push_hint(out: &mut Vec<u8>, hint: Option<&Line>) -> Result<(), AllocError>
     }
 }
 
-fn push_words(out: &mut Vec<u8>, words: &Words, hint: Option<&Line>) -> Result<(), AllocError>
+pub fn push_words(out: &mut Vec<u8>, words: &Words, hint: Option<&Line>) -> Result<(), AllocError>
     ensures words { OnOk result (out.new.items ≡ out.old.items ++ words_text words.now (option_copied hint.entry)) }
     ensures is_line { OnOk result (IsLine (words_text words.now (option_copied hint.entry))) }
 {

@@ -35,7 +35,7 @@ fn screens(alloc: Global, ids: &[&str]) -> Result<Settled, Fail> {
 
 fn into(alloc: Global, text: &[u8], ids: &[&str]) -> Result<Result<Merged, MergeFault>, Fail> {
     let settled = screens(alloc, ids)?;
-    Ok(merge_frames(alloc, text, &settled))
+    Ok(merge_frames(alloc, text, false, &settled))
 }
 
 fn same_ids(found: &[FrameId], wanted: &[&str]) -> Result<(), Fail> {

@@ -1,24 +1,23 @@
 -- What functions that aren't exported say. No promise rests on it.
-use Rattle.std.specs.Prelude.{◌≡◌, ℕ, List}
+use Rattle.std.specs.Prelude.{ℕ, Bool, List}
+use Rattle.base_text.specs.declared.listed.Listed.{Listed}
 use Rattle.screen_files.specs.declared.filed.Filed.{Filed}
 use Rattle.frame_edits.specs.declared.merging.MergeFault.{MergeFault}
 use Rattle.frame_edits.specs.declared.merging.MergeFault.TheVariants.{TooLong, Overlap, Memory, Unread, Spoilt}
-use Rattle.frame_edits.specs.Merging.{AreRefused, IntakeView, IsEdited, IsUnedited, MergedView, filed_ids}
+use Rattle.frame_edits.specs.Merging.{AreRefused, IsTextRefused}
 
--- the text after it got what the frames result in
-pub record IsMergeOf (text : List ℕ) (i : IntakeView) (merged : MergedView) : Type 0 where
-  pub edits : IsEdited text i.edits i.added merged.edits merged.text
-  pub replaced : merged.replaced ≡ i.replaced
-  pub added : merged.added ≡ filed_ids i.added
-  pub left : merged.left ≡ i.left
-
-abbrev pub IsRefusalOf : List ℕ → IntakeView → MergeFault → Type 0
-IsRefusalOf text i fault = IsUnedited text i.edits i.added fault
+-- why a text that lists frames doesn't get others, if memory isn't refused
+abbrev pub IsRefusalIn : List ℕ → List Listed → Bool → List Filed → MergeFault → Type 0
+IsRefusalIn text listed guessed frames Memory = Unit {0}
+IsRefusalIn text listed guessed frames (TooLong file) = IsTextRefused text listed guessed frames (TooLong file)
+IsRefusalIn text listed guessed frames Overlap = IsTextRefused text listed guessed frames Overlap
+IsRefusalIn text listed guessed frames (Unread fault) = ⊥
+IsRefusalIn text listed guessed frames (Spoilt fault) = ⊥
 
 -- a text that is a base is refused only for its edits
-abbrev pub IsRefusal : List ℕ → List Filed → MergeFault → Type 0
-IsRefusal text frames Memory = Unit {0}
-IsRefusal text frames (TooLong file) = AreRefused text frames (TooLong file)
-IsRefusal text frames Overlap = AreRefused text frames Overlap
-IsRefusal text frames (Unread fault) = ⊥
-IsRefusal text frames (Spoilt fault) = ⊥
+abbrev pub IsRefusal : List ℕ → Bool → List Filed → MergeFault → Type 0
+IsRefusal text guessed frames Memory = Unit {0}
+IsRefusal text guessed frames (TooLong file) = AreRefused text guessed frames (TooLong file)
+IsRefusal text guessed frames Overlap = AreRefused text guessed frames Overlap
+IsRefusal text guessed frames (Unread fault) = ⊥
+IsRefusal text guessed frames (Spoilt fault) = ⊥

@@ -1,9 +1,10 @@
 -- Frames that go into a base's text.
-use Rattle.std.specs.Prelude.{◌≡◌, ℕ, Bool, ◌-◌, ◌==◌, IsPermutation, List, [], ◌∷◌, ◌++◌, Option, Some, None, get_or, length, map, take, if◌then◌else◌}
+use Rattle.std.specs.Prelude.{◌≡◌, ℕ, Bool, ◌&&◌, ◌||◌, ◌-◌, ◌==◌, IsPermutation, List, [], ◌∷◌, ◌++◌, Option, Some, None, get_or, length, map, take, if◌then◌else◌}
 use Rattle.std.specs.List.Sorted.{IsSortedByKey, IsStableByKey}
 use Rattle.std.specs.Ordering.{nat_cmp}
 use Rattle.toml.specs.Data.{Members}
-use Rattle.page_ids.specs.Ids.{Id}
+use Rattle.std.specs.List.{list_any}
+use Rattle.page_ids.specs.Ids.{Id, id_eq}
 use Rattle.frame_records.specs.declared.frame.Lead.{Lead}
 use Rattle.frame_records.specs.declared.frame.Lead.TheVariants.{Clear, Keep}
 use Rattle.frame_records.specs.Bases.{BaseView}
@@ -16,6 +17,7 @@ use Rattle.lint.specs.declared.pictures.PicturePlace.{PicturePlace}
 use Rattle.lint.specs.Pictures.{written_picture}
 use Rattle.text_edits.specs.Edits.{ReplacementView, edited}
 use Rattle.screen_files.specs.declared.filed.Filed.{Filed}
+use Rattle.screen_files.specs.Routes.{has_frame, knows_frame}
 use Rattle.screen_files.specs.Album.{first_over, frames_text}
 use Rattle.screen_files.specs.Texts.{rows_text}
 use Rattle.frame_edits.specs.declared.intake.Fate.{Fate}
@@ -97,13 +99,13 @@ is_line_ended text = get_or text (length text - 1) 10 == 10
 abbrev pub missing_line_end : List ℕ → List ℕ
 missing_line_end text = if is_line_ended text then [] else 10 ∷ []
 
-abbrev pub additions : List ℕ → List Filed → List ℕ
-additions text [] = []
-additions text (f ∷ fs) = missing_line_end text ++ frames_text (f ∷ fs)
+abbrev pub additions : List ℕ → List Id → List Filed → List ℕ
+additions text known [] = []
+additions text known (f ∷ fs) = missing_line_end text ++ frames_text known (f ∷ fs)
 
 -- the file of the first frame that ends too late, counted from the end of the text
-abbrev pub addition_over : List ℕ → List Filed → Option ℕ
-addition_over text added = first_over (length (missing_line_end text)) added
+abbrev pub addition_over : List ℕ → List Id → List Filed → Option ℕ
+addition_over text known added = first_over known (length (missing_line_end text)) added
 
 -- The text.
 
@@ -113,65 +115,85 @@ pub record AreEditsInOrder (edits ordered : List ReplacementView) : Type 0 where
   pub ascend : IsSortedByKey (λ (r : ReplacementView). r.begin) nat_cmp ordered
   pub stable : IsStableByKey (λ (r : ReplacementView). r.begin) nat_cmp edits ordered
 
-abbrev pub end_edit : List ℕ → List Filed → ReplacementView
-end_edit text added = record { begin = length text; end = length text; text = additions text added }
+abbrev pub end_edit : List ℕ → List Id → List Filed → ReplacementView
+end_edit text known added = record { begin = length text; end = length text; text = additions text known added }
 
 -- these edits in order, and the one that adds frames, are made, and nothing else of the text is changed
-pub record IsEdited (text : List ℕ) (edits : List ReplacementView) (added : List Filed) (made : List ReplacementView) (new : List ℕ) : Type 0 where
+pub record IsEdited (text : List ℕ) (edits : List ReplacementView) (known : List Id) (added : List Filed) (made : List ReplacementView) (new : List ℕ) : Type 0 where
   pub ordered : List ReplacementView
   pub order : AreEditsInOrder edits ordered
-  pub are : made ≡ ordered ++ end_edit text added ∷ []
+  pub are : made ≡ ordered ++ end_edit text known added ∷ []
   pub is : edited text made ≡ Some new
 
-pub record AreOverlapping (text : List ℕ) (edits : List ReplacementView) (added : List Filed) : Type 0 where
+pub record AreOverlapping (text : List ℕ) (edits : List ReplacementView) (known : List Id) (added : List Filed) : Type 0 where
   pub ordered : List ReplacementView
   pub order : AreEditsInOrder edits ordered
-  pub none : edited text (ordered ++ end_edit text added ∷ []) ≡ None
+  pub none : edited text (ordered ++ end_edit text known added ∷ []) ≡ None
 
 -- why they aren't
-abbrev pub IsUnedited : List ℕ → List ReplacementView → List Filed → MergeFault → Type 0
-IsUnedited text edits added (TooLong file) = addition_over text added ≡ Some file
-IsUnedited text edits added Overlap = AreOverlapping text edits added
-IsUnedited text edits added Memory = Unit {0}
-IsUnedited text edits added _ = ⊥
+abbrev pub IsUnedited : List ℕ → List ReplacementView → List Id → List Filed → MergeFault → Type 0
+IsUnedited text edits known added (TooLong file) = addition_over text known added ≡ Some file
+IsUnedited text edits known added Overlap = AreOverlapping text edits known added
+IsUnedited text edits known added Memory = Unit {0}
+IsUnedited text edits known added _ = ⊥
 
 -- The base.
 
--- what the frames result in, if the text has this tree
-abbrev pub intake_of : List ℕ → Members → List Filed → IntakeView
-intake_of text members frames = intake_in text (draft_of members).frames frames
+-- a text lists the frame of an id
+abbrev pub lists_frame : List Listed → Id → Bool
+lists_frame listed id = list_any (λ (l : Listed). id_eq l.frame.id id) listed
+
+-- the frames to which guessed routes may lead: these and those that the text lists, or none if no routes are guessed
+abbrev pub KnowsBoth : Bool → List Listed → List Filed → List Id → Type 0
+KnowsBoth guessed listed frames known = (id : Id) → knows_frame known id ≡ (guessed && (lists_frame listed id || has_frame frames id))
+
+-- the text after it got what the frames result in
+pub record IsMergeOf (text : List ℕ) (i : IntakeView) (known : List Id) (merged : MergedView) : Type 0 where
+  pub edits : IsEdited text i.edits known i.added merged.edits merged.text
+  pub replaced : merged.replaced ≡ i.replaced
+  pub added : merged.added ≡ filed_ids i.added
+  pub left : merged.left ≡ i.left
+
+-- the text that lists these frames after it got others; whether routes are guessed
+pub record IsTextMerged (text : List ℕ) (listed : List Listed) (guessed : Bool) (frames : List Filed) (merged : MergedView) : Type 0 where
+  pub known : List Id
+  pub knows : KnowsBoth guessed listed frames known
+  pub merge : IsMergeOf text (intake_in text listed frames) known merged
+
+-- why it doesn't get them
+pub record IsTextRefused (text : List ℕ) (listed : List Listed) (guessed : Bool) (frames : List Filed) (fault : MergeFault) : Type 0 where
+  pub known : List Id
+  pub knows : KnowsBoth guessed listed frames known
+  pub refused : IsUnedited text (intake_in text listed frames).edits known (intake_in text listed frames).added fault
 
 -- the text of a base after it got the frames
-pub record AreMerged (text : List ℕ) (frames : List Filed) (merged : MergedView) : Type 0 where
+pub record AreMerged (text : List ℕ) (guessed : Bool) (frames : List Filed) (merged : MergedView) : Type 0 where
   pub members : Members
   pub tree : tree_of text ≡ Some members
-  pub edits : IsEdited text (intake_of text members frames).edits (intake_of text members frames).added merged.edits merged.text
-  pub replaced : merged.replaced ≡ (intake_of text members frames).replaced
-  pub added : merged.added ≡ filed_ids (intake_of text members frames).added
-  pub left : merged.left ≡ (intake_of text members frames).left
+  pub merge : IsTextMerged text (draft_of members).frames guessed frames merged
 
 -- and it is a base
-pub record IsMerged (text : List ℕ) (frames : List Filed) (merged : MergedView) : Type 0 where
+pub record IsMerged (text : List ℕ) (guessed : Bool) (frames : List Filed) (merged : MergedView) : Type 0 where
   pub old : BaseView
   pub was : IsTextBase text old
-  pub merge : AreMerged text frames merged
+  pub merge : AreMerged text guessed frames merged
   pub new : BaseView
   pub is : IsTextBase merged.text new
 
 -- why frames don't go into a text
-pub record AreSpoilt (text : List ℕ) (frames : List Filed) (fault : BaseFault) : Type 0 where
+pub record AreSpoilt (text : List ℕ) (guessed : Bool) (frames : List Filed) (fault : BaseFault) : Type 0 where
   pub merged : MergedView
-  pub merge : AreMerged text frames merged
+  pub merge : AreMerged text guessed frames merged
   pub first : IsFirstFault merged.text fault
 
-pub record AreRefused (text : List ℕ) (frames : List Filed) (fault : MergeFault) : Type 0 where
+pub record AreRefused (text : List ℕ) (guessed : Bool) (frames : List Filed) (fault : MergeFault) : Type 0 where
   pub members : Members
   pub tree : tree_of text ≡ Some members
-  pub refused : IsUnedited text (intake_of text members frames).edits (intake_of text members frames).added fault
+  pub refused : IsTextRefused text (draft_of members).frames guessed frames fault
 
-abbrev pub IsNotMerged : List ℕ → List Filed → MergeFault → Type 0
-IsNotMerged text frames (Unread fault) = IsFirstFault text fault
-IsNotMerged text frames (Spoilt fault) = AreSpoilt text frames fault
-IsNotMerged text frames (TooLong file) = AreRefused text frames (TooLong file)
-IsNotMerged text frames Overlap = AreRefused text frames Overlap
-IsNotMerged text frames Memory = Unit {0}
+abbrev pub IsNotMerged : List ℕ → Bool → List Filed → MergeFault → Type 0
+IsNotMerged text guessed frames (Unread fault) = IsFirstFault text fault
+IsNotMerged text guessed frames (Spoilt fault) = AreSpoilt text guessed frames fault
+IsNotMerged text guessed frames (TooLong file) = AreRefused text guessed frames (TooLong file)
+IsNotMerged text guessed frames Overlap = AreRefused text guessed frames Overlap
+IsNotMerged text guessed frames Memory = Unit {0}

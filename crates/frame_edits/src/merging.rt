@@ -1,17 +1,19 @@
 //! A base's text with frames in it.
 
-ghost use Rattle.std.specs.Prelude.{◌≡◌, ◌++◌, ◌∷◌, [], IfOk, IfErr, OnOk, IsSome};
+ghost use Rattle.std.specs.Prelude.{◌≡◌, ◌++◌, ◌∷◌, [], ◌||◌, IfOk, IfErr, OnOk, IsSome};
+ghost use Rattle.page_ids.specs.Ids.{Id};
+ghost use Rattle.screen_files.specs.Routes.{knows_frame};
 ghost use Rattle.toml.specs.Parse.{parse_document};
 ghost use Rattle.base_text.specs.Whole.{tree_of};
 ghost use Rattle.frame_edits.specs.Merging as spec;
-ghost use Rattle.frame_edits.specs.Loops.{IsMergeOf, IsRefusal, IsRefusalOf};
+ghost use Rattle.frame_edits.specs.Loops.{IsRefusal, IsRefusalIn};
 
 use crate::additions::additions;
 use crate::intake::Intake;
 use base_text::{BaseFault, Draft, Listed, base_read, draft_of, tree};
 use lint::picture_places;
 use page_ids::FrameId;
-use screen_files::{BaseTextFault, Filed, Settled};
+use screen_files::{BaseTextFault, Filed, Known, Settled};
 use std::alloc::{AllocError, Global};
 use std::marker::Model;
 use text_edits::{Replacement, edited};
@@ -104,12 +106,14 @@ fn edited_text(
     alloc: Global,
     text: &[u8],
     mut edits: Vec<Replacement>,
+    known: &Known,
     added: &[Filed],
 ) -> Result<(Vec<Replacement>, Vec<u8>), MergeFault>
-    ensures text { IfOk result (λ done. spec.IsEdited text.now edits.items added.now done.0.items done.1.items) }
-    ensures fault { IfErr result (spec.IsUnedited text.now edits.items added.now) }
+    ensures text { IfOk result (λ done.
+        spec.IsEdited text.now edits.items known.now added.now done.0.items done.1.items) }
+    ensures fault { IfErr result (spec.IsUnedited text.now edits.items known.now added.now) }
 {
-    let addition = match additions(alloc, text, added) {
+    let addition = match additions(alloc, text, known, added) {
         Ok(addition) => addition,
         Err(BaseTextFault::TooLong(file)) => return Err(MergeFault::TooLong(file)),
         Err(BaseTextFault::Memory) => return Err(MergeFault::Memory),
@@ -124,27 +128,52 @@ fn edited_text(
     }
 }
 
-// The text that comes of one that lists these frames.
-fn merged_text(
+// Adds the frames of a list.
+fn add_listed(known: &mut Known, listed: &[Listed]) -> Result<(), AllocError>
+    ensures { OnOk result ((id : Id) → knows_frame known.new id
+        ≡ (spec.lists_frame listed.now id || knows_frame known.old id)) }
+{
+    let mut rest = listed;
+    while let Some((one, more)) = rest.split_first() {
+        known.add(one.frame.id)?;
+        rest = more;
+    }
+    Ok(())
+}
+
+// The frames to which guessed routes may lead.
+fn known_frames(
     alloc: Global,
-    text: &str,
+    guesses: bool,
     listed: &[Listed],
     frames: &[Filed],
-) -> Result<Merged, MergeFault>
-    requires { IsSome (parse_document text.now) }
-    ensures merged { IfOk result (IsMergeOf text.now (spec.intake_in text.now listed.now frames.now)) }
-    ensures fault { IfErr result (IsRefusalOf text.now (spec.intake_in text.now listed.now frames.now)) }
+) -> Result<Known, AllocError>
+    ensures { IfOk result (spec.KnowsBoth guesses listed.now frames.now) }
 {
-    let Ok(intake) = taken(alloc, text, listed, frames) else {
-        return Err(MergeFault::Memory);
-    };
+    let mut known = Known::of(alloc, guesses, frames)?;
+    if guesses {
+        add_listed(&mut known, listed)?;
+    }
+    Ok(known)
+}
+
+// The text that a base's text becomes.
+fn merged_with(
+    alloc: Global,
+    text: &[u8],
+    intake: Intake,
+    known: &Known,
+) -> Result<Merged, MergeFault>
+    ensures merged { IfOk result (spec.IsMergeOf text.now intake known.now) }
+    ensures fault { IfErr result (spec.IsUnedited text.now intake.edits known.now intake.added) }
+{
     let Intake {
         edits,
         replaced,
         added,
         left,
     } = intake;
-    let (edits, text) = edited_text(alloc, text.as_bytes(), edits, added.as_slice())?;
+    let (edits, text) = edited_text(alloc, text, edits, known, added.as_slice())?;
     match filed_ids(alloc, added.as_slice()) {
         Ok(added) => Ok(Merged {
             text,
@@ -157,11 +186,37 @@ fn merged_text(
     }
 }
 
+// The text that comes of one that lists these frames.
+fn merged_text(
+    alloc: Global,
+    text: &str,
+    listed: &[Listed],
+    guesses: bool,
+    frames: &[Filed],
+) -> Result<Merged, MergeFault>
+    requires { IsSome (parse_document text.now) }
+    ensures merged { IfOk result (spec.IsTextMerged text.now listed.now guesses frames.now) }
+    ensures fault { IfErr result (IsRefusalIn text.now listed.now guesses frames.now) }
+{
+    let Ok(intake) = taken(alloc, text, listed, frames) else {
+        return Err(MergeFault::Memory);
+    };
+    match known_frames(alloc, guesses, listed, frames) {
+        Ok(known) => merged_with(alloc, text.as_bytes(), intake, &known),
+        Err(_) => Err(MergeFault::Memory),
+    }
+}
+
 // The text that comes of one that is a base.
-fn merged_base(alloc: Global, text: &[u8], frames: &[Filed]) -> Result<Merged, MergeFault>
+fn merged_base(
+    alloc: Global,
+    text: &[u8],
+    guesses: bool,
+    frames: &[Filed],
+) -> Result<Merged, MergeFault>
     requires { IsSome (tree_of text.now) }
-    ensures merged { IfOk result (spec.AreMerged text.now frames.now) }
-    ensures fault { IfErr result (IsRefusal text.now frames.now) }
+    ensures merged { IfOk result (spec.AreMerged text.now guesses frames.now) }
+    ensures fault { IfErr result (IsRefusal text.now guesses frames.now) }
 {
     let table = match tree(alloc, text) {
         Ok(Ok(table)) => table,
@@ -172,7 +227,7 @@ fn merged_base(alloc: Global, text: &[u8], frames: &[Filed]) -> Result<Merged, M
         return Err(MergeFault::Memory);
     };
     match str::from_utf8(text) {
-        Ok(text) => merged_text(alloc, text, listed.as_slice(), frames),
+        Ok(text) => merged_text(alloc, text, listed.as_slice(), guesses, frames),
         Err(_) => unreachable!(),
     }
 }
@@ -180,17 +235,23 @@ fn merged_base(alloc: Global, text: &[u8], frames: &[Filed]) -> Result<Merged, M
 /// A base's text with frames of one id each in it. On every fault there is no new text.
 ///
 /// The rows of each frame that the base has, and whose lead isn't `keep`, take the place of what the text writes as its `rows` or
-/// `body`, the key included; the others are added after the text. Each byte outside of those places is kept, in order. The text is read
+/// `body`, the key included; the others are added after the text. If routes are guessed, the added frames have those that the numbers of
+/// pages suggest, to frames of the new base. Each byte outside of those places is kept, in order. The text is read
 /// twice, and what comes of it once.
-pub fn merge_frames(alloc: Global, text: &[u8], settled: &Settled) -> Result<Merged, MergeFault>
-    ensures merged { IfOk result (spec.IsMerged text.now settled.now.frames) }
-    ensures fault { IfErr result (spec.IsNotMerged text.now settled.now.frames) }
+pub fn merge_frames(
+    alloc: Global,
+    text: &[u8],
+    guesses: bool,
+    settled: &Settled,
+) -> Result<Merged, MergeFault>
+    ensures merged { IfOk result (spec.IsMerged text.now guesses settled.now.frames) }
+    ensures fault { IfErr result (spec.IsNotMerged text.now guesses settled.now.frames) }
 {
     match base_read(alloc, text) {
         Ok(_) => {}
         Err(fault) => return Err(MergeFault::Unread(fault)),
     }
-    let merged = merged_base(alloc, text, settled.frames())?;
+    let merged = merged_base(alloc, text, guesses, settled.frames())?;
     match base_read(alloc, merged.text.as_slice()) {
         Ok(_) => Ok(merged),
         Err(fault) => Err(MergeFault::Spoilt(fault)),

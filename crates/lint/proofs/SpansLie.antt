@@ -1,6 +1,6 @@
 -- Every span of a finding lies in the text.
 use Rattle.std.proofs.Common.{◌≡◌, ℕ, zero, suc, ◌+◌, ◌-◌, Bool, true, false, cond, nat_lt, List, [], ◌∷◌, length, map, get_or, Option, Some, None, unwrap_or, option_map, option_and_then, le_refl, refl, sym, subst, arith}
-use Rattle.std.specs.Prelude.{All, codes, ◌++◌, ◌==◌, ◌&&◌, slice_get, if◌then◌else◌}
+use Rattle.std.specs.Prelude.{All, codes, is_some, ◌++◌, ◌==◌, ◌&&◌, slice_get, if◌then◌else◌}
 use Rattle.std.specs.Option.{option_or}
 use Rattle.std.proofs.lemmas.List.Elements.{All-map, All-append}
 use Rattle.std.proofs.lemmas.List.Sorted.{All-permutation}
@@ -10,6 +10,7 @@ use Rattle.page_ids.specs.declared.key.Key.TheVariants as key
 use Rattle.abstract_paint.specs.declared.start.Start.{Start}
 use Rattle.base_text.specs.declared.limits.TheConstants.{MOST_TEXT}
 use Rattle.base_text.specs.declared.keys.Field.{Field}
+use Rattle.base_text.specs.declared.keys.Field.TheVariants as field
 use Rattle.base_text.specs.declared.keys.TableKind.{TableKind}
 use Rattle.base_text.specs.declared.keys.TableKind.TheVariants as kind
 use Rattle.base_text.specs.Fields.{field_name, digit_key}
@@ -37,10 +38,10 @@ use Rattle.toml_places.specs.Places.{marks, first_at, first_spot, frame_key, Pla
 use Rattle.toml_places.proofs.SpanStands.{spans_stand}
 use Rattle.toml_places.proofs.Within.{places_are_within}
 use Rattle.lint.specs.Findings.{FindingView, warning_at}
-use Rattle.lint.specs.Tables.{TableView, is_in_line, value_at, element_at, frame_element, header_span, frame_whole, whole, table_at}
+use Rattle.lint.specs.Tables.{TableView, is_in_line, value_at, element_at, frame_element, header_span, frame_whole, whole, key_spot, table_at, id_span}
 use Rattle.frame_records.specs.declared.limits.TheConstants.{MOST_LISTED}
 use Rattle.lint.specs.Outside.{is_page, page_in_span, element_if, page_from, page_at, outside_element}
-use Rattle.lint.specs.Spots.{span_of_key, span_of_pair, key_of, span_of_value, route_key, route_pair, item_of, char_of, later, unknown_at, digit_at, is_routes, listed_at, span_of_row, body_char, detail_at, detail_span, has_rows, shown_at, whole_at, whole_span, pressed_at, byte_at, touched_at, kind_at, audit_span, row_span, entry_span, is_this_byte, is_one, feed_span, ended_span, line_end_at, single_span, single_at, kind_table, whole_table}
+use Rattle.lint.specs.Spots.{span_of_key, span_of_pair, key_of, span_of_value, route_key, route_pair, item_of, char_of, later, unknown_at, digit_at, is_routes, listed_at, span_of_row, body_char, absent_at, detail_at, detail_span, has_rows, shown_at, whole_at, whole_span, pressed_at, byte_at, touched_at, kind_at, audit_span, row_span, entry_span, is_this_byte, is_one, feed_span, ended_span, line_end_at, single_span, single_at, byte_written, sight_span, named_span, kind_table, whole_table}
 use Rattle.lint.specs.Lint.{Subject, Length, Toml, Text, Whole, finding_of, faulty, IsSpanWithin, AreSubjects, AreSubjectsIf, AreTreeSubjects, IsJudgedBy, text_tables, warning, warning_if, unreached_findings, look_in, look_finding, look_findings, fault_finding, ranks_of, finds_none, frame_ids, unreached, table_of, text_finding, whole_finding, IsAudited}
 use Rattle.lint_words.specs.FaultWords.{none_reached_words}
 use Rattle.lint_words.specs.declared.warning_words.LineEnd.{LineEnd}
@@ -48,8 +49,8 @@ use Rattle.lint_words.specs.declared.warning_words.LineEnd.TheVariants.{Feed, Re
 use Rattle.lint_words.specs.WarningWords.{line_end_words, escape_words}
 use Rattle.lint_words.specs.WordsOf.{WordsView}
 use Rattle.lint.specs.declared.looks.Look.{Look}
-use Rattle.lint.specs.declared.looks.Look.TheVariants.{Hidden, Escape, EndsLine}
-use Rattle.lint.specs.Looks.{looks_of}
+use Rattle.lint.specs.declared.looks.Look.TheVariants.{Hidden, Escape, EndsLine, Shown, Offers, Unsought}
+use Rattle.lint.specs.AllLooks.{all_looks}
 use Rattle.page_ids.specs.Ids.{Id}
 use Rattle.lint.specs.Laws.{LintSpansLieIn}
 use Rattle.lint.proofs.Judged.{each_subject}
@@ -136,9 +137,22 @@ module _ (t : TableView) (items : (k : ℕ) → Lies t.text (t.item k)) where
   body_char_lies : (k : ℕ) → Lies t.text (body_char t k)
   body_char_lies k = map_lies t.text (span_of_value t (codes "body")) (char_of t k) (char_lies k) (value_of_lies (codes "body"))
 
+  absent_lies : (f : Field) → Lies t.text (absent_at t f)
+  absent_lies field.Entry = tt
+  absent_lies field.Outside = tt
+  absent_lies field.Frame = tt
+  absent_lies field.Id = tt
+  absent_lies field.Price = tt
+  absent_lies field.Group = tt
+  absent_lies field.Next = tt
+  absent_lies field.Routes = tt
+  absent_lies field.Lead = tt
+  absent_lies field.Body = value_of_lies (codes "id")
+  absent_lies field.Rows = tt
+
   detail_at_lies : (d : Detail) → Lies t.text (detail_at t d)
   detail_at_lies (UnknownKey k key) = unknown_lies k key
-  detail_at_lies (Absent f) = tt
+  detail_at_lies (Absent f) = absent_lies f
   detail_at_lies (WrongKind f k) = value_of_lies (field_name f)
   detail_at_lies (WrongItem f n k) = listed_lies f n
   detail_at_lies (Number f z) = value_of_lies (field_name f)
@@ -158,7 +172,7 @@ module _ (t : TableView) (items : (k : ℕ) → Lies t.text (t.item k)) where
   shown_lies = value_of_lies (cond (has_rows t) (codes "rows") (codes "body"))
 
   whole_at_lies : (w : WholeFault) → Lies t.text (whole_at t w)
-  whole_at_lies (TooManyFrames n) = tt
+  whole_at_lies (TooManyFrames n) = value_of_lies (codes "id")
   whole_at_lies (TooManyOutside n) = item_lies (codes "outside") _
   whole_at_lies (BodyTooLong table id n) = shown_lies
   whole_at_lies (NextAfterZ table id) = pair_at_lies (t.key (codes "next"))
@@ -186,7 +200,7 @@ module _ (t : TableView) (items : (k : ℕ) → Lies t.text (t.item k)) where
   kind_lies fault fault_kind.Touches = touched_lies fault.start
   kind_lies fault fault_kind.Missing = then_lies t.text fault.key (pressed_at t) pressed_lies
   kind_lies fault fault_kind.Closed = then_lies t.text fault.key (pressed_at t) pressed_lies
-  kind_lies fault fault_kind.NoReturn = tt
+  kind_lies fault fault_kind.NoReturn = value_of_lies (codes "id")
 
 module _ (text : List ℕ) where
   frame_lies : (k : ℕ) → IsSpanWithin text (frame_whole text (marks text) k)
@@ -197,6 +211,11 @@ module _ (text : List ℕ) where
       (then_lies text (first_at (marks text) (Some k) []) (λ at. at_offset frame_piece at text) (piece_lies frame_piece spans_stand.frames text))
       (element_lies text (first_spot (marks text) None (frame_key ∷ [])) k))
       (record { ascends = le_refl _; within = (places_are_within text k []).0 })
+
+  id_lies : (k : ℕ) → IsSpanWithin text (id_span text (marks text) k)
+  id_lies k =
+      let spot = key_spot text (marks text) (Some k) (codes "id") in
+      else_lies text (value_at text spot) (frame_whole text (marks text) k) (value_lies text spot) (frame_lies k)
 
   whole_lies : (frame : Option ℕ) → IsSpanWithin text (whole text (marks text) frame)
   whole_lies None = record { ascends = omega arith; within = prefix_len-le-length is_in_line text }
@@ -309,6 +328,20 @@ module _ (text : List ℕ) where
       (kept_lies (feed_span text) (λ s lies. if_lies text (is_one s && is_this_byte 0x0A (slice_get text s.begin)) (Some s) None lies tt) (body_char t k)
       (body_char_lies t (items_lie frame) k))
 
+  written_lies : (frame at : Option ℕ) → Lies text (byte_written (table_at text (marks text) frame) at)
+  written_lies frame None = value_of_lies (table_at text (marks text) frame) (items_lie frame) (codes "body")
+  written_lies frame (Some k) = body_char_lies (table_at text (marks text) frame) (items_lie frame) k
+
+  sight_lies : (frame : Option ℕ) (n : ℕ) (at : Option ℕ) → IsSpanWithin text (sight_span (table_at text (marks text) frame) n at)
+  sight_lies frame n at =
+      let t = table_at text (marks text) frame in
+      in_table frame (if has_rows t then span_of_row t n else byte_written t at)
+      (if_lies text (has_rows t) (span_of_row t n) (byte_written t at) (row_lies t (items_lie frame) n) (written_lies frame at))
+
+  named_lies : (frame : Option ℕ) → IsSpanWithin text (named_span (table_at text (marks text) frame))
+  named_lies frame =
+      let t = table_at text (marks text) frame in in_table frame (span_of_value t (codes "id")) (value_of_lies t (items_lie frame) (codes "id"))
+
   one_lie : (f : FindingView) → IsSpanWithin text f.span → AllLie (f ∷ [])
   one_lie f lies = each (λ (u : Unit {0}). f) (λ u. lies) (tt ∷ [])
 
@@ -319,6 +352,10 @@ module _ (text : List ℕ) where
   one_or_none true f lies = one_lie f lies
   one_or_none false f lies = none_lie
 
+  none_or_one : (b : Bool) (f : FindingView) → IsSpanWithin text f.span → AllLie (if b then [] else f ∷ [])
+  none_or_one true f lies = none_lie
+  none_or_one false f lies = one_lie f lies
+
   if_span_lies : (o : Option Span) (words : WordsView) → Lies text o → AllLie (warning_if o words)
   if_span_lies None words lies = none_lie
   if_span_lies (Some s) words lies = one_lie (warning_at s words) lies
@@ -328,6 +365,10 @@ module _ (text : List ℕ) where
   look_lies frame id (Escape row) = if_span_lies (single_at (table_at text (marks text) frame) row) (escape_words id row) (single_lies frame row)
   look_lies frame id (EndsLine end k) =
       if_span_lies (line_end_at (table_at text (marks text) frame) end k) (line_end_words id end) (line_end_lies frame end k)
+  look_lies frame id (Shown row at escaped) =
+      none_or_one (escaped && is_some (single_at (table_at text (marks text) frame) row)) _ (sight_lies frame row at)
+  look_lies frame id (Offers row at digit) = one_lie _ (sight_lies frame row at)
+  look_lies frame id (Unsought group) = one_lie _ (named_lies frame)
 
   looks_lie : (looks : List (Id × Look)) → AllLie (look_findings text (marks text) (text_tables text) looks)
   looks_lie [] = none_lie
@@ -340,7 +381,7 @@ module _ (text : List ℕ) where
     on : (b : Bool) → AllLie (if b then [] else warning_at (entry_span (table_at text (marks text) None)) (none_reached_words (length ids)) ∷ [])
     on true = none_lie
     on false = one_lie (warning_at (entry_span (table_at text (marks text) None)) (none_reached_words (length ids))) entry_lies
-  unreached_lie false ids = each (warning text (marks text) (text_tables text)) (λ id. frame_lies (table_of (text_tables text) id)) ids
+  unreached_lie false ids = each (warning text (marks text) (text_tables text)) (λ id. id_lies (table_of (text_tables text) id)) ids
 
   audited_lie : (policy : Policy) (base : BaseView) (findings : List FindingView) → IsAudited text policy base findings → AllLie findings
   audited_lie policy base findings a =
@@ -349,7 +390,7 @@ module _ (text : List ℕ) where
       let faults = fault_finding text m tables base policy (ranks_of a.found) in
       let none = finds_none a.found in
       let ids = frame_ids (unreached policy.groups (ranks_of a.found) base.frames) in
-      let looks = looks_of base.frames in
+      let looks = all_looks policy.groups base.frames in
       subst AllLie (sym a.all)
       (All-append (λ f. IsSpanWithin text f.span) (map faults a.faults ++ unreached_findings text m tables none ids) (look_findings text m tables looks)
       (All-append (λ f. IsSpanWithin text f.span) (map faults a.faults) (unreached_findings text m tables none ids)

@@ -20,7 +20,7 @@ module _ {X : Type 0} (xs : List X) (i : ℕ) (x : X) (below : i < length xs) (i
       ∙ (append_assoc before (f x ∷ []) rest ∙ (ap (λ ys. before ++ map f ys) (sym left) ∙ so_far))
 
   -- some findings
-  pub some_more : (f : X → List FindingView) (before after start : List FindingView) → after ≡ before ++ f x
+  pub some_more : {Y : Type 0} (f : X → List Y) (before after start : List Y) → after ≡ before ++ f x
       → before ++ flat_map f (drop i xs) ≡ start → after ++ flat_map f (drop (i + 1) xs) ≡ start
   some_more f before after start added so_far =
       let rest = flat_map f (drop (i + 1) xs) in

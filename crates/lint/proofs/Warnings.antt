@@ -21,7 +21,7 @@ use Rattle.toml_places.specs.Places.{marks}
 use Rattle.lint.specs.declared.finding.Level.TheVariants.{Error}
 use Rattle.lint.specs.Findings.{FindingView, AreInOrder}
 use Rattle.lint.specs.Lookups.{value_of}
-use Rattle.lint.specs.Looks.{looks_of}
+use Rattle.lint.specs.AllLooks.{all_looks}
 use Rattle.lint.specs.Lint.{ranks_of, finds_none, is_unreached, unreached, frame_ids, warning, none_reached, unreached_findings, look_findings, fault_finding, text_tables}
 use Rattle.lint.specs.Laws.{IsCutOff, AreOfAudit, WarnsOfCutOff, LintWarnsOfUnreached}
 use Rattle.lint.proofs.Meanings.{follows}
@@ -159,7 +159,7 @@ warns text policy findings base is a =
     let frames = warned policy.groups found base.frames in
     let each_frame = map (λ (f : Frame). warning text ms tables f.id) frames in
     let faults = map (fault_finding text ms tables base policy (ranks_of found)) a.1.faults in
-    let looks = look_findings text ms tables (looks_of base.frames) in
+    let looks = look_findings text ms tables (all_looks policy.groups base.frames) in
     let rest = others text policy.groups base found in
     record {
       errors = faults;

@@ -1,10 +1,13 @@
 -- Findings and their order.
-use Rattle.std.specs.Prelude.{ℕ, List, nat_lt, Bool, true, false, ◌||◌, if◌then◌else◌, [], ◌++◌, codes, count_by, IsPermutation}
+use Rattle.std.specs.Prelude.{ℕ, List, nat_lt, Bool, true, false, not, ◌||◌, if◌then◌else◌, [], ◌++◌, codes, count_by, IsPermutation}
 use Rattle.lint.specs.declared.finding.Level.{Level}
 use Rattle.lint.specs.declared.finding.Level.TheVariants.{Error, Warning}
 use Rattle.lint_words.specs.Pieces.{counted}
 use Rattle.lint_words.specs.WordsOf.{WordsView}
 use Rattle.lint.specs.declared.counts.Counts.{Counts}
+use Rattle.lint.specs.declared.ignored.Ignored.{Ignored}
+use Rattle.lint_words.specs.declared.code.Code.{Code}
+use Rattle.lint_words.specs.declared.code.Code.TheVariants.{Unreached, Hidden, LineEnd, Escape, Menu, Unsought}
 use Rattle.std.specs.Ordering.{nat_cmp}
 use Rattle.std.specs.List.Sorted.{IsSortedByKey, IsStableByKey}
 use Rattle.toml_places.specs.declared.spans.Span.{Span}
@@ -31,6 +34,23 @@ same_level _ _ = false
 
 abbrev pub count_of : Level → List FindingView → ℕ
 count_of level findings = count_by (λ f. same_level f.level level) findings
+
+-- Which findings count and are shown.
+
+abbrev pub ignores : Ignored → Code → Bool
+ignores ignored Unreached = ignored.unreached
+ignores ignored Hidden = ignored.hidden
+ignores ignored LineEnd = ignored.line_end
+ignores ignored Escape = ignored.escape
+ignores ignored Menu = ignored.menu
+ignores ignored Unsought = ignored.unsought
+ignores _ _ = false
+
+abbrev pub is_counted : Ignored → FindingView → Bool
+is_counted ignored f = not (ignores ignored f.words.code)
+
+abbrev pub is_error : FindingView → Bool
+is_error f = same_level f.level Error
 
 -- in words and a line feed, if there are findings
 abbrev pub counted_text : Counts → List ℕ

@@ -15,7 +15,7 @@ use Rattle.finder.specs.Finds.{EntryIsFound, IsReached}
 use Rattle.fault_scripts.specs.Faults.{AreFaults}
 use Rattle.lint.specs.declared.finding.Level.TheVariants.{Error}
 use Rattle.lint.specs.Findings.{FindingView, count_of, AreInOrder}
-use Rattle.lint.specs.Looks.{looks_of}
+use Rattle.lint.specs.AllLooks.{all_looks}
 use Rattle.lint.specs.Lint.{Subject, Length, Toml, Text, Whole, finding_of, text_tables, warning, none_reached, look_findings, IsSpanWithin, IsAudited, IsLint}
 use Rattle.toml_places.specs.Places.{marks}
 
@@ -84,7 +84,7 @@ pub record IsCutOff (groups : List ℕ) (base : BaseView) (f : Frame) : Type 0 w
   pub opens : is_open groups f ≡ true
   pub unreached : IsReached groups base f.id → ⊥
 
--- Besides errors the findings are one warning for each of these frames, at its header; if the entry frame isn't found one for
+-- Besides errors the findings are one warning for each of these frames, at its id; if the entry frame isn't found one for
 -- all frames that are open to the caller, with their number; those of what frames show; and no other.
 pub record WarnsOfCutOff (text : List ℕ) (policy : Policy) (base : BaseView) (findings : List FindingView) : Type 0 where
   pub errors : List FindingView
@@ -96,7 +96,7 @@ pub record WarnsOfCutOff (text : List ℕ) (policy : Policy) (base : BaseView) (
   pub found : EntryIsFound policy.groups base → others ≡ []
   pub not_found : ¬ (EntryIsFound policy.groups base) → others ≡ none_reached text (marks text) (length (filter (is_open policy.groups) base.frames))
   pub in_order : AreInOrder (errors ++ map (λ f. warning text (marks text) (text_tables text) f.id) frames ++ others
-      ++ look_findings text (marks text) (text_tables text) (looks_of base.frames)) findings
+      ++ look_findings text (marks text) (text_tables text) (all_looks policy.groups base.frames)) findings
 
 abbrev pub WarnsOfUnreached : List ℕ → Policy → List FindingView → Type 0
 WarnsOfUnreached text policy findings = (base : BaseView) → IsTextBase text base → WarnsOfCutOff text policy base findings

@@ -1,6 +1,8 @@
 pub mod Lookups
 pub mod Outside
 pub mod Looks
+pub mod Offers
+pub mod AllLooks
 pub mod Tables
 pub mod Pictures
 pub mod Spots

@@ -1,5 +1,5 @@
 -- Every finding of a text.
-use Rattle.std.specs.Prelude.{◌≡◌, ◌≤◌, ℕ, ◌==◌, Bool, true, false, ◌&&◌, List, [], ◌∷◌, ◌++◌, map, flat_map, if◌then◌else◌, Option, Some, None, unwrap_or, is_none, option_and_then, nat_lt, length, filter}
+use Rattle.std.specs.Prelude.{◌≡◌, ◌≤◌, ℕ, ◌==◌, Bool, true, false, ◌&&◌, List, [], ◌∷◌, ◌++◌, map, flat_map, if◌then◌else◌, Option, Some, None, unwrap_or, is_some, is_none, option_and_then, nat_lt, length, filter}
 use Rattle.page_ids.specs.Ids.{Id}
 use Rattle.frame_records.specs.declared.frame.Frame.{Frame}
 use Rattle.frame_records.specs.Bases.{BaseView, frame_at}
@@ -13,16 +13,16 @@ use Rattle.toml_places.specs.declared.spans.Span.{Span}
 use Rattle.toml_places.specs.Places.{Mark, marks}
 use Rattle.lint_words.specs.declared.fault_words.Judged.{Judged}
 use Rattle.lint_words.specs.FaultWords.{audit_fault_words, unreached_words, none_reached_words}
-use Rattle.lint_words.specs.WarningWords.{hidden_words, line_end_words, escape_words}
+use Rattle.lint_words.specs.WarningWords.{hidden_words, line_end_words, escape_words, shown_escape_words, menu_words, unsought_words}
 use Rattle.lint_words.specs.WordsOf.{WordsView}
 use Rattle.lint.specs.Findings.{FindingView, error_at, warning_at, AreInOrder}
 use Rattle.lint.specs.Lookups.{value_of}
-use Rattle.lint.specs.Tables.{TableView, empty_at, frame_whole, table_at, id_place}
+use Rattle.lint.specs.Tables.{TableView, empty_at, table_at, id_span, id_place}
 use Rattle.lint.specs.declared.looks.Look.{Look}
-use Rattle.lint.specs.declared.looks.Look.TheVariants.{Hidden, Escape, EndsLine}
-use Rattle.lint.specs.Looks.{looks_of}
+use Rattle.lint.specs.declared.looks.Look.TheVariants.{Hidden, Escape, EndsLine, Shown, Offers, Unsought}
+use Rattle.lint.specs.AllLooks.{all_looks}
 use Rattle.lint.specs.Outside.{page_at, outside_element}
-use Rattle.lint.specs.Spots.{has_rows, row_span, entry_span, line_end_at, single_at, detail_span, whole_table, whole_span, kind_table, audit_span}
+use Rattle.lint.specs.Spots.{has_rows, row_span, entry_span, line_end_at, single_at, sight_span, shown_field, named_span, detail_span, whole_table, whole_span, kind_table, audit_span}
 use Rattle.base_text.specs.declared.detail.TextFault.{TextFault}
 use Rattle.base_text.specs.declared.listed.Listed.{Listed}
 use Rattle.base_text.specs.declared.whole_fault.WholeFault.{WholeFault}
@@ -86,7 +86,7 @@ fault_finding text ms tables base policy ranks fault =
     error_at (audit_span table fault) (audit_fault_words (judged table base policy ranks fault) fault)
 
 abbrev pub warning : List ℕ → List Mark → List (Id × ℕ) → Id → FindingView
-warning text ms tables id = warning_at (frame_whole text ms (table_of tables id)) (unreached_words id)
+warning text ms tables id = warning_at (id_span text ms (table_of tables id)) (unreached_words id)
 
 -- if the entry frame isn't found, one warning has the number of all these frames
 abbrev pub none_reached : List ℕ → List Mark → ℕ → List FindingView
@@ -100,11 +100,15 @@ abbrev pub warning_if : Option Span → WordsView → List FindingView
 warning_if None words = []
 warning_if (Some span) words = warning_at span words ∷ []
 
--- the warning of what may be wrong with what the frame of this table shows, if the text writes it so
+-- the warning of what may be wrong with the frame of this table, if the text writes it so
 abbrev pub look_in : TableView → Id → Look → List FindingView
 look_in table id (Hidden row) = if has_rows table then warning_at (row_span table row) (hidden_words id row) ∷ [] else []
 look_in table id (Escape row) = warning_if (single_at table row) (escape_words id row)
 look_in table id (EndsLine end index) = warning_if (line_end_at table end index) (line_end_words id end)
+look_in table id (Shown row at escaped) =
+    if escaped && is_some (single_at table row) then [] else warning_at (sight_span table row at) (shown_escape_words id row (shown_field table)) ∷ []
+look_in table id (Offers row at digit) = warning_at (sight_span table row at) (menu_words id row digit) ∷ []
+look_in table id (Unsought group) = warning_at (named_span table) (unsought_words id group) ∷ []
 
 abbrev pub look_finding : List ℕ → List Mark → List (Id × ℕ) → Id × Look → List FindingView
 look_finding text ms tables p = look_in (table_at text ms (Some (table_of tables p.0))) p.0 p.1
@@ -112,7 +116,7 @@ look_finding text ms tables p = look_in (table_at text ms (Some (table_of tables
 abbrev pub look_findings : List ℕ → List Mark → List (Id × ℕ) → List (Id × Look) → List FindingView
 look_findings text ms tables looks = flat_map (look_finding text ms tables) looks
 
--- each fault of a base, then each frame that no key reaches or their number, and then what is wrong with what frames show
+-- each fault of a base, then each frame that no key reaches or their number, and then what may be wrong with what frames show, and closed frames
 pub record AreAuditFindings (text : List ℕ) (ms : List Mark) (tables : List (Id × ℕ)) (base : BaseView) (policy : Policy) (findings : List FindingView) : Type 0 where
   pub faults : List Fault
   pub found : List Discovered
@@ -121,7 +125,7 @@ pub record AreAuditFindings (text : List ℕ) (ms : List Mark) (tables : List (I
   pub least : RanksAreLeast policy.groups base found
   pub all : findings ≡ map (fault_finding text ms tables base policy (ranks_of found)) faults
       ++ unreached_findings text ms tables (finds_none found) (frame_ids (unreached policy.groups (ranks_of found) base.frames))
-      ++ look_findings text ms tables (looks_of base.frames)
+      ++ look_findings text ms tables (all_looks policy.groups base.frames)
 
 -- The findings of the faults of a base's text.
 

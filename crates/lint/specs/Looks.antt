@@ -81,11 +81,3 @@ line_end_of end body = feed_from end (record { at = 40; pending = false }) false
 abbrev pub line_end_if : Id → LineEnd → Option ℕ → List (Id × Look)
 line_end_if id end None = []
 line_end_if id end (Some n) = (id, EndsLine end n) ∷ []
-
--- all of it
-abbrev pub frame_looks : Frame → List (Id × Look)
-frame_looks f = rows_if f ++ (line_end_if f.id Feed (line_end_of Feed f.body) ++ line_end_if f.id Return (line_end_of Return f.body))
-
--- of all frames, in their order
-abbrev pub looks_of : List Frame → List (Id × Look)
-looks_of frames = flat_map frame_looks frames

@@ -7,14 +7,14 @@ use Rattle.finder.specs.Finds.{FindsReached, RanksAreLeast}
 use Rattle.fault_scripts.specs.Faults.{AreFaults}
 use Rattle.lint.specs.declared.audit_findings.Audit.{Audit}
 use Rattle.lint.specs.Lookups.{value_of}
-use Rattle.lint.specs.Looks.{looks_of}
+use Rattle.lint.specs.AllLooks.{all_looks}
 use Rattle.lint.specs.Lint.{Toml, ranks_of, unreached, finds_none, frame_ids, finding_of, IsSpanWithin}
 use Rattle.page_ids.specs.Ids.{Id, id_eq}
 use Rattle.fault_scripts.specs.declared.fault.Fault.{Fault}
 use Rattle.lint.specs.declared.looks.Look.{Look}
 use Rattle.toml_places.specs.Places.{Mark, kept_route, kept_key, key_in, route_in, first_spot, routes_key, Keeps}
 use Rattle.lint.specs.declared.audit_findings.Sources.{Sources}
-use Rattle.lint.specs.Tables.{TableView, key_spot, dotted_spot, table_at, whole, inline_marks, frame_element}
+use Rattle.lint.specs.Tables.{TableView, value_at, key_spot, dotted_spot, table_at, whole, inline_marks, frame_element}
 use Rattle.toml_places.specs.declared.spans.Span.{Span}
 use Rattle.toml_places.specs.Spans.{pair_span}
 use Rattle.toml_places.specs.Steps.{◌>>=◌}
@@ -58,6 +58,10 @@ keys_of text ms frame = record { frame = frame; key = key_spot text ms frame; do
 -- the pair that writes what a frame with these keys shows
 abbrev pub picture_seen : List ℕ → KeysView → Option Span
 picture_seen text k = option_or (k.key (codes "rows")) (k.key (codes "body")) >>= (λ s. pair_span s text)
+
+-- the value of the id of a frame with these keys
+abbrev pub id_seen : List ℕ → KeysView → Option Span
+id_seen text k = value_at text (k.key (codes "id"))
 
 -- this is a table of the text
 abbrev pub IsTable : List ℕ → List Mark → TableView → Type 0
@@ -118,7 +122,7 @@ pub record IsAudit (base : BaseView) (policy : Policy) (audit : Audit) : Type 0 
   pub known : KnowsValues (ranks_of found) audit.ranks
   pub finds_none : audit.finds_none ≡ finds_none found
   pub unreached : audit.unreached.items ≡ frame_ids (unreached policy.groups (ranks_of found) base.frames)
-  pub looks : audit.looks.items ≡ looks_of base.frames
+  pub looks : audit.looks.items ≡ all_looks policy.groups base.frames
 
 -- nothing was found
 abbrev pub is_clear : List Fault → List Id → List (Id × Look) → Bool

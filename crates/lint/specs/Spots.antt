@@ -94,9 +94,14 @@ row_char t n i = option_map (char_of t (i - 1)) (span_of_row t n)
 abbrev pub body_char : TableView → ℕ → Option Span
 body_char t k = option_map (char_of t k) (span_of_value t (codes "body"))
 
+-- a missing key of a frame; the frame is marked at its id, if what it shows is missing
+abbrev pub absent_at : TableView → Field → Option Span
+absent_at t field.Body = span_of_value t (codes "id")
+absent_at t _ = None
+
 abbrev pub detail_at : TableView → Detail → Option Span
 detail_at t (UnknownKey k key) = unknown_at t k key
-detail_at t (Absent f) = None
+detail_at t (Absent f) = absent_at t f
 detail_at t (WrongKind f k) = span_of_value t (field_name f)
 detail_at t (WrongItem f n k) = listed_at t f n
 detail_at t (Number f z) = span_of_value t (field_name f)
@@ -133,7 +138,7 @@ abbrev pub shown_at : TableView → Option Span
 shown_at t = span_of_value t (if has_rows t then codes "rows" else codes "body")
 
 abbrev pub whole_at : TableView → WholeFault → Option Span
-whole_at t (TooManyFrames n) = None
+whole_at t (TooManyFrames n) = span_of_value t (codes "id")
 whole_at t (TooManyOutside n) = item_of t (codes "outside") MOST_LISTED
 whole_at t (BodyTooLong table id n) = shown_at t
 whole_at t (NextAfterZ table id) = pair_of t (codes "next")
@@ -171,7 +176,7 @@ kind_at t fault fault_kind.Price = span_of_value t (codes "price")
 kind_at t fault fault_kind.Touches = touched_at t fault.start
 kind_at t fault fault_kind.Missing = sought_at t fault.key
 kind_at t fault fault_kind.Closed = sought_at t fault.key
-kind_at t fault fault_kind.NoReturn = None
+kind_at t fault fault_kind.NoReturn = span_of_value t (codes "id")
 
 abbrev pub audit_span : TableView → Fault → Span
 audit_span t fault = unwrap_or (kind_at t fault fault.kind) t.whole
@@ -219,6 +224,23 @@ single_span text s = if is_this_byte 0x27 (slice_get text s.begin) then Some s e
 -- a row, by its number from 1, in single quotation marks
 abbrev pub single_at : TableView → ℕ → Option Span
 single_at t n = t.item (n - 1) >>= single_span t.text
+
+-- what a frame shows is written under this key
+abbrev pub shown_field : TableView → Field
+shown_field t = if has_rows t then field.Rows else field.Body
+
+-- the code of the body at an index, if it is known
+abbrev pub byte_written : TableView → Option ℕ → Option Span
+byte_written t None = span_of_value t (codes "body")
+byte_written t (Some k) = body_char t k
+
+-- a row of the screen: of a frame that is given as rows that row, else the code of the body
+abbrev pub sight_span : TableView → ℕ → Option ℕ → Span
+sight_span t row at = unwrap_or (if has_rows t then span_of_row t row else byte_written t at) t.whole
+
+-- the value of the frame's id
+abbrev pub named_span : TableView → Span
+named_span t = unwrap_or (span_of_value t (codes "id")) t.whole
 
 -- a missing entry frame is a fault of the top, all else of the frame, which this table writes
 abbrev pub kind_table : ℕ → FaultKind → Option ℕ

@@ -97,6 +97,10 @@ table_at text ms frame = record {
   item = element_at text (key_spot text ms frame (list_key frame));
 }
 
+-- the value of a frame's id; of a frame without one its header, or its braces
+abbrev pub id_span : List ℕ → List Mark → ℕ → Span
+id_span text ms k = unwrap_or (value_at text (key_spot text ms (Some k) (codes "id"))) (frame_whole text ms k)
+
 -- where the id of a frame is written, or its table in an array
 abbrev pub offset_or : Option KeyPlace → ℕ → ℕ
 offset_or None at = at

@@ -2,15 +2,17 @@ ghost use Rattle.std.specs.Prelude.{◌≡◌, ◌++◌, ℕ, List, Option, map,
 ghost use Rattle.page_ids.specs.Ids.{Id};
 ghost use Rattle.toml_places.specs.Places.{Mark};
 ghost use Rattle.lint.specs.Loops.{KnowsTables, IsTable, table_seen, KnowsValues};
-ghost use Rattle.lint.specs.declared.looks.Look.TheVariants.{Hidden, Escape, EndsLine};
+ghost use Rattle.lint.specs.declared.looks.Look.TheVariants.{Hidden, Escape, EndsLine, Shown, Offers, Unsought};
 ghost use Rattle.lint.specs.Lint as spec;
 ghost use Rattle.lint.specs.Loops as loops;
 
+use crate::all_looks::all_looks;
 use crate::finding::Finding;
-use crate::looks::{Look, looks_of};
+use crate::looks::Look;
 use crate::lookup::Lookup;
 use crate::spots::{
-    audit_span, entry_span, has_rows, kind_table, line_end_at, row_span, single_at,
+    audit_span, entry_span, has_rows, kind_table, line_end_at, named_span, row_span, shown_field,
+    sight_span, single_at,
 };
 use crate::tables::{TableSpots, TextTables};
 use checker::Policy;
@@ -18,16 +20,16 @@ use fault_scripts::{Fault, FaultList, faults_surveyed};
 use finder::{Discovered, Survey};
 use frame_records::{Base, Frame, GroupNo, Groups};
 use lint_words::{
-    Judged, LineEnd, audit_fault_words, escape_words, hidden_words, line_end_words,
-    none_reached_words, unreached_words,
+    Judged, LineEnd, audit_fault_words, escape_words, hidden_words, line_end_words, menu_words,
+    none_reached_words, shown_escape_words, unreached_words, unsought_words,
 };
-use page_ids::FrameId;
+use page_ids::{FrameId, Letter};
 use std::alloc::{AllocError, Global};
 
 // The fewest keys from each frame that is reached back to the entry frame.
 pub type Ranks = Lookup<Option<u16>>;
 
-// An audit of a base: its faults, the frames that no key reaches, and what may be wrong with what frames show.
+// An audit of a base: its faults, the frames that no key reaches, and what may be wrong with frames beside.
 #[derive(Drop)]
 pub struct Audit {
     faults: FaultList,
@@ -92,7 +94,7 @@ impl Audit {
         let ranks = Lookup::of(alloc, ranks_of(alloc, found)?.as_slice())?;
         let finds_none = finds_none(found);
         let unreached = unreached(alloc, &ranks, &policy.groups, base.frames())?;
-        let looks = looks_of(alloc, base.frames())?;
+        let looks = all_looks(alloc, &policy.groups, base.frames())?;
         Ok(Audit {
             faults,
             ranks,
@@ -125,6 +127,16 @@ fn group_of(base: &Base, fault: &Fault) -> Option<GroupNo>
     ensures { result ≡ spec.group_closed_to base.now fault.now }
 {
     base.find(fault.sought.unwrap_or(fault.frame))?.group
+}
+
+// The frame with the letter before this one's, if it has no next frame.
+fn without_next(base: &Base, id: FrameId) -> Option<FrameId> {
+    let letter = Letter::new(id.letter.get().saturating_sub(1))?;
+    let before = base.find(FrameId {
+        page: id.page,
+        letter,
+    })?;
+    if before.next { None } else { Some(before.id) }
 }
 
 fn rank_of(ranks: &Ranks, id: FrameId) -> Option<u16>
@@ -184,7 +196,59 @@ fn add_line_end(
     Ok(())
 }
 
-// Appends the warning of what may be wrong with what a frame shows, if the text writes it so.
+// Appends the warning of a row that shows an escape, unless that of one in single quotation marks says so.
+fn add_shown_escape(
+    alloc: Global,
+    table: &TableSpots<'_>,
+    id: FrameId,
+    row: usize,
+    index: Option<usize>,
+    escaped: bool,
+    findings: &mut Vec<Finding>,
+) -> Result<(), AllocError>
+    ensures { OnOk result (findings.new.items
+        ≡ findings.old.items ++ spec.look_in (table_seen table.now) id (Shown row index escaped)) }
+{
+    if !(escaped && single_at(table, row).is_some()) {
+        let words = shown_escape_words(alloc, id, row, shown_field(table))?;
+        findings.push(Finding::warning(sight_span(table, row, index), words))?;
+    }
+    Ok(())
+}
+
+fn add_menu(
+    alloc: Global,
+    table: &TableSpots<'_>,
+    id: FrameId,
+    row: usize,
+    index: Option<usize>,
+    digit: u8,
+    findings: &mut Vec<Finding>,
+) -> Result<(), AllocError>
+    ensures { OnOk result (findings.new.items
+        ≡ findings.old.items ++ spec.look_in (table_seen table.now) id (Offers row index digit)) }
+{
+    let words = menu_words(alloc, id, row, digit)?;
+    findings.push(Finding::warning(sight_span(table, row, index), words))?;
+    Ok(())
+}
+
+fn add_unsought(
+    alloc: Global,
+    table: &TableSpots<'_>,
+    id: FrameId,
+    group: GroupNo,
+    findings: &mut Vec<Finding>,
+) -> Result<(), AllocError>
+    ensures { OnOk result (findings.new.items
+        ≡ findings.old.items ++ spec.look_in (table_seen table.now) id (Unsought group)) }
+{
+    let words = unsought_words(alloc, id, group)?;
+    findings.push(Finding::warning(named_span(table), words))?;
+    Ok(())
+}
+
+// Appends the warning of what may be wrong with a frame, if the text writes it so.
 fn add_look(
     alloc: Global,
     table: &TableSpots<'_>,
@@ -198,6 +262,13 @@ fn add_look(
         Look::Hidden(row) => add_hidden(alloc, table, id, *row, findings),
         Look::Escape(row) => add_escape(alloc, table, id, *row, findings),
         Look::EndsLine(end, index) => add_line_end(alloc, table, id, *end, *index, findings),
+        Look::Shown(row, index, escaped) => {
+            add_shown_escape(alloc, table, id, *row, *index, *escaped, findings)
+        }
+        Look::Offers(row, index, digit) => {
+            add_menu(alloc, table, id, *row, *index, *digit, findings)
+        }
+        Look::Unsought(group) => add_unsought(alloc, table, id, *group, findings),
     }
 }
 
@@ -267,8 +338,9 @@ impl<'a> Sources<'a> {
         ensures { IfOk result (λ f. (ms : List Mark) (tables : List (Id × ℕ)) → loops.AreKnown ms tables self.now
             → f ≡ spec.warning self.now.text.now.text.now ms tables id) }
     {
-        let words = unreached_words(alloc, id)?;
-        Ok(Finding::warning(self.text.frame_whole(self.table_of(id)), words))
+        let words = unreached_words(alloc, id, without_next(self.base, id))?;
+        let span = self.text.id_span(alloc, self.table_of(id))?;
+        Ok(Finding::warning(span, words))
     }
 
     fn add_warnings(

@@ -20,7 +20,7 @@ use base_text::{
 };
 use checker::Policy;
 use frame_records::Base;
-use lint_words::{Words, not_toml_words, too_long_words};
+use lint_words::{Words, cause_span, not_toml_words, too_long_words};
 use page_ids::{FrameId, PageNo};
 use std::alloc::{AllocError, Global};
 use toml::de::Error;
@@ -41,20 +41,17 @@ fn too_long(alloc: Global) -> Result<Vec<Finding>, AllocError>
     one(alloc, Span { begin: 0, end: 0 }, too_long_words(alloc)?)
 }
 
-// X2, with toml's message and span, and a hint.
+// X2, at its cause, with toml's message and a hint that goes by the place where toml finds it.
 fn not_toml(
     alloc: Global,
     text: &[u8],
     span: Span,
+    at: usize,
     message: &str,
 ) -> Result<Vec<Finding>, AllocError>
     ensures { IfOk result (λ fs. fs.items ≡ map (spec.finding_of text.now) (spec.Toml span message.now ∷ [])) }
 {
-    one(
-        alloc,
-        span,
-        not_toml_words(alloc, text, span.begin, message)?,
-    )
+    one(alloc, span, not_toml_words(alloc, text, at, message)?)
 }
 
 fn refused(alloc: Global, text: &[u8], error: &Error) -> Result<Vec<Finding>, AllocError>
@@ -64,11 +61,13 @@ fn refused(alloc: Global, text: &[u8], error: &Error) -> Result<Vec<Finding>, Al
     match error.span() {
         None => Err(AllocError),
         Some(range) => {
-            let span = Span {
+            let found = Span {
                 begin: range.start,
                 end: range.end,
             };
-            not_toml(alloc, text, span, error.message())
+            let message = error.message();
+            let cause = cause_span(text, found, message);
+            not_toml(alloc, text, cause, found.begin, message)
         }
     }
 }

@@ -8,20 +8,24 @@
 //! - [`lint`], [`Finding`], [`Level`]: the findings in the order of where they begin.
 //! - A span is that of the smallest piece at fault: a key, a value, an element of a list, a route, a character or a header.
 //!   [`spans_lie_in_the_text`].
-//! - [`Counts`], [`counted_text`]: how many there are.
+//! - [`Counts`], [`counted_text`]: how many there are. [`Ignored`], [`remove_warnings`]: the warnings that don't count, or aren't shown.
 //! - [`picture_places`], [`PicturePlace`]: where a text writes what frames show.
 //! - [`lint_follows_base_read`], [`no_error_is_safe`], [`lint_warns_of_unreached`]: what the findings of a text mean.
-//! - Definitions: what is found (`Lint`), where a text writes its tables (`Tables`) and what frames show (`Pictures`),
+//! - Definitions: what is found (`Lint`), what may be wrong with frames (`Looks`, `Offers`, `AllLooks`), where a text writes its
+//!   tables (`Tables`) and what frames show (`Pictures`),
 //!   which piece is at fault (`Spots`, `Outside`), the order (`Findings`), the laws (`Laws`).
 #![tactic(auto)]
 
+mod all_looks;
 mod audit_findings;
 mod counts;
 mod finding;
+mod ignored;
 mod judging;
 mod laws;
 mod looks;
 mod lookup;
+mod offers;
 mod order;
 mod outside;
 mod pictures;
@@ -31,6 +35,7 @@ mod text_findings;
 
 pub use counts::{Counts, counted_text};
 pub use finding::{Finding, Level};
+pub use ignored::{Ignored, remove_warnings};
 pub use judging::lint;
 pub use laws::{
     lint_follows_base_read, lint_warns_of_unreached, no_error_is_safe, spans_lie_in_the_text,

@@ -1,13 +1,13 @@
 //! What may be wrong with what frames show, by their codes alone; how the text writes it decides.
 
-ghost use Rattle.std.specs.Prelude.{◌≡◌, ◌++◌, ◌<◌, length, IfOk, OnOk};
+ghost use Rattle.std.specs.Prelude.{◌≡◌, ◌++◌, ◌<◌, OnOk};
 ghost use Rattle.lint.specs.Looks as spec;
 
-use frame_records::Frame;
+use frame_records::{Frame, GroupNo};
 use lint_words::LineEnd;
 use page_ids::FrameId;
 use screens::{hides_text, row_codes};
-use std::alloc::{AllocError, Global};
+use std::alloc::AllocError;
 use terminal_codes::{Caret, Terminal};
 
 // The attribute double height.
@@ -22,6 +22,13 @@ pub enum Look {
     Escape(usize),
     // A line of the body ends so: the code at this index is the line feed, and text goes on after it.
     EndsLine(LineEnd, usize),
+    // A row of the screen, by its number, shows an escape, which the code at this index of the body begins; whether the row has one
+    // that is none in single quotation marks.
+    Shown(usize, Option<usize>, bool),
+    // A row of the screen, by its number, offers a key that has no route: the code at this index of the body is the digit.
+    Offers(usize, Option<usize>, u8),
+    // No way leads to the frame, which is closed, of this group.
+    Unsought(GroupNo),
 }
 
 // Whether codes begin with \u00.
@@ -35,7 +42,7 @@ fn begins_escape(codes: &[u8]) -> bool
 }
 
 // Whether \u00 is among codes.
-fn holds_escape(codes: &[u8]) -> bool
+pub fn holds_escape(codes: &[u8]) -> bool
     ensures { result ≡ spec.holds_escape codes.now }
 {
     match codes {
@@ -115,7 +122,7 @@ fn needs_rows(body: &[u8]) -> bool
     body.contains(&DOUBLE) || body.contains(&b'\\')
 }
 
-fn add_rows_if(frame: &Frame, looks: &mut Vec<(FrameId, Look)>) -> Result<(), AllocError>
+pub fn add_rows_if(frame: &Frame, looks: &mut Vec<(FrameId, Look)>) -> Result<(), AllocError>
     ensures { OnOk result (looks.new.items ≡ looks.old.items ++ spec.rows_if frame.now) }
 {
     if needs_rows(frame.body.as_slice()) {
@@ -164,7 +171,7 @@ fn line_end_of(end: LineEnd, body: &[u8]) -> Option<usize>
     None
 }
 
-fn add_line_end(
+pub fn add_line_end(
     frame: &Frame,
     end: LineEnd,
     looks: &mut Vec<(FrameId, Look)>,
@@ -176,23 +183,4 @@ fn add_line_end(
         looks.push((frame.id, Look::EndsLine(end, index)))?;
     }
     Ok(())
-}
-
-fn add_looks(frame: &Frame, looks: &mut Vec<(FrameId, Look)>) -> Result<(), AllocError>
-    ensures { OnOk result (looks.new.items ≡ looks.old.items ++ spec.frame_looks frame.now) }
-{
-    add_rows_if(frame, looks)?;
-    add_line_end(frame, LineEnd::Feed, looks)?;
-    add_line_end(frame, LineEnd::Return, looks)
-}
-
-// What may be wrong with what frames show, each after the frame.
-pub fn looks_of(alloc: Global, frames: &[Frame]) -> Result<Vec<(FrameId, Look)>, AllocError>
-    ensures { IfOk result (λ looks. looks.items ≡ spec.looks_of frames.now) }
-{
-    let mut looks = Vec::new(alloc);
-    for frame in frames {
-        add_looks(frame, &mut looks)?;
-    }
-    Ok(looks)
 }

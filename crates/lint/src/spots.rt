@@ -158,12 +158,22 @@ fn row_char(table: &TableSpots<'_>, row: usize, number: usize) -> Option<Span>
     Some(char_of(table, number.saturating_sub(1), row))
 }
 
+// A missing key. A frame that shows nothing is marked at its id.
+fn absent_at(table: &TableSpots<'_>, field: Field) -> Option<Span>
+    ensures { result ≡ spec.absent_at (table_seen table.now) field }
+{
+    match field {
+        Field::Body => value_of(table, "id"),
+        _ => None,
+    }
+}
+
 fn detail_at(table: &TableSpots<'_>, detail: &Detail) -> Option<Span>
     ensures { result ≡ spec.detail_at (table_seen table.now) detail.now }
 {
     match detail {
         Detail::UnknownKey(kind, key) => unknown_at(table, *kind, key.as_str()),
-        Detail::Absent(_) => None,
+        Detail::Absent(field) => absent_at(table, *field),
         Detail::WrongKind(field, _) => value_of(table, field.name()),
         Detail::WrongItem(field, number, _) => listed_at(table, *field, *number),
         Detail::Number(field, _) => value_of(table, field.name()),
@@ -186,6 +196,7 @@ fn detail_at(table: &TableSpots<'_>, detail: &Detail) -> Option<Span>
 pub(crate) fn written_value<'t>(table: &'t TableSpots<'_>, detail: &Detail) -> &'t [u8] {
     let span = match detail {
         Detail::WrongKind(field, _) => value_of(table, field.name()),
+        Detail::UnknownKey(TableKind::Frame, key) => value_of(table, key.as_str()),
         Detail::WrongItem(Field::Routes, digit, _) => route_value(table, *digit),
         _ => None,
     };
@@ -196,6 +207,23 @@ pub(crate) fn written_value<'t>(table: &'t TableSpots<'_>, detail: &Detail) -> &
             .as_bytes()
             .get(span.begin..span.end)
             .unwrap_or(b""),
+    }
+}
+
+// Whether a key of the table is in a header.
+fn is_in_header(table: &TableSpots<'_>, key: &str) -> bool {
+    match table.key(key) {
+        Some(spot) => table.text().as_bytes().get(spot.at) == Some(&b'['),
+        None => false,
+    }
+}
+
+// Whether an unknown key is that of a header, or one of routes that have a header.
+pub(crate) fn in_header(table: &TableSpots<'_>, detail: &Detail) -> bool {
+    match detail {
+        Detail::UnknownKey(TableKind::Routes, _) => is_in_header(table, "routes"),
+        Detail::UnknownKey(_, key) => is_in_header(table, key.as_str()),
+        _ => false,
     }
 }
 
@@ -238,7 +266,7 @@ fn whole_at(table: &TableSpots<'_>, fault: &WholeFault) -> Option<Span>
     ensures { result ≡ spec.whole_at (table_seen table.now) fault.now }
 {
     match fault {
-        WholeFault::TooManyFrames(_) => None,
+        WholeFault::TooManyFrames(_) => value_of(table, "id"),
         WholeFault::TooManyOutside(_) => item_of(table, "outside", MOST_LISTED),
         WholeFault::BodyTooLong { .. } => shown_at(table),
         WholeFault::NextAfterZ { .. } => pair_of(table, "next"),
@@ -307,7 +335,7 @@ fn kind_at(table: &TableSpots<'_>, fault: &Fault) -> Option<Span>
         FaultKind::Price => value_of(table, "price"),
         FaultKind::Touches => touched_at(table, fault.start),
         FaultKind::Missing | FaultKind::Closed => sought_at(table, &fault.key),
-        FaultKind::NoReturn => None,
+        FaultKind::NoReturn => value_of(table, "id"),
     }
 }
 
@@ -398,6 +426,46 @@ pub fn single_at(table: &TableSpots<'_>, row: usize) -> Option<Span>
     ensures { result ≡ spec.single_at (table_seen table.now) row }
 {
     single_span(table.text(), table.item(row.saturating_sub(1))?)
+}
+
+// Under which key what a frame shows is written.
+pub fn shown_field(table: &TableSpots<'_>) -> Field
+    ensures { result ≡ spec.shown_field (table_seen table.now) }
+{
+    if has_rows(table) {
+        Field::Rows
+    } else {
+        Field::Body
+    }
+}
+
+// The code of the body at an index, if it is known.
+fn byte_written(table: &TableSpots<'_>, index: Option<usize>) -> Option<Span>
+    ensures { result ≡ spec.byte_written (table_seen table.now) index }
+{
+    match index {
+        Some(index) => body_char(table, index),
+        None => value_of(table, "body"),
+    }
+}
+
+// The span of a row of the screen: of a frame that is given as rows that row, else the code of the body at an index.
+pub fn sight_span(table: &TableSpots<'_>, row: usize, index: Option<usize>) -> Span
+    ensures { result ≡ spec.sight_span (table_seen table.now) row index }
+{
+    let span = if has_rows(table) {
+        row_at(table, row)
+    } else {
+        byte_written(table, index)
+    };
+    span.unwrap_or(table.whole())
+}
+
+// The span of the value of the frame's id.
+pub fn named_span(table: &TableSpots<'_>) -> Span
+    ensures { result ≡ spec.named_span (table_seen table.now) }
+{
+    value_of(table, "id").unwrap_or(table.whole())
 }
 
 // The frame whose table a fault of the audit is about, which this table writes; none if the entry frame is missing.

@@ -151,6 +151,13 @@ fn picture_pair(text: &str, keys: &TableKeys<'_>) -> Option<Span>
     pair_span(text, spot)
 }
 
+// The value of the id.
+fn id_value(text: &str, keys: &TableKeys<'_>) -> Option<Span>
+    ensures { result ≡ loops.id_seen text.now (seen_keys keys.now) }
+{
+    value_at(text, keys.key("id"))
+}
+
 impl<'a> TableSpots<'a> {
     pub fn text(&self) -> &str
         ensures { result.now ≡ (table_seen self.now).text }
@@ -282,6 +289,15 @@ impl<'a> TextTables<'a> {
     {
         let keys = self.keys(alloc, Some(frame))?;
         Ok(picture_pair(self.text, &keys))
+    }
+
+    // The value of a frame's id; of a frame without one its header, or its braces.
+    pub fn id_span(&self, alloc: Global, frame: usize) -> Result<Span, AllocError>
+        ensures { IfOk result (λ span. (ms : List Mark) → KnowsTables ms self.now
+            → span ≡ spec.id_span self.now.text.now ms frame) }
+    {
+        let keys = self.keys(alloc, Some(frame))?;
+        Ok(id_value(self.text, &keys).unwrap_or(self.frame_whole(frame)))
     }
 
     // The top, or the table of a frame.

@@ -6,7 +6,7 @@ ghost use Rattle.lint.specs.Lint as spec;
 
 use crate::finding::Finding;
 use crate::outside::OutsidePages;
-use crate::spots::{detail_span, whole_span, whole_table, written_value};
+use crate::spots::{detail_span, in_header, whole_span, whole_table, written_value};
 use crate::tables::{TableSpots, TextTables};
 use base_text::{TextFault, WholeFault};
 use lint_words::{Written, text_fault_words, whole_fault_words};
@@ -30,6 +30,7 @@ fn text_finding<'a>(
     tables.turn(alloc, table, fault.frame)?;
     let written = Written {
         value: written_value(table, &fault.detail),
+        in_header: in_header(table, &fault.detail),
         first_frame,
     };
     let words = text_fault_words(alloc, fault, &written)?;

@@ -73,7 +73,7 @@ const CASES: [Case; 13] = [
         frame: "3316a",
         sought: "33168a",
         script: "63",
-        words: "MISSING: key 3 of frame 3316a leads to page 33168, which has no frame a (keys 63)",
+        words: "MISSING: key 3 of frame 3316a leads to page 33168, which has no frame a (keys 63); write frame 33168a, or list 33168 in outside",
         ..CASE
     },
     Case {
@@ -188,7 +188,7 @@ fn unreached_frames_and_counts_have_their_words(rt: HostRuntime) -> Result<(), F
         same_in(wanted, printed(rt.alloc(), &given)?.as_str(), wanted)?;
     }
     let words = "UNREACHED: no key leads to frame 3319a from the entry page";
-    let given = unreached_words(rt.alloc(), FrameId::read("3319a")?)?;
+    let given = unreached_words(rt.alloc(), FrameId::read("3319a")?, None)?;
     same_in(words, printed(rt.alloc(), &given)?.as_str(), words)?;
     let counts = [
         (0, 0, ""),

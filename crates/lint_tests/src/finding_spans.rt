@@ -67,10 +67,10 @@ fn what_is_absent_is_at_the_header_or_in_line_1(rt: HostRuntime) -> Result<(), F
         rt.alloc(),
         text,
         &policy,
-        "outside = [] # x|[[ \"frame\" ]]|[[frame]]",
+        "outside = [] # x|[[ \"frame\" ]]|\"1a\"",
     )?;
     let text = "entry = 1\nframe = [{ id = '1a' }, {rows = []}]\n";
-    spans_are(rt.alloc(), text, &policy, "{ id = '1a' }|{rows = []}")
+    spans_are(rt.alloc(), text, &policy, "'1a'|{rows = []}")
 }
 
 #[test]
@@ -224,8 +224,11 @@ fn faults_of_a_whole_base_are_at_what_they_are_about(rt: HostRuntime) -> Result<
 fn the_entry_page_is_at_its_value_or_its_group(rt: HostRuntime) -> Result<(), Fail> {
     let rows = [
         ("[[frame]]\nid = '2a'\nrows = []\n", "1|1"),
-        ("[[frame]]\nid = '1a'\ngroup = 7 # x\nrows = []\n", "7"),
-        ("frame = [{ id = '1a', rows = [], group = 0x7 }]", "0x7"),
+        ("[[frame]]\nid = '1a'\ngroup = 7 # x\nrows = []\n", "'1a'|7"),
+        (
+            "frame = [{ id = '1a', rows = [], group = 0x7 }]",
+            "'1a'|0x7",
+        ),
     ];
     all_are(rt.alloc(), &rows)
 }
@@ -243,11 +246,11 @@ fn faults_of_an_audit_are_at_what_they_are_about(rt: HostRuntime) -> Result<(), 
     let rows = [
         (
             "frame = [{ id = '1a', rows = [], routes = { 9 = 555 } }, { id = '2a', rows = [] }]\n",
-            "9 = 555|{ id = '2a', rows = [] }",
+            "9 = 555|'2a'",
         ),
         (
             "[[frame]]\nid = '1a'\nrows = []\nroutes.2 = 2\n[[frame]] # no way back\nid = '2a'\nrows = []\n",
-            "[[frame]]",
+            "'2a'",
         ),
     ];
     all_are(rt.alloc(), &rows)

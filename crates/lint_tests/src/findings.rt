@@ -81,7 +81,7 @@ fn beyond_1_000_faults_of_a_table_one_finding_has_their_number(
         &[
             "b.toml:2:4008: error: X6 Range: item 1,000 of \"outside\" is -1, at least 0 is needed",
             "b.toml:2:4012: error: X6 Range: 500 more faults at the top, not listed",
-            "b.toml:3:1: error: X4 Absent: frame 1a has no \"body\" and no \"rows\"",
+            "b.toml:4:6: error: X4 Absent: frame 1a has no \"body\" and no \"rows\"",
         ],
     )
 }
@@ -95,15 +95,16 @@ const SHOP: &str =
 #[test]
 fn an_audit_is_printed_with_the_frames_that_no_key_reaches(rt: HostRuntime) -> Result<(), Fail> {
     let missing =
-        "b.toml:7:12: error: MISSING: key 3 of frame 1a leads to page 4, which has no frame a (keys 3)\n\
-        b.toml:12:1: warning: UNREACHED: no key leads to frame 2a from the entry page\n";
-    prints(rt.alloc(), SHOP, &policy(5, 1, "")?, missing, (1, 1))?;
+        "b.toml:7:12: error: MISSING: key 3 of frame 1a leads to page 4, which has no frame a (keys 3); write frame 4a, or list 4 in outside\n\
+        b.toml:13:6: warning: UNREACHED: no key leads to frame 2a from the entry page\n\
+        b.toml:16:6: warning: UNSOUGHT: no key of any frame leads to frame 3a, which belongs to group 7\n";
+    prints(rt.alloc(), SHOP, &policy(5, 1, "")?, missing, (1, 2))?;
     let closed =
         "b.toml:5:9: error: PRICE: frame 1a costs 5, the ceiling is 4 (at the entry page)\n\
-        b.toml:7:12: error: MISSING: key 3 of frame 1a leads to page 4, which has no frame a (keys 3)\n\
-        b.toml:8:1: error: NORETURN: from frame 1b the entry page is 1 key away, at most 0 are allowed (keys #)\n\
-        b.toml:12:1: warning: UNREACHED: no key leads to frame 2a from the entry page\n\
-        b.toml:15:1: warning: UNREACHED: no key leads to frame 3a from the entry page\n";
+        b.toml:7:12: error: MISSING: key 3 of frame 1a leads to page 4, which has no frame a (keys 3); write frame 4a, or list 4 in outside\n\
+        b.toml:9:6: error: NORETURN: from frame 1b the entry page is 1 key away, at most 0 are allowed (keys #)\n\
+        b.toml:13:6: warning: UNREACHED: no key leads to frame 2a from the entry page\n\
+        b.toml:16:6: warning: UNREACHED: no key leads to frame 3a from the entry page\n";
     prints(rt.alloc(), SHOP, &policy(4, 0, "7")?, closed, (3, 2))
 }
 

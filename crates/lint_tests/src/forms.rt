@@ -33,6 +33,32 @@ fn full_has_the_line_of_the_text_and_carets(rt: HostRuntime) -> Result<(), Fail>
 }
 
 #[test]
+fn colours_are_those_of_the_level(rt: HostRuntime) -> Result<(), Fail> {
+    let wanted = "\x1b[1ma,b.toml:4:9:\x1b[0m \x1b[1;31merror:\x1b[0m \
+        X6 Range: \"price\" of frame 1a is 10000, at most 9999 is allowed\n\
+        \x1b[1;34m    4 | \x1b[0mprice = 10000\n\
+        \x1b[1;34m      | \x1b[0m        \x1b[1;31m^^^^^\x1b[0m\n";
+    prints(rt.alloc(), Format::Coloured, PRICE, wanted)?;
+    let escaped = b"entry = 1\n[[frame]]\nid = \"1a\"\nrows = ['\\u0081']\n";
+    let findings = lint(rt.alloc(), escaped, &policy(5, 9, "")?)?;
+    let printed = findings_text(
+        rt.alloc(),
+        Format::Coloured,
+        b"b.toml",
+        escaped,
+        findings.as_slice(),
+    )?;
+    let warned = str::from_utf8(printed.as_slice())?.split_once(
+        " \x1b[1;33mwarning:\x1b[0m ESCAPE",
+    );
+    same_in(
+        "a warning",
+        warned.map(|(place, _)| place),
+        Some("\x1b[1mb.toml:4:9:\x1b[0m"),
+    )
+}
+
+#[test]
 fn line_is_the_line_alone(rt: HostRuntime) -> Result<(), Fail> {
     let wanted =
         "a,b.toml:4:9: error: X6 Range: \"price\" of frame 1a is 10000, at most 9999 is allowed\n";
@@ -53,18 +79,18 @@ fn github_has_the_columns_of_a_span_on_one_line(rt: HostRuntime) -> Result<(), F
 #[test]
 fn json_has_what_a_finding_is_about(rt: HostRuntime) -> Result<(), Fail> {
     let price =
-        "{\"code\":\"X6\",\"column\":9,\"end_column\":14,\"end_line\":4,\"file\":\"a,b.toml\",\"frame\":\"1a\",\
+        "{\"code\":\"X6\",\"column\":9,\"end_column\":14,\"end_line\":4,\"file\":\"a,b.toml\",\"fix\":null,\"frame\":\"1a\",\
         \"hint\":null,\"key\":\"price\",\"keys\":null,\"level\":\"error\",\"line\":4,\
         \"message\":\"\\\"price\\\" of frame 1a is 10000, at most 9999 is allowed\"}\n";
     prints(rt.alloc(), Format::Json, PRICE, price)?;
     let missing =
-        "{\"code\":\"MISSING\",\"column\":12,\"end_column\":17,\"end_line\":5,\"file\":\"a,b.toml\",\
-        \"frame\":\"1a\",\"hint\":null,\"key\":\"3\",\"keys\":\"3\",\"level\":\"error\",\"line\":5,\
+        "{\"code\":\"MISSING\",\"column\":12,\"end_column\":17,\"end_line\":5,\"file\":\"a,b.toml\",\"fix\":null,\
+        \"frame\":\"1a\",\"hint\":\"write frame 4a, or list 4 in outside\",\"key\":\"3\",\"keys\":\"3\",\"level\":\"error\",\"line\":5,\
         \"message\":\"key 3 of frame 1a leads to page 4, which has no frame a (keys 3)\"}\n";
     let text = b"entry = 1\n[[frame]]\nid = \"1a\"\nrows = []\nroutes = { 3 = 4 }\n";
     prints(rt.alloc(), Format::Json, text, missing)?;
     let entry =
-        "{\"code\":\"ENTRYMISSING\",\"column\":9,\"end_column\":10,\"end_line\":1,\"file\":\"a,b.toml\",\
+        "{\"code\":\"ENTRYMISSING\",\"column\":9,\"end_column\":10,\"end_line\":1,\"file\":\"a,b.toml\",\"fix\":null,\
         \"frame\":\"1a\",\"hint\":null,\"key\":\"entry\",\"keys\":\"\",\"level\":\"error\",\"line\":1,\
         \"message\":\"the entry page 1 has no frame a\"}\n";
     prints(rt.alloc(), Format::Json, b"entry = 1\n", entry)
@@ -73,7 +99,7 @@ fn json_has_what_a_finding_is_about(rt: HostRuntime) -> Result<(), Fail> {
 // The second row's value is on two lines, and the third is of U+0085 alone.
 #[test]
 fn carets_go_below_all_columns_of_a_span(rt: HostRuntime) -> Result<(), Fail> {
-    let rows: [(&[u8], &str); 6] = [
+    let rows: [(&[u8], &str); 7] = [
         (
             b"entry = 1\n[[frame]]\nid = \"1a\"\n\tprice =\t-1\r\nrows = []\n",
             "    4 | \tprice =\t-1\n      | \t       \t^^\n",
@@ -84,7 +110,11 @@ fn carets_go_below_all_columns_of_a_span(rt: HostRuntime) -> Result<(), Fail> {
         ),
         (
             b"entry = 1\n[[frame]]\nid = \"\xC2\x85\t\"\nrows = []\n",
-            "    3 | id = \"\\u{85}\t\"\n      |      ^^^^^^^^^\n",
+            "    3 | id = \"\\u0085\t\"\n      |      ^^^^^^^^^\n",
+        ),
+        (
+            b"entry = 1\n[[frame]]\nid = \"\xEF\xBC\xA1\"\nrows = []\n",
+            "    3 | id = \"\u{FF21}\"\n      |      ^^^^\n",
         ),
         (
             b"\xEF\xBB\xBFentry = -1\n[[frame]]\nid = \"1a\"\nrows = []\n",

@@ -249,8 +249,18 @@ fn comments_marks_and_line_ends(rt: HostRuntime) -> Result<(), Fail> {
             "invalid key",
             "; its lines end with CR alone, save it with LF or CR LF",
         ),
-        (b"rows = [\"\\81 A\"]\n", 10, escape, "; write \\u0081"),
-        (b"rows = [\"\\8A A\"]\n", 10, escape, "; write \\u008A"),
+        (
+            b"rows = [\"\\81 A\"]\n",
+            10,
+            escape,
+            "; \\u takes four digits: write \\u0081",
+        ),
+        (
+            b"rows = [\"\\8A A\"]\n",
+            10,
+            escape,
+            "; \\u takes four digits: write \\u008A",
+        ),
         (
             b"rows = [\"Fish\\chips\"]\n",
             14,

@@ -11,6 +11,7 @@ use test_support::same_in;
 // A value of digits alone, in a text whose first frame begins on line 3.
 const WRITTEN: Written<'static> = Written {
     value: b"\"15\"",
+    in_header: false,
     first_frame: 3,
 };
 
@@ -118,7 +119,7 @@ fn faults_without_an_id_have_their_words(rt: HostRuntime) -> Result<(), Fail> {
         ),
         (
             Detail::WrongItem(Field::Rows, 5, ValueKind::Array),
-            "X5 WrongKind: row 5 of this frame is a list, a string is needed; put it in quotation marks",
+            "X5 WrongKind: row 5 of this frame is a list, a string is needed; write one pair of brackets",
         ),
         (
             Detail::Number(Field::Group, 0),
@@ -234,8 +235,8 @@ fn texts_of_the_file_are_quoted(rt: HostRuntime) -> Result<(), Fail> {
         ("", "\"\""),
         ("a \"b\" \\", "\"a \\\"b\\\" \\\\\""),
         (
-            "\u{1}\t\u{7F}\u{9F}\u{A0}\u{E9}",
-            "\"\\u0001\\u0009\\u007F\\u009F\u{A0}\u{E9}\"",
+            "\u{1}\t\u{7F}\u{9F}\u{A1}\u{E9}",
+            "\"\\u0001\\u0009\\u007F\\u009F\u{A1}\u{E9}\"",
         ),
         (
             "123456789012345678901234567890123456789\u{E9}",

@@ -20,6 +20,7 @@ fn hint_of(alloc: Global, detail: Detail, value: &str) -> Result<String, Fail> {
     };
     let written = Written {
         value: value.as_bytes(),
+        in_header: false,
         first_frame: 3,
     };
     Ok(hint(alloc, &text_fault_words(alloc, &fault, &written)?)?)
@@ -221,7 +222,12 @@ fn a_body_that_touches_has_its_cause(rt: HostRuntime) -> Result<(), Fail> {
         ),
         (Lead::Clear, &many, 21, "; 23 rows are written, 22 are free"),
         (Lead::Clear, &many[1..], 20, ""),
-        (Lead::Clear, b"\x1EA", 1, ""),
+        (
+            Lead::Clear,
+            b"\x1EA",
+            1,
+            "; \\u001E goes to row 0: write \\u001E\\u000A",
+        ),
     ];
     for (lead, body, offset, wanted) in rows {
         let given = touching(rt.alloc(), lead, body, offset)?;

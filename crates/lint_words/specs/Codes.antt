@@ -1,7 +1,7 @@
 -- The codes of findings.
 use Rattle.std.specs.Prelude.{ℕ, List, [], codes}
 use Rattle.lint_words.specs.declared.code.Code.{Code}
-use Rattle.lint_words.specs.declared.code.Code.TheVariants.{TooLong, NotToml, UnknownKey, Absent, WrongKind, Range, BodyAndRows, RowTooLong, RowCode, BadFrame, TooMany, BodyTooLong, NextAfterZ, Duplicate, OutsideInside, EntryMissing, EntryClosed, Price, Touches, Missing, Closed, NoReturn, Unreached, Hidden, LineEnd, Escape}
+use Rattle.lint_words.specs.declared.code.Code.TheVariants.{TooLong, NotToml, UnknownKey, Absent, WrongKind, Range, BodyAndRows, RowTooLong, RowCode, BadFrame, TooMany, BodyTooLong, NextAfterZ, Duplicate, OutsideInside, EntryMissing, EntryClosed, Price, Touches, Missing, Closed, NoReturn, Unreached, Hidden, LineEnd, Escape, Menu, Unsought}
 
 abbrev pub code_word : Code → List ℕ
 code_word TooLong = codes "X1"
@@ -30,6 +30,8 @@ code_word Unreached = codes "UNREACHED"
 code_word Hidden = codes "HIDDEN"
 code_word LineEnd = codes "LINEEND"
 code_word Escape = codes "ESCAPE"
+code_word Menu = codes "MENU"
+code_word Unsought = codes "UNSOUGHT"
 
 -- the name after a code; a code that is a word has none
 abbrev pub code_name : Code → List ℕ

@@ -2,8 +2,8 @@
 use Rattle.std.specs.Prelude.{ℕ, List, decimal, [], ◌∷◌, ◌++◌}
 use Rattle.page_ids.specs.Ids.{frame_text, page_text}
 use Rattle.lint_words.specs.declared.piece.Piece.{Piece}
-use Rattle.lint_words.specs.declared.piece.Piece.TheVariants.{Text, Page, Id, Frame, Number, Grouped, Count, Quoted, Char, ShownBy, Pressed, Group, Key, Subject, Item, OutOfRange}
-use Rattle.lint_words.specs.Pieces.{grouped, number_and_word, quoted, char_text, frame_name, shown_by, pressed_words, group_text}
+use Rattle.lint_words.specs.declared.piece.Piece.TheVariants.{Text, Page, Id, Frame, Number, Grouped, Count, Quoted, Char, Code, ShownBy, Pressed, Group, Key, Subject, Item, OutOfRange}
+use Rattle.lint_words.specs.Pieces.{grouped, number_and_word, quoted, code_point_text, char_text, frame_name, shown_by, pressed_words, group_text}
 use Rattle.lint_words.specs.KeyPieces.{key_text, key_subject, item_text, out_of_range_text}
 
 -- Words as a list of pieces.
@@ -19,6 +19,7 @@ piece_text (Grouped n) = grouped n
 piece_text (Count n one more) = number_and_word n one.now more.now
 piece_text (Quoted text) = quoted text.now
 piece_text (Char c) = char_text c
+piece_text (Code c) = code_point_text c
 piece_text (ShownBy keys) = shown_by keys.now
 piece_text (Pressed key) = pressed_words key
 piece_text (Group group) = group_text group

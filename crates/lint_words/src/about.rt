@@ -1,4 +1,4 @@
-ghost use Rattle.std.specs.Prelude.{◌≡◌, IfOk, OnOk, option_map};
+ghost use Rattle.std.specs.Prelude.{◌≡◌, IfOk, option_map};
 ghost use Rattle.page_ids.specs.Keys.{key_word, keys_text};
 ghost use Rattle.lint_words.specs.Lines.{line_of};
 ghost use Rattle.lint_words.specs.AboutOf as spec;

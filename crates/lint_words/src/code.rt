@@ -31,8 +31,12 @@ pub enum Code {
     Hidden,
     /// A line end in a body that is a line feed alone.
     LineEnd,
-    /// An escape in single quotation marks.
+    /// An escape that is shown as it is written.
     Escape,
+    /// A line of a menu whose digit has no route.
+    Menu,
+    /// A closed frame to which no way leads.
+    Unsought,
 }
 
 impl Code {
@@ -67,6 +71,8 @@ impl Code {
             Code::Hidden => "HIDDEN",
             Code::LineEnd => "LINEEND",
             Code::Escape => "ESCAPE",
+            Code::Menu => "MENU",
+            Code::Unsought => "UNSOUGHT",
         }
     }
 

@@ -2,7 +2,7 @@ ghost use Rattle.std.specs.Prelude.{◌≡◌, ◌++◌, IfOk, OnOk, Some, None}
 ghost use Rattle.lint_words.specs.FaultWords.{entry_missing_words, entry_closed_words, cost_words, row_touches_words, body_touches_words, touching_words, missing_page_words, missing_frame_words, missing_words, closed_words, cut_off_words, too_far_words, no_way_back_words, fault_code, fault_message, audit_fault_words, unreached_words, none_reached_words};
 
 use crate::about::{About, fault_about};
-use crate::audit_hints::audit_hint;
+use crate::audit_hints::{audit_hint, unreached_hint};
 use crate::code::Code;
 use crate::line::Line;
 use crate::piece::Piece::{Count, Frame, Group, Grouped, Id, Number, Page, Pressed, ShownBy, Text};
@@ -297,8 +297,13 @@ pub fn audit_fault_words(
     Ok(Words::new(code_of(fault.kind), about, message, hint))
 }
 
-/// The words of a frame that no walk reaches.
-pub fn unreached_words(alloc: Global, id: FrameId) -> Result<Words, AllocError>
+/// The words of a frame that no walk reaches. The frame before is the one with the letter before, if the base has it and it
+/// has no next frame; it is for the hint.
+pub fn unreached_words(
+    alloc: Global,
+    id: FrameId,
+    before: Option<FrameId>,
+) -> Result<Words, AllocError>
     ensures { IfOk result (λ words. words ≡ unreached_words id) }
 {
     let mut message = Vec::new(alloc);
@@ -311,7 +316,8 @@ pub fn unreached_words(alloc: Global, id: FrameId) -> Result<Words, AllocError>
         ],
     )?;
     let about = About::frame(Some(id));
-    Ok(Words::new(Code::Unreached, about, Line::of(alloc, &message)?, None))
+    let hint = unreached_hint(alloc, before)?;
+    Ok(Words::new(Code::Unreached, about, Line::of(alloc, &message)?, hint))
 }
 
 /// The words of the frames that no walk reaches, this many, of a base whose entry frame isn't found.

@@ -1,9 +1,11 @@
 //! What may be wrong, and how it is said.
 
 use crate::line::Line;
-use crate::piece::Piece::{Grouped, Key, Number, Quoted, Text};
+use crate::piece::Piece::{Code, Grouped, Key, Number, Quoted, Text};
 use crate::piece::{Piece, push_pieces};
+use crate::values::as_text;
 use base_text::Field;
+use page_ids::hex_digit;
 use std::alloc::{AllocError, Global};
 
 #[derive(Clone, Copy)]
@@ -20,18 +22,37 @@ pub enum Hint<'a> {
     // The price that was meant, in pence.
     Pence(u32),
     // A page number that had a letter.
-    Page(&'a str),
+    PageAlone(&'a str),
     // The page of a list of one.
     Outside(&'a str),
-    // The page of route 0.
-    Routes(&'a str),
+    // A route: its digit and its page.
+    Routes(&'a str, &'a str),
+    // The line on which the routes are.
+    Braces(usize),
+    // The items of a list, and the pairs of `routes`.
+    List(&'a str),
+    Pairs(&'a str),
+    // A number, in two parts.
+    Joined(&'a str, &'a str),
     // The id of a frame: its page, and its letter.
-    Id(&'a str, &'a str),
+    FrameId(&'a str, &'a str),
+    // The same in quotation marks.
+    IdText(&'a str, &'a str),
+    // The id of a frame that was written as a header.
+    Header(&'a str),
+    Lead(&'a str),
     // The two digits of an escape.
-    Escape(&'a str),
+    Escape([u8; 2]),
     Meant(Field),
-    // The rows that a body writes.
+    // A character that can't be seen, one that looks like a space, and one that looks like a letter.
+    Unseen(char),
+    Space(char),
+    Alike(char, char),
+    // The code of a mosaic.
+    Mosaic(u8),
+    // The rows that a body writes, and the characters of a body without line ends.
     Rows(usize),
+    Length(usize),
 }
 
 // A hint made of pieces.
@@ -74,7 +95,92 @@ fn words_about_lines(alloc: Global, hint: Hint<'_>) -> Result<Option<Line>, Allo
             ],
         ),
         Hint::Meant(field) => hint_of(alloc, &[Text("did you mean "), Key(field), Text("?")]),
+        _ => words_about_ids(alloc, hint),
+    }
+}
+
+// The words of a hint about a character.
+fn words_about_chars(alloc: Global, hint: Hint<'_>) -> Result<Option<Line>, AllocError> {
+    match hint {
+        Hint::Unseen(c) => {
+            let words = Text(" can't be seen: leave it out");
+            hint_of(alloc, &[Code(c), words])
+        }
+        Hint::Space(c) => hint_of(alloc, &[Text("this is "), Code(c), Text(", write a space")]),
+        Hint::Alike(c, letter) => {
+            let mut bytes = [0; 4];
+            let letter: &str = letter.encode_utf8(&mut bytes);
+            let words = Text(" looks like the letter ");
+            hint_of(alloc, &[Code(c), words, Text(letter), Text(", write that")])
+        }
+        Hint::Mosaic(code) => {
+            let digits = [hex_digit(code / 16), hex_digit(code % 16)];
+            let words = Text("write its code after \\u0091 to \\u0097: \\u00");
+            hint_of(alloc, &[words, Text(as_text(&digits))])
+        }
+        Hint::Escape(digits) => {
+            let words = Text("\\u takes four digits: write \\u00");
+            hint_of(alloc, &[words, Text(as_text(&digits))])
+        }
         _ => Ok(None),
+    }
+}
+
+// The words of a hint about what frames show.
+fn words_about_frames(alloc: Global, hint: Hint<'_>) -> Result<Option<Line>, AllocError> {
+    match hint {
+        Hint::Rows(rows) => hint_of(
+            alloc,
+            &[Grouped(rows), Text(" rows are written, 22 are free")],
+        ),
+        Hint::Length(length) => hint_of(
+            alloc,
+            &[
+                Grouped(length),
+                Text(" characters are written, 880 are free"),
+            ],
+        ),
+        _ => words_about_chars(alloc, hint),
+    }
+}
+
+// The words of a hint about a list, and about the pages of routes.
+fn words_about_lists(alloc: Global, hint: Hint<'_>) -> Result<Option<Line>, AllocError> {
+    match hint {
+        Hint::Outside(page) => hint_of(alloc, &[Text("write ["), Text(page), Text("]")]),
+        Hint::List(items) => hint_of(alloc, &[Text("write ["), Text(items), Text("]")]),
+        Hint::Pairs(pairs) => hint_of(alloc, &[Text("write { "), Text(pairs), Text(" }")]),
+        Hint::Routes(digit, page) => hint_of(
+            alloc,
+            &[
+                Text("write routes = { "),
+                Text(digit),
+                Text(" = "),
+                Text(page),
+                Text(" }"),
+            ],
+        ),
+        Hint::Braces(line) => hint_of(
+            alloc,
+            &[Text("write it into the braces of line "), line_number(line)],
+        ),
+        _ => words_about_frames(alloc, hint),
+    }
+}
+
+// The words of a hint about an id.
+fn words_about_ids(alloc: Global, hint: Hint<'_>) -> Result<Option<Line>, AllocError> {
+    match hint {
+        Hint::FrameId(page, letter) => hint_of(alloc, &[Text("write "), Text(page), Text(letter)]),
+        Hint::IdText(page, letter) => hint_of(
+            alloc,
+            &[Text("write \""), Text(page), Text(letter), Text("\"")],
+        ),
+        Hint::Header(id) => hint_of(
+            alloc,
+            &[Text("write [[frame]], and below it id = "), Quoted(id)],
+        ),
+        _ => words_about_lists(alloc, hint),
     }
 }
 
@@ -86,21 +192,19 @@ pub(crate) fn words_of(alloc: Global, hint: Hint<'_>) -> Result<Option<Line>, Al
             let words = Text("a price is whole pence: write ");
             hint_of(alloc, &[words, Number(u64::from(pence))])
         }
-        Hint::Page(page) => hint_of(
+        Hint::PageAlone(page) => hint_of(
             alloc,
             &[Text("a page number has no letter: write "), Text(page)],
         ),
-        Hint::Outside(page) => hint_of(alloc, &[Text("write ["), Text(page), Text("]")]),
-        Hint::Routes(page) => hint_of(
+        Hint::Joined(front, back) => hint_of(
             alloc,
-            &[Text("write routes = { 0 = "), Text(page), Text(" }")],
+            &[
+                Text("a number has no spaces: write "),
+                Text(front),
+                Text(back),
+            ],
         ),
-        Hint::Id(page, letter) => hint_of(alloc, &[Text("write "), Text(page), Text(letter)]),
-        Hint::Rows(rows) => hint_of(
-            alloc,
-            &[Grouped(rows), Text(" rows are written, 22 are free")],
-        ),
-        Hint::Escape(digits) => hint_of(alloc, &[Text("write \\u00"), Text(digits)]),
+        Hint::Lead(word) => hint_of(alloc, &[Text("write lead = "), Quoted(word)]),
         _ => words_about_lines(alloc, hint),
     }
 }

@@ -10,8 +10,10 @@
 //! audit_fault_words(alloc, &judged, &fault, frame)? // PRICE: frame 33163a costs 55, the ceiling is 50 (keys 63)
 //! whole_fault_words(alloc, &fault, 185)? // B1 Duplicate: frame 33152a is defined already on line 185
 //! unreached_words(alloc, id)? // UNREACHED: no key leads to frame 3319a from the entry page
+//! menu_words(alloc, id, 10, 7)? // MENU: row 10 of frame 620a offers key 7, which has no route; ..
 //! none_reached_words(alloc, 12)? // UNREACHED: no key leads to 12 frames from the entry page
 //! not_toml_words(alloc, b"entry = 0331\n", 8, "invalid value, ..")? // X2 NotToml: invalid value, ..; a number has ..
+//! cause_span(text, span, "duplicate key") // the span, or that of a header above it: [frame.620a]
 //! push_counted(out, 3, 1)? // 3 errors, 1 warning
 //! ```
 //!
@@ -40,17 +42,23 @@ mod backwards;
 mod brackets;
 mod code;
 mod count_words;
+mod escapes;
 mod fault_words;
+mod headers;
 mod hint;
 mod key_pieces;
 mod line;
+mod list_slips;
 mod near_bytes;
 mod near_key;
+mod odd_chars;
 mod piece;
 mod pieces;
+mod slips;
 mod text_hints;
 mod text_words;
 mod toml_hints;
+mod toml_messages;
 mod touch_hints;
 mod value_hints;
 mod values;
@@ -63,9 +71,13 @@ pub use about::About;
 pub use code::Code;
 pub use count_words::push_counted;
 pub use fault_words::{Judged, audit_fault_words, none_reached_words, unreached_words};
+pub use headers::cause_span;
 pub use line::Line;
 pub use text_hints::Written;
 pub use text_words::{not_toml_words, text_fault_words, too_long_words};
-pub use warning_words::{LineEnd, escape_words, hidden_words, line_end_words};
+pub use warning_words::{
+    LineEnd, escape_words, hidden_words, line_end_words, menu_words, shown_escape_words,
+    unsought_words,
+};
 pub use whole_words::whole_fault_words;
 pub use words::Words;

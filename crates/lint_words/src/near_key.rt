@@ -25,6 +25,11 @@ fn named_keys(table: TableKind) -> &'static [Field] {
     }
 }
 
+// Whether a table has this key.
+pub(crate) fn is_key(table: TableKind, key: &str) -> bool {
+    named_keys(table).iter().any(|field| field.name() == key)
+}
+
 // The key of the table that was probably meant.
 pub(crate) fn nearest(
     alloc: Global,

@@ -4,7 +4,7 @@ ghost use Rattle.lint_words.specs.Loops.{piece_text, pieces_text};
 
 use crate::key_pieces::{push_item, push_key_name, push_out_of_range, push_subject};
 use crate::pieces::{
-    push_char, push_decimal, push_frame, push_grouped, push_numbered, push_quoted,
+    push_char, push_code, push_decimal, push_frame, push_grouped, push_numbered, push_quoted,
 };
 use base_text::Field;
 use frame_records::GroupNo;
@@ -28,6 +28,8 @@ pub enum Piece<'a> {
     Quoted(&'a str),
     // A character of the file.
     Char(char),
+    // Its code point alone.
+    Code(char),
     // The keys that show a fault.
     ShownBy(&'a [Key]),
     // The key that is pressed.
@@ -100,6 +102,7 @@ fn push_piece(out: &mut Vec<u8>, piece: &Piece<'_>) -> Result<(), AllocError>
         Piece::Count(number, one, more) => push_count(out, *number, one, more),
         Piece::Quoted(text) => push_quoted(out, text),
         Piece::Char(c) => push_char(out, *c),
+        Piece::Code(c) => push_code(out, *c),
         Piece::ShownBy(keys) => push_shown_by(out, keys),
         Piece::Pressed(key) => push_pressed(out, *key),
         Piece::Group(group) => push_group(out, *group),

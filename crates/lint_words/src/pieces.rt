@@ -70,7 +70,7 @@ fn push_hex_front(out: &mut Vec<u8>, number: u32) -> Result<(), AllocError>
 }
 
 // A code point.
-fn push_code(out: &mut Vec<u8>, c: char) -> Result<(), AllocError>
+pub fn push_code(out: &mut Vec<u8>, c: char) -> Result<(), AllocError>
     ensures { OnOk result (out.new.items ≡ out.old.items ++ code_point_text c) }
 {
     out.extend_from_slice(b"U+")?;

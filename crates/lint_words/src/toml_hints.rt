@@ -3,46 +3,23 @@
 ghost use Rattle.std.specs.Prelude.{◌≤◌, length};
 
 use crate::brackets::{has_next_key, open_bracket};
+use crate::headers::line_of;
 use crate::hint::{Hint, said};
 use crate::line::Line;
 use crate::near_bytes::{Class, after, begins_pair, run_len, run_start};
+use crate::odd_chars::{first_char, odd_hint};
+use crate::slips::{COMMENT, TWO_BRACKETS, field_at, slip_hint};
+use crate::toml_messages::{
+    BAD_KEY, BAD_STRING, BAD_UTF8, BAD_VALUE, DUPLICATE, NO_COMMA, NO_COMMA_OF_PAIRS, UNEXPECTED,
+};
 use crate::value_hints::{price_hint, word_hint};
-use crate::values::{as_text, is_number};
-use crate::written_keys::{earlier_definition, name_at, name_before, named_field};
+use crate::values::{as_text, is_number, value_start};
+use crate::written_keys::{earlier_definition, name_at};
 use base_text::Field;
 use std::alloc::{AllocError, Global};
 use toml_parser::bytes::byte_at;
-use toml_places::place_in;
-
-const BAD_UTF8: &str = "invalid UTF-8";
-
-const DUPLICATE: &str = "duplicate key";
-
-const BAD_STRING: &str = "invalid string";
-
-const BAD_ESCAPE: &str = "invalid escape sequence";
-
-const BAD_KEY: &str = "invalid key, expected letters, numbers, `-`, `_` or a quoted key";
-
-const UNEXPECTED: &str = "unexpected key or value, expected newline, `#`";
-
-const BAD_VALUE: &str =
-    "invalid value, expected a string, number, boolean, date-time, array or inline table";
-
-const NO_COMMA: &str = "missing comma between array elements, expected `,` or `]`";
-
-const NO_COMMA_OF_PAIRS: &str = "missing comma between key-value pairs, expected `,` or `}`";
-
-const COMMENT: Hint<'static> = Hint::Words("a comment begins with #");
-
-const TWO_BRACKETS: Hint<'static> = Hint::Words("write [[frame]] with two brackets");
 
 const MISSING_QUOTE: Hint<'static> = Hint::Words("a quotation mark is missing");
-
-// The line of a place, from 1.
-fn line_of(text: &[u8], place: usize) -> usize {
-    place_in(text, place).0
-}
 
 // UTF-16 has a byte order mark, or a zero byte beside each of the first letters.
 fn is_utf16(text: &[u8]) -> bool {
@@ -68,10 +45,21 @@ fn file_hint(text: &[u8], message: &str) -> Option<Hint<'static>> {
         Some(Hint::Words("this is not UTF-8, save the file as UTF-8"))
     } else if is_certificate(text) {
         Some(Hint::Words("this is a certificate: pageaudit check BASE CERT"))
+    } else if is_json(text) {
+        Some(Hint::Words("a base is TOML, not JSON"))
     } else if has_bare_returns(text) {
         Some(Hint::Words("its lines end with CR alone, save it with LF or CR LF"))
     } else {
         None
+    }
+}
+
+// JSON begins with a brace and a quotation mark.
+fn is_json(text: &[u8]) -> bool {
+    match text.trim_ascii_start() {
+        [b'{', rest @ ..] => rest.trim_ascii_start().starts_with(b"\""),
+        [b'[', rest @ ..] => rest.trim_ascii_start().starts_with(b"{"),
+        _ => false,
     }
 }
 
@@ -85,18 +73,26 @@ fn token_hint(rest: &[u8], message: &str) -> Option<Hint<'static>> {
     if is_curly(rest) {
         Some(Hint::Words("use straight quotation marks"))
     } else if rest.starts_with(b"//") || (may_be_comment && rest.starts_with(b";")) {
-        Some(COMMENT)
-    } else if rest.starts_with(b"\xC2\xA0") {
-        Some(Hint::Words("this is a no-break space (U+00A0), write a space"))
+        Some(Hint::Words(COMMENT))
     } else {
         None
+    }
+}
+
+// A character that isn't what it seems to be, at the place or after a word there.
+fn odd_char_hint(rest: &[u8]) -> Option<Hint<'static>> {
+    let here = odd_hint(first_char(rest)?);
+    if here.is_some() {
+        here
+    } else {
+        odd_hint(first_char(after(rest, Class::Bare))?)
     }
 }
 
 // A header of a frame that lacks a bracket, right before the place.
 fn header_hint(before: &[u8]) -> Option<Hint<'static>> {
     if before.ends_with(b"[frame]") || before.ends_with(b"[frame") {
-        Some(TWO_BRACKETS)
+        Some(Hint::Words(TWO_BRACKETS))
     } else {
         None
     }
@@ -120,7 +116,7 @@ fn duplicate_hint<'a>(text: &'a [u8], at: usize, message: &str) -> Option<Hint<'
     if message != DUPLICATE {
         None
     } else if text[at..].starts_with(b"[frame]") {
-        Some(TWO_BRACKETS)
+        Some(Hint::Words(TWO_BRACKETS))
     } else {
         let place = earlier_definition(text, at)?;
         Some(second_definition(text, at, place))
@@ -209,19 +205,12 @@ fn inner_mark_hint(before: &[u8], rest: &[u8], message: &str) -> Option<Hint<'st
     }
 }
 
-// An escape that isn't TOML's, or a control character as it is.
-fn string_hint<'a>(rest: &'a [u8], message: &str) -> Option<Hint<'a>> {
-    let is_control = byte_at(rest, 0) < b' ' && !ends_line(rest);
-    match rest {
-        [tens, ones, ..]
-            if message == BAD_ESCAPE && tens.is_ascii_digit() && ones.is_ascii_hexdigit() => {
-            Some(Hint::Escape(as_text(rest.get(..2)?)))
-        }
-        _ if message == BAD_ESCAPE => Some(Hint::Words("write \\\\ for a backslash")),
-        _ if message == BAD_STRING && is_control => {
-            Some(Hint::Words("write a control character as an escape, as \\u001B"))
-        }
-        _ => None,
+// A control character as it is.
+fn string_hint(rest: &[u8], message: &str) -> Option<Hint<'static>> {
+    if message == BAD_STRING && byte_at(rest, 0) < b' ' && !ends_line(rest) {
+        Some(Hint::Words("write a control character as an escape, as \\u001B"))
+    } else {
+        None
     }
 }
 
@@ -283,20 +272,6 @@ fn bad_word_hint(field: Option<Field>, word: &[u8]) -> Option<Hint<'_>> {
     }
 }
 
-// Where the value of the line's last key before a place begins: after its equals sign.
-fn value_start(text: &[u8], at: usize) -> Option<usize>
-    requires { at ≤ length text.now }
-{
-    let line = run_start(text, at, Class::Line);
-    let before = text.get(line..at)?;
-    let length = before.iter().rev().take_while(|b| **b != b'=').count();
-    if length == before.len() {
-        None
-    } else {
-        at.checked_sub(length)
-    }
-}
-
 // The value on the rest of a line, without a comment.
 fn rest_of_value(text: &[u8], start: usize) -> &[u8] {
     let rest = text.get(start..).unwrap_or(b"");
@@ -314,7 +289,7 @@ fn value_hint<'a>(text: &'a [u8], at: usize, message: &str) -> Option<Hint<'a>>
     let rest = &text[at..];
     let word = &rest[..run_len(rest, Class::Bare)];
     let start = value_start(text, at);
-    let field = named_field(name_before(text, start.unwrap_or(0)));
+    let field = field_at(text, at);
     if field == Some(Field::Price) && (message == BAD_VALUE || message == UNEXPECTED) {
         Some(price_hint(rest_of_value(text, start.unwrap_or(0))))
     } else if message != BAD_VALUE || begins_pair(rest) {
@@ -333,6 +308,8 @@ fn hint_at<'a>(text: &'a [u8], at: usize, message: &str) -> Option<Hint<'a>>
     let (before, rest) = text.split_at(at);
     file_hint(text, message)
         .or(token_hint(rest, message))
+        .or(odd_char_hint(rest))
+        .or(slip_hint(text, at, message))
         .or(header_hint(before))
         .or(duplicate_hint(text, at, message))
         .or(bracket_hint(text, at, message))

@@ -1,7 +1,9 @@
 //! How to write a value, by its key.
 
 use crate::hint::Hint;
-use crate::values::{first_number, is_number, page_of, pence_of, unquoted};
+use crate::list_slips::list_hint;
+use crate::odd_chars::odd_in;
+use crate::values::{as_text, first_number, is_number, page_of, pence_of, unquoted};
 use base_text::{Field, ValueKind};
 
 const UNQUOTE: Hint<'static> = Hint::Words("leave out the quotation marks");
@@ -23,7 +25,7 @@ pub(crate) fn price_hint(written: &[u8]) -> Hint<'static> {
 // A page that isn't a number.
 pub(crate) fn page_hint(written: &[u8]) -> Hint<'_> {
     match page_of(written) {
-        Some(page) => Hint::Page(page),
+        Some(page) => Hint::PageAlone(page),
         None => Hint::Words("a page number is digits alone"),
     }
 }
@@ -50,14 +52,14 @@ fn outside_hint(written: &[u8]) -> Option<Hint<'_>> {
 fn routes_hint(written: &[u8]) -> Option<Hint<'_>> {
     match first_number(written) {
         None => None,
-        Some(page) => Some(Hint::Routes(page)),
+        Some(page) => Some(Hint::Routes("0", page)),
     }
 }
 
 // A value in place of a number.
 fn number_kind_hint(field: Field, kind: ValueKind, written: &[u8]) -> Option<Hint<'_>> {
     match kind {
-        ValueKind::String => number_hint(field, written),
+        ValueKind::String => odd_in(as_text(written)).or(number_hint(field, written)),
         ValueKind::Float if field == Field::Price => Some(price_hint(written)),
         _ => None,
     }
@@ -86,7 +88,11 @@ pub(crate) fn kind_hint(field: Field, kind: ValueKind, written: &[u8]) -> Option
     match field {
         Field::Entry | Field::Price | Field::Group => number_kind_hint(field, kind, written),
         Field::Outside if has_pages(kind) => outside_hint(written),
+        Field::Routes if written.starts_with(b"[[frame") => {
+            Some(Hint::Words("write [frame.routes], with one pair of brackets"))
+        }
         Field::Routes if has_pages(kind) => routes_hint(written),
+        Field::Rows if kind == ValueKind::String => Some(list_hint(written)),
         _ => other_kind_hint(field, kind),
     }
 }
@@ -96,9 +102,12 @@ pub(crate) fn item_hint(field: Field, kind: ValueKind, written: &[u8]) -> Option
     match (field, kind) {
         (Field::Outside, ValueKind::String) => Some(UNQUOTE),
         (Field::Routes, ValueKind::String) => match page_of(written) {
-            Some(page) => Some(Hint::Page(page)),
+            Some(page) => Some(Hint::PageAlone(page)),
             None => Some(Hint::Words("write the page number alone, without quotation marks")),
         },
+        (Field::Rows | Field::Outside, ValueKind::Array) => {
+            Some(Hint::Words("write one pair of brackets"))
+        }
         (Field::Rows, _) => Some(ENQUOTE),
         _ => None,
     }

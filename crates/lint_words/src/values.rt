@@ -18,6 +18,44 @@ pub(crate) fn unquoted(written: &[u8]) -> &[u8] {
         .unwrap_or(text)
 }
 
+// Where the value of the line's last key before a place begins: after its equals sign.
+pub(crate) fn value_start(text: &[u8], at: usize) -> Option<usize>
+    requires { at ≤ length text.now }
+{
+    let line = run_start(text, at, Class::Line);
+    let before = text.get(line..at)?;
+    let length = before.iter().rev().take_while(|b| **b != b'=').count();
+    if length == before.len() {
+        None
+    } else {
+        at.checked_sub(length)
+    }
+}
+
+// The value on the line of a place, up to the line's end.
+pub(crate) fn line_value(text: &[u8], at: usize) -> &[u8]
+    requires { at ≤ length text.now }
+{
+    let start = value_start(text, at).unwrap_or(at);
+    let rest = text.get(start..).unwrap_or(b"");
+    rest.get(..run_len(rest, Class::Line))
+        .unwrap_or(b"")
+        .trim_ascii()
+}
+
+// A page number in quotation marks and the letter after them.
+pub(crate) fn unclosed_id(value: &[u8]) -> Option<(&[u8], &[u8])> {
+    let id = value.strip_prefix(b"\"")?;
+    let page = id.get(..run_len(id, Class::Digit))?;
+    let letter = after(id, Class::Digit).strip_prefix(b"\"")?;
+    match letter {
+        [letter_byte] if !page.is_empty() && letter_byte.is_ascii_lowercase() => Some((
+            page, letter,
+        )),
+        _ => None,
+    }
+}
+
 // The bytes as a text, which is empty if they aren't UTF-8.
 pub(crate) fn as_text(bytes: &[u8]) -> &str {
     str::from_utf8(bytes).unwrap_or("")

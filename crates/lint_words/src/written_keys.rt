@@ -82,7 +82,7 @@ fn definition_turn(text: &[u8], name: &[u8], at: usize) -> Turn
 }
 
 // Where a name was defined last before a place, in the same table.
-fn last_definition(text: &[u8], name: &[u8], end: usize) -> Option<usize>
+pub(crate) fn last_definition(text: &[u8], name: &[u8], end: usize) -> Option<usize>
     requires { end ≤ length text.now }
 {
     let mut at = end;

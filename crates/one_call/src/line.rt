@@ -1,6 +1,6 @@
 //! A call on a line.
 
-ghost use Rattle.std.specs.Prelude.{◌≡◌, false, IfOk, OnOk};
+ghost use Rattle.std.specs.Prelude.{◌≡◌, false};
 ghost use Rattle.editions.specs.Folders.{SeenFolder, IsLater};
 ghost use Rattle.one_call.specs.Lines.{IsLineServed};
 ghost use Rattle.one_call.specs.Loops.{IsBegun, IsByteAnswered};

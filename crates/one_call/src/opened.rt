@@ -1,6 +1,6 @@
 //! The current edition of a folder, checked.
 
-ghost use Rattle.std.specs.Prelude.{◌≡◌, IfOk, IfErr, MatchResult};
+ghost use Rattle.std.specs.Prelude.{IfOk, IfErr};
 ghost use Rattle.editions.specs.Folders.{IsLater};
 ghost use Rattle.editions.specs.NumberLines.{current_in};
 ghost use Rattle.edition_checks.specs.Served.{IfHeld};

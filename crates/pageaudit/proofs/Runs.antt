@@ -29,10 +29,9 @@ use Rattle.pageaudit.specs.declared.show_run.ShowAnswer.TheVariants as answer
 use Rattle.pageaudit.specs.ShowRun.{IsShown, IsAnswerWritten, IsShowRun}
 use Rattle.lint.specs.declared.counts.Counts.{Counts}
 use Rattle.lint.specs.Findings.{FindingView}
-use Rattle.finding_forms.specs.declared.format.Format.{Format}
+use Rattle.pageaudit.specs.declared.lint_run.LintReport.{LintReport}
 use Rattle.finding_forms.specs.Forms.{ArePrinted}
-use Rattle.lint.specs.Lint.{IsLint}
-use Rattle.pageaudit.specs.LintRun.{IsLintRun, counts_of}
+use Rattle.pageaudit.specs.LintRun.{IsLintRun, AreCounted, written_findings}
 use Rattle.pageaudit.proofs.Within.{base_within, text_within}
 
 -- by the answer after a text: a status, a write fault or out of memory
@@ -112,11 +111,12 @@ module _ (base_file cert out : Device) (base : BaseView) (read : IsBaseOfFile ba
       (λ none made. (base_within base_file base read, (w.1, none))) r w.0
 
 -- a run of lint that read its text and wrote its findings
-pub lint_run : (base_file out : Device) (path text : List ℕ) → IsTextOfFile base_file text → (policy : Policy) (format : Format) (findings : List FindingView)
-    → IsLint text policy findings → (printed : List ℕ) → ArePrinted format path text findings printed
-    → (r : Result Counts RunFault) → IsTextWritten out printed (counts_of findings) r → IsLintRun base_file out path policy format r
-lint_run base_file out path text read policy format findings is printed are =
-    by_answer out printed (counts_of findings) (IsLintRun base_file out path policy format)
-    (λ s w. record { text = text; read = read; findings = findings; is = is; printed = printed; are_printed = are; written = w })
-    (λ wrote w. record { text = text; read = read; findings = findings; is = is; printed = printed; are_printed = are; written = w })
+pub lint_run : (base_file out : Device) (path text : List ℕ) → IsTextOfFile base_file text → (policy : Policy) (report : LintReport)
+    → (findings : List FindingView) (counts : Counts) → AreCounted text policy report.ignored findings counts
+    → (printed : List ℕ) → ArePrinted report.format path text (written_findings report.is_quiet findings) printed
+    → (r : Result Counts RunFault) → IsTextWritten out printed counts r → IsLintRun base_file out path policy report r
+lint_run base_file out path text read policy report findings counts are printed are_printed =
+    by_answer out printed counts (IsLintRun base_file out path policy report)
+    (λ s w. record { text = text; read = read; findings = findings; counts = counts; are = are; printed = printed; are_printed = are_printed; written = w })
+    (λ wrote w. record { text = text; read = read; findings = findings; counts = counts; are = are; printed = printed; are_printed = are_printed; written = w })
     (λ none. (text_within base_file text read, none))

@@ -1,5 +1,5 @@
 -- What a run of import does.
-use Rattle.std.specs.Prelude.{◌≡◌, ◌<◌, ◌+◌, ◌++◌, ℕ, List, Option, Some, Result, Ok, Err, length}
+use Rattle.std.specs.Prelude.{◌≡◌, ◌<◌, ◌+◌, ◌++◌, ℕ, Bool, List, Option, Some, Result, Ok, Err, length}
 use Rattle.std.specs.Io.KnownBytes.{IsAtEnd}
 use Rattle.devices.specs.Devices.{BrokeWithin}
 use Rattle.frame_records.specs.declared.limits.TheConstants.{MOST_LISTED}
@@ -12,7 +12,8 @@ use Rattle.screen_files.specs.declared.file.FramesFault.{FramesFault}
 use Rattle.screen_files.specs.declared.file.FramesFault.TheVariants as frames
 use Rattle.screen_files.specs.declared.file.TheConstants.{MOST_SCREEN}
 use Rattle.screen_files.specs.Files.{AreFileFrames, found_in}
-use Rattle.screen_files.specs.Album.{IsBaseText, over_most}
+use Rattle.screen_files.specs.Album.{IsBaseText, IsNoBaseText}
+use Rattle.screen_files.specs.declared.album.BaseTextFault.TheVariants.{TooLong as BaseTooLong}
 use Rattle.pageaudit.specs.declared.import_run.ImportFault.{ImportFault}
 use Rattle.pageaudit.specs.declared.import_run.ImportFault.TheVariants.{Screen, TooMany, Broken, Memory}
 use Rattle.pageaudit.specs.declared.import_run.ImportStatus.{ImportStatus}
@@ -62,20 +63,20 @@ AreFramesTaken d kind path file old new (Err fault) = (new ≡ old) × AreNotTak
 
 -- The base of the frames.
 
--- the text of the base was written
-pub record IsBasePrinted (out : Device) (asked : Option ℕ) (frames : List Filed) (answer : Result ImportStatus RunFault) : Type 0 where
+-- the text of the base was written; whether routes are guessed
+pub record IsBasePrinted (out : Device) (asked : Option ℕ) (guessed : Bool) (frames : List Filed) (answer : Result ImportStatus RunFault) : Type 0 where
   pub text : List ℕ
-  pub is : IsBaseText asked frames text
+  pub is : IsBaseText asked guessed frames text
   pub written : IsTextWritten out text Printed answer
 
 -- a run by its answer: nothing was written if the text is too long, `file` being the one of the first frame that ends too late, or
 -- if memory was refused
-abbrev pub IsImportRun : Device → Option ℕ → List Filed → Result ImportStatus RunFault → Type 0
-IsImportRun out asked frames (Ok Printed) = IsBasePrinted out asked frames (Ok Printed)
-IsImportRun out asked frames (Ok (TooLong file)) = (over_most asked frames ≡ Some file) × IsUntouched out
-IsImportRun out asked frames (Err (run.Write wrote)) = IsBasePrinted out asked frames (Err (run.Write wrote))
-IsImportRun out asked frames (Err run.Memory) = IsUntouched out
-IsImportRun out asked frames (Err _) = ⊥
+abbrev pub IsImportRun : Device → Option ℕ → Bool → List Filed → Result ImportStatus RunFault → Type 0
+IsImportRun out asked guessed frames (Ok Printed) = IsBasePrinted out asked guessed frames (Ok Printed)
+IsImportRun out asked guessed frames (Ok (TooLong file)) = IsNoBaseText asked guessed frames (BaseTooLong file) × IsUntouched out
+IsImportRun out asked guessed frames (Err (run.Write wrote)) = IsBasePrinted out asked guessed frames (Err (run.Write wrote))
+IsImportRun out asked guessed frames (Err run.Memory) = IsUntouched out
+IsImportRun out asked guessed frames (Err _) = ⊥
 
 -- the exit status: 3 if a base can't be so long
 abbrev pub import_number : Result ImportStatus RunFault → ℕ

@@ -17,7 +17,7 @@ use Rattle.screens.specs.declared.writing.Writing.TheVariants.{Plain}
 use Rattle.screens.specs.Writing.{written}
 use Rattle.screens.specs.Text.{text}
 use Rattle.screens.specs.Ansi.{ansi}
-use Rattle.screens.specs.Svg.{svg}
+use Rattle.screens.specs.Svg.{picture}
 use Rattle.screen_forms.specs.Forms.{address}
 use Rattle.audit_report.specs.declared.run_fault.RunFault.{RunFault}
 use Rattle.pageaudit.specs.declared.show_run.Target.{Target}
@@ -34,7 +34,7 @@ use Rattle.pageaudit.specs.Status.{fault_number}
 -- a picture of the last frame's screen
 abbrev pub picture_of : Option Id → List (List Look) → List ℕ
 picture_of None rows = []
-picture_of (Some id) rows = svg id rows None
+picture_of (Some id) rows = picture id rows
 
 -- an address, and a line end (10)
 abbrev pub address_line : List ℕ → List ℕ

@@ -97,19 +97,21 @@ fn write_base<O: Sink>(out: &mut O, text: &[u8]) -> Result<ImportStatus, RunFaul
     }
 }
 
-/// Writes the base of frames of one id each, which ascend. Its entry page is the one that is asked for, else the first frame's.
+/// Writes the base of frames of one id each, which ascend. Its entry page is the one that is asked for, else the first frame's. If routes
+/// are guessed, each frame has those that the numbers of pages suggest.
 ///
 /// The text is made first. On every fault except `Write`, nothing was written.
 pub fn run_import<O: Sink>(
     alloc: Global,
     settled: &Settled,
     entry: Option<PageNo>,
+    guesses: bool,
     out: &mut O,
 ) -> Result<ImportStatus, RunFault>
     requires { (O.seen out.old).failed ≡ false }
-    ensures { IsImportRun (device O.seen out.old out.new) entry settled.now.frames result }
+    ensures { IsImportRun (device O.seen out.old out.new) entry guesses settled.now.frames result }
 {
-    match base_text(alloc, entry, settled) {
+    match base_text(alloc, entry, guesses, settled) {
         Ok(text) => write_base(out, text.as_slice()),
         Err(BaseTextFault::TooLong(file)) => Ok(ImportStatus::TooLong(file)),
         Err(BaseTextFault::Memory) => Err(RunFault::Memory),

@@ -24,7 +24,8 @@
 //!   saved screens, the base that is made of them, and the exit status for it.
 //! - [`read_exported`], [`Gallery`], [`run_export`]: a base, the screens of its frames, and one of them written.
 //! - [`run_list`], [`ListForm`]: a line for each frame of a base, in a form.
-//! - [`run_lint`], [`Format`], [`status_of_lint`]: every finding in a base's file, in a form, and the exit status for them.
+//! - [`run_lint`], [`LintReport`], [`status_of_lint`]: the findings in a base's file, in a [`Format`], and the exit status for them.
+//!   [`Ignored`]: warnings that don't count.
 //! - [`run_map`], [`View`], [`MapStatus`], [`status_of_map`]: the map of a base, and the exit status for it.
 //! - [`Status`], [`status_of`]: the result of another run, and the program's exit status for it.
 #![tactic(auto)]
@@ -58,15 +59,15 @@ pub use finding_forms::Format;
 pub use frame_screens::Gallery;
 pub use import_run::{ImportFault, ImportStatus, run_import, status_of_import, take_frames};
 pub use laws::certified_is_cleared;
-pub use lint::{Counts, Level, counted_text};
-pub use lint_run::{run_lint, status_of_lint};
+pub use lint::{Counts, Ignored, Level, counted_text};
+pub use lint_run::{LintReport, run_lint, status_of_lint};
 pub use list_run::run_list;
 pub use map_run::{MapStatus, run_map, status_of_map};
 pub use pages_run::{run_pages, status_of_pages};
 pub use screen_files::{
     Album, FileFrames, FileKind, Filed, Origin, ScreenFault, ScreenPlace, Settled, Twin,
 };
-pub use screen_forms::{AddressFault, LinkFault, SavedForm};
+pub use screen_forms::{FaultyLine, SavedForm, TextLineFault};
 pub use show_run::{Form, ShowStatus, Target, run_show, status_of_show};
 pub use status::status_of;
 pub use walk_run::{read_keys, run_walk};

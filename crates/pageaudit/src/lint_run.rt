@@ -1,28 +1,66 @@
-ghost use Rattle.std.specs.Prelude.{◌≡◌, false};
+ghost use Rattle.std.specs.Prelude.{◌≡◌, false, IfOk};
 ghost use Rattle.pageaudit.specs.Files.{device, IsTextWritten};
-ghost use Rattle.pageaudit.specs.LintRun.{IsLintRun, counts_of, lint_number, reaches};
+ghost use Rattle.pageaudit.specs.LintRun.{AreCounted, IsLintRun, all_count, lint_number, reaches};
 
 use crate::status::status_of;
 use audit_report::{RunFault, Sink, Source, SourceFault, read_whole, write_whole};
 use base_text::MOST_TEXT;
 use checker::Policy;
 use finding_forms::{Format, findings_text};
-use lint::{Counts, Finding, Level, lint};
-use std::alloc::Global;
+use lint::{Counts, Finding, Ignored, Level, lint, remove_warnings};
+use std::alloc::{AllocError, Global};
 
-// Writes the lines of findings; returns how many findings there are if all lines were taken and flushed.
-fn write_lines<O: Sink>(out: &mut O, lines: &[u8], findings: &[Finding]) -> Result<Counts, RunFault>
+/// Which findings count, which are written, and how.
+#[derive(Debug, Clone, Copy)]
+pub struct LintReport {
+    pub format: Format,
+    /// These warnings don't count and aren't written.
+    pub ignored: Ignored,
+    /// Whether warnings count and aren't written.
+    pub is_quiet: bool,
+}
+
+impl LintReport {
+    /// All findings count and are written in this form.
+    pub fn all(format: Format) -> LintReport
+        ensures { result ≡ record { format = format; ignored = all_count; is_quiet = false } }
+    {
+        LintReport {
+            format,
+            ignored: Ignored::NONE,
+            is_quiet: false,
+        }
+    }
+}
+
+// Writes the lines of findings; returns their numbers if all lines were taken and flushed.
+fn write_lines<O: Sink>(out: &mut O, lines: &[u8], counts: Counts) -> Result<Counts, RunFault>
     requires { (O.seen out.old).failed ≡ false }
-    ensures { IsTextWritten (device O.seen out.old out.new) lines.now (counts_of findings.now) result }
+    ensures { IsTextWritten (device O.seen out.old out.new) lines.now counts result }
 {
     match write_whole(out, lines) {
-        Ok(()) => Ok(Counts::of(findings)),
+        Ok(()) => Ok(counts),
         Err(fault) => Err(RunFault::Write(fault.wrote)),
     }
 }
 
-/// Finds every fault of a base's file, and the frames that no key reaches, and writes each in this form under the path that
-/// is given; if nothing is found nothing is written.
+// The findings of a text that count, and how many there are.
+fn counted(
+    alloc: Global,
+    text: &[u8],
+    policy: &Policy,
+    ignored: Ignored,
+) -> Result<(Vec<Finding>, Counts), AllocError>
+    ensures { IfOk result (λ r. AreCounted text.now policy.now ignored r.0.items r.1) }
+{
+    let mut findings = lint(alloc, text, policy)?;
+    ignored.remove_from(&mut findings);
+    let counts = Counts::of(findings.as_slice());
+    Ok((findings, counts))
+}
+
+/// Finds every fault of a base's file, and what is worth a warning, and writes of them what the report asks for under the path that is
+/// given; if there is nothing to write, nothing is written. The answer counts the findings that aren't ignored.
 ///
 /// The file is read whole first: one byte more than a base may have is enough. A fault of its text is a finding and no fault of
 /// the run. On every fault except `Write`, nothing was written. A device is not called again after it returned an error.
@@ -32,29 +70,32 @@ pub fn run_lint<B: Source, O: Sink>(
     out: &mut O,
     path: &str,
     policy: &Policy,
-    format: Format,
+    report: &LintReport,
 ) -> Result<Counts, RunFault>
     requires base_open { (B.seen base.old).failed ≡ false }
     requires out_open { (O.seen out.old).failed ≡ false }
     ensures { IsLintRun (device B.seen base.old base.new)
-        (device O.seen out.old out.new) path.now policy.now format result }
+        (device O.seen out.old out.new) path.now policy.now report.now result }
 {
     let text = match read_whole(alloc, base, MOST_TEXT + 1) {
         Ok(text) => text,
         Err(SourceFault::Broken) => return Err(RunFault::ReadBase),
         Err(SourceFault::Memory) => return Err(RunFault::Memory),
     };
-    let Ok(findings) = lint(alloc, text.as_slice(), policy) else {
+    let Ok((mut findings, counts)) = counted(alloc, text.as_slice(), policy, report.ignored) else {
         return Err(RunFault::Memory);
     };
+    if report.is_quiet {
+        remove_warnings(&mut findings);
+    }
     match findings_text(
         alloc,
-        format,
+        report.format,
         path.as_bytes(),
         text.as_slice(),
         findings.as_slice(),
     ) {
-        Ok(lines) => write_lines(out, lines.as_slice(), findings.as_slice()),
+        Ok(lines) => write_lines(out, lines.as_slice(), counts),
         Err(_) => Err(RunFault::Memory),
     }
 }

@@ -14,7 +14,7 @@ use frame_records::{Base, Groups};
 use frame_screens::{FrameList, NoScreen, frames_after, nearest, screen, way_to};
 use page_ids::{FrameId, Key, KeyList, PageNo};
 use screen_forms::push_address;
-use screens::{Writing, push_ansi, push_svg, push_text, screen_looks};
+use screens::{Writing, push_ansi, push_picture, push_text, screen_looks};
 use std::alloc::{AllocError, Global};
 
 /// What is shown.
@@ -88,7 +88,7 @@ fn screen_text(
     match form {
         Form::Text => push_text(&mut text, &screen_looks(&codes), Writing::Plain)?,
         Form::Ansi => push_ansi(&mut text, &screen_looks(&codes))?,
-        Form::Svg => push_svg(&mut text, frames.last(), &screen_looks(&codes), None)?,
+        Form::Svg => push_picture(&mut text, frames.last(), &screen_looks(&codes))?,
         Form::Cells => text.extend_from_slice(&codes)?,
         Form::Link => push_address_line(alloc, &mut text, &codes)?,
     }

@@ -6,7 +6,7 @@ ghost use Rattle.pageaudit_c.specs.Calls.{IsOutOfMemory, IsAnswer, IsFaultAnswer
 use crate::status::CallStatus;
 use audit_report::{RunFault, fault_text};
 use checker::InputFault;
-use std::alloc::{AllocError, Global};
+use std::alloc::Global;
 
 /// A status and the text that the program prints.
 #[derive(Drop)]

@@ -1,6 +1,5 @@
-ghost use Rattle.std.specs.Prelude.{◌≡◌, ◌⊎◌};
+ghost use Rattle.std.specs.Prelude.{◌⊎◌};
 ghost use Rattle.base_text.specs.Whole.{IsTextBase};
-ghost use Rattle.audit_report.specs.Statuses.{status_of_outcome};
 ghost use Rattle.pageaudit_c.specs.Calls.{IsOutOfMemory, asked, IsAskedAnswer, IsCall, buffer};
 ghost use Rattle.pageaudit_c.specs.Audits.{IsAuditReported, IsAuditAnswer};
 

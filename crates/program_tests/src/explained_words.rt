@@ -105,5 +105,5 @@ fn the_overview_begins_with_the_words_of_each_section(_rt: HostRuntime) -> Resul
         overview().lines().next(),
         Some("PBC1, entry, ceiling, keyings, rows, end  a certificate"),
     )?;
-    same(overview().lines().count(), 72)
+    same(overview().lines().count(), 74)
 }

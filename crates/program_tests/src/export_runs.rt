@@ -1,6 +1,6 @@
 //! The screens of a base.
 
-ghost use Rattle.std.specs.Prelude.{◌≡◌, false};
+ghost use Rattle.std.specs.Prelude.{false};
 
 use crate::expected::{ALL, sink, source, taken};
 use audit_report::RunFault;

@@ -64,7 +64,7 @@ fn screens_make_a_base(rt: HostRuntime) -> Result<(), Fail> {
         (BASE.len(), 3, 1, BASE.len()),
     ] {
         let mut out = sink(alloc, BASE, room);
-        let run = run_import(alloc, &settled, None, &mut out);
+        let run = run_import(alloc, &settled, None, false, &mut out);
         same_in(room, run == Ok(ImportStatus::Printed), room == ALL)?;
         same_in(room, status_of_import(&run), status)?;
         same_in(room, (out.flushes, taken(&out, BASE)), (flushes, wrote))?;
@@ -84,7 +84,13 @@ fn the_entry_page_may_be_named(rt: HostRuntime) -> Result<(), Fail> {
     let text =
         "entry = 9\n\n[[frame]]\nid = \"4a\"\nroutes = { } # keys shown: 1\nrows = [\n    \"1 News\",\n]\n";
     let mut out = sink(alloc, text, ALL);
-    let run = run_import(alloc, &settled(alloc, album)?, PageNo::new(9), &mut out);
+    let run = run_import(
+        alloc,
+        &settled(alloc, album)?,
+        PageNo::new(9),
+        false,
+        &mut out,
+    );
     same(run == Ok(ImportStatus::Printed), true)?;
     same(taken(&out, text), text.len())
 }
@@ -181,7 +187,7 @@ fn a_base_has_a_most(rt: HostRuntime) -> Result<(), Fail> {
     let alloc = rt.alloc();
     let album = dense(alloc, 3_051)?;
     let mut out = sink(alloc, BASE, ALL);
-    let run = run_import(alloc, &settled(alloc, album)?, None, &mut out);
+    let run = run_import(alloc, &settled(alloc, album)?, None, false, &mut out);
     same(run == Ok(ImportStatus::TooLong(3_048)), true)?;
     same(
         (status_of_import(&run), out.flushes, taken(&out, BASE)),

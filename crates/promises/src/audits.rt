@@ -1,6 +1,6 @@
 //! What an audit decides, and that the check clears what it certifies.
 
-ghost use Rattle.std.specs.Prelude.{◌≡◌, ◌↔◌, ℕ, List, [], Result, IfOk, false};
+ghost use Rattle.std.specs.Prelude.{◌≡◌, ◌↔◌, ℕ, List, [], Result, IfOk};
 ghost use Rattle.frame_records.specs.Bases.{BaseView, AreApart};
 ghost use Rattle.checker.specs.declared.policy.Policy.{Policy as PolicyView};
 ghost use Rattle.checker.specs.Safe.{Safe};

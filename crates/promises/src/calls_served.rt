@@ -1,11 +1,13 @@
 //! What a caller on a line is promised.
 
-ghost use Rattle.std.specs.Prelude.{◌≡◌, false, IfOk};
+ghost use Rattle.std.specs.Prelude.{◌≡◌, ℕ, List, false, IfOk};
 ghost use Rattle.ansi_line.specs.AnsiLines.{screen_bytes};
+ghost use Rattle.ansi_line.specs.AnsiReading.{ansi_read};
+ghost use Rattle.ansi_line.specs.Laws.{LeavesNothingSet, ScreenShows};
 ghost use Rattle.one_call.specs.Calls.{IsCallServed, IsKeptCall};
 ghost use Rattle.one_call.specs.Safety.{PartsAreSeen, PartsAreSafe};
 
-use ansi_line::screen_text;
+use ansi_line::{screen_reads_back, screen_text};
 use audit_report::{Sink, Source};
 use editions::EditionFolder;
 use one_call::{CallFault, CallLog, parts_are_safe, parts_are_seen, serve};
@@ -35,6 +37,13 @@ fn of_a_screen(alloc: Global, terminal: &Terminal) -> Result<Vec<u8>, AllocError
     ensures { IfOk result (λ text. text.items ≡ screen_bytes terminal.now.cells) }
 {
     screen_text(alloc, terminal)
+}
+
+// Each such screen, read after those before it, shows the looks of its cells.
+fn screens_show()
+    ensures { (before cells : List ℕ) → LeavesNothingSet (ansi_read before) → ScreenShows before cells }
+{
+    screen_reads_back();
 }
 
 // What a caller sees, of all editions in turn.

@@ -53,8 +53,13 @@ fn slips_fixed(alloc: Global, text: &[u8], policy: &Policy) -> Result<Fixed, All
 }
 
 // What comes of a base in which screens are put, and nothing else is changed.
-fn merged_in(alloc: Global, text: &[u8], settled: &Settled) -> Result<Merged, MergeFault>
-    ensures { IfOk result (IsMerged text.now settled.now.frames) }
+fn merged_in(
+    alloc: Global,
+    text: &[u8],
+    guesses: bool,
+    settled: &Settled,
+) -> Result<Merged, MergeFault>
+    ensures { IfOk result (IsMerged text.now guesses settled.now.frames) }
 {
-    merge_frames(alloc, text, settled)
+    merge_frames(alloc, text, guesses, settled)
 }

@@ -11,6 +11,7 @@ mod changes;
 mod checks;
 mod findings;
 mod folders;
+mod imported;
 mod lists;
 mod looks;
 mod published;

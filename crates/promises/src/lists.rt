@@ -1,6 +1,6 @@
 //! What `list` and `map` have of a base.
 
-ghost use Rattle.std.specs.Prelude.{◌≡◌, ℕ, List, IfOk, option_map};
+ghost use Rattle.std.specs.Prelude.{ℕ, List, IfOk, option_map};
 ghost use Rattle.page_ids.specs.Ids.{IsLetter};
 ghost use Rattle.frame_records.specs.declared.frame.Frame.{Frame};
 ghost use Rattle.frame_records.specs.Bases.{BaseView};

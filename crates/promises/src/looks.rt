@@ -1,6 +1,6 @@
 //! What the laws of looks, of texts and of printed forms say.
 
-ghost use Rattle.std.specs.Prelude.{◌≡◌, ◌++◌, ◌∷◌, ◌<◌, ◌⊎◌, ℕ, Bool, List, [], All, get_or, length, map, true};
+ghost use Rattle.std.specs.Prelude.{◌≡◌, ◌++◌, ◌<◌, ◌⊎◌, ℕ, Bool, List, Option, All, get_or, length, map, true};
 ghost use Rattle.screens.specs.declared.look.Glyph.TheVariants.{Char};
 ghost use Rattle.screens.specs.declared.look.Look.{Look};
 ghost use Rattle.screens.specs.declared.look.Shown.TheVariants.{Ground};
@@ -10,15 +10,26 @@ ghost use Rattle.screens.specs.Laws.{RowsDecide, plain_look, ChangesGlyphs, IsOf
 ghost use Rattle.screens.specs.Text.{seen_char, line};
 ghost use Rattle.checker.specs.declared.policy.Policy.{Policy};
 ghost use Rattle.fault_scripts.specs.declared.outcome.Outcome.{Outcome};
-ghost use Rattle.base_pages.specs.Sections.{BookView};
-ghost use Rattle.base_pages.specs.Tags.{tag_list, page_tags, HaveLetters};
-ghost use Rattle.base_pages.specs.Pages.{page};
+ghost use Rattle.fault_scripts.specs.declared.outcome.Outcome.TheVariants.{Certified};
+ghost use Rattle.fault_scripts.specs.Outcomes.{IsOutcome};
+ghost use Rattle.page_ids.specs.Ids.{Id};
+ghost use Rattle.frame_records.specs.Bases.{BaseView, IsBase};
+ghost use Rattle.cert_table.specs.Table.{CertView};
+ghost use Rattle.finder.specs.declared.found.Discovered.{Discovered};
+ghost use Rattle.finder.specs.Finds.{IsFinding};
+ghost use Rattle.screens.specs.Laws.{tags_of};
+ghost use Rattle.base_pages.specs.Sections.{BookView, shown_frames};
+ghost use Rattle.base_pages.specs.Tags.{page_tags, HaveIds};
+ghost use Rattle.base_pages.specs.Reading.{sections_in};
+ghost use Rattle.base_pages.specs.Said.{section_said};
+ghost use Rattle.base_pages.specs.Links.{LinksAreWays, NoWayFails};
+ghost use Rattle.base_pages.specs.Pages.{book, page};
 ghost use Rattle.lint.specs.Findings.{FindingView};
 ghost use Rattle.finding_forms.specs.declared.format.Format.{Format};
 ghost use Rattle.finding_forms.specs.Forms.{ArePrinted, is_one_line};
 ghost use Rattle.finding_forms.specs.Laws.{AreWholeLines};
 
-use base_pages::file_has_its_tags;
+use base_pages::{certified_ways_lead, file_has_its_tags, file_says_what_is_shown, links_lead};
 use finding_forms::findings_are_whole_lines;
 use screens::{
     characters_change_glyphs, each_row_decides, glyphs_are_of_tables, ground_shows, lines_show,
@@ -65,9 +76,33 @@ fn columns_show()
 // The HTML file of every base has the tags of its form and no others.
 fn page_tags_alone()
     ensures { (name : List ℕ) (policy : Policy) (outcome : Outcome) (b : BookView) →
-        HaveLetters b.part b.base.frames → tag_list (page name policy outcome b) ≡ page_tags outcome b }
+        tags_of (page name policy outcome b) ≡ page_tags name policy outcome b }
 {
     file_has_its_tags();
+}
+
+// Its sections are the frames, and say what is shown of them.
+fn pages_say_what_is_shown()
+    ensures { (name : List ℕ) (policy : Policy) (outcome : Outcome) (b : BookView) →
+        sections_in (page name policy outcome b) ≡ map (section_said b) (shown_frames b b.base.frames) }
+{
+    file_says_what_is_shown();
+}
+
+// Its links are the ways.
+fn pages_link_ways()
+    ensures { (b : BookView) → HaveIds b.part b.base.frames → All (LinksAreWays b) (shown_frames b b.base.frames) }
+{
+    links_lead();
+}
+
+// That of a certified base has no missing or closed way in a section that callers reach.
+fn certified_pages_lead()
+    ensures { (name : List ℕ) (base : BaseView) (policy : Policy) (part : Option (List Id)) (found : List Discovered)
+        (cert : CertView) → IsBase base → IsFinding policy.groups base found → IsOutcome base policy (Certified cert) →
+        NoWayFails (sections_in (page name policy (Certified cert) (book base policy part found (Certified cert)))) }
+{
+    certified_ways_lead();
 }
 
 fn a_line_each()

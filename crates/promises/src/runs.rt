@@ -21,7 +21,7 @@ use checker::Policy;
 use frame_records::Groups;
 use page_ids::{FrameId, PageNo};
 use pageaudit::{
-    Counts, Form, Format, Gallery, ImportStatus, Level, ListForm, MapStatus, PagesStatus,
+    Counts, Form, Gallery, ImportStatus, Level, LintReport, ListForm, MapStatus, PagesStatus,
     SavedForm, Settled, ShowStatus, Status, Target, View, run_audit, run_change, run_check,
     run_export, run_import, run_lint, run_list, run_map, run_pages, run_show, run_walk, status_of,
     status_of_import, status_of_lint, status_of_map, status_of_pages, status_of_show,
@@ -85,14 +85,14 @@ fn lint<B: Source, O: Sink>(
     out: &mut O,
     path: &str,
     policy: &Policy,
-    format: Format,
+    report: &LintReport,
 ) -> Result<Counts, RunFault>
     requires base_open { (B.seen base.old).failed ≡ false }
     requires out_open { (O.seen out.old).failed ≡ false }
     ensures { IsLintRun (device B.seen base.old base.new)
-        (device O.seen out.old out.new) path.now policy.now format result }
+        (device O.seen out.old out.new) path.now policy.now report.now result }
 {
-    run_lint(alloc, base, out, path, policy, format)
+    run_lint(alloc, base, out, path, policy, report)
 }
 
 fn walk<B: Source, O: Sink>(
@@ -173,12 +173,13 @@ fn import<O: Sink>(
     alloc: Global,
     settled: &Settled,
     entry: Option<PageNo>,
+    guesses: bool,
     out: &mut O,
 ) -> Result<ImportStatus, RunFault>
     requires { (O.seen out.old).failed ≡ false }
-    ensures { IsImportRun (device O.seen out.old out.new) entry settled.now.frames result }
+    ensures { IsImportRun (device O.seen out.old out.new) entry guesses settled.now.frames result }
 {
-    run_import(alloc, settled, entry, out)
+    run_import(alloc, settled, entry, guesses, out)
 }
 
 fn export<O: Sink>(

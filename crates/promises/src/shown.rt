@@ -1,6 +1,6 @@
 //! What screens, texts, pictures and pages show.
 
-ghost use Rattle.std.specs.Prelude.{◌≡◌, ◌++◌, ℕ, List, All, IfOk, OnOk, Some, map, Option, false};
+ghost use Rattle.std.specs.Prelude.{◌≡◌, ◌++◌, ◌↔◌, ℕ, List, IfOk, OnOk, map, Option, false};
 ghost use Rattle.page_ids.specs.Ids.{Id};
 ghost use Rattle.page_ids.specs.declared.key.Key.{Key as KeyView};
 ghost use Rattle.frame_records.specs.Bases.{BaseView, AreApart};
@@ -16,8 +16,10 @@ ghost use Rattle.screens.specs.Looks.{looks};
 ghost use Rattle.screens.specs.declared.look.Look.{Look};
 ghost use Rattle.screens.specs.Writing.{written};
 ghost use Rattle.screens.specs.Text.{text};
-ghost use Rattle.screens.specs.Svg.{svg, svg_pieces};
-ghost use Rattle.screens.specs.Laws.{IsItsLines, IsSafe, raw, tags_of};
+ghost use Rattle.screens.specs.Ansi.{ansi};
+ghost use Rattle.screens.specs.Svg.{picture, picture_pieces, svg, svg_pieces};
+ghost use Rattle.screens.specs.declared.look.Height.{Height};
+ghost use Rattle.screens.specs.Laws.{IsItsLines, IsRounded, IsSafe, raw, tags_of};
 ghost use Rattle.frame_screens.specs.Frames.{IsKeyed, IsWay};
 ghost use Rattle.frame_screens.specs.Screens.{screen_codes};
 ghost use Rattle.frame_screens.specs.Laws.{IsHeadlineSeen};
@@ -25,7 +27,12 @@ ghost use Rattle.screen_files.specs.Rows.{rows_of};
 ghost use Rattle.screen_forms.specs.Laws.{IsSavedScreen};
 ghost use Rattle.screen_files.specs.Laws.{rows_alone};
 ghost use Rattle.base_pages.specs.Pages.{IsPagesRun};
+ghost use Rattle.pageaudit.specs.declared.show_run.Form.TheVariants.{Ansi};
+ghost use Rattle.pageaudit.specs.ShowRun.{screen_text};
+ghost use Rattle.ansi_line.specs.AnsiReading.{below_rows, ansi_read};
+ghost use Rattle.ansi_line.specs.Laws.{AreScreenRows, SameToTheEye, seen_cells};
 
+use ansi_line::ansi_reads_back;
 use audit_report::Sink;
 use base_pages::{PagesFault, PagesStatus, write_pages};
 use checker::Policy;
@@ -35,8 +42,8 @@ use frame_screens::{FrameList, NoScreen, frames_after, headline_is_seen, screen,
 use page_ids::{FrameId, Key};
 use screen_files::frames_show_screens;
 use screens::{
-    Looks, Writing, characters_are_safe, push_svg, push_text, screen_looks, svg_reads_back,
-    text_is_its_lines,
+    Looks, Writing, characters_are_safe, outlines_are_rounded, picture_reads_back, push_ansi,
+    push_picture, push_svg, push_text, screen_looks, svg_reads_back, text_is_its_lines,
 };
 use std::alloc::{AllocError, Global};
 
@@ -105,7 +112,44 @@ fn text_lines()
     text_is_its_lines();
 }
 
-fn picture_of(
+fn ansi_of(out: &mut Vec<u8>, looks: &Looks) -> Result<(), AllocError>
+    ensures { OnOk result (out.new.items ≡ out.old.items ++ ansi looks.now) }
+{
+    push_ansi(out, looks)
+}
+
+// What `show --as ansi` prints, read by the rules of SGR, shows the looks of its screen, and leaves nothing set; its rows fit a terminal.
+fn ansi_shows()
+    ensures shows { (base : BaseView) (ids : List Id) →
+        ansi_read (screen_text Ansi base ids) ≡ below_rows (seen_cells (looks (screen_codes base ids))) }
+    ensures fits { (cells : List ℕ) → AreScreenRows (seen_cells (looks cells)) }
+{
+    ansi_reads_back();
+}
+
+// Screens that a terminal shows as different cells have different texts, and others the same.
+fn ansi_texts()
+    ensures { (cells others : List ℕ) →
+        ansi (looks cells) ≡ ansi (looks others) ↔ SameToTheEye (looks cells) (looks others) }
+{
+    ansi_reads_back();
+}
+
+fn picture_of(out: &mut Vec<u8>, id: FrameId, looks: &Looks) -> Result<(), AllocError>
+    ensures { OnOk result (out.new.items ≡ out.old.items ++ picture id looks.now) }
+{
+    push_picture(out, id, looks)
+}
+
+// The letters of a picture are their dots, rounded.
+fn rounded_letters()
+    ensures { (h : Height) (c : ℕ) → IsRounded h c }
+{
+    outlines_are_rounded();
+}
+
+// That of an HTML file has letters as texts.
+fn page_picture_of(
     out: &mut Vec<u8>,
     id: FrameId,
     looks: &Looks,
@@ -118,6 +162,13 @@ fn picture_of(
 
 // A picture has its form's tags and no others, whatever a base holds.
 fn picture_tags()
+    ensures { (id : Id) (rows : List (List Look)) →
+        tags_of (picture id rows) ≡ map raw (picture_pieces id rows) }
+{
+    picture_reads_back();
+}
+
+fn page_picture_tags()
     ensures { (id : Id) (rows : List (List Look)) (cell : Option ℕ) →
         tags_of (svg id rows cell) ≡ map raw (svg_pieces id rows cell) }
 {
@@ -130,7 +181,7 @@ fn safe_characters()
     characters_are_safe();
 }
 
-// The HTML file is the definition's, with its form's tags and no others.
+// The HTML file is the definition's, says what is shown, and links the ways.
 fn pages_of<S: Sink>(
     alloc: Global,
     base: &Base,

@@ -26,9 +26,9 @@ use finder::find;
 use frame_screens::{frames_after, nearest, way_to};
 use page_ids::keys_read;
 use pageaudit::{
-    Counts, Format, Level, ListForm, run_audit, run_change, run_check, run_lint, run_list, run_map,
-    run_pages, run_show, run_walk, status_of, status_of_import, status_of_lint, status_of_map,
-    status_of_pages, status_of_show,
+    Counts, Format, Level, LintReport, ListForm, run_audit, run_change, run_check, run_lint,
+    run_list, run_map, run_pages, run_show, run_walk, status_of, status_of_import, status_of_lint,
+    status_of_map, status_of_pages, status_of_show,
 };
 use saved::{exported, imported};
 use std::env;
@@ -94,7 +94,7 @@ fn run(rt: &HostRuntime, name: &str, words: &mut Words) -> Option<()> {
         run_export(base: file, frame: frame, out: word, groups: groups) =>
             ran!(alloc, out, status_of, exported(alloc, &mut base.source(), &groups, frame, out));
         run_lint(base: file, out: word, policy: policy) =>
-            ran!(alloc, out, status_of_errors, run_lint(alloc, &mut base.source(), out, "base.toml", &policy, Format::Full));
+            ran!(alloc, out, status_of_errors, run_lint(alloc, &mut base.source(), out, "base.toml", &policy, &LintReport::all(Format::Full)));
         _ => None
     }
 }

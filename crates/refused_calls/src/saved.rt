@@ -41,7 +41,7 @@ fn printed<O: Sink>(
     requires { (O.seen out.old).failed ≡ false }
 {
     match album.settle(alloc) {
-        Ok(settled) => run_import(alloc, &settled, entry, out),
+        Ok(settled) => run_import(alloc, &settled, entry, true, out),
         Err(_) => Err(RunFault::Memory),
     }
 }

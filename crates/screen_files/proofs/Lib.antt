@@ -4,8 +4,10 @@ pub mod Lines
 pub mod Shown
 pub mod Saved
 pub mod Frames
+pub mod Guesses
 pub mod Rising
 pub mod Groups
 pub mod Holding
 pub mod Reels
 pub mod Lasts
+pub mod Kept

@@ -7,14 +7,15 @@ use Rattle.screen_files.specs.declared.filed.Filed.{Filed}
 use Rattle.screen_files.specs.declared.filed.ScreenPlace.{ScreenPlace}
 use Rattle.screen_files.specs.declared.filed.ScreenPlace.TheVariants.{Whole, Byte, Line}
 use Rattle.screen_forms.specs.Addresses.{linked_screens, address_at}
-use Rattle.screen_forms.specs.declared.addresses.LinkedScreen.{LinkedScreen}
-use Rattle.screen_forms.specs.declared.addresses.AddressFault.{AddressFault}
+use Rattle.screen_forms.specs.Sheets.{is_sheet, sheet_screens}
+use Rattle.screen_forms.specs.declared.text_screens.TextScreen.{TextScreen}
+use Rattle.screen_forms.specs.declared.text_screens.FaultyLine.{FaultyLine}
 use Rattle.screen_files.specs.declared.capture.Shot.{Shot}
 use Rattle.screen_files.specs.declared.capture.TheConstants.{MOST_SHOTS}
 use Rattle.screen_files.specs.declared.file.FileKind.{FileKind}
 use Rattle.screen_files.specs.declared.file.FileKind.TheVariants.{Cells, Stream}
 use Rattle.screen_files.specs.declared.file.ScreenFault.{ScreenFault}
-use Rattle.screen_files.specs.declared.file.ScreenFault.TheVariants.{Address, Empty, TooLong, Size, NoId, NoIdAt, TooManyScreens}
+use Rattle.screen_files.specs.declared.file.ScreenFault.TheVariants.{Text, Empty, TooLong, Size, NoId, NoIdAt, TooManyScreens}
 use Rattle.screen_files.specs.declared.file.TheConstants.{MOST_SCREEN}
 use Rattle.screen_files.specs.declared.file.FramesFault.{FramesFault}
 use Rattle.screen_files.specs.declared.file.FramesFault.TheVariants as frames
@@ -112,40 +113,40 @@ found_within path file shots =
 abbrev pub found_capture : List ℕ → ℕ → List ℕ → Result ScreenList ScreenFault
 found_capture path file bytes = if length bytes == 0 then Err Empty else found_within path file (capture_screens bytes)
 
--- A text with addresses.
+-- A text with screens.
 
--- the id is the word beside the address, else the one in the name of a file of one, else that of row 0, else the page number after it
-abbrev pub link_id : Option Id → LinkedScreen → Option Id
-link_id name s = or_id s.beside (or_id name (or_id (screen_head s.codes).id s.number))
+-- the id is the word beside an address, else the one in the name of a file of one, else that of row 0, else the page number
+abbrev pub text_screen_id : Option Id → TextScreen → Option Id
+text_screen_id name s = or_id s.beside (or_id name (or_id (screen_head s.codes).id s.number))
 
-abbrev pub filed_link_by : ℕ → LinkedScreen → Option Id → List Filed
-filed_link_by file s None = []
-filed_link_by file s (Some id) =
+abbrev pub filed_text_by : ℕ → TextScreen → Option Id → List Filed
+filed_text_by file s None = []
+filed_text_by file s (Some id) =
     filed_at file (Line s.line) (record { id = id; price = (screen_head s.codes).price; codes = s.codes }) ∷ []
 
-abbrev pub filed_link : ℕ → Option Id → LinkedScreen → List Filed
-filed_link file name s = filed_link_by file s (link_id name s)
+abbrev pub filed_text : ℕ → Option Id → TextScreen → List Filed
+filed_text file name s = filed_text_by file s (text_screen_id name s)
 
 -- the line of the first without an id
-unfoldable pub nameless_line : Option Id → List LinkedScreen → Option ℕ
+unfoldable pub nameless_line : Option Id → List TextScreen → Option ℕ
 nameless_line name [] = None
-nameless_line name (s ∷ ss) = if is_some (link_id name s) then nameless_line name ss else Some s.line
+nameless_line name (s ∷ ss) = if is_some (text_screen_id name s) then nameless_line name ss else Some s.line
 
-abbrev pub named_links : ℕ → Option Id → List LinkedScreen → Option ℕ → Result ScreenList ScreenFault
-named_links file name screens (Some line) = Err (NoIdAt line)
-named_links file name screens None = Ok (record { filed = flat_map (filed_link file name) screens; unnamed = [] })
+abbrev pub named_texts : ℕ → Option Id → List TextScreen → Option ℕ → Result ScreenList ScreenFault
+named_texts file name screens (Some line) = Err (NoIdAt line)
+named_texts file name screens None = Ok (record { filed = flat_map (filed_text file name) screens; unnamed = [] })
 
 -- the name of a file counts if it has one screen
-abbrev pub name_of_one : List ℕ → List LinkedScreen → Option Id
+abbrev pub name_of_one : List ℕ → List TextScreen → Option Id
 name_of_one path screens = if length screens == 1 then name_id path else None
 
-abbrev pub found_linked : List ℕ → ℕ → List LinkedScreen → Result ScreenList ScreenFault
-found_linked path file screens =
-    named_links file (name_of_one path screens) screens (nameless_line (name_of_one path screens) screens)
+abbrev pub found_text_screens : List ℕ → ℕ → List TextScreen → Result ScreenList ScreenFault
+found_text_screens path file screens =
+    named_texts file (name_of_one path screens) screens (nameless_line (name_of_one path screens) screens)
 
-abbrev pub found_links : List ℕ → ℕ → Result (List LinkedScreen) AddressFault → Result ScreenList ScreenFault
-found_links path file (Err fault) = Err (Address fault)
-found_links path file (Ok screens) = found_linked path file screens
+abbrev pub found_texts : List ℕ → ℕ → Result (List TextScreen) FaultyLine → Result ScreenList ScreenFault
+found_texts path file (Err fault) = Err (Text fault)
+found_texts path file (Ok screens) = found_text_screens path file screens
 
 -- A file.
 
@@ -154,11 +155,16 @@ abbrev pub is_link_text : List ℕ → Bool
 is_link_text bytes = is_some (address_at bytes) && not (begins_ep1 bytes)
 
 -- a screen of the right size, else addresses
+abbrev pub found_sized : List ℕ → ℕ → List ℕ → Result ScreenList ScreenFault
+found_sized path file bytes =
+    if not (is_some (saved_codes bytes)) && is_link_text bytes
+    then found_texts path file (linked_screens bytes)
+    else found_one file Whole [] (saved_frame path bytes)
+
+-- TTI before all other forms
 abbrev pub found_saved : List ℕ → ℕ → List ℕ → Result ScreenList ScreenFault
 found_saved path file bytes =
-    if not (is_some (saved_codes bytes)) && is_link_text bytes
-    then found_links path file (linked_screens bytes)
-    else found_one file Whole [] (saved_frame path bytes)
+    if is_sheet bytes then found_texts path file (sheet_screens bytes) else found_sized path file bytes
 
 abbrev pub found_of : FileKind → List ℕ → ℕ → List ℕ → Result ScreenList ScreenFault
 found_of Cells path file bytes = found_saved path file bytes

@@ -1,13 +1,14 @@
 -- What a frame that is made of a screen shows.
-use Rattle.std.specs.Prelude.{◌≡◌, ◌<◌, ℕ, List, Some, drop, take}
-use Rattle.std.specs.List.{All}
+use Rattle.std.specs.Prelude.{◌≡◌, ◌<◌, ℕ, List, Some, drop, take, true}
+use Rattle.std.specs.List.{All, list_any}
 use Rattle.frame_records.specs.declared.frame.Lead.TheVariants.{Clear}
 use Rattle.terminal_codes.specs.Screen.{Screen, run}
 use Rattle.terminal_codes.specs.Bodies.{lead_codes}
+use Rattle.screen_forms.specs.Forms.{ep1_bytes}
 use Rattle.screen_forms.specs.Laws.{IsSavedScreen}
 use Rattle.base_text.specs.Rows.{body_of_rows}
 use Rattle.screen_files.specs.Captures.{capture_screens}
-use Rattle.screen_files.specs.Codes.{between_blank, saved_codes}
+use Rattle.screen_files.specs.Codes.{between_blank, is_space_byte, saved_codes}
 use Rattle.screen_files.specs.Rows.{rows_of}
 
 -- rows 1 to 22 of a screen, between blank rows 0 and 23
@@ -23,3 +24,7 @@ FramesShowScreens = (t : Screen) (screen : List ℕ) → IsSavedScreen screen
 pub record FilesAreScreens : Type 0 where
   pub saved : (bytes screen : List ℕ) → All (λ b. b < 256) bytes → saved_codes bytes ≡ Some screen → IsSavedScreen screen
   pub sent : (bytes : List ℕ) → All (λ s. IsSavedScreen s.codes) (capture_screens bytes)
+
+-- the EP1 file of a screen with a space is read as that screen
+abbrev pub Ep1KeepsScreens : Type 0
+Ep1KeepsScreens = (screen : List ℕ) → IsSavedScreen screen → list_any is_space_byte screen ≡ true → saved_codes (ep1_bytes screen) ≡ Some screen

@@ -2,6 +2,7 @@ pub mod Codes
 pub mod Heads
 pub mod Keys
 pub mod Rows
+pub mod Routes
 pub mod Texts
 pub mod Captures
 pub mod Settling

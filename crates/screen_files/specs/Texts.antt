@@ -8,6 +8,7 @@ use Rattle.screens.specs.Looks.{looks}
 use Rattle.screen_files.specs.Keys.{shows_key}
 use Rattle.screens.specs.Text.{trimmed}
 use Rattle.screen_files.specs.Rows.{rows_of}
+use Rattle.screen_files.specs.Routes.{guessed_routes}
 use Rattle.screen_files.specs.declared.frame.ScreenFrame.{ScreenFrame}
 
 -- A row.
@@ -66,8 +67,19 @@ abbrev pub next_line : Bool → List ℕ
 next_line true = codes "next = true\n"
 next_line false = []
 
-abbrev pub routes_line : List ℕ → List ℕ
-routes_line screen = (codes "routes = { }" ++ keys_comment (shown_keys_text (looks screen))) ++ codes "\n"
+-- what comes before them if routes are guessed
+unfoldable pub guessed_label : List ℕ
+guessed_label = codes " # by its number; keys shown:"
+
+-- some routes, with the comment
+abbrev pub routes_comment : List ℕ → List ℕ → List ℕ
+routes_comment routes keys = if length routes == 0 then keys_comment keys else guessed_label ++ keys
+
+abbrev pub routes_with : List ℕ → List ℕ → List ℕ
+routes_with routes keys = ((codes "routes = {" ++ routes) ++ codes " }") ++ (routes_comment routes keys ++ codes "\n")
+
+abbrev pub routes_line : List Id → ScreenFrame → List ℕ
+routes_line known f = routes_with (guessed_routes known f.id.page (looks f.codes)) (shown_keys_text (looks f.codes))
 
 abbrev pub rows_text : List ℕ → List ℕ
 rows_text screen = (codes "rows = [\n" ++ flat_map row_text_line (rows_of screen)) ++ codes "]\n"
@@ -79,9 +91,9 @@ id_line id = (codes "id = \"" ++ frame_text id) ++ codes "\"\n"
 abbrev pub lines_before_routes : ScreenFrame → Bool → List ℕ
 lines_before_routes f next = (((codes "\n[[frame]]\n" ++ row_comment f.codes 0) ++ id_line f.id) ++ price_text_line f.price) ++ next_line next
 
--- the frame; `next` if `#` leads on
-abbrev pub frame_lines : ScreenFrame → Bool → List ℕ
-frame_lines f next = ((lines_before_routes f next ++ routes_line f.codes) ++ rows_text f.codes) ++ row_comment f.codes 23
+-- the frame, whose routes are guessed if they lead to one of these; `next` if `#` leads on
+abbrev pub frame_lines : List Id → ScreenFrame → Bool → List ℕ
+frame_lines known f next = ((lines_before_routes f next ++ routes_line known f) ++ rows_text f.codes) ++ row_comment f.codes 23
 
 -- the line before all frames
 abbrev pub entry_key_line : ℕ → List ℕ

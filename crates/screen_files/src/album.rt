@@ -1,11 +1,12 @@
 //! The frames of some files, and the text of the base that is made of them.
 
-ghost use Rattle.std.specs.Prelude.{◌≡◌, ◌++◌, ◌+◌, [], None, OnOk, IfOk, IfErr, length, nat_lt};
+ghost use Rattle.std.specs.Prelude.{◌≡◌, ◌++◌, ◌+◌, ◌≤◌, [], None, OnOk, IfOk, IfErr, length, nat_lt};
 ghost use Rattle.frame_records.specs.declared.limits.TheConstants.{MOST_LISTED};
 ghost use Rattle.screen_files.specs.Settling.{Ascend, IsSettled};
 ghost use Rattle.screen_files.specs.Album as spec;
 
 use crate::filed::Filed;
+use crate::routes::Known;
 use crate::settling::{Settled, settle};
 use crate::texts::{push_entry, push_frame};
 use base_text::MOST_TEXT;
@@ -66,7 +67,8 @@ impl Album {
 
     /// Adds frames. After a fault the album is as it was.
     pub fn add(&mut self, frames: &[Filed]) -> Result<(), AddFault>
-        ensures { spec.AreFramesFiled self.old self.new frames.now result }
+        ensures filed { spec.AreFramesFiled self.old self.new frames.now result }
+        ensures within { OnOk result (length self.new ≤ MOST_LISTED) }
     {
         if self.is_over(frames.len()) {
             return Err(AddFault::TooMany);
@@ -112,21 +114,26 @@ fn leads_on(id: FrameId, rest: &[Filed]) -> bool
 }
 
 // Writes a frame that comes before these.
-fn push_filed(out: &mut Vec<u8>, filed: &Filed, rest: &[Filed]) -> Result<(), AllocError>
-    ensures { OnOk result (out.new.items ≡ out.old.items ++ spec.filed_lines filed.now rest.now) }
+fn push_filed(
+    out: &mut Vec<u8>,
+    known: &Known,
+    filed: &Filed,
+    rest: &[Filed],
+) -> Result<(), AllocError>
+    ensures { OnOk result (out.new.items ≡ out.old.items ++ spec.filed_lines known.now filed.now rest.now) }
 {
-    push_frame(out, &filed.frame, leads_on(filed.frame.id, rest))
+    push_frame(out, known, &filed.frame, leads_on(filed.frame.id, rest))
 }
 
 /// Writes frames as [`base_text`] does, up to the first that ends after the most bytes that a base may have; its file is in the fault.
-pub fn push_frames(out: &mut Vec<u8>, frames: &[Filed]) -> Result<(), BaseTextFault>
-    ensures text { OnOk result (out.new.items ≡ out.old.items ++ spec.frames_text frames.now) }
-    ensures within { OnOk result (spec.first_over (length out.old.items) frames.now ≡ None) }
-    ensures fault { IfErr result (spec.IsNoText (spec.first_over (length out.old.items) frames.now)) }
+pub fn push_frames(out: &mut Vec<u8>, known: &Known, frames: &[Filed]) -> Result<(), BaseTextFault>
+    ensures text { OnOk result (out.new.items ≡ out.old.items ++ spec.frames_text known.now frames.now) }
+    ensures within { OnOk result (spec.first_over known.now (length out.old.items) frames.now ≡ None) }
+    ensures fault { IfErr result (spec.IsNoText (spec.first_over known.now (length out.old.items) frames.now)) }
 {
     let mut rest = frames;
     while let Some((filed, more)) = rest.split_first() {
-        match push_filed(out, filed, more) {
+        match push_filed(out, known, filed, more) {
             Ok(()) => {}
             Err(_) => return Err(BaseTextFault::Memory),
         }
@@ -142,30 +149,36 @@ pub fn push_frames(out: &mut Vec<u8>, frames: &[Filed]) -> Result<(), BaseTextFa
 fn frames_text(
     alloc: Global,
     asked: Option<PageNo>,
+    guesses: bool,
     frames: &[Filed],
 ) -> Result<Vec<u8>, BaseTextFault>
     requires { Ascend frames.now }
-    ensures text { IfOk result (λ text. spec.IsBaseText asked frames.now text.items) }
-    ensures fault { IfErr result (spec.IsNoText (spec.over_most asked frames.now)) }
+    ensures text { IfOk result (λ text. spec.IsBaseText asked guesses frames.now text.items) }
+    ensures fault { IfErr result (spec.IsNoBaseText asked guesses frames.now) }
 {
+    let Ok(known) = Known::of(alloc, guesses, frames) else {
+        return Err(BaseTextFault::Memory);
+    };
     let mut out = Vec::new(alloc);
     let Some(first) = frames.first() else {
         return Ok(out);
     };
     push_entry(&mut out, asked.unwrap_or(first.frame.id.page)).map_err(|_| BaseTextFault::Memory)?;
-    push_frames(&mut out, frames)?;
+    push_frames(&mut out, &known, frames)?;
     Ok(out)
 }
 
 /// The text of the base of some frames: no frames make no text. The entry page is the one that is asked for, else that of the first
-/// frame. A frame has `next` if the one after it has the following letter.
+/// frame. A frame has `next` if the one after it has the following letter. If routes are guessed, it has those to frames of the base that
+/// the numbers of their pages suggest.
 pub fn base_text(
     alloc: Global,
     asked: Option<PageNo>,
+    guesses: bool,
     settled: &Settled,
 ) -> Result<Vec<u8>, BaseTextFault>
-    ensures text { IfOk result (λ text. spec.IsBaseText asked settled.now.frames text.items) }
-    ensures fault { IfErr result (spec.IsNoText (spec.over_most asked settled.now.frames)) }
+    ensures text { IfOk result (λ text. spec.IsBaseText asked guesses settled.now.frames text.items) }
+    ensures fault { IfErr result (spec.IsNoBaseText asked guesses settled.now.frames) }
 {
-    frames_text(alloc, asked, settled.frames())
+    frames_text(alloc, asked, guesses, settled.frames())
 }

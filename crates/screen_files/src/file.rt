@@ -10,15 +10,15 @@ use crate::codes::{begins_ep1, saved_codes};
 use crate::filed::{Filed, Origin, ScreenPlace};
 use crate::frame::ScreenFrame;
 use crate::head::{name_id, screen_head};
-use crate::linked::found_links;
 use crate::settling::{Settled, settle};
-use screen_forms::{AddressFault, has_address};
+use crate::text_screens::{found_links, found_pages};
+use screen_forms::{FaultyLine, has_address, is_sheet};
 use std::alloc::{AllocError, Global};
 
 /// What a file holds.
 #[derive(Debug, Clone, Copy, PartialEq, Eq)]
 pub enum FileKind {
-    /// The cells of a screen, or addresses that hold screens.
+    /// The cells of a screen, or a text with screens: TTI, or addresses.
     Cells,
     /// What a centre sent: a capture of screens.
     Stream,
@@ -38,10 +38,10 @@ pub enum ScreenFault {
     Size(usize),
     /// Neither the name of the file nor row 0 has a frame's id.
     NoId,
-    /// The address in this line has no id beside it, row 0 shows none, and no other gives one.
+    /// The screen of this line has no id: none is beside an address, row 0 shows none, and no other gives one.
     NoIdAt(usize),
-    /// What is wrong with an address.
-    Address(AddressFault),
+    /// What is wrong with a line of a text.
+    Text(FaultyLine),
     /// It has more than 65,535 screens.
     TooManyScreens,
 }
@@ -267,13 +267,13 @@ fn is_link_text(bytes: &[u8]) -> bool
 }
 
 // The frames of a screen of the right size, else of addresses.
-fn found_saved(
+fn found_sized(
     alloc: Global,
     path: &str,
     file: usize,
     bytes: &[u8],
 ) -> Result<FoundScreens, FramesFault>
-    ensures { loops.IsFound (spec.found_saved path.now file bytes.now) result }
+    ensures { loops.IsFound (spec.found_sized path.now file bytes.now) result }
 {
     if saved_codes(bytes).is_none() && is_link_text(bytes) {
         return found_links(alloc, path, file, bytes);
@@ -283,6 +283,21 @@ fn found_saved(
         place: ScreenPlace::Whole,
     };
     found_one(alloc, origin, Vec::new(alloc), &saved_frame(path, bytes))
+}
+
+// The frames of TTI, else those of the other forms.
+fn found_saved(
+    alloc: Global,
+    path: &str,
+    file: usize,
+    bytes: &[u8],
+) -> Result<FoundScreens, FramesFault>
+    ensures { loops.IsFound (spec.found_saved path.now file bytes.now) result }
+{
+    if is_sheet(bytes) {
+        return found_pages(alloc, path, file, bytes);
+    }
+    found_sized(alloc, path, file, bytes)
 }
 
 fn found_in(
@@ -305,10 +320,11 @@ fn found_in(
 
 /// The frames of a file of these bytes, or why it gives none. `file` is the number that they are filed under.
 ///
-/// A saved screen gives one frame, of the id in the file's name, else of the one that row 0 shows. A text with addresses of edit.tf gives
-/// one for each, of the id beside it, else of the one in the name of a file of one, in row 0 or in its page number. So does a capture of one screen, and
-/// one of several if none shows an id: its last one. Else each screen of a capture gives the frame whose id its row 0 shows, and those
-/// without are left out. The price is the one of row 0.
+/// A saved screen gives one frame, of the id in the file's name, else of the one that row 0 shows. A text with addresses of edit.tf, or
+/// of the form TTI, gives one for each screen: of the id beside an address, else of the one in the name of a file of one, in row 0 or
+/// in its page number. A capture of one screen gives the frame of that screen, and one of several, if none shows an id, that of its last
+/// one. Else each screen of a capture gives the frame whose id its row 0 shows, and those without are left out. The price is the one of
+/// row 0.
 pub fn file_frames(
     alloc: Global,
     kind: FileKind,

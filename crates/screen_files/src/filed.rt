@@ -8,7 +8,7 @@ pub enum ScreenPlace {
     Whole,
     /// The offset at which a screen of a capture begins.
     Byte(usize),
-    /// The line of an address, from 1.
+    /// The line of an address, or in which a page begins, from 1.
     Line(usize),
 }
 

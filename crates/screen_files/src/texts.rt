@@ -1,6 +1,6 @@
 //! The text of a base.
 
-ghost use Rattle.std.specs.Prelude.{◌≡◌, ◌++◌, ◌∷◌, [], ◌<◌, ◌/◌, ◌%◌, ◌*◌, OnOk, codes, drop, map, take};
+ghost use Rattle.std.specs.Prelude.{◌≡◌, ◌++◌, ◌∷◌, [], ◌<◌, ◌/◌, ◌%◌, ◌*◌, OnOk, codes, drop, if◌then◌else◌, map, take};
 ghost use Rattle.std.specs.List.{flat_map};
 ghost use Rattle.page_ids.specs.Texts.{hex_digit};
 ghost use Rattle.screen_files.specs.Rows.{rows_of};
@@ -8,6 +8,7 @@ ghost use Rattle.screen_files.specs.Texts as spec;
 
 use crate::frame::ScreenFrame;
 use crate::keys::shows_key;
+use crate::routes::{Known, push_guesses};
 use crate::rows::{last_row, row_copy, row_of, trimmed};
 use arrayvec::ArrayVec;
 use frame_records::Pence;
@@ -152,12 +153,35 @@ fn push_keys(out: &mut Vec<u8>, keys: &[u8]) -> Result<(), AllocError>
     out.extend_from_slice(keys)
 }
 
-#[tactic(auto, using(std::proofs::Common::append_assoc))]
-fn push_routes(out: &mut Vec<u8>, codes: &[u8; 960]) -> Result<(), AllocError>
-    ensures { OnOk result (out.new.items ≡ out.old.items ++ spec.routes_line codes.now) }
+#[tactic(auto, unfolding(crate::specs::Texts::guessed_label))]
+fn push_guessed_label(out: &mut Vec<u8>) -> Result<(), AllocError>
+    ensures { OnOk result (out.new.items ≡ out.old.items ++ spec.guessed_label) }
 {
-    out.extend_from_slice(b"routes = { }")?;
-    push_keys(out, keys_text(&screen_looks(codes)).as_slice())?;
+    out.extend_from_slice(b" # by its number; keys shown:")
+}
+
+// What comes after the routes, up to the line's end.
+#[tactic(auto, using(std::proofs::Common::append_assoc))]
+fn push_routes_comment(out: &mut Vec<u8>, is_guessed: bool, keys: &[u8]) -> Result<(), AllocError>
+    ensures { OnOk result (out.new.items ≡ out.old.items ++
+        (if is_guessed then spec.guessed_label ++ keys.now else spec.keys_comment keys.now)) }
+{
+    if is_guessed {
+        push_guessed_label(out)?;
+        out.extend_from_slice(keys)
+    } else {
+        push_keys(out, keys)
+    }
+}
+
+fn push_routes(out: &mut Vec<u8>, known: &Known, frame: &ScreenFrame) -> Result<(), AllocError>
+    ensures { OnOk result (out.new.items ≡ out.old.items ++ spec.routes_line known.now frame.now) }
+{
+    let looks = screen_looks(&frame.codes);
+    out.extend_from_slice(b"routes = {")?;
+    let is_guessed = push_guesses(out, known, frame.id.page, &looks)?;
+    out.extend_from_slice(b" }")?;
+    push_routes_comment(out, is_guessed, keys_text(&looks).as_slice())?;
     out.extend_from_slice(b"\n")
 }
 
@@ -204,13 +228,18 @@ fn push_head(out: &mut Vec<u8>, frame: &ScreenFrame, next: bool) -> Result<(), A
 
 /// Writes a frame, from `[[frame]]` on, after an empty line. Its rows are rows 1 to 22 of the screen up to the last that isn't blank,
 /// without the spaces at their ends, one a line. Rows 0 and 23, if they aren't blank, and the digits that begin words are
-/// comments. `next` says whether the key `#` leads on.
+/// comments. Routes are guessed if they lead to a known frame. `next` says whether the key `#` leads on.
 #[tactic(auto, using(std::proofs::Common::append_assoc))]
-pub fn push_frame(out: &mut Vec<u8>, frame: &ScreenFrame, next: bool) -> Result<(), AllocError>
-    ensures { OnOk result (out.new.items ≡ out.old.items ++ spec.frame_lines frame.now next) }
+pub fn push_frame(
+    out: &mut Vec<u8>,
+    known: &Known,
+    frame: &ScreenFrame,
+    next: bool,
+) -> Result<(), AllocError>
+    ensures { OnOk result (out.new.items ≡ out.old.items ++ spec.frame_lines known.now frame.now next) }
 {
     push_head(out, frame, next)?;
-    push_routes(out, &frame.codes)?;
+    push_routes(out, known, frame)?;
     push_rows(out, &frame.codes)?;
     push_row_comment(out, &frame.codes, 23)
 }

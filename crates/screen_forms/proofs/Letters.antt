@@ -31,7 +31,7 @@ stored_back c is = by (nat_lt (c % 128) 32) refl where
   by true e = rw e (grind (arith, nat_tests, e, is.0, is.1))
   by false e = high e (nat_lt (c % 128) 160) refl
 
-all_back : (codes : List ℕ) → All IsCode codes → map stored_code (map low_bits codes) ≡ codes
+pub all_back : (codes : List ℕ) → All IsCode codes → map stored_code (map low_bits codes) ≡ codes
 all_back [] are = refl
 all_back (c ∷ cs) are =
     rw (stored_back c (All-head IsCode c cs are), all_back cs (All-tail IsCode c cs are)) refl

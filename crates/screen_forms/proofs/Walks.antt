@@ -2,13 +2,14 @@
 use Rattle.std.proofs.Common.{◌≡◌, ◌∙◌, ◌<◌, ◌≤◌, ◌+◌, ◌-◌, ℕ, zero, suc, Some, None, Result, Ok, Err, true, false, List, [], ◌∷◌, refl, sym, ap, subst, drop, get_or, length, arith}
 use Rattle.std.proofs.lemmas.List.{append-nil, drop_more, drop_all}
 use Rattle.screen_forms.specs.Words.{is_between_words, word_end, word_start}
-use Rattle.screen_forms.specs.declared.addresses.LinkedScreen.{LinkedScreen}
-use Rattle.screen_forms.specs.declared.addresses.AddressFault.{AddressFault}
-use Rattle.screen_forms.specs.declared.addresses.LinksFault.{LinksFault}
-use Rattle.screen_forms.specs.declared.addresses.LinksFault.TheVariants.{Line, Memory}
+use Rattle.screen_forms.specs.declared.text_screens.TextScreen.{TextScreen}
+use Rattle.screen_forms.specs.declared.text_screens.FaultyLine.{FaultyLine}
+use Rattle.screen_forms.specs.declared.text_screens.TextScreensFault.{TextScreensFault}
+use Rattle.screen_forms.specs.declared.text_screens.TextScreensFault.TheVariants.{Line, Memory}
 use Rattle.screen_forms.specs.Loops.{IsLineAdded, after_screens}
 use Rattle.screen_forms.specs.Links.{is_link_letter}
-use Rattle.screen_forms.specs.Addresses.{AreLinkedScreens, field_id, is_mark, is_number_field, letters_from, line_screen, lines_screens, mark_from, number_among, then_screens}
+use Rattle.screen_forms.specs.TextScreens.{AreTextScreens}
+use Rattle.screen_forms.specs.Addresses.{field_id, is_mark, is_number_field, letters_from, line_screen, lines_screens, mark_from, number_among, then_screens}
 
 pub start_none : (text : List ℕ) → word_start text 0 ≡ 0
 unfolding word_start
@@ -123,13 +124,13 @@ line_last line all l e = rw e refl
 
 -- Lines that are read.
 
-pub fault_in : (line : ℕ) (old new : List LinkedScreen) (all : List (List ℕ)) (l : List ℕ) (ls : List (List ℕ)) (whole : Result (List LinkedScreen) AddressFault) (fault : LinksFault)
-    → IsLineAdded line old new (line_screen line l) (Err fault) → after_screens old (lines_screens line all) ≡ whole → all ≡ l ∷ ls → AreLinkedScreens whole (Err fault)
+pub fault_in : (line : ℕ) (old new : List TextScreen) (all : List (List ℕ)) (l : List ℕ) (ls : List (List ℕ)) (whole : Result (List TextScreen) FaultyLine) (fault : TextScreensFault)
+    → IsLineAdded line old new (line_screen line l) (Err fault) → after_screens old (lines_screens line all) ≡ whole → all ≡ l ∷ ls → AreTextScreens whole (Err fault)
 fault_in line old new all l ls whole (Line f) added e parts =
     sym e ∙ ap (λ m. after_screens old m) (line_first line all l ls parts) ∙ added (lines_screens (line + 1) ls)
 fault_in line old new all l ls whole Memory added e parts = tt
 
-pub screens_in : (line : ℕ) (old new : List LinkedScreen) (all : List (List ℕ)) (l : List ℕ) (whole : Result (List LinkedScreen) AddressFault) (u : Unit {0})
+pub screens_in : (line : ℕ) (old new : List TextScreen) (all : List (List ℕ)) (l : List ℕ) (whole : Result (List TextScreen) FaultyLine) (u : Unit {0})
     → IsLineAdded line old new (line_screen line l) (Ok u) → after_screens old (lines_screens line all) ≡ whole → all ≡ l ∷ [] → whole ≡ Ok new
 screens_in line old new all l whole u added e parts =
-    sym e ∙ ap (λ m. after_screens old m) (line_last line all l parts) ∙ added (Ok []) ∙ ap (λ (ss : List LinkedScreen). let r : Result (List LinkedScreen) AddressFault = Ok ss in r) (append-nil new)
+    sym e ∙ ap (λ m. after_screens old m) (line_last line all l parts) ∙ added (Ok []) ∙ ap (λ (ss : List TextScreen). let r : Result (List TextScreen) FaultyLine = Ok ss in r) (append-nil new)

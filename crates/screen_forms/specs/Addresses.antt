@@ -1,17 +1,15 @@
 -- Addresses of edit.tf among the lines of a text.
-use Rattle.std.specs.Prelude.{◌≡◌, ℕ, Bool, List, [], ◌∷◌, Option, Some, None, Result, Ok, Err, Vec, ◌+◌, ◌==◌, ◌&&◌, ◌||◌, drop, get_or, nat_le, take, if◌then◌else◌}
+use Rattle.std.specs.Prelude.{ℕ, Bool, List, [], ◌∷◌, Option, Some, None, Result, Ok, Err, ◌+◌, ◌==◌, ◌&&◌, ◌||◌, drop, get_or, nat_le, take, if◌then◌else◌}
 use Rattle.std.specs.Option.{is_some}
 use Rattle.page_ids.specs.Ids.{Id}
 use Rattle.page_ids.specs.Parts.{parts_of}
 use Rattle.screen_forms.specs.Links.{is_link_letter, link_codes}
 use Rattle.screen_forms.specs.Words.{any_case_id, is_digit_byte, number_id, word_before}
-use Rattle.screen_forms.specs.declared.addresses.LinkedScreen.{LinkedScreen}
-use Rattle.screen_forms.specs.declared.addresses.LinkFault.{LinkFault}
-use Rattle.screen_forms.specs.declared.addresses.LinkFault.TheVariants.{Letters, Two}
-use Rattle.screen_forms.specs.declared.addresses.AddressFault.{AddressFault}
-use Rattle.screen_forms.specs.declared.addresses.LinksFault.{LinksFault}
-use Rattle.screen_forms.specs.declared.addresses.LinksFault.TheVariants.{Line, Memory}
-use Rattle.std.specs.declared.alloc.Global.{Global}
+use Rattle.screen_forms.specs.declared.text_screens.TextScreen.{TextScreen}
+use Rattle.screen_forms.specs.declared.text_screens.TextLineFault.{TextLineFault}
+use Rattle.screen_forms.specs.declared.text_screens.TextLineFault.TheVariants.{Letters, Two}
+use Rattle.screen_forms.specs.declared.text_screens.FaultyLine.{FaultyLine}
+use Rattle.screen_forms.specs.TextScreens.{after_byte_mark}
 
 -- `A` to `F` are 65 to 70, `a` to `f` 97 to 102
 abbrev pub is_hex_digit : ℕ → Bool
@@ -58,53 +56,40 @@ field_number text = number_among (parts_of 58 text)
 
 -- The screen of a line.
 
-abbrev pub linked_by : ℕ → List ℕ → List ℕ → Option (List ℕ) → Result (Option LinkedScreen) LinkFault
+abbrev pub linked_by : ℕ → List ℕ → List ℕ → Option (List ℕ) → Result (Option TextScreen) TextLineFault
 linked_by line before after None = Err (Letters (letters_from 0 after))
 linked_by line before after (Some codes) =
     Ok (Some (record { line = line; beside = any_case_id (word_before before); number = field_number (after_letters after); codes = codes }))
 
 -- before and after a mark
-abbrev pub linked_screen : ℕ → List ℕ → List ℕ → Result (Option LinkedScreen) LinkFault
+abbrev pub linked_screen : ℕ → List ℕ → List ℕ → Result (Option TextScreen) TextLineFault
 linked_screen line before after =
     if is_some (address_at after) then Err Two else linked_by line before after (link_codes (first_letters after))
 
-abbrev pub linked_at : ℕ → List ℕ → Option ℕ → Result (Option LinkedScreen) LinkFault
+abbrev pub linked_at : ℕ → List ℕ → Option ℕ → Result (Option TextScreen) TextLineFault
 linked_at line text None = Ok None
 linked_at line text (Some at) = linked_screen line (take at text) (drop (at + 3) text)
 
 -- the screen of a line, if it has an address
-abbrev pub line_screen : ℕ → List ℕ → Result (Option LinkedScreen) LinkFault
+abbrev pub line_screen : ℕ → List ℕ → Result (Option TextScreen) TextLineFault
 line_screen line text = linked_at line text (address_at text)
 
 -- The screens of a text.
 
-abbrev pub onto_screens : Option LinkedScreen → Result (List LinkedScreen) AddressFault → Result (List LinkedScreen) AddressFault
+abbrev pub onto_screens : Option TextScreen → Result (List TextScreen) FaultyLine → Result (List TextScreen) FaultyLine
 onto_screens s (Err fault) = Err fault
 onto_screens None (Ok more) = Ok more
 onto_screens (Some s) (Ok more) = Ok (s ∷ more)
 
-abbrev pub then_screens : ℕ → Result (Option LinkedScreen) LinkFault → Result (List LinkedScreen) AddressFault → Result (List LinkedScreen) AddressFault
+abbrev pub then_screens : ℕ → Result (Option TextScreen) TextLineFault → Result (List TextScreen) FaultyLine → Result (List TextScreen) FaultyLine
 then_screens line (Err fault) more = Err (record { line = line; fault = fault })
 then_screens line (Ok s) more = onto_screens s more
 
 -- those of lines, the first of which has this number; a fault is that of the first line at fault
-unfoldable pub lines_screens : ℕ → List (List ℕ) → Result (List LinkedScreen) AddressFault
+unfoldable pub lines_screens : ℕ → List (List ℕ) → Result (List TextScreen) FaultyLine
 lines_screens line [] = Ok []
 lines_screens line (l ∷ ls) = then_screens line (line_screen line l) (lines_screens (line + 1) ls)
 
--- a byte order mark: EF BB BF
-abbrev pub has_byte_mark : List ℕ → Bool
-has_byte_mark text = get_or text 0 0 == 0xEF && get_or text 1 0 == 0xBB && get_or text 2 0 == 0xBF
-
-abbrev pub after_byte_mark : List ℕ → List ℕ
-after_byte_mark text = if has_byte_mark text then drop 3 text else text
-
 -- those of a text's lines, between line ends (10)
-abbrev pub linked_screens : List ℕ → Result (List LinkedScreen) AddressFault
+abbrev pub linked_screens : List ℕ → Result (List TextScreen) FaultyLine
 linked_screens text = lines_screens 1 (parts_of 10 (after_byte_mark text))
-
--- the screens of a text, or its first fault
-abbrev pub AreLinkedScreens : Result (List LinkedScreen) AddressFault → Result (Vec LinkedScreen Global) LinksFault → Type 0
-AreLinkedScreens found (Ok screens) = found ≡ Ok screens.items
-AreLinkedScreens found (Err (Line fault)) = found ≡ Err fault
-AreLinkedScreens found (Err Memory) = Unit {0}

@@ -1,7 +1,9 @@
 pub mod Bits
 pub mod Words
 pub mod Links
+pub mod TextScreens
 pub mod Addresses
+pub mod Sheets
 pub mod Forms
 pub mod Laws
 pub mod Loops

@@ -1,25 +1,37 @@
 -- What functions that aren't exported say. No promise rests on it.
 use Rattle.std.specs.Prelude.{◌≡◌, ℕ, List, [], ◌∷◌, ◌++◌, Option, Result, Ok, Err, get_or}
 use Rattle.screen_forms.specs.Addresses.{then_screens}
+use Rattle.screen_forms.specs.Sheets.{Sheet}
+use Rattle.screen_forms.specs.declared.sheets.SheetReader.{SheetReader}
 use Rattle.screen_forms.specs.Bits.{group_bytes, group_cells}
-use Rattle.screen_forms.specs.declared.addresses.LinkedScreen.{LinkedScreen}
-use Rattle.screen_forms.specs.declared.addresses.LinkFault.{LinkFault}
-use Rattle.screen_forms.specs.declared.addresses.AddressFault.{AddressFault}
-use Rattle.screen_forms.specs.declared.addresses.LinksFault.{LinksFault}
-use Rattle.screen_forms.specs.declared.addresses.LinksFault.TheVariants.{Line, Memory}
+use Rattle.screen_forms.specs.declared.text_screens.TextScreen.{TextScreen}
+use Rattle.screen_forms.specs.declared.text_screens.TextLineFault.{TextLineFault}
+use Rattle.screen_forms.specs.declared.text_screens.FaultyLine.{FaultyLine}
+use Rattle.screen_forms.specs.declared.text_screens.TextScreensFault.{TextScreensFault}
+use Rattle.screen_forms.specs.declared.text_screens.TextScreensFault.TheVariants.{Line, Memory}
 
 -- screens, then those of the lines that are left, or their fault
-abbrev pub after_screens : List LinkedScreen → Result (List LinkedScreen) AddressFault → Result (List LinkedScreen) AddressFault
+abbrev pub after_screens : List TextScreen → Result (List TextScreen) FaultyLine → Result (List TextScreen) FaultyLine
 after_screens screens (Err fault) = Err fault
 after_screens screens (Ok more) = Ok (screens ++ more)
 
 -- the screen of a line after others, or its fault; whatever the lines after it give
-abbrev pub IsLineAdded : ℕ → List LinkedScreen → List LinkedScreen → Result (Option LinkedScreen) LinkFault → Result (Unit {0}) LinksFault → Type 0
+abbrev pub IsLineAdded : ℕ → List TextScreen → List TextScreen → Result (Option TextScreen) TextLineFault → Result (Unit {0}) TextScreensFault → Type 0
 IsLineAdded line old new found (Ok _) =
-    (more : Result (List LinkedScreen) AddressFault) → after_screens old (then_screens line found more) ≡ after_screens new more
+    (more : Result (List TextScreen) FaultyLine) → after_screens old (then_screens line found more) ≡ after_screens new more
 IsLineAdded line old new found (Err (Line fault)) =
-    (more : Result (List LinkedScreen) AddressFault) → after_screens old (then_screens line found more) ≡ Err fault
+    (more : Result (List TextScreen) FaultyLine) → after_screens old (then_screens line found more) ≡ Err fault
 IsLineAdded line old new found (Err Memory) = Unit {0}
+
+-- the sheet so far
+abbrev pub sheet_of : SheetReader → Sheet
+sheet_of r = record { done = r.done.items; page = r.page; begun = r.begun }
+
+-- the sheet after lines, or the fault of one
+abbrev pub IsSheetRead : Result Sheet FaultyLine → SheetReader → Result (Unit {0}) TextScreensFault → Type 0
+IsSheetRead found new (Ok _) = found ≡ Ok (sheet_of new)
+IsSheetRead found new (Err (Line fault)) = found ≡ Err fault
+IsSheetRead found new (Err Memory) = Unit {0}
 
 -- the first group of a list
 abbrev pub bytes_of_eight : List ℕ → List ℕ

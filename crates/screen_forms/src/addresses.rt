@@ -3,50 +3,16 @@
 ghost use Rattle.std.specs.Prelude.{◌≡◌, ◌≤◌, ◌+◌, IfOk, IfSome, length, true};
 ghost use Rattle.std.specs.Option.{is_some};
 ghost use Rattle.screen_forms.specs.Addresses as spec;
+ghost use Rattle.screen_forms.specs.TextScreens.{AreTextScreens};
 ghost use Rattle.screen_forms.specs.Loops as loops;
 
 use crate::links::{is_link_letter, link_codes};
+use crate::text_screens::{
+    FaultyLine, TextLineFault, TextScreen, TextScreensFault, after_byte_mark,
+};
 use crate::words::{any_case_id, number_id, word_before};
 use page_ids::{FrameId, cut};
 use std::alloc::{AllocError, Global};
-
-/// The screen of an address.
-#[derive(Debug, Clone, Copy, PartialEq, Eq)]
-pub struct LinkedScreen {
-    /// The line that the address is in, from 1.
-    pub line: usize,
-    /// The id that is the word before the address.
-    pub beside: Option<FrameId>,
-    /// The id by the number of a teletext page, `:PN=mppss`, after the letters.
-    pub number: Option<FrameId>,
-    /// The 960 codes of the screen.
-    pub codes: [u8; 960],
-}
-
-/// What is wrong with a line that has an address.
-#[derive(Debug, Clone, Copy, PartialEq, Eq)]
-pub enum LinkFault {
-    /// There is another address after it.
-    Two,
-    /// No screen has this number of letters.
-    Letters(usize),
-}
-
-/// The first line at fault.
-#[derive(Debug, Clone, Copy, PartialEq, Eq)]
-pub struct AddressFault {
-    /// Its number, from 1.
-    pub line: usize,
-    pub fault: LinkFault,
-}
-
-/// Why there are no screens of a text.
-#[derive(Debug, Clone, Copy, PartialEq, Eq)]
-pub enum LinksFault {
-    Line(AddressFault),
-    /// A growth was refused.
-    Memory,
-}
 
 fn is_hex_digit(byte: u8) -> bool
     ensures { result ≡ spec.is_hex_digit byte }
@@ -137,17 +103,17 @@ fn linked_screen(
     line: usize,
     before: &[u8],
     after: &[u8],
-) -> Result<Result<Option<LinkedScreen>, LinkFault>, AllocError>
+) -> Result<Result<Option<TextScreen>, TextLineFault>, AllocError>
     ensures { IfOk result (λ found. found ≡ spec.linked_screen line before.now after.now) }
 {
     if has_address(after) {
-        return Ok(Err(LinkFault::Two));
+        return Ok(Err(TextLineFault::Two));
     }
     let (letters, rest) = after.split_at(letters_of(after));
     let Some(codes) = link_codes(alloc, letters)? else {
-        return Ok(Err(LinkFault::Letters(letters.len())));
+        return Ok(Err(TextLineFault::Letters(letters.len())));
     };
-    Ok(Ok(Some(LinkedScreen {
+    Ok(Ok(Some(TextScreen {
         line,
         beside: any_case_id(word_before(before)),
         number: field_number(rest),
@@ -160,7 +126,7 @@ fn line_screen(
     alloc: Global,
     line: usize,
     text: &[u8],
-) -> Result<Result<Option<LinkedScreen>, LinkFault>, AllocError>
+) -> Result<Result<Option<TextScreen>, TextLineFault>, AllocError>
     ensures { IfOk result (λ found. found ≡ spec.line_screen line text.now) }
 {
     match address_at(text) {
@@ -172,30 +138,20 @@ fn line_screen(
 // Adds the screen of a line, if it has an address.
 fn push_line(
     alloc: Global,
-    screens: &mut Vec<LinkedScreen>,
+    screens: &mut Vec<TextScreen>,
     line: usize,
     text: &[u8],
-) -> Result<(), LinksFault>
+) -> Result<(), TextScreensFault>
     ensures { loops.IsLineAdded line screens.old.items screens.new.items (spec.line_screen line text.now) result }
 {
     match line_screen(alloc, line, text) {
         Ok(Ok(None)) => Ok(()),
         Ok(Ok(Some(screen))) => match screens.push(screen) {
             Ok(()) => Ok(()),
-            Err(_) => Err(LinksFault::Memory),
+            Err(_) => Err(TextScreensFault::Memory),
         },
-        Ok(Err(fault)) => Err(LinksFault::Line(AddressFault { line, fault })),
-        Err(_) => Err(LinksFault::Memory),
-    }
-}
-
-// The text without a byte order mark.
-fn after_byte_mark(text: &[u8]) -> &[u8]
-    ensures { result.now ≡ spec.after_byte_mark text.now }
-{
-    match text.strip_prefix(b"\xEF\xBB\xBF") {
-        Some(rest) => rest,
-        None => text,
+        Ok(Err(fault)) => Err(TextScreensFault::Line(FaultyLine { line, fault })),
+        Err(_) => Err(TextScreensFault::Memory),
     }
 }
 
@@ -205,8 +161,8 @@ fn after_byte_mark(text: &[u8]) -> &[u8]
 ///
 /// A fault is that of the first line at fault.
 #[tactic(auto, using(crate::proofs::Walks::line_first, crate::proofs::Walks::line_last))]
-pub fn linked_screens(alloc: Global, text: &[u8]) -> Result<Vec<LinkedScreen>, LinksFault>
-    ensures { spec.AreLinkedScreens (spec.linked_screens text.now) result }
+pub fn linked_screens(alloc: Global, text: &[u8]) -> Result<Vec<TextScreen>, TextScreensFault>
+    ensures { AreTextScreens (spec.linked_screens text.now) result }
 {
     let mut screens = Vec::new(alloc);
     let mut line = 1;

@@ -6,6 +6,7 @@ ghost use Rattle.screen_forms.specs.Forms as spec;
 
 use crate::bits::drop_top_bits;
 use crate::links::push_address;
+use crate::sheet_lines::push_tti;
 use page_ids::{FrameId, push_id};
 use std::alloc::{AllocError, Global};
 
@@ -16,6 +17,8 @@ pub enum SavedForm {
     Cells,
     /// EP1: the codes below 80 between 6 bytes and 2.
     Ep1,
+    /// TTI: a line for each of rows 0 to 22 that isn't blank, after the teletext page of the frame.
+    Tti,
     /// A line with the id and an address of edit.tf.
     Link,
 }
@@ -66,6 +69,7 @@ pub fn push_form(
     match form {
         SavedForm::Cells => out.extend_from_slice(codes),
         SavedForm::Ep1 => push_ep1(out, codes),
+        SavedForm::Tti => push_tti(out, id, codes),
         SavedForm::Link => push_link(alloc, out, id, codes),
     }
 }

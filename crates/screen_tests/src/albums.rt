@@ -275,7 +275,7 @@ fn frames_are_in_the_order_of_their_ids(rt: HostRuntime) -> Result<(), Fail> {
     for (filed, file) in settled.frames().iter().zip(files) {
         same(filed.origin.file, file)?;
     }
-    let text = base_text(rt.alloc(), None, &settled).map_err(|_| "text")?;
+    let text = base_text(rt.alloc(), None, false, &settled).map_err(|_| "text")?;
     let wanted = "entry = 9
 
 [[frame]]
@@ -304,8 +304,55 @@ rows = [
 ]
 ";
     same(text.as_slice(), wanted.as_bytes())?;
-    let asked = base_text(rt.alloc(), PageNo::new(7), &settled).map_err(|_| "text")?;
+    let asked = base_text(rt.alloc(), PageNo::new(7), false, &settled).map_err(|_| "text")?;
     same(asked.as_slice().starts_with(b"entry = 7\n"), true)
+}
+
+// A screen that shows digits as keys in row 1, as a file.
+fn keyed(file: usize, id: &str, row: &[u8]) -> Result<Filed, Fail> {
+    let mut filed = filed(file, id, b' ')?;
+    for (at, code) in row.iter().enumerate() {
+        filed.frame.codes[40 + at % 40] = *code;
+    }
+    Ok(filed)
+}
+
+// 0 leads to the page above, another digit to the page below; never to a page that isn't there or has no first frame, or to the same page.
+#[test]
+fn routes_are_guessed_by_numbers(rt: HostRuntime) -> Result<(), Fail> {
+    let frames = [
+        keyed(0, "0a", b"0 1 4 9")?,
+        keyed(1, "4a", b"0 1 2 3 X5")?,
+        keyed(2, "4b", b"1")?,
+        keyed(3, "41a", b"0 7")?,
+        keyed(4, "43b", b"0")?,
+        keyed(5, "45a", b"")?,
+        keyed(6, "999999999a", b"0 9")?,
+    ];
+    let mut album = Album::new(rt.alloc());
+    same(album.add(&frames), Ok(()))?;
+    let settled = album.settle(rt.alloc())?;
+    let text = base_text(rt.alloc(), None, true, &settled).map_err(|_| "text")?;
+    let text = str::from_utf8(text.as_slice()).map_err(|_| "UTF-8")?;
+    let lines = [
+        "routes = { 4 = 4 } # by its number; keys shown: 0 1 4 9",
+        "routes = { 0 = 0, 1 = 41 } # by its number; keys shown: 0 1 2 3",
+        "routes = { 1 = 41 } # by its number; keys shown: 1",
+        "routes = { 0 = 4 } # by its number; keys shown: 0 7",
+        "routes = { 0 = 4 } # by its number; keys shown: 0",
+        "routes = { }",
+        "routes = { } # keys shown: 0 9",
+    ];
+    let mut count = 0usize;
+    for (line, wanted) in text
+        .lines()
+        .filter(|line| line.starts_with("routes"))
+        .zip(lines)
+    {
+        same_in(count, line, wanted)?;
+        count = count.saturating_add(1);
+    }
+    same(count, lines.len())
 }
 
 // Files 0, 2 and 3 have frame 9a. File 1 has frame 8a.
@@ -361,7 +408,7 @@ fn dense_base(alloc: Global, count: usize) -> Result<Result<Vec<u8>, BaseTextFau
         frames.extend_from_slice(&[dense])?;
     }
     let settled = settle(alloc, frames)?;
-    Ok(base_text(alloc, None, &settled))
+    Ok(base_text(alloc, None, false, &settled))
 }
 
 #[test]

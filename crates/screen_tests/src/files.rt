@@ -1,7 +1,7 @@
 use base_text::base_read;
 use frame_records::{Base, Lead, Pence};
 use page_ids::FrameId;
-use screen_files::{ScreenFrame, name_id, push_entry, push_frame, saved_codes, screen_head};
+use screen_files::{Known, ScreenFrame, name_id, push_entry, push_frame, saved_codes, screen_head};
 use std::alloc::Global;
 use std::test::Fail;
 use terminal_codes::{Terminal, lead_bytes};
@@ -269,7 +269,7 @@ fn a_name_may_be_an_id(_rt: HostRuntime) -> Result<(), Fail> {
 fn text_of(alloc: Global, frame: &ScreenFrame, next: bool) -> Result<Vec<u8>, Fail> {
     let mut text = Vec::new(alloc);
     push_entry(&mut text, frame.id.page)?;
-    push_frame(&mut text, frame, next)?;
+    push_frame(&mut text, &Known::of(alloc, false, &[])?, frame, next)?;
     Ok(text)
 }
 

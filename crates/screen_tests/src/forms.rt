@@ -1,7 +1,7 @@
 use crate::files::screen_with;
 use page_ids::FrameId;
 use screen_forms::{
-    AddressFault, LinkFault, LinkedScreen, LinksFault, SavedForm, any_case_id, has_address,
+    FaultyLine, SavedForm, TextLineFault, TextScreen, TextScreensFault, any_case_id, has_address,
     is_link_letter, link_codes, linked_screens, push_address, push_form, stored_code,
 };
 use std::alloc::Global;
@@ -9,7 +9,7 @@ use std::test::Fail;
 use test_support::{same, same_in};
 
 // Row 0 is `478a   5p` at column 31, row 1 a red `HELLO`.
-fn example() -> [u8; 960] {
+pub fn example() -> [u8; 960] {
     let mut screen = screen_with(31, b"478a   5p");
     screen[40] = 0x81;
     screen[41..46].copy_from_slice(b"HELLO");
@@ -89,7 +89,7 @@ fn ids_are_beside_addresses(rt: HostRuntime) -> Result<(), Fail> {
             return Err(Fail::from(before));
         };
         let read = |id: Option<&str>| id.and_then(|id| FrameId::read(id).ok());
-        let wanted = LinkedScreen {
+        let wanted = TextScreen {
             line: 1,
             beside: read(beside),
             number: read(number),
@@ -101,25 +101,25 @@ fn ids_are_beside_addresses(rt: HostRuntime) -> Result<(), Fail> {
 }
 
 // The first fault of a text.
-fn fault_of(alloc: Global, text: &[u8]) -> Option<LinksFault> {
+fn fault_of(alloc: Global, text: &[u8]) -> Option<TextScreensFault> {
     linked_screens(alloc, text).err()
 }
 
 #[test]
 fn the_first_line_at_fault_is_named(rt: HostRuntime) -> Result<(), Fail> {
     let alloc = rt.alloc();
-    let fault = |line: usize, fault: LinkFault| Some(LinksFault::Line(AddressFault {
+    let fault = |line: usize, fault: TextLineFault| Some(TextScreensFault::Line(FaultyLine {
         line,
         fault,
     }));
     same(fault_of(alloc, b"no address\n#1 :\n"), None)?;
     same(
         fault_of(alloc, b"\n4a #1:QIE\n"),
-        fault(2, LinkFault::Letters(3)),
+        fault(2, TextLineFault::Letters(3)),
     )?;
     same(
         fault_of(alloc, b"4a #1:Q#2:\n#0:"),
-        fault(1, LinkFault::Two),
+        fault(1, TextLineFault::Two),
     )?;
     same(has_address(b"a#F:"), true)?;
     same(has_address(b"a#G:"), false)?;

@@ -1,4 +1,4 @@
-//! Tests of `near_words`, `screens`, `screen_forms`, `screen_files`, `frame_screens` and `base_pages`.
+//! Tests of `near_words`, `screens`, `screen_forms`, `screen_files`, `frame_screens`, `import_laws` and `base_pages`.
 #![tactic(auto)]
 
 #[cfg(test)]
@@ -19,5 +19,7 @@ mod notation;
 mod pages;
 #[cfg(test)]
 mod parts;
+#[cfg(test)]
+mod sheets;
 #[cfg(test)]
 mod texts;

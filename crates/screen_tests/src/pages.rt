@@ -7,7 +7,7 @@ use page_ids::PageNo;
 use std::alloc::Global;
 use std::rt::HostRuntime;
 use std::test::Fail;
-use test_support::{FakeSink, same, same_in};
+use test_support::{FakeSink, same};
 
 // Route 1 leads to a frame that keeps what is on the screen, 2 away, 3 to a closed frame, 4 to a missing one.
 const BASE: &str = "

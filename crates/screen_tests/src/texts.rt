@@ -1,5 +1,5 @@
 use page_ids::FrameId;
-use screens::{Looks, Writing, push_ansi, push_svg, push_text, screen_looks};
+use screens::{Looks, Writing, push_ansi, push_picture, push_svg, push_text, screen_looks};
 use std::test::Fail;
 use test_support::{same, same_in};
 
@@ -127,4 +127,46 @@ fn a_touched_cell_is_framed_last(rt: HostRuntime) -> Result<(), Fail> {
         holds(svg_of(&rt, b"A", None)?.as_slice(), b"touched"),
         false,
     )
+}
+
+fn picture_of(rt: &HostRuntime, codes: &[u8]) -> Result<Vec<u8>, Fail> {
+    let mut out = Vec::new(rt.alloc());
+    if let Ok(id) = FrameId::read("478a") {
+        push_picture(&mut out, id, &looks_of(codes))?;
+    }
+    Ok(out)
+}
+
+// Codes of row 1 on, and a part of the picture alone: its text, or the letters of a colour and height.
+const PARTS: [(&[u8], &[u8]); 6] = [
+    (b"<L", b"<title>478a</title>\n<desc>\n&lt;L\n\n"),
+    (
+        b"LL",
+        b"</g>\n<path fill=\"#fff\" d=\"M0 20m2 2h2v12h8v2h-10zM12 20m2 2h2v12h8v2h-10z\"/>\n</svg>\n",
+    ),
+    (
+        &[0x81, 0x4c, 0x86, 0x4c],
+        b"<path fill=\"#f00\" d=\"M12 20m2 2h2v12h8v2h-10z\"/>\n<path fill=\"#0ff\" d=\"M36 20m2 2h2v12h8v2h-10z\"/>\n",
+    ),
+    (
+        &[0x8d, 0x4c],
+        b"<path fill=\"#fff\" d=\"M12 20m2 4h2v16h-2zM12 40m2 0h2v8h8v4h-10z\"/>\n</svg>\n",
+    ),
+    (
+        &[0x88, 0x4c],
+        b" repeatCount=\"indefinite\"/><path fill=\"#fff\" d=\"M12 20m2 2h2v12h8v2h-10z\"/>\n</g>\n</svg>\n",
+    ),
+    (&[0x98, 0x4c], b"</g>\n</svg>\n"),
+];
+
+#[test]
+fn a_picture_alone_has_its_text_and_letters_as_paths(rt: HostRuntime) -> Result<(), Fail> {
+    for (codes, wanted) in PARTS {
+        same_in(
+            codes,
+            holds(picture_of(&rt, codes)?.as_slice(), wanted),
+            true,
+        )?;
+    }
+    same(holds(picture_of(&rt, b"L")?.as_slice(), b"<text"), false)
 }

@@ -7,4 +7,7 @@ pub mod Markups
 pub mod Runs
 pub mod Shows
 pub mod Safe
+pub mod Drawn
+pub mod Letters
+pub mod Rounded
 pub mod Tags

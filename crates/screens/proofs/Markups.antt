@@ -7,9 +7,9 @@ use Rattle.screens.specs.declared.look.Look.{Look}
 use Rattle.screens.specs.declared.layer.Ink.{Ink}
 use Rattle.screens.specs.declared.writing.Writing.TheVariants.{Markup}
 use Rattle.screens.specs.Writing.{written}
-use Rattle.screens.specs.Text.{seen_char}
+use Rattle.screens.specs.Text.{seen_char, text}
 use Rattle.screens.specs.Mosaics.{mosaics_path}
-use Rattle.screens.specs.Svg.{Piece, piece, piece_bytes, markup, newline, corner, svg_extent, fill, flash_begin, group_end, ground, mosaics, letters_tag, letters, svg_begin, svg_title, blocks_begin, texts_begin, touch_mark, svg_foot}
+use Rattle.screens.specs.Svg.{Piece, piece, piece_bytes, markup, newline, corner, svg_extent, fill, flash_begin, group_end, ground, mosaics, letters_tag, letters, svg_begin, svg_title, blocks_begin, texts_begin, touch_mark, svg_foot, screen_path, outlines, svg_text}
 
 pub markup_append : (ps qs : List Piece) → markup (ps ++ qs) ≡ markup ps ++ markup qs
 unfolding markup
@@ -97,3 +97,11 @@ no_touch bs = sym (append-nil bs)
 pub touched_bytes : (p : ℕ) → markup (touch_mark (Some p)) ≡ codes "<rect class=\"touched\"" ++ corner (12 * (p % 40)) (20 * (p / 40)) ++ codes " width=\"12\" height=\"20\" fill=\"none\" stroke=\"#f00\" stroke-width=\"2\"/>\n"
 unfolding touch_mark
 touched_bytes p = closed_bytes (codes "rect class=\"touched\"" ++ corner (12 * (p % 40)) (20 * (p / 40))) (codes " width=\"12\" height=\"20\" fill=\"none\" stroke=\"#f00\" stroke-width=\"2\"/")
+
+pub outlines_bytes : (i : Ink) (rows : List (List Look)) → markup (outlines i rows) ≡ codes "<path" ++ fill i.colour ++ codes " d=\"" ++ screen_path i 0 rows ++ codes "\"/>\n"
+unfolding outlines
+outlines_bytes i rows = closed_bytes (codes "path" ++ fill i.colour ++ codes " d=\"" ++ screen_path i 0 rows) (codes "\"/")
+
+pub text_bytes : (rows : List (List Look)) → markup (svg_text rows) ≡ codes "<desc>" ++ written Markup (text rows) ++ codes "</desc>\n"
+unfolding svg_text
+text_bytes rows = element_bytes (codes "desc") (text rows) (codes "/desc")

@@ -1,5 +1,5 @@
 -- Characters in markup are harmless, and mean themselves.
-use Rattle.std.proofs.Common.{◌≡◌, ℕ, ◌<◌, ◌≤◌, arith, refl, sym, ap, ◌∙◌, Bool, true, false, not, ◌&&◌, List, [], ◌∷◌, ◌++◌, ◌==◌, nat_lt, None}
+use Rattle.std.proofs.Common.{◌≡◌, ℕ, ◌<◌, ◌≤◌, arith, refl, sym, ap, ◌∙◌, Bool, true, false, not, ◌&&◌, ◌||◌, List, [], ◌∷◌, ◌++◌, ◌==◌, nat_lt, None}
 use Rattle.std.specs.List.{list_all}
 use Rattle.std.specs.Char.{encode_utf8}
 use Rattle.std.proofs.lemmas.Bool.{and_parts, cond_both, not-true}
@@ -37,6 +37,10 @@ encode_all p c high own =
     (λ e. cond_both (nat_lt c 2048) _ _ (λ (bs : List ℕ). list_all p bs ≡ true) (λ f. pair_all p _ _ (high _ (omega arith)) (high _ (omega arith)))
     (λ f. cond_both (nat_lt c 65536) _ _ (λ (bs : List ℕ). list_all p bs ≡ true) (λ g. triple_all p _ _ _ (high _ (omega arith)) (high _ (omega arith)) (high _ (omega arith)))
     (λ g. four_all p _ _ _ _ (high _ (omega arith)) (high _ (omega arith)) (high _ (omega arith)) (high _ (omega arith)))))
+
+-- neither `<` nor `>`
+abbrev pub is_inner : ℕ → Bool
+is_inner b = not (b == 0x3C || b == 0x3E)
 
 harmless_high : PassesHigh is_harmless
 harmless_high b h =

@@ -1,5 +1,5 @@
 -- A picture read as markup.
-use Rattle.std.proofs.Common.{◌≡◌, ℕ, ◌+◌, ◌*◌, ◌/◌, ◌%◌, arith, refl, sym, ap, ◌∙◌, Bool, true, false, not, ◌||◌, List, [], ◌∷◌, ◌++◌, ◌==◌, Option, Some, None, codes, decimal, map, length, append_assoc, append-nil}
+use Rattle.std.proofs.Common.{◌≡◌, ℕ, ◌+◌, ◌*◌, ◌/◌, ◌%◌, arith, refl, sym, ap, ◌∙◌, Bool, true, false, ◌||◌, List, [], ◌∷◌, ◌++◌, ◌==◌, Option, Some, None, codes, decimal, map, length, append_assoc, append-nil}
 use Rattle.std.specs.List.{list_all, flat_map}
 use Rattle.std.proofs.lemmas.Bool.{and_parts, cond_both, or_parts}
 use Rattle.std.proofs.lemmas.Bool.Decides.{nat_tests}
@@ -14,6 +14,7 @@ use Rattle.screens.specs.declared.look.Height.{Height}
 use Rattle.screens.specs.declared.look.Look.{Look}
 use Rattle.screens.specs.declared.mosaic.Mosaic.{Mosaic}
 use Rattle.screens.specs.Table.{six}
+use Rattle.screens.specs.Looks.{shown}
 use Rattle.screens.specs.declared.layer.Ink.{Ink}
 use Rattle.screens.specs.declared.layer.Layer.{Layer}
 use Rattle.screens.specs.declared.layer.Layer.TheVariants.{Grounds, Mosaics, Letters}
@@ -22,15 +23,14 @@ use Rattle.screens.specs.declared.mosaics.Third.TheVariants.{Top, Middle, Bottom
 use Rattle.screens.specs.declared.mosaics.Units.{Units}
 use Rattle.screens.specs.declared.writing.Writing.TheVariants.{Markup}
 use Rattle.screens.specs.Writing.{written}
+use Rattle.screens.specs.Outlines.{outline}
 use Rattle.screens.specs.Mosaics.{across, down, bits_of, rectangle, rectangles, part_path, mosaic_path, glyph_path, mosaics_path}
-use Rattle.screens.specs.Svg.{Piece, piece, newline, piece_bytes, markup, attribute, corner, svg_extent, rgb, fill, flash_begin, group_end, flashing, ground, mosaics, stretched, spacing, letters_tag, letters, drawn, drawn_in, first_ink, run_pieces, run_goes_on, row_pieces, layer_pieces, svg_begin, svg_title, blocks_begin, blocks, texts_begin, texts, touch_mark, svg_foot, svg_pieces, svg}
+use Rattle.screens.specs.Svg.{Piece, piece, newline, piece_bytes, markup, attribute, corner, svg_extent, rgb, fill, flash_begin, group_end, flashing, ground, mosaics, stretched, spacing, letters_tag, letters, drawn, drawn_in, first_ink, run_pieces, run_goes_on, row_pieces, layer_pieces, svg_begin, svg_title, blocks_begin, blocks, texts_begin, texts, touch_mark, svg_foot, svg_pieces, svg, ink, char_in, letter_path, letters_path, screen_path, has_ink, outlines, outlines_in, first_colours, last_colours, all_colours, all_outlines, svg_text, picture_pieces, picture}
 use Rattle.screens.specs.Laws.{tags_reading, tags_of, is_harmless, raw}
-use Rattle.screens.proofs.Safe.{all_append, harmless, first_of, rest_of}
+use Rattle.screens.proofs.Rounded.{inner_outline}
+use Rattle.screens.proofs.Safe.{is_inner, all_append, harmless, first_of, rest_of}
 
 -- Tags have no `<` and no `>`.
-
-abbrev pub is_inner : ℕ → Bool
-is_inner b = not (b == 0x3C || b == 0x3E)
 
 abbrev pub Inner : List ℕ → Type 0
 Inner bs = list_all is_inner bs ≡ true
@@ -221,6 +221,64 @@ pub svg_tags : (id : Id) (rows : List (List Look)) (cell : Option ℕ) → Tags 
 svg_tags id rows cell =
     both (svg_begin ++ svg_title id ++ blocks rows ++ texts rows ++ touch_mark cell) svg_foot (both (svg_begin ++ svg_title id ++ blocks rows ++ texts rows) (touch_mark cell) (both (svg_begin ++ svg_title id ++ blocks rows) (texts rows) (both (svg_begin ++ svg_title id) (blocks rows) (both svg_begin (svg_title id) svg_begin_tags (title_tags id)) (blocks_tags rows)) (texts_tags rows)) (touched_tags cell)) foot_tags
 
+-- Those of a picture alone.
+
+inner_letter : (x y : ℕ) (h : Height) (drawn : Option ℕ) → Inner (letter_path x y h drawn)
+inner_letter x y h None = refl
+inner_letter x y h (Some c) =
+    joined (codes "M" ++ decimal x ++ codes " " ++ decimal y) (outline h c) (joined (codes "M" ++ decimal x ++ codes " ") (decimal y) (put_number (codes "M") x (codes " ") refl refl) (inner_decimal y)) (inner_outline h c)
+
+inner_row : (i : Ink) (x y : ℕ) (row : List Look) → Inner (letters_path i x y row)
+inner_row i x y [] = refl
+inner_row i x y (a ∷ rest) =
+    joined (letter_path x y a.height (char_in i (shown a))) (letters_path i (x + 12) y rest) (inner_letter x y a.height (char_in i (shown a))) (inner_row i (x + 12) y rest)
+
+inner_screen : (i : Ink) (r : ℕ) (rows : List (List Look)) → Inner (screen_path i r rows)
+inner_screen i r [] = refl
+inner_screen i r (row ∷ rows) = joined (letters_path i 0 (20 * r) row) (screen_path i (r + 1) rows) (inner_row i 0 (20 * r) row) (inner_screen i (r + 1) rows)
+
+outlines_tags : (i : Ink) (rows : List (List Look)) → Tags (outlines i rows)
+unfolding outlines
+outlines_tags i rows =
+    alone (codes "path" ++ fill i.colour ++ codes " d=\"" ++ screen_path i 0 rows ++ codes "\"/") newline (joined (codes "path" ++ fill i.colour ++ codes " d=\"" ++ screen_path i 0 rows) (codes "\"/") (joined (codes "path" ++ fill i.colour ++ codes " d=\"") (screen_path i 0 rows) (joined (codes "path" ++ fill i.colour) (codes " d=\"") (joined (codes "path") (fill i.colour) refl (inner_fill i.colour)) refl) (inner_screen i 0 rows)) refl)
+
+outlines_in_tags : (i : Ink) (rows : List (List Look)) → Tags (outlines_in i rows)
+unfolding outlines_in
+outlines_in_tags i rows = cond_both (has_ink i rows) _ _ Tags (λ e. flashing_tags i.flash (outlines i rows) (outlines_tags i rows)) (λ e. refl)
+
+first_colours_tags : (flash tall : Bool) (rows : List (List Look)) → Tags (first_colours flash tall rows)
+unfolding first_colours
+first_colours_tags flash tall rows =
+    let of = λ (k : Colour). outlines_in (ink k flash tall) rows in
+    let tags = λ (k : Colour). outlines_in_tags (ink k flash tall) rows in
+    both (of Black ++ of Red ++ of Green) (of Yellow) (both (of Black ++ of Red) (of Green) (both (of Black) (of Red) (tags Black) (tags Red)) (tags Green)) (tags Yellow)
+
+last_colours_tags : (flash tall : Bool) (rows : List (List Look)) → Tags (last_colours flash tall rows)
+unfolding last_colours
+last_colours_tags flash tall rows =
+    let of = λ (k : Colour). outlines_in (ink k flash tall) rows in
+    let tags = λ (k : Colour). outlines_in_tags (ink k flash tall) rows in
+    both (of Blue ++ of Magenta ++ of Cyan) (of White) (both (of Blue ++ of Magenta) (of Cyan) (both (of Blue) (of Magenta) (tags Blue) (tags Magenta)) (tags Cyan)) (tags White)
+
+colours_tags : (flash tall : Bool) (rows : List (List Look)) → Tags (all_colours flash tall rows)
+unfolding all_colours
+colours_tags flash tall rows = both (first_colours flash tall rows) (last_colours flash tall rows) (first_colours_tags flash tall rows) (last_colours_tags flash tall rows)
+
+all_outlines_tags : (rows : List (List Look)) → Tags (all_outlines rows)
+unfolding all_outlines
+all_outlines_tags rows =
+    both (all_colours false false rows ++ all_colours false true rows ++ all_colours true false rows) (all_colours true true rows)
+    (both (all_colours false false rows ++ all_colours false true rows) (all_colours true false rows)
+    (both (all_colours false false rows) (all_colours false true rows) (colours_tags false false rows) (colours_tags false true rows)) (colours_tags true false rows)) (colours_tags true true rows)
+
+text_tags : (rows : List (List Look)) → Tags (svg_text rows)
+unfolding svg_text
+text_tags rows = refl
+
+picture_tags : (id : Id) (rows : List (List Look)) → Tags (picture_pieces id rows)
+picture_tags id rows =
+    both (svg_begin ++ svg_title id ++ svg_text rows ++ blocks rows ++ all_outlines rows) svg_foot (both (svg_begin ++ svg_title id ++ svg_text rows ++ blocks rows) (all_outlines rows) (both (svg_begin ++ svg_title id ++ svg_text rows) (blocks rows) (both (svg_begin ++ svg_title id) (svg_text rows) (both svg_begin (svg_title id) svg_begin_tags (title_tags id)) (text_tags rows)) (blocks_tags rows)) (all_outlines_tags rows)) foot_tags
+
 -- The reader.
 
 in_tag : (tag since front rest : List ℕ) → Inner front → tags_reading true tag since (front ++ 0x3E ∷ rest) ≡ tags_reading false (tag ++ front) [] rest
@@ -274,3 +332,6 @@ reads_all (p ∷ ps) h = reads p ps h
 
 pub svg_reads_back : (id : Id) (rows : List (List Look)) (cell : Option ℕ) → tags_of (svg id rows cell) ≡ map raw (svg_pieces id rows cell)
 svg_reads_back id rows cell = reads_all (svg_pieces id rows cell) (svg_tags id rows cell)
+
+pub picture_reads_back : (id : Id) (rows : List (List Look)) → tags_of (picture id rows) ≡ map raw (picture_pieces id rows)
+picture_reads_back id rows = reads_all (picture_pieces id rows) (picture_tags id rows)

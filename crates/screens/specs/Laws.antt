@@ -1,5 +1,5 @@
 -- What the tables mean for whole rows and screens, and what the texts mean: read back, they are what the cells show.
-use Rattle.std.specs.Prelude.{ℕ, Bool, true, false, List, ◌++◌, ◌≡◌, ◌≢◌, ◌<◌, ◌+◌, ◌-◌, ◌*◌, ◌⊎◌, All, map, get_or, set, if◌then◌else◌, not, [], ◌∷◌, ◌==◌, ◌&&◌, ◌||◌, Option, Some, None, codes, length}
+use Rattle.std.specs.Prelude.{ℕ, Bool, true, false, List, ◌++◌, ◌≡◌, ◌≢◌, ◌<◌, ◌≤◌, ◌+◌, ◌-◌, ◌*◌, ◌⊎◌, All, map, get_or, set, if◌then◌else◌, not, [], ◌∷◌, ◌==◌, ◌&&◌, ◌||◌, Option, Some, None, codes, length}
 use Rattle.screens.specs.declared.look.Colour.TheVariants.{Black, White}
 use Rattle.screens.specs.declared.look.Glyph.{Glyph}
 use Rattle.screens.specs.declared.look.Glyph.TheVariants.{Char, Block}
@@ -13,7 +13,10 @@ use Rattle.page_ids.specs.Ids.{Id}
 use Rattle.screens.specs.declared.writing.Writing.TheVariants.{Plain, Markup}
 use Rattle.screens.specs.Writing.{written}
 use Rattle.screens.specs.Text.{seen_char, line, text}
-use Rattle.screens.specs.Svg.{Piece, piece, svg_pieces, svg}
+use Rattle.screens.specs.Svg.{Piece, piece, svg_pieces, svg, picture_pieces, picture}
+use Rattle.screens.specs.declared.look.Height.{Height}
+use Rattle.screens.specs.Letters.{letter_drawn}
+use Rattle.screens.specs.Outlines.{is_half_dot, half_row, outline, is_outline, is_inside}
 
 -- The looks of a row.
 
@@ -160,6 +163,26 @@ CharactersAreSafe = (cs : List ℕ) → IsSafe cs
 abbrev pub raw : Piece → Piece
 raw p = piece p.tag (written Markup p.chars)
 
--- a picture, read as markup, has the tags that the form writes and no others, with the characters of the cells between them
+-- a picture of an HTML file, read as markup, has the tags that are written and no others, with the characters of the cells between
+-- them
 abbrev pub SvgReadsBack : Type 0
 SvgReadsBack = (id : Id) (rows : List (List Look)) (cell : Option ℕ) → tags_of (svg id rows cell) ≡ map raw (svg_pieces id rows cell)
+
+-- the form `svg` too, with its text
+abbrev pub PictureReadsBack : Type 0
+PictureReadsBack = (id : Id) (rows : List (List Look)) → tags_of (picture id rows) ≡ map raw (picture_pieces id rows)
+
+-- The outlines.
+
+-- of a character at single height, or of one of its halves
+pub record IsRounded (h : Height) (c : ℕ) : Type 0 where
+  -- the outline can be read
+  pub reads : is_outline (outline h c) ≡ true
+  -- a unit of the cell is inside if and only if the dots, rounded, have it
+  pub inside : (x y : ℕ) → x < 12 → y < 20 → is_inside (outline h c) x y ≡ is_half_dot (letter_drawn c).dots x (half_row h y)
+  -- none beside the cell is, and none below it
+  pub beside : (x y : ℕ) → 12 ≤ x → y < 20 → is_inside (outline h c) x y ≡ false
+  pub below : (x y : ℕ) → 20 ≤ y → is_inside (outline h c) x y ≡ false
+
+abbrev pub OutlinesAreRounded : Type 0
+OutlinesAreRounded = (h : Height) (c : ℕ) → IsRounded h c

@@ -4,5 +4,7 @@ pub mod Writing
 pub mod Text
 pub mod Ansi
 pub mod Mosaics
+pub mod Letters
+pub mod Outlines
 pub mod Svg
 pub mod Laws

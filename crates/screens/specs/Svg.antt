@@ -1,6 +1,7 @@
--- The form `svg`. A cell is 12 units wide and 20 high.
+-- Pictures: the form `svg`, and those of an HTML file. A cell is 12 units wide and 20 high.
 use Rattle.std.specs.Prelude.{ℕ, Bool, true, false, List, [], ◌∷◌, ◌++◌, Option, Some, None, codes, decimal, map, length, get_or, ◌+◌, ◌*◌, ◌/◌, ◌%◌, ◌==◌, ◌&&◌, if◌then◌else◌}
-use Rattle.std.specs.List.{flat_map}
+use Rattle.std.specs.List.{flat_map, list_any}
+use Rattle.std.specs.Option.{is_some}
 use Rattle.page_ids.specs.Ids.{Id, frame_text}
 use Rattle.screens.specs.declared.look.Colour.{Colour}
 use Rattle.screens.specs.declared.look.Colour.TheVariants.{Black, Red, Green, Yellow, Blue, Magenta, Cyan, White}
@@ -18,8 +19,9 @@ use Rattle.screens.specs.declared.layer.Layer.{Layer}
 use Rattle.screens.specs.declared.layer.Layer.TheVariants.{Grounds, Mosaics, Letters}
 use Rattle.screens.specs.declared.writing.Writing.TheVariants.{Markup}
 use Rattle.screens.specs.Writing.{written}
-use Rattle.screens.specs.Text.{seen_char}
+use Rattle.screens.specs.Text.{seen_char, text}
 use Rattle.screens.specs.Mosaics.{mosaics_path}
+use Rattle.screens.specs.Outlines.{outline}
 
 -- Markup.
 
@@ -189,7 +191,7 @@ abbrev pub layer_pieces : Layer → ℕ → List (List Look) → List Piece
 layer_pieces layer r [] = []
 layer_pieces layer r (row ∷ rows) = row_pieces layer r 0 [] row ++ layer_pieces layer (r + 1) rows
 
--- The picture.
+-- A picture of an HTML file, with letters as texts.
 
 unfoldable pub svg_begin : List Piece
 svg_begin = piece (codes "svg xmlns=\"http://www.w3.org/2000/svg\" viewBox=\"0 0 480 480\" width=\"600\" height=\"480\" preserveAspectRatio=\"none\"") [] ∷ []
@@ -223,9 +225,88 @@ touch_mark (Some p) =
 unfoldable pub svg_foot : List Piece
 svg_foot = piece (codes "/svg") newline ∷ []
 
--- the picture of a frame's screen, with a cell that is framed or not
+-- of a frame's screen, with a cell that is framed or not
 abbrev pub svg_pieces : Id → List (List Look) → Option ℕ → List Piece
 svg_pieces id rows cell = svg_begin ++ svg_title id ++ blocks rows ++ texts rows ++ touch_mark cell ++ svg_foot
 
 abbrev pub svg : Id → List (List Look) → Option ℕ → List ℕ
 svg id rows cell = markup (svg_pieces id rows cell)
+
+-- The form `svg`, with letters as paths.
+
+abbrev pub is_tall : Height → Bool
+is_tall Single = false
+is_tall Upper = true
+is_tall Lower = true
+
+-- both halves of a letter are of double height
+abbrev pub outline_ink : Look → Ink
+outline_ink a = ink a.foreground a.flash (is_tall a.height)
+
+-- the character that a path in this ink draws of what a cell holds
+abbrev pub char_drawn : Ink → Look → Glyph → Option ℕ
+char_drawn i a (Block m) = None
+char_drawn i a (Char c) = if same_ink (Some i) (Some (outline_ink a)) then Some c else None
+
+abbrev pub char_in : Ink → Shown → Option ℕ
+char_in i (Ground k) = None
+char_in i (All a) = char_drawn i a a.glyph
+
+-- the outline of a character in the cell at x and y
+abbrev pub letter_path : ℕ → ℕ → Height → Option ℕ → List ℕ
+letter_path x y h None = []
+letter_path x y h (Some c) = codes "M" ++ decimal x ++ codes " " ++ decimal y ++ outline h c
+
+-- of neighbouring cells, the first of them at x and y
+abbrev pub letters_path : Ink → ℕ → ℕ → List Look → List ℕ
+letters_path i x y [] = []
+letters_path i x y (a ∷ rest) = letter_path x y a.height (char_in i (shown a)) ++ letters_path i (x + 12) y rest
+
+-- of the rows from row r on
+abbrev pub screen_path : Ink → ℕ → List (List Look) → List ℕ
+screen_path i r [] = []
+screen_path i r (row ∷ rows) = letters_path i 0 (20 * r) row ++ screen_path i (r + 1) rows
+
+-- letters in this ink are in some cell
+abbrev pub row_has_ink : Ink → List Look → Bool
+row_has_ink i row = list_any (λ a. is_some (char_in i (shown a))) row
+
+abbrev pub has_ink : Ink → List (List Look) → Bool
+has_ink i rows = list_any (row_has_ink i) rows
+
+unfoldable pub outlines : Ink → List (List Look) → List Piece
+outlines i rows = piece (codes "path" ++ fill i.colour ++ codes " d=\"" ++ screen_path i 0 rows ++ codes "\"/") newline ∷ []
+
+-- one path for all letters in an ink, if there are any
+unfoldable pub outlines_in : Ink → List (List Look) → List Piece
+outlines_in i rows = if has_ink i rows then flashing i.flash (outlines i rows) else []
+
+unfoldable pub first_colours : Bool → Bool → List (List Look) → List Piece
+first_colours flash tall rows =
+    outlines_in (ink Black flash tall) rows
+    ++ outlines_in (ink Red flash tall) rows
+    ++ outlines_in (ink Green flash tall) rows
+    ++ outlines_in (ink Yellow flash tall) rows
+
+unfoldable pub last_colours : Bool → Bool → List (List Look) → List Piece
+last_colours flash tall rows =
+    outlines_in (ink Blue flash tall) rows
+    ++ outlines_in (ink Magenta flash tall) rows
+    ++ outlines_in (ink Cyan flash tall) rows
+    ++ outlines_in (ink White flash tall) rows
+
+unfoldable pub all_colours : Bool → Bool → List (List Look) → List Piece
+all_colours flash tall rows = first_colours flash tall rows ++ last_colours flash tall rows
+
+unfoldable pub all_outlines : List (List Look) → List Piece
+all_outlines rows = all_colours false false rows ++ all_colours false true rows ++ all_colours true false rows ++ all_colours true true rows
+
+-- the text, for readers that speak
+unfoldable pub svg_text : List (List Look) → List Piece
+svg_text rows = piece (codes "desc") (text rows) ∷ piece (codes "/desc") newline ∷ []
+
+abbrev pub picture_pieces : Id → List (List Look) → List Piece
+picture_pieces id rows = svg_begin ++ svg_title id ++ svg_text rows ++ blocks rows ++ all_outlines rows ++ svg_foot
+
+abbrev pub picture : Id → List (List Look) → List ℕ
+picture id rows = markup (picture_pieces id rows)

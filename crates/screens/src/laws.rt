@@ -1,7 +1,7 @@
 //! Laws: facts about the definitions, which these functions carry and which need no code.
 
 ghost use Rattle.screens.specs.Laws.{EachRowDecides, PlainBefore, CharactersChangeGlyphs, GroundShows, GlyphsAreOfTables};
-ghost use Rattle.screens.specs.Laws.{ColumnsShow, NoSpaceEnds, TextIsItsLines, CharactersAreSafe, SvgReadsBack};
+ghost use Rattle.screens.specs.Laws.{ColumnsShow, NoSpaceEnds, TextIsItsLines, CharactersAreSafe, SvgReadsBack, PictureReadsBack, OutlinesAreRounded};
 
 /// The looks of a row are decided by its own codes, or if the row above covers it by those of that row.
 pub fn each_row_decides()
@@ -45,7 +45,18 @@ pub fn characters_are_safe()
     ensures { CharactersAreSafe }
 {}
 
-/// A picture, read as markup, has the tags that the form writes and no others, with the cells' characters between them.
+/// A picture of an HTML file, read as markup, has the tags that the form writes and no others, with the cells' characters between them.
 pub fn svg_reads_back()
     ensures { SvgReadsBack }
+{}
+
+/// A picture alone, read as markup, has the tags that the form writes and no others, with its id and its text between them.
+pub fn picture_reads_back()
+    ensures { PictureReadsBack }
+{}
+
+/// The outline of each letter, read back, is its dots, rounded: at single height and in both halves of double height a unit of the
+/// cell is inside if and only if the table has it, and no other unit is.
+pub fn outlines_are_rounded()
+    ensures { OutlinesAreRounded }
 {}

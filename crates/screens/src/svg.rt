@@ -1,4 +1,4 @@
-//! The form `svg`.
+//! Pictures of an HTML file, with letters as texts.
 
 ghost use Rattle.std.specs.Prelude.{◌≡◌, ◌++◌, ◌+◌, ◌*◌, ◌<◌, ◌≤◌, [], Some, OnOk, length, map};
 ghost use Rattle.page_ids.specs.Ids.{frame_text};
@@ -19,7 +19,7 @@ use std::alloc::AllocError;
 
 // The tag that begins each picture.
 #[tactic(auto, using(crate::proofs::Markups::svg_begin_bytes))]
-fn svg_begin() -> &'static [u8]
+pub fn svg_begin() -> &'static [u8]
     ensures { result.now ≡ markup spec.svg_begin }
 {
     b"<svg xmlns=\"http://www.w3.org/2000/svg\" viewBox=\"0 0 480 480\" width=\"600\" height=\"480\" preserveAspectRatio=\"none\">"
@@ -43,7 +43,7 @@ fn texts_begin() -> &'static [u8]
 
 // A group of what flashes.
 #[tactic(auto, using(crate::proofs::Markups::flash_begin_bytes))]
-fn flash_begin() -> &'static [u8]
+pub fn flash_begin() -> &'static [u8]
     ensures { result.now ≡ markup spec.flash_begin }
 {
     b"<g class=\"flash\"><animate attributeName=\"visibility\" values=\"visible;hidden\" calcMode=\"discrete\" dur=\"1s\" repeatCount=\"indefinite\"/>"
@@ -96,7 +96,7 @@ fn rgb(colour: Colour) -> &'static [u8]
 }
 
 #[tactic(auto, using(std::proofs::Common::append_assoc), unfolding(crate::specs::Svg::fill))]
-fn push_fill(out: &mut Vec<u8>, colour: Colour) -> Result<(), AllocError>
+pub fn push_fill(out: &mut Vec<u8>, colour: Colour) -> Result<(), AllocError>
     ensures { OnOk result (out.new.items ≡ out.old.items ++ spec.fill colour) }
 {
     out.extend_from_slice(b" fill=\"")?;
@@ -316,7 +316,7 @@ fn push_id(out: &mut Vec<u8>, id: FrameId) -> Result<(), AllocError>
 }
 
 #[tactic(auto, using(std::proofs::Common::append_assoc, crate::proofs::Markups::title_bytes))]
-fn push_title(out: &mut Vec<u8>, id: FrameId) -> Result<(), AllocError>
+pub fn push_title(out: &mut Vec<u8>, id: FrameId) -> Result<(), AllocError>
     ensures { OnOk result (out.new.items ≡ out.old.items ++ markup (spec.svg_title id)) }
 {
     out.extend_from_slice(b"<title>")?;
@@ -326,7 +326,7 @@ fn push_title(out: &mut Vec<u8>, id: FrameId) -> Result<(), AllocError>
 
 // Backgrounds, and mosaics over them.
 #[tactic(auto, using(std::proofs::Common::append_assoc, crate::proofs::Markups::markup_append, crate::proofs::Markups::group_end_bytes))]
-fn push_blocks(out: &mut Vec<u8>, looks: &Looks) -> Result<(), AllocError>
+pub fn push_blocks(out: &mut Vec<u8>, looks: &Looks) -> Result<(), AllocError>
     ensures { OnOk result (out.new.items ≡ out.old.items ++ markup (spec.blocks looks.now)) }
 {
     out.extend_from_slice(blocks_begin())?;
@@ -365,11 +365,11 @@ fn push_touched(out: &mut Vec<u8>, cell: Option<u16>) -> Result<(), AllocError>
     }
 }
 
-/// Writes a picture of the screen of a frame: one `svg` element of 480 by 480 units, stretched to the proportions of a British
-/// screen, with the frame's id as its title.
+/// Writes a picture of the screen of a frame for an HTML file: one `svg` element of 480 by 480 units, stretched to the proportions
+/// of a British screen, with the frame's id as its title.
 ///
-/// Backgrounds and mosaics are rectangles; letters are texts in a font of the system, a run of neighbouring ones each, in
-/// reading order. A cell at a position from 0 to 959 gets a red frame, the last element, of class `touched`.
+/// Backgrounds and mosaics are rectangles; letters are texts, a run of neighbouring ones each, in reading order, in a font that the
+/// file can name. A cell at a position from 0 to 959 gets a red frame, the last element, of class `touched`.
 #[tactic(auto, using(std::proofs::Common::append_assoc, crate::proofs::Markups::markup_append, crate::proofs::Markups::foot_bytes))]
 pub fn push_svg(
     out: &mut Vec<u8>,

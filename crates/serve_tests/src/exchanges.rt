@@ -1,6 +1,6 @@
 //! Calls while other editions are published.
 
-ghost use Rattle.std.specs.Prelude.{◌≡◌, None, false};
+ghost use Rattle.std.specs.Prelude.{None, false};
 
 use crate::line::{Notes, copied};
 use editions::{EditionFile, EditionFolder, StoreFault};

@@ -1,6 +1,6 @@
 //! A folder of one edition, and both ends of a line, of which the source sees what the sink has flushed.
 
-ghost use Rattle.std.specs.Prelude.{◌≡◌, true, false, None, MatchResult};
+ghost use Rattle.std.specs.Prelude.{true, false, None};
 
 use devices::{Broken, Sink, Source};
 use editions::{EditionFile, EditionFolder, StoreFault};

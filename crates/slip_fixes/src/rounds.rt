@@ -1,7 +1,7 @@
 //! Rounds of fixes: each makes all certain fixes of a text's findings, and reads what comes of it.
 
-ghost use Rattle.std.specs.Prelude.{◌≡◌, IfOk, IfSome, option_map};
-ghost use Rattle.slip_fixes.specs.Rounds.{first_fix, end_after, fixes_from, fixes_of, reads_to, reads_further, IsNext, IsFixed};
+ghost use Rattle.std.specs.Prelude.{◌≡◌, IfOk, IfSome};
+ghost use Rattle.slip_fixes.specs.Rounds.{fixes_of, reads_to, reads_further, IsNext, IsFixed};
 ghost use Rattle.slip_fixes.specs.Loops.{IsAdvanced};
 
 use crate::certain::certain_fix;

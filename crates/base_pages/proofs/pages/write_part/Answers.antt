@@ -1,4 +1,4 @@
-use Rattle.std.proofs.Common.{◌≡◌, ◌∙◌, ℕ, List, Option, ap, sym}
+use Rattle.std.proofs.Common.{◌≡◌, ◌∙◌, ℕ, List, Option, ap, sym, subst}
 use Rattle.page_ids.specs.Ids.{Id}
 use Rattle.frame_records.specs.Bases.{BaseView}
 use Rattle.checker.specs.declared.policy.Policy.{Policy}
@@ -6,8 +6,13 @@ use Rattle.fault_scripts.specs.declared.fault.Fault.{Fault}
 use Rattle.base_pages.specs.declared.pages.Prepared.{Prepared}
 use Rattle.base_pages.specs.Sections.{BookView}
 use Rattle.base_pages.specs.Head.{outcome_faults}
-use Rattle.base_pages.specs.Tags.{page_tags}
-use Rattle.base_pages.specs.Pages.{page, IsPage}
+use Rattle.screens.specs.Laws.{tags_of}
+use Rattle.base_pages.specs.Reading.{sections_in}
+use Rattle.base_pages.specs.Pages.{page, book, IsPage}
+use Rattle.base_pages.specs.Links.{NoneFails}
+use Rattle.base_pages.proofs.Certified.{certified_ways_lead}
+use Rattle.base_pages.proofs.Links.{links_lead}
+use Rattle.base_pages.proofs.Files.{has_its_tags, says_what_is_shown}
 use Rattle.base_pages.specs.Loops.{IsFilePrepared, numbers_of, numbered_faults}
 use Rattle.base_pages.proofs.OnTheWay.{fault_of}
 use Rattle.base_pages.proofs.pages.write_part.Goals as goal
@@ -37,12 +42,18 @@ pub returns-in-Ok-write_book : goal.returns-in-Ok-write_book
 returns-in-Ok-write_book g c =
     let p = c.in-Ok.prepared in
     let faults = c.faults_in.result.now in
-    let tags = λ (fs : List Fault). page_tags p.outcome (book_of c.args.name.now c.args.base.now c.args.policy.now c.args.part.now p c.in-Ok.ensures fs) in
+    let is = is_page c.args.name.now c.args.base.now c.args.policy.now c.args.part.now p c.in-Ok.ensures faults c.faults_in.ensures in
+    let b = book c.args.base.now c.args.policy.now c.args.part.now is.found is.outcome in
+    let wrote = c.in-Ok-write_book.ensures in
     record {
       text = written_of c.args.name.now c.args.base.now c.args.policy.now c.args.part.now p c.in-Ok.ensures faults;
-      is = is_page c.args.name.now c.args.base.now c.args.policy.now c.args.part.now p c.in-Ok.ensures faults c.faults_in.ensures;
-      tags = c.in-Ok-write_book.ensures.tags ∙ ap tags c.faults_in.ensures;
-      written = c.in-Ok-write_book.ensures.whole;
+      is = is;
+      tags = ap tags_of is.is ∙ has_its_tags c.args.name.now c.args.policy.now is.outcome b;
+      says = ap sections_in is.is ∙ says_what_is_shown c.args.name.now c.args.policy.now is.outcome b;
+      links = links_lead b wrote.ids;
+      lead = subst (λ (text : List ℕ). NoneFails is.outcome (sections_in text)) (sym is.is)
+          (certified_ways_lead c.args.name.now c.args.base.now c.args.policy.now c.args.part.now is.found is.outcome wrote.valid is.finding is.audited);
+      written = wrote.whole;
     }
 
 pub returns : goal.returns

@@ -1,9 +1,9 @@
 use Rattle.std.proofs.Common.{rules, ◌≡◌, ◌∙◌, ◌+◌, ◌++◌, ◌∷◌, [], sym, ap, subst, drop, arith, append_assoc, refl}
-use Rattle.std.proofs.lemmas.List.{drop_more, drop_all, append-nil}
+use Rattle.std.proofs.lemmas.List.{drop_more, drop_all, take_all, append-nil}
 use Rattle.std.proofs.lemmas.List.Elements.{All-more}
 use Rattle.devices.specs.Devices.{IsOnItsWay}
 use Rattle.base_pages.specs.Sections.{sections}
-use Rattle.base_pages.specs.Tags.{HasLetter}
+use Rattle.base_pages.specs.Tags.{HasId, HaveIds}
 use Rattle.base_pages.specs.Loops.{book_view, IsStopped}
 use Rattle.base_pages.proofs.OnTheWay.{first_section}
 use Rattle.base_pages.proofs.pages.write_sections.Goals as goal
@@ -11,7 +11,7 @@ use Rattle.base_pages.proofs.pages.write_sections.Goals as goal
 pub loop-frame-init : goal.loop-frame-init
 loop-frame-init g c = record {
   unbroken = search rules;
-  letters = search rules;
+  ids = search rules;
   way = λ start before way. (before, way, refl);
 }
 
@@ -34,10 +34,10 @@ returns-in-Err-clause-part g c = λ start before rest way.
 pub loop-frame-preserved : goal.loop-frame-preserved
 loop-frame-preserved g c = record {
   unbroken = search rules;
-  letters =
-      let Has = HasLetter c.args.book.now.part.now in
+  ids =
+      let Has = HasId c.args.book.now.part.now in
       let f = c.frame-item.result in
-      All-more Has c.args.frames.now c.loop-frame.frame-index f (omega arith) c.loop-frame.invariant.letters (subst Has c.frame-item.is c.in-Ok.ensures.letter);
+      All-more Has c.args.frames.now c.loop-frame.frame-index f (omega arith) c.loop-frame.invariant.ids (subst Has c.frame-item.is c.in-Ok.ensures.id);
   way = λ start before way.
       let frames = c.args.frames.now in
       let b = book_view c.args.book.now in
@@ -60,3 +60,6 @@ returns-clause-taken g c = λ start before way.
     let none : drop c.loop-frame.frame-index c.args.frames.now ≡ [] = drop_all c.loop-frame.frame-index c.args.frames.now (omega arith) in
     let whole = sym (append-nil held.0) ∙ ap (λ xs. held.0 ++ sections b xs) (sym none) ∙ held.2 in
     subst (λ xs. IsOnItsWay start (g.S.Sink.seen c.loop-frame.sink) c.loop-frame.kept.items c.loop-frame.wrote xs) whole held.1
+
+pub returns-clause-ids : goal.returns-clause-ids
+returns-clause-ids g c = subst (HaveIds c.args.book.now.part.now) (take_all c.loop-frame.frame-index c.args.frames.now (omega arith)) c.loop-frame.invariant.ids

@@ -1,4 +1,5 @@
 use Rattle.std.proofs.Common.{◌<◌, ◌^◌, option_copied, arith}
+use Rattle.serde_json.specs.View.{view}
 use Rattle.finding_forms.proofs.Printed.{always}
 use Rattle.finding_forms.proofs.Objects.{feeds_object}
 use Rattle.finding_forms.proofs.json_form.push_object_line.Goals as goal
@@ -10,5 +11,5 @@ returns-clause-no_feed c =
     let column : e.column < 2 ^ 64 = omega (arith, c.well_formed) in
     let end_line : e.end_line < 2 ^ 64 = omega (arith, c.well_formed) in
     let end_column : e.end_column < 2 ^ 64 = omega (arith, c.well_formed) in
-    always c.extend_from_slice-2.result
-    (feeds_object c.args.file.now e c.args.level c.args.words.now (option_copied c.args.hint) line column end_line end_column)
+    always c.push_line.result
+    (feeds_object c.args.file.now e c.args.level c.args.words.now (option_copied c.args.hint) (view c.args.fix) line column end_line end_column c.requires.no_feed)

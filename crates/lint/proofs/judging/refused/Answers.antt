@@ -8,5 +8,5 @@ returns-in-Some c =
     let ascends : c.in-Some.range.start ≤ c.in-Some.range.end = omega (arith, range.0, range.1, c.requires.0) in
     let within : c.in-Some.range.end ≤ length c.args.text.now = omega (arith, range.1, c.requires.1) in
     weaken c.not_toml.result
-    (λ fs is. (record { begin = c.in-Some.range.start; end = c.in-Some.range.end }, c.message.result.now, record { ascends = ascends; within = within }, is))
+    (λ fs is. (c.cause_span-cause.result, c.message-message.result.now, record { ascends = c.cause_span-cause.ensures.ascends ascends; within = c.cause_span-cause.ensures.within within }, is))
     c.not_toml.ensures

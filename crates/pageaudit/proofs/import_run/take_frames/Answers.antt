@@ -8,7 +8,7 @@ use Rattle.pageaudit.proofs.import_run.take_frames.Goals as goal
 pub returns-in-Err-TooMany : goal.returns-in-Err-TooMany
 returns-in-Err-TooMany g c =
     let refused : AreFramesFiled c.args.album.now c.add.new.self c.frames.result.now (Err TooMany) =
-    subst (λ (fault : AddFault). AreFramesFiled c.args.album.now c.add.new.self c.frames.result.now (Err fault)) c.in-Err-TooMany.field-0-is c.in-Err-TooMany.ensures in (
+    subst (λ (fault : AddFault). AreFramesFiled c.args.album.now c.add.new.self c.frames.result.now (Err fault)) c.in-Err-TooMany.field-0-is c.in-Err-TooMany.ensures.filed in (
       refused.0,
       record {
         found = c.in-Ok-find.found;

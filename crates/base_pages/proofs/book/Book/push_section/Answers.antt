@@ -1,8 +1,9 @@
-use Rattle.std.proofs.Common.{◌≡◌, ◌∙◌, ◌++◌, ℕ, Bool, List, ap, subst, is_some}
+use Rattle.std.proofs.Common.{◌≡◌, ◌∙◌, ◌++◌, ℕ, Bool, List, ap, subst}
 use Rattle.std.specs.Prelude.{OnOk}
 use Rattle.frame_records.specs.Bases.{BaseView}
 use Rattle.fault_scripts.specs.declared.fault.Fault.{Fault}
 use Rattle.screens.specs.Looks.{looks}
+use Rattle.screens.specs.Svg.{Piece, markup}
 use Rattle.frame_screens.specs.Frames.{place_of, way_by}
 use Rattle.frame_screens.specs.Screens.{screen_codes}
 use Rattle.base_pages.specs.Faults.{faults_about}
@@ -30,4 +31,4 @@ returns-clause-text c =
     ap (λ (fs : List Fault). shaped caller base part f fs (looks c.in_ok-codes.codes) c.is_reached-is_reached.result) about
     ∙ ap (λ (cells : List ℕ). shaped caller base part f (faults_about all f.id) (looks cells) c.is_reached-is_reached.result) codes
     ∙ ap (λ (r : Bool). shaped caller base part f (faults_about all f.id) (looks (screen_codes base (way_by caller base found f.id place))) r) c.is_reached-is_reached.ensures in
-    subst (λ (text : List ℕ). OnOk c.push_with.result (c.push_with.new.out.items ≡ c.args.out.now.items ++ text)) path c.push_with.ensures.text
+    subst (λ (ps : List Piece). OnOk c.push_with.result (c.push_with.new.out.items ≡ c.args.out.now.items ++ markup ps)) path c.push_with.ensures.text

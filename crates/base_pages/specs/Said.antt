@@ -1,0 +1,76 @@
+-- What the sections of a file say of the frames.
+use Rattle.std.specs.Prelude.{ℕ, List, [], ◌∷◌, ◌++◌, Option, codes, decimal, map, if◌then◌else◌}
+use Rattle.std.specs.List.{flat_map}
+use Rattle.page_ids.specs.Ids.{Id, frame_text, page_text}
+use Rattle.page_ids.specs.declared.key.Key.{Key}
+use Rattle.page_ids.specs.Ways.{way_key, ways}
+use Rattle.frame_records.specs.declared.frame.Frame.{Frame}
+use Rattle.frame_records.specs.declared.frame.Lead.{Lead}
+use Rattle.frame_records.specs.declared.frame.Lead.TheVariants.{Clear, Keep}
+use Rattle.frame_records.specs.declared.ways.Destination.{Destination}
+use Rattle.frame_records.specs.declared.ways.Destination.TheVariants.{NotOffered, Found, Closed, Missing, Outside}
+use Rattle.frame_records.specs.Ways.{destination_of}
+use Rattle.fault_scripts.specs.declared.fault.Fault.{Fault}
+use Rattle.audit_report.specs.ReportLines.{words_as}
+use Rattle.finder.specs.Parts.{part_shows}
+use Rattle.screens.specs.declared.writing.Writing.TheVariants.{Plain}
+use Rattle.screens.specs.Writing.{written}
+use Rattle.screens.specs.Text.{text}
+use Rattle.screens.specs.Svg.{newline}
+use Rattle.base_pages.specs.Ways.{link_attributes, marked_attributes}
+use Rattle.base_pages.specs.Faults.{faults_about}
+use Rattle.base_pages.specs.Screens.{is_reached, screen_of}
+use Rattle.base_pages.specs.Sections.{BookView, section_attributes}
+use Rattle.base_pages.specs.Reading.{Element}
+
+-- an element of a name, attributes and characters, in UTF-8
+abbrev pub said_as : List ℕ → List (List ℕ × List ℕ) → List ℕ → Element
+said_as name attributes chars =
+    record { name = name; attributes = map (λ a. (a.0, written Plain a.1)) attributes; chars = written Plain chars }
+
+abbrev pub link_said : Id → Key → Element
+link_said to key = said_as (codes "a") (link_attributes to key) (frame_text to)
+
+abbrev pub marked_said : List ℕ → Key → List ℕ → Element
+marked_said class key chars = said_as (codes "span") (marked_attributes class key) chars
+
+-- a way is a link if it leads to a frame of the file, and else says why not
+abbrev pub way_said : Option (List Id) → Key → Destination → List Element
+way_said part key NotOffered = []
+way_said part key (Found to price) = (if part_shows part to then link_said to key else marked_said (codes "elsewhere") key (frame_text to)) ∷ []
+way_said part key (Closed to) = marked_said (codes "closed") key (frame_text to) ∷ []
+way_said part key (Missing to) = marked_said (codes "missing") key (frame_text to) ∷ []
+way_said part key (Outside page) = marked_said (codes "outside") key (page_text page) ∷ []
+
+abbrev pub ways_said : BookView → Frame → List Element
+ways_said b f = flat_map (λ way. way_said b.part (way_key way) (destination_of b.caller b.base f way)) ways
+
+abbrev pub class_said : List ℕ → List ℕ → Element
+class_said class chars = said_as (codes "p") ((codes "class", class) ∷ []) chars
+
+-- a frame that keeps what is on the screen says so
+abbrev pub over_said : Lead → List Element
+over_said Clear = []
+over_said Keep = class_said (codes "over") (codes "Painted over what is on the screen.") ∷ []
+
+-- a fault is the audit's line
+abbrev pub fault_said : Fault → List Element
+fault_said fault = said_as (codes "li") [] (words_as fault.kind fault) ∷ []
+
+-- a list has at least one
+abbrev pub faults_said : List Fault → List Element
+faults_said [] = []
+faults_said (fault ∷ faults) = said_as (codes "ul") ((codes "class", codes "faults") ∷ []) newline ∷ flat_map fault_said (fault ∷ faults)
+
+-- the heading is the frame's id; then come its text, its price, its ways, and the faults about it
+abbrev pub frame_said : BookView → Frame → List Element
+frame_said b f =
+    said_as (codes "h2") [] (frame_text f.id)
+    ∷ said_as (codes "pre") [] (text (screen_of b.caller b.base b.found f.id))
+    ∷ class_said (codes "price") (decimal f.price ++ codes "p")
+    ∷ class_said (codes "ways") newline
+    ∷ (ways_said b f ++ over_said f.lead ++ faults_said (faults_about b.faults f.id))
+
+-- the section's own id is that too, and its class says if no key reaches the frame
+abbrev pub section_said : BookView → Frame → List Element
+section_said b f = said_as (codes "section") (section_attributes f.id (is_reached b.found f.id)) newline ∷ frame_said b f

@@ -1,0 +1,100 @@
+//! The files that `import` reads: a folder is the files in it.
+
+use crate::named_files::{Unfinished, is_folder, report, unread};
+use audit_report::RunFault;
+use std::alloc::{AllocError, Global};
+use std::rt::Files;
+use std::{fs, io};
+
+// Adds the files of a folder, but for those whose names begin with a dot. A folder in it isn't read.
+fn push_entries<R: Files + AllocGlobal + Clone + Drop>(
+    rt: &R,
+    folder: &str,
+    paths: &mut Vec<String>,
+) -> io::Result<()> {
+    for entry in fs::read_dir(rt, folder)? {
+        let entry = entry?;
+        let name = entry.file_name();
+        let path = format!(in rt.alloc(); "{folder}/{name}")?;
+        if !name.starts_with('.') && !is_folder(rt, path.as_str()) {
+            paths.push(path)?;
+        }
+    }
+    Ok(())
+}
+
+// The files of a folder, in the order of their names.
+fn entries<R: Files + AllocGlobal + Clone + Drop>(
+    rt: &R,
+    folder: &str,
+) -> Result<Vec<String>, Unfinished> {
+    let mut paths = Vec::new(rt.alloc());
+    if let Err(error) = push_entries(rt, folder, &mut paths) {
+        return Err(unread(&error));
+    }
+    if paths.is_empty() {
+        return Err(Unfinished::Unread("no files in this folder"));
+    }
+    match paths.sort() {
+        Ok(()) => Ok(paths),
+        Err(_) => Err(Unfinished::Fault(RunFault::Memory)),
+    }
+}
+
+fn push_path<R: AllocGlobal>(
+    rt: &R,
+    path: &str,
+    paths: &mut Vec<String>,
+) -> Result<(), AllocError> {
+    paths.push(String::from_str(rt.alloc(), path)?)?;
+    Ok(())
+}
+
+// Adds a file, or those of a folder.
+fn push_file<R: Files + AllocGlobal + Clone + Drop>(
+    rt: &R,
+    path: &str,
+    paths: &mut Vec<String>,
+) -> Result<(), Unfinished> {
+    if !is_folder(rt, path) {
+        return push_path(rt, path, paths).map_err(|_| Unfinished::Fault(RunFault::Memory));
+    }
+    let entries = match entries(rt, path) {
+        Ok(entries) => entries,
+        Err(why) => return Err(why),
+    };
+    for entry in entries.as_slice() {
+        if push_path(rt, entry.as_str(), paths).is_err() {
+            return Err(Unfinished::Fault(RunFault::Memory));
+        }
+    }
+    Ok(())
+}
+
+/// Adds the files that are asked for, and those of each folder that is. A folder that can't be read or has no files is named on standard
+/// error; the exit status, 0 if there is none.
+pub fn screen_paths<R: Files + Eprint + AllocGlobal + Clone + Drop>(
+    rt: &R,
+    screens: &[&str],
+    paths: &mut Vec<String>,
+) -> u8 {
+    let mut status = 0;
+    for path in screens {
+        if let Err(why) = push_file(rt, path, paths) {
+            status = report(rt, path, &why).max(status);
+        }
+        if status == 4 {
+            return status;
+        }
+    }
+    status
+}
+
+/// The paths as words.
+pub fn words_of(alloc: Global, paths: &[String]) -> Result<Vec<&str>, AllocError> {
+    let mut words = Vec::new(alloc);
+    for path in paths {
+        words.push(path.as_str())?;
+    }
+    Ok(words)
+}

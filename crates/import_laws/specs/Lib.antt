@@ -1,0 +1,4 @@
+pub mod Imported
+pub mod Bases
+pub mod Shown
+pub mod Filed

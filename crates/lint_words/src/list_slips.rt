@@ -1,0 +1,59 @@
+//! Lists and pairs in no brackets or the wrong ones, and numbers with spaces.
+
+use crate::hint::Hint;
+use crate::near_bytes::{Class, after, run_len};
+use crate::values::as_text;
+use toml_parser::bytes::byte_at;
+
+// The most bytes of a value that a hint repeats.
+const LONGEST: usize = 60;
+
+// What is inside of one pair of brackets of any kind, or all of a value without them.
+fn inside(value: &[u8]) -> &[u8] {
+    let value = value.trim_ascii();
+    match value {
+        [b'(' | b'{' | b'[', items @ .., b')' | b'}' | b']'] => items.trim_ascii(),
+        _ => value,
+    }
+}
+
+// The items of a value, if it is short and ends on its line.
+fn short_items(value: &[u8]) -> Option<&str> {
+    let items = inside(value);
+    let is_open = matches!(items, [b'(' | b'{' | b'[', ..]) || matches!(items, [.., b',']);
+    if items.is_empty() || items.len() > LONGEST || is_open || items.contains(&b'#') {
+        None
+    } else {
+        Some(as_text(items))
+    }
+}
+
+// A list that has no brackets, or others.
+pub(crate) fn list_hint(value: &[u8]) -> Hint<'_> {
+    match short_items(value) {
+        Some(items) => Hint::List(items),
+        None => Hint::Words("write a list in square brackets, as [0, 1] or [\"A\", \"B\"]"),
+    }
+}
+
+// Routes that have other brackets than braces.
+pub(crate) fn pairs_hint(value: &[u8]) -> Hint<'_> {
+    match short_items(value) {
+        Some(pairs) => Hint::Pairs(pairs),
+        None => Hint::Words("write routes in braces, as { 0 = 1231 }"),
+    }
+}
+
+// A number with a space in it, after which no `=` follows.
+pub(crate) fn joined_hint(rest: &[u8]) -> Option<Hint<'_>> {
+    let front = rest.get(..run_len(rest, Class::Digit))?;
+    let blanks = after(rest, Class::Digit);
+    let next = after(blanks, Class::Blank);
+    let back = next.get(..run_len(next, Class::Digit))?;
+    let follows = after(after(next, Class::Digit), Class::Blank);
+    if front.is_empty() || back.is_empty() || byte_at(follows, 0) == b'=' {
+        None
+    } else {
+        Some(Hint::Joined(as_text(front), as_text(back)))
+    }
+}
