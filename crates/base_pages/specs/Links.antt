@@ -63,7 +63,7 @@ fails e = is_name e.name (codes "span") && (has_class (codes "missing") e || has
 abbrev pub NoWayFails : List (List Element) → Type 0
 NoWayFails sections = All (λ es. says_unreached es ≡ false → list_any fails es ≡ false) sections
 
--- of a base that is certified
+-- if the base is certified
 abbrev pub NoneFails : Outcome → List (List Element) → Type 0
 NoneFails (Certified cert) sections = NoWayFails sections
 NoneFails (Faulty faults) sections = Unit {0}

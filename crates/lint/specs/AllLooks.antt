@@ -10,7 +10,7 @@ use Rattle.lint.specs.declared.looks.Look.{Look}
 use Rattle.lint.specs.declared.looks.Look.TheVariants.{Unsought}
 use Rattle.lint.specs.Lookups.{value_of}
 use Rattle.lint.specs.Looks.{rows_if, line_end_if, line_end_of}
-use Rattle.lint.specs.Offers.{sights_if}
+use Rattle.lint.specs.Sights.{sights_if}
 
 -- What frames show.
 

@@ -2,6 +2,7 @@ pub mod Lookups
 pub mod Outside
 pub mod Looks
 pub mod Offers
+pub mod Sights
 pub mod AllLooks
 pub mod Tables
 pub mod Pictures

@@ -7,7 +7,7 @@ ghost use Rattle.lint.specs.AllLooks as spec;
 
 use crate::looks::{Look, add_line_end, add_rows_if};
 use crate::lookup::Lookup;
-use crate::offers::add_sights;
+use crate::sights::add_sights;
 use frame_records::{Frame, Groups};
 use lint_words::LineEnd;
 use page_ids::{FrameId, PageNo, Way};

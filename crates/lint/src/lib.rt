@@ -29,6 +29,7 @@ mod offers;
 mod order;
 mod outside;
 mod pictures;
+mod sights;
 mod spots;
 mod tables;
 mod text_findings;
