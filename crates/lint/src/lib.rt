@@ -11,9 +11,9 @@
 //! - [`Counts`], [`counted_text`]: how many there are. [`Ignored`], [`remove_warnings`]: the warnings that don't count, or aren't shown.
 //! - [`picture_places`], [`PicturePlace`]: where a text writes what frames show.
 //! - [`lint_follows_base_read`], [`no_error_is_safe`], [`lint_warns_of_unreached`]: what the findings of a text mean.
-//! - Definitions: what is found (`Lint`), what may be wrong with frames (`Looks`, `Offers`, `AllLooks`), where a text writes its
-//!   tables (`Tables`) and what frames show (`Pictures`),
-//!   which piece is at fault (`Spots`, `Outside`), the order (`Findings`), the laws (`Laws`).
+//! - Definitions: what is found (`Lint`), what may be wrong with frames (`Looks`, `Offers`, `Sights`, `AllLooks`), where a text
+//!   writes its tables (`Tables`) and what frames show (`Pictures`), which piece is at fault (`Spots`, `Outside`), the order
+//!   (`Findings`), the laws (`Laws`).
 #![tactic(auto)]
 
 mod all_looks;

@@ -84,8 +84,8 @@ fn with_byte(digits: Digits, frame: &Frame, byte: u8) -> Digits
 }
 
 // The digits before a gap of the screen that a body leaves.
-fn digits_of(frame: &Frame, cells: &[u8; 960]) -> Digits
-    ensures { result ≡ spec.digits_of frame.now cells.now }
+fn digits_before_gaps(frame: &Frame, cells: &[u8; 960]) -> Digits
+    ensures { result ≡ spec.digits_before_gaps frame.now cells.now }
 {
     let mut caret = Caret {
         at: 40,
@@ -112,7 +112,7 @@ fn needs_looks(frame: &Frame, cells: &[u8; 960]) -> bool
     if holds_u(frame.body.as_slice()) {
         return true;
     }
-    let digits = digits_of(frame, cells);
+    let digits = digits_before_gaps(frame, cells);
     digits.two_routed && digits.unrouted
 }
 

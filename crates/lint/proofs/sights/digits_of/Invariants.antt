@@ -1,6 +1,0 @@
-use Rattle.std.proofs.Common.{◌≡◌, drop}
-use Rattle.lint.specs.Sights.{digits_from, digits_of}
-use Rattle.lint.proofs.sights.digits_of.Given as goal
-
-abbrev pub invariant-loop-byte : goal.invariant-loop-byte
-invariant-loop-byte l = digits_from l.frame l.cells l.caret l.digits (drop l.byte-index l.frame.body) ≡ digits_of l.frame l.cells
