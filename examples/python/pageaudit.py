@@ -323,7 +323,7 @@ def _checked(answer: int, text: bytes) -> bytes:
         return text
     if answer == _BAD_POLICY:
         raise PolicyError(
-            "a ceiling above 9,999, keyings above 65,535, or groups that aren't at most 16, ascending, of 1 to 65,535"
+            "ceiling is 0 to 9,999, keyings 0 to 65,535, and groups are at most 16 numbers, ascending, 1 to 65,535"
         )
     if answer == _BAD_TEXT:
         raise TextError(text.decode("ascii").rstrip("\n"))
