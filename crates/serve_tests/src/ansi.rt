@@ -7,16 +7,21 @@ use terminal_codes::Terminal;
 use test_support::{FakeSink, FakeSource, same, same_in};
 
 // What is typed, and what is heard.
-const TYPED: [(&[u8], &[u8]); 5] = [
+const TYPED: [(&[u8], &[u8]); 10] = [
     (b"1#*", b"1#*"),
     (b"1\r2", b"1#2"),
     (b"1\n2", b"1#2"),
     (b"*\r\n\r\n", b"*#\0#\0"),
     (b"\n\r\n\n", b"##\0#"),
+    (b"\x1b[6~1", b"\x1b[\0\x001"),
+    (b"\x1b[1;5C\r2", b"\x1b[\0\0\0\0#2"),
+    (b"\x1bOP1", b"\x1bO\x001"),
+    (b"\x1b1", b"\x1b1"),
+    (b"\x1b[3\r1", b"\x1b[\0#1"),
 ];
 
 #[test]
-fn enter_is_one_hash(rt: HostRuntime) -> Result<(), Fail> {
+fn enter_is_one_hash_and_cursor_keys_are_none(rt: HostRuntime) -> Result<(), Fail> {
     let alloc = rt.alloc();
     for (typed, heard) in TYPED {
         let mut keys = AnsiKeys::new(FakeSource::of(typed, 2));
