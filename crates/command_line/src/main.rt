@@ -233,7 +233,7 @@ fn run_request<R: Files<File = File> + Env + Input + Print + Eprint + AllocGloba
             return 2;
         }
         Request::NoFrame { word } => {
-            let _ = eprintln!(rt; "error: '{word}' is no frame and no page");
+            let _ = eprintln!(rt; "error: '{word}' is neither a frame (478a) nor a page (478)");
             return 2;
         }
         Request::Explain { word } => return explain(rt, *word),

@@ -45,7 +45,11 @@ fn sum_text(alloc: Global, merged: &Merged) -> Result<Vec<u8>, AllocError> {
     let mut text = Vec::new(alloc);
     push_part(&mut text, merged.replaced.as_slice(), b" replaced (")?;
     push_part(&mut text, merged.added.as_slice(), b" added (")?;
-    push_part(&mut text, merged.left.as_slice(), b" not replaced (")?;
+    push_part(
+        &mut text,
+        merged.left.as_slice(),
+        b" left, with lead = \"keep\" (",
+    )?;
     Ok(text)
 }
 
@@ -105,7 +109,7 @@ fn report_spoilt<R: Eprint + AllocGlobal>(rt: &R, base: &str, fault: BaseFault) 
     if fault.cause == BaseCause::Memory {
         return fail(rt, &RunFault::Memory);
     }
-    let _ = eprintln!(rt; "{base}: with these frames it would be no base, so it stays as it is");
+    let _ = eprintln!(rt; "{base}: with these frames it isn't a base; nothing was changed");
     fail(rt, &RunFault::Base(fault))
 }
 

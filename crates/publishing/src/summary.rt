@@ -50,7 +50,7 @@ pub(crate) fn push_already(out: &mut Vec<u8>, number: u32) -> Result<(), AllocEr
 pub(crate) fn push_other_groups(out: &mut Vec<u8>, number: u32) -> Result<(), AllocError> {
     out.extend_from_slice(b"policy.toml has other groups than edition ")?;
     push_number(out, u64::from(number))?;
-    out.extend_from_slice(b": callers of other groups have a folder of their own\nREFUSED\n")
+    out.extend_from_slice(b": callers of other groups need a folder of their own\nREFUSED\n")
 }
 
 // Whether a byte is a letter, a digit or a sign, and not the second half of a code.
