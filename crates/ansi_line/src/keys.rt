@@ -3,8 +3,14 @@
 ghost use Rattle.std.specs.Prelude.{◌≡◌, option_map};
 ghost use Rattle.ansi_line.specs.declared.keys.Typing.TheVariants.{Plain};
 ghost use Rattle.ansi_line.specs.AnsiTyped.{
-    all_typed, is_left_out, is_of_key, typed_as, typing_after, typing_escaped, typing_from,
-    typing_within,
+  all_typed,
+  is_left_out,
+  is_of_key,
+  typed_as,
+  typing_after,
+  typing_escaped,
+  typing_from,
+  typing_within,
 };
 
 use devices::{Broken, Source};

@@ -63,9 +63,9 @@ is_before_gap cells at = is_some_gap (slice_get cells (at + 1))
 
 abbrev pub with_byte : Frame → Digits → ℕ → Digits
 with_byte f d b = record {
-    routed = d.routed || may_show_routed f b;
-    two_routed = d.two_routed || (d.routed && may_show_routed f b);
-    unrouted = d.unrouted || may_show_unrouted f b
+  routed = d.routed || may_show_routed f b;
+  two_routed = d.two_routed || (d.routed && may_show_routed f b);
+  unrouted = d.unrouted || may_show_unrouted f b;
 }
 
 abbrev pub digits_from : Frame → List ℕ → CaretView → Digits → List ℕ → Digits
