@@ -21,7 +21,10 @@ class Beside(NamedTuple):
     id: str
     title: str
     price: str
+    group: str
+    place: str
     ways: list[tuple[str, str, str, str]]
+    said: list[str]
     faults: list[str]
 
 
@@ -69,7 +72,10 @@ BESIDE = (
         text(heading),
         after(heading),
         text(at.querySelector(".price")),
+        text(at.querySelector(".group")) || "",
+        text(at.querySelector(".place")) || "",
         ways.map((way) => [after(way, "::before"), text(way), after(way), way.className]),
+        Array.from(at.querySelectorAll(".said li"), text),
         Array.from(at.querySelectorAll(".faults li"), text),
     ];"""
 )
@@ -215,8 +221,9 @@ class Browser:
         return dict(self.run(SEEN))
 
     def beside(self) -> Beside:
-        id, title, price, ways, faults = self.run(BESIDE)
-        return Beside(id, title.strip(), price, [(key, text, word, look) for key, text, word, look in ways], faults)
+        id, title, price, group, place, ways, said, faults = self.run(BESIDE)
+        every = [(key, text, word, look) for key, text, word, look in ways]
+        return Beside(id, title.strip(), price, group, place, every, said, faults)
 
     def tiles(self) -> list[Tile]:
         return [Tile(*tile) for tile in self.run(TILES)]

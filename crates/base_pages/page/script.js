@@ -56,6 +56,12 @@
       return Array.from(document.querySelectorAll(".ways .closed")).some((way) => way.textContent === this.id);
     }
 
+    // The group whose callers can open it, if it is closed to others.
+    get group() {
+      const group = this.section.querySelector(".group");
+      return group ? group.textContent : "";
+    }
+
     get lines() {
       return this.section.querySelector("pre").textContent;
     }
@@ -121,6 +127,7 @@
       this.keys = "";
       this.command = "";
       this.offer = "";
+      this.shut = "";
       this.faithful = true;
       this.say(`SHOWN ${id} ${this.sum}`);
     }
@@ -133,7 +140,7 @@
       session.keys = id === entry ? "" : null;
       if (session.frame.isClosed) {
         session.sum = 0;
-        session.say(`CLOSED ${id}`, "no");
+        session.close(id);
       }
       return session;
     }
@@ -152,6 +159,18 @@
       this.reply = reply;
       this.kind = kind;
       return this;
+    }
+
+    // Says that a frame is closed.
+    close(id) {
+      this.shut = id;
+      return this.say(`CLOSED ${id}`, "no");
+    }
+
+    // The group of the frame that is said to be closed, if the file has it.
+    get club() {
+      const frame = Frame.of(this.shut);
+      return frame ? frame.group : "";
     }
 
     // The picture is that of the shortest keys. After other keys a frame that keeps what is on the screen may look otherwise.
@@ -173,7 +192,7 @@
         return this.arrive(to);
       }
       if (way.className === "missing") return this.say(`MISSING ${to}`, "bad");
-      if (way.className === "closed") return this.say(`CLOSED ${to}`, "no");
+      if (way.className === "closed") return this.close(to);
       if (way.className === "elsewhere") return this.say(`${to} is not in this file`, "no");
       this.left = to;
       return this.say(`GONE ${to}`, "no");
@@ -199,6 +218,7 @@
     // A key: a digit, # or a command.
     press(key) {
       this.offer = "";
+      this.shut = "";
       if (this.keys !== null) this.keys += key;
       if (this.left !== null) return this.say("NOTOFFERED", "no");
       if (key === "*#") return this.back();
@@ -223,6 +243,7 @@
       this.command = "";
       if (COMMANDS.includes(command)) return this.press(command);
       const id = `${command.slice(1, -1)}a`;
+      this.shut = "";
       this.offer = Frame.of(id) ? id : "";
       return this.say("page numbers aren't part of this file's walk", "no");
     }
@@ -263,6 +284,7 @@
   const drawReply = () => {
     put("reply", session.command || session.reply);
     byId("reply").className = session.command ? "typed" : session.kind;
+    put("club", session.command ? "" : session.club);
     byId("offer").href = `#${session.offer}`;
     put("offer", session.offer && !session.command ? `open ${session.offer}` : "");
   };
@@ -328,12 +350,17 @@
     return element;
   };
 
-  // A fault's line; one that keys lead to is a link that presses them.
+  // A fault: what lint says of it, and the audit's line. One that keys lead to is a link that presses them.
   const lineOf = (fault) => {
     const keys = / SCRIPT ([0-9#*-]+)$/.exec(fault.textContent);
     const section = fault.closest("section");
     const line = made(keys && section && Frame.of(entry) ? "a" : "span", "line", "");
+    if (section) {
+      const number = Array.from(fault.parentNode.children).indexOf(fault);
+      line.append(made("span", "sentence", section.querySelectorAll(".said li")[number].textContent));
+    }
     line.append(made("code", "", fault.textContent));
+    if (section) line.append(made("span", "where", section.querySelector(".place").textContent));
     if (line.localName === "a") {
       line.href = `#${section.id}`;
       line.dataset.script = keys[1] === "-" ? "" : keys[1];

@@ -1,5 +1,5 @@
 -- What is kept of the parts of a section and of the header.
-use Rattle.std.proofs.Common.{ℕ, refl, Bool, true, false, List, [], ◌∷◌, ◌++◌, Option, codes, decimal, length, if◌then◌else◌}
+use Rattle.std.proofs.Common.{◌≡◌, ℕ, refl, subst, append_assoc, Bool, true, false, List, [], ◌∷◌, ◌++◌, Option, Some, None, codes, decimal, length, if◌then◌else◌}
 use Rattle.std.specs.List.{flat_map}
 use Rattle.std.specs.Str.{chars}
 use Rattle.page_ids.specs.Ids.{Id, frame_text, page_text}
@@ -25,11 +25,13 @@ use Rattle.screens.specs.Text.{text}
 use Rattle.screens.specs.Svg.{newline}
 use Rattle.base_pages.specs.Elements.{around}
 use Rattle.base_pages.specs.Ways.{link, link_attributes, marked, marked_attributes, way_pieces, each_way, ways_pieces}
-use Rattle.base_pages.specs.Faults.{faults_about, item, items, listed, fault_list, entry_faults, touched_cell}
+use Rattle.lint.specs.declared.lines.WrittenFrame.{WrittenFrame}
+use Rattle.lint.specs.FrameLines.{SentenceView}
+use Rattle.base_pages.specs.Faults.{faults_about, sentences_about, item, items, listed, fault_list, entry_faults, touched_cell}
 use Rattle.base_pages.specs.Screens.{screen_of}
-use Rattle.base_pages.specs.Sections.{BookView, heading, drawn_pieces, text_pieces, price_pieces, over, below_screen}
+use Rattle.base_pages.specs.Sections.{BookView, SourceView, heading, drawn_pieces, text_pieces, price_pieces, group_pieces, place_chars, place_pieces, over, sentence_chars, sentence_item, sentence_list, told_pieces, beside_screen, below_screen}
 use Rattle.base_pages.specs.Head.{certified_words, certified, fault_count, faulty_pieces, outcome_pieces, paragraph, policy_words, name_line, outcome_faults, header_pieces}
-use Rattle.base_pages.specs.Said.{said_as, link_said, marked_said, way_said, ways_said, class_said, over_said, fault_said, faults_said, frame_said}
+use Rattle.base_pages.specs.Said.{said_as, link_said, marked_said, way_said, ways_said, class_said, over_said, group_said, place_said, marks_said, sentence_said, sentences_said, fault_said, faults_said, told_said, frame_said}
 use Rattle.base_pages.specs.Reading.{Element}
 use Rattle.base_pages.proofs.Parts.{Part, none, both, each, of_element, of_around}
 use Rattle.base_pages.proofs.Picture.{silent_picture}
@@ -72,6 +74,23 @@ ways_part b f =
     of_around (codes "p") ((codes "class", codes "ways") ∷ []) (each_way b.caller b.base b.part f) (ways_said b f) refl refl refl refl refl refl
     (each (λ (way : Way). way_pieces b.part (way_key way) (leads way)) (λ (way : Way). way_said b.part (way_key way) (leads way)) (λ (way : Way). way_part b.part (way_key way) (leads way)) ways)
 
+group_part : (group : Option ℕ) → Part (group_pieces group) (group_said group)
+unfolding group_pieces
+group_part None = none
+group_part (Some group) = of_element (codes "p") ((codes "class", codes "group") ∷ []) (codes "group " ++ decimal group) refl refl refl refl refl refl
+
+place_part : (name : List ℕ) (line : Option WrittenFrame) → Part (place_pieces name line) (place_said name line)
+unfolding place_pieces
+place_part name None = none
+place_part name (Some line) = of_element (codes "p") ((codes "class", codes "place") ∷ []) (place_chars name line) refl refl refl refl refl refl
+
+beside_part : (source : SourceView) (f : Frame) → Part (beside_screen source f) (class_said (codes "price") (decimal f.price ++ codes "p") ∷ marks_said source f)
+unfolding beside_screen
+beside_part source f =
+    let price = class_said (codes "price") (decimal f.price ++ codes "p") in
+    both (price_pieces f.price ++ group_pieces f.group) (place_pieces source.name (source.lines f.id)) (price ∷ group_said f.group) (place_said source.name (source.lines f.id))
+    (both (price_pieces f.price) (group_pieces f.group) (price ∷ []) (group_said f.group) (price_part f.price) (group_part f.group)) (place_part source.name (source.lines f.id))
+
 over_part : (lead : Lead) → Part (over lead) (over_said lead)
 unfolding over
 over_part Clear = none
@@ -86,9 +105,24 @@ faults_part [] = none
 faults_part (f ∷ faults) =
     of_around (codes "ul") ((codes "class", codes "faults") ∷ []) (items (f ∷ faults)) (flat_map fault_said (f ∷ faults)) refl refl refl refl refl refl (each item fault_said item_part (f ∷ faults))
 
+sentence_part : (s : SentenceView) → Part (sentence_item s) (sentence_said s)
+sentence_part s = of_element (codes "li") [] (sentence_chars s) refl refl refl refl refl refl
+
+sentences_part : (ss : List SentenceView) → Part (sentence_list ss) (sentences_said ss)
+sentences_part [] = none
+sentences_part (s ∷ ss) =
+    of_around (codes "ul") ((codes "class", codes "said") ∷ []) (flat_map sentence_item (s ∷ ss)) (flat_map sentence_said (s ∷ ss)) refl refl refl refl refl refl (each sentence_item sentence_said sentence_part (s ∷ ss))
+
+told_part : (b : BookView) (f : Frame) → Part (told_pieces (sentences_about b.faults b.sentences f.id) (faults_about b.faults f.id)) (told_said b f)
+unfolding told_pieces
+told_part b f =
+    let ss = sentences_about b.faults b.sentences f.id in
+    let fs = faults_about b.faults f.id in
+    both (sentence_list ss) (fault_list fs) (sentences_said ss) (faults_said fs) (sentences_part ss) (faults_part fs)
+
 -- all between the tags of a section
 pub inner_part : (b : BookView) (f : Frame)
-    → Part (heading f.id ++ drawn_pieces f.id (screen_of b.caller b.base b.found f.id) (touched_cell f (faults_about b.faults f.id)) ++ text_pieces (screen_of b.caller b.base b.found f.id) ++ below_screen b.caller b.base b.part f (faults_about b.faults f.id)) (frame_said b f)
+    → Part (heading f.id ++ drawn_pieces f.id (screen_of b.caller b.base b.found f.id) (touched_cell f (faults_about b.faults f.id)) ++ text_pieces (screen_of b.caller b.base b.found f.id) ++ below_screen b f (sentences_about b.faults b.sentences f.id) (faults_about b.faults f.id)) (frame_said b f)
 unfolding below_screen
 inner_part b f =
     let faults = faults_about b.faults f.id in
@@ -97,13 +131,16 @@ inner_part b f =
     let onward = ways_pieces b.caller b.base b.part f in
     let h2 = said_as (codes "h2") [] (frame_text f.id) in
     let pre = said_as (codes "pre") [] (text rows) in
-    let price = class_said (codes "price") (decimal f.price ++ codes "p") in
+    let told = told_pieces (sentences_about b.faults b.sentences f.id) faults in
+    let marked = class_said (codes "price") (decimal f.price ++ codes "p") ∷ marks_said b.source f in
     let led = class_said (codes "ways") newline ∷ ways_said b f in
-    both (heading f.id ++ drawn ++ text_pieces rows) (below_screen b.caller b.base b.part f faults) (h2 ∷ pre ∷ []) (price ∷ (led ++ over_said f.lead ++ faults_said faults))
+    let seen : (h2 ∷ pre ∷ []) ++ (((marked ++ led) ++ over_said f.lead) ++ told_said b f) ≡ frame_said b f = simp append_assoc in
+    subst (Part _) seen
+    (both (heading f.id ++ drawn ++ text_pieces rows) (below_screen b f (sentences_about b.faults b.sentences f.id) faults) (h2 ∷ pre ∷ []) (((marked ++ led) ++ over_said f.lead) ++ told_said b f)
     (both (heading f.id ++ drawn) (text_pieces rows) (h2 ∷ []) (pre ∷ []) (both (heading f.id) drawn (h2 ∷ []) [] (heading_part f.id) (picture_part f.id rows (touched_cell f faults))) (text_part rows))
-    (both (price_pieces f.price ++ onward ++ over f.lead) (fault_list faults) (price ∷ (led ++ over_said f.lead)) (faults_said faults)
-    (both (price_pieces f.price ++ onward) (over f.lead) (price ∷ led) (over_said f.lead) (both (price_pieces f.price) onward (price ∷ []) led (price_part f.price) (ways_part b f)) (over_part f.lead))
-    (faults_part faults))
+    (both (beside_screen b.source f ++ onward ++ over f.lead) told ((marked ++ led) ++ over_said f.lead) (told_said b f)
+    (both (beside_screen b.source f ++ onward) (over f.lead) (marked ++ led) (over_said f.lead) (both (beside_screen b.source f) onward marked led (beside_part b.source f) (ways_part b f)) (over_part f.lead))
+    (told_part b f)))
 
 -- The header.
 

@@ -6,7 +6,7 @@ pub fn file_has_its_tags()
 {}
 
 /// Read as markup, the file has a section for each frame that is shown, in order, with its id, the text that `show` prints of it, its
-/// price, its ways, and the audit's lines about it.
+/// price, its group, the line of the base's file that writes it, its ways, what lint says of its faults, and the audit's lines about it.
 pub fn file_says_what_is_shown()
     ensures { FileSaysWhatIsShown }
 {}

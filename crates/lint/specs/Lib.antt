@@ -6,6 +6,7 @@ pub mod Sights
 pub mod AllLooks
 pub mod Tables
 pub mod Pictures
+pub mod FrameLines
 pub mod Spots
 pub mod Lint
 pub mod Findings

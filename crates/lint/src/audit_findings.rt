@@ -40,7 +40,8 @@ pub struct Audit {
     looks: Vec<(FrameId, Look)>,
 }
 
-fn ranks_of(alloc: Global, found: &[Discovered]) -> Result<Vec<(FrameId, Option<u16>)>, AllocError>
+// The rank of each frame that is reached.
+pub fn ranks_of(alloc: Global, found: &[Discovered]) -> Result<Vec<(FrameId, Option<u16>)>, AllocError>
     ensures { IfOk result (λ ranks. ranks.items ≡ spec.ranks_of found.now) }
 {
     found
@@ -123,7 +124,7 @@ pub struct Sources<'a> {
 }
 
 // The group of the frame that a fault finds closed.
-fn group_of(base: &Base, fault: &Fault) -> Option<GroupNo>
+pub fn group_of(base: &Base, fault: &Fault) -> Option<GroupNo>
     ensures { result ≡ spec.group_closed_to base.now fault.now }
 {
     base.find(fault.sought.unwrap_or(fault.frame))?.group
@@ -139,7 +140,8 @@ fn without_next(base: &Base, id: FrameId) -> Option<FrameId> {
     if before.next { None } else { Some(before.id) }
 }
 
-fn rank_of(ranks: &Ranks, id: FrameId) -> Option<u16>
+// The rank of a frame.
+pub fn rank_of(ranks: &Ranks, id: FrameId) -> Option<u16>
     ensures { (known : List (Id × Option ℕ)) → KnowsValues known ranks.now → result ≡ spec.rank_of known id }
 {
     ranks.get(id)?
