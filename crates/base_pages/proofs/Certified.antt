@@ -37,6 +37,7 @@ use Rattle.fault_scripts.specs.declared.outcome.Outcome.TheVariants.{Certified, 
 use Rattle.fault_scripts.specs.Faults.{AreFaults, AreFaultsBy, AreFaultsAlong, IsDueAs, KeyIsDue, key_fault}
 use Rattle.lint.specs.declared.lines.WrittenFrame.{WrittenFrame}
 use Rattle.lint.specs.FrameLines.{SentenceView}
+use Rattle.lint.specs.Lookups.{value_of}
 use Rattle.base_pages.specs.Faults.{faults_about, sentences_about}
 use Rattle.base_pages.specs.Screens.{is_reached}
 use Rattle.base_pages.specs.Sections.{BookView, section_attributes, shown_frames}
@@ -167,7 +168,7 @@ certified_ways_lead source base policy part found (Certified cert) sentences val
     let said = sentences_about b.faults b.sentences f.id in
     let lines = faults_about b.faults f.id in
     none_in_both (marks_said source f) (class_said (codes "ways") (10 ∷ []) ∷ (ways_said b f ++ over_said f.lead ++ told_said b f))
-    (none_in_both (group_said f.group) (place_said source.name (source.lines f.id)) (group_found f.group) (place_found source.name (source.lines f.id)))
+    (none_in_both (group_said f.group) (place_said source.name (value_of source.lines f.id)) (group_found f.group) (place_found source.name (value_of source.lines f.id)))
     (none_in_both (ways_said b f ++ over_said f.lead) (told_said b f)
     (none_in_both (ways_said b f) (over_said f.lead)
     (none_in_each (λ (way : Way). way_said part (way_key way) (destination_of policy.groups base f way)) (λ (way : Way). way_found part (way_key way) (destination_of policy.groups base f way) (not_missing base policy f outcome.0 reached there way) (not_closed base policy f outcome.0 reached there way)) ways)

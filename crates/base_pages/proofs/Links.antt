@@ -39,6 +39,7 @@ use Rattle.screens.specs.Laws.{is_name}
 use Rattle.screens.proofs.Safe.{all_append}
 use Rattle.lint.specs.declared.lines.WrittenFrame.{WrittenFrame}
 use Rattle.lint.specs.FrameLines.{SentenceView}
+use Rattle.lint.specs.Lookups.{value_of}
 use Rattle.base_pages.specs.Faults.{faults_about, sentences_about}
 use Rattle.base_pages.specs.Screens.{is_reached, screen_of}
 use Rattle.base_pages.specs.Sections.{BookView, section_attributes, shown_frames}
@@ -268,7 +269,7 @@ module _ (b : BookView) (ids : HaveIds b.part b.base.frames) (f : Frame) where
   rest = class_said (codes "ways") newline ∷ (ways_said b f ++ over_said f.lead ++ told_said b f)
 
   marks_unlinked : list_all is_other (marks_said b.source f) ≡ true
-  marks_unlinked = all_unlinked (group_said f.group) (place_said b.source.name (b.source.lines f.id)) (group_unlinked f.group) (place_unlinked b.source.name (b.source.lines f.id))
+  marks_unlinked = all_unlinked (group_said f.group) (place_said b.source.name (value_of b.source.lines f.id)) (group_unlinked f.group) (place_unlinked b.source.name (value_of b.source.lines f.id))
 
   told_unlinked : list_all is_other (told_said b f) ≡ true
   told_unlinked =

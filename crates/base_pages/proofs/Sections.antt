@@ -27,6 +27,7 @@ use Rattle.base_pages.specs.Elements.{around}
 use Rattle.base_pages.specs.Ways.{link, link_attributes, marked, marked_attributes, way_pieces, each_way, ways_pieces}
 use Rattle.lint.specs.declared.lines.WrittenFrame.{WrittenFrame}
 use Rattle.lint.specs.FrameLines.{SentenceView}
+use Rattle.lint.specs.Lookups.{value_of}
 use Rattle.base_pages.specs.Faults.{faults_about, sentences_about, item, items, listed, fault_list, entry_faults, touched_cell}
 use Rattle.base_pages.specs.Screens.{screen_of}
 use Rattle.base_pages.specs.Sections.{BookView, SourceView, heading, drawn_pieces, text_pieces, price_pieces, group_pieces, place_chars, place_pieces, over, sentence_chars, sentence_item, sentence_list, told_pieces, beside_screen, below_screen}
@@ -88,8 +89,8 @@ beside_part : (source : SourceView) (f : Frame) → Part (beside_screen source f
 unfolding beside_screen
 beside_part source f =
     let price = class_said (codes "price") (decimal f.price ++ codes "p") in
-    both (price_pieces f.price ++ group_pieces f.group) (place_pieces source.name (source.lines f.id)) (price ∷ group_said f.group) (place_said source.name (source.lines f.id))
-    (both (price_pieces f.price) (group_pieces f.group) (price ∷ []) (group_said f.group) (price_part f.price) (group_part f.group)) (place_part source.name (source.lines f.id))
+    both (price_pieces f.price ++ group_pieces f.group) (place_pieces source.name (value_of source.lines f.id)) (price ∷ group_said f.group) (place_said source.name (value_of source.lines f.id))
+    (both (price_pieces f.price) (group_pieces f.group) (price ∷ []) (group_said f.group) (price_part f.price) (group_part f.group)) (place_part source.name (value_of source.lines f.id))
 
 over_part : (lead : Lead) → Part (over lead) (over_said lead)
 unfolding over

@@ -20,6 +20,7 @@ use Rattle.screens.specs.Svg.{newline}
 use Rattle.base_pages.specs.Ways.{link_attributes, marked_attributes}
 use Rattle.lint.specs.declared.lines.WrittenFrame.{WrittenFrame}
 use Rattle.lint.specs.FrameLines.{SentenceView}
+use Rattle.lint.specs.Lookups.{value_of}
 use Rattle.base_pages.specs.Faults.{faults_about, sentences_about}
 use Rattle.base_pages.specs.Screens.{is_reached, screen_of}
 use Rattle.base_pages.specs.Sections.{BookView, SourceView, section_attributes, place_chars, sentence_chars}
@@ -66,7 +67,7 @@ place_said name None = []
 place_said name (Some line) = class_said (codes "place") (place_chars name line) ∷ []
 
 abbrev pub marks_said : SourceView → Frame → List Element
-marks_said source f = group_said f.group ++ place_said source.name (source.lines f.id)
+marks_said source f = group_said f.group ++ place_said source.name (value_of source.lines f.id)
 
 -- what lint says of a fault, with its hint
 abbrev pub sentence_said : SentenceView → List Element

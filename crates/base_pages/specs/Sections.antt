@@ -12,6 +12,7 @@ use Rattle.fault_scripts.specs.declared.fault.Fault.{Fault}
 use Rattle.finder.specs.Parts.{part_shows}
 use Rattle.lint.specs.declared.lines.WrittenFrame.{WrittenFrame}
 use Rattle.lint.specs.FrameLines.{SentenceView}
+use Rattle.lint.specs.Lookups.{value_of}
 use Rattle.screens.specs.declared.look.Look.{Look}
 use Rattle.screens.specs.Text.{text}
 use Rattle.screens.specs.Svg.{Piece, markup, svg_pieces}
@@ -24,7 +25,7 @@ use Rattle.base_pages.specs.Screens.{is_reached, screen_of}
 -- the text of a base: the name of its file, in UTF-8, and where it writes each frame
 pub record SourceView : Type 0 where
   pub name : List ℕ
-  pub lines : Id → Option WrittenFrame
+  pub lines : List (Id × WrittenFrame)
 
 abbrev pub source_view : BaseSource → SourceView
 source_view s = record { name = s.name.now; lines = s.lines.now }
@@ -98,7 +99,7 @@ told_pieces sentences faults = sentence_list sentences ++ fault_list faults
 
 -- what belongs to a frame beside its screen, and where it is written
 unfoldable pub beside_screen : SourceView → Frame → List Piece
-beside_screen source f = price_pieces f.price ++ group_pieces f.group ++ place_pieces source.name (source.lines f.id)
+beside_screen source f = price_pieces f.price ++ group_pieces f.group ++ place_pieces source.name (value_of source.lines f.id)
 
 -- what comes after the picture and the text
 unfoldable pub below_screen : BookView → Frame → List SentenceView → List Fault → List Piece

@@ -26,13 +26,13 @@ written_line text ms k = record {
 abbrev pub lined : List ℕ → List Mark → Id × ℕ → Id × WrittenFrame
 lined text ms p = (p.0, written_line text ms p.1)
 
--- the line of the frame of an id, by the tables of frames
-abbrev pub line_among : List ℕ → List (Id × ℕ) → Id → Option WrittenFrame
-line_among text tables id = value_of (map (lined text (marks text)) tables) id
+-- the lines of the frames of tables
+abbrev pub frame_lines_of : List ℕ → List (Id × ℕ) → List (Id × WrittenFrame)
+frame_lines_of text tables = map (lined text (marks text)) tables
 
 -- of the frames that a text lists
-abbrev pub frame_line_in : List ℕ → Id → Option WrittenFrame
-frame_line_in text id = line_among text (text_tables text) id
+abbrev pub frame_lines_in : List ℕ → List (Id × WrittenFrame)
+frame_lines_in text = frame_lines_of text (text_tables text)
 
 -- What is said of faults.
 
@@ -56,10 +56,10 @@ judged_at line base policy found fault = record {
 }
 
 -- the message of a fault
-abbrev pub said_of : (Id → Option WrittenFrame) → BaseView → Policy → List Discovered → Fault → List ℕ
-said_of lines base policy found fault = (audit_fault_words (judged_at (lines fault.frame) base policy found fault) fault).message
+abbrev pub said_of : List (Id × WrittenFrame) → BaseView → Policy → List Discovered → Fault → List ℕ
+said_of lines base policy found fault = (audit_fault_words (judged_at (value_of lines fault.frame) base policy found fault) fault).message
 
 -- a sentence for each fault
-abbrev pub AreSentences : (Id → Option WrittenFrame) → BaseView → Policy → List Discovered → List Fault → List SentenceView → Type 0
+abbrev pub AreSentences : List (Id × WrittenFrame) → BaseView → Policy → List Discovered → List Fault → List SentenceView → Type 0
 AreSentences lines base policy found faults sentences =
     map (λ s. s.message) sentences ≡ map (said_of lines base policy found) faults

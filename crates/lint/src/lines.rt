@@ -1,10 +1,10 @@
 //! Where a text writes its frames, line by line.
 
-ghost use Rattle.std.specs.Prelude.{◌≡◌, List, ℕ, IfOk, IsSome, None, map};
-ghost use Rattle.page_ids.specs.Ids.{Id};
+ghost use Rattle.std.specs.Prelude.{◌≡◌, List, IfOk, IsSome, map};
 ghost use Rattle.toml.specs.Parse.{parse_document};
 ghost use Rattle.toml_places.specs.Places.{Mark};
 ghost use Rattle.lint.specs.FrameLines as spec;
+ghost use Rattle.lint.specs.Lookups.{value_of};
 ghost use Rattle.lint.specs.Loops.{KnowsTables};
 
 use crate::judging::tables_of;
@@ -25,38 +25,42 @@ pub struct WrittenFrame {
     pub has_rows: bool,
 }
 
-/// The lines of frames, by their ids. Contracts see them as a function.
+/// The lines of frames, by their ids. Contracts see them as a list.
 #[derive(Drop)]
 pub struct WrittenFrames {
+    list: Vec<(FrameId, WrittenFrame)>,
     known: Lookup<WrittenFrame>,
 }
 
 impl Model for WrittenFrames {
-    ghost use Rattle.std.specs.Prelude.{Option};
-    ghost use Rattle.indexmap.specs.IndexMap.{get};
-    ghost use Rattle.page_ids.specs.Ids.{Id, id_eq};
+    ghost use Rattle.std.specs.Prelude.{List};
+    ghost use Rattle.page_ids.specs.Ids.{Id};
     ghost use Rattle.lint.specs.declared.lines.WrittenFrame.{WrittenFrame};
+    ghost use Rattle.lint.specs.Loops.{KnowsValues};
 
-    ghost Value = { Id → Option WrittenFrame };
+    ghost Value = { List (Id × WrittenFrame) };
 
-    ghost view = { λ l id. get id_eq l.known.map id };
+    ghost view = { λ l. l.list.items };
+
+    ghost invariant = { λ l. KnowsValues l.list.items l.known };
 }
 
 impl WrittenFrames {
-    // No lines.
-    fn none(alloc: Global) -> Result<WrittenFrames, AllocError>
-        ensures { IfOk result (λ lines. (id : Id) → lines id ≡ None) }
+    fn of(
+        alloc: Global,
+        list: Vec<(FrameId, WrittenFrame)>,
+    ) -> Result<WrittenFrames, AllocError>
+        ensures { IfOk result (λ lines. lines ≡ list.items) }
     {
-        Ok(WrittenFrames {
-            known: Lookup::of(alloc, &[])?,
-        })
+        let known = Lookup::of(alloc, list.as_slice())?;
+        Ok(WrittenFrames { list, known })
     }
 
     /// Where the frame of an id is written, if it is known.
     pub fn get(&self, id: FrameId) -> Option<WrittenFrame>
-        ensures { result ≡ self.now id }
+        ensures { result ≡ value_of self.now id }
     {
-        self.known.kept(id)
+        self.known.get(id)
     }
 }
 
@@ -99,26 +103,24 @@ pub fn frame_lines(
     tables: &[(FrameId, usize)],
 ) -> Result<WrittenFrames, AllocError>
     ensures { IfOk result (λ lines. IsSome (parse_document text.now)
-        → (id : Id) → lines id ≡ spec.line_among text.now tables.now id) }
+        → lines ≡ spec.frame_lines_of text.now tables.now) }
 {
     let places = Places::of(alloc, text)?;
     let written = TextTables::of(alloc, text, &places)?;
     let lines = TextLines::of(alloc, text.as_bytes())?;
-    let pairs = lined(alloc, &written, &lines, tables)?;
-    Ok(WrittenFrames {
-        known: Lookup::of(alloc, pairs.as_slice())?,
-    })
+    let list = lined(alloc, &written, &lines, tables)?;
+    WrittenFrames::of(alloc, list)
 }
 
 /// Where a base's text writes the frames that it lists; a text that isn't TOML lists none. It is read twice, once as TOML.
 pub fn listed_lines(alloc: Global, text: &[u8]) -> Result<WrittenFrames, AllocError>
-    ensures { IfOk result (λ lines. (id : Id) → lines id ≡ spec.frame_line_in text.now id) }
+    ensures { IfOk result (λ lines. lines ≡ spec.frame_lines_in text.now) }
 {
     let Ok(table) = tree(alloc, text)? else {
-        return WrittenFrames::none(alloc);
+        return WrittenFrames::of(alloc, Vec::new(alloc));
     };
     let Ok(text) = str::from_utf8(text) else {
-        return WrittenFrames::none(alloc);
+        return WrittenFrames::of(alloc, Vec::new(alloc));
     };
     let draft = draft_of(alloc, table)?;
     let tables = tables_of(alloc, draft.frames.as_slice())?;

@@ -1,6 +1,5 @@
 ghost use Rattle.std.specs.Prelude.{◌≡◌, List, IfOk};
-ghost use Rattle.indexmap.specs.IndexMap.{get};
-ghost use Rattle.page_ids.specs.Ids.{Id, id_eq};
+ghost use Rattle.page_ids.specs.Ids.{Id};
 ghost use Rattle.lint.specs.Lookups.{value_of};
 ghost use Rattle.lint.specs.Loops.{KnowsValues};
 
@@ -24,13 +23,6 @@ impl<V: Copy> Lookup<V> {
             map.insert(*id, *value)?;
         }
         Ok(Lookup { map })
-    }
-
-    // The value that is kept of an id.
-    pub fn kept(&self, id: FrameId) -> Option<V>
-        ensures { result ≡ get id_eq self.now.map id }
-    {
-        self.map.get(&id).copied()
     }
 
     // The value of an id.

@@ -1,10 +1,10 @@
 //! What is said of the faults of an audit.
 
-ghost use Rattle.std.specs.Prelude.{◌≡◌, List, IfOk, map};
-ghost use Rattle.std.specs.String.{string_bytes};
+ghost use Rattle.std.specs.Prelude.{◌≡◌, List, IfOk};
 ghost use Rattle.finder.specs.declared.found.Discovered.{Discovered};
 ghost use Rattle.lint.specs.FrameLines as spec;
 ghost use Rattle.lint.specs.Lint.{ranks_of};
+ghost use Rattle.lint.specs.Lookups.{value_of};
 ghost use Rattle.lint.specs.Loops.{KnowsValues};
 
 use crate::audit_findings::{Ranks, group_of, rank_of, ranks_of};
@@ -84,7 +84,7 @@ fn judged_at(
     fault: &Fault,
 ) -> Judged
     ensures { (found : List Discovered) → KnowsValues (ranks_of found) ranks.now
-        → result ≡ spec.judged_at (lines.now fault.now.frame) base.now policy.now found fault.now }
+        → result ≡ spec.judged_at (value_of lines.now fault.now.frame) base.now policy.now found fault.now }
 {
     Judged {
         ceiling: policy.ceiling,

@@ -1,5 +1,5 @@
 -- Devices, and the files that they gave.
-use Rattle.std.specs.Prelude.{◌≡◌, ℕ, false, List, Option, Result, Ok, Err, ◌≤◌, ◌<◌, ◌+◌, length, None}
+use Rattle.std.specs.Prelude.{◌≡◌, ℕ, false, List, Result, Ok, Err, ◌≤◌, ◌<◌, ◌+◌, length, None}
 use Rattle.std.specs.Io.KnownBytes.{Keeps, Consumes, IsAtEnd}
 use Rattle.devices.specs.Devices.{Seen, WroteWhole, WrotePart, BrokeWithin, TookWithin}
 use Rattle.audit_report.specs.declared.run_fault.RunFault.{RunFault}
@@ -9,7 +9,7 @@ use Rattle.frame_records.specs.Bases.{BaseView}
 use Rattle.base_text.specs.declared.fault.BaseFault.{BaseFault}
 use Rattle.base_text.specs.Whole.{IsTextBase}
 use Rattle.lint.specs.declared.lines.WrittenFrame.{WrittenFrame}
-use Rattle.lint.specs.FrameLines.{frame_line_in}
+use Rattle.lint.specs.FrameLines.{frame_lines_in}
 use Rattle.cert_table.specs.Table.{CertView}
 use Rattle.cert_text.specs.declared.fault.LineCause.TheVariants.{Truncated}
 use Rattle.cert_text.specs.declared.fault.ReadFault.{ReadFault}
@@ -72,11 +72,11 @@ pub record IsBaseOfFile (d : Device) (base : BaseView) : Type 0 where
   pub is : IsTextBase text base
 
 -- the base of the file's text, and where the text writes its frames
-pub record IsLinedOfFile (d : Device) (base : BaseView) (lines : Id → Option WrittenFrame) : Type 0 where
+pub record IsLinedOfFile (d : Device) (base : BaseView) (lines : List (Id × WrittenFrame)) : Type 0 where
   pub text : List ℕ
   pub read : WasRead base_limit d text
   pub is : IsTextBase text base
-  pub written : (id : Id) → lines id ≡ frame_line_in text id
+  pub written : lines ≡ frame_lines_in text
 
 -- the certificate of the file's text
 pub record IsCertOfFile (d : Device) (cert : CertView) : Type 0 where

@@ -5,8 +5,7 @@ use Rattle.pageaudit.specs.declared.edition.EditionFault.TheVariants as part
 use Rattle.pageaudit.specs.Files.{IsUntouched, IsBaseOfFile, IsLinedOfFile, Device, base_limit, IsBaseTextFault, IsBaseBroken, IsReadWithin, cert_limit, IsCertTextFault, IsCertBroken, IsCertOfFile, IsTruncated, WasReadSoFar, WasRead}
 use Rattle.pageaudit.specs.ChangeRun.{EditionFiles, IsEditionOf}
 use Rattle.std.specs.Prelude.{Result, MatchResult, ℕ, List, Ok, Err, ◌≡◌, false, ◌≤◌, ◌++◌, length, None, true, ◌+◌, Vec}
-use Rattle.page_ids.specs.Ids.{Id}
-use Rattle.lint.specs.FrameLines.{frame_line_in}
+use Rattle.lint.specs.FrameLines.{frame_lines_in}
 use Rattle.pageaudit.specs.declared.input.LinedBase.{LinedBase}
 use Rattle.cert_table.specs.Table.{CertView}
 use Rattle.base_text.specs.declared.fault.BaseFault.{BaseFault}
@@ -65,7 +64,7 @@ IsBaseAnswer text (Err file.Broken) = ⊥
 IsBaseAnswer text (Err file.Memory) = Unit {0}
 
 abbrev pub IsLinedAnswer : List ℕ → Result LinedBase (FileFault BaseFault) → Type 0
-IsLinedAnswer text (Ok l) = IsTextBase text l.base × ((id : Id) → l.lines id ≡ frame_line_in text id)
+IsLinedAnswer text (Ok l) = IsTextBase text l.base × (l.lines ≡ frame_lines_in text)
 IsLinedAnswer text (Err (file.Text fault)) = IsBaseRefused text fault
 IsLinedAnswer text (Err file.Broken) = ⊥
 IsLinedAnswer text (Err file.Memory) = Unit {0}

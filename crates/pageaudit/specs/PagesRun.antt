@@ -1,5 +1,5 @@
 -- What a run does that writes a base as an HTML file.
-use Rattle.std.specs.Prelude.{◌≡◌, ◌⊎◌, ℕ, List, Option, Result, Ok, Err}
+use Rattle.std.specs.Prelude.{◌≡◌, ◌⊎◌, ℕ, List, Result, Ok, Err}
 use Rattle.page_ids.specs.Ids.{Id}
 use Rattle.frame_records.specs.Bases.{BaseView}
 use Rattle.checker.specs.declared.policy.Policy.{Policy}
@@ -25,7 +25,7 @@ run_of (Err Memory) = Err run.Memory
 pub record IsPagesWritten (base_file out : Device) (name : List ℕ) (policy : Policy) (view : View) (base : BaseView) (answer : Result PagesStatus RunFault) : Type 0 where
   pub pages : Result PagesStatus PagesFault
   pub is : answer ≡ run_of pages
-  pub lines : Id → Option WrittenFrame
+  pub lines : List (Id × WrittenFrame)
   pub lined : IsLinedOfFile base_file base lines
   pub written : IsPagesRun out.before out.after (record { name = name; lines = lines }) base policy view pages
 
