@@ -43,7 +43,7 @@ use Rattle.base_pages.specs.Screens.{is_reached}
 use Rattle.base_pages.specs.Sections.{BookView, section_attributes, shown_frames}
 use Rattle.base_pages.specs.Pages.{book}
 use Rattle.base_pages.specs.Reading.{Element}
-use Rattle.base_pages.specs.Said.{said_as, link_said, marked_said, way_said, ways_said, over_said, group_said, place_said, marks_said, sentence_said, sentences_said, fault_said, faults_said, told_said, section_said, class_said}
+use Rattle.base_pages.specs.Said.{said_as, link_said, marked_said, way_said, ways_said, over_said, group_said, place_said, marks_said, sentence_said, sentences_said, fault_said, faults_said, findings_said, section_said, class_said}
 use Rattle.base_pages.specs.Links.{says_unreached, fails, NoWayFails}
 use Rattle.base_pages.specs.Laws.{CertifiedWaysLead}
 use Rattle.base_pages.proofs.Files.{says_what_is_shown}
@@ -167,9 +167,9 @@ certified_ways_lead source base policy part found (Certified cert) sentences val
     let reached = (finding.reached.reached f.id).1 (listed found f.id (marked_unreached b f unmarked)) in
     let said = sentences_about b.faults b.sentences f.id in
     let lines = faults_about b.faults f.id in
-    none_in_both (marks_said source f) (class_said (codes "ways") (10 ∷ []) ∷ (ways_said b f ++ over_said f.lead ++ told_said b f))
+    none_in_both (marks_said source f) (class_said (codes "ways") (10 ∷ []) ∷ (ways_said b f ++ over_said f.lead ++ findings_said b f))
     (none_in_both (group_said f.group) (place_said source.name (value_of source.lines f.id)) (group_found f.group) (place_found source.name (value_of source.lines f.id)))
-    (none_in_both (ways_said b f ++ over_said f.lead) (told_said b f)
+    (none_in_both (ways_said b f ++ over_said f.lead) (findings_said b f)
     (none_in_both (ways_said b f) (over_said f.lead)
     (none_in_each (λ (way : Way). way_said part (way_key way) (destination_of policy.groups base f way)) (λ (way : Way). way_found part (way_key way) (destination_of policy.groups base f way) (not_missing base policy f outcome.0 reached there way) (not_closed base policy f outcome.0 reached there way)) ways)
     (over_found f.lead)) (none_in_both (sentences_said said) (faults_said lines) (sentences_found said) (faults_found lines))) in

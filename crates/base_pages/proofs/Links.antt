@@ -45,7 +45,7 @@ use Rattle.base_pages.specs.Screens.{is_reached, screen_of}
 use Rattle.base_pages.specs.Sections.{BookView, section_attributes, shown_frames}
 use Rattle.base_pages.specs.Tags.{HasId, HaveIds}
 use Rattle.base_pages.specs.Reading.{Element}
-use Rattle.base_pages.specs.Said.{said_as, link_said, marked_said, way_said, ways_said, class_said, over_said, group_said, place_said, marks_said, sentence_said, sentences_said, fault_said, faults_said, told_said, section_said}
+use Rattle.base_pages.specs.Said.{said_as, link_said, marked_said, way_said, ways_said, class_said, over_said, group_said, place_said, marks_said, sentence_said, sentences_said, fault_said, faults_said, findings_said, section_said}
 use Rattle.base_pages.specs.Links.{HasLink, LeadsInFile, LinksAreWays}
 use Rattle.base_pages.specs.Laws.{LinksLead}
 
@@ -266,31 +266,31 @@ module _ (b : BookView) (ids : HaveIds b.part b.base.frames) (f : Frame) where
       ∷ marks_said b.source f
 
   abbrev rest : List Element
-  rest = class_said (codes "ways") newline ∷ (ways_said b f ++ over_said f.lead ++ told_said b f)
+  rest = class_said (codes "ways") newline ∷ (ways_said b f ++ over_said f.lead ++ findings_said b f)
 
   marks_unlinked : list_all is_other (marks_said b.source f) ≡ true
   marks_unlinked = all_unlinked (group_said f.group) (place_said b.source.name (value_of b.source.lines f.id)) (group_unlinked f.group) (place_unlinked b.source.name (value_of b.source.lines f.id))
 
-  told_unlinked : list_all is_other (told_said b f) ≡ true
-  told_unlinked =
+  findings_unlinked : list_all is_other (findings_said b f) ≡ true
+  findings_unlinked =
       let ss = sentences_about b.faults b.sentences f.id in
       let fs = faults_about b.faults f.id in
       all_unlinked (sentences_said ss) (faults_said fs) (said_unlinked ss) (faults_unlinked fs)
 
   -- a link is among the ways
-  among_rest : (e : Element) → e.name ≡ codes "a" → Contains (ways_said b f ++ over_said f.lead ++ told_said b f) e → Contains (ways_said b f) e
-  among_rest e named later = elim (Contains-append_cases (ways_said b f ++ over_said f.lead) (told_said b f) e later) [
+  among_rest : (e : Element) → e.name ≡ codes "a" → Contains (ways_said b f ++ over_said f.lead ++ findings_said b f) e → Contains (ways_said b f) e
+  among_rest e named later = elim (Contains-append_cases (ways_said b f ++ over_said f.lead) (findings_said b f) e later) [
     | inl own ↦ elim (Contains-append_cases (ways_said b f) (over_said f.lead) e own) [
       | inl way ↦ way
       | inr over ↦ no_link (over_said f.lead) e (over_unlinked f.lead) named over
     ]
-    | inr told ↦ no_link (told_said b f) e told_unlinked named told
+    | inr findings ↦ no_link (findings_said b f) e findings_unlinked named findings
   ]
 
   among_ways : (e : Element) → e.name ≡ codes "a" → Contains (section_said b f) e → Contains (ways_said b f) e
   among_ways e named h = elim (Contains-append_cases front rest e h) [
     | inl first ↦ no_link front e marks_unlinked named first
-    | inr later ↦ elim (Contains-append_cases (class_said (codes "ways") newline ∷ []) (ways_said b f ++ over_said f.lead ++ told_said b f) e later) [
+    | inr later ↦ elim (Contains-append_cases (class_said (codes "ways") newline ∷ []) (ways_said b f ++ over_said f.lead ++ findings_said b f) e later) [
       | inl ways ↦ no_link (class_said (codes "ways") newline ∷ []) e refl named ways
       | inr after ↦ among_rest e named after
     ]
@@ -339,10 +339,10 @@ module _ (b : BookView) (ids : HaveIds b.part b.base.frames) (f : Frame) where
       let link = link_said to (way_key way) in
       let here : Contains (way_said b.part (way_key way) (Found to there.price)) link = first_of (part_shows b.part to) link (marked_said (codes "elsewhere") (way_key way) (frame_text to)) shows in
       let among : Contains (ways_said b f) link = each_among own ways way link (way_among way key) (subst (λ (leads : Destination). Contains (way_said b.part (way_key way) leads) link) (sym there.found) here) in
-      let after = ways_said b f ++ over_said f.lead ++ told_said b f in
+      let after = ways_said b f ++ over_said f.lead ++ findings_said b f in
       Contains-append_right front rest link
       (Contains-append_right (class_said (codes "ways") newline ∷ []) after link
-      (Contains-append_left (ways_said b f ++ over_said f.lead) (told_said b f) link (Contains-append_left (ways_said b f) (over_said f.lead) link among)))
+      (Contains-append_left (ways_said b f ++ over_said f.lead) (findings_said b f) link (Contains-append_left (ways_said b f) (over_said f.lead) link among)))
 
   pub are_ways : LinksAreWays b f
   are_ways = record {

@@ -30,9 +30,9 @@ use Rattle.lint.specs.FrameLines.{SentenceView}
 use Rattle.lint.specs.Lookups.{value_of}
 use Rattle.base_pages.specs.Faults.{faults_about, sentences_about, item, items, listed, fault_list, entry_faults, touched_cell}
 use Rattle.base_pages.specs.Screens.{screen_of}
-use Rattle.base_pages.specs.Sections.{BookView, SourceView, heading, drawn_pieces, text_pieces, price_pieces, group_pieces, place_chars, place_pieces, over, sentence_chars, sentence_item, sentence_list, told_pieces, beside_screen, below_screen}
+use Rattle.base_pages.specs.Sections.{BookView, SourceView, heading, drawn_pieces, text_pieces, price_pieces, group_pieces, place_chars, place_pieces, over, sentence_chars, sentence_item, sentence_list, finding_pieces, beside_screen, below_screen}
 use Rattle.base_pages.specs.Head.{certified_words, certified, fault_count, faulty_pieces, outcome_pieces, paragraph, policy_words, name_line, outcome_faults, header_pieces}
-use Rattle.base_pages.specs.Said.{said_as, link_said, marked_said, way_said, ways_said, class_said, over_said, group_said, place_said, marks_said, sentence_said, sentences_said, fault_said, faults_said, told_said, frame_said}
+use Rattle.base_pages.specs.Said.{said_as, link_said, marked_said, way_said, ways_said, class_said, over_said, group_said, place_said, marks_said, sentence_said, sentences_said, fault_said, faults_said, findings_said, frame_said}
 use Rattle.base_pages.specs.Reading.{Element}
 use Rattle.base_pages.proofs.Parts.{Part, none, both, each, of_element, of_around}
 use Rattle.base_pages.proofs.Picture.{silent_picture}
@@ -114,9 +114,9 @@ sentences_part [] = none
 sentences_part (s ∷ ss) =
     of_around (codes "ul") ((codes "class", codes "said") ∷ []) (flat_map sentence_item (s ∷ ss)) (flat_map sentence_said (s ∷ ss)) refl refl refl refl refl refl (each sentence_item sentence_said sentence_part (s ∷ ss))
 
-told_part : (b : BookView) (f : Frame) → Part (told_pieces (sentences_about b.faults b.sentences f.id) (faults_about b.faults f.id)) (told_said b f)
-unfolding told_pieces
-told_part b f =
+findings_part : (b : BookView) (f : Frame) → Part (finding_pieces (sentences_about b.faults b.sentences f.id) (faults_about b.faults f.id)) (findings_said b f)
+unfolding finding_pieces
+findings_part b f =
     let ss = sentences_about b.faults b.sentences f.id in
     let fs = faults_about b.faults f.id in
     both (sentence_list ss) (fault_list fs) (sentences_said ss) (faults_said fs) (sentences_part ss) (faults_part fs)
@@ -132,16 +132,16 @@ inner_part b f =
     let onward = ways_pieces b.caller b.base b.part f in
     let h2 = said_as (codes "h2") [] (frame_text f.id) in
     let pre = said_as (codes "pre") [] (text rows) in
-    let told = told_pieces (sentences_about b.faults b.sentences f.id) faults in
+    let findings = finding_pieces (sentences_about b.faults b.sentences f.id) faults in
     let marked = class_said (codes "price") (decimal f.price ++ codes "p") ∷ marks_said b.source f in
     let led = class_said (codes "ways") newline ∷ ways_said b f in
-    let seen : (h2 ∷ pre ∷ []) ++ (((marked ++ led) ++ over_said f.lead) ++ told_said b f) ≡ frame_said b f = simp append_assoc in
+    let seen : (h2 ∷ pre ∷ []) ++ (((marked ++ led) ++ over_said f.lead) ++ findings_said b f) ≡ frame_said b f = simp append_assoc in
     subst (Part _) seen
-    (both (heading f.id ++ drawn ++ text_pieces rows) (below_screen b f (sentences_about b.faults b.sentences f.id) faults) (h2 ∷ pre ∷ []) (((marked ++ led) ++ over_said f.lead) ++ told_said b f)
+    (both (heading f.id ++ drawn ++ text_pieces rows) (below_screen b f (sentences_about b.faults b.sentences f.id) faults) (h2 ∷ pre ∷ []) (((marked ++ led) ++ over_said f.lead) ++ findings_said b f)
     (both (heading f.id ++ drawn) (text_pieces rows) (h2 ∷ []) (pre ∷ []) (both (heading f.id) drawn (h2 ∷ []) [] (heading_part f.id) (picture_part f.id rows (touched_cell f faults))) (text_part rows))
-    (both (beside_screen b.source f ++ onward ++ over f.lead) told ((marked ++ led) ++ over_said f.lead) (told_said b f)
+    (both (beside_screen b.source f ++ onward ++ over f.lead) findings ((marked ++ led) ++ over_said f.lead) (findings_said b f)
     (both (beside_screen b.source f ++ onward) (over f.lead) (marked ++ led) (over_said f.lead) (both (beside_screen b.source f) onward marked led (beside_part b.source f) (ways_part b f)) (over_part f.lead))
-    (told_part b f)))
+    (findings_part b f)))
 
 -- The header.
 

@@ -87,8 +87,8 @@ faults_said [] = []
 faults_said (fault ∷ faults) = said_as (codes "ul") ((codes "class", codes "faults") ∷ []) newline ∷ flat_map fault_said (fault ∷ faults)
 
 -- what lint says of its faults, and the audit's lines
-abbrev pub told_said : BookView → Frame → List Element
-told_said b f = sentences_said (sentences_about b.faults b.sentences f.id) ++ faults_said (faults_about b.faults f.id)
+abbrev pub findings_said : BookView → Frame → List Element
+findings_said b f = sentences_said (sentences_about b.faults b.sentences f.id) ++ faults_said (faults_about b.faults f.id)
 
 -- the heading is the frame's id; then come its text, its price, its group, where it is written, its ways, and the faults about it
 abbrev pub frame_said : BookView → Frame → List Element
@@ -96,7 +96,7 @@ frame_said b f =
     said_as (codes "h2") [] (frame_text f.id)
     ∷ said_as (codes "pre") [] (text (screen_of b.caller b.base b.found f.id))
     ∷ class_said (codes "price") (decimal f.price ++ codes "p")
-    ∷ (marks_said b.source f ++ class_said (codes "ways") newline ∷ (ways_said b f ++ over_said f.lead ++ told_said b f))
+    ∷ (marks_said b.source f ++ class_said (codes "ways") newline ∷ (ways_said b f ++ over_said f.lead ++ findings_said b f))
 
 -- the section's own id is that too, and its class says if no key reaches the frame
 abbrev pub section_said : BookView → Frame → List Element

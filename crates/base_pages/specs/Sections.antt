@@ -93,9 +93,9 @@ abbrev pub sentence_list : List SentenceView → List Piece
 sentence_list [] = []
 sentence_list (s ∷ sentences) = around (codes "ul") ((codes "class", codes "said") ∷ []) (flat_map sentence_item (s ∷ sentences))
 
--- what is told of the faults of a frame: what lint says, and the audit's lines
-unfoldable pub told_pieces : List SentenceView → List Fault → List Piece
-told_pieces sentences faults = sentence_list sentences ++ fault_list faults
+-- what is said of the faults of a frame: what lint says, and the audit's lines
+unfoldable pub finding_pieces : List SentenceView → List Fault → List Piece
+finding_pieces sentences faults = sentence_list sentences ++ fault_list faults
 
 -- what belongs to a frame beside its screen, and where it is written
 unfoldable pub beside_screen : SourceView → Frame → List Piece
@@ -104,7 +104,7 @@ beside_screen source f = price_pieces f.price ++ group_pieces f.group ++ place_p
 -- what comes after the picture and the text
 unfoldable pub below_screen : BookView → Frame → List SentenceView → List Fault → List Piece
 below_screen b f sentences faults =
-    beside_screen b.source f ++ ways_pieces b.caller b.base b.part f ++ over f.lead ++ told_pieces sentences faults
+    beside_screen b.source f ++ ways_pieces b.caller b.base b.part f ++ over f.lead ++ finding_pieces sentences faults
 
 -- a section by its faults and what is said of them, the looks of its screen, and whether a key reaches its frame
 unfoldable pub shaped : BookView → Frame → List SentenceView → List Fault → List (List Look) → Bool → List Piece

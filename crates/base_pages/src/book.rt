@@ -21,7 +21,7 @@ use fault_scripts::Fault;
 use finder::Part;
 use frame_records::{Base, Frame, GroupNo, Groups, Lead, Pence};
 use frame_screens::Gallery;
-use lint::{WrittenFrame, Sentence};
+use lint::{Sentence, WrittenFrame};
 use page_ids::{FrameId, push_number};
 use screens::{Looks, Writing, push_svg, push_text, screen_looks};
 use std::alloc::{AllocError, Global};
@@ -101,11 +101,7 @@ fn push_price(alloc: Global, out: &mut Vec<u8>, price: Pence) -> Result<(), Allo
 
 // The group of the callers who can open a frame.
 #[tactic(auto, using(crate::proofs::Bytes::nothing), unfolding(crate::specs::Sections::group_pieces))]
-fn push_group(
-    alloc: Global,
-    out: &mut Vec<u8>,
-    group: Option<GroupNo>,
-) -> Result<(), AllocError>
+fn push_group(alloc: Global, out: &mut Vec<u8>, group: Option<GroupNo>) -> Result<(), AllocError>
     ensures { OnOk result (out.new.items ≡ out.old.items ++ markup (spec.group_pieces group)) }
 {
     let Some(group) = group else {
@@ -180,15 +176,15 @@ fn push_over(out: &mut Vec<u8>, lead: Lead) -> Result<(), AllocError>
 
 impl<'a> Book<'a> {
     // What lint says of the faults of numbers, and the audit's lines.
-    #[tactic(auto, using(std::proofs::Common::append_assoc, crate::proofs::Bytes::markup_append), unfolding(crate::specs::Sections::told_pieces))]
-    fn push_told(
+    #[tactic(auto, using(std::proofs::Common::append_assoc, crate::proofs::Bytes::markup_append), unfolding(crate::specs::Sections::finding_pieces))]
+    fn push_findings(
         &self,
         alloc: Global,
         out: &mut Vec<u8>,
         numbers: &[usize],
     ) -> Result<(), AllocError>
         ensures { OnOk result (out.new.items ≡ out.old.items
-            ++ markup (spec.told_pieces (picked self.now.sentences.now numbers.now)
+            ++ markup (spec.finding_pieces (picked self.now.sentences.now numbers.now)
             (picked self.now.faults.now numbers.now))) }
     {
         push_sentences(alloc, out, self.sentences, numbers)?;
@@ -211,7 +207,7 @@ impl<'a> Book<'a> {
         push_beside(alloc, out, self.source, frame)?;
         push_ways(alloc, out, self.base, self.groups, self.part, frame)?;
         push_over(out, frame.lead)?;
-        self.push_told(alloc, out, numbers)
+        self.push_findings(alloc, out, numbers)
     }
 
     // A section with the faults of numbers and a screen.

@@ -30,7 +30,7 @@ lined text ms p = (p.0, written_line text ms p.1)
 abbrev pub frame_lines_of : List ℕ → List (Id × ℕ) → List (Id × WrittenFrame)
 frame_lines_of text tables = map (lined text (marks text)) tables
 
--- of the frames that a text lists
+-- the lines of the frames that a text lists
 abbrev pub frame_lines_in : List ℕ → List (Id × WrittenFrame)
 frame_lines_in text = frame_lines_of text (text_tables text)
 

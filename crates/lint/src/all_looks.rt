@@ -2,7 +2,7 @@
 
 ghost use Rattle.std.specs.Prelude.{◌≡◌, ◌++◌, Bool, List, IfOk, OnOk};
 ghost use Rattle.page_ids.specs.Ids.{Id};
-ghost use Rattle.lint.specs.Loops.{KnowsValues};
+ghost use Rattle.lint.specs.Lookups.{KnowsValues};
 ghost use Rattle.lint.specs.AllLooks as spec;
 
 use crate::looks::{Look, add_line_end, add_rows_if};

@@ -1,7 +1,8 @@
 ghost use Rattle.std.specs.Prelude.{◌≡◌, ◌++◌, ℕ, List, Option, map, IfOk, OnOk};
 ghost use Rattle.page_ids.specs.Ids.{Id};
 ghost use Rattle.toml_places.specs.Places.{Mark};
-ghost use Rattle.lint.specs.Loops.{KnowsTables, IsTable, table_seen, KnowsValues};
+ghost use Rattle.lint.specs.Loops.{KnowsTables, IsTable, table_seen};
+ghost use Rattle.lint.specs.Lookups.{KnowsValues};
 ghost use Rattle.lint.specs.declared.looks.Look.TheVariants.{Hidden, Escape, EndsLine, Shown, Offers, Unsought};
 ghost use Rattle.lint.specs.Lint as spec;
 ghost use Rattle.lint.specs.Loops as loops;
@@ -41,7 +42,10 @@ pub struct Audit {
 }
 
 // The rank of each frame that is reached.
-pub fn ranks_of(alloc: Global, found: &[Discovered]) -> Result<Vec<(FrameId, Option<u16>)>, AllocError>
+pub fn ranks_of(
+    alloc: Global,
+    found: &[Discovered],
+) -> Result<Vec<(FrameId, Option<u16>)>, AllocError>
     ensures { IfOk result (λ ranks. ranks.items ≡ spec.ranks_of found.now) }
 {
     found

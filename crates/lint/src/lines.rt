@@ -36,7 +36,7 @@ impl Model for WrittenFrames {
     ghost use Rattle.std.specs.Prelude.{List};
     ghost use Rattle.page_ids.specs.Ids.{Id};
     ghost use Rattle.lint.specs.declared.lines.WrittenFrame.{WrittenFrame};
-    ghost use Rattle.lint.specs.Loops.{KnowsValues};
+    ghost use Rattle.lint.specs.Lookups.{KnowsValues};
 
     ghost Value = { List (Id × WrittenFrame) };
 
@@ -46,10 +46,7 @@ impl Model for WrittenFrames {
 }
 
 impl WrittenFrames {
-    fn of(
-        alloc: Global,
-        list: Vec<(FrameId, WrittenFrame)>,
-    ) -> Result<WrittenFrames, AllocError>
+    fn of(alloc: Global, list: Vec<(FrameId, WrittenFrame)>) -> Result<WrittenFrames, AllocError>
         ensures { IfOk result (λ lines. lines ≡ list.items) }
     {
         let known = Lookup::of(alloc, list.as_slice())?;

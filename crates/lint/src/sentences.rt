@@ -4,8 +4,7 @@ ghost use Rattle.std.specs.Prelude.{◌≡◌, List, IfOk};
 ghost use Rattle.finder.specs.declared.found.Discovered.{Discovered};
 ghost use Rattle.lint.specs.FrameLines as spec;
 ghost use Rattle.lint.specs.Lint.{ranks_of};
-ghost use Rattle.lint.specs.Lookups.{value_of};
-ghost use Rattle.lint.specs.Loops.{KnowsValues};
+ghost use Rattle.lint.specs.Lookups.{KnowsValues, value_of};
 
 use crate::audit_findings::{Ranks, group_of, rank_of, ranks_of};
 use crate::lines::{WrittenFrame, WrittenFrames};
@@ -18,7 +17,7 @@ use lint_words::{Judged, Words, audit_fault_words};
 use std::alloc::{AllocError, Global};
 use std::marker::Model;
 
-/// What is said of a fault, as lint prints it: its message, and how to mend it.
+/// What is said of a fault, as lint prints it: its message, and how to fix it.
 #[derive(Debug, Drop)]
 pub struct Sentence {
     message: String,
@@ -50,7 +49,7 @@ impl Sentence {
         self.message.as_str()
     }
 
-    /// How to mend it, on one line; empty if there is no more to say.
+    /// How to fix it, on one line; empty if there is no more to say.
     pub fn hint(&self) -> &str
         ensures { result.now ≡ self.now.hint }
     {

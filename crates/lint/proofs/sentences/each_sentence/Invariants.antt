@@ -2,7 +2,7 @@ use Rattle.std.proofs.Common.{◌≡◌, List, map, take}
 use Rattle.finder.specs.declared.found.Discovered.{Discovered}
 use Rattle.lint.specs.FrameLines.{AreSentences}
 use Rattle.lint.specs.Lint.{ranks_of}
-use Rattle.lint.specs.Loops.{KnowsValues}
+use Rattle.lint.specs.Lookups.{KnowsValues}
 use Rattle.lint.proofs.sentences.each_sentence.Given as goal
 
 -- the first faults have their sentences
