@@ -21,7 +21,7 @@ use fault_scripts::Fault;
 use finder::Part;
 use frame_records::{Base, Frame, GroupNo, Groups, Lead, Pence};
 use frame_screens::Gallery;
-use lint::{WrittenFrame, Sentence};
+use lint::{Sentence, WrittenFrame};
 use page_ids::{FrameId, push_number};
 use screens::{Looks, Writing, push_svg, push_text, screen_looks};
 use std::alloc::{AllocError, Global};
@@ -101,11 +101,7 @@ fn push_price(alloc: Global, out: &mut Vec<u8>, price: Pence) -> Result<(), Allo
 
 // The group of the callers who can open a frame.
 #[tactic(auto, using(crate::proofs::Bytes::nothing), unfolding(crate::specs::Sections::group_pieces))]
-fn push_group(
-    alloc: Global,
-    out: &mut Vec<u8>,
-    group: Option<GroupNo>,
-) -> Result<(), AllocError>
+fn push_group(alloc: Global, out: &mut Vec<u8>, group: Option<GroupNo>) -> Result<(), AllocError>
     ensures { OnOk result (out.new.items ≡ out.old.items ++ markup (spec.group_pieces group)) }
 {
     let Some(group) = group else {

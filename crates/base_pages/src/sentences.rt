@@ -35,11 +35,7 @@ fn push_sentence(out: &mut Vec<u8>, sentence: &Sentence) -> Result<(), AllocErro
 }
 
 // The sentence of a number, if there is one.
-fn push_numbered(
-    out: &mut Vec<u8>,
-    sentences: &[Sentence],
-    number: usize,
-) -> Result<(), AllocError>
+fn push_numbered(out: &mut Vec<u8>, sentences: &[Sentence], number: usize) -> Result<(), AllocError>
     ensures { OnOk result (out.new.items ≡ out.old.items ++ numbered_sentence sentences.now number) }
 {
     match sentences.get(number) {
@@ -48,11 +44,7 @@ fn push_numbered(
     }
 }
 
-fn push_each(
-    out: &mut Vec<u8>,
-    sentences: &[Sentence],
-    numbers: &[usize],
-) -> Result<(), AllocError>
+fn push_each(out: &mut Vec<u8>, sentences: &[Sentence], numbers: &[usize]) -> Result<(), AllocError>
     ensures { OnOk result (out.new.items ≡ out.old.items ++ numbered_sentences sentences.now numbers.now) }
 {
     for number in numbers {

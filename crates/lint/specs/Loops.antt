@@ -14,7 +14,7 @@ use Rattle.fault_scripts.specs.declared.fault.Fault.{Fault}
 use Rattle.lint.specs.declared.looks.Look.{Look}
 use Rattle.toml_places.specs.Places.{Mark, kept_route, kept_key, key_in, route_in, first_spot, routes_key, Keeps}
 use Rattle.lint.specs.declared.audit_findings.Sources.{Sources}
-use Rattle.lint.specs.Tables.{TableView, value_at, key_spot, dotted_spot, table_at, whole, inline_marks, frame_element}
+use Rattle.lint.specs.Tables.{TableView, value_at, key_spot, dotted_spot, table_at, inline_marks, frame_element}
 use Rattle.toml_places.specs.declared.spans.Span.{Span}
 use Rattle.toml_places.specs.Spans.{pair_span}
 use Rattle.toml_places.specs.Steps.{◌>>=◌}

@@ -1,5 +1,5 @@
 -- What one sees of a frame alone, on a cleared screen, if its codes show that an escape or a menu may be among it.
-use Rattle.std.specs.Prelude.{ℕ, ◌+◌, ◌-◌, ◌%◌, Bool, true, false, ◌==◌, ◌&&◌, ◌||◌, not, nat_le, if◌then◌else◌, List, [], ◌∷◌, Option, Some, None, slice_get}
+use Rattle.std.specs.Prelude.{ℕ, ◌+◌, ◌-◌, ◌%◌, Bool, false, ◌==◌, ◌&&◌, ◌||◌, not, nat_le, if◌then◌else◌, List, [], ◌∷◌, Option, Some, None, slice_get}
 use Rattle.std.specs.Char.{is_ascii_digit}
 use Rattle.std.specs.List.{list_any}
 use Rattle.page_ids.specs.Ids.{Id}
@@ -63,9 +63,9 @@ is_before_gap cells at = is_some_gap (slice_get cells (at + 1))
 
 abbrev pub with_byte : Frame → Digits → ℕ → Digits
 with_byte f d b = record {
-    routed = d.routed || may_show_routed f b;
-    two_routed = d.two_routed || (d.routed && may_show_routed f b);
-    unrouted = d.unrouted || may_show_unrouted f b
+  routed = d.routed || may_show_routed f b;
+  two_routed = d.two_routed || (d.routed && may_show_routed f b);
+  unrouted = d.unrouted || may_show_unrouted f b;
 }
 
 abbrev pub digits_from : Frame → List ℕ → CaretView → Digits → List ℕ → Digits

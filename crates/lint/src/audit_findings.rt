@@ -41,7 +41,10 @@ pub struct Audit {
 }
 
 // The rank of each frame that is reached.
-pub fn ranks_of(alloc: Global, found: &[Discovered]) -> Result<Vec<(FrameId, Option<u16>)>, AllocError>
+pub fn ranks_of(
+    alloc: Global,
+    found: &[Discovered],
+) -> Result<Vec<(FrameId, Option<u16>)>, AllocError>
     ensures { IfOk result (λ ranks. ranks.items ≡ spec.ranks_of found.now) }
 {
     found

@@ -46,10 +46,7 @@ impl Model for WrittenFrames {
 }
 
 impl WrittenFrames {
-    fn of(
-        alloc: Global,
-        list: Vec<(FrameId, WrittenFrame)>,
-    ) -> Result<WrittenFrames, AllocError>
+    fn of(alloc: Global, list: Vec<(FrameId, WrittenFrame)>) -> Result<WrittenFrames, AllocError>
         ensures { IfOk result (λ lines. lines ≡ list.items) }
     {
         let known = Lookup::of(alloc, list.as_slice())?;
