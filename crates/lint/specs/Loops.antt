@@ -9,12 +9,13 @@ use Rattle.lint.specs.declared.audit_findings.Audit.{Audit}
 use Rattle.lint.specs.Lookups.{KnowsValues}
 use Rattle.lint.specs.AllLooks.{all_looks}
 use Rattle.lint.specs.Lint.{Toml, ranks_of, unreached, finds_none, frame_ids, finding_of, IsSpanWithin}
+use Rattle.indexmap.specs.IndexMap.{get}
 use Rattle.page_ids.specs.Ids.{Id}
 use Rattle.fault_scripts.specs.declared.fault.Fault.{Fault}
 use Rattle.lint.specs.declared.looks.Look.{Look}
 use Rattle.toml_places.specs.Places.{Mark, kept_route, kept_key, key_in, route_in, first_spot, routes_key, Keeps}
 use Rattle.lint.specs.declared.audit_findings.Sources.{Sources}
-use Rattle.lint.specs.Tables.{TableView, value_at, key_spot, dotted_spot, table_at, whole, inline_marks, frame_element}
+use Rattle.lint.specs.Tables.{TableView, value_at, key_spot, dotted_spot, table_at, inline_marks, frame_element}
 use Rattle.toml_places.specs.declared.spans.Span.{Span}
 use Rattle.toml_places.specs.Spans.{pair_span}
 use Rattle.toml_places.specs.Steps.{◌>>=◌}

@@ -1,4 +1,4 @@
-use Rattle.std.proofs.Common.{◌≡◌, List, map, take}
+use Rattle.std.proofs.Common.{List, take}
 use Rattle.finder.specs.declared.found.Discovered.{Discovered}
 use Rattle.lint.specs.FrameLines.{AreSentences}
 use Rattle.lint.specs.Lint.{ranks_of}
