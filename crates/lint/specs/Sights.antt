@@ -74,8 +74,8 @@ digits_from f cells c d (b ∷ bs) =
     digits_from f cells (caret_step c b) (if is_before_gap cells c.at then with_byte f d b else d) bs
 
 -- the digits that bytes of a body write before a gap
-abbrev pub digits_of : Frame → List ℕ → Digits
-digits_of f cells =
+abbrev pub digits_before_gaps : Frame → List ℕ → Digits
+digits_before_gaps f cells =
     digits_from f cells (record { at = 40; pending = false }) (record { routed = false; two_routed = false; unrouted = false }) f.body
 
 -- a menu that offers too much has two lines with a route, and one without
@@ -83,7 +83,7 @@ abbrev pub may_offer : Digits → Bool
 may_offer d = d.two_routed && d.unrouted
 
 abbrev pub needs_looks : Frame → List ℕ → Bool
-needs_looks f cells = holds_u f.body || may_offer (digits_of f cells)
+needs_looks f cells = holds_u f.body || may_offer (digits_before_gaps f cells)
 
 abbrev pub sights_of : Frame → List ℕ → List (Id × Look)
 sights_of f cells = if needs_looks f cells then sights_on f cells (looks cells) else []
