@@ -10,7 +10,7 @@ use Rattle.lint.specs.declared.looks.Look.{Look}
 use Rattle.lint.specs.declared.looks.Look.TheVariants.{Unsought}
 use Rattle.lint.specs.Lookups.{value_of}
 use Rattle.lint.specs.Looks.{rows_if, line_end_if, line_end_of}
-use Rattle.lint.specs.Offers.{sights_if}
+use Rattle.lint.specs.Sights.{sights_if}
 
 -- What frames show.
 
@@ -19,7 +19,7 @@ abbrev pub frame_looks : Frame → List (Id × Look)
 frame_looks f =
     rows_if f ++ (line_end_if f.id Feed (line_end_of Feed f.body) ++ (line_end_if f.id Return (line_end_of Return f.body) ++ sights_if f))
 
--- of all frames, in their order
+-- the looks of all frames, in their order
 abbrev pub looks_of : List Frame → List (Id × Look)
 looks_of frames = flat_map frame_looks frames
 

@@ -2,9 +2,11 @@ pub mod Lookups
 pub mod Outside
 pub mod Looks
 pub mod Offers
+pub mod Sights
 pub mod AllLooks
 pub mod Tables
 pub mod Pictures
+pub mod FrameLines
 pub mod Spots
 pub mod Lint
 pub mod Findings

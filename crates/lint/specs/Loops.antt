@@ -6,15 +6,16 @@ use Rattle.finder.specs.declared.found.Discovered.{Discovered}
 use Rattle.finder.specs.Finds.{FindsReached, RanksAreLeast}
 use Rattle.fault_scripts.specs.Faults.{AreFaults}
 use Rattle.lint.specs.declared.audit_findings.Audit.{Audit}
-use Rattle.lint.specs.Lookups.{value_of}
+use Rattle.lint.specs.Lookups.{KnowsValues}
 use Rattle.lint.specs.AllLooks.{all_looks}
 use Rattle.lint.specs.Lint.{Toml, ranks_of, unreached, finds_none, frame_ids, finding_of, IsSpanWithin}
-use Rattle.page_ids.specs.Ids.{Id, id_eq}
+use Rattle.indexmap.specs.IndexMap.{get}
+use Rattle.page_ids.specs.Ids.{Id}
 use Rattle.fault_scripts.specs.declared.fault.Fault.{Fault}
 use Rattle.lint.specs.declared.looks.Look.{Look}
 use Rattle.toml_places.specs.Places.{Mark, kept_route, kept_key, key_in, route_in, first_spot, routes_key, Keeps}
 use Rattle.lint.specs.declared.audit_findings.Sources.{Sources}
-use Rattle.lint.specs.Tables.{TableView, value_at, key_spot, dotted_spot, table_at, whole, inline_marks, frame_element}
+use Rattle.lint.specs.Tables.{TableView, value_at, key_spot, dotted_spot, table_at, inline_marks, frame_element}
 use Rattle.toml_places.specs.declared.spans.Span.{Span}
 use Rattle.toml_places.specs.Spans.{pair_span}
 use Rattle.toml_places.specs.Steps.{◌>>=◌}
@@ -25,8 +26,6 @@ use Rattle.toml.specs.Data.{Members}
 use Rattle.base_text.specs.declared.limits.TheConstants.{MOST_TEXT}
 use Rattle.base_text.specs.Whole.{tree_of}
 use Rattle.base_text.specs.Drafts.{DraftView, draft_of}
-use Rattle.indexmap.specs.IndexMap.{get}
-use Rattle.lint.specs.declared.lookup.Lookup.{Lookup}
 use Rattle.lint.specs.declared.outside.OutsidePages.{OutsidePages}
 use Rattle.lint.specs.Outside.{page_at}
 use Rattle.toml_places.specs.declared.spans.KeyPlace.{KeyPlace}
@@ -36,12 +35,6 @@ use Rattle.lint.specs.declared.tables.TableKeys.{TableKeys}
 use Rattle.lint.specs.declared.tables.TableSpots.{TableSpots}
 use Rattle.toml_places.specs.declared.tables.TablePlaces.{TablePlaces}
 use Rattle.lint.specs.declared.tables.TextTables.{TextTables}
-
--- What a lookup knows.
-
--- these values are known
-abbrev pub KnowsValues : {V : Type 0} → List (Id × V) → Lookup V → Type 0
-KnowsValues pairs known = (id : Id) → get id_eq known.map id ≡ value_of pairs id
 
 -- What the code knows of a text's tables.
 

@@ -1,11 +1,11 @@
 -- What one sees of a frame alone, on a cleared screen: escapes that are shown as they are written, and menus.
-use Rattle.std.specs.Prelude.{ℕ, ◌+◌, ◌-◌, ◌/◌, ◌%◌, Bool, true, false, ◌==◌, ◌&&◌, ◌||◌, not, nat_le, if◌then◌else◌, List, [], ◌∷◌, ◌++◌, map, filter, length, count_by, Option, Some, None, is_some, is_none, option_and_then}
-use Rattle.std.specs.Char.{is_ascii_digit, is_ascii_hexdigit}
+use Rattle.std.specs.Prelude.{ℕ, ◌+◌, ◌-◌, ◌/◌, ◌%◌, Bool, true, false, ◌==◌, ◌&&◌, ◌||◌, not, nat_le, List, [], ◌∷◌, ◌++◌, length, count_by, Option, Some, None, is_some, if◌then◌else◌}
+use Rattle.std.specs.Char.{is_ascii_hexdigit}
 use Rattle.std.specs.List.{list_any}
 use Rattle.page_ids.specs.Ids.{Id}
 use Rattle.frame_records.specs.declared.frame.Frame.{Frame}
 use Rattle.frame_records.specs.Seek.{route_of}
-use Rattle.terminal_codes.specs.Screen.{CaretView, code_of, run}
+use Rattle.terminal_codes.specs.Screen.{CaretView, code_of}
 use Rattle.terminal_codes.specs.Writes.{caret_step}
 use Rattle.screens.specs.declared.look.Colour.{Colour}
 use Rattle.screens.specs.declared.look.Glyph.{Glyph}
@@ -13,18 +13,14 @@ use Rattle.screens.specs.declared.look.Glyph.TheVariants.{Char, Block}
 use Rattle.screens.specs.declared.look.Height.{Height}
 use Rattle.screens.specs.declared.look.Height.TheVariants.{Single, Upper, Lower}
 use Rattle.screens.specs.declared.look.Look.{Look as Cell}
-use Rattle.screens.specs.Looks.{codes_of_row, looks}
+use Rattle.screens.specs.Looks.{codes_of_row}
 use Rattle.screens.specs.Table.{colour_number}
 use Rattle.lint.specs.declared.looks.Look.{Look}
 use Rattle.lint.specs.declared.looks.Look.TheVariants.{Shown, Offers}
 use Rattle.lint.specs.declared.offers.MenuLine.{MenuLine}
-use Rattle.lint.specs.Looks.{blank, holds_escape}
+use Rattle.lint.specs.Looks.{holds_escape}
 
--- The screen, and what writes it.
-
--- its cells: a line feed leaves a new terminal where a cleared one is
-abbrev pub cells_alone : Frame → List ℕ
-cells_alone f = (run (run blank (0x0A ∷ [])) f.body).cells
+-- What writes the screen.
 
 -- a position in a row and a column
 abbrev pub is_place : ℕ → ℕ → ℕ → Bool
@@ -182,42 +178,3 @@ offers_if f menu line = if lacks_route f menu line then offers_look f line ∷ [
 abbrev pub offers_from : Frame → List MenuLine → List (Id × Look) → List MenuLine → List (Id × Look)
 offers_from f menu so_far [] = so_far
 offers_from f menu so_far (line ∷ lines) = offers_from f menu (so_far ++ offers_if f menu line) lines
-
--- Frames of which one has to see the screen.
-
--- the byte may show this character of ASCII
-abbrev pub may_show : ℕ → ℕ → Bool
-may_show c b = b % 128 == c
-
--- the byte may show a digit that has a route, or one that has none
-abbrev pub may_show_routed : Frame → ℕ → Bool
-may_show_routed f b = is_ascii_digit (b % 128) && has_route f (b % 128 - 0x30)
-
-abbrev pub may_show_unrouted : Frame → ℕ → Bool
-may_show_unrouted f b = is_ascii_digit (b % 128) && not (has_route f (b % 128 - 0x30))
-
-abbrev pub holds_routed : Frame → List ℕ → Bool
-holds_routed f body = list_any (may_show_routed f) body
-
-abbrev pub holds_unrouted : Frame → List ℕ → Bool
-holds_unrouted f body = list_any (may_show_unrouted f) body
-
-abbrev pub may_have_menu : Frame → Bool
-may_have_menu f = holds_routed f f.body && holds_unrouted f f.body
-
-abbrev pub holds_u : List ℕ → Bool
-holds_u body = list_any (may_show 0x75) body
-
--- without a u it shows no escape, and without digits of both kinds it has no menu that offers too much
-abbrev pub needs_looks : Frame → Bool
-needs_looks f = holds_u f.body || may_have_menu f
-
-abbrev pub sights_on : Frame → List ℕ → List (List Cell) → List (Id × Look)
-sights_on f cells rows = offers_from f (menu_of rows) (shown_from f cells [] 0 rows) (menu_of rows)
-
-abbrev pub sights_of : Frame → List (Id × Look)
-sights_of f = sights_on f (cells_alone f) (looks (cells_alone f))
-
--- what may be wrong with what one sees
-abbrev pub sights_if : Frame → List (Id × Look)
-sights_if f = if needs_looks f then sights_of f else []

@@ -31,7 +31,7 @@ unfoldable pub page_from : TableView → ℕ → ℕ → ℕ → Option Span
 page_from t page zero k = None
 page_from t page (suc n) k = option_or (element_if t page k) (page_from t page n (k + 1))
 
--- of as many as a base may list
+-- among as many pages as a base may list
 abbrev pub page_at : TableView → ℕ → Option Span
 page_at t page = page_from t page MOST_LISTED 0
 

@@ -67,7 +67,7 @@ abbrev pub key_spot : List ℕ → List Mark → Option ℕ → List ℕ → Opt
 key_spot text ms frame key =
     option_or (first_spot ms frame (key ∷ [])) (first_spot (inline_marks text (frame_element text ms frame)) None (key ∷ []))
 
--- of keys below `routes` of the top none is sought
+-- no key below `routes` of the top is sought
 abbrev pub route_among : List Mark → Option ℕ → List ℕ → Option KeyPlace
 route_among ms None key = None
 route_among ms (Some k) key = first_spot ms (Some k) (routes_key ∷ key ∷ [])

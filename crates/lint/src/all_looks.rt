@@ -2,12 +2,12 @@
 
 ghost use Rattle.std.specs.Prelude.{◌≡◌, ◌++◌, Bool, List, IfOk, OnOk};
 ghost use Rattle.page_ids.specs.Ids.{Id};
-ghost use Rattle.lint.specs.Loops.{KnowsValues};
+ghost use Rattle.lint.specs.Lookups.{KnowsValues};
 ghost use Rattle.lint.specs.AllLooks as spec;
 
 use crate::looks::{Look, add_line_end, add_rows_if};
 use crate::lookup::Lookup;
-use crate::offers::add_sights;
+use crate::sights::add_sights;
 use frame_records::{Frame, Groups};
 use lint_words::LineEnd;
 use page_ids::{FrameId, PageNo, Way};

@@ -1,7 +1,8 @@
 ghost use Rattle.std.specs.Prelude.{◌≡◌, ◌++◌, ℕ, List, Option, map, IfOk, OnOk};
 ghost use Rattle.page_ids.specs.Ids.{Id};
 ghost use Rattle.toml_places.specs.Places.{Mark};
-ghost use Rattle.lint.specs.Loops.{KnowsTables, IsTable, table_seen, KnowsValues};
+ghost use Rattle.lint.specs.Loops.{KnowsTables, IsTable, table_seen};
+ghost use Rattle.lint.specs.Lookups.{KnowsValues};
 ghost use Rattle.lint.specs.declared.looks.Look.TheVariants.{Hidden, Escape, EndsLine, Shown, Offers, Unsought};
 ghost use Rattle.lint.specs.Lint as spec;
 ghost use Rattle.lint.specs.Loops as loops;
@@ -40,7 +41,11 @@ pub struct Audit {
     looks: Vec<(FrameId, Look)>,
 }
 
-fn ranks_of(alloc: Global, found: &[Discovered]) -> Result<Vec<(FrameId, Option<u16>)>, AllocError>
+// The rank of each frame that is reached.
+pub fn ranks_of(
+    alloc: Global,
+    found: &[Discovered],
+) -> Result<Vec<(FrameId, Option<u16>)>, AllocError>
     ensures { IfOk result (λ ranks. ranks.items ≡ spec.ranks_of found.now) }
 {
     found
@@ -123,7 +128,7 @@ pub struct Sources<'a> {
 }
 
 // The group of the frame that a fault finds closed.
-fn group_of(base: &Base, fault: &Fault) -> Option<GroupNo>
+pub fn group_of(base: &Base, fault: &Fault) -> Option<GroupNo>
     ensures { result ≡ spec.group_closed_to base.now fault.now }
 {
     base.find(fault.sought.unwrap_or(fault.frame))?.group
@@ -139,7 +144,8 @@ fn without_next(base: &Base, id: FrameId) -> Option<FrameId> {
     if before.next { None } else { Some(before.id) }
 }
 
-fn rank_of(ranks: &Ranks, id: FrameId) -> Option<u16>
+// The rank of a frame.
+pub fn rank_of(ranks: &Ranks, id: FrameId) -> Option<u16>
     ensures { (known : List (Id × Option ℕ)) → KnowsValues known ranks.now → result ≡ spec.rank_of known id }
 {
     ranks.get(id)?

@@ -120,7 +120,7 @@ fn audited(
 }
 
 // The frames of a text by their ids, each with the index of its table.
-fn tables_of(alloc: Global, frames: &[Listed]) -> Result<Vec<(FrameId, usize)>, AllocError>
+pub fn tables_of(alloc: Global, frames: &[Listed]) -> Result<Vec<(FrameId, usize)>, AllocError>
     ensures { IfOk result (λ pairs. pairs.items ≡ spec.tables_of frames.now) }
 {
     frames

@@ -10,10 +10,12 @@
 //!   [`spans_lie_in_the_text`].
 //! - [`Counts`], [`counted_text`]: how many there are. [`Ignored`], [`remove_warnings`]: the warnings that don't count, or aren't shown.
 //! - [`picture_places`], [`PicturePlace`]: where a text writes what frames show.
+//! - [`listed_lines`], [`frame_lines`], [`WrittenFrames`], [`WrittenFrame`]: where a text writes its frames, line by line.
+//!   [`fault_sentences`], [`Sentence`]: what is said of the faults of an audit.
 //! - [`lint_follows_base_read`], [`no_error_is_safe`], [`lint_warns_of_unreached`]: what the findings of a text mean.
-//! - Definitions: what is found (`Lint`), what may be wrong with frames (`Looks`, `Offers`, `AllLooks`), where a text writes its
-//!   tables (`Tables`) and what frames show (`Pictures`),
-//!   which piece is at fault (`Spots`, `Outside`), the order (`Findings`), the laws (`Laws`).
+//! - Definitions: what is found (`Lint`), what may be wrong with frames (`Looks`, `Offers`, `Sights`, `AllLooks`), where a text
+//!   writes its tables (`Tables`), what frames show (`Pictures`) and their lines (`FrameLines`), which piece is at fault (`Spots`,
+//!   `Outside`), the order (`Findings`), the laws (`Laws`).
 #![tactic(auto)]
 
 mod all_looks;
@@ -23,12 +25,15 @@ mod finding;
 mod ignored;
 mod judging;
 mod laws;
+mod lines;
 mod looks;
 mod lookup;
 mod offers;
 mod order;
 mod outside;
 mod pictures;
+mod sentences;
+mod sights;
 mod spots;
 mod tables;
 mod text_findings;
@@ -40,4 +45,6 @@ pub use judging::lint;
 pub use laws::{
     lint_follows_base_read, lint_warns_of_unreached, no_error_is_safe, spans_lie_in_the_text,
 };
+pub use lines::{WrittenFrame, WrittenFrames, frame_lines, listed_lines};
 pub use pictures::{PicturePlace, picture_places};
+pub use sentences::{Sentence, fault_sentences};

@@ -1,7 +1,6 @@
 ghost use Rattle.std.specs.Prelude.{◌≡◌, List, IfOk};
 ghost use Rattle.page_ids.specs.Ids.{Id};
-ghost use Rattle.lint.specs.Lookups.{value_of};
-ghost use Rattle.lint.specs.Loops.{KnowsValues};
+ghost use Rattle.lint.specs.Lookups.{KnowsValues, value_of};
 
 use indexmap::IndexMap;
 use page_ids::FrameId;

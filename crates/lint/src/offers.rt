@@ -6,9 +6,9 @@ ghost use Rattle.lint.specs.Offers as spec;
 use crate::looks::{Look, holds_escape};
 use frame_records::Frame;
 use page_ids::FrameId;
-use screens::{Colour, Glyph, Height, Look as Cell, row_codes, screen_looks};
+use screens::{Colour, Glyph, Height, Look as Cell, row_codes};
 use std::alloc::{AllocError, Global};
-use terminal_codes::{Caret, Terminal, code_written};
+use terminal_codes::{Caret, code_written};
 
 // A row that begins with a single digit, and has more words.
 #[derive(Debug, Clone, Copy)]
@@ -170,7 +170,7 @@ fn add_shown(
 }
 
 // The rows that show an escape, each with the frame.
-fn shown(
+pub(crate) fn shown(
     alloc: Global,
     frame: &Frame,
     cells: &[u8; 960],
@@ -296,7 +296,7 @@ fn add_line(line: Option<MenuLine>, menu: &mut Vec<MenuLine>) -> Result<(), Allo
     Ok(())
 }
 
-fn menu_of(alloc: Global, rows: &[[Cell; 40]; 24]) -> Result<Vec<MenuLine>, AllocError>
+pub(crate) fn menu_of(alloc: Global, rows: &[[Cell; 40]; 24]) -> Result<Vec<MenuLine>, AllocError>
     ensures { IfOk result (λ menu. menu.items ≡ spec.menu_of rows.now) }
 {
     let mut menu = Vec::new(alloc);
@@ -306,7 +306,7 @@ fn menu_of(alloc: Global, rows: &[[Cell; 40]; 24]) -> Result<Vec<MenuLine>, Allo
     Ok(menu)
 }
 
-fn has_route(frame: &Frame, digit: u8) -> bool
+pub(crate) fn has_route(frame: &Frame, digit: u8) -> bool
     ensures { result ≡ spec.has_route frame.now digit }
 {
     digit < 10 && frame.routes[digit as usize].is_some()
@@ -348,7 +348,7 @@ fn add_offer(
 }
 
 // Appends the lines of a menu that lack a route.
-fn add_offers(
+pub(crate) fn add_offers(
     frame: &Frame,
     menu: &[MenuLine],
     looks: &mut Vec<(FrameId, Look)>,
@@ -357,94 +357,6 @@ fn add_offers(
 {
     for line in menu {
         add_offer(frame, menu, line, looks)?;
-    }
-    Ok(())
-}
-
-// Whether a byte may show a digit that has a route.
-fn may_show_routed(frame: &Frame, byte: u8) -> bool
-    ensures { result ≡ spec.may_show_routed frame.now byte }
-{
-    let code = byte % 128;
-    code.is_ascii_digit() && has_route(frame, code.saturating_sub(0x30))
-}
-
-// Whether a byte may show a digit that has no route.
-fn may_show_unrouted(frame: &Frame, byte: u8) -> bool
-    ensures { result ≡ spec.may_show_unrouted frame.now byte }
-{
-    let code = byte % 128;
-    code.is_ascii_digit() && !has_route(frame, code.saturating_sub(0x30))
-}
-
-fn holds_routed(frame: &Frame, body: &[u8]) -> bool
-    ensures { result ≡ spec.holds_routed frame.now body.now }
-{
-    body.iter().any(|byte| may_show_routed(frame, *byte))
-}
-
-fn holds_unrouted(frame: &Frame, body: &[u8]) -> bool
-    ensures { result ≡ spec.holds_unrouted frame.now body.now }
-{
-    body.iter().any(|byte| may_show_unrouted(frame, *byte))
-}
-
-fn may_have_menu(frame: &Frame) -> bool
-    ensures { result ≡ spec.may_have_menu frame.now }
-{
-    let body = frame.body.as_slice();
-    holds_routed(frame, body) && holds_unrouted(frame, body)
-}
-
-fn holds_u(body: &[u8]) -> bool
-    ensures { result ≡ spec.holds_u body.now }
-{
-    body.iter().any(|byte| *byte % 128 == b'u')
-}
-
-// Whether one has to see the screen: without a u it shows no escape.
-fn needs_looks(frame: &Frame) -> bool
-    ensures { result ≡ spec.needs_looks frame.now }
-{
-    holds_u(frame.body.as_slice()) || may_have_menu(frame)
-}
-
-// The cells of a screen, as one sees them.
-fn sights_on(
-    alloc: Global,
-    frame: &Frame,
-    cells: &[u8; 960],
-    rows: &[[Cell; 40]; 24],
-) -> Result<Vec<(FrameId, Look)>, AllocError>
-    ensures { IfOk result (λ looks. looks.items ≡ spec.sights_on frame.now cells.now rows.now) }
-{
-    let mut looks = shown(alloc, frame, cells, rows)?;
-    let menu = menu_of(alloc, rows)?;
-    add_offers(frame, menu.as_slice(), &mut looks)?;
-    Ok(looks)
-}
-
-fn sights_of(alloc: Global, frame: &Frame) -> Result<Vec<(FrameId, Look)>, AllocError>
-    ensures { IfOk result (λ looks. looks.items ≡ spec.sights_of frame.now) }
-{
-    let mut terminal = Terminal::new();
-    terminal.run(b"\n");
-    terminal.run(frame.body.as_slice());
-    let cells = terminal.cells();
-    let looks = screen_looks(cells);
-    sights_on(alloc, frame, cells, looks.rows())
-}
-
-// Appends what may be wrong with what one sees of a frame.
-pub fn add_sights(
-    alloc: Global,
-    frame: &Frame,
-    looks: &mut Vec<(FrameId, Look)>,
-) -> Result<(), AllocError>
-    ensures { OnOk result (looks.new.items ≡ looks.old.items ++ spec.sights_if frame.now) }
-{
-    if needs_looks(frame) {
-        looks.extend_from_slice(sights_of(alloc, frame)?.as_slice())?;
     }
     Ok(())
 }

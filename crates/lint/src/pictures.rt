@@ -4,8 +4,8 @@ ghost use Rattle.std.specs.Prelude.{◌≡◌, List, IfOk, IsSome, map};
 ghost use Rattle.toml.specs.Parse.{parse_document};
 ghost use Rattle.toml_places.specs.Places.{Mark, marks};
 ghost use Rattle.page_ids.specs.Ids.{Id};
-ghost use Rattle.lint.specs.Lookups.{value_of};
-ghost use Rattle.lint.specs.Loops.{KnowsTables, KnowsValues};
+ghost use Rattle.lint.specs.Lookups.{KnowsValues, value_of};
+ghost use Rattle.lint.specs.Loops.{KnowsTables};
 ghost use Rattle.lint.specs.Pictures as spec;
 
 use crate::lookup::Lookup;

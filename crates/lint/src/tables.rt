@@ -1,6 +1,6 @@
 //! Where a text writes its tables, the top and the frames.
 
-ghost use Rattle.std.specs.Prelude.{◌≡◌, ℕ, List, slice_get, IfOk, OnOk};
+ghost use Rattle.std.specs.Prelude.{◌≡◌, ℕ, List, slice_get, IfOk, OnOk, Some, codes, is_some};
 ghost use Rattle.std.specs.List.{prefix_len};
 ghost use Rattle.toml_places.specs.Places.{Mark, Keeps, key_in, route_in};
 ghost use Rattle.lint.specs.Tables as spec;
@@ -298,6 +298,15 @@ impl<'a> TextTables<'a> {
     {
         let keys = self.keys(alloc, Some(frame))?;
         Ok(id_value(self.text, &keys).unwrap_or(self.frame_whole(frame)))
+    }
+
+    // Whether a frame is given as rows.
+    pub fn has_rows(&self, alloc: Global, frame: usize) -> Result<bool, AllocError>
+        ensures { IfOk result (λ has. (ms : List Mark) → KnowsTables ms self.now
+            → has ≡ is_some (spec.key_spot self.now.text.now ms (Some frame) (codes "rows"))) }
+    {
+        let keys = self.keys(alloc, Some(frame))?;
+        Ok(keys.key("rows").is_some())
     }
 
     // The top, or the table of a frame.

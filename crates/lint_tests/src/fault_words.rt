@@ -81,7 +81,7 @@ const CASES: [Case; 13] = [
         frame: "33123a",
         sought: "33123b",
         script: "23#",
-        words: "MISSING: key # of frame 33123a leads to frame 33123b, which the base lacks (keys 23#)",
+        words: "MISSING: key # of frame 33123a leads to frame 33123b, which the base lacks (keys 23#); write frame 33123b, or leave next out",
         ..CASE
     },
     Case {

@@ -13,6 +13,8 @@ const BAD_VALUE: &str = "invalid value";
 
 const NO_COMMA: &str = "missing comma";
 
+const UNEXPECTED: &str = "unexpected key or value";
+
 // The offset of toml's message on a text, the message and the hint.
 fn read(alloc: Global, text: &[u8]) -> Result<(usize, String, String), Fail> {
     let Err(error) = toml::table_from_slice(alloc, text) else {
@@ -131,6 +133,37 @@ fn brackets_and_headers_that_lack_one(rt: HostRuntime) -> Result<(), Fail> {
         ),
         (b"rows = [\n  \"A\"\n  \"B\",\n]\n", 17, NO_COMMA, ""),
         (b"a = { 0 = 1 }\nb =", 17, BAD_VALUE, ""),
+    ];
+    have_hints(rt.alloc(), &faults)
+}
+
+#[test]
+fn marks_at_the_ends_of_lines(rt: HostRuntime) -> Result<(), Fail> {
+    let comma = "; leave out the comma at the line's end";
+    let semicolon = "; leave out the ; at the line's end";
+    let faults: [Fault<'_>; 4] = [
+        (b"rows = [\"A\"],\n", 12, UNEXPECTED, comma),
+        (b"price = 5, \r\n", 9, UNEXPECTED, comma),
+        (b"id = \"1a\";", 9, UNEXPECTED, semicolon),
+        (
+            b"price = 1,5\n",
+            9,
+            UNEXPECTED,
+            "; a price is whole pence: write 15",
+        ),
+    ];
+    have_hints(rt.alloc(), &faults)
+}
+
+#[test]
+fn saved_screens(rt: HostRuntime) -> Result<(), Fail> {
+    let saved = "; this is a saved screen: pageaudit import FILE";
+    let codes = [b'~'; 960];
+    let faults: [Fault<'_>; 4] = [
+        (b"\xFE\x01\x06", 0, "invalid UTF-8", saved),
+        (b"DE,\nPN,10000\n", 2, "key with no value", saved),
+        (&codes, 0, "invalid key", saved),
+        (&codes[..959], 0, "invalid key", ""),
     ];
     have_hints(rt.alloc(), &faults)
 }

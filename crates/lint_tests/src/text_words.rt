@@ -45,25 +45,22 @@ fn say(
     Ok(())
 }
 
+// The detail alone would have a hint.
 #[test]
 fn a_fault_that_is_listed_for_others_has_their_number(rt: HostRuntime) -> Result<(), Fail> {
     let rows = [
-        (
-            None,
-            1,
-            "X8 RowTooLong: 1 more fault at the top, not listed",
-        ),
+        (None, 1, "X6 Range: 1 more fault at the top, not listed"),
         (
             Some(0),
             7_999_000,
-            "X8 RowTooLong: 7,999,000 more faults in this frame, not listed",
+            "X6 Range: 7,999,000 more faults in this frame, not listed",
         ),
     ];
     for (frame, unlisted, words) in rows {
         let fault = TextFault {
             frame,
             id: None,
-            detail: Detail::RowTooLong(1_000, 41),
+            detail: Detail::Number(Field::Group, 0),
             unlisted,
         };
         let out = printed(rt.alloc(), &text_fault_words(rt.alloc(), &fault, &WRITTEN)?)?;

@@ -91,6 +91,13 @@ fn a_value_of_another_kind_by_its_key(rt: HostRuntime) -> Result<(), Fail> {
         (Field::Routes, ValueKind::Float, "1.5", ""),
         (Field::Outside, ValueKind::Integer, "0", "; write [0]"),
         (Field::Outside, ValueKind::Float, "1.5", ""),
+        (Field::Id, ValueKind::Integer, "620", "; write \"620a\""),
+        (
+            Field::Id,
+            ValueKind::Integer,
+            "-620",
+            "; put it in quotation marks",
+        ),
     ];
     for (field, kind, value, wanted) in rows {
         let given = hint_of(rt.alloc(), Detail::WrongKind(field, kind), value)?;
@@ -114,6 +121,11 @@ fn a_key_of_another_table_and_a_group_0(rt: HostRuntime) -> Result<(), Fail> {
         (TableKind::Frame, "outside", above),
         (TableKind::Routes, "#", next),
         (TableKind::Frame, "pirce", "; did you mean \"price\"?"),
+        (
+            TableKind::Frame,
+            "text",
+            "; write what it shows as rows = [\"A\", \"B\"]",
+        ),
     ];
     for (table, key, wanted) in keys {
         let detail = Detail::UnknownKey(table, Word::of(rt.alloc(), key)?);

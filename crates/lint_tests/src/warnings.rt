@@ -222,6 +222,11 @@ fn a_menu_offers_a_key_without_a_route(rt: HostRuntime) -> Result<(), Fail> {
             third.as_str(),
             1,
         ),
+        (
+            "body = \"1 Sand\\r\\n2 Sea\\r\\n7xCrew\\r\\t \"\n",
+            third.as_str(),
+            1,
+        ),
         ("rows = ['1 Sand', '2 Sea', ' 7 Crew']\n", "", 0),
         ("rows = ['1 Sand', '2 Sea', '7']\n", "", 0),
         ("rows = ['1 Sand', '2 Sea', '77 Crew']\n", "", 0),

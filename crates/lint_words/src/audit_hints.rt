@@ -10,7 +10,7 @@ use frame_records::Frame;
 use page_ids::FrameId;
 use std::alloc::{AllocError, Global};
 
-// A page without a first frame may be another provider's.
+// A page without a first frame may be another provider's, a further frame can't be.
 fn missing_hint(alloc: Global, sought: Option<FrameId>) -> Result<Option<Line>, AllocError> {
     match sought {
         Some(id) if id.letter.get() == b'a' => hint_of(
@@ -23,7 +23,11 @@ fn missing_hint(alloc: Global, sought: Option<FrameId>) -> Result<Option<Line>, 
                 Text(" in outside"),
             ],
         ),
-        _ => Ok(None),
+        Some(id) => hint_of(
+            alloc,
+            &[Text("write frame "), Id(id), Text(", or leave next out")],
+        ),
+        None => Ok(None),
     }
 }
 

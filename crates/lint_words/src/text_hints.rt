@@ -7,7 +7,7 @@ use crate::near_bytes::{Class, run_len};
 use crate::near_key::{is_key, nearest};
 use crate::odd_chars::{mosaic_hint, odd_hint, odd_in};
 use crate::value_hints::{item_hint, kind_hint};
-use crate::values::{first_number, is_number};
+use crate::values::{MOST_DIGITS, first_number, is_number};
 use base_text::{Detail, Field, TableKind, TextFault};
 use std::alloc::{AllocError, Global};
 
@@ -53,9 +53,6 @@ fn shown_hint(c: char) -> Option<Hint<'static>> {
 
 const OPEN_TO_ALL: Hint<'static> = Hint::Words("leave group out for a frame that is open to all");
 
-// The most digits of a page.
-const MOST_DIGITS: usize = 9;
-
 // An id that doesn't read.
 fn id_hint(text: &str) -> Hint<'_> {
     odd_in(text).unwrap_or(plain_id_hint(text))
@@ -83,11 +80,14 @@ fn route_hint<'a>(digit: &'a str, value: &'a [u8]) -> Hint<'a> {
     }
 }
 
-// A key of the top that a frame doesn't have, a word that is a value of one, or a route.
+// A key of the top that a frame doesn't have, a word that is a value of one, a word for what a frame shows, or a route.
 fn frame_key_hint<'a>(key: &'a str, written: &Written<'a>) -> Option<Hint<'a>> {
     match key.as_bytes() {
         b"entry" | b"outside" => Some(Hint::Above(written.first_frame)),
         b"keep" | b"clear" => Some(Hint::Lead(key)),
+        b"text" | b"lines" | b"content" | b"screen" => {
+            Some(Hint::Words("write what it shows as rows = [\"A\", \"B\"]"))
+        }
         [digit] if digit.is_ascii_digit() => Some(route_hint(key, written.value)),
         _ => None,
     }

@@ -37,16 +37,28 @@ fn has_bare_returns(text: &[u8]) -> bool {
     text.contains(&b'\r') && !text.contains(&b'\n')
 }
 
+// The codes of a screen.
+const SCREEN_CODES: usize = 960;
+
+// The form EP1, the first line of a form TTI, an address, or the codes of a screen, which have no line ends.
+fn is_saved_screen(text: &[u8]) -> bool {
+    let starts = [b"\xFE\x01".as_slice(), b"DE,", b"DS,", b"PN,", b"http"];
+    starts.iter().any(|start| text.starts_with(start))
+        || (text.len() >= SCREEN_CODES && !text.contains(&b'\n'))
+}
+
 // What is wrong with the text as a whole.
 fn file_hint(text: &[u8], message: &str) -> Option<Hint<'static>> {
     if is_utf16(text) {
         Some(Hint::Words("this is UTF-16, save the file as UTF-8"))
+    } else if is_json(text) {
+        Some(Hint::Words("a base is TOML, not JSON"))
+    } else if is_saved_screen(text) {
+        Some(Hint::Words("this is a saved screen: pageaudit import FILE"))
     } else if message == BAD_UTF8 {
         Some(Hint::Words("this is not UTF-8, save the file as UTF-8"))
     } else if is_certificate(text) {
         Some(Hint::Words("this is a certificate: pageaudit check BASE CERT"))
-    } else if is_json(text) {
-        Some(Hint::Words("a base is TOML, not JSON"))
     } else if has_bare_returns(text) {
         Some(Hint::Words("its lines end with CR alone, save it with LF or CR LF"))
     } else {
@@ -65,6 +77,20 @@ fn is_json(text: &[u8]) -> bool {
 
 fn is_curly(rest: &[u8]) -> bool {
     matches!(rest, [0xE2, 0x80, 0x98..=0x9F, ..])
+}
+
+// What ends a value in other files, at the end of a line.
+fn ending_hint(rest: &[u8], message: &str) -> Option<Hint<'static>> {
+    let (mark, rest) = rest.split_first()?;
+    if message != UNEXPECTED || !ends_line(after(rest, Class::Blank)) {
+        None
+    } else if *mark == b',' {
+        Some(Hint::Words("leave out the comma at the line's end"))
+    } else if *mark == b';' {
+        Some(Hint::Words("leave out the ; at the line's end"))
+    } else {
+        None
+    }
 }
 
 // What begins at the place.
@@ -307,6 +333,7 @@ fn hint_at<'a>(text: &'a [u8], at: usize, message: &str) -> Option<Hint<'a>>
 {
     let (before, rest) = text.split_at(at);
     file_hint(text, message)
+        .or(ending_hint(rest, message))
         .or(token_hint(rest, message))
         .or(odd_char_hint(rest))
         .or(slip_hint(text, at, message))

@@ -3,7 +3,7 @@
 use crate::hint::Hint;
 use crate::list_slips::list_hint;
 use crate::odd_chars::odd_in;
-use crate::values::{as_text, first_number, is_number, page_of, pence_of, unquoted};
+use crate::values::{MOST_DIGITS, as_text, first_number, is_number, page_of, pence_of, unquoted};
 use base_text::{Field, ValueKind};
 
 const UNQUOTE: Hint<'static> = Hint::Words("leave out the quotation marks");
@@ -73,6 +73,15 @@ fn has_pages(kind: ValueKind) -> bool {
     )
 }
 
+// A page number in place of a frame's id.
+fn page_id_hint(written: &[u8]) -> Hint<'_> {
+    if is_number(written) && written.len() <= MOST_DIGITS {
+        Hint::IdText(as_text(written), "a")
+    } else {
+        ENQUOTE
+    }
+}
+
 // A value of a kind that shows alone how to write it.
 fn other_kind_hint(field: Field, kind: ValueKind) -> Option<Hint<'static>> {
     match (field, kind) {
@@ -93,6 +102,7 @@ pub(crate) fn kind_hint(field: Field, kind: ValueKind, written: &[u8]) -> Option
         }
         Field::Routes if has_pages(kind) => routes_hint(written),
         Field::Rows if kind == ValueKind::String => Some(list_hint(written)),
+        Field::Id if kind == ValueKind::Integer => Some(page_id_hint(written)),
         _ => other_kind_hint(field, kind),
     }
 }

@@ -5,6 +5,9 @@ ghost use Rattle.std.specs.Prelude.{◌≤◌, length};
 use crate::near_bytes::{Class, after, run_len, run_start};
 use frame_records::MOST_PENCE;
 
+// The most digits of a page.
+pub(crate) const MOST_DIGITS: usize = 9;
+
 // A text without blanks and quotation marks around it.
 pub(crate) fn unquoted(written: &[u8]) -> &[u8] {
     let text = after(written, Class::Blank);

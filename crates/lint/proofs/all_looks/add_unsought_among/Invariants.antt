@@ -1,6 +1,6 @@
 use Rattle.std.proofs.Common.{◌≡◌, ◌++◌, Bool, List, drop}
 use Rattle.page_ids.specs.Ids.{Id}
-use Rattle.lint.specs.Loops.{KnowsValues}
+use Rattle.lint.specs.Lookups.{KnowsValues}
 use Rattle.lint.specs.AllLooks.{unsought_among}
 use Rattle.lint.proofs.all_looks.add_unsought_among.Given as goal
 

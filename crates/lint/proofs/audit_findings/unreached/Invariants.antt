@@ -1,6 +1,6 @@
 use Rattle.std.proofs.Common.{◌≡◌, ◌++◌, ℕ, List, Option, drop}
 use Rattle.page_ids.specs.Ids.{Id}
-use Rattle.lint.specs.Loops.{KnowsValues}
+use Rattle.lint.specs.Lookups.{KnowsValues}
 use Rattle.lint.specs.Lint.{unreached, frame_ids}
 use Rattle.lint.proofs.audit_findings.unreached.Given as goal
 

@@ -1,8 +1,7 @@
 use Rattle.std.proofs.Common.{◌≡◌, List, map, take}
 use Rattle.page_ids.specs.Ids.{Id}
 use Rattle.lint.specs.declared.pictures.PicturePlace.{PicturePlace}
-use Rattle.lint.specs.Lookups.{value_of}
-use Rattle.lint.specs.Loops.{KnowsValues}
+use Rattle.lint.specs.Lookups.{KnowsValues, value_of}
 use Rattle.lint.proofs.pictures.places_among.Given as goal
 
 -- the first ids are sought

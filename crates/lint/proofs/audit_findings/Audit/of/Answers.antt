@@ -1,5 +1,5 @@
 use Rattle.std.proofs.Common.{◌∙◌, ap, rules}
-use Rattle.lint.specs.Loops.{KnowsValues}
+use Rattle.lint.specs.Lookups.{KnowsValues}
 use Rattle.lint.specs.Lint.{ranks_of, unreached, frame_ids}
 use Rattle.lint.proofs.audit_findings.Audit.of.Goals as goal
 

@@ -2,7 +2,8 @@ use Rattle.std.proofs.Common.{◌≡◌, ◌++◌, ℕ, List, Option, drop}
 use Rattle.std.specs.Prelude.{map}
 use Rattle.page_ids.specs.Ids.{Id}
 use Rattle.toml_places.specs.Places.{Mark}
-use Rattle.lint.specs.Loops.{KnowsValues, KnowsTables, IsTable, table_seen, AreKnown}
+use Rattle.lint.specs.Loops.{KnowsTables, IsTable, table_seen, AreKnown}
+use Rattle.lint.specs.Lookups.{KnowsValues}
 use Rattle.lint.specs.Lint.{fault_finding}
 use Rattle.lint.proofs.audit_findings.Sources.add_faults.Given as goal
 
