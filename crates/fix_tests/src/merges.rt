@@ -58,6 +58,45 @@ fn rows_are_replaced_and_frames_added(rt: HostRuntime) -> Result<(), Fail> {
 }
 
 #[test]
+fn frames_that_show_their_screens_stay(rt: HostRuntime) -> Result<(), Fail> {
+    let texts: [&[u8]; 6] = [
+        b"entry = 1\n[[frame]]\nid = \"1a\"\nrows = [ 'X', # it\n]\n",
+        b"entry = 1\n[[frame]]\nid = \"1a\"\nlead = \"clear\"\nrows = [\"X  \", \"\"]\n",
+        b"entry = 1\n[[frame]]\nid = \"1a\"\nbody = \"X\"\n",
+        b"entry = 1\n[[frame]]\nid = \"1a\"\nbody = \"A\\rX\\u0011\"\n",
+        b"entry = 1\n[[frame]]\nid = \"1a\"\nbody = \"\\u001E\\n\\u00D8\"\n",
+        b"entry = 1\n[[frame]]\nid = \"1a\"\nrows = [\n    \"X\",\n]\n",
+    ];
+    for text in texts {
+        let merged = into(rt.alloc(), text, &["1a"])??;
+        same(merged.text.as_slice(), text)?;
+        same_ids(merged.same.as_slice(), &["1a"])?;
+        same(
+            merged.replaced.len() + merged.added.len() + merged.left.len(),
+            0,
+        )?;
+    }
+    Ok(())
+}
+
+#[test]
+fn frames_that_show_other_screens_are_replaced(rt: HostRuntime) -> Result<(), Fail> {
+    let texts: [&[u8]; 5] = [
+        b"entry = 1\n[[frame]]\nid = \"1a\"\nrows = ['x']\n",
+        b"entry = 1\n[[frame]]\nid = \"1a\"\nrows = ['', 'X']\n",
+        b"entry = 1\n[[frame]]\nid = \"1a\"\nbody = \"XX\"\n",
+        b"entry = 1\n[[frame]]\nid = \"1a\"\nbody = \"\\u001EA\\r\\nX\"\n",
+        b"entry = 1\n[[frame]]\nid = \"1a\"\nbody = \"X\\u001E\\u000BA\"\n",
+    ];
+    for text in texts {
+        let merged = into(rt.alloc(), text, &["1a"])??;
+        same_ids(merged.replaced.as_slice(), &["1a"])?;
+        same(merged.same.len(), 0)?;
+    }
+    Ok(())
+}
+
+#[test]
 fn no_frames_leave_the_text(rt: HostRuntime) -> Result<(), Fail> {
     let merged = into(rt.alloc(), BASE, &[])??;
     same(merged.text.as_slice(), BASE)

@@ -1,5 +1,6 @@
 -- What functions that aren't exported say. No promise rests on it.
 use Rattle.std.specs.Prelude.{ℕ, Bool, List}
+use Rattle.frame_records.specs.Bases.{BaseView}
 use Rattle.base_text.specs.declared.listed.Listed.{Listed}
 use Rattle.screen_files.specs.declared.filed.Filed.{Filed}
 use Rattle.frame_edits.specs.declared.merging.MergeFault.{MergeFault}
@@ -7,12 +8,12 @@ use Rattle.frame_edits.specs.declared.merging.MergeFault.TheVariants.{TooLong, O
 use Rattle.frame_edits.specs.Merging.{AreRefused, IsTextRefused}
 
 -- why a text that lists frames doesn't get others, if memory isn't refused
-abbrev pub IsRefusalIn : List ℕ → List Listed → Bool → List Filed → MergeFault → Type 0
-IsRefusalIn text listed guessed frames Memory = Unit {0}
-IsRefusalIn text listed guessed frames (TooLong file) = IsTextRefused text listed guessed frames (TooLong file)
-IsRefusalIn text listed guessed frames Overlap = IsTextRefused text listed guessed frames Overlap
-IsRefusalIn text listed guessed frames (Unread fault) = ⊥
-IsRefusalIn text listed guessed frames (Spoilt fault) = ⊥
+abbrev pub IsRefusalIn : List ℕ → BaseView → List Listed → Bool → List Filed → MergeFault → Type 0
+IsRefusalIn text base listed guessed frames Memory = Unit {0}
+IsRefusalIn text base listed guessed frames (TooLong file) = IsTextRefused text base listed guessed frames (TooLong file)
+IsRefusalIn text base listed guessed frames Overlap = IsTextRefused text base listed guessed frames Overlap
+IsRefusalIn text base listed guessed frames (Unread fault) = ⊥
+IsRefusalIn text base listed guessed frames (Spoilt fault) = ⊥
 
 -- a text that is a base is refused only for its edits
 abbrev pub IsRefusal : List ℕ → Bool → List Filed → MergeFault → Type 0

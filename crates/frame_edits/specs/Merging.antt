@@ -1,5 +1,6 @@
 -- Frames that go into a base's text.
-use Rattle.std.specs.Prelude.{◌≡◌, ℕ, Bool, ◌&&◌, ◌||◌, ◌-◌, ◌==◌, IsPermutation, List, [], ◌∷◌, ◌++◌, Option, Some, None, get_or, length, map, take, if◌then◌else◌}
+use Rattle.std.specs.Prelude.{◌≡◌, ℕ, Bool, true, false, ◌&&◌, ◌||◌, ◌-◌, ◌==◌, nat_eq, IsPermutation, List, [], ◌∷◌, ◌++◌, Option, Some, None, get_or, length, map, take, if◌then◌else◌}
+use Rattle.std.specs.Cmp.Lexicographic.{pointwise}
 use Rattle.std.specs.List.Sorted.{IsSortedByKey, IsStableByKey}
 use Rattle.std.specs.Ordering.{nat_cmp}
 use Rattle.toml.specs.Data.{Members}
@@ -7,7 +8,10 @@ use Rattle.std.specs.List.{list_any}
 use Rattle.page_ids.specs.Ids.{Id, id_eq}
 use Rattle.frame_records.specs.declared.frame.Lead.{Lead}
 use Rattle.frame_records.specs.declared.frame.Lead.TheVariants.{Clear, Keep}
-use Rattle.frame_records.specs.Bases.{BaseView}
+use Rattle.frame_records.specs.declared.frame.Frame.{Frame}
+use Rattle.frame_records.specs.Bases.{BaseView, frame_at}
+use Rattle.terminal_codes.specs.Screen.{Screen, run}
+use Rattle.terminal_codes.specs.Bodies.{lead_codes}
 use Rattle.base_text.specs.declared.fault.BaseFault.{BaseFault}
 use Rattle.base_text.specs.declared.listed.Listed.{Listed}
 use Rattle.base_text.specs.Drafts.{draft_of}
@@ -17,6 +21,9 @@ use Rattle.lint.specs.declared.pictures.PicturePlace.{PicturePlace}
 use Rattle.lint.specs.Pictures.{written_picture}
 use Rattle.text_edits.specs.Edits.{ReplacementView, edited}
 use Rattle.screen_files.specs.declared.filed.Filed.{Filed}
+use Rattle.screen_files.specs.declared.frame.ScreenFrame.{ScreenFrame}
+use Rattle.screen_files.specs.Codes.{switched_on}
+use Rattle.screen_files.specs.Laws.{rows_alone}
 use Rattle.screen_files.specs.Routes.{has_frame, knows_frame}
 use Rattle.screen_files.specs.Album.{first_over, frames_text}
 use Rattle.screen_files.specs.Texts.{rows_text}
@@ -32,6 +39,7 @@ pub record IntakeView : Type 0 where
   pub replaced : List Id
   pub added : List Filed
   pub left : List Id
+  pub same : List Id
 
 pub record MergedView : Type 0 where
   pub text : List ℕ
@@ -39,21 +47,41 @@ pub record MergedView : Type 0 where
   pub replaced : List Id
   pub added : List Id
   pub left : List Id
+  pub same : List Id
 
--- What becomes of a frame, by where the text writes what it shows.
+-- What a frame of the base shows.
+
+-- a terminal after a body that was sent to a cleared screen
+abbrev pub after_body : List ℕ → Screen
+after_body body = run (run switched_on (lead_codes Clear)) body
+
+-- it shows rows 1 to 22 of a screen, between blank rows
+abbrev pub shows_rows : List ℕ → List ℕ → Bool
+shows_rows body codes = pointwise nat_eq (after_body body).cells (rows_alone codes)
+
+abbrev pub shows_screen : Option Frame → List ℕ → Bool
+shows_screen None codes = false
+shows_screen (Some f) codes = shows_rows f.body codes
+
+-- the base's frame of this one's id shows its screen, if its lead clears
+abbrev pub is_shown : BaseView → ScreenFrame → Bool
+is_shown base f = shows_screen (frame_at base f.id) f.codes
+
+-- What becomes of a frame, by where the text writes what it shows, and whether that is the screen.
 
 -- a frame over another stays, since its rows aren't all that it shows
-abbrev pub fate_led : Lead → Span → Fate
-fate_led Clear span = fate.Replaced span
-fate_led Keep span = fate.Left
+abbrev pub fate_led : Lead → Span → Bool → Fate
+fate_led Clear span true = fate.Same
+fate_led Clear span false = fate.Replaced span
+fate_led Keep span shown = fate.Left
 
-abbrev pub fate_with : Lead → Option Span → Fate
-fate_with lead None = fate.Left
-fate_with lead (Some span) = fate_led lead span
+abbrev pub fate_with : Lead → Option Span → Bool → Fate
+fate_with lead None shown = fate.Left
+fate_with lead (Some span) shown = fate_led lead span shown
 
-abbrev pub fate_of : Option PicturePlace → Fate
-fate_of None = fate.Added
-fate_of (Some p) = fate_with p.lead p.span
+abbrev pub fate_of : Option PicturePlace → Bool → Fate
+fate_of None shown = fate.Added
+fate_of (Some p) shown = fate_with p.lead p.span shown
 
 -- the key `rows` with the rows of a screen, without a line end
 abbrev pub rows_pair : List ℕ → List ℕ
@@ -65,30 +93,32 @@ rows_edit span f = record { begin = span.begin; end = span.end; text = rows_pair
 -- What the frames result in.
 
 abbrev pub nothing_taken : IntakeView
-nothing_taken = record { edits = []; replaced = []; added = []; left = [] }
+nothing_taken = record { edits = []; replaced = []; added = []; left = []; same = [] }
 
 abbrev pub taken_by : IntakeView → Filed → Fate → IntakeView
-taken_by i f fate.Added = record { edits = i.edits; replaced = i.replaced; added = i.added ++ f ∷ []; left = i.left }
-taken_by i f fate.Left = record { edits = i.edits; replaced = i.replaced; added = i.added; left = i.left ++ f.frame.id ∷ [] }
+taken_by i f fate.Added = record { edits = i.edits; replaced = i.replaced; added = i.added ++ f ∷ []; left = i.left; same = i.same }
+taken_by i f fate.Left = record { edits = i.edits; replaced = i.replaced; added = i.added; left = i.left ++ f.frame.id ∷ []; same = i.same }
+taken_by i f fate.Same = record { edits = i.edits; replaced = i.replaced; added = i.added; left = i.left; same = i.same ++ f.frame.id ∷ [] }
 taken_by i f (fate.Replaced span) = record {
   edits = i.edits ++ rows_edit span f ∷ [];
   replaced = i.replaced ++ f.frame.id ∷ [];
   added = i.added;
   left = i.left;
+  same = i.same;
 }
 
--- after frames that are written in these places
-unfoldable pub intake_from : IntakeView → List (Option PicturePlace) → List Filed → IntakeView
-intake_from i places [] = i
-intake_from i [] (f ∷ fs) = i
-intake_from i (p ∷ ps) (f ∷ fs) = intake_from (taken_by i f (fate_of p)) ps fs
+-- after frames that are written in these places of a base
+unfoldable pub intake_from : BaseView → IntakeView → List (Option PicturePlace) → List Filed → IntakeView
+intake_from base i places [] = i
+intake_from base i [] (f ∷ fs) = i
+intake_from base i (p ∷ ps) (f ∷ fs) = intake_from base (taken_by i f (fate_of p (is_shown base f.frame))) ps fs
 
 abbrev pub filed_ids : List Filed → List Id
 filed_ids frames = map (λ f. f.frame.id) frames
 
--- the result of these frames, if the text lists those of the second argument
-abbrev pub intake_in : List ℕ → List Listed → List Filed → IntakeView
-intake_in text listed frames = intake_from nothing_taken (map (written_picture text listed) (filed_ids frames)) frames
+-- the result of these frames, if the text of the base lists those of the third argument
+abbrev pub intake_in : List ℕ → BaseView → List Listed → List Filed → IntakeView
+intake_in text base listed frames = intake_from base nothing_taken (map (written_picture text listed) (filed_ids frames)) frames
 
 -- What is added at the end.
 
@@ -153,29 +183,30 @@ pub record IsMergeOf (text : List ℕ) (i : IntakeView) (known : List Id) (merge
   pub replaced : merged.replaced ≡ i.replaced
   pub added : merged.added ≡ filed_ids i.added
   pub left : merged.left ≡ i.left
+  pub same : merged.same ≡ i.same
 
--- the text that lists these frames after it got others; whether routes are guessed
-pub record IsTextMerged (text : List ℕ) (listed : List Listed) (guessed : Bool) (frames : List Filed) (merged : MergedView) : Type 0 where
+-- the text of a base that lists these frames after it got others; whether routes are guessed
+pub record IsTextMerged (text : List ℕ) (base : BaseView) (listed : List Listed) (guessed : Bool) (frames : List Filed) (merged : MergedView) : Type 0 where
   pub known : List Id
   pub knows : KnowsBoth guessed listed frames known
-  pub merge : IsMergeOf text (intake_in text listed frames) known merged
+  pub merge : IsMergeOf text (intake_in text base listed frames) known merged
 
 -- why it doesn't get them
-pub record IsTextRefused (text : List ℕ) (listed : List Listed) (guessed : Bool) (frames : List Filed) (fault : MergeFault) : Type 0 where
+pub record IsTextRefused (text : List ℕ) (base : BaseView) (listed : List Listed) (guessed : Bool) (frames : List Filed) (fault : MergeFault) : Type 0 where
   pub known : List Id
   pub knows : KnowsBoth guessed listed frames known
-  pub refused : IsUnedited text (intake_in text listed frames).edits known (intake_in text listed frames).added fault
+  pub refused : IsUnedited text (intake_in text base listed frames).edits known (intake_in text base listed frames).added fault
 
 -- the text of a base after it got the frames
 pub record AreMerged (text : List ℕ) (guessed : Bool) (frames : List Filed) (merged : MergedView) : Type 0 where
+  pub old : BaseView
+  pub was : IsTextBase text old
   pub members : Members
   pub tree : tree_of text ≡ Some members
-  pub merge : IsTextMerged text (draft_of members).frames guessed frames merged
+  pub merge : IsTextMerged text old (draft_of members).frames guessed frames merged
 
 -- and it is a base
 pub record IsMerged (text : List ℕ) (guessed : Bool) (frames : List Filed) (merged : MergedView) : Type 0 where
-  pub old : BaseView
-  pub was : IsTextBase text old
   pub merge : AreMerged text guessed frames merged
   pub new : BaseView
   pub is : IsTextBase merged.text new
@@ -187,9 +218,11 @@ pub record AreSpoilt (text : List ℕ) (guessed : Bool) (frames : List Filed) (f
   pub first : IsFirstFault merged.text fault
 
 pub record AreRefused (text : List ℕ) (guessed : Bool) (frames : List Filed) (fault : MergeFault) : Type 0 where
+  pub old : BaseView
+  pub was : IsTextBase text old
   pub members : Members
   pub tree : tree_of text ≡ Some members
-  pub refused : IsTextRefused text (draft_of members).frames guessed frames fault
+  pub refused : IsTextRefused text old (draft_of members).frames guessed frames fault
 
 abbrev pub IsNotMerged : List ℕ → Bool → List Filed → MergeFault → Type 0
 IsNotMerged text guessed frames (Unread fault) = IsFirstFault text fault

@@ -4,7 +4,8 @@ ghost use Rattle.std.specs.Prelude.{◌≡◌, IfOk, OnOk};
 ghost use Rattle.frame_edits.specs.declared.intake.Fate.TheVariants as fate;
 ghost use Rattle.frame_edits.specs.Merging as spec;
 
-use frame_records::Lead;
+use crate::shown::is_shown;
+use frame_records::{Base, Lead};
 use lint::PicturePlace;
 use page_ids::FrameId;
 use screen_files::{Filed, push_rows};
@@ -18,8 +19,10 @@ use toml_places::Span;
 pub enum Fate {
     // The base doesn't have it.
     Added,
-    // The base's frame stays as it is.
+    // The base's frame stays as it is, since its rows aren't all that a caller sees.
     Left,
+    // The base's frame stays as it is, since it shows the screen.
+    Same,
     // Its rows take the place of what is written here.
     Replaced(Span),
 }
@@ -31,6 +34,7 @@ pub struct Intake {
     pub replaced: Vec<FrameId>,
     pub added: Vec<Filed>,
     pub left: Vec<FrameId>,
+    pub same: Vec<FrameId>,
 }
 
 impl Model for Intake {
@@ -44,18 +48,25 @@ impl Model for Intake {
           replaced = i.replaced.items;
           added = i.added.items;
           left = i.left.items;
+          same = i.same.items;
         } };
 }
 
-// By where the base's text writes what the frame shows.
-fn fate_of(place: Option<PicturePlace>) -> Fate
-    ensures { result ≡ spec.fate_of place }
+// By where the base's text writes what the frame shows, and whether that is the screen.
+fn fate_of(place: Option<PicturePlace>, is_shown: bool) -> Fate
+    ensures { result ≡ spec.fate_of place is_shown }
 {
     let Some(place) = place else {
         return Fate::Added;
     };
     match (place.lead, place.span) {
-        (Lead::Clear, Some(span)) => Fate::Replaced(span),
+        (Lead::Clear, Some(span)) => {
+            if is_shown {
+                Fate::Same
+            } else {
+                Fate::Replaced(span)
+            }
+        }
         _ => Fate::Left,
     }
 }
@@ -79,6 +90,7 @@ impl Intake {
             replaced: Vec::new(alloc),
             added: Vec::new(alloc),
             left: Vec::new(alloc),
+            same: Vec::new(alloc),
         }
     }
 
@@ -100,25 +112,29 @@ impl Intake {
     fn take(
         &mut self,
         alloc: Global,
+        base: &Base,
         filed: &Filed,
         place: Option<PicturePlace>,
     ) -> Result<(), AllocError>
-        ensures { OnOk result (self.new ≡ spec.taken_by self.old filed.now (spec.fate_of place)) }
+        ensures { OnOk result (self.new
+            ≡ spec.taken_by self.old filed.now (spec.fate_of place (spec.is_shown base.now filed.now.frame))) }
     {
-        match fate_of(place) {
+        match fate_of(place, is_shown(base, &filed.frame)) {
             Fate::Added => self.added.extend_from_slice(&[*filed]),
             Fate::Left => self.left.extend_from_slice(&[filed.frame.id]),
+            Fate::Same => self.same.extend_from_slice(&[filed.frame.id]),
             Fate::Replaced(span) => self.replace(alloc, filed, span),
         }
     }
 
-    // Takes all frames, whose places in the text are these.
+    // Takes all frames, whose places in the text of a base are these.
     pub fn of(
         alloc: Global,
+        base: &Base,
         places: &[Option<PicturePlace>],
         frames: &[Filed],
     ) -> Result<Intake, AllocError>
-        ensures { IfOk result (λ intake. intake ≡ spec.intake_from spec.nothing_taken places.now frames.now) }
+        ensures { IfOk result (λ intake. intake ≡ spec.intake_from base.now spec.nothing_taken places.now frames.now) }
     {
         let mut intake = Intake::new(alloc);
         let mut rest = frames;
@@ -127,7 +143,7 @@ impl Intake {
             let Some((place, others)) = their_places.split_first() else {
                 return Ok(intake);
             };
-            intake.take(alloc, filed, *place)?;
+            intake.take(alloc, base, filed, *place)?;
             rest = more;
             their_places = others;
         }

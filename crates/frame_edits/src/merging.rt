@@ -4,13 +4,14 @@ ghost use Rattle.std.specs.Prelude.{◌≡◌, ◌++◌, ◌∷◌, [], ◌||◌
 ghost use Rattle.page_ids.specs.Ids.{Id};
 ghost use Rattle.screen_files.specs.Routes.{knows_frame};
 ghost use Rattle.toml.specs.Parse.{parse_document};
-ghost use Rattle.base_text.specs.Whole.{tree_of};
+ghost use Rattle.base_text.specs.Whole.{IsTextBase, tree_of};
 ghost use Rattle.frame_edits.specs.Merging as spec;
 ghost use Rattle.frame_edits.specs.Loops.{IsRefusal, IsRefusalIn};
 
 use crate::additions::additions;
 use crate::intake::Intake;
 use base_text::{BaseFault, Draft, Listed, base_read, draft_of, tree};
+use frame_records::Base;
 use lint::picture_places;
 use page_ids::FrameId;
 use screen_files::{BaseTextFault, Filed, Known, Settled};
@@ -28,8 +29,10 @@ pub struct Merged {
     pub replaced: Vec<FrameId>,
     /// The frames that the base didn't have.
     pub added: Vec<FrameId>,
-    /// The frames that the base has and that stay as they are.
+    /// The frames that stay as they are, since the rows aren't all that a caller sees.
     pub left: Vec<FrameId>,
+    /// The frames that stay as they are, since they show the screens.
+    pub same: Vec<FrameId>,
 }
 
 impl Model for Merged {
@@ -44,6 +47,7 @@ impl Model for Merged {
           replaced = m.replaced.items;
           added = m.added.items;
           left = m.left.items;
+          same = m.same.items;
         } };
 }
 
@@ -76,19 +80,20 @@ fn filed_ids(alloc: Global, frames: &[Filed]) -> Result<Vec<FrameId>, AllocError
     frames.iter().map(|filed| filed.frame.id).collect(alloc)
 }
 
-// What the frames come to in a text that lists these.
+// What the frames come to in the text of a base that lists these.
 fn taken(
     alloc: Global,
     text: &str,
+    base: &Base,
     listed: &[Listed],
     frames: &[Filed],
 ) -> Result<Intake, AllocError>
     requires { IsSome (parse_document text.now) }
-    ensures { IfOk result (λ intake. intake ≡ spec.intake_in text.now listed.now frames.now) }
+    ensures { IfOk result (λ intake. intake ≡ spec.intake_in text.now base.now listed.now frames.now) }
 {
     let ids = filed_ids(alloc, frames)?;
     let places = picture_places(alloc, text, listed, ids.as_slice())?;
-    Intake::of(alloc, places.as_slice(), frames)
+    Intake::of(alloc, base, places.as_slice(), frames)
 }
 
 // Adds the edit that comes after all of a text of this length.
@@ -172,6 +177,7 @@ fn merged_with(
         replaced,
         added,
         left,
+        same,
     } = intake;
     let (edits, text) = edited_text(alloc, text, edits, known, added.as_slice())?;
     match filed_ids(alloc, added.as_slice()) {
@@ -181,24 +187,26 @@ fn merged_with(
             replaced,
             added,
             left,
+            same,
         }),
         Err(_) => Err(MergeFault::Memory),
     }
 }
 
-// The text that comes of one that lists these frames.
+// The text that comes of that of a base that lists these frames.
 fn merged_text(
     alloc: Global,
     text: &str,
+    base: &Base,
     listed: &[Listed],
     guesses: bool,
     frames: &[Filed],
 ) -> Result<Merged, MergeFault>
     requires { IsSome (parse_document text.now) }
-    ensures merged { IfOk result (spec.IsTextMerged text.now listed.now guesses frames.now) }
-    ensures fault { IfErr result (IsRefusalIn text.now listed.now guesses frames.now) }
+    ensures merged { IfOk result (spec.IsTextMerged text.now base.now listed.now guesses frames.now) }
+    ensures fault { IfErr result (IsRefusalIn text.now base.now listed.now guesses frames.now) }
 {
-    let Ok(intake) = taken(alloc, text, listed, frames) else {
+    let Ok(intake) = taken(alloc, text, base, listed, frames) else {
         return Err(MergeFault::Memory);
     };
     match known_frames(alloc, guesses, listed, frames) {
@@ -207,14 +215,16 @@ fn merged_text(
     }
 }
 
-// The text that comes of one that is a base.
+// The text that comes of that of a base.
 fn merged_base(
     alloc: Global,
     text: &[u8],
+    base: &Base,
     guesses: bool,
     frames: &[Filed],
 ) -> Result<Merged, MergeFault>
-    requires { IsSome (tree_of text.now) }
+    requires tree { IsSome (tree_of text.now) }
+    requires read { IsTextBase text.now base.now }
     ensures merged { IfOk result (spec.AreMerged text.now guesses frames.now) }
     ensures fault { IfErr result (IsRefusal text.now guesses frames.now) }
 {
@@ -227,7 +237,7 @@ fn merged_base(
         return Err(MergeFault::Memory);
     };
     match str::from_utf8(text) {
-        Ok(text) => merged_text(alloc, text, listed.as_slice(), guesses, frames),
+        Ok(text) => merged_text(alloc, text, base, listed.as_slice(), guesses, frames),
         Err(_) => unreachable!(),
     }
 }
@@ -235,9 +245,9 @@ fn merged_base(
 /// A base's text with frames of one id each in it. On every fault there is no new text.
 ///
 /// The rows of each frame that the base has, and whose lead isn't `keep`, take the place of what the text writes as its `rows` or
-/// `body`, the key included; the others are added after the text. If routes are guessed, the added frames have those that the numbers of
-/// pages suggest, to frames of the new base. Each byte outside of those places is kept, in order. The text is read
-/// twice, and what comes of it once.
+/// `body`, the key included, unless the frame shows them already. The frames that the base doesn't have are added after the text; if
+/// routes are guessed, they have those that the numbers of pages suggest, to frames of the new base. Each byte outside of those
+/// places is kept, in order. The text is read twice, and what comes of it once.
 pub fn merge_frames(
     alloc: Global,
     text: &[u8],
@@ -247,11 +257,11 @@ pub fn merge_frames(
     ensures merged { IfOk result (spec.IsMerged text.now guesses settled.now.frames) }
     ensures fault { IfErr result (spec.IsNotMerged text.now guesses settled.now.frames) }
 {
-    match base_read(alloc, text) {
-        Ok(_) => {}
+    let base = match base_read(alloc, text) {
+        Ok(base) => base,
         Err(fault) => return Err(MergeFault::Unread(fault)),
-    }
-    let merged = merged_base(alloc, text, guesses, settled.frames())?;
+    };
+    let merged = merged_base(alloc, text, &base, guesses, settled.frames())?;
     match base_read(alloc, merged.text.as_slice()) {
         Ok(_) => Ok(merged),
         Err(fault) => Err(MergeFault::Spoilt(fault)),

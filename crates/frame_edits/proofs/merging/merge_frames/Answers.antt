@@ -8,8 +8,6 @@ pub returns-in-Ok-base_read-clause-merged : goal.returns-in-Ok-base_read-clause-
 returns-in-Ok-base_read-clause-merged c =
     let merged = c.in_ok-merged.merged in
     record {
-      old = c.in-Ok.field-0;
-      was = c.in-Ok.ensures.found;
       merge = subst (λ (frames : List Filed). AreMerged c.args.text.now c.args.guesses frames merged) c.frames.ensures.all c.in_ok-merged.ensures.merged;
       new = c.in-Ok-base_read.field-0;
       is = subst (λ (text : List ℕ). IsTextBase text c.in-Ok-base_read.field-0) (c.as_slice.ensures.value ∙ ap (λ (m : MergedView). m.text) c.merged.view_is) c.in-Ok-base_read.ensures.found;
