@@ -34,7 +34,7 @@ pub record IsDrawn (m : Mark) (c : ℕ) : Type 0 where
   pub mark : char_mark c ≡ Some m
   pub char : mark_char m ≡ c
 
--- of no mark it is a space
+-- without a mark it is a space
 abbrev pub Draws : Option Mark → ℕ → Type 0
 Draws None c = c ≡ 0x20
 Draws (Some m) c = IsDrawn m c

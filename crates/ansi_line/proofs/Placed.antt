@@ -117,7 +117,7 @@ reads_place rows row n e lt =
     let next : (n == length rows + 2) ≡ true = grind (arith, nat_tests) in
     both r (numbers r [] n) (below_rows (rows ++ row ∷ [])) (codes "\u{1b}[" ++ decimal n) (codes ";1H") number (rw (here, next) refl)
 
--- of the first
+-- the place of the first row
 reads_first : (rows : List (List Cell)) (row : List Cell) → read_on (in_row rows row unset) (row_place 1) ≡ below_rows []
 unfolding digits
 reads_first rows row = refl

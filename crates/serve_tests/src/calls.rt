@@ -196,7 +196,7 @@ fn why(end: &Result<(), CallFault>) -> &'static str {
     }
 }
 
-const UNSERVED: [(&str, &str, &str, &str); 9] = [
+const UNSERVED: [(&str, &str, &str, &str); 12] = [
     ("", DEMO, POLICY, "unpublished"),
     ("7", DEMO, POLICY, "unnamed"),
     ("07\n", DEMO, POLICY, "unnamed"),
@@ -206,6 +206,9 @@ const UNSERVED: [(&str, &str, &str, &str); 9] = [
     ("7\n", DEMO, "ceiling = 5\n", "policy unread"),
     ("7\n", DEMO, "ceiling = 4\nkeyings = 1\n", "refused"),
     ("7\n", "entry = 123\n", POLICY, "refused"),
+    ("!", DEMO, POLICY, "folder"),
+    ("7\n", "!", POLICY, "folder"),
+    ("7\n", DEMO, "!", "folder"),
 ];
 
 #[test]

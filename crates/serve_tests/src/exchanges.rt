@@ -126,15 +126,18 @@ impl EditionFolder for Published<'_> {
 }
 
 // What `current` says at the beginning and before each byte of `*00`; what is noted; the entry frame then; how many files were read.
-const CALLS: [(&[&str], &str, &str, usize); 12] = [
+const CALLS: [(&[&str], &str, &str, usize); 14] = [
     (&["1\n"], "+1k", "WELCOME", 3),
     // the next edition
     (&["1\n", "1\n", "2\n"], "+1>2k", "GOODDAY", 7),
+    // right before the last byte
+    (&["1\n", "1\n", "1\n", "2\n"], "+1>2k", "GOODDAY", 7),
     // one after another, and two at once
     (&["1\n", "2\n", "3\n"], "+1>2>3k", "EVENING", 11),
     (&["1\n", "3\n"], "+1>3k", "EVENING", 12),
     // half written, then whole
     (&["1\n", "2", "2\n"], "+1>2k", "GOODDAY", 7),
+    (&["1\n", "!", "2\n"], "+1>2k", "GOODDAY", 7),
     // another beginning; an earlier one; one that is refused, by its policy and for its callers: each is read once
     (&["1\n", "4\n"], "+1k", "WELCOME", 4),
     (&["2\n", "1\n"], "+2k", "GOODDAY", 3),

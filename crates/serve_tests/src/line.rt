@@ -18,10 +18,13 @@ pub struct OneEdition<'a> {
     pub policy: &'a str,
 }
 
-// A copy of a text; one that is empty isn't there.
+// A copy of a text; one that is empty isn't there, and `!` can't be read.
 pub fn copied(alloc: Global, text: &str) -> Result<Option<Vec<u8>>, StoreFault> {
     if text.is_empty() {
         return Ok(None);
+    }
+    if text == "!" {
+        return Err(StoreFault::Broken);
     }
     let mut copy = Vec::new(alloc);
     match copy.extend_from_slice(text.as_bytes()) {
