@@ -56,6 +56,17 @@
       return Array.from(document.querySelectorAll(".ways .closed")).some((way) => way.textContent === this.id);
     }
 
+    // The group whose callers can open it, if it is closed to others.
+    get group() {
+      const group = this.section.querySelector(".group");
+      return group ? group.textContent : "";
+    }
+
+    // Whether it has a picture with what it conceals.
+    get conceals() {
+      return this.section.querySelector(".revealed") !== null;
+    }
+
     get lines() {
       return this.section.querySelector("pre").textContent;
     }
@@ -79,7 +90,7 @@
       const heading = this.section.querySelector("h2");
       if (heading.dataset.title !== undefined) return;
       heading.dataset.title = this.title;
-      this.section.querySelector("svg").setAttribute("aria-hidden", "true");
+      for (const svg of this.section.querySelectorAll("svg")) svg.setAttribute("aria-hidden", "true");
     }
 
     labelWays() {
@@ -121,6 +132,7 @@
       this.keys = "";
       this.command = "";
       this.offer = "";
+      this.shut = "";
       this.faithful = true;
       this.say(`SHOWN ${id} ${this.sum}`);
     }
@@ -133,7 +145,7 @@
       session.keys = id === entry ? "" : null;
       if (session.frame.isClosed) {
         session.sum = 0;
-        session.say(`CLOSED ${id}`, "no");
+        session.close(id);
       }
       return session;
     }
@@ -152,6 +164,18 @@
       this.reply = reply;
       this.kind = kind;
       return this;
+    }
+
+    // Says that a frame is closed.
+    close(id) {
+      this.shut = id;
+      return this.say(`CLOSED ${id}`, "no");
+    }
+
+    // The group of the frame that is said to be closed, if the file has it.
+    get club() {
+      const frame = Frame.of(this.shut);
+      return frame ? frame.group : "";
     }
 
     // The picture is that of the shortest keys. After other keys a frame that keeps what is on the screen may look otherwise.
@@ -173,7 +197,7 @@
         return this.arrive(to);
       }
       if (way.className === "missing") return this.say(`MISSING ${to}`, "bad");
-      if (way.className === "closed") return this.say(`CLOSED ${to}`, "no");
+      if (way.className === "closed") return this.close(to);
       if (way.className === "elsewhere") return this.say(`${to} is not in this file`, "no");
       this.left = to;
       return this.say(`GONE ${to}`, "no");
@@ -199,6 +223,7 @@
     // A key: a digit, # or a command.
     press(key) {
       this.offer = "";
+      this.shut = "";
       if (this.keys !== null) this.keys += key;
       if (this.left !== null) return this.say("NOTOFFERED", "no");
       if (key === "*#") return this.back();
@@ -223,6 +248,7 @@
       this.command = "";
       if (COMMANDS.includes(command)) return this.press(command);
       const id = `${command.slice(1, -1)}a`;
+      this.shut = "";
       this.offer = Frame.of(id) ? id : "";
       return this.say("page numbers aren't part of this file's walk", "no");
     }
@@ -249,6 +275,14 @@
     if (element.textContent !== text) element.textContent = text;
   };
 
+  // While it is held, the picture is the one with what the frame conceals.
+  const reveal = (isHeld) => {
+    const button = byId("reveal");
+    const isOn = isHeld && !button.hidden;
+    root.classList.toggle("bare", isOn);
+    button.setAttribute("aria-pressed", isOn);
+  };
+
   const drawFrame = () => {
     for (const old of document.querySelectorAll("section.at")) old.classList.remove("at", "dim");
     const { frame } = session;
@@ -257,12 +291,15 @@
     frame.section.classList.add("at");
     frame.section.classList.toggle("dim", frame.isClosed);
     root.classList.toggle("gone", session.left !== null);
+    byId("reveal").hidden = !frame.conceals || session.left !== null;
+    reveal(false);
     put("page", session.left === null ? "" : `page ${session.left}: another provider`);
   };
 
   const drawReply = () => {
     put("reply", session.command || session.reply);
     byId("reply").className = session.command ? "typed" : session.kind;
+    put("club", session.command ? "" : session.club);
     byId("offer").href = `#${session.offer}`;
     put("offer", session.offer && !session.command ? `open ${session.offer}` : "");
   };
@@ -328,12 +365,17 @@
     return element;
   };
 
-  // A fault's line; one that keys lead to is a link that presses them.
+  // A fault: what lint says of it, and the audit's line. One that keys lead to is a link that presses them.
   const lineOf = (fault) => {
     const keys = / SCRIPT ([0-9#*-]+)$/.exec(fault.textContent);
     const section = fault.closest("section");
     const line = made(keys && section && Frame.of(entry) ? "a" : "span", "line", "");
+    if (section) {
+      const number = Array.from(fault.parentNode.children).indexOf(fault);
+      line.append(made("span", "sentence", section.querySelectorAll(".said li")[number].textContent));
+    }
     line.append(made("code", "", fault.textContent));
+    if (section) line.append(made("span", "where", section.querySelector(".place").textContent));
     if (line.localName === "a") {
       line.href = `#${section.id}`;
       line.dataset.script = keys[1] === "-" ? "" : keys[1];
@@ -490,6 +532,7 @@
     else if (clicked("#again")) begin(Frame.start().id, true);
     else if (clicked("#copy")) copy();
     else if (clicked("#full")) turnFull();
+    else if (clicked("#reveal") && event.detail === 0) reveal(!root.classList.contains("bare"));
     else if (view === "frames" && section) {
       event.preventDefault();
       open(section.id);
@@ -526,7 +569,8 @@
   };
 
   const inCaller = (key, on) => {
-    if (/^[0-9#*]$/.test(key)) {
+    if (key === "r" || ([" ", "Enter"].includes(key) && on.id === "reveal")) reveal(true);
+    else if (/^[0-9#*]$/.test(key)) {
       stop();
       typed(key);
     } else if (key === "Enter" && !on.closest("a, button")) {
@@ -556,6 +600,22 @@
     if (key === "Escape") escape();
     else if (act && act(key, target)) event.preventDefault();
   });
+  document.addEventListener("keyup", (event) => {
+    if (!["r", "R", " ", "Enter"].includes(event.key)) return;
+    reveal(false);
+    if (event.target.id === "reveal") event.preventDefault();
+  });
+  byId("reveal").addEventListener("pointerdown", (event) => {
+    if (event.button !== 0) return;
+    event.currentTarget.setPointerCapture(event.pointerId);
+    reveal(true);
+  });
+  byId("reveal").addEventListener("lostpointercapture", (event) => {
+    event.currentTarget.blur();
+    reveal(false);
+  });
+  byId("reveal").addEventListener("contextmenu", (event) => event.preventDefault());
+  addEventListener("blur", () => reveal(false));
   addEventListener("beforeprint", () => {
     for (const section of document.querySelectorAll("section")) {
       const frame = new Frame(section);

@@ -6,11 +6,19 @@ use Rattle.std.proofs.lemmas.Str.{encode_ascii}
 use Rattle.screens.specs.declared.writing.Writing.TheVariants.{Markup}
 use Rattle.screens.specs.Writing.{written}
 use Rattle.screens.specs.Svg.{Piece, piece, newline, piece_bytes, markup}
+use Rattle.screens.proofs.Lines.{written_append}
 use Rattle.base_pages.specs.Elements.{tag, opening_pieces, ending, element_pieces, around}
 
 pub markup_append : (ps qs : List Piece) → markup (ps ++ qs) ≡ markup ps ++ markup qs
 unfolding markup
 markup_append ps qs = flat_map-append piece_bytes ps qs
+
+pub written_both : (cs ds : List ℕ) → written Markup (cs ++ ds) ≡ written Markup cs ++ written Markup ds
+written_both cs ds = written_append Markup cs ds
+
+-- no characters are written for none
+pub no_chars : (bs : List ℕ) → bs ≡ bs ++ written Markup []
+no_chars bs = sym (append-nil bs)
 
 pub markup_each : {A : Type 0} (f : A → List Piece) (xs : List A) → markup (flat_map f xs) ≡ flat_map (λ x. markup (f x)) xs
 unfolding markup

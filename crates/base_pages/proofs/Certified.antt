@@ -1,5 +1,5 @@
 -- If a base is certified, no way of a section that callers reach fails.
-use Rattle.std.proofs.Common.{◌≡◌, ℕ, refl, sym, subst, ap, ◌∙◌, Any, Contains, Bool, true, false, ◌||◌, List, [], ◌∷◌, ◌++◌, Option, Some, None, codes, get_or, is_some, map, arith, if◌then◌else◌}
+use Rattle.std.proofs.Common.{◌≡◌, ℕ, refl, sym, subst, ap, ◌∙◌, Any, Contains, Bool, true, false, ◌||◌, List, [], ◌∷◌, ◌++◌, Option, Some, None, codes, decimal, get_or, is_some, map, arith, if◌then◌else◌}
 use Rattle.std.specs.Char.{encode_utf8}
 use Rattle.std.specs.List.{list_any, flat_map, AllByRecursion}
 use Rattle.std.specs.declared.cmp.Ordering.TheVariants.{Equal}
@@ -35,12 +35,18 @@ use Rattle.fault_scripts.specs.declared.fault.FaultKind.{FaultKind}
 use Rattle.fault_scripts.specs.declared.fault.FaultKind.TheVariants as kind
 use Rattle.fault_scripts.specs.declared.outcome.Outcome.TheVariants.{Certified, Faulty}
 use Rattle.fault_scripts.specs.Faults.{AreFaults, AreFaultsBy, AreFaultsAlong, IsDueAs, KeyIsDue, key_fault}
-use Rattle.base_pages.specs.Faults.{faults_about}
-use Rattle.base_pages.specs.Screens.{is_reached}
+use Rattle.screens.specs.declared.look.Look.{Look}
+use Rattle.screens.specs.Svg.{newline}
+use Rattle.lint.specs.declared.lines.WrittenFrame.{WrittenFrame}
+use Rattle.lint.specs.FrameLines.{SentenceView}
+use Rattle.lint.specs.Lookups.{value_of}
+use Rattle.base_pages.specs.Faults.{faults_about, sentences_about}
+use Rattle.base_pages.specs.Screens.{is_reached, screen_of}
+use Rattle.base_pages.specs.Revealed.{revealed, screen_conceals}
 use Rattle.base_pages.specs.Sections.{BookView, section_attributes, shown_frames}
 use Rattle.base_pages.specs.Pages.{book}
 use Rattle.base_pages.specs.Reading.{Element}
-use Rattle.base_pages.specs.Said.{said_as, link_said, marked_said, way_said, ways_said, over_said, fault_said, faults_said, section_said}
+use Rattle.base_pages.specs.Said.{said_as, link_said, marked_said, way_said, ways_said, over_said, group_said, place_said, marks_said, sentence_said, sentences_said, fault_said, faults_said, findings_said, text_said, revealed_said, section_said, class_said}
 use Rattle.base_pages.specs.Links.{says_unreached, fails, NoWayFails}
 use Rattle.base_pages.specs.Laws.{CertifiedWaysLead}
 use Rattle.base_pages.proofs.Files.{says_what_is_shown}
@@ -123,6 +129,27 @@ faults_found : (faults : List Fault) → list_any fails (faults_said faults) ≡
 faults_found [] = refl
 faults_found (fault ∷ faults) = none_in_each fault_said (λ x. refl) (fault ∷ faults)
 
+sentences_found : (ss : List SentenceView) → list_any fails (sentences_said ss) ≡ false
+sentences_found [] = refl
+sentences_found (s ∷ ss) = none_in_each sentence_said (λ x. refl) (s ∷ ss)
+
+group_found : (group : Option ℕ) → list_any fails (group_said group) ≡ false
+group_found None = refl
+group_found (Some group) = refl
+
+place_found : (name : List ℕ) (line : Option WrittenFrame) → list_any fails (place_said name line) ≡ false
+place_found name None = refl
+place_found name (Some line) = refl
+
+revealed_found : (rows : List (List Look)) → list_any fails (revealed_said rows) ≡ false
+revealed_found rows = by (screen_conceals rows) where
+  by : (q : Bool) → list_any fails (if q then said_as (codes "div") ((codes "class", codes "revealed") ∷ []) newline ∷ text_said (revealed rows) ∷ [] else []) ≡ false
+  by true = refl
+  by false = refl
+
+none_in_both : (es ds : List Element) → list_any fails es ≡ false → list_any fails ds ≡ false → list_any fails (es ++ ds) ≡ false
+none_in_both es ds h k = list_any-append fails es ds ∙ none_either (list_any fails es) (list_any fails ds) h k
+
 marked_unreached : (b : BookView) (f : Frame) → says_unreached (section_said b f) ≡ false → is_reached b.found f.id ≡ true
 unfolding encode_utf8
 marked_unreached b f h = by (is_reached b.found f.id) h where
@@ -138,18 +165,24 @@ each_said b [] h = tt
 each_said b (f ∷ fs) h = (h f (first_in f fs), each_said b fs (λ g k. h g (later_in f fs g k)))
 
 pub certified_ways_lead : CertifiedWaysLead
-certified_ways_lead name base policy part found (Faulty faults) valid finding outcome = tt
-certified_ways_lead name base policy part found (Certified cert) valid finding outcome =
-    let b = book base policy part found (Certified cert) in
+certified_ways_lead source base policy part found (Faulty faults) sentences valid finding outcome = tt
+certified_ways_lead source base policy part found (Certified cert) sentences valid finding outcome =
+    let b = book source base policy part found (Certified cert) sentences in
     let fs = shown_frames b base.frames in
     let one : (f : Frame) → Contains fs f → Holds (section_said b f) = λ (f : Frame) h unmarked.
     let has = (filter_among (λ (g : Frame). part_shows part g.id) base.frames f h).0 in
     let same : id_cmp f.id f.id ≡ Equal = grind (arith, nat_tests) in
     let there : frame_at base f.id ≡ Some f = found_at base.frames f.id has.0 f valid.ascending has.1 has.2 same in
     let reached = (finding.reached.reached f.id).1 (listed found f.id (marked_unreached b f unmarked)) in
-    list_any-append fails (ways_said b f ++ over_said f.lead) (faults_said (faults_about b.faults f.id))
-    ∙ none_either _ _ (list_any-append fails (ways_said b f) (over_said f.lead)
-    ∙ none_either _ _
+    let said = sentences_about b.faults b.sentences f.id in
+    let lines = faults_about b.faults f.id in
+    let rows = screen_of policy.groups base found f.id in
+    let price = class_said (codes "price") (decimal f.price ++ codes "p") in
+    none_in_both (revealed_said rows ++ price ∷ marks_said source f) (class_said (codes "ways") (10 ∷ []) ∷ (ways_said b f ++ over_said f.lead ++ findings_said b f))
+    (none_in_both (revealed_said rows) (price ∷ marks_said source f) (revealed_found rows)
+    (none_in_both (group_said f.group) (place_said source.name (value_of source.lines f.id)) (group_found f.group) (place_found source.name (value_of source.lines f.id))))
+    (none_in_both (ways_said b f ++ over_said f.lead) (findings_said b f)
+    (none_in_both (ways_said b f) (over_said f.lead)
     (none_in_each (λ (way : Way). way_said part (way_key way) (destination_of policy.groups base f way)) (λ (way : Way). way_found part (way_key way) (destination_of policy.groups base f way) (not_missing base policy f outcome.0 reached there way) (not_closed base policy f outcome.0 reached there way)) ways)
-    (over_found f.lead)) (faults_found (faults_about b.faults f.id)) in
-    subst NoWayFails (sym (says_what_is_shown name policy (Certified cert) b)) (All-from_recursion Holds (map (section_said b) fs) (each_said b fs one))
+    (over_found f.lead)) (none_in_both (sentences_said said) (faults_said lines) (sentences_found said) (faults_found lines))) in
+    subst NoWayFails (sym (says_what_is_shown policy (Certified cert) b)) (All-from_recursion Holds (map (section_said b) fs) (each_said b fs one))

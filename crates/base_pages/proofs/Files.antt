@@ -15,9 +15,9 @@ use Rattle.screens.specs.Laws.{tags_reading, tags_of, is_harmless, raw}
 use Rattle.screens.proofs.Safe.{is_inner, harmless, first_of, rest_of}
 use Rattle.screens.proofs.Tags.{Inner, Outer, has_inner, Tags}
 use Rattle.base_pages.specs.Elements.{tag, opening_pieces, ending}
-use Rattle.base_pages.specs.Faults.{faults_about, touched_cell}
+use Rattle.base_pages.specs.Faults.{faults_about, sentences_about, touched_cell}
 use Rattle.base_pages.specs.Screens.{is_reached, screen_of}
-use Rattle.base_pages.specs.Sections.{BookView, section_attributes, heading, drawn_pieces, text_pieces, below_screen, shaped, section_pieces, shown_frames}
+use Rattle.base_pages.specs.Sections.{BookView, section_attributes, heading, screen_pieces, below_screen, shaped, section_pieces, shown_frames}
 use Rattle.base_pages.specs.Head.{header_pieces}
 use Rattle.base_pages.specs.Shell.{head, middle, foot}
 use Rattle.base_pages.specs.Tags.{body_pieces, page_tags}
@@ -171,8 +171,8 @@ module _ (b : BookView) where
 
   abbrev inner : Frame → List Piece
   inner f =
-      heading f.id ++ drawn_pieces f.id (screen_of b.caller b.base b.found f.id) (touched_cell f (faults_about b.faults f.id))
-      ++ text_pieces (screen_of b.caller b.base b.found f.id) ++ below_screen b.caller b.base b.part f (faults_about b.faults f.id)
+      heading f.id ++ screen_pieces f.id (screen_of b.caller b.base b.found f.id) (touched_cell f (faults_about b.faults f.id))
+      ++ below_screen b f (sentences_about b.faults b.sentences f.id) (faults_about b.faults f.id)
 
   inner_is : (f : Frame) → Part (inner f) (frame_said b f)
   inner_is f = inner_part b f
@@ -222,17 +222,17 @@ starts_first (b ∷ bs) rest h = h
 parts_of_page : (a h m s f : List ℕ) → a ++ h ++ m ++ s ++ f ≡ a ++ (h ++ (m ++ (s ++ f)))
 parts_of_page a h m s f = simp append_assoc
 
-module _ (name : List ℕ) (policy : Policy) (outcome : Outcome) (b : BookView) where
+module _ (policy : Policy) (outcome : Outcome) (b : BookView) where
   abbrev top : List Piece
-  top = header_pieces name b.base policy outcome
+  top = header_pieces b.source.name b.base policy outcome
 
   abbrev body : List Piece
   body = body_pieces b
 
   top_parts : Tags top × Stay (map read (map raw top))
-  top_parts = fit_parts top (header_part name b.base policy outcome).fit
+  top_parts = fit_parts top (header_part b.source.name b.base policy outcome).fit
 
-  pub has_its_tags : tags_of (page name policy outcome b) ≡ page_tags name policy outcome b
+  pub has_its_tags : tags_of (page policy outcome b) ≡ page_tags policy outcome b
   has_its_tags =
       let last = markup body ++ foot in
       let s : starts (middle ++ last) ≡ true = starts_first middle last fixed_middle.0 in
@@ -247,7 +247,7 @@ module _ (name : List ℕ) (policy : Policy) (outcome : Outcome) (b : BookView) 
   read_parts : (a h m s f : List Piece) → map read (a ++ (h ++ (m ++ (s ++ f)))) ≡ map read a ++ (map read h ++ (map read m ++ (map read s ++ map read f)))
   read_parts a h m s f = simp map-append
 
-  pub says_what_is_shown : sections_in (page name policy outcome b) ≡ map (section_said b) (shown_frames b b.base.frames)
+  pub says_what_is_shown : sections_in (page policy outcome b) ≡ map (section_said b) (shown_frames b b.base.frames)
   says_what_is_shown =
       let end = elements_of foot in
       let sections = map read (map raw body) ++ end in

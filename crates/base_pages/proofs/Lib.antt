@@ -7,4 +7,5 @@ pub mod Numbering
 pub mod OnTheWay
 pub mod Parts
 pub mod Picture
+pub mod Revealed
 pub mod Sections

@@ -4,6 +4,7 @@ use Rattle.std.specs.List.{list_all, flat_map}
 use Rattle.std.proofs.lemmas.Bool.{and_parts, cond_both, true≢false}
 use Rattle.std.proofs.lemmas.Bool.Decides.{nat_tests}
 use Rattle.std.proofs.lemmas.List.Elements.{All-contains, Contains-append_left, Contains-append_right, Contains-append_cases}
+use Rattle.std.proofs.lemmas.List.Folds.{list_all-append}
 use Rattle.std.proofs.lemmas.Str.{encode_ascii}
 use Rattle.page_ids.specs.Ids.{Id, IsFrameId, id_eq, frame_text, page_text}
 use Rattle.page_ids.specs.IdLaws.{id_eq_same}
@@ -32,16 +33,20 @@ use Rattle.fault_scripts.specs.declared.fault.Fault.{Fault}
 use Rattle.finder.specs.Parts.{part_shows}
 use Rattle.screens.specs.declared.writing.Writing.TheVariants.{Plain}
 use Rattle.screens.specs.Writing.{written}
-use Rattle.screens.specs.Text.{text}
+use Rattle.screens.specs.declared.look.Look.{Look}
 use Rattle.screens.specs.Svg.{newline}
 use Rattle.screens.specs.Laws.{is_name}
 use Rattle.screens.proofs.Safe.{all_append}
-use Rattle.base_pages.specs.Faults.{faults_about}
+use Rattle.lint.specs.declared.lines.WrittenFrame.{WrittenFrame}
+use Rattle.lint.specs.FrameLines.{SentenceView}
+use Rattle.lint.specs.Lookups.{value_of}
+use Rattle.base_pages.specs.Faults.{faults_about, sentences_about}
 use Rattle.base_pages.specs.Screens.{is_reached, screen_of}
+use Rattle.base_pages.specs.Revealed.{revealed, screen_conceals}
 use Rattle.base_pages.specs.Sections.{BookView, section_attributes, shown_frames}
 use Rattle.base_pages.specs.Tags.{HasId, HaveIds}
 use Rattle.base_pages.specs.Reading.{Element}
-use Rattle.base_pages.specs.Said.{said_as, link_said, marked_said, way_said, ways_said, class_said, over_said, fault_said, faults_said, section_said}
+use Rattle.base_pages.specs.Said.{said_as, link_said, marked_said, way_said, ways_said, class_said, over_said, group_said, place_said, marks_said, sentence_said, sentences_said, fault_said, faults_said, findings_said, text_said, revealed_said, screen_said, section_said}
 use Rattle.base_pages.specs.Links.{HasLink, LeadsInFile, LinksAreWays}
 use Rattle.base_pages.specs.Laws.{LinksLead}
 
@@ -205,6 +210,31 @@ faults_unlinked : (faults : List Fault) → list_all is_other (faults_said fault
 faults_unlinked [] = refl
 faults_unlinked (fault ∷ faults) = each_unlinked faults
 
+group_unlinked : (group : Option ℕ) → list_all is_other (group_said group) ≡ true
+group_unlinked None = refl
+group_unlinked (Some group) = refl
+
+place_unlinked : (name : List ℕ) (line : Option WrittenFrame) → list_all is_other (place_said name line) ≡ true
+place_unlinked name None = refl
+place_unlinked name (Some line) = refl
+
+revealed_unlinked : (rows : List (List Look)) → list_all is_other (revealed_said rows) ≡ true
+revealed_unlinked rows = by (screen_conceals rows) where
+  by : (q : Bool) → list_all is_other (if q then said_as (codes "div") ((codes "class", codes "revealed") ∷ []) newline ∷ text_said (revealed rows) ∷ [] else []) ≡ true
+  by true = refl
+  by false = refl
+
+each_said_unlinked : (ss : List SentenceView) → list_all is_other (flat_map sentence_said ss) ≡ true
+each_said_unlinked [] = refl
+each_said_unlinked (s ∷ ss) = each_said_unlinked ss
+
+said_unlinked : (ss : List SentenceView) → list_all is_other (sentences_said ss) ≡ true
+said_unlinked [] = refl
+said_unlinked (s ∷ ss) = each_said_unlinked ss
+
+all_unlinked : (es ds : List Element) → list_all is_other es ≡ true → list_all is_other ds ≡ true → list_all is_other (es ++ ds) ≡ true
+all_unlinked es ds h k = list_all-append is_other es ds ∙ rw (h, k) refl
+
 record IsLinkOf (part : Option (List Id)) (key : Key) (leads : Destination) (e : Element) : Type 0 where
   to : Id
   price : ℕ
@@ -235,27 +265,41 @@ module _ (b : BookView) (ids : HaveIds b.part b.base.frames) (f : Frame) where
 
   -- what comes before the ways, and after them
   abbrev front : List Element
-  front =
-      said_as (codes "section") (section_attributes f.id (is_reached b.found f.id)) newline
-      ∷ said_as (codes "h2") [] (frame_text f.id)
-      ∷ said_as (codes "pre") [] (text (screen_of b.caller b.base b.found f.id))
-      ∷ class_said (codes "price") (decimal f.price ++ codes "p")
-      ∷ class_said (codes "ways") newline
-      ∷ []
+  front = said_as (codes "section") (section_attributes f.id (is_reached b.found f.id)) newline ∷ screen_said b f
 
-  abbrev faults : List Fault
-  faults = faults_about b.faults f.id
+  abbrev rest : List Element
+  rest = class_said (codes "ways") newline ∷ (ways_said b f ++ over_said f.lead ++ findings_said b f)
+
+  marks_unlinked : list_all is_other (marks_said b.source f) ≡ true
+  marks_unlinked = all_unlinked (group_said f.group) (place_said b.source.name (value_of b.source.lines f.id)) (group_unlinked f.group) (place_unlinked b.source.name (value_of b.source.lines f.id))
+
+  front_unlinked : list_all is_other front ≡ true
+  front_unlinked =
+      let rows = screen_of b.caller b.base b.found f.id in
+      all_unlinked (revealed_said rows) (class_said (codes "price") (decimal f.price ++ codes "p") ∷ marks_said b.source f) (revealed_unlinked rows) marks_unlinked
+
+  findings_unlinked : list_all is_other (findings_said b f) ≡ true
+  findings_unlinked =
+      let ss = sentences_about b.faults b.sentences f.id in
+      let fs = faults_about b.faults f.id in
+      all_unlinked (sentences_said ss) (faults_said fs) (said_unlinked ss) (faults_unlinked fs)
 
   -- a link is among the ways
+  among_rest : (e : Element) → e.name ≡ codes "a" → Contains (ways_said b f ++ over_said f.lead ++ findings_said b f) e → Contains (ways_said b f) e
+  among_rest e named later = elim (Contains-append_cases (ways_said b f ++ over_said f.lead) (findings_said b f) e later) [
+    | inl own ↦ elim (Contains-append_cases (ways_said b f) (over_said f.lead) e own) [
+      | inl way ↦ way
+      | inr over ↦ no_link (over_said f.lead) e (over_unlinked f.lead) named over
+    ]
+    | inr findings ↦ no_link (findings_said b f) e findings_unlinked named findings
+  ]
+
   among_ways : (e : Element) → e.name ≡ codes "a" → Contains (section_said b f) e → Contains (ways_said b f) e
-  among_ways e named h = elim (Contains-append_cases front (ways_said b f ++ over_said f.lead ++ faults_said faults) e h) [
-    | inl first ↦ no_link front e refl named first
-    | inr later ↦ elim (Contains-append_cases (ways_said b f ++ over_said f.lead) (faults_said faults) e later) [
-      | inl own ↦ elim (Contains-append_cases (ways_said b f) (over_said f.lead) e own) [
-        | inl way ↦ way
-        | inr over ↦ no_link (over_said f.lead) e (over_unlinked f.lead) named over
-      ]
-      | inr fault ↦ no_link (faults_said faults) e (faults_unlinked faults) named fault
+  among_ways e named h = elim (Contains-append_cases front rest e h) [
+    | inl first ↦ no_link front e front_unlinked named first
+    | inr later ↦ elim (Contains-append_cases (class_said (codes "ways") newline ∷ []) (ways_said b f ++ over_said f.lead ++ findings_said b f) e later) [
+      | inl ways ↦ no_link (class_said (codes "ways") newline ∷ []) e refl named ways
+      | inr after ↦ among_rest e named after
     ]
   ]
 
@@ -302,8 +346,10 @@ module _ (b : BookView) (ids : HaveIds b.part b.base.frames) (f : Frame) where
       let link = link_said to (way_key way) in
       let here : Contains (way_said b.part (way_key way) (Found to there.price)) link = first_of (part_shows b.part to) link (marked_said (codes "elsewhere") (way_key way) (frame_text to)) shows in
       let among : Contains (ways_said b f) link = each_among own ways way link (way_among way key) (subst (λ (leads : Destination). Contains (way_said b.part (way_key way) leads) link) (sym there.found) here) in
-      Contains-append_right front (ways_said b f ++ over_said f.lead ++ faults_said faults) link
-      (Contains-append_left (ways_said b f ++ over_said f.lead) (faults_said faults) link (Contains-append_left (ways_said b f) (over_said f.lead) link among))
+      let after = ways_said b f ++ over_said f.lead ++ findings_said b f in
+      Contains-append_right front rest link
+      (Contains-append_right (class_said (codes "ways") newline ∷ []) after link
+      (Contains-append_left (ways_said b f ++ over_said f.lead) (findings_said b f) link (Contains-append_left (ways_said b f) (over_said f.lead) link among)))
 
   pub are_ways : LinksAreWays b f
   are_ways = record {

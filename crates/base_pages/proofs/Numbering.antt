@@ -9,11 +9,14 @@ use Rattle.std.proofs.lemmas.Option.{slice_get_within, slice_get_read, get_or_fr
 use Rattle.page_ids.specs.Ids.{Id, id_eq}
 use Rattle.page_ids.specs.IdLaws.{id_eq_same}
 use Rattle.fault_scripts.specs.declared.fault.Fault.{Fault}
-use Rattle.screens.specs.Svg.{markup}
+use Rattle.std.specs.List.{flat_map}
+use Rattle.screens.specs.Svg.{Piece, markup}
 use Rattle.base_pages.specs.Elements.{opening_pieces, ending}
-use Rattle.base_pages.specs.Faults.{is_entry_kind, faults_about, item, items, listed, fault_list, entry_faults, start_or, first_start}
+use Rattle.lint.specs.FrameLines.{SentenceView}
+use Rattle.base_pages.specs.Faults.{is_about, is_entry_kind, faults_about, numbers_about, option_list, picked, item, items, listed, fault_list, entry_faults, start_or, first_start}
+use Rattle.base_pages.specs.Sections.{sentence_item, sentence_list}
 use Rattle.base_pages.specs.declared.index.Numbered.{Numbered}
-use Rattle.base_pages.specs.Loops.{number_by, numbers_of, numbered_one, numbered_faults, option_list, picked, numbered_items, item_lines, entry_items, wrapped, first_numbered_start, earliest_start}
+use Rattle.base_pages.specs.Loops.{number_by, numbers_of, numbered_one, numbered_faults, lines_as, numbered_items, numbered_sentences, entry_items, wrapped_in, first_numbered_start, earliest_start}
 use Rattle.base_pages.proofs.Bytes.{markup_append, nothing, around_bytes}
 
 pub chosen : {A : Type 0} (f : A → List ℕ) (b : Bool) (v : A) (o : Option A) → option_map_or f (cond b (Some v) o) [] ≡ cond b (f v) (option_map_or f o [])
@@ -66,32 +69,59 @@ module _ (all : List Fault) (id : Id) where
 pub picks_all : (all : List Fault) (id : Id) → picked all (numbers_of (numbered_faults 0 all) id) ≡ faults_about all id
 picks_all all id = picks all id 0 all refl
 
--- The lines of picked faults, and the first start that they name.
+-- The numbers of a frame are those of the faults about it.
+
+one_about : (n : ℕ) (id : Id) (f : Fault) (entry here : Bool) → is_entry_kind f.kind ≡ entry → id_eq f.frame id ≡ here
+    → numbers_of (numbered_one n f) id ≡ cond (is_about id f) (n ∷ []) []
+one_about n id f true here e h = rw e refl
+one_about n id f false true e h = rw (e, h) refl
+one_about n id f false false e h = rw (e, h) refl
+
+numbers_from : (n : ℕ) (fs : List Fault) (id : Id) → numbers_of (numbered_faults n fs) id ≡ numbers_about n fs id
+numbers_from n [] id = refl
+numbers_from n (f ∷ fs) id =
+    flat_map-append (λ x. number_by x id) (numbered_one n f) (numbered_faults (n + 1) fs)
+    ∙ ap (λ (xs : List ℕ). xs ++ numbers_of (numbered_faults (n + 1) fs) id) (one_about n id f (is_entry_kind f.kind) (id_eq f.frame id) refl refl)
+    ∙ ap (λ (xs : List ℕ). cond (is_about id f) (n ∷ []) [] ++ xs) (numbers_from (n + 1) fs id)
+
+pub numbers_are : (fs : List Fault) (id : Id) → numbers_of (numbered_faults 0 fs) id ≡ numbers_about 0 fs id
+numbers_are fs id = numbers_from 0 fs id
+
+-- The lines of what is picked, and the first start that picked faults name.
 
 -- lines in a list, if there are any
-some : (b : ℕ) (bs : List ℕ) → wrapped (b ∷ bs) ≡ markup (opening_pieces (codes "ul") ((codes "class", codes "faults") ∷ [])) ++ (b ∷ bs) ++ markup (ending (codes "ul"))
-some b bs = let is : (length (b ∷ bs) == 0) ≡ false = grind (arith, nat_tests) in rw is refl
+some : (class : List ℕ) (b : ℕ) (bs : List ℕ) → wrapped_in class (b ∷ bs) ≡ markup (opening_pieces (codes "ul") ((codes "class", class) ∷ [])) ++ (b ∷ bs) ++ markup (ending (codes "ul"))
+some class b bs = let is : (length (b ∷ bs) == 0) ≡ false = grind (arith, nat_tests) in rw is refl
 
-list_of : (fs : List Fault) → wrapped (markup (items fs)) ≡ markup (fault_list fs)
+list_of : (fs : List Fault) → wrapped_in (codes "faults") (markup (items fs)) ≡ markup (fault_list fs)
 unfolding markup listed
 list_of [] = refl
-list_of (f ∷ fs) = some 0x3C _ ∙ sym (around_bytes (codes "ul") ((codes "class", codes "faults") ∷ []) (items (f ∷ fs)))
+list_of (f ∷ fs) = some (codes "faults") 0x3C _ ∙ sym (around_bytes (codes "ul") ((codes "class", codes "faults") ∷ []) (items (f ∷ fs)))
 
-one_item : (o : Option Fault) → item_lines o ≡ markup (items (option_list o))
-one_item None = nothing []
-one_item (Some fault) = ap markup (sym (append-nil (item fault)))
+sentence_list_of : (ss : List SentenceView) → wrapped_in (codes "said") (markup (flat_map sentence_item ss)) ≡ markup (sentence_list ss)
+unfolding markup
+sentence_list_of [] = refl
+sentence_list_of (s ∷ ss) = some (codes "said") 0x3C _ ∙ sym (around_bytes (codes "ul") ((codes "class", codes "said") ∷ []) (flat_map sentence_item (s ∷ ss)))
 
-each_picked : (all : List Fault) (ns : List ℕ) → numbered_items all ns ≡ markup (items (picked all ns))
-each_picked all [] = nothing []
-each_picked all (n ∷ ns) =
-    let fs = option_list (slice_get all n) in
-    ap (λ xs. xs ++ numbered_items all ns) (one_item (slice_get all n))
-    ∙ ap (λ xs. markup (items fs) ++ xs) (each_picked all ns)
-    ∙ sym (markup_append (items fs) (items (picked all ns)))
-    ∙ ap markup (sym (flat_map-append item fs (picked all ns)))
+module _ {A : Type 0} (f : A → List Piece) where
+  one_line : (o : Option A) → lines_as f o ≡ markup (flat_map f (option_list o))
+  one_line None = nothing []
+  one_line (Some x) = ap markup (sym (append-nil (f x)))
 
-pub items_picked : (all : List Fault) (ns : List ℕ) → wrapped (numbered_items all ns) ≡ markup (fault_list (picked all ns))
-items_picked all ns = ap wrapped (each_picked all ns) ∙ list_of (picked all ns)
+  each_picked : (all : List A) (ns : List ℕ) → flat_map (λ n. lines_as f (slice_get all n)) ns ≡ markup (flat_map f (picked all ns))
+  each_picked all [] = nothing []
+  each_picked all (n ∷ ns) =
+      let xs = option_list (slice_get all n) in
+      ap (λ (bs : List ℕ). bs ++ flat_map (λ n. lines_as f (slice_get all n)) ns) (one_line (slice_get all n))
+      ∙ ap (λ (bs : List ℕ). markup (flat_map f xs) ++ bs) (each_picked all ns)
+      ∙ sym (markup_append (flat_map f xs) (flat_map f (picked all ns)))
+      ∙ ap markup (sym (flat_map-append f xs (picked all ns)))
+
+pub items_picked : (all : List Fault) (ns : List ℕ) → wrapped_in (codes "faults") (numbered_items all ns) ≡ markup (fault_list (picked all ns))
+items_picked all ns = ap (wrapped_in (codes "faults")) (each_picked item all ns) ∙ list_of (picked all ns)
+
+pub sentences_picked : (all : List SentenceView) (ns : List ℕ) → wrapped_in (codes "said") (numbered_sentences all ns) ≡ markup (sentence_list (picked all ns))
+sentences_picked all ns = ap (wrapped_in (codes "said")) (each_picked sentence_item all ns) ∙ sentence_list_of (picked all ns)
 
 each_entry : (fs : List Fault) → entry_items fs ≡ markup (items (entry_faults fs))
 each_entry [] = nothing []
@@ -100,8 +130,8 @@ each_entry (f ∷ fs) = by (is_entry_kind f.kind) (each_entry fs) where
   by true later = ap (λ xs. markup (item f) ++ xs) later ∙ sym (markup_append (item f) (items (entry_faults fs)))
   by false later = later
 
-pub entry_items_are : (fs : List Fault) → wrapped (entry_items fs) ≡ markup (fault_list (entry_faults fs))
-entry_items_are fs = ap wrapped (each_entry fs) ∙ list_of (entry_faults fs)
+pub entry_items_are : (fs : List Fault) → wrapped_in (codes "faults") (entry_items fs) ≡ markup (fault_list (entry_faults fs))
+entry_items_are fs = ap (wrapped_in (codes "faults")) (each_entry fs) ∙ list_of (entry_faults fs)
 
 pub start_picked : (all : List Fault) (ns : List ℕ) → first_numbered_start all ns ≡ first_start (picked all ns)
 start_picked all [] = refl

@@ -17,7 +17,7 @@ use Rattle.base_pages.specs.declared.pages.PagesStatus.{PagesStatus}
 use Rattle.base_pages.specs.declared.pages.PagesStatus.TheVariants.{Written, NoPage}
 use Rattle.base_pages.specs.Pages.{StoppedWithin, IsPagesFault, IsPartWritten, IsPagesRun}
 use Rattle.base_pages.specs.Loops.{IsStopped}
-use Rattle.base_pages.specs.Sections.{BookView, section, sections}
+use Rattle.base_pages.specs.Sections.{BookView, SourceView, section, sections}
 
 -- what was taken is the front of any text that goes on
 pub stopped : (old now : Seen) (kept : List ℕ) (wrote : ℕ) (text rest : List ℕ) → IsOnItsWay old now kept wrote text → StoppedWithin old now (text ++ rest)
@@ -53,9 +53,9 @@ fault_of old new Is text is (Write wrote) stop = (text, is, stop)
 fault_of old new Is text is Memory stop = inr (text, is, stop)
 
 -- the run of a view that has a part
-pub run_of_part : (old new : Seen) (name : List ℕ) (base : BaseView) (policy : Policy) (view : View) (part : Option (List Id)) → IsViewPart policy.groups base view (Some part)
-    → (r : Result PagesStatus PagesFault) → IsPartWritten old new name base policy part r → IsPagesRun old new name base policy view r
-run_of_part old new name base policy view part is (Ok Written) w = record { part = part; is = is; written = w }
-run_of_part old new name base policy view part is (Ok NoPage) w = absurd w
-run_of_part old new name base policy view part is (Err (Write n)) w = record { part = part; is = is; written = w }
-run_of_part old new name base policy view part is (Err Memory) w = inr (record { part = part; is = is; written = w })
+pub run_of_part : (old new : Seen) (source : SourceView) (base : BaseView) (policy : Policy) (view : View) (part : Option (List Id)) → IsViewPart policy.groups base view (Some part)
+    → (r : Result PagesStatus PagesFault) → IsPartWritten old new source base policy part r → IsPagesRun old new source base policy view r
+run_of_part old new source base policy view part is (Ok Written) w = record { part = part; is = is; written = w }
+run_of_part old new source base policy view part is (Ok NoPage) w = absurd w
+run_of_part old new source base policy view part is (Err (Write n)) w = record { part = part; is = is; written = w }
+run_of_part old new source base policy view part is (Err Memory) w = inr (record { part = part; is = is; written = w })

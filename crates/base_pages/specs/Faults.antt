@@ -1,5 +1,5 @@
 -- The faults of a base, frame by frame, in HTML.
-use Rattle.std.specs.Prelude.{ℕ, ◌==◌, ◌&&◌, not, Bool, true, false, List, [], ◌∷◌, Option, Some, None, codes, filter, get_or, nat_lt, take, if◌then◌else◌}
+use Rattle.std.specs.Prelude.{ℕ, ◌==◌, ◌&&◌, ◌+◌, ◌++◌, not, Bool, true, false, List, [], ◌∷◌, Option, Some, None, codes, filter, get_or, nat_lt, slice_get, take, if◌then◌else◌}
 use Rattle.std.specs.List.{flat_map}
 use Rattle.page_ids.specs.Ids.{Id, id_eq}
 use Rattle.frame_records.specs.declared.frame.Frame.{Frame}
@@ -31,6 +31,25 @@ is_about id fault = not (is_entry_kind fault.kind) && id_eq fault.frame id
 -- the faults about a frame, in the audit's order
 abbrev pub faults_about : List Fault → Id → List Fault
 faults_about faults id = filter (is_about id) faults
+
+-- What is said of them: something of each fault, in the same order.
+
+-- the numbers of the faults about a frame, where the first has this number
+abbrev pub numbers_about : ℕ → List Fault → Id → List ℕ
+numbers_about n [] id = []
+numbers_about n (fault ∷ faults) id = (if is_about id fault then n ∷ [] else []) ++ numbers_about (n + 1) faults id
+
+-- the things of numbers
+abbrev pub option_list : {A : Type 0} → Option A → List A
+option_list None = []
+option_list (Some x) = x ∷ []
+
+abbrev pub picked : {A : Type 0} → List A → List ℕ → List A
+picked things numbers = flat_map (λ n. option_list (slice_get things n)) numbers
+
+-- what is said of the faults about a frame
+abbrev pub sentences_about : {A : Type 0} → List Fault → List A → Id → List A
+sentences_about faults sentences id = picked sentences (numbers_about 0 faults id)
 
 -- that the entry frame isn't found, if it isn't
 abbrev pub entry_faults : List Fault → List Fault

@@ -2,6 +2,7 @@ pub mod Elements
 pub mod Ways
 pub mod Faults
 pub mod Screens
+pub mod Revealed
 pub mod Sections
 pub mod Head
 pub mod Pages

@@ -36,7 +36,7 @@ pub record LinksAreWays (b : BookView) (f : Frame) : Type 0 where
   pub links : (e : Element) → Contains (section_said b f) e → e.name ≡ codes "a"
       → (way : Way) × (to : Id) × LeadsInFile b f way to × (e ≡ link_said to (way_key way))
 
--- of each frame that is shown
+-- the links of each frame that is shown
 abbrev pub AllLinksAreWays : BookView → Type 0
 AllLinksAreWays b = All (LinksAreWays b) (shown_frames b b.base.frames)
 
@@ -63,7 +63,7 @@ fails e = is_name e.name (codes "span") && (has_class (codes "missing") e || has
 abbrev pub NoWayFails : List (List Element) → Type 0
 NoWayFails sections = All (λ es. says_unreached es ≡ false → list_any fails es ≡ false) sections
 
--- of a base that is certified
+-- if the base is certified
 abbrev pub NoneFails : Outcome → List (List Element) → Type 0
 NoneFails (Certified cert) sections = NoWayFails sections
 NoneFails (Faulty faults) sections = Unit {0}

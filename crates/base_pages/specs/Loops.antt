@@ -15,11 +15,12 @@ use Rattle.base_pages.specs.declared.index.Numbered.{Numbered}
 use Rattle.base_pages.specs.declared.book.Book.{Book}
 use Rattle.base_pages.specs.declared.pages.Prepared.{Prepared}
 use Rattle.base_pages.specs.declared.pages.FrontMatter.{FrontMatter}
-use Rattle.screens.specs.Svg.{markup}
+use Rattle.screens.specs.Svg.{Piece, markup}
 use Rattle.base_pages.specs.Elements.{opening_pieces, ending}
+use Rattle.lint.specs.FrameLines.{SentenceView, AreSentences}
 use Rattle.base_pages.specs.Faults.{is_entry_kind, item, start_or}
 use Rattle.base_pages.specs.Head.{outcome_faults}
-use Rattle.base_pages.specs.Sections.{BookView}
+use Rattle.base_pages.specs.Sections.{BookView, SourceView, source_view, sentence_item}
 use Rattle.base_pages.specs.Pages.{page, StoppedWithin}
 use Rattle.devices.specs.Devices.{Seen, WrotePart}
 use Rattle.base_pages.specs.declared.fault.PagesFault.{PagesFault}
@@ -48,21 +49,14 @@ abbrev pub numbered_faults : ℕ → List Fault → List Numbered
 numbered_faults n [] = []
 numbered_faults n (fault ∷ faults) = numbered_one n fault ++ numbered_faults (n + 1) faults
 
--- the faults of numbers
-abbrev pub option_list : {A : Type 0} → Option A → List A
-option_list None = []
-option_list (Some x) = x ∷ []
+-- something as items, if it is there
+abbrev pub lines_as : {A : Type 0} → (A → List Piece) → Option A → List ℕ
+lines_as f None = []
+lines_as f (Some x) = markup (f x)
 
-abbrev pub picked : List Fault → List ℕ → List Fault
-picked faults numbers = flat_map (λ n. option_list (slice_get faults n)) numbers
-
--- their lines
-abbrev pub item_lines : Option Fault → List ℕ
-item_lines None = []
-item_lines (Some fault) = markup (item fault)
-
+-- the lines of the faults of numbers
 abbrev pub numbered_item : List Fault → ℕ → List ℕ
-numbered_item faults n = item_lines (slice_get faults n)
+numbered_item faults n = lines_as item (slice_get faults n)
 
 abbrev pub numbered_items : List Fault → List ℕ → List ℕ
 numbered_items faults numbers = flat_map (numbered_item faults) numbers
@@ -73,11 +67,18 @@ entry_item fault = if is_entry_kind fault.kind then markup (item fault) else []
 abbrev pub entry_items : List Fault → List ℕ
 entry_items faults = flat_map entry_item faults
 
--- lines in a list, if there are any
-abbrev pub wrapped : List ℕ → List ℕ
-wrapped bs =
+-- the sentences of numbers
+abbrev pub numbered_sentence : List SentenceView → ℕ → List ℕ
+numbered_sentence sentences n = lines_as sentence_item (slice_get sentences n)
+
+abbrev pub numbered_sentences : List SentenceView → List ℕ → List ℕ
+numbered_sentences sentences numbers = flat_map (numbered_sentence sentences) numbers
+
+-- items in a list of a class, if there are any
+abbrev pub wrapped_in : List ℕ → List ℕ → List ℕ
+wrapped_in class bs =
     if length bs == 0 then []
-    else markup (opening_pieces (codes "ul") ((codes "class", codes "faults") ∷ [])) ++ bs ++ markup (ending (codes "ul"))
+    else markup (opening_pieces (codes "ul") ((codes "class", class) ∷ [])) ++ bs ++ markup (ending (codes "ul"))
 
 -- and the first start that they name
 abbrev pub earliest_start : Option Fault → Option Start
@@ -91,11 +92,25 @@ abbrev pub first_numbered_start : List Fault → List ℕ → Option Start
 first_numbered_start faults [] = None
 first_numbered_start faults (n ∷ ns) = start_or (numbered_start faults n) (first_numbered_start faults ns)
 
+-- What screens conceal.
+
+-- a code that conceals nothing: 80 has no effect
+abbrev pub revealed_code : ℕ → ℕ
+revealed_code c = if c == 0x98 then 0x80 else c
+
 -- What is prepared for the sections.
 
 -- what contracts see of a book
 abbrev pub book_view : Book → BookView
-book_view b = record { base = b.base.now; caller = b.groups.now; found = b.gallery.now.found; faults = b.faults.now; part = b.part.now }
+book_view b = record {
+  source = source_view b.source.now;
+  base = b.base.now;
+  caller = b.groups.now;
+  found = b.gallery.now.found;
+  faults = b.faults.now;
+  sentences = b.sentences.now;
+  part = b.part.now;
+}
 
 pub record IsReady (b : Book) : Type 0 where
   pub of_base : b.gallery.now.base ≡ b.base.now
@@ -104,16 +119,17 @@ pub record IsReady (b : Book) : Type 0 where
 
 -- What is prepared for a file.
 
-pub record IsFilePrepared (base : BaseView) (policy : Policy) (p : Prepared) : Type 0 where
+pub record IsFilePrepared (source : SourceView) (base : BaseView) (policy : Policy) (p : Prepared) : Type 0 where
   pub of_base : p.gallery.base ≡ base
   pub of_groups : p.gallery.groups ≡ policy.groups
   pub finding : IsFinding policy.groups base p.gallery.found
   pub audited : IsOutcome base policy p.outcome
+  pub said : AreSentences source.lines base policy p.gallery.found (outcome_faults p.outcome) p.sentences.items
   pub index : (id : Id) → kept_of p.index id ≡ numbers_of (numbered_faults 0 (outcome_faults p.outcome)) id
 
 -- the file of a book and its cover
 abbrev pub book_file : FrontMatter → Book → List ℕ
-book_file cover b = page cover.name.now cover.policy.now cover.outcome.now (book_view b)
+book_file cover b = page cover.policy.now cover.outcome.now (book_view b)
 
 -- Why a text isn't written whole.
 

@@ -15,7 +15,8 @@ use Rattle.base_pages.specs.declared.pages.PagesStatus.TheVariants.{Written, NoP
 use Rattle.base_pages.specs.declared.fault.PagesFault.{PagesFault}
 use Rattle.base_pages.specs.declared.fault.PagesFault.TheVariants.{Write, Memory}
 use Rattle.screens.specs.Laws.{tags_of}
-use Rattle.base_pages.specs.Sections.{BookView, sections, shown_frames}
+use Rattle.lint.specs.FrameLines.{SentenceView, AreSentences}
+use Rattle.base_pages.specs.Sections.{BookView, SourceView, sections, shown_frames}
 use Rattle.base_pages.specs.Head.{header, outcome_faults}
 use Rattle.base_pages.specs.Shell.{head, middle, foot}
 use Rattle.base_pages.specs.Tags.{page_tags}
@@ -28,47 +29,57 @@ abbrev pub front : List ℕ → BaseView → Policy → Outcome → List ℕ
 front name base policy outcome = head ++ header name base policy outcome ++ middle
 
 -- the sections come after it, and then the fixed foot with the script
-abbrev pub page : List ℕ → Policy → Outcome → BookView → List ℕ
-page name policy outcome b = front name b.base policy outcome ++ sections b b.base.frames ++ foot
+abbrev pub page : Policy → Outcome → BookView → List ℕ
+page policy outcome b = front b.source.name b.base policy outcome ++ sections b b.base.frames ++ foot
 
 -- what the sections of a base are written of
-abbrev pub book : BaseView → Policy → Option (List Id) → List Discovered → Outcome → BookView
-book base policy part found outcome =
-    record { base = base; caller = policy.groups; found = found; faults = outcome_faults outcome; part = part }
+abbrev pub book : SourceView → BaseView → Policy → Option (List Id) → List Discovered → Outcome → List SentenceView → BookView
+book source base policy part found outcome sentences = record {
+  source = source;
+  base = base;
+  caller = policy.groups;
+  found = found;
+  faults = outcome_faults outcome;
+  sentences = sentences;
+  part = part;
+}
 
--- the file of the part of a base, for the policy's caller, by the frames that this caller reaches and the outcome of the audit
-pub record IsPage (name : List ℕ) (base : BaseView) (policy : Policy) (part : Option (List Id)) (text : List ℕ) : Type 0 where
+-- the file of the part of a base, for the policy's caller, by the frames that this caller reaches, the outcome of the audit, and what
+-- lint says of each of its faults
+pub record IsPage (source : SourceView) (base : BaseView) (policy : Policy) (part : Option (List Id)) (text : List ℕ) : Type 0 where
   pub found : List Discovered
   pub finding : IsFinding policy.groups base found
   pub outcome : Outcome
   pub audited : IsOutcome base policy outcome
-  pub is : text ≡ page name policy outcome (book base policy part found outcome)
+  pub sentences : List SentenceView
+  pub said : AreSentences source.lines base policy found (outcome_faults outcome) sentences
+  pub is : text ≡ page policy outcome (book source base policy part found outcome sentences)
 
 -- read as markup, it has the tags of its form and no others, with the form's characters between them
-abbrev pub HasItsTags : (name : List ℕ) (base : BaseView) (policy : Policy) (part : Option (List Id)) (text : List ℕ)
-    → IsPage name base policy part text → Type 0
-HasItsTags name base policy part text is =
-    tags_of text ≡ page_tags name policy is.outcome (book base policy part is.found is.outcome)
+abbrev pub HasItsTags : (source : SourceView) (base : BaseView) (policy : Policy) (part : Option (List Id)) (text : List ℕ)
+    → IsPage source base policy part text → Type 0
+HasItsTags source base policy part text is =
+    tags_of text ≡ page_tags policy is.outcome (book source base policy part is.found is.outcome is.sentences)
 
--- its sections are the frames that are shown, and say of them what `show` and the audit say
-abbrev pub SaysWhatIsShown : (name : List ℕ) (base : BaseView) (policy : Policy) (part : Option (List Id)) (text : List ℕ)
-    → IsPage name base policy part text → Type 0
-SaysWhatIsShown name base policy part text is =
-    let b = book base policy part is.found is.outcome in
+-- its sections are the frames that are shown, and say of them what `show`, lint and the audit say, and where they are written
+abbrev pub SaysWhatIsShown : (source : SourceView) (base : BaseView) (policy : Policy) (part : Option (List Id)) (text : List ℕ)
+    → IsPage source base policy part text → Type 0
+SaysWhatIsShown source base policy part text is =
+    let b = book source base policy part is.found is.outcome is.sentences in
     sections_in text ≡ map (section_said b) (shown_frames b base.frames)
 
 -- its links are the ways that lead to frames of the file
-abbrev pub LinksTheWays : (name : List ℕ) (base : BaseView) (policy : Policy) (part : Option (List Id)) (text : List ℕ)
-    → IsPage name base policy part text → Type 0
-LinksTheWays name base policy part text is = AllLinksAreWays (book base policy part is.found is.outcome)
+abbrev pub LinksTheWays : (source : SourceView) (base : BaseView) (policy : Policy) (part : Option (List Id)) (text : List ℕ)
+    → IsPage source base policy part text → Type 0
+LinksTheWays source base policy part text is = AllLinksAreWays (book source base policy part is.found is.outcome is.sentences)
 
 -- the file was written whole; if the base is certified, no way of a section that callers reach fails
-pub record IsFileWritten (old new : Seen) (name : List ℕ) (base : BaseView) (policy : Policy) (part : Option (List Id)) : Type 0 where
+pub record IsFileWritten (old new : Seen) (source : SourceView) (base : BaseView) (policy : Policy) (part : Option (List Id)) : Type 0 where
   pub text : List ℕ
-  pub is : IsPage name base policy part text
-  pub tags : HasItsTags name base policy part text is
-  pub says : SaysWhatIsShown name base policy part text is
-  pub links : LinksTheWays name base policy part text is
+  pub is : IsPage source base policy part text
+  pub tags : HasItsTags source base policy part text is
+  pub says : SaysWhatIsShown source base policy part text is
+  pub links : LinksTheWays source base policy part text is
   pub lead : NoneFails is.outcome (sections_in text)
   pub written : WroteWhole old new text
 
@@ -87,18 +98,18 @@ IsPagesFault old new Is (Write wrote) = (text : List ℕ) × Is text × WrotePar
 IsPagesFault old new Is Memory = TookAll old new [] ⊎ ((text : List ℕ) × Is text × StoppedWithin old new text)
 
 -- the file of a part was written
-abbrev pub IsPartWritten : Seen → Seen → List ℕ → BaseView → Policy → Option (List Id) → Result PagesStatus PagesFault → Type 0
-IsPartWritten old new name base policy part (Ok Written) = IsFileWritten old new name base policy part
-IsPartWritten old new name base policy part (Ok NoPage) = ⊥
-IsPartWritten old new name base policy part (Err fault) = IsPagesFault old new (IsPage name base policy part) fault
+abbrev pub IsPartWritten : Seen → Seen → SourceView → BaseView → Policy → Option (List Id) → Result PagesStatus PagesFault → Type 0
+IsPartWritten old new source base policy part (Ok Written) = IsFileWritten old new source base policy part
+IsPartWritten old new source base policy part (Ok NoPage) = ⊥
+IsPartWritten old new source base policy part (Err fault) = IsPagesFault old new (IsPage source base policy part) fault
 
-pub record IsViewWritten (old new : Seen) (name : List ℕ) (base : BaseView) (policy : Policy) (view : View) (result : Result PagesStatus PagesFault) : Type 0 where
+pub record IsViewWritten (old new : Seen) (source : SourceView) (base : BaseView) (policy : Policy) (view : View) (result : Result PagesStatus PagesFault) : Type 0 where
   pub part : Option (List Id)
   pub is : IsViewPart policy.groups base view (Some part)
-  pub written : IsPartWritten old new name base policy part result
+  pub written : IsPartWritten old new source base policy part result
 
 -- that of a view's part, if there is one
-abbrev pub IsPagesRun : Seen → Seen → List ℕ → BaseView → Policy → View → Result PagesStatus PagesFault → Type 0
-IsPagesRun old new name base policy view (Ok NoPage) = IsViewPart policy.groups base view None × TookAll old new []
-IsPagesRun old new name base policy view (Err Memory) = TookAll old new [] ⊎ IsViewWritten old new name base policy view (Err Memory)
-IsPagesRun old new name base policy view result = IsViewWritten old new name base policy view result
+abbrev pub IsPagesRun : Seen → Seen → SourceView → BaseView → Policy → View → Result PagesStatus PagesFault → Type 0
+IsPagesRun old new source base policy view (Ok NoPage) = IsViewPart policy.groups base view None × TookAll old new []
+IsPagesRun old new source base policy view (Err Memory) = TookAll old new [] ⊎ IsViewWritten old new source base policy view (Err Memory)
+IsPagesRun old new source base policy view result = IsViewWritten old new source base policy view result

@@ -55,7 +55,7 @@ sections_of (e ∷ es) = if begins e then (e ∷ inside es) ∷ sections_of es e
 
 -- what a section says of its frame is in elements of these names; a picture has others
 abbrev pub kept_names : List (List ℕ)
-kept_names = codes "section" ∷ codes "h2" ∷ codes "pre" ∷ codes "p" ∷ codes "a" ∷ codes "span" ∷ codes "ul" ∷ codes "li" ∷ []
+kept_names = codes "section" ∷ codes "h2" ∷ codes "pre" ∷ codes "div" ∷ codes "p" ∷ codes "a" ∷ codes "span" ∷ codes "ul" ∷ codes "li" ∷ []
 
 abbrev pub is_kept : Element → Bool
 is_kept e = list_any (is_name e.name) kept_names

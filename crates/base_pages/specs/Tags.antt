@@ -1,5 +1,5 @@
 -- The file, read as markup.
-use Rattle.std.specs.Prelude.{◌≡◌, true, All, ℕ, List, ◌++◌, Option, map}
+use Rattle.std.specs.Prelude.{◌≡◌, true, All, List, ◌++◌, Option, map}
 use Rattle.std.specs.List.{flat_map}
 use Rattle.page_ids.specs.Ids.{Id, IsFrameId}
 use Rattle.frame_records.specs.declared.frame.Frame.{Frame}
@@ -18,9 +18,9 @@ body_pieces b = flat_map (section_pieces b) (shown_frames b b.base.frames)
 
 -- what a reader that knows nothing of bases finds: the tags of the fixed parts, of the header and of the sections, each with the
 -- characters after it
-abbrev pub page_tags : List ℕ → Policy → Outcome → BookView → List Piece
-page_tags name policy outcome b =
-    tags_of head ++ (map raw (header_pieces name b.base policy outcome) ++ (tags_of middle ++ (map raw (body_pieces b) ++ tags_of foot)))
+abbrev pub page_tags : Policy → Outcome → BookView → List Piece
+page_tags policy outcome b =
+    tags_of head ++ (map raw (header_pieces b.source.name b.base policy outcome) ++ (tags_of middle ++ (map raw (body_pieces b) ++ tags_of foot)))
 
 -- the frames that are shown have ids
 abbrev pub HasId : Option (List Id) → Frame → Type 0

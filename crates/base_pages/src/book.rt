@@ -1,32 +1,41 @@
 //! The sections of frames.
 
-ghost use Rattle.std.specs.Prelude.{◌≡◌, ◌++◌, OnOk, codes};
+ghost use Rattle.std.specs.Prelude.{◌≡◌, ◌++◌, OnOk, IfOk, codes, decimal};
 ghost use Rattle.page_ids.specs.Ids.{IsFrameId};
 ghost use Rattle.screens.specs.Looks.{looks};
 ghost use Rattle.screens.specs.Svg.{markup};
 ghost use Rattle.base_pages.specs.Elements.{opening_pieces};
 ghost use Rattle.base_pages.specs.Sections as spec;
-ghost use Rattle.base_pages.specs.Loops.{IsReady, book_view, picked};
+ghost use Rattle.base_pages.specs.Faults.{picked};
+ghost use Rattle.base_pages.specs.Loops.{IsReady, book_view};
 
-use crate::element::{Attribute, push_element, push_ending, push_opening, push_tag};
+use crate::element::{
+    Attribute, push_bytes, push_chars, push_element, push_ending, push_opening, push_tag,
+};
 use crate::faults::{push_faults, touched_cell};
 use crate::index::FaultIndex;
+use crate::screen::push_screen;
+use crate::sentences::push_sentences;
+use crate::source::BaseSource;
 use crate::ways::push_ways;
 use fault_scripts::Fault;
 use finder::Part;
-use frame_records::{Base, Frame, Groups, Lead, Pence};
+use frame_records::{Base, Frame, GroupNo, Groups, Lead, Pence};
 use frame_screens::Gallery;
+use lint::{Sentence, WrittenFrame};
 use page_ids::{FrameId, push_number};
-use screens::{Looks, Writing, push_svg, push_text, screen_looks};
 use std::alloc::{AllocError, Global};
 
 // What the sections are written of.
 #[derive(Drop)]
 pub struct Book<'a> {
+    pub source: &'a BaseSource<'a>,
     pub base: &'a Base,
     pub groups: &'a Groups,
     pub part: &'a Part,
     pub faults: &'a [Fault],
+    // What lint says of each fault.
+    pub sentences: &'a [Sentence],
     pub index: &'a FaultIndex,
     pub gallery: &'a Gallery<'a>,
 }
@@ -58,27 +67,6 @@ fn push_heading(out: &mut Vec<u8>, id: FrameId) -> Result<(), AllocError>
     push_element(out, b"h2", &[], text.as_str().as_bytes())
 }
 
-#[tactic(auto, unfolding(crate::specs::Sections::drawn_pieces))]
-fn push_picture(
-    out: &mut Vec<u8>,
-    id: FrameId,
-    looks: &Looks,
-    cell: Option<u16>,
-) -> Result<(), AllocError>
-    ensures { OnOk result (out.new.items ≡ out.old.items ++ markup (spec.drawn_pieces id looks.now cell)) }
-{
-    push_svg(out, id, looks, cell)
-}
-
-#[tactic(auto, using(std::proofs::Common::append_assoc, crate::proofs::Bytes::element_bytes), unfolding(crate::specs::Sections::text_pieces))]
-fn push_screen_text(out: &mut Vec<u8>, looks: &Looks) -> Result<(), AllocError>
-    ensures { OnOk result (out.new.items ≡ out.old.items ++ markup (spec.text_pieces looks.now)) }
-{
-    push_tag(out, b"pre", &[])?;
-    push_text(out, looks, Writing::Markup)?;
-    push_ending(out, b"pre")
-}
-
 #[tactic(auto, unfolding(crate::specs::Sections::price_pieces))]
 fn push_price(alloc: Global, out: &mut Vec<u8>, price: Pence) -> Result<(), AllocError>
     ensures { OnOk result (out.new.items ≡ out.old.items ++ markup (spec.price_pieces price)) }
@@ -88,6 +76,67 @@ fn push_price(alloc: Global, out: &mut Vec<u8>, price: Pence) -> Result<(), Allo
     text.extend_from_slice(b"p")?;
     let class = Attribute::of(b"class", b"price");
     push_element(out, b"p", &[class], text.as_slice())
+}
+
+// The group of the callers who can open a frame.
+#[tactic(auto, using(crate::proofs::Bytes::nothing), unfolding(crate::specs::Sections::group_pieces))]
+fn push_group(alloc: Global, out: &mut Vec<u8>, group: Option<GroupNo>) -> Result<(), AllocError>
+    ensures { OnOk result (out.new.items ≡ out.old.items ++ markup (spec.group_pieces group)) }
+{
+    let Some(group) = group else {
+        return Ok(());
+    };
+    let mut text = Vec::new(alloc);
+    text.extend_from_slice(b"group ")?;
+    push_number(&mut text, u64::from(group.get()))?;
+    let class = Attribute::of(b"class", b"group");
+    push_element(out, b"p", &[class], text.as_slice())
+}
+
+// A line after the name of its file.
+fn colon_and_line(alloc: Global, line: WrittenFrame) -> Result<Vec<u8>, AllocError>
+    ensures { IfOk result (λ text. text.items ≡ codes ":" ++ decimal line.line) }
+{
+    let mut text = Vec::new(alloc);
+    text.extend_from_slice(b":")?;
+    push_number(&mut text, line.line as u64)?;
+    Ok(text)
+}
+
+// Where a frame is written, if it is known.
+#[tactic(auto, using(std::proofs::Common::append_assoc, crate::proofs::Bytes::nothing, crate::proofs::Bytes::written_both, crate::proofs::Bytes::element_bytes), unfolding(crate::specs::Sections::place_pieces))]
+fn push_place(
+    alloc: Global,
+    out: &mut Vec<u8>,
+    name: &str,
+    line: Option<WrittenFrame>,
+) -> Result<(), AllocError>
+    ensures { OnOk result (out.new.items ≡ out.old.items ++ markup (spec.place_pieces name.now line)) }
+{
+    let Some(line) = line else {
+        return Ok(());
+    };
+    let number = colon_and_line(alloc, line)?;
+    push_tag(out, b"p", &[Attribute::of(b"class", b"place")])?;
+    push_chars(out, name)?;
+    push_bytes(out, number.as_slice())?;
+    push_ending(out, b"p")
+}
+
+// What belongs to a frame beside its screen.
+#[tactic(auto, using(std::proofs::Common::append_assoc, crate::proofs::Bytes::markup_append), unfolding(crate::specs::Sections::beside_screen))]
+fn push_beside(
+    alloc: Global,
+    out: &mut Vec<u8>,
+    source: &BaseSource<'_>,
+    frame: &Frame,
+) -> Result<(), AllocError>
+    ensures { OnOk result (out.new.items ≡ out.old.items
+        ++ markup (spec.beside_screen (spec.source_view source.now) frame.now)) }
+{
+    push_price(alloc, out, frame.price)?;
+    push_group(alloc, out, frame.group)?;
+    push_place(alloc, out, source.name, source.lines.get(frame.id))
 }
 
 // A frame that keeps what is on the screen says so.
@@ -105,6 +154,22 @@ fn push_over(out: &mut Vec<u8>, lead: Lead) -> Result<(), AllocError>
 }
 
 impl<'a> Book<'a> {
+    // What lint says of the faults of numbers, and the audit's lines.
+    #[tactic(auto, using(std::proofs::Common::append_assoc, crate::proofs::Bytes::markup_append), unfolding(crate::specs::Sections::finding_pieces))]
+    fn push_findings(
+        &self,
+        alloc: Global,
+        out: &mut Vec<u8>,
+        numbers: &[usize],
+    ) -> Result<(), AllocError>
+        ensures { OnOk result (out.new.items ≡ out.old.items
+            ++ markup (spec.finding_pieces (picked self.now.sentences.now numbers.now)
+            (picked self.now.faults.now numbers.now))) }
+    {
+        push_sentences(alloc, out, self.sentences, numbers)?;
+        push_faults(alloc, out, self.faults, numbers)
+    }
+
     // What comes after the picture and the text.
     #[tactic(auto, using(std::proofs::Common::append_assoc, crate::proofs::Bytes::markup_append), unfolding(crate::specs::Sections::below_screen))]
     fn push_below(
@@ -115,13 +180,13 @@ impl<'a> Book<'a> {
         numbers: &[usize],
     ) -> Result<(), AllocError>
         ensures { OnOk result (out.new.items ≡ out.old.items
-            ++ markup (spec.below_screen self.now.groups.now self.now.base.now self.now.part.now frame.now
-            (picked self.now.faults.now numbers.now))) }
+            ++ markup (spec.below_screen (book_view self.now) frame.now
+            (picked self.now.sentences.now numbers.now) (picked self.now.faults.now numbers.now))) }
     {
-        push_price(alloc, out, frame.price)?;
+        push_beside(alloc, out, self.source, frame)?;
         push_ways(alloc, out, self.base, self.groups, self.part, frame)?;
         push_over(out, frame.lead)?;
-        push_faults(alloc, out, self.faults, numbers)
+        self.push_findings(alloc, out, numbers)
     }
 
     // A section with the faults of numbers and a screen.
@@ -136,16 +201,14 @@ impl<'a> Book<'a> {
         is_reached: bool,
     ) -> Result<(), AllocError>
         ensures text { OnOk result (out.new.items ≡ out.old.items
-            ++ markup (spec.shaped self.now.groups.now self.now.base.now self.now.part.now frame.now
+            ++ markup (spec.shaped (book_view self.now) frame.now (picked self.now.sentences.now numbers.now)
             (picked self.now.faults.now numbers.now) (looks codes.now) is_reached)) }
         ensures id { IsFrameId frame.now.id }
     {
-        let looks = screen_looks(codes);
         let cell = touched_cell(frame, self.faults, numbers);
         push_begin(out, frame.id, is_reached)?;
         push_heading(out, frame.id)?;
-        push_picture(out, frame.id, &looks, cell)?;
-        push_screen_text(out, &looks)?;
+        push_screen(out, frame.id, codes, cell)?;
         self.push_below(alloc, out, frame, numbers)?;
         push_ending(out, b"section")
     }

@@ -1,12 +1,13 @@
 //! A writer of elements.
 
-ghost use Rattle.std.specs.Prelude.{◌≡◌, ◌++◌, [], OnOk, codes};
+ghost use Rattle.std.specs.Prelude.{◌≡◌, ◌++◌, ◌∷◌, [], OnOk, codes};
 ghost use Rattle.std.specs.List.{flat_map};
 ghost use Rattle.std.specs.Str.{chars};
 ghost use Rattle.screens.specs.declared.writing.Writing.TheVariants.{Markup};
 ghost use Rattle.screens.specs.Svg.{markup};
 ghost use Rattle.screens.specs.Writing.{written};
 ghost use Rattle.base_pages.specs.Elements as spec;
+ghost use Rattle.base_pages.specs.Loops.{wrapped_in};
 
 use screens::{Writing, push_char};
 use std::alloc::AllocError;
@@ -134,4 +135,17 @@ pub fn push_text_element(out: &mut Vec<u8>, name: &[u8], text: &str) -> Result<(
     push_tag(out, name, &[])?;
     push_chars(out, text)?;
     push_ending(out, name)
+}
+
+// Items in a list of a class, if there are any.
+#[tactic(auto, using(std::proofs::Common::append_assoc))]
+pub fn push_wrapped(out: &mut Vec<u8>, class: &[u8], items: &[u8]) -> Result<(), AllocError>
+    ensures { OnOk result (out.new.items ≡ out.old.items ++ wrapped_in class.now items.now) }
+{
+    if items.len() == 0 {
+        return Ok(());
+    }
+    push_opening(out, b"ul", &[Attribute::of(b"class", class)])?;
+    out.extend_from_slice(items)?;
+    push_ending(out, b"ul")
 }

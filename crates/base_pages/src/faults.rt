@@ -3,9 +3,10 @@
 ghost use Rattle.std.specs.Prelude.{◌≡◌, ◌++◌, ◌∷◌, [], OnOk};
 ghost use Rattle.screens.specs.Svg.{markup};
 ghost use Rattle.base_pages.specs.Faults as spec;
-ghost use Rattle.base_pages.specs.Loops.{picked, numbered_item, numbered_items, entry_item, entry_items, wrapped, numbered_start, first_numbered_start};
+ghost use Rattle.base_pages.specs.Faults.{picked};
+ghost use Rattle.base_pages.specs.Loops.{numbered_item, numbered_items, entry_item, entry_items, numbered_start, first_numbered_start};
 
-use crate::element::{Attribute, push_element, push_ending, push_opening};
+use crate::element::{push_element, push_wrapped};
 use crate::index::is_entry_kind;
 use abstract_paint::Start;
 use audit_report::push_fault;
@@ -52,19 +53,6 @@ fn push_items(
     Ok(())
 }
 
-// Items in a list, if there are any.
-#[tactic(auto, using(std::proofs::Common::append_assoc))]
-fn push_wrapped(out: &mut Vec<u8>, items: &[u8]) -> Result<(), AllocError>
-    ensures { OnOk result (out.new.items ≡ out.old.items ++ wrapped items.now) }
-{
-    if items.len() == 0 {
-        return Ok(());
-    }
-    push_opening(out, b"ul", &[Attribute::of(b"class", b"faults")])?;
-    out.extend_from_slice(items)?;
-    push_ending(out, b"ul")
-}
-
 // The list of the faults of numbers.
 #[tactic(auto, using(crate::proofs::Numbering::items_picked))]
 pub fn push_faults(
@@ -77,7 +65,7 @@ pub fn push_faults(
 {
     let mut items = Vec::new(alloc);
     push_items(alloc, &mut items, faults, numbers)?;
-    push_wrapped(out, items.as_slice())
+    push_wrapped(out, b"faults", items.as_slice())
 }
 
 // The line of a fault, if it is that the entry frame isn't found.
@@ -111,7 +99,7 @@ pub fn push_entry_faults(
 {
     let mut items = Vec::new(alloc);
     push_entry_items(alloc, &mut items, faults)?;
-    push_wrapped(out, items.as_slice())
+    push_wrapped(out, b"faults", items.as_slice())
 }
 
 // The start that the fault of a number names.

@@ -5,8 +5,9 @@ pub fn file_has_its_tags()
     ensures { FileHasItsTags }
 {}
 
-/// Read as markup, the file has a section for each frame that is shown, in order, with its id, the text that `show` prints of it, its
-/// price, its ways, and the audit's lines about it.
+/// Read as markup, the file has a section for each frame that is shown, in order, with its id, the text that `show` prints of it, that
+/// with what it conceals if it conceals something, its price, its group, the line of the base's file that writes it, its ways, what
+/// lint says of its faults, and the audit's lines about it.
 pub fn file_says_what_is_shown()
     ensures { FileSaysWhatIsShown }
 {}

@@ -4,7 +4,7 @@ ghost use Rattle.std.specs.Prelude.{◌≡◌, ◌<◌, ◌++◌, ◌∷◌, Lis
 ghost use Rattle.std.specs.Vec.{vec_len};
 ghost use Rattle.frame_records.specs.Bases.{IsBase};
 ghost use Rattle.devices.specs.Devices.{Seen, IsOnItsWay, WroteWhole};
-ghost use Rattle.base_pages.specs.Sections.{sections};
+ghost use Rattle.base_pages.specs.Sections.{sections, source_view};
 ghost use Rattle.base_pages.specs.Shell as Shell;
 ghost use Rattle.base_pages.specs.Tags.{HasId, HaveIds};
 ghost use Rattle.base_pages.specs.Loops.{IsReady, IsFilePrepared, book_view, book_file, IsStopped};
@@ -16,12 +16,14 @@ use crate::header::{faults_in, push_header};
 use crate::index::FaultIndex;
 use crate::sending::{send, send_last};
 use crate::shell::{foot, head, middle};
+use crate::source::BaseSource;
 use audit_report::Sink;
 use checker::Policy;
 use fault_scripts::{Outcome, audit_surveyed};
 use finder::{Part, Survey, View, part_of};
 use frame_records::{Base, Frame};
 use frame_screens::Gallery;
+use lint::{Sentence, fault_sentences};
 use std::alloc::{AllocError, Global};
 
 /// Whether a file was written.
@@ -36,7 +38,6 @@ pub enum PagesStatus {
 // What is written, beside the sections.
 #[derive(Drop)]
 struct FrontMatter<'a> {
-    name: &'a str,
     policy: &'a Policy,
     outcome: &'a Outcome,
 }
@@ -46,14 +47,15 @@ struct FrontMatter<'a> {
 fn push_front(
     alloc: Global,
     out: &mut Vec<u8>,
+    source: &BaseSource<'_>,
     base: &Base,
     cover: &FrontMatter,
 ) -> Result<(), AllocError>
     ensures { OnOk result (out.new.items ≡ out.old.items ++
-        front cover.now.name.now base.now cover.now.policy.now cover.now.outcome.now) }
+        front source.now.name.now base.now cover.now.policy.now cover.now.outcome.now) }
 {
     out.extend_from_slice(head())?;
-    push_header(alloc, out, cover.name, base, cover.policy, cover.outcome)?;
+    push_header(alloc, out, source.name, base, cover.policy, cover.outcome)?;
     out.extend_from_slice(middle())
 }
 
@@ -163,7 +165,7 @@ fn write_book<S: Sink>(
 {
     let mut kept = Vec::new(alloc);
     let frames = book.base.frames();
-    match push_front(alloc, &mut kept, book.base, cover) {
+    match push_front(alloc, &mut kept, book.source, book.base, cover) {
         Ok(()) => {}
         Err(_) => return Err(PagesFault::Memory),
     }
@@ -177,23 +179,28 @@ fn write_book<S: Sink>(
 #[derive(Drop)]
 struct Prepared<'a> {
     outcome: Outcome,
+    sentences: Vec<Sentence>,
     index: FaultIndex,
     gallery: Gallery<'a>,
 }
 
 fn prepare<'a>(
     alloc: Global,
+    source: &BaseSource<'_>,
     base: &'a Base,
     policy: &'a Policy,
 ) -> Result<Prepared<'a>, AllocError>
-    ensures { IfOk result (IsFilePrepared base.now policy.now) }
+    ensures { IfOk result (IsFilePrepared (source_view source.now) base.now policy.now) }
 {
     let survey = Survey::of(alloc, base, &policy.groups)?;
     let outcome = audit_surveyed(alloc, &survey, policy)?;
-    let index = FaultIndex::of(alloc, faults_in(&outcome))?;
+    let faults = faults_in(&outcome);
+    let sentences = fault_sentences(alloc, source.lines, base, policy, survey.found(), faults)?;
+    let index = FaultIndex::of(alloc, faults)?;
     let gallery = Gallery::over(alloc, survey)?;
     Ok(Prepared {
         outcome,
+        sentences,
         index,
         gallery,
     })
@@ -202,28 +209,30 @@ fn prepare<'a>(
 // Writes the file of a part of a base.
 fn write_part<S: Sink>(
     alloc: Global,
+    source: &BaseSource<'_>,
     base: &Base,
     policy: &Policy,
     part: &Part,
-    name: &str,
     sink: &mut S,
 ) -> Result<PagesStatus, PagesFault>
     requires { (S.seen sink.old).failed ≡ false }
-    ensures { IsPartWritten (S.seen sink.old) (S.seen sink.new) name.now base.now policy.now part.now result }
+    ensures { IsPartWritten (S.seen sink.old) (S.seen sink.new) (source_view source.now) base.now
+        policy.now part.now result }
 {
-    let Ok(prepared) = prepare(alloc, base, policy) else {
+    let Ok(prepared) = prepare(alloc, source, base, policy) else {
         return Err(PagesFault::Memory);
     };
     let book = Book {
+        source,
         base,
         groups: &policy.groups,
         part,
         faults: faults_in(&prepared.outcome),
+        sentences: prepared.sentences.as_slice(),
         index: &prepared.index,
         gallery: &prepared.gallery,
     };
     let cover = FrontMatter {
-        name,
         policy,
         outcome: &prepared.outcome,
     };
@@ -233,24 +242,25 @@ fn write_part<S: Sink>(
     }
 }
 
-/// Writes the frames of a view of a base, its audit and its header with a name, as one HTML file, for a caller of the policy's
-/// groups. If the base lacks the frame `a` of the view's page, nothing is written.
+/// Writes the frames of a view of a base, its audit and its header with the name of its file, as one HTML file, for a caller of the
+/// policy's groups. If the base lacks the frame `a` of the view's page, nothing is written.
 ///
 /// The text is made section by section, and sent on 65,536 bytes at a time. If a growth is refused after a part was sent, that
 /// part is the text's front.
 pub fn write_pages<S: Sink>(
     alloc: Global,
+    source: &BaseSource<'_>,
     base: &Base,
     policy: &Policy,
     view: &View,
-    name: &str,
     sink: &mut S,
 ) -> Result<PagesStatus, PagesFault>
     requires { (S.seen sink.old).failed ≡ false }
-    ensures { IsPagesRun (S.seen sink.old) (S.seen sink.new) name.now base.now policy.now view.now result }
+    ensures { IsPagesRun (S.seen sink.old) (S.seen sink.new) (source_view source.now) base.now policy.now
+        view.now result }
 {
     match part_of(alloc, base, &policy.groups, view) {
-        Ok(Some(part)) => write_part(alloc, base, policy, &part, name, sink),
+        Ok(Some(part)) => write_part(alloc, source, base, policy, &part, sink),
         Ok(None) => Ok(PagesStatus::NoPage),
         Err(_) => Err(PagesFault::Memory),
     }

@@ -4,9 +4,12 @@ use Rattle.std.specs.Io.KnownBytes.{Keeps, Consumes, IsAtEnd}
 use Rattle.devices.specs.Devices.{Seen, WroteWhole, WrotePart, BrokeWithin, TookWithin}
 use Rattle.audit_report.specs.declared.run_fault.RunFault.{RunFault}
 use Rattle.audit_report.specs.declared.run_fault.RunFault.TheVariants as run
+use Rattle.page_ids.specs.Ids.{Id}
 use Rattle.frame_records.specs.Bases.{BaseView}
 use Rattle.base_text.specs.declared.fault.BaseFault.{BaseFault}
 use Rattle.base_text.specs.Whole.{IsTextBase}
+use Rattle.lint.specs.declared.lines.WrittenFrame.{WrittenFrame}
+use Rattle.lint.specs.FrameLines.{frame_lines_in}
 use Rattle.cert_table.specs.Table.{CertView}
 use Rattle.cert_text.specs.declared.fault.LineCause.TheVariants.{Truncated}
 use Rattle.cert_text.specs.declared.fault.ReadFault.{ReadFault}
@@ -67,6 +70,13 @@ pub record IsBaseOfFile (d : Device) (base : BaseView) : Type 0 where
   pub text : List ℕ
   pub read : WasRead base_limit d text
   pub is : IsTextBase text base
+
+-- the base of the file's text, and where the text writes its frames
+pub record IsLinedOfFile (d : Device) (base : BaseView) (lines : List (Id × WrittenFrame)) : Type 0 where
+  pub text : List ℕ
+  pub read : WasRead base_limit d text
+  pub is : IsTextBase text base
+  pub written : lines ≡ frame_lines_in text
 
 -- the certificate of the file's text
 pub record IsCertOfFile (d : Device) (cert : CertView) : Type 0 where

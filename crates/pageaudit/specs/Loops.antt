@@ -2,9 +2,11 @@
 use Rattle.frame_records.specs.Bases.{BaseView}
 use Rattle.pageaudit.specs.declared.edition.EditionFault.{EditionFault}
 use Rattle.pageaudit.specs.declared.edition.EditionFault.TheVariants as part
-use Rattle.pageaudit.specs.Files.{IsUntouched, IsBaseOfFile, Device, base_limit, IsBaseTextFault, IsBaseBroken, IsReadWithin, cert_limit, IsCertTextFault, IsCertBroken, IsCertOfFile, IsTruncated, WasReadSoFar, WasRead}
+use Rattle.pageaudit.specs.Files.{IsUntouched, IsBaseOfFile, IsLinedOfFile, Device, base_limit, IsBaseTextFault, IsBaseBroken, IsReadWithin, cert_limit, IsCertTextFault, IsCertBroken, IsCertOfFile, IsTruncated, WasReadSoFar, WasRead}
 use Rattle.pageaudit.specs.ChangeRun.{EditionFiles, IsEditionOf}
 use Rattle.std.specs.Prelude.{Result, MatchResult, ℕ, List, Ok, Err, ◌≡◌, false, ◌≤◌, ◌++◌, length, None, true, ◌+◌, Vec}
+use Rattle.lint.specs.FrameLines.{frame_lines_in}
+use Rattle.pageaudit.specs.declared.input.LinedBase.{LinedBase}
 use Rattle.cert_table.specs.Table.{CertView}
 use Rattle.base_text.specs.declared.fault.BaseFault.{BaseFault}
 use Rattle.audit_report.specs.declared.run_fault.RunFault.{RunFault}
@@ -46,6 +48,10 @@ IsCertFileFault d file.Memory = IsReadWithin cert_limit d
 abbrev pub IsBaseRead : Device → Result BaseView (FileFault BaseFault) → Type 0
 IsBaseRead d answer = MatchResult answer (IsBaseOfFile d) (IsBaseFileFault d)
 
+-- the same with where its text writes the frames
+abbrev pub IsLinedRead : Device → Result LinedBase (FileFault BaseFault) → Type 0
+IsLinedRead d answer = MatchResult answer (λ l. IsLinedOfFile d l.base l.lines) (IsBaseFileFault d)
+
 -- the certificate of a file, or why it gives none
 abbrev pub IsCertRead : Device → Result CertView (FileFault ReadFault) → Type 0
 IsCertRead d answer = MatchResult answer (IsCertOfFile d) (IsCertFileFault d)
@@ -56,6 +62,12 @@ IsBaseAnswer text (Ok base) = IsTextBase text base
 IsBaseAnswer text (Err (file.Text fault)) = IsBaseRefused text fault
 IsBaseAnswer text (Err file.Broken) = ⊥
 IsBaseAnswer text (Err file.Memory) = Unit {0}
+
+abbrev pub IsLinedAnswer : List ℕ → Result LinedBase (FileFault BaseFault) → Type 0
+IsLinedAnswer text (Ok l) = IsTextBase text l.base × (l.lines ≡ frame_lines_in text)
+IsLinedAnswer text (Err (file.Text fault)) = IsBaseRefused text fault
+IsLinedAnswer text (Err file.Broken) = ⊥
+IsLinedAnswer text (Err file.Memory) = Unit {0}
 
 -- A certificate's file that is read in pieces.
 

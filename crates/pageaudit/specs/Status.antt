@@ -5,7 +5,7 @@ use Rattle.audit_report.specs.declared.run_fault.RunFault.TheVariants as run
 use Rattle.audit_report.specs.declared.status.Status.{Status}
 use Rattle.audit_report.specs.declared.status.Status.TheVariants.{Clear, Faulty}
 
--- of a fault: bad groups or keys 2, a file or the output 3, out of memory 4
+-- the status of a fault: bad groups or keys 2, a file or the output 3, out of memory 4
 abbrev pub fault_number : RunFault → ℕ
 fault_number run.Groups = 2
 fault_number (run.Keys offset) = 2

@@ -3,7 +3,7 @@
 ghost use Rattle.std.specs.Prelude.{◌≡◌, ◌<◌, false, Ok, Err, List, [], ℕ};
 ghost use Rattle.cert_text.specs.Reading.{HasRead};
 ghost use Rattle.pageaudit.specs.Files.{device};
-ghost use Rattle.pageaudit.specs.Loops.{IsBaseRead, IsCertRead, IsBaseAnswer, IsPieceTaken, IsFed};
+ghost use Rattle.pageaudit.specs.Loops.{IsBaseRead, IsCertRead, IsBaseAnswer, IsLinedRead, IsLinedAnswer, IsPieceTaken, IsFed};
 
 use crate::file_fault::FileFault;
 use audit_report::{Source, SourceFault, read_whole};
@@ -11,6 +11,7 @@ use base_text::{BaseCause, BaseFault, MOST_TEXT, base_read};
 use cert_table::Certificate;
 use cert_text::{CertReader, ReadFault};
 use frame_records::Base;
+use lint::{WrittenFrames, listed_lines};
 use std::alloc::Global;
 
 // The number of bytes of a certificate that one read asks for.
@@ -45,6 +46,43 @@ pub fn read_base<S: Source>(alloc: Global, source: &mut S) -> Result<Base, FileF
         Err(SourceFault::Broken) => Err(FileFault::Broken),
         Err(SourceFault::Memory) => Err(FileFault::Memory),
     }
+}
+
+// A base, and where its text writes the frames.
+#[derive(Drop)]
+pub struct LinedBase {
+    pub base: Base,
+    pub lines: WrittenFrames,
+}
+
+// The base of a text, with its lines.
+fn lined_of(alloc: Global, text: &[u8]) -> Result<LinedBase, FileFault<BaseFault>>
+    ensures { IsLinedAnswer text.now result }
+{
+    let base = match base_of(alloc, text) {
+        Ok(base) => base,
+        Err(fault) => return Err(fault),
+    };
+    match listed_lines(alloc, text) {
+        Ok(lines) => Ok(LinedBase { base, lines }),
+        Err(_) => Err(FileFault::Memory),
+    }
+}
+
+// Reads a base whole, as read_base does, and notes the lines of its frames.
+pub fn read_lined<S: Source>(
+    alloc: Global,
+    source: &mut S,
+) -> Result<LinedBase, FileFault<BaseFault>>
+    requires { (S.seen source.old).failed ≡ false }
+    ensures { IsLinedRead (device S.seen source.old source.new) result }
+{
+    let text = match read_whole(alloc, source, MOST_TEXT + 1) {
+        Ok(text) => text,
+        Err(SourceFault::Broken) => return Err(FileFault::Broken),
+        Err(SourceFault::Memory) => return Err(FileFault::Memory),
+    };
+    lined_of(alloc, text.as_slice())
 }
 
 // Reads once, at most `most` bytes, and feeds them to the certificate's reader as one piece. Returns their number, 0 at

@@ -3,10 +3,10 @@ ghost use Rattle.pageaudit.specs.Files.{device};
 ghost use Rattle.pageaudit.specs.PagesRun.{IsPagesFileRun, pages_number, run_of};
 
 use crate::file_fault::base_fault;
-use crate::input::read_base;
+use crate::input::read_lined;
 use crate::status::status_of;
 use audit_report::{RunFault, Sink, Source};
-use base_pages::{PagesFault, PagesStatus, write_pages};
+use base_pages::{BaseSource, PagesFault, PagesStatus, write_pages};
 use checker::Policy;
 use finder::View;
 use std::alloc::Global;
@@ -22,8 +22,8 @@ fn run_of(run: Result<PagesStatus, PagesFault>) -> Result<PagesStatus, RunFault>
     }
 }
 
-/// Writes the frames of a view of a base as one HTML file, with its audit and under this name, for a caller of the policy's groups.
-/// If the base lacks the frame `a` of the view's page, nothing is written, and the status is NoPage.
+/// Writes the frames of a view of a base as one HTML file, with its audit and the name of the base's file, for a caller of the
+/// policy's groups. If the base lacks the frame `a` of the view's page, nothing is written, and the status is NoPage.
 ///
 /// The base is read whole and judged first. The file is longer than memory may be, and is written section by section. On a fault
 /// of the base's file nothing was written; if memory is refused, a front of the file may have been. A device is not called again
@@ -44,11 +44,15 @@ pub fn run_pages<B: Source, O: Sink>(
     ensures { IsPagesFileRun (device B.seen base.old base.new)
         (device O.seen out.old out.new) name.now policy.now view.now result }
 {
-    let base = match read_base(alloc, base) {
-        Ok(base) => base,
+    let read = match read_lined(alloc, base) {
+        Ok(read) => read,
         Err(fault) => return Err(base_fault(fault)),
     };
-    run_of(write_pages(alloc, &base, policy, view, name, out))
+    let source = BaseSource {
+        name,
+        lines: &read.lines,
+    };
+    run_of(write_pages(alloc, &source, &read.base, policy, view, out))
 }
 
 /// The program's exit status after such a run: 0 a file, 2 no such page; of a fault as `status_of`.

@@ -1,6 +1,7 @@
 //! What `lint` finds, what is printed of it, and what is fixed; what `import` changes of a base.
 
 ghost use Rattle.std.specs.Prelude.{◌≡◌, ◌↔◌, All, IfOk, true, length};
+ghost use Rattle.frame_edits.specs.Laws.{SameFramesShow};
 ghost use Rattle.frame_edits.specs.Merging.{IsMerged};
 ghost use Rattle.finding_forms.specs.Forms.{is_one_line};
 ghost use Rattle.finding_forms.specs.Laws.{AreWholeLines};
@@ -13,7 +14,7 @@ ghost use Rattle.slip_fixes.specs.Rounds.{IsFixed};
 
 use checker::Policy;
 use finding_forms::{Format, findings_text};
-use frame_edits::{MergeFault, Merged, merge_frames};
+use frame_edits::{MergeFault, Merged, merge_frames, same_frames_show};
 use lint::{Finding, lint};
 use screen_files::Settled;
 use slip_fixes::{Fixed, fix_slips};
@@ -62,4 +63,11 @@ fn merged_in(
     ensures { IfOk result (IsMerged text.now guesses settled.now.frames) }
 {
     merge_frames(alloc, text, guesses, settled)
+}
+
+// A frame of it that stays, since it shows the screen, shows it on every terminal.
+fn same_in()
+    ensures { SameFramesShow }
+{
+    same_frames_show();
 }

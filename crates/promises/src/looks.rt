@@ -18,7 +18,8 @@ ghost use Rattle.cert_table.specs.Table.{CertView};
 ghost use Rattle.finder.specs.declared.found.Discovered.{Discovered};
 ghost use Rattle.finder.specs.Finds.{IsFinding};
 ghost use Rattle.screens.specs.Laws.{tags_of};
-ghost use Rattle.base_pages.specs.Sections.{BookView, shown_frames};
+ghost use Rattle.lint.specs.FrameLines.{SentenceView};
+ghost use Rattle.base_pages.specs.Sections.{BookView, SourceView, shown_frames};
 ghost use Rattle.base_pages.specs.Tags.{page_tags, HaveIds};
 ghost use Rattle.base_pages.specs.Reading.{sections_in};
 ghost use Rattle.base_pages.specs.Said.{section_said};
@@ -75,16 +76,16 @@ fn columns_show()
 
 // The HTML file of every base has the tags of its form and no others.
 fn page_tags_alone()
-    ensures { (name : List ℕ) (policy : Policy) (outcome : Outcome) (b : BookView) →
-        tags_of (page name policy outcome b) ≡ page_tags name policy outcome b }
+    ensures { (policy : Policy) (outcome : Outcome) (b : BookView) →
+        tags_of (page policy outcome b) ≡ page_tags policy outcome b }
 {
     file_has_its_tags();
 }
 
 // Its sections are the frames, and say what is shown of them.
 fn pages_say_what_is_shown()
-    ensures { (name : List ℕ) (policy : Policy) (outcome : Outcome) (b : BookView) →
-        sections_in (page name policy outcome b) ≡ map (section_said b) (shown_frames b b.base.frames) }
+    ensures { (policy : Policy) (outcome : Outcome) (b : BookView) →
+        sections_in (page policy outcome b) ≡ map (section_said b) (shown_frames b b.base.frames) }
 {
     file_says_what_is_shown();
 }
@@ -98,9 +99,11 @@ fn pages_link_ways()
 
 // That of a certified base has no missing or closed way in a section that callers reach.
 fn certified_pages_lead()
-    ensures { (name : List ℕ) (base : BaseView) (policy : Policy) (part : Option (List Id)) (found : List Discovered)
-        (cert : CertView) → IsBase base → IsFinding policy.groups base found → IsOutcome base policy (Certified cert) →
-        NoWayFails (sections_in (page name policy (Certified cert) (book base policy part found (Certified cert)))) }
+    ensures { (source : SourceView) (base : BaseView) (policy : Policy) (part : Option (List Id))
+        (found : List Discovered) (cert : CertView) (sentences : List SentenceView)
+        → IsBase base → IsFinding policy.groups base found → IsOutcome base policy (Certified cert)
+        → NoWayFails (sections_in (page policy (Certified cert)
+        (book source base policy part found (Certified cert) sentences))) }
 {
     certified_ways_lead();
 }

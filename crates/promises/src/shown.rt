@@ -34,7 +34,7 @@ ghost use Rattle.ansi_line.specs.Laws.{AreScreenRows, SameToTheEye, seen_cells};
 
 use ansi_line::ansi_reads_back;
 use audit_report::Sink;
-use base_pages::{PagesFault, PagesStatus, write_pages};
+use base_pages::{BaseSource, PagesFault, PagesStatus, write_pages};
 use checker::Policy;
 use finder::View;
 use frame_records::{Base, Groups};
@@ -181,17 +181,18 @@ fn safe_characters()
     characters_are_safe();
 }
 
-// The HTML file is the definition's, says what is shown, and links the ways.
+// The HTML file is the definition's, says what is shown and where it is written, and links the ways.
 fn pages_of<S: Sink>(
     alloc: Global,
+    source: &BaseSource<'_>,
     base: &Base,
     policy: &Policy,
     view: &View,
-    name: &str,
     sink: &mut S,
 ) -> Result<PagesStatus, PagesFault>
     requires { (S.seen sink.old).failed ≡ false }
-    ensures { IsPagesRun (S.seen sink.old) (S.seen sink.new) name.now base.now policy.now view.now result }
+    ensures { IsPagesRun (S.seen sink.old) (S.seen sink.new)
+        (record { name = source.now.name.now; lines = source.now.lines.now }) base.now policy.now view.now result }
 {
-    write_pages(alloc, base, policy, view, name, sink)
+    write_pages(alloc, source, base, policy, view, sink)
 }

@@ -1,8 +1,9 @@
-use base_pages::{PagesFault, PagesStatus, write_pages};
+use base_pages::{BaseSource, PagesFault, PagesStatus, write_pages};
 use base_text::base_read;
 use checker::Policy;
 use finder::View;
 use frame_records::{Groups, Pence};
+use lint::listed_lines;
 use page_ids::PageNo;
 use std::alloc::Global;
 use std::rt::HostRuntime;
@@ -44,9 +45,14 @@ fn policy() -> Result<Policy, Fail> {
 
 // The file of a view of a base.
 fn file(alloc: Global, base: &str, view: &View, name: &str) -> Result<String, Fail> {
+    let lines = listed_lines(alloc, base.as_bytes())?;
+    let source = BaseSource {
+        name,
+        lines: &lines,
+    };
     let base = base_read(alloc, base.as_bytes())?;
     let mut sink = FakeSink::of(alloc, 1000);
-    let status = write_pages(alloc, &base, &policy()?, view, name, &mut sink)?;
+    let status = write_pages(alloc, &source, &base, &policy()?, view, &mut sink)?;
     same(status, PagesStatus::Written)?;
     same(sink.flushes, 1)?;
     Ok(String::from_utf8(sink.taken)?)
@@ -67,12 +73,15 @@ fn a_section_has_the_ways_and_faults_of_its_frame(rt: HostRuntime) -> Result<(),
     let entry = between(&text, "<section id=\"7a\">", "</section>")?;
     same(
         between(entry, "<p class=\"price\">", "</section>")?,
-        "<p class=\"price\">0p</p>\n<p class=\"ways\">\n\
+        "<p class=\"price\">0p</p>\n<p class=\"place\">a.toml:5</p>\n<p class=\"ways\">\n\
 <a href=\"#71a\" data-key=\"1\">71a</a>\n\
 <span class=\"outside\" data-key=\"2\">9</span>\n\
 <span class=\"closed\" data-key=\"3\">72a</span>\n\
 <span class=\"missing\" data-key=\"4\">73a</span>\n\
-</p>\n<ul class=\"faults\">\n<li>CLOSED 72a AT 7a KEY 3 SCRIPT 3</li>\n<li>MISSING 73a AT 7a KEY 4 SCRIPT 4</li>\n</ul>\n</section>",
+</p>\n<ul class=\"said\">\n\
+<li>key 3 of frame 7a leads to frame 72a, which is closed to these callers; it belongs to group 8 (keys 3)</li>\n\
+<li>key 4 of frame 7a leads to page 73, which has no frame a (keys 4); write frame 73a, or list 73 in outside</li>\n\
+</ul>\n<ul class=\"faults\">\n<li>CLOSED 72a AT 7a KEY 3 SCRIPT 3</li>\n<li>MISSING 73a AT 7a KEY 4 SCRIPT 4</li>\n</ul>\n</section>",
     )
 }
 
@@ -84,6 +93,35 @@ fn a_frame_that_no_key_reaches_is_marked(rt: HostRuntime) -> Result<(), Fail> {
         true,
     )?;
     same(text.contains("<section id=\"71b\">\n<h2>71b</h2>"), true)
+}
+
+#[test]
+fn a_frame_has_its_group_and_the_line_of_its_id(rt: HostRuntime) -> Result<(), Fail> {
+    let text = file(rt.alloc(), BASE, &View::Whole, "<&.toml")?;
+    let closed = between(&text, "<section id=\"72a\"", "</section>")?;
+    same(
+        between(closed, "<p class=\"price\">", "<p class=\"ways\">")?,
+        "<p class=\"price\">0p</p>\n<p class=\"group\">group 8</p>\n<p class=\"place\">&lt;&amp;.toml:20</p>\n<p class=\"ways\">",
+    )?;
+    same(text.matches("<p class=\"group\">").count(), 1)?;
+    same(text.matches("<p class=\"place\">").count(), 4)
+}
+
+#[test]
+fn what_a_frame_conceals_comes_after_its_picture_and_text(rt: HostRuntime) -> Result<(), Fail> {
+    let alloc = rt.alloc();
+    let base = "entry = 7\n[[frame]]\nid = '7a'\nrows = [\"A\\u0098B\"]\n";
+    let text = file(alloc, base, &View::Whole, "a")?;
+    let plain = between(&text, "<h2>7a</h2>", "</pre>")?;
+    same(plain.contains("\nA\n"), true)?;
+    let revealed = between(
+        &text,
+        "</pre>\n<div class=\"revealed\">\n<svg ",
+        "</pre>\n</div>\n<p class=\"price\">",
+    )?;
+    same(revealed.contains("\nA B\n"), true)?;
+    let other = file(alloc, BASE, &View::Whole, "a")?;
+    same(other.contains("<div class=\"revealed\">"), false)
 }
 
 // The byte at offset 2 goes from row 0 to row 23: from home up, cell 920.
@@ -134,12 +172,16 @@ fn a_page_that_the_base_lacks_has_no_file(rt: HostRuntime) -> Result<(), Fail> {
     let base = base_read(alloc, BASE.as_bytes())?;
     let page = PageNo::new(5).ok_or("page")?;
     let mut sink = FakeSink::of(alloc, 1000);
+    let source = BaseSource {
+        name: "a",
+        lines: &listed_lines(alloc, BASE.as_bytes())?,
+    };
     let status = write_pages(
         alloc,
+        &source,
         &base,
         &policy()?,
         &View::From(page, None),
-        "a",
         &mut sink,
     )?;
     same(status, PagesStatus::NoPage)?;
@@ -179,7 +221,11 @@ fn a_sink_that_fails_has_taken_the_front(rt: HostRuntime) -> Result<(), Fail> {
     let alloc = rt.alloc();
     let base = base_read(alloc, BASE.as_bytes())?;
     let mut sink = FakeSink::full(alloc, 1000, 12_345);
-    let run = write_pages(alloc, &base, &policy()?, &View::Whole, "a.toml", &mut sink);
+    let source = BaseSource {
+        name: "a.toml",
+        lines: &listed_lines(alloc, BASE.as_bytes())?,
+    };
+    let run = write_pages(alloc, &source, &base, &policy()?, &View::Whole, &mut sink);
     same(run, Err(PagesFault::Write(12_345)))?;
     same(sink.taken.len(), 12_345)?;
     same(sink.flushes, 0)

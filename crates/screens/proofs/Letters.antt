@@ -1,7 +1,7 @@
 -- Each letter is as computed. Written by tools/letter-outlines from letters.txt.
 use Rattle.std.proofs.Common.{◌≡◌, ℕ, refl, true, ◌==◌, nat_lt}
 use Rattle.std.proofs.lemmas.Bool.{cond_both}
-use Rattle.screens.specs.Letters.{Letter, letter_drawn, letters_1, letters_2, letters_3, letters_4}
+use Rattle.screens.specs.Letters.{Letter, letter_drawn, letters_1, letters_2, letters_3, letters_4, letters_5}
 use Rattle.screens.proofs.Drawn.{is_right}
 
 abbrev IsRight : Letter → Type 0
@@ -28,16 +28,16 @@ right_1 c =
     (λ n. cond_both (c == 0x31) _ _ IsRight (λ e. refl)
     (λ n. cond_both (c == 0x32) _ _ IsRight (λ e. refl)
     (λ n. cond_both (c == 0x33) _ _ IsRight (λ e. refl)
-    (λ n. cond_both (c == 0x34) _ _ IsRight (λ e. refl)
+    (λ n. refl)))))))))))))))))))
+
+right_2 : (c : ℕ) → IsRight (letters_2 c)
+right_2 c =
+    cond_both (c == 0x34) _ _ IsRight (λ e. refl)
     (λ n. cond_both (c == 0x35) _ _ IsRight (λ e. refl)
     (λ n. cond_both (c == 0x36) _ _ IsRight (λ e. refl)
     (λ n. cond_both (c == 0x37) _ _ IsRight (λ e. refl)
     (λ n. cond_both (c == 0x38) _ _ IsRight (λ e. refl)
-    (λ n. refl))))))))))))))))))))))))
-
-right_2 : (c : ℕ) → IsRight (letters_2 c)
-right_2 c =
-    cond_both (c == 0x39) _ _ IsRight (λ e. refl)
+    (λ n. cond_both (c == 0x39) _ _ IsRight (λ e. refl)
     (λ n. cond_both (c == 0x3A) _ _ IsRight (λ e. refl)
     (λ n. cond_both (c == 0x3B) _ _ IsRight (λ e. refl)
     (λ n. cond_both (c == 0x3C) _ _ IsRight (λ e. refl)
@@ -51,7 +51,11 @@ right_2 c =
     (λ n. cond_both (c == 0x44) _ _ IsRight (λ e. refl)
     (λ n. cond_both (c == 0x45) _ _ IsRight (λ e. refl)
     (λ n. cond_both (c == 0x46) _ _ IsRight (λ e. refl)
-    (λ n. cond_both (c == 0x47) _ _ IsRight (λ e. refl)
+    (λ n. refl)))))))))))))))))))
+
+right_3 : (c : ℕ) → IsRight (letters_3 c)
+right_3 c =
+    cond_both (c == 0x47) _ _ IsRight (λ e. refl)
     (λ n. cond_both (c == 0x48) _ _ IsRight (λ e. refl)
     (λ n. cond_both (c == 0x49) _ _ IsRight (λ e. refl)
     (λ n. cond_both (c == 0x4A) _ _ IsRight (λ e. refl)
@@ -61,11 +65,7 @@ right_2 c =
     (λ n. cond_both (c == 0x4E) _ _ IsRight (λ e. refl)
     (λ n. cond_both (c == 0x4F) _ _ IsRight (λ e. refl)
     (λ n. cond_both (c == 0x50) _ _ IsRight (λ e. refl)
-    (λ n. refl))))))))))))))))))))))))
-
-right_3 : (c : ℕ) → IsRight (letters_3 c)
-right_3 c =
-    cond_both (c == 0x51) _ _ IsRight (λ e. refl)
+    (λ n. cond_both (c == 0x51) _ _ IsRight (λ e. refl)
     (λ n. cond_both (c == 0x52) _ _ IsRight (λ e. refl)
     (λ n. cond_both (c == 0x53) _ _ IsRight (λ e. refl)
     (λ n. cond_both (c == 0x54) _ _ IsRight (λ e. refl)
@@ -74,7 +74,11 @@ right_3 c =
     (λ n. cond_both (c == 0x57) _ _ IsRight (λ e. refl)
     (λ n. cond_both (c == 0x58) _ _ IsRight (λ e. refl)
     (λ n. cond_both (c == 0x59) _ _ IsRight (λ e. refl)
-    (λ n. cond_both (c == 0x5A) _ _ IsRight (λ e. refl)
+    (λ n. refl)))))))))))))))))))
+
+right_4 : (c : ℕ) → IsRight (letters_4 c)
+right_4 c =
+    cond_both (c == 0x5A) _ _ IsRight (λ e. refl)
     (λ n. cond_both (c == 0x61) _ _ IsRight (λ e. refl)
     (λ n. cond_both (c == 0x62) _ _ IsRight (λ e. refl)
     (λ n. cond_both (c == 0x63) _ _ IsRight (λ e. refl)
@@ -89,15 +93,15 @@ right_3 c =
     (λ n. cond_both (c == 0x6C) _ _ IsRight (λ e. refl)
     (λ n. cond_both (c == 0x6D) _ _ IsRight (λ e. refl)
     (λ n. cond_both (c == 0x6E) _ _ IsRight (λ e. refl)
-    (λ n. refl))))))))))))))))))))))))
-
-right_4 : (c : ℕ) → IsRight (letters_4 c)
-right_4 c =
-    cond_both (c == 0x6F) _ _ IsRight (λ e. refl)
+    (λ n. cond_both (c == 0x6F) _ _ IsRight (λ e. refl)
     (λ n. cond_both (c == 0x70) _ _ IsRight (λ e. refl)
     (λ n. cond_both (c == 0x71) _ _ IsRight (λ e. refl)
     (λ n. cond_both (c == 0x72) _ _ IsRight (λ e. refl)
-    (λ n. cond_both (c == 0x73) _ _ IsRight (λ e. refl)
+    (λ n. refl)))))))))))))))))))
+
+right_5 : (c : ℕ) → IsRight (letters_5 c)
+right_5 c =
+    cond_both (c == 0x73) _ _ IsRight (λ e. refl)
     (λ n. cond_both (c == 0x74) _ _ IsRight (λ e. refl)
     (λ n. cond_both (c == 0x75) _ _ IsRight (λ e. refl)
     (λ n. cond_both (c == 0x76) _ _ IsRight (λ e. refl)
@@ -116,11 +120,12 @@ right_4 c =
     (λ n. cond_both (c == 0x2191) _ _ IsRight (λ e. refl)
     (λ n. cond_both (c == 0x2192) _ _ IsRight (λ e. refl)
     (λ n. cond_both (c == 0x25A0) _ _ IsRight (λ e. refl)
-    (λ n. refl)))))))))))))))))))))))
+    (λ n. refl)))))))))))))))))))
 
 pub all_right : (c : ℕ) → IsRight (letter_drawn c)
 all_right c =
-    cond_both (nat_lt c 0x39) _ _ IsRight (λ e. right_1 c)
-    (λ n. cond_both (nat_lt c 0x51) _ _ IsRight (λ e. right_2 c)
-    (λ n. cond_both (nat_lt c 0x6F) _ _ IsRight (λ e. right_3 c)
-    (λ n. right_4 c)))
+    cond_both (nat_lt c 0x34) _ _ IsRight (λ e. right_1 c)
+    (λ n. cond_both (nat_lt c 0x47) _ _ IsRight (λ e. right_2 c)
+    (λ n. cond_both (nat_lt c 0x5A) _ _ IsRight (λ e. right_3 c)
+    (λ n. cond_both (nat_lt c 0x73) _ _ IsRight (λ e. right_4 c)
+    (λ n. right_5 c))))

@@ -174,7 +174,7 @@ PictureReadsBack = (id : Id) (rows : List (List Look)) → tags_of (picture id r
 
 -- The outlines.
 
--- of a character at single height, or of one of its halves
+-- the outline of a character at single height, or of one of its halves
 pub record IsRounded (h : Height) (c : ℕ) : Type 0 where
   -- the outline can be read
   pub reads : is_outline (outline h c) ≡ true

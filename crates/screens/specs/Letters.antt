@@ -1077,16 +1077,16 @@ letters_1 c =
     else if c == 0x31 then letter_31
     else if c == 0x32 then letter_32
     else if c == 0x33 then letter_33
-    else if c == 0x34 then letter_34
-    else if c == 0x35 then letter_35
-    else if c == 0x36 then letter_36
-    else if c == 0x37 then letter_37
-    else if c == 0x38 then letter_38
     else blank_letter
 
 abbrev pub letters_2 : ℕ → Letter
 letters_2 c =
-    if c == 0x39 then letter_39
+    if c == 0x34 then letter_34
+    else if c == 0x35 then letter_35
+    else if c == 0x36 then letter_36
+    else if c == 0x37 then letter_37
+    else if c == 0x38 then letter_38
+    else if c == 0x39 then letter_39
     else if c == 0x3A then letter_3A
     else if c == 0x3B then letter_3B
     else if c == 0x3C then letter_3C
@@ -1100,7 +1100,11 @@ letters_2 c =
     else if c == 0x44 then letter_44
     else if c == 0x45 then letter_45
     else if c == 0x46 then letter_46
-    else if c == 0x47 then letter_47
+    else blank_letter
+
+abbrev pub letters_3 : ℕ → Letter
+letters_3 c =
+    if c == 0x47 then letter_47
     else if c == 0x48 then letter_48
     else if c == 0x49 then letter_49
     else if c == 0x4A then letter_4A
@@ -1110,11 +1114,7 @@ letters_2 c =
     else if c == 0x4E then letter_4E
     else if c == 0x4F then letter_4F
     else if c == 0x50 then letter_50
-    else blank_letter
-
-abbrev pub letters_3 : ℕ → Letter
-letters_3 c =
-    if c == 0x51 then letter_51
+    else if c == 0x51 then letter_51
     else if c == 0x52 then letter_52
     else if c == 0x53 then letter_53
     else if c == 0x54 then letter_54
@@ -1123,7 +1123,11 @@ letters_3 c =
     else if c == 0x57 then letter_57
     else if c == 0x58 then letter_58
     else if c == 0x59 then letter_59
-    else if c == 0x5A then letter_5A
+    else blank_letter
+
+abbrev pub letters_4 : ℕ → Letter
+letters_4 c =
+    if c == 0x5A then letter_5A
     else if c == 0x61 then letter_61
     else if c == 0x62 then letter_62
     else if c == 0x63 then letter_63
@@ -1138,15 +1142,15 @@ letters_3 c =
     else if c == 0x6C then letter_6C
     else if c == 0x6D then letter_6D
     else if c == 0x6E then letter_6E
-    else blank_letter
-
-abbrev pub letters_4 : ℕ → Letter
-letters_4 c =
-    if c == 0x6F then letter_6F
+    else if c == 0x6F then letter_6F
     else if c == 0x70 then letter_70
     else if c == 0x71 then letter_71
     else if c == 0x72 then letter_72
-    else if c == 0x73 then letter_73
+    else blank_letter
+
+abbrev pub letters_5 : ℕ → Letter
+letters_5 c =
+    if c == 0x73 then letter_73
     else if c == 0x74 then letter_74
     else if c == 0x75 then letter_75
     else if c == 0x76 then letter_76
@@ -1170,7 +1174,8 @@ letters_4 c =
 -- the letter of a character; of any other a blank one
 abbrev pub letter_drawn : ℕ → Letter
 letter_drawn c =
-    if nat_lt c 0x39 then letters_1 c
-    else if nat_lt c 0x51 then letters_2 c
-    else if nat_lt c 0x6F then letters_3 c
-    else letters_4 c
+    if nat_lt c 0x34 then letters_1 c
+    else if nat_lt c 0x47 then letters_2 c
+    else if nat_lt c 0x5A then letters_3 c
+    else if nat_lt c 0x73 then letters_4 c
+    else letters_5 c

@@ -225,7 +225,7 @@ touch_mark (Some p) =
 unfoldable pub svg_foot : List Piece
 svg_foot = piece (codes "/svg") newline ∷ []
 
--- of a frame's screen, with a cell that is framed or not
+-- the picture of a frame's screen, with a cell that is framed or not
 abbrev pub svg_pieces : Id → List (List Look) → Option ℕ → List Piece
 svg_pieces id rows cell = svg_begin ++ svg_title id ++ blocks rows ++ texts rows ++ touch_mark cell ++ svg_foot
 
@@ -257,12 +257,12 @@ abbrev pub letter_path : ℕ → ℕ → Height → Option ℕ → List ℕ
 letter_path x y h None = []
 letter_path x y h (Some c) = codes "M" ++ decimal x ++ codes " " ++ decimal y ++ outline h c
 
--- of neighbouring cells, the first of them at x and y
+-- the path of neighbouring cells, the first of them at x and y
 abbrev pub letters_path : Ink → ℕ → ℕ → List Look → List ℕ
 letters_path i x y [] = []
 letters_path i x y (a ∷ rest) = letter_path x y a.height (char_in i (shown a)) ++ letters_path i (x + 12) y rest
 
--- of the rows from row r on
+-- the letters of the rows from row r on
 abbrev pub screen_path : Ink → ℕ → List (List Look) → List ℕ
 screen_path i r [] = []
 screen_path i r (row ∷ rows) = letters_path i 0 (20 * r) row ++ screen_path i (r + 1) rows

@@ -104,7 +104,7 @@ start can_stretch = record {
   held = None;
 }
 
--- of this height; a change makes the held mosaic blank
+-- the state of this height; a change makes the held mosaic blank
 abbrev pub with_double : Bool → State → State
 with_double true s = if s.double then s else record s { double = true; held = None }
 with_double false s = if s.double then record s { double = false; held = None } else s

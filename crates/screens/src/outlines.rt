@@ -40,14 +40,6 @@ fn single_1(c: char) -> &'static [u8]
             b"m4 2h6v1h1v1h1v4h-1v1h-1v1h-3v1h-1v1h-1v1h-1v1h8v2h-10v-4h1v-1h1v-1h1v-1h1v-1h3v-1h1v-2h-1v-1h-4v1h-1v1h-2v-2h1v-1h1z",
         '3' =>
             b"m2 2h10v4h-1v1h-1v2h1v1h1v4h-1v1h-1v1h-6v-1h-1v-1h-1v-2h2v1h1v1h4v-1h1v-2h-1v-1h-3v-2h2v-2h1v-1h1v-1h-8z",
-        '4' => b"m8 2h2v8h2v2h-2v4h-2v-4h-6v-4h1v-1h1v-1h1v-1h1v-1h2zm-1 4v1h-1v1h-1v1h-1v1h4v-4z",
-        '5' =>
-            b"m2 2h10v2h-8v2h6v1h1v1h1v6h-1v1h-1v1h-6v-1h-1v-1h-1v-2h2v1h1v1h4v-1h1v-4h-1v-1h-7z",
-        '6' =>
-            b"m6 2h4v2h-3v1h-1v1h-1v1h-1v1h6v1h1v1h1v4h-1v1h-1v1h-6v-1h-1v-1h-1v-8h1v-1h1v-1h1v-1h1zm-2 8v3h1v1h4v-1h1v-2h-1v-1z",
-        '7' => b"m2 2h10v4h-1v1h-1v1h-1v1h-1v1h-1v1h-1v5h-2v-6h1v-1h1v-1h1v-1h1v-1h1v-1h1v-1h-8z",
-        '8' =>
-            b"m4 2h6v1h1v1h1v4h-1v2h1v4h-1v1h-1v1h-6v-1h-1v-1h-1v-4h1v-2h-1v-4h1v-1h1zm1 2v1h-1v2h1v1h4v-1h1v-2h-1v-1zm0 6v1h-1v2h1v1h4v-1h1v-2h-1v-1z",
         _ => b"",
     }
 }
@@ -56,6 +48,14 @@ fn single_2(c: char) -> &'static [u8]
     ensures { result.now ≡ (letters.letters_2 c).single }
 {
     match c {
+        '4' => b"m8 2h2v8h2v2h-2v4h-2v-4h-6v-4h1v-1h1v-1h1v-1h1v-1h2zm-1 4v1h-1v1h-1v1h-1v1h4v-4z",
+        '5' =>
+            b"m2 2h10v2h-8v2h6v1h1v1h1v6h-1v1h-1v1h-6v-1h-1v-1h-1v-2h2v1h1v1h4v-1h1v-4h-1v-1h-7z",
+        '6' =>
+            b"m6 2h4v2h-3v1h-1v1h-1v1h-1v1h6v1h1v1h1v4h-1v1h-1v1h-6v-1h-1v-1h-1v-8h1v-1h1v-1h1v-1h1zm-2 8v3h1v1h4v-1h1v-2h-1v-1z",
+        '7' => b"m2 2h10v4h-1v1h-1v1h-1v1h-1v1h-1v1h-1v5h-2v-6h1v-1h1v-1h1v-1h1v-1h1v-1h1v-1h-8z",
+        '8' =>
+            b"m4 2h6v1h1v1h1v4h-1v2h1v4h-1v1h-1v1h-6v-1h-1v-1h-1v-4h1v-2h-1v-4h1v-1h1zm1 2v1h-1v2h1v1h4v-1h1v-2h-1v-1zm0 6v1h-1v2h1v1h4v-1h1v-2h-1v-1z",
         '9' =>
             b"m4 2h6v1h1v1h1v8h-1v1h-1v1h-1v1h-1v1h-4v-2h3v-1h1v-1h1v-1h1v-1h-6v-1h-1v-1h-1v-4h1v-1h1zm1 2v1h-1v2h1v1h5v-3h-1v-1z",
         ':' => b"m6 6h2v2h-2zm0 8h2v2h-2z",
@@ -78,6 +78,14 @@ fn single_2(c: char) -> &'static [u8]
         'D' => b"m2 2h8v1h1v1h1v10h-1v1h-1v1h-8zm2 2v10h5v-1h1v-8h-1v-1z",
         'E' => b"m2 2h10v2h-8v4h6v2h-6v4h8v2h-10z",
         'F' => b"m2 2h10v2h-8v4h6v2h-6v6h-2z",
+        _ => b"",
+    }
+}
+
+fn single_3(c: char) -> &'static [u8]
+    ensures { result.now ≡ (letters.letters_3 c).single }
+{
+    match c {
         'G' =>
             b"m4 2h6v1h1v1h1v2h-2v-1h-1v-1h-4v1h-1v8h1v1h5v-2h-2v-2h4v6h-8v-1h-1v-1h-1v-10h1v-1h1z",
         'H' => b"m2 2h2v6h6v-6h2v14h-2v-6h-6v6h-2z",
@@ -91,14 +99,6 @@ fn single_2(c: char) -> &'static [u8]
         'O' =>
             b"m4 2h6v1h1v1h1v10h-1v1h-1v1h-6v-1h-1v-1h-1v-10h1v-1h1zm1 2v1h-1v8h1v1h4v-1h1v-8h-1v-1z",
         'P' => b"m2 2h8v1h1v1h1v4h-1v1h-1v1h-6v6h-2zm2 2v4h5v-1h1v-2h-1v-1z",
-        _ => b"",
-    }
-}
-
-fn single_3(c: char) -> &'static [u8]
-    ensures { result.now ≡ (letters.letters_3 c).single }
-{
-    match c {
         'Q' =>
             b"m4 2h6v1h1v1h1v8h-1v2h1v2h-2v-1h-2v1h-4v-1h-1v-1h-1v-10h1v-1h1zm1 2v1h-1v8h1v1h2v-2h-1v-2h2v1h2v-6h-1v-1z",
         'R' =>
@@ -114,6 +114,14 @@ fn single_3(c: char) -> &'static [u8]
             b"m2 2h2v3h1v1h1v1h2v-1h1v-1h1v-3h2v4h-1v1h-1v1h-1v2h1v1h1v1h1v4h-2v-3h-1v-1h-1v-1h-2v1h-1v1h-1v3h-2v-4h1v-1h1v-1h1v-2h-1v-1h-1v-1h-1z",
         'Y' =>
             b"m2 2h2v3h1v1h1v1h2v-1h1v-1h1v-3h2v4h-1v1h-1v1h-1v1h-1v7h-2v-7h-1v-1h-1v-1h-1v-1h-1z",
+        _ => b"",
+    }
+}
+
+fn single_4(c: char) -> &'static [u8]
+    ensures { result.now ≡ (letters.letters_4 c).single }
+{
+    match c {
         'Z' =>
             b"m2 2h10v4h-1v1h-1v1h-1v1h-1v1h-1v1h-1v1h-1v1h-1v1h8v2h-10v-4h1v-1h1v-1h1v-1h1v-1h1v-1h1v-1h1v-1h1v-1h-8z",
         'a' => b"m4 6h6v1h1v1h1v8h-8v-1h-1v-1h-1v-2h1v-1h1v-1h6v-1h-1v-1h-5zm1 6v2h5v-2z",
@@ -132,19 +140,19 @@ fn single_3(c: char) -> &'static [u8]
         'l' => b"m4 2h4v12h2v2h-6v-2h2v-10h-2z",
         'm' => b"m2 6h4v1h2v-1h2v1h1v1h1v8h-2v-7h-2v7h-2v-7h-1v-1h-1v8h-2z",
         'n' => b"m2 6h8v1h1v1h1v8h-2v-7h-1v-1h-5v8h-2z",
-        _ => b"",
-    }
-}
-
-fn single_4(c: char) -> &'static [u8]
-    ensures { result.now ≡ (letters.letters_4 c).single }
-{
-    match c {
         'o' =>
             b"m4 6h6v1h1v1h1v6h-1v1h-1v1h-6v-1h-1v-1h-1v-6h1v-1h1zm1 2v1h-1v4h1v1h4v-1h1v-4h-1v-1z",
         'p' => b"m2 6h8v1h1v1h1v6h-1v1h-1v1h-6v4h-2zm2 2v6h5v-1h1v-4h-1v-1z",
         'q' => b"m4 6h8v14h-2v-4h-6v-1h-1v-1h-1v-6h1v-1h1zm1 2v1h-1v4h1v1h5v-6z",
         'r' => b"m4 6h2v2h1v-1h1v-1h4v2h-3v1h-1v1h-2v6h-2z",
+        _ => b"",
+    }
+}
+
+fn single_5(c: char) -> &'static [u8]
+    ensures { result.now ≡ (letters.letters_5 c).single }
+{
+    match c {
         's' => b"m4 6h8v2h-7v2h5v1h1v1h1v2h-1v1h-1v1h-8v-2h7v-2h-5v-1h-1v-1h-1v-2h1v-1h1z",
         't' => b"m6 2h2v4h2v2h-2v5h1v1h1v2h-2v-1h-1v-1h-1v-6h-2v-2h2z",
         'u' => b"m2 6h2v7h1v1h5v-8h2v10h-8v-1h-1v-1h-1z",
@@ -175,14 +183,16 @@ fn single_4(c: char) -> &'static [u8]
 fn single(c: char) -> &'static [u8]
     ensures { result.now ≡ (letters.letter_drawn c).single }
 {
-    if c < '9' {
+    if c < '4' {
         single_1(c)
-    } else if c < 'Q' {
+    } else if c < 'G' {
         single_2(c)
-    } else if c < 'o' {
+    } else if c < 'Z' {
         single_3(c)
-    } else {
+    } else if c < 's' {
         single_4(c)
+    } else {
+        single_5(c)
     }
 }
 
@@ -210,11 +220,6 @@ fn upper_1(c: char) -> &'static [u8]
         '1' => b"m6 4h2v16h-2v-8h-2v-4h2z",
         '2' => b"m4 4h6v2h1v2h1v8h-1v2h-1v2h-5v-2h1v-2h3v-2h1v-4h-1v-2h-4v2h-1v2h-2v-4h1v-2h1z",
         '3' => b"m2 4h10v8h-1v2h-1v4h1v2h-5v-4h2v-4h1v-2h1v-2h-8z",
-        '4' => b"m8 4h2v16h-2v-8h-1v2h-1v2h-1v2h-1v2h-2v-4h1v-2h1v-2h1v-2h1v-2h2z",
-        '5' => b"m2 4h10v4h-8v4h6v2h1v2h1v4h-2v-2h-1v-2h-7z",
-        '6' => b"m6 4h4v4h-3v2h-1v2h-1v2h-1v2h6v2h1v2h-9v-8h1v-2h1v-2h1v-2h1z",
-        '7' => b"m2 4h10v8h-1v2h-1v2h-1v2h-1v2h-3v-2h1v-2h1v-2h1v-2h1v-2h1v-2h-8z",
-        '8' => b"m4 4h6v2h1v2h1v8h-1v4h-8v-4h-1v-8h1v-2h1zm1 4v2h-1v4h1v2h4v-2h1v-4h-1v-2z",
         _ => b"",
     }
 }
@@ -223,6 +228,11 @@ fn upper_2(c: char) -> &'static [u8]
     ensures { result.now ≡ (letters.letters_2 c).upper }
 {
     match c {
+        '4' => b"m8 4h2v16h-2v-8h-1v2h-1v2h-1v2h-1v2h-2v-4h1v-2h1v-2h1v-2h1v-2h2z",
+        '5' => b"m2 4h10v4h-8v4h6v2h1v2h1v4h-2v-2h-1v-2h-7z",
+        '6' => b"m6 4h4v4h-3v2h-1v2h-1v2h-1v2h6v2h1v2h-9v-8h1v-2h1v-2h1v-2h1z",
+        '7' => b"m2 4h10v8h-1v2h-1v2h-1v2h-1v2h-3v-2h1v-2h1v-2h1v-2h1v-2h1v-2h-8z",
+        '8' => b"m4 4h6v2h1v2h1v8h-1v4h-8v-4h-1v-8h1v-2h1zm1 4v2h-1v4h1v2h4v-2h1v-4h-1v-2z",
         '9' => b"m4 4h6v2h1v2h1v12h-8v-2h-1v-2h-1v-8h1v-2h1zm1 4v2h-1v4h1v2h5v-6h-1v-2z",
         ':' => b"m6 12h2v4h-2z",
         ';' => b"m6 12h2v4h-2z",
@@ -237,6 +247,14 @@ fn upper_2(c: char) -> &'static [u8]
         'D' => b"m2 4h8v2h1v2h1v12h-2v-10h-1v-2h-5v12h-2z",
         'E' => b"m2 4h10v4h-8v8h6v4h-8z",
         'F' => b"m2 4h10v4h-8v8h6v4h-8z",
+        _ => b"",
+    }
+}
+
+fn upper_3(c: char) -> &'static [u8]
+    ensures { result.now ≡ (letters.letters_3 c).upper }
+{
+    match c {
         'G' => b"m4 4h6v2h1v2h1v4h-2v-2h-1v-2h-4v2h-1v10h-2v-12h1v-2h1z",
         'H' => b"m2 4h2v12h6v-12h2v16h-10z",
         'I' => b"m4 4h6v4h-2v12h-2v-12h-2z",
@@ -247,14 +265,6 @@ fn upper_2(c: char) -> &'static [u8]
         'N' => b"m2 4h2v8h2v2h1v2h1v2h1v2h-3v-2h-1v-2h-1v4h-2zm8 0h2v16h-2z",
         'O' => b"m4 4h6v2h1v2h1v12h-2v-10h-1v-2h-4v2h-1v10h-2v-12h1v-2h1z",
         'P' => b"m2 4h8v2h1v2h1v8h-1v2h-1v2h-8zm2 4v8h5v-2h1v-4h-1v-2z",
-        _ => b"",
-    }
-}
-
-fn upper_3(c: char) -> &'static [u8]
-    ensures { result.now ≡ (letters.letters_3 c).upper }
-{
-    match c {
         'Q' => b"m4 4h6v2h1v2h1v12h-2v-10h-1v-2h-4v2h-1v10h-2v-12h1v-2h1z",
         'R' => b"m2 4h8v2h1v2h1v8h-1v2h-1v2h-8zm2 4v8h5v-2h1v-4h-1v-2z",
         'S' => b"m4 4h6v2h1v2h1v4h-2v-2h-1v-2h-4v2h-1v4h1v2h5v2h1v2h-7v-2h-1v-2h-1v-8h1v-2h1z",
@@ -265,6 +275,14 @@ fn upper_3(c: char) -> &'static [u8]
         'X' => b"m2 4h2v6h1v2h1v2h2v-2h1v-2h1v-6h2v8h-1v2h-1v2h-1v4h-4v-4h-1v-2h-1v-2h-1z",
         'Y' =>
             b"m2 4h2v6h1v2h1v2h2v-2h1v-2h1v-6h2v8h-1v2h-1v2h-1v2h-1v2h-2v-2h-1v-2h-1v-2h-1v-2h-1z",
+        _ => b"",
+    }
+}
+
+fn upper_4(c: char) -> &'static [u8]
+    ensures { result.now ≡ (letters.letters_4 c).upper }
+{
+    match c {
         'Z' => b"m2 4h10v8h-1v2h-1v2h-1v2h-1v2h-3v-2h1v-2h1v-2h1v-2h1v-2h1v-2h-8z",
         'a' => b"m4 12h6v2h1v2h1v4h-2v-2h-1v-2h-5z",
         'b' => b"m2 4h2v8h6v2h1v2h1v4h-2v-2h-1v-2h-5v4h-2z",
@@ -280,18 +298,18 @@ fn upper_3(c: char) -> &'static [u8]
         'l' => b"m4 4h4v16h-2v-12h-2z",
         'm' => b"m2 12h4v2h2v-2h2v2h1v2h1v4h-2v-2h-2v2h-2v-2h-1v-2h-1v4h-2z",
         'n' => b"m2 12h8v2h1v2h1v4h-2v-2h-1v-2h-5v4h-2z",
-        _ => b"",
-    }
-}
-
-fn upper_4(c: char) -> &'static [u8]
-    ensures { result.now ≡ (letters.letters_4 c).upper }
-{
-    match c {
         'o' => b"m4 12h6v2h1v2h1v4h-2v-2h-1v-2h-4v2h-1v2h-2v-4h1v-2h1z",
         'p' => b"m2 12h8v2h1v2h1v4h-2v-2h-1v-2h-5v4h-2z",
         'q' => b"m4 12h8v8h-2v-4h-5v2h-1v2h-2v-4h1v-2h1z",
         'r' => b"m4 12h2v4h1v-2h1v-2h4v4h-3v2h-1v2h-4z",
+        _ => b"",
+    }
+}
+
+fn upper_5(c: char) -> &'static [u8]
+    ensures { result.now ≡ (letters.letters_5 c).upper }
+{
+    match c {
         's' => b"m4 12h8v4h-7v4h-3v-4h1v-2h1z",
         't' => b"m6 4h2v8h2v4h-2v4h-2v-4h-2v-4h2z",
         'u' => b"m2 12h2v8h-2zm8 0h2v8h-2z",
@@ -318,14 +336,16 @@ fn upper_4(c: char) -> &'static [u8]
 fn upper(c: char) -> &'static [u8]
     ensures { result.now ≡ (letters.letter_drawn c).upper }
 {
-    if c < '9' {
+    if c < '4' {
         upper_1(c)
-    } else if c < 'Q' {
+    } else if c < 'G' {
         upper_2(c)
-    } else if c < 'o' {
+    } else if c < 'Z' {
         upper_3(c)
-    } else {
+    } else if c < 's' {
         upper_4(c)
+    } else {
+        upper_5(c)
     }
 }
 
@@ -353,11 +373,6 @@ fn lower_1(c: char) -> &'static [u8]
         '1' => b"m6 0h2v8h2v4h-6v-4h2z",
         '2' => b"m4 0h3v2h-1v2h-1v2h-1v2h8v4h-10v-8h1v-2h1z",
         '3' => b"m9 0h3v8h-1v2h-1v2h-6v-2h-1v-2h-1v-4h2v2h1v2h4v-2h1v-4h-1z",
-        '4' => b"m2 0h10v4h-2v8h-2v-8h-6z",
-        '5' => b"m10 0h2v8h-1v2h-1v2h-6v-2h-1v-2h-1v-4h2v2h1v2h4v-2h1z",
-        '6' => b"m2 0h2v6h1v2h4v-2h1v-4h-1v-2h3v8h-1v2h-1v2h-6v-2h-1v-2h-1z",
-        '7' => b"m4 0h3v2h-1v10h-2z",
-        '8' => b"m2 0h3v2h-1v4h1v2h4v-2h1v-4h-1v-2h3v8h-1v2h-1v2h-6v-2h-1v-2h-1z",
         _ => b"",
     }
 }
@@ -366,6 +381,11 @@ fn lower_2(c: char) -> &'static [u8]
     ensures { result.now ≡ (letters.letters_2 c).lower }
 {
     match c {
+        '4' => b"m2 0h10v4h-2v8h-2v-8h-6z",
+        '5' => b"m10 0h2v8h-1v2h-1v2h-6v-2h-1v-2h-1v-4h2v2h1v2h4v-2h1z",
+        '6' => b"m2 0h2v6h1v2h4v-2h1v-4h-1v-2h3v8h-1v2h-1v2h-6v-2h-1v-2h-1z",
+        '7' => b"m4 0h3v2h-1v10h-2z",
+        '8' => b"m2 0h3v2h-1v4h1v2h4v-2h1v-4h-1v-2h3v8h-1v2h-1v2h-6v-2h-1v-2h-1z",
         '9' => b"m10 0h2v4h-1v2h-1v2h-1v2h-1v2h-4v-4h3v-2h1v-2h1v-2h1z",
         ':' => b"m6 8h2v4h-2z",
         ';' => b"m6 4h2v8h-1v2h-1v2h-2v-4h1v-2h1z",
@@ -380,6 +400,14 @@ fn lower_2(c: char) -> &'static [u8]
         'D' => b"m2 0h2v8h5v-2h1v-6h2v8h-1v2h-1v2h-8z",
         'E' => b"m2 0h2v8h8v4h-10z",
         'F' => b"m2 0h2v12h-2z",
+        _ => b"",
+    }
+}
+
+fn lower_3(c: char) -> &'static [u8]
+    ensures { result.now ≡ (letters.letters_3 c).lower }
+{
+    match c {
         'G' => b"m2 0h2v6h1v2h5v-4h-2v-4h4v12h-8v-2h-1v-2h-1z",
         'H' => b"m2 0h2v12h-2zm8 0h2v12h-2z",
         'I' => b"m6 0h2v8h2v4h-6v-4h2z",
@@ -390,14 +418,6 @@ fn lower_2(c: char) -> &'static [u8]
         'N' => b"m2 0h2v12h-2zm5 0h5v12h-2v-8h-2v-2h-1z",
         'O' => b"m2 0h2v6h1v2h4v-2h1v-6h2v8h-1v2h-1v2h-6v-2h-1v-2h-1z",
         'P' => b"m2 0h2v12h-2z",
-        _ => b"",
-    }
-}
-
-fn lower_3(c: char) -> &'static [u8]
-    ensures { result.now ≡ (letters.letters_3 c).lower }
-{
-    match c {
         'Q' => b"m2 0h2v6h1v2h2v-4h-1v-4h2v2h2v-2h2v4h-1v4h1v4h-2v-2h-2v2h-4v-2h-1v-2h-1z",
         'R' => b"m2 0h2v12h-2zm4 0h2v2h1v2h1v2h1v2h1v4h-2v-2h-1v-2h-1v-2h-1v-2h-1z",
         'S' => b"m9 0h3v8h-1v2h-1v2h-6v-2h-1v-2h-1v-4h2v2h1v2h4v-2h1v-4h-1z",
@@ -407,6 +427,14 @@ fn lower_3(c: char) -> &'static [u8]
         'W' => b"m2 0h2v6h2v-6h2v6h2v-6h2v8h-1v2h-1v2h-2v-2h-2v2h-2v-2h-1v-2h-1z",
         'X' => b"m4 0h6v2h1v2h1v8h-2v-6h-1v-2h-1v-2h-2v2h-1v2h-1v6h-2v-8h1v-2h1z",
         'Y' => b"m6 0h2v12h-2z",
+        _ => b"",
+    }
+}
+
+fn lower_4(c: char) -> &'static [u8]
+    ensures { result.now ≡ (letters.letters_4 c).lower }
+{
+    match c {
         'Z' => b"m4 0h3v2h-1v2h-1v2h-1v2h8v4h-10v-8h1v-2h1z",
         'a' => b"m4 0h8v12h-8v-2h-1v-2h-1v-4h1v-2h1zm1 4v4h5v-4z",
         'b' => b"m2 0h2v8h5v-2h1v-6h2v8h-1v2h-1v2h-8z",
@@ -422,18 +450,18 @@ fn lower_3(c: char) -> &'static [u8]
         'l' => b"m6 0h2v8h2v4h-6v-4h2z",
         'm' => b"m2 0h2v12h-2zm4 0h2v12h-2zm4 0h2v12h-2z",
         'n' => b"m2 0h2v12h-2zm8 0h2v12h-2z",
-        _ => b"",
-    }
-}
-
-fn lower_4(c: char) -> &'static [u8]
-    ensures { result.now ≡ (letters.letters_4 c).lower }
-{
-    match c {
         'o' => b"m2 0h2v6h1v2h4v-2h1v-6h2v8h-1v2h-1v2h-6v-2h-1v-2h-1z",
         'p' => b"m2 0h2v8h5v-2h1v-6h2v8h-1v2h-1v2h-6v8h-2z",
         'q' => b"m2 0h2v6h1v2h5v-8h2v20h-2v-8h-6v-2h-1v-2h-1z",
         'r' => b"m4 0h2v12h-2z",
+        _ => b"",
+    }
+}
+
+fn lower_5(c: char) -> &'static [u8]
+    ensures { result.now ≡ (letters.letters_5 c).lower }
+{
+    match c {
         's' => b"m3 0h7v2h1v2h1v4h-1v2h-1v2h-8v-4h7v-4h-5v-2h-1z",
         't' => b"m6 0h2v6h1v2h1v4h-2v-2h-1v-2h-1z",
         'u' => b"m2 0h2v6h1v2h5v-8h2v12h-8v-2h-1v-2h-1z",
@@ -460,14 +488,16 @@ fn lower_4(c: char) -> &'static [u8]
 fn lower(c: char) -> &'static [u8]
     ensures { result.now ≡ (letters.letter_drawn c).lower }
 {
-    if c < '9' {
+    if c < '4' {
         lower_1(c)
-    } else if c < 'Q' {
+    } else if c < 'G' {
         lower_2(c)
-    } else if c < 'o' {
+    } else if c < 'Z' {
         lower_3(c)
-    } else {
+    } else if c < 's' {
         lower_4(c)
+    } else {
+        lower_5(c)
     }
 }
 

@@ -365,8 +365,8 @@ fn push_touched(out: &mut Vec<u8>, cell: Option<u16>) -> Result<(), AllocError>
     }
 }
 
-/// Writes a picture of the screen of a frame for an HTML file: one `svg` element of 480 by 480 units, stretched to the proportions
-/// of a British screen, with the frame's id as its title.
+/// Writes a picture of a frame's screen for an HTML file: one `svg` element of 480 by 480 units, in the proportions of a British
+/// screen, with the frame's id as its title.
 ///
 /// Backgrounds and mosaics are rectangles; letters are texts, a run of neighbouring ones each, in reading order, in a font that the
 /// file can name. A cell at a position from 0 to 959 gets a red frame, the last element, of class `touched`.

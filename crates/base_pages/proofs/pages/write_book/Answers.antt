@@ -24,7 +24,7 @@ returns-in-Ok-write_sections-clause-whole g c =
     let b = book_view c.args.book.now in
     let cover = c.args.cover.now in
     let start = g.S.Sink.seen c.args.sink.now in
-    let before = front cover.name.now b.base cover.policy.now cover.outcome.now in
+    let before = front b.source.name b.base cover.policy.now cover.outcome.now in
     let way = begins start c.requires.open c.push_front.new.out.items c.new-kept.result.items before c.in-Ok.ensures c.new-kept.ensures.items in
     let written = c.write_foot.ensures.whole start (before ++ sections b c.frames-frames.result.now) (c.in-Ok-write_sections.ensures.taken start before way) in
     subst (λ (fs : List Frame). OnOk c.write_foot.result (WroteWhole start (g.S.Sink.seen c.write_foot.new.sink) ((before ++ sections b fs) ++ foot))) c.frames-frames.ensures.all written
@@ -34,7 +34,7 @@ returns-in-Ok-write_sections-clause-part g c =
     let b = book_view c.args.book.now in
     let cover = c.args.cover.now in
     let start = g.S.Sink.seen c.args.sink.now in
-    let before = front cover.name.now b.base cover.policy.now cover.outcome.now in
+    let before = front b.source.name b.base cover.policy.now cover.outcome.now in
     let way = begins start c.requires.open c.push_front.new.out.items c.new-kept.result.items before c.in-Ok.ensures c.new-kept.ensures.items in
     let written = c.write_foot.ensures.part start (before ++ sections b c.frames-frames.result.now) (c.in-Ok-write_sections.ensures.taken start before way) in
     subst (λ (fs : List Frame). IfErr c.write_foot.result (λ fault. IsStopped start (g.S.Sink.seen c.write_foot.new.sink) ((before ++ sections b fs) ++ foot) fault)) c.frames-frames.ensures.all written
@@ -44,7 +44,7 @@ returns-clause-part g c =
     let b = book_view c.args.book.now in
     let cover = c.args.cover.now in
     let start = g.S.Sink.seen c.args.sink.now in
-    let before = front cover.name.now b.base cover.policy.now cover.outcome.now in
+    let before = front b.source.name b.base cover.policy.now cover.outcome.now in
     let way = begins start c.requires.open c.push_front.new.out.items c.new-kept.result.items before c.in-Ok.ensures c.new-kept.ensures.items in
     let stop = c.in-Err-write_sections.ensures.part start before foot way in
     subst (λ (fs : List Frame). IsStopped start (g.S.Sink.seen c.write_sections.new.sink) ((before ++ sections b fs) ++ foot) c.in-Err-write_sections.fault) c.frames-frames.ensures.all stop
